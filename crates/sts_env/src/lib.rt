@@ -1,13 +1,9 @@
-// A library with one function.
+//! Environments of scoped values: lists of bindings that share their tails, under recycled keys.
+//!
+//! A task that is forked in a scope takes that scope's environment over, and puts bindings of its own
+//! in front of it. So environments are never copied: each is a key into one table of records.
 #![tactic(auto)]
 
-ghost use Rattle.std.specs.Prelude.{◌≡◌};
-ghost use Rattle.sts_env.specs.Echo.{echo_of};
-
-// The `ensures` clause is the contract: what `echo` returns is `echo_of` of its argument, a definition
-// in `specs/Echo.antt`, which a caller's clause can cite too.
-pub fn echo(x: usize) -> usize
-    ensures { result ≡ echo_of x }
-{
-    x
-}
+pub mod chains;
+pub mod env;
+pub mod sharing;

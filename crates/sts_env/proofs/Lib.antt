@@ -1,0 +1,2 @@
+pub mod Unshared
+pub mod Walks
