@@ -123,7 +123,7 @@ binds old new env result b k none set others w front length =
     record {
       whole = rw (front, length) (k, _, refl, set, refl, rest.whole);
       list = rw (front, length) (bindings_cons (record_at new) env.length k _ set ∙ ap (λ (l : List Binding). b ∷ l) rest.list);
-      puts = (k, front, none, rw (front, length) (keys_cons (record_at new) env.length k _ set ∙ ap (λ (l : List ℕ). k ∷ l) rest.keys));
+      puts = record { key = k; front = front; vacant = none; keys = rw (front, length) (keys_cons (record_at new) env.length k _ set ∙ ap (λ (l : List ℕ). k ∷ l) rest.keys) };
       others = λ e v. staying old new e (same (record_at old) (record_at new) k others e.length e.front v (vacant (record_at old) k none e.length e.front v));
     }
 
@@ -140,11 +140,15 @@ unbinds old new env k n r front length is gone others w =
     record {
       whole = rest.whole;
       list = (r.binding, rw (front, long) (bindings_cons (record_at old) r.rest.length k r is ∙ ap (λ (l : List Binding). r.binding ∷ l) (sym rest.list)));
-      takes = (k, front, gone, rw (front, long) (keys_cons (record_at old) r.rest.length k r is ∙ ap (λ (l : List ℕ). k ∷ l) (sym rest.keys)));
+      takes = record { key = k; front = front; gone = gone; keys = rw (front, long) (keys_cons (record_at old) r.rest.length k r is ∙ ap (λ (l : List ℕ). k ∷ l) (sym rest.keys)) };
       others = λ e u j at h.
         let same_key : k ≡ j = cc in
         staying old new e (same (record_at old) (record_at new) k others e.length e.front u (rw same_key h));
     }
+
+-- no whole environment holds a key where no record stands
+pub vacant_to : (records : Records) (env : Env) (k : ℕ) → record_at records k ≡ None → IsWhole records env → NotIn k (keys_of records env)
+vacant_to records env k none w = vacant (record_at records) k none env.length env.front w
 
 -- an environment with a binding is not empty
 pub not_empty : (records : Records) (env : Env) → list_of records env ≢ [] → env.length ≢ 0

@@ -58,12 +58,18 @@ pub record Stays (old new : Records) (env : Env) : Type 0 where
   pub list : list_of new env ≡ list_of old env
 
 -- the result has one more record in front, at a key where none stood
-abbrev pub PutsRecord : (old new : Records) (env result : Env) → Type 0
-PutsRecord old new env result = (k : ℕ) × (result.front ≡ Some k) × (record_at old k ≡ None) × (keys_of new result ≡ k ∷ keys_of old env)
+pub record PutsRecord (old new : Records) (env result : Env) : Type 0 where
+  pub key : ℕ
+  pub front : result.front ≡ Some key
+  pub vacant : record_at old key ≡ None
+  pub keys : keys_of new result ≡ key ∷ keys_of old env
 
 -- the front record is gone, and the result has the others
-abbrev pub TakesRecord : (old new : Records) (env result : Env) → Type 0
-TakesRecord old new env result = (k : ℕ) × (env.front ≡ Some k) × (record_at new k ≡ None) × (keys_of old env ≡ k ∷ keys_of new result)
+pub record TakesRecord (old new : Records) (env result : Env) : Type 0 where
+  pub key : ℕ
+  pub front : env.front ≡ Some key
+  pub gone : record_at new key ≡ None
+  pub keys : keys_of old env ≡ key ∷ keys_of new result
 
 -- the other environment stays, unless it holds the front record of the first
 abbrev pub KeepsWithout : (old new : Records) (env other : Env) → Type 0

@@ -7,3 +7,6 @@
 pub mod chains;
 pub mod env;
 pub mod sharing;
+
+#[cfg(test)]
+mod tests;
