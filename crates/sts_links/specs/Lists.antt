@@ -58,9 +58,9 @@ abbrev pub KeepsOthers : (old new : ℕ → ℕ → Option Link) → ℕ → Lis
 KeepsOthers old new layer keys = (m : ℕ) (list : Ends) (others : List ℕ) → IsList (old m) list others → (m ≡ layer → AreApart others keys) → IsList (new m) list others
 
 -- one of two, by whether there is a key
-abbrev pub if_none : Option ℕ → (none some : Option ℕ) → Option ℕ
-if_none None none some = none
-if_none (Some k) none some = some
+abbrev pub if_none : Option ℕ → (when_none when_some : Option ℕ) → Option ℕ
+if_none None when_none when_some = when_none
+if_none (Some k) when_none when_some = when_some
 
 -- the key after the one with this link
 abbrev pub after_of : Option Link → Option ℕ

@@ -7,3 +7,6 @@
 pub mod links;
 pub mod lists;
 
+
+#[cfg(test)]
+mod tests;
