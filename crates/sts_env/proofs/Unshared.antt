@@ -2,7 +2,7 @@
 use Rattle.std.proofs.Common.{◌≡◌, ◌≢◌, ℕ, zero, suc, ◌<◌, List, [], ◌∷◌, ◌++◌, Option, Some, None, refl, sym, ◌∙◌, subst, arith, nat_eq, Bool, true, false}
 use Rattle.std.proofs.lemmas.Bool.Decides.{nat_tests}
 use Rattle.sts_env.specs.Environments.{Records, NotIn, keys, keys_of, record_at}
-use Rattle.sts_env.specs.Sharing.{Sharing, Lives, IsOpen, inherited, IsSharing, IsLastBinding, IsUnshared, FrontIsUnshared}
+use Rattle.sts_env.specs.Sharing.{Sharing, Lives, IsOpen, inherited, IsSharing, IsLastBinding, FrontIsUnshared}
 use Rattle.sts_env.specs.declared.env.Record.{Record}
 
 not_both : (k : ℕ) (xs ys : List ℕ) → NotIn k xs → NotIn k ys → NotIn k (xs ++ ys)
@@ -41,8 +41,8 @@ below c h t k is f zero s opened less = absurd (omega arith)
 below c h t k is f (suc n) s opened less =
     subst (NotIn k) (sym (is.scopes s opened))
     (not_both k (h.outside s) (inherited c h (h.home (h.owner s)))
-     (by_owner c h t k s is f opened (nat_eq (h.owner s) t) refl)
-     (by_home c h k n (h.owner s) is (is.owners s opened) less (below c h t k is f n) (h.home (h.owner s)) refl))
+    (by_owner c h t k s is f opened (nat_eq (h.owner s) t) refl)
+    (by_home c h k n (h.owner s) is (is.owners s opened) less (below c h t k is f n) (h.home (h.owner s)) refl))
 
 -- the first key is the front
 front_of : (at : ℕ → Option Record) (n : ℕ) (front : Option ℕ) (k : ℕ) (rest : List ℕ) → keys at n front ≡ k ∷ rest → front ≡ Some k
@@ -56,8 +56,8 @@ front_is_unshared c h t k is f =
       front = front_of (record_at c) (h.env t).length (h.env t).front k (f.rest ++ inherited c h (h.home t)) (is.tasks t f.lives ∙ (rw f.own refl));
       scopes = λ s opened. below c h t k is f (suc (h.owner s)) s opened (omega arith);
       tasks = λ u lives other.
-        subst (NotIn k) (sym (is.tasks u lives))
-        (not_both k (h.own u) (inherited c h (h.home u))
-         (is.apart t u k f.lives lives (λ e. other (sym e)) (mine h t k f))
-         (by_home c h k (suc u) u is lives (omega arith) (below c h t k is f (suc u)) (h.home u) refl));
+          subst (NotIn k) (sym (is.tasks u lives))
+          (not_both k (h.own u) (inherited c h (h.home u))
+          (is.apart t u k f.lives lives (λ e. other (sym e)) (mine h t k f))
+          (by_home c h k (suc u) u is lives (omega arith) (below c h t k is f (suc u)) (h.home u) refl));
     }

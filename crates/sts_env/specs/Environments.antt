@@ -1,5 +1,5 @@
 -- Environments of scoped values: which binding is innermost, and what stays of those that share records. JEP 506, "Rebinding scoped values" and "Inheriting scoped values"; the records are this project's own.
-use Rattle.std.specs.Prelude.{◌≡◌, ◌≢◌, ℕ, zero, suc, ◌+◌, ℤ, List, [], ◌∷◌, Option, Some, None, option_map, find, ◌==◌, slice_index_or}
+use Rattle.std.specs.Prelude.{◌≡◌, ◌≢◌, ℕ, zero, suc, ℤ, List, [], ◌∷◌, Option, Some, None, option_map, find, ◌==◌, slice_index_or}
 use Rattle.sts_env.specs.declared.env.Binding.{Binding}
 use Rattle.sts_env.specs.declared.env.Env.{Env}
 use Rattle.sts_env.specs.declared.env.Record.{Record}

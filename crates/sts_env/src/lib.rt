@@ -7,6 +7,5 @@
 pub mod chains;
 pub mod env;
 pub mod sharing;
-
 #[cfg(test)]
 mod tests;

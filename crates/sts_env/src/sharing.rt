@@ -9,5 +9,4 @@ ghost use Rattle.sts_env.specs.Sharing.{FrontIsUnshared};
 /// So the task may take that record out: no other environment in use changes.
 pub fn front_is_unshared()
     ensures { FrontIsUnshared }
-{
-}
+{}

@@ -30,16 +30,18 @@ stays at new p (x ∷ xs) n same a =
 pub relast : (at new : ℕ → Option Link) (p : Option ℕ) (xs : List ℕ) (n next : Option ℕ) → AreDistinct xs → AreLinked at p xs n → ((k : ℕ) (link : Link) → last_or p xs ≡ Some k → at k ≡ Some link → (NotIn k xs → ⊥) → new k ≡ Some (with_after next link)) → ((k : ℕ) → (NotIn k xs → ⊥) → last_or p xs ≢ Some k → new k ≡ at k) → AreLinked new p xs next
 relast at new p [] n next d a changed same = tt
 relast at new p (x ∷ []) n next d a changed same = (changed x _ refl a.0 (λ h. h.0 refl), tt)
-relast at new p (x ∷ y ∷ xs) n next d a changed same =
-    (same x (λ h. h.0 refl) (last_not x y xs (Some x) d.0) ∙ a.0,
-     relast at new (Some x) (y ∷ xs) n next d.1 a.1 (λ k link e l inside. changed k link e l (λ h. inside h.1)) (λ k inside ne. same k (λ h. inside h.1) ne))
+relast at new p (x ∷ y ∷ xs) n next d a changed same = (
+  same x (λ h. h.0 refl) (last_not x y xs (Some x) d.0) ∙ a.0,
+  relast at new (Some x) (y ∷ xs) n next d.1 a.1 (λ k link e l inside. changed k link e l (λ h. inside h.1)) (λ k inside ne. same k (λ h. inside h.1) ne),
+)
 
 -- the first key gets another neighbour before it
 pub rehead : (at new : ℕ → Option Link) (p prev : Option ℕ) (xs : List ℕ) (n : Option ℕ) → AreDistinct xs → AreLinked at p xs n → ((k : ℕ) (link : Link) → first_or xs None ≡ Some k → at k ≡ Some link → new k ≡ Some (with_before prev link)) → ((k : ℕ) → (NotIn k xs → ⊥) → first_or xs None ≢ Some k → new k ≡ at k) → AreLinked new prev xs n
 rehead at new p prev [] n d a changed same = tt
-rehead at new p prev (x ∷ xs) n d a changed same =
-    (changed x _ refl a.0,
-     stays at new (Some x) xs n (λ k inside. same k (λ h. inside h.1) (λ e. inside (let q : k ≡ x = cc in rw q d.0))) a.1)
+rehead at new p prev (x ∷ xs) n d a changed same = (
+  changed x _ refl a.0,
+  stays at new (Some x) xs n (λ k inside. same k (λ h. inside h.1) (λ e. inside (let q : k ≡ x = cc in rw q d.0))) a.1,
+)
 
 -- the link of a key that stands in a list, and of its neighbours
 pub last_is : (at : ℕ → Option Link) (p : Option ℕ) (x : ℕ) (xs : List ℕ) (n : Option ℕ) (k : ℕ) → AreLinked at p (x ∷ xs) n → last_or p (x ∷ xs) ≡ Some k → at k ≢ None

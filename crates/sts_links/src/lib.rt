@@ -6,7 +6,5 @@
 
 pub mod links;
 pub mod lists;
-
-
 #[cfg(test)]
 mod tests;

@@ -16,7 +16,14 @@ fn set_after<S: Links>(store: &mut S, layer: u8, key: Option<usize>, after: Opti
 {
     if let Some(k) = key {
         let link = store.link(layer, k);
-        store.set_link(layer, k, Link { before: link.before, after });
+        store.set_link(
+            layer,
+            k,
+            Link {
+                before: link.before,
+                after,
+            },
+        );
     }
 }
 
@@ -28,7 +35,14 @@ fn set_before<S: Links>(store: &mut S, layer: u8, key: Option<usize>, before: Op
 {
     if let Some(k) = key {
         let link = store.link(layer, k);
-        store.set_link(layer, k, Link { before, after: link.after });
+        store.set_link(
+            layer,
+            k,
+            Link {
+                before,
+                after: link.after,
+            },
+        );
     }
 }
 
@@ -52,7 +66,14 @@ pub fn push_back<S: Links>(store: &mut S, layer: u8, list: Ends, key: usize) -> 
     ensures rest { S.alike store.old store.new }
 {
     set_after(store, layer, list.last, Some(key));
-    store.set_link(layer, key, Link { before: list.last, after: None });
+    store.set_link(
+        layer,
+        key,
+        Link {
+            before: list.last,
+            after: None,
+        },
+    );
     Ends {
         first: if_none(list.first, Some(key), list.first),
         last: Some(key),

@@ -48,14 +48,19 @@ impl Record {
     fn new(body: u32) -> Record {
         Record {
             body,
-            links: [Link { before: None, after: None }; 3],
+            links: [Link {
+                before: None,
+                after: None,
+            }; 3],
         }
     }
 }
 
 #[test]
 fn lists_keep_their_keys_when_others_come_back(rt: HostRuntime) -> Result<(), Fail> {
-    let mut store = Store { records: Slab::new(rt.alloc()) };
+    let mut store = Store {
+        records: Slab::new(rt.alloc()),
+    };
     let a = store.records.insert(Record::new(10))?;
     let b = store.records.insert(Record::new(20))?;
 

@@ -1,4 +1,3 @@
-use Rattle.std.proofs.Common.{sym, ◌∙◌}
 use Rattle.sts_links.proofs.Chains.{key_link, before_link}
 use Rattle.sts_links.proofs.Changes.{unlinked, others_kept, after_link}
 use Rattle.sts_links.proofs.lists.unlink.Goals as goal

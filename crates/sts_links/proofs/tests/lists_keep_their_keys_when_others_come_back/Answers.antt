@@ -1,6 +1,5 @@
-use Rattle.std.proofs.Common.{◌≡◌, ◌≢◌, ℕ, List, [], ◌∷◌, Option, Some, None, refl, ap, sym, arith, option_and_then, if◌then◌else◌, nat_lt, slice_index_or}
+use Rattle.std.proofs.Common.{◌≡◌, ◌≢◌, ℕ, [], ◌∷◌, Option, Some, None, refl, ap, arith, option_and_then, slice_index_or}
 use Rattle.slab.specs.Slab.{Slab, get}
-use Rattle.sts_links.specs.Lists.{IsList, NotIn}
 use Rattle.sts_links.specs.declared.links.Link.{Link}
 use Rattle.sts_links.specs.declared.tests.Record.{Record}
 use Rattle.sts_links.proofs.Chains.{list_stays_beside, without_link}

@@ -1,5 +1,6 @@
 use Rattle.std.proofs.Common.{refl, arith, add-one}
-use Rattle.sts_env.proofs.Walks.{binds, within}
+use Rattle.sts_env.proofs.Changes.{binds}
+use Rattle.sts_env.proofs.Room.{within}
 use Rattle.sts_env.proofs.chains.Chains.put.Goals as goal
 
 -- each binding of the environment has a record, and one more fits

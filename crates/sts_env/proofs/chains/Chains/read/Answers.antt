@@ -1,9 +1,6 @@
-use Rattle.std.proofs.Common.{◌≡◌, Option, Some, refl, arith, add-one, ◌-◌, ◌+◌, ◌∙◌, sym}
+use Rattle.std.proofs.Common.{arith, ◌-◌, ◌+◌, ◌∙◌, sym}
 use Rattle.sts_env.specs.Environments.{record_at}
-use Rattle.std.specs.Option.{option_copied}
-use Rattle.slab.specs.Slab.{get}
 use Rattle.sts_env.proofs.Walks.{further}
-use Rattle.std.specs.Prelude.{nat_eq}
 use Rattle.sts_env.proofs.chains.Chains.read.Goals as goal
 
 pub loop-preserved : goal.loop-preserved
