@@ -57,6 +57,12 @@ Differs old new layer keys = (m j : ℕ) → (m ≡ layer → NotIn j keys) → 
 abbrev pub KeepsOthers : (old new : ℕ → ℕ → Option Link) → ℕ → List ℕ → Type 0
 KeepsOthers old new layer keys = (m : ℕ) (list : Ends) (others : List ℕ) → IsList (old m) list others → (m ≡ layer → AreApart others keys) → IsList (new m) list others
 
+-- the list has these keys now, only their links in this layer are changed, and each other list has the keys that it had
+pub record BecomesList (old new : ℕ → ℕ → Option Link) (layer : ℕ) (result : Ends) (keys : List ℕ) : Type 0 where
+  pub is_list : IsList (new layer) result keys
+  pub links : Differs old new layer keys
+  pub others : KeepsOthers old new layer keys
+
 -- one of two, by whether there is a key
 abbrev pub if_none : Option ℕ → (when_none when_some : Option ℕ) → Option ℕ
 if_none None when_none when_some = when_none

@@ -4,7 +4,7 @@ ghost use Rattle.std.specs.Prelude.{◌≡◌, ◌≢◌, ℕ, List, [], ◌∷�
 ghost use Rattle.sts_links.specs.declared.links.Ends.{Ends};
 ghost use Rattle.sts_links.specs.declared.links.Link.{Link};
 ghost use Rattle.sts_links.specs.Lists as chain;
-ghost use Rattle.sts_links.specs.Lists.{IsList, NotIn, Relinks, Differs, KeepsOthers, first_or, with_after, with_before};
+ghost use Rattle.sts_links.specs.Lists.{IsList, NotIn, Relinks, BecomesList, first_or, with_after, with_before};
 
 use crate::links::{Ends, Link, Links};
 
@@ -16,14 +16,7 @@ fn set_after<S: Links>(store: &mut S, layer: u8, key: Option<usize>, after: Opti
 {
     if let Some(k) = key {
         let link = store.link(layer, k);
-        store.set_link(
-            layer,
-            k,
-            Link {
-                before: link.before,
-                after,
-            },
-        );
+        store.set_link(layer, k, Link { after, ..link });
     }
 }
 
@@ -35,14 +28,7 @@ fn set_before<S: Links>(store: &mut S, layer: u8, key: Option<usize>, before: Op
 {
     if let Some(k) = key {
         let link = store.link(layer, k);
-        store.set_link(
-            layer,
-            k,
-            Link {
-                before,
-                after: link.after,
-            },
-        );
+        store.set_link(layer, k, Link { before, ..link });
     }
 }
 
@@ -60,9 +46,7 @@ fn if_none(neighbour: Option<usize>, none: Option<usize>, some: Option<usize>) -
 pub fn push_back<S: Links>(store: &mut S, layer: u8, list: Ends, key: usize) -> Ends
     requires list { (keys : List ℕ) × IsList (S.at store.old layer) list keys × NotIn key keys }
     requires key { S.at store.old layer key ≢ None }
-    ensures appended { (keys : List ℕ) → IsList (S.at store.old layer) list keys → NotIn key keys → IsList (S.at store.new layer) result (keys ++ key ∷ []) }
-    ensures links { (keys : List ℕ) → IsList (S.at store.old layer) list keys → NotIn key keys → Differs (S.at store.old) (S.at store.new) layer (keys ++ key ∷ []) }
-    ensures others { (keys : List ℕ) → IsList (S.at store.old layer) list keys → NotIn key keys → KeepsOthers (S.at store.old) (S.at store.new) layer (keys ++ key ∷ []) }
+    ensures list { (keys : List ℕ) → IsList (S.at store.old layer) list keys → NotIn key keys → BecomesList (S.at store.old) (S.at store.new) layer result (keys ++ key ∷ []) }
     ensures rest { S.alike store.old store.new }
 {
     set_after(store, layer, list.last, Some(key));
@@ -85,9 +69,7 @@ pub fn push_back<S: Links>(store: &mut S, layer: u8, list: Ends, key: usize) -> 
 /// The link of the key itself stays as it was.
 pub fn unlink<S: Links>(store: &mut S, layer: u8, list: Ends, key: usize) -> Ends
     requires { (front : List ℕ) × (back : List ℕ) × IsList (S.at store.old layer) list (front ++ key ∷ back) }
-    ensures taken { (front back : List ℕ) → IsList (S.at store.old layer) list (front ++ key ∷ back) → IsList (S.at store.new layer) result (front ++ back) }
-    ensures links { (front back : List ℕ) → IsList (S.at store.old layer) list (front ++ key ∷ back) → Differs (S.at store.old) (S.at store.new) layer (front ++ back) }
-    ensures others { (front back : List ℕ) → IsList (S.at store.old layer) list (front ++ key ∷ back) → KeepsOthers (S.at store.old) (S.at store.new) layer (front ++ back) }
+    ensures list { (front back : List ℕ) → IsList (S.at store.old layer) list (front ++ key ∷ back) → BecomesList (S.at store.old) (S.at store.new) layer result (front ++ back) }
     ensures rest { S.alike store.old store.new }
 {
     let link = store.link(layer, key);

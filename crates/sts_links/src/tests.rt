@@ -1,10 +1,5 @@
 //! Lists in three layers of a store over a `slab`, under keys that come back.
 
-ghost use Rattle.std.specs.Prelude.{◌≡◌, ◌≢◌, ℕ, ◌<◌, List, Option, Some, None, IfOk, option_and_then, option_map, slice_get};
-ghost use Rattle.slab.specs.Slab.{get};
-ghost use Rattle.sts_links.specs.Lists.{IsList, NotIn};
-ghost use Rattle.sts_links.specs.declared.links.Ends.{Ends};
-
 use crate::links::{Ends, Link, Links};
 use crate::lists::{after, front, push_back, unlink};
 use slab::Slab;

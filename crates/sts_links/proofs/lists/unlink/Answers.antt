@@ -1,5 +1,5 @@
 use Rattle.sts_links.proofs.Chains.{key_link, before_link}
-use Rattle.sts_links.proofs.Changes.{unlinked, others_kept, after_link}
+use Rattle.sts_links.proofs.Changes.{unlinked, after_link}
 use Rattle.sts_links.proofs.lists.unlink.Goals as goal
 
 pub link-link-requires : goal.link-link-requires
@@ -11,11 +11,5 @@ set_after-requires g c k e = before_link _ _ _ _ _ _ k c.requires.2 c.link-link.
 pub set_before-requires : goal.set_before-requires
 set_before-requires g c k e = after_link _ _ _ _ _ _ _ _ k c.requires.2 c.link-link.ensures c.set_after.ensures.links e
 
-pub returns-clause-taken : goal.returns-clause-taken
-returns-clause-taken g c front back is = rw (c.if_none.ensures, c.if_none-2.ensures) (unlinked _ _ _ _ _ _ _ front back is c.link-link.ensures c.set_after.ensures.links c.set_before.ensures.links).0
-
-pub returns-clause-links : goal.returns-clause-links
-returns-clause-links g c front back is = (unlinked _ _ _ _ _ _ _ front back is c.link-link.ensures c.set_after.ensures.links c.set_before.ensures.links).1
-
-pub returns-clause-others : goal.returns-clause-others
-returns-clause-others g c front back is = others_kept _ _ _ _ (unlinked _ _ _ _ _ _ _ front back is c.link-link.ensures c.set_after.ensures.links c.set_before.ensures.links).1
+pub returns-clause-list : goal.returns-clause-list
+returns-clause-list g c front back is = rw (c.if_none.ensures, c.if_none-2.ensures) (unlinked _ _ _ _ _ _ _ front back is c.link-link.ensures c.set_after.ensures.links c.set_before.ensures.links)

@@ -15,24 +15,24 @@ differ records a b r at_a at_b e = let q : get records b ≡ get records a = ap 
 
 pub push_back-list-requires-2-clause-list : goal.push_back-list-requires-2-clause-list
 push_back-list-requires-2-clause-list g c =
-    let one = c.push_back-list.ensures.appended [] (c.empty.ensures.keys _) tt in
+    let one = (c.push_back-list.ensures.list [] (c.empty.ensures.keys _) tt).is_list in
     let apart = differ c.insert.new.self c.in_ok-a.a c.in_ok-b.b _ c.in_ok-a.ensures.updates.changed c.in_ok-b.ensures.was_vacant in
     (c.in_ok-a.a ∷ [], one, (apart, tt))
 
 pub unlink-list-requires : goal.unlink-list-requires
 unlink-list-requires g c =
-    let one = c.push_back-list.ensures.appended [] (c.empty.ensures.keys _) tt in
+    let one = (c.push_back-list.ensures.list [] (c.empty.ensures.keys _) tt).is_list in
     let apart = differ c.insert.new.self c.in_ok-a.a c.in_ok-b.b _ c.in_ok-a.ensures.updates.changed c.in_ok-b.ensures.was_vacant in
-    let two = c.push_back-list-2.ensures.appended (c.in_ok-a.a ∷ []) one (apart, tt) in
-    ([], c.in_ok-b.b ∷ [], c.push_back-last.ensures.others [] (c.empty-2.ensures.keys _) tt 0 _ _ two (λ e. absurd (omega (arith, e))))
+    let two = (c.push_back-list-2.ensures.list (c.in_ok-a.a ∷ []) one (apart, tt)).is_list in
+    ([], c.in_ok-b.b ∷ [], (c.push_back-last.ensures.list [] (c.empty-2.ensures.keys _) tt).others 0 _ _ two (λ e. absurd (omega (arith, e))))
 
 pub push_back-list-requires-3-clause-list : goal.push_back-list-requires-3-clause-list
 push_back-list-requires-3-clause-list g c =
-    let one = c.push_back-list.ensures.appended [] (c.empty.ensures.keys _) tt in
+    let one = (c.push_back-list.ensures.list [] (c.empty.ensures.keys _) tt).is_list in
     let apart = differ c.insert.new.self c.in_ok-a.a c.in_ok-b.b _ c.in_ok-a.ensures.updates.changed c.in_ok-b.ensures.was_vacant in
-    let two = c.push_back-list-2.ensures.appended (c.in_ok-a.a ∷ []) one (apart, tt) in
-    let still = c.push_back-last.ensures.others [] (c.empty-2.ensures.keys _) tt 0 _ _ two (λ e. absurd (omega (arith, e))) in
-    let taken = c.unlink-list.ensures.taken [] (c.in_ok-b.b ∷ []) still in
+    let two = (c.push_back-list-2.ensures.list (c.in_ok-a.a ∷ []) one (apart, tt)).is_list in
+    let still = (c.push_back-last.ensures.list [] (c.empty-2.ensures.keys _) tt).others 0 _ _ two (λ e. absurd (omega (arith, e))) in
+    let taken = (c.unlink-list.ensures.list [] (c.in_ok-b.b ∷ []) still).is_list in
     let removed = list_stays_beside (link_at c.unlink-list.new.store.records) (link_at c.remove.new.self) c.in_ok-a.a _ (c.in_ok-b.b ∷ []) (λ k other. rw (c.remove.ensures.updates.others k other) refl) two.distinct.0 taken in
     let fresh = without_link (link_at c.remove.new.self) c.in_ok-c.c None (c.in_ok-b.b ∷ []) None (rw c.in_ok-c.ensures.was_vacant refl) removed.linked in
     let stays = list_stays_beside (link_at c.remove.new.self) (link_at c.insert-3.new.self) c.in_ok-c.c _ (c.in_ok-b.b ∷ []) (λ k other. rw (c.in_ok-c.ensures.updates.others k other) refl) fresh removed in
