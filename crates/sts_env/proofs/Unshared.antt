@@ -1,17 +1,46 @@
 -- The front record of a task whose last entry is a binding is in no other environment in use.
 use Rattle.std.proofs.Common.{◌≡◌, ◌≢◌, ℕ, zero, suc, ◌<◌, List, [], ◌∷◌, ◌++◌, Option, Some, None, refl, sym, ◌∙◌, subst, arith, nat_eq, Bool, true, false}
 use Rattle.std.proofs.lemmas.Bool.Decides.{nat_tests}
-use Rattle.sts_env.specs.Environments.{Records, NotIn, keys, keys_of, record_at}
+use Rattle.sts_env.specs.Environments.{Records, AreWhole, NotIn, keys, keys_of, record_at}
 use Rattle.sts_env.specs.Sharing.{Sharing, Lives, IsOpen, inherited, IsSharing, IsLastBinding, FrontIsUnshared}
 use Rattle.sts_env.specs.declared.env.Record.{Record}
+use Rattle.sts_env.proofs.Walks.{front_of, keys_cons, longer}
 
 not_both : (k : ℕ) (xs ys : List ℕ) → NotIn k xs → NotIn k ys → NotIn k (xs ++ ys)
 not_both k [] ys h l = l
 not_both k (x ∷ xs) ys h l = (h.0, not_both k xs ys h.1 l)
 
+not_front : (k : ℕ) (xs ys : List ℕ) → NotIn k (xs ++ ys) → NotIn k xs
+not_front k [] ys h = tt
+not_front k (x ∷ xs) ys h = (h.0, not_front k xs ys h.1)
+
 not_back : (k : ℕ) (xs ys : List ℕ) → NotIn k (xs ++ ys) → NotIn k ys
 not_back k [] ys h = h
 not_back k (x ∷ xs) ys h = not_back k xs ys h.1
+
+-- the first key is the front
+front_of_keys : (at : ℕ → Option Record) (n : ℕ) (front : Option ℕ) (k : ℕ) (rest : List ℕ) → keys at n front ≡ k ∷ rest → front ≡ Some k
+front_of_keys at zero front k rest e = cc
+front_of_keys at (suc n) None k rest e = cc
+front_of_keys at (suc n) (Some x) k rest e = cc
+
+-- the first key comes once
+once_in_keys : (at : ℕ → Option Record) (n : ℕ) (front : Option ℕ) (k : ℕ) (rest : List ℕ) → AreWhole at n front → keys at n front ≡ k ∷ rest → NotIn k rest
+once_in_keys at zero front k rest w e = cc
+once_in_keys at (suc n) None k rest w e = cc
+once_in_keys at (suc n) (Some x) k rest w e =
+    let f = front_of at n x w in
+    let both = sym (keys_cons at n x f.r f.is) ∙ e in
+    let first : x ≡ k = cc in
+    let others : keys at n f.r.rest.front ≡ rest = cc in
+    let apart = longer at x f.r f.is n f.r.rest.front (omega (arith, f.length)) f.rest in
+    subst (NotIn k) others (subst (λ j. NotIn j (keys at n f.r.rest.front)) first apart)
+
+-- it is not another of t's own
+once : (c : Records) (h : Sharing) (t k : ℕ) → IsSharing c h → (f : IsLastBinding h t k) → NotIn k f.rest
+once c h t k is f =
+    not_front k f.rest (inherited c h (h.home t))
+    (once_in_keys (record_at c) (h.env t).length (h.env t).front k (f.rest ++ inherited c h (h.home t)) (is.whole t f.lives) (is.tasks t f.lives ∙ (rw f.own refl)))
 
 -- it is one of t's
 mine : (h : Sharing) (t k : ℕ) → IsLastBinding h t k → NotIn k (h.own t) → ⊥
@@ -22,7 +51,7 @@ by_owner : (c : Records) (h : Sharing) (t k s : ℕ) → IsSharing c h → IsLas
 by_owner c h t k s is f opened true e =
     let same : h.owner s ≡ t = grind (arith, nat_tests) in
     let p = f.scopes s opened same in
-    not_back k p.0 (h.outside s) (subst (NotIn k) p.1 f.once)
+    not_back k p.0 (h.outside s) (subst (NotIn k) p.1 (once c h t k is f))
 by_owner c h t k s is f opened false e =
     let other : t ≢ h.owner s = λ q. let r : nat_eq t t ≡ false = subst (λ x. nat_eq x t ≡ false) (sym q) e in grind (arith, nat_tests) in
     let p = is.nested s opened in
@@ -44,16 +73,10 @@ below c h t k is f (suc n) s opened less =
     (by_owner c h t k s is f opened (nat_eq (h.owner s) t) refl)
     (by_home c h k n (h.owner s) is (is.owners s opened) less (below c h t k is f n) (h.home (h.owner s)) refl))
 
--- the first key is the front
-front_of : (at : ℕ → Option Record) (n : ℕ) (front : Option ℕ) (k : ℕ) (rest : List ℕ) → keys at n front ≡ k ∷ rest → front ≡ Some k
-front_of at zero front k rest e = cc
-front_of at (suc n) None k rest e = cc
-front_of at (suc n) (Some x) k rest e = cc
-
 pub front_is_unshared : FrontIsUnshared
 front_is_unshared c h t k is f =
     record {
-      front = front_of (record_at c) (h.env t).length (h.env t).front k (f.rest ++ inherited c h (h.home t)) (is.tasks t f.lives ∙ (rw f.own refl));
+      front = front_of_keys (record_at c) (h.env t).length (h.env t).front k (f.rest ++ inherited c h (h.home t)) (is.tasks t f.lives ∙ (rw f.own refl));
       scopes = λ s opened. below c h t k is f (suc (h.owner s)) s opened (omega arith);
       tasks = λ u lives other.
           subst (NotIn k) (sym (is.tasks u lives))

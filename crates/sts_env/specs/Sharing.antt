@@ -1,6 +1,6 @@
 -- Which environments in use hold which records: tasks and scopes by birth. JEP 506, "Inheriting scoped values": a subtask inherits the bindings of the scope that it is forked in, and binds in front of them. The records are this project's own.
 use Rattle.std.specs.Prelude.{◌≡◌, ◌≢◌, ℕ, ◌<◌, List, [], ◌∷◌, ◌++◌, Option, Some, None, Bool, true}
-use Rattle.sts_env.specs.Environments.{Records, keys_of, NotIn}
+use Rattle.sts_env.specs.Environments.{Records, IsWhole, keys_of, NotIn}
 use Rattle.sts_env.specs.declared.env.Env.{Env}
 
 -- tasks and scopes, with their environments
@@ -39,6 +39,8 @@ pub record IsSharing (records : Records) (h : Sharing) : Type 0 where
   pub owners : (s : ℕ) → IsOpen h s → Lives h (h.owner s)
   -- the scope of a living task is open, and its owner is older than the task
   pub homes : (t s : ℕ) → Lives h t → h.home t ≡ Some s → IsOpen h s × (h.owner s < t)
+  -- all records of a living task's environment stand
+  pub whole : (t : ℕ) → Lives h t → IsWhole records (h.env t)
   -- a task's environment is made of its own bindings and of what its scope keeps
   pub tasks : (t : ℕ) → Lives h t → keys_of records (h.env t) ≡ h.own t ++ inherited records h (h.home t)
   -- a scope keeps its owner's environment as it was when the scope was opened
@@ -53,7 +55,6 @@ pub record IsLastBinding (h : Sharing) (t k : ℕ) : Type 0 where
   pub lives : Lives h t
   pub rest : List ℕ
   pub own : h.own t ≡ k ∷ rest
-  pub once : NotIn k rest
   pub scopes : (s : ℕ) → IsOpen h s → h.owner s ≡ t → (inside : List ℕ) × (rest ≡ inside ++ h.outside s)
 
 -- the record is in front of the task's environment, and no other environment in use holds it
