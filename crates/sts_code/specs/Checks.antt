@@ -131,7 +131,7 @@ abbrev pub program_fault : List Routine → Option CodeError
 program_fault rs =
     if nat_lt 64 (length rs) then Some (record { cause = TooManyFunctions; function = 0; pc = 0 })
     else option_or (routines_fault [] rs)
-      (if ends_with_main rs then None else Some (record { cause = NoMain; function = 0; pc = 0 }))
+    (if ends_with_main rs then None else Some (record { cause = NoMain; function = 0; pc = 0 }))
 
 -- the number of a cause in what is printed
 abbrev pub cause_number : CodeCause → ℕ

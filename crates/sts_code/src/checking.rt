@@ -76,7 +76,9 @@ fn has_bad_target(count: usize, instr: Instr) -> bool
             ..
         } => misses(count, failed) || misses(count, timeout) || count <= interrupted as usize,
         Instr::Case {
-            success, failed, ..
+            success,
+            failed,
+            ..
         } => count <= success as usize || count <= failed as usize,
         _ => false,
     }
@@ -224,7 +226,9 @@ fn routines_fault(functions: &[Function]) -> Option<CodeError>
 fn is_main(function: &Function) -> bool
     ensures { result ≡ def.is_main function.now }
 {
-    function.name.as_bytes() == b"main".as_slice() && function.args == 0 && !needs_any(&function.needs)
+    function.name.as_bytes() == b"main".as_slice()
+        && function.args == 0
+        && !needs_any(&function.needs)
 }
 
 fn needs_any(needs: &[bool; 16]) -> bool

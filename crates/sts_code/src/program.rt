@@ -4,7 +4,7 @@ ghost use Rattle.std.specs.Prelude.{◌≡◌, ◌≤◌, ◌<◌, length, List,
 ghost use Rattle.sts_code.specs.Checks.{program_fault as fault_of};
 ghost use Rattle.sts_code.specs.Program.{routine};
 
-use crate::checking::{program_fault, CodeError};
+use crate::checking::{CodeError, program_fault};
 use crate::instr::Instr;
 use crate::profile::Profile;
 use std::marker::Model;
