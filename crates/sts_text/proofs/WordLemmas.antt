@@ -65,6 +65,24 @@ word_later line h = let z : (length (before_first is_blank line) == 0) ≡ true 
 pub after_shorter : (line : List ℕ) → 0 < length line → length (after_first is_blank line) < length line
 after_shorter line h = simp length-drop (omega arith)
 
+-- there is always a first part, which may be empty
+pub record HasPart (ps : List (List ℕ)) : Type 0 where
+  pub first : List ℕ
+  pub others : List (List ℕ)
+  pub is : ps ≡ first ∷ others
+
+onto : (x : ℕ) (ps : List (List ℕ)) → HasPart ps → HasPart (onto_first x ps)
+onto x [] h = absurd (let empty : [] ≡ h.first ∷ h.others = h.is in cc)
+onto x (part ∷ ps) h = record { first = x ∷ part; others = ps; is = refl }
+
+part_at : (b : Bool) (x : ℕ) (ps : List (List ℕ)) → HasPart ps → HasPart (cond b ([] ∷ ps) (onto_first x ps))
+part_at true x ps h = record { first = []; others = ps; is = refl }
+part_at false x ps h = onto x ps h
+
+pub has_part : (p : ℕ → Bool) (xs : List ℕ) → HasPart (slice_split p xs)
+has_part p [] = record { first = []; others = []; is = refl }
+has_part p (x ∷ xs) = part_at (p x) x (slice_split p xs) (has_part p xs)
+
 pub ruleset positions = (position_some, position_none)
 
 pub words_none : (line : List ℕ) → length line ≡ 0 → words line ≡ []
