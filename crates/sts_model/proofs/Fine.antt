@@ -1,0 +1,47 @@
+-- What it means that no fault applies.
+use Rattle.std.proofs.Common.{◌≡◌, ℕ, Bool, true, false, Option, Some, None, ◌||◌, cond, refl}
+use Rattle.sts_code.specs.Program.{Program}
+use Rattle.sts_code.specs.declared.instr.Instr.{Instr}
+use Rattle.sts_model.specs.declared.event.Fault.{Fault}
+use Rattle.sts_model.specs.declared.record.Frame.{Frame}
+use Rattle.sts_model.specs.World.{World, task_at, instr_at}
+use Rattle.sts_model.specs.Misuse.{IsFine, misuse, fault_of, misuses_operand, lacks_operands, overflows, breaks_loop, has_wrong_slot, misjoins, has_no_room, is_strangers, is_illegal, breaks_structure, is_unbound}
+
+-- no fault from a test, and none from the rest
+no_fault : (b : Bool) (k : Fault) (rest : Option Fault) → cond b (Some k) rest ≡ None → (b ≡ false) × (rest ≡ None)
+no_fault true k rest e = cc
+no_fault false k rest e = (refl, e)
+
+neither : (a b : Bool) → a || b ≡ false → (a ≡ false) × (b ≡ false)
+neither true b e = cc
+neither false b e = (refl, e)
+
+pub IsFine-from_fault : (p : Program) (w : World) (t : ℕ) (f : Frame) (i : Instr) → fault_of p w t f i ≡ None → IsFine p w t f i
+IsFine-from_fault p w t f i e =
+    let one = no_fault (misuses_operand p w f i) _ _ e in
+    let two = no_fault (is_strangers f i) _ _ one.1 in
+    let three = no_fault (is_illegal p w f i) _ _ two.1 in
+    let four = no_fault (breaks_structure w f i) _ _ three.1 in
+    let five = no_fault (is_unbound w t i) _ _ four.1 in
+    let rows = one.0 in
+    let a = neither _ (has_no_room w f i) rows in
+    let b = neither _ (misjoins w f i) a.0 in
+    let c = neither _ (has_wrong_slot f i) b.0 in
+    let d = neither _ (breaks_loop p f i) c.0 in
+    let g = neither (lacks_operands p f i) (overflows p f i) d.0 in
+    record {
+      operands = g.0;
+      room = g.1;
+      loops = d.1;
+      slots = c.1;
+      joins = b.1;
+      births = a.1;
+      own = two.0;
+      legal = three.0;
+      structure = four.0;
+      bound = five.0;
+    }
+
+-- the instruction that a task is at is fine where nothing is misused
+pub fine : (p : Program) (w : World) (t : ℕ) (i : Instr) → misuse p w t ≡ None → instr_at p (task_at w t).frame ≡ Some i → IsFine p w t (task_at w t).frame i
+fine p w t i e at = IsFine-from_fault p w t (task_at w t).frame i (rw at at e)

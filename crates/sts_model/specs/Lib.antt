@@ -1,0 +1,14 @@
+pub mod Cancelling
+pub mod Effect
+pub mod Environment
+pub mod Joining
+pub mod Live
+pub mod Living
+pub mod Local
+pub mod Misuse
+pub mod Outside
+pub mod Run
+pub mod Standing
+pub mod Told
+pub mod Waiting
+pub mod World

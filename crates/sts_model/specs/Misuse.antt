@@ -1,0 +1,329 @@
+-- Misuse: what is wrong with the instruction that a task is at, and which fault that is.
+-- Restates the exceptions of `fork`, `join`, `close` and `Subtask.get` in the API documentation (`IllegalStateException`, `WrongThreadException`,
+-- `StructureViolationException`) and of `ScopedValue.get` (`NoSuchElementException`). The fault Operand, the limits and the order of
+-- the kinds are this project's own.
+use Rattle.std.specs.Prelude.{◌≡◌, ℕ, ◌+◌, ◌-◌, List, [], ◌∷◌, length, Bool, true, false, Option, Some, None, is_some, is_none, nat_lt, nat_le, ◌==◌, ◌&&◌, ◌||◌, not, if◌then◌else◌, slice_index_or}
+use Rattle.sts_code.specs.Program.{Program, routine}
+use Rattle.sts_code.specs.declared.instr.Instr.{Instr}
+use Rattle.sts_code.specs.declared.instr.Instr.TheVariants.{Push, Pop, Dup, Swap, Load, Store, Add, Sub, Mul, Lt, Eq, Div, Jz, Times, Next, Open, Fork, Join, Close, Cancelled, Case, Get, Except, Tally, Total, Forget, Bind, Unbind, Read, Bound, OrElse, Interrupted, Ret, Fail}
+use Rattle.sts_code.specs.declared.profile.Profile.{Profile}
+use Rattle.sts_code.specs.declared.profile.Profile.TheVariants.{One, Two}
+use Rattle.sts_code.specs.declared.instr.Joiner.{Joiner}
+use Rattle.sts_code.specs.declared.instr.Joiner.TheVariants.{AllSucceed, AnySucceeds, AwaitOk, AwaitAll}
+use Rattle.sts_model.specs.declared.event.Fault.{Fault}
+use Rattle.sts_model.specs.declared.event.Fault.TheVariants.{IllegalState, WrongThread, Structure, Operand, Unbound}
+use Rattle.sts_model.specs.declared.event.End.{End}
+use Rattle.sts_model.specs.declared.event.End.TheVariants.{Success, Failed}
+use Rattle.sts_model.specs.declared.event.Phase.{Phase}
+use Rattle.sts_model.specs.declared.event.Phase.TheVariants.{Opened, Attempted, Joined, Closing}
+use Rattle.sts_model.specs.declared.record.Slot.{Slot}
+use Rattle.sts_model.specs.declared.record.Slot.TheVariants.{Empty, Own, Lent, Sub}
+use Rattle.sts_model.specs.declared.record.Entry.{Entry}
+use Rattle.sts_model.specs.declared.record.Entry.TheVariants as entry
+use Rattle.sts_model.specs.declared.record.Frame.{Frame}
+use Rattle.sts_model.specs.declared.record.Loop.{Loop}
+use Rattle.sts_model.specs.declared.record.Scope.{Scope}
+use Rattle.sts_model.specs.Local.{match_of}
+use Rattle.sts_model.specs.World.{World, code, task_at, scope_at, instr_at}
+use Rattle.sts_model.specs.Living.{subtask_count, scope_of, sub_state}
+use Rattle.sts_model.specs.Environment.{environment_of, read}
+use Rattle.sts_model.specs.Standing.{standing_tasks, standing_scopes}
+
+-- ---- operands
+
+-- what is popped
+abbrev pub pops : Program → Instr → ℕ
+pops p Pop = 1
+pops p Dup = 1
+pops p Swap = 2
+pops p (Store x) = 1
+pops p Add = 2
+pops p Sub = 2
+pops p Mul = 2
+pops p Lt = 2
+pops p Eq = 2
+pops p (Div to) = 2
+pops p (Jz to) = 1
+pops p (Times n) = 1
+pops p (Fork s f h) = (routine p f).args
+pops p (Bind k) = 1
+pops p (OrElse k) = 1
+pops p Ret = 1
+pops p Fail = 1
+pops p _ = 0
+
+-- what is pushed; of `join` see `join_overflows`
+abbrev pub pushes : Instr → ℕ
+pushes (Push k) = 1
+pushes Dup = 2
+pushes Swap = 2
+pushes (Load x) = 1
+pushes Add = 1
+pushes Sub = 1
+pushes Mul = 1
+pushes Lt = 1
+pushes Eq = 1
+pushes (Div to) = 1
+pushes (Cancelled s) = 1
+pushes (Get h) = 1
+pushes (Except h) = 1
+pushes (Tally s k) = 1
+pushes (Total s) = 1
+pushes (Read k) = 1
+pushes (Bound k) = 1
+pushes (OrElse k) = 1
+pushes Interrupted = 1
+pushes _ = 0
+
+-- fewer operands than popped
+abbrev pub lacks_operands : Program → Frame → Instr → Bool
+lacks_operands p f i = nat_lt (length f.operands) (pops p i)
+
+-- more than 32 operands afterwards
+abbrev pub overflows : Program → Frame → Instr → Bool
+overflows p f i = nat_lt 32 (length f.operands - pops p i + pushes i)
+
+abbrev pub is_at : Option ℕ → ℕ → Bool
+is_at None q = false
+is_at (Some m) q = m == q
+
+-- is the innermost open loop the one whose match is at pc?
+abbrev pub closes_loop : List Instr → ℕ → List Loop → Bool
+closes_loop is pc [] = false
+closes_loop is pc (l ∷ ls) = is_at (match_of is l.at) pc
+
+-- a `times` without match or with 8 loops open; a `next` that isn't the match of the innermost open loop
+abbrev pub breaks_loop : Program → Frame → Instr → Bool
+breaks_loop p f (Times n) = is_none (match_of (code p f) f.pc) || nat_le 8 (length f.loops)
+breaks_loop p f Next = not (closes_loop (code p f) f.pc f.loops)
+breaks_loop p f _ = false
+
+-- ---- slots
+
+-- what a slot holds
+abbrev pub slot : Frame → ℕ → Slot
+slot f x = slice_index_or f.slots x Empty
+
+abbrev pub is_empty : Slot → Bool
+is_empty Empty = true
+is_empty _ = false
+
+abbrev pub is_scope : Slot → Bool
+is_scope (Own s) = true
+is_scope (Lent s) = true
+is_scope _ = false
+
+abbrev pub is_lent : Slot → Bool
+is_lent (Lent s) = true
+is_lent _ = false
+
+abbrev pub is_sub : Slot → Bool
+is_sub (Sub t) = true
+is_sub _ = false
+
+-- the slot of an instruction that only the owner of a scope may do
+abbrev pub owners_slot : Instr → Option ℕ
+owners_slot (Fork s f h) = Some s
+owners_slot (Join s f t i) = Some s
+owners_slot (Close s) = Some s
+owners_slot (Tally s k) = Some s
+owners_slot (Total s) = Some s
+owners_slot _ = None
+
+-- the slot of an instruction on a subtask
+abbrev pub subtask_slot : Instr → Option ℕ
+subtask_slot (Case h s f) = Some h
+subtask_slot (Get h) = Some h
+subtask_slot (Except h) = Some h
+subtask_slot (Forget h) = Some h
+subtask_slot _ = None
+
+-- the slot that an instruction fills
+abbrev pub filled_slot : Instr → Option ℕ
+filled_slot (Open s j timed) = Some s
+filled_slot (Fork s f h) = h
+filled_slot _ = None
+
+-- a test of a slot, if there is one
+abbrev pub at_slot : Frame → Option ℕ → (Slot → Bool) → Bool
+at_slot f None test = false
+at_slot f (Some x) test = test (slot f x)
+
+-- a slot that does not hold what the instruction is about, or is not empty where it fills one
+abbrev pub has_wrong_slot : Frame → Instr → Bool
+has_wrong_slot f (Cancelled s) = not (is_scope (slot f s))
+has_wrong_slot f i =
+    at_slot f (owners_slot i) (λ x. not (is_scope x)) || at_slot f (subtask_slot i) (λ x. not (is_sub x)) || at_slot f (filled_slot i) (λ x. not (is_empty x))
+
+-- only the owner may: the scope is lent
+abbrev pub is_strangers : Frame → Instr → Bool
+is_strangers f i = at_slot f (owners_slot i) is_lent
+
+-- ---- scopes
+
+-- a test of the scope that a slot owns, if it owns one
+abbrev pub at_own : World → Slot → (ℕ → Scope → Bool) → Bool
+at_own w (Own s) test = test s (scope_at w s)
+at_own w _ test = false
+
+-- a test of the subtask that a slot names, with the scope it is of
+abbrev pub at_sub : World → Slot → (ℕ → Scope → Bool) → Bool
+at_sub w (Sub t) test = test t (scope_of w t)
+at_sub w _ test = false
+
+-- does the joiner's answer push or fail?
+abbrev pub can_fail : Joiner → Bool
+can_fail AllSucceed = true
+can_fail AwaitOk = true
+can_fail AnySucceeds = true
+can_fail _ = false
+
+abbrev pub is_await_all : Joiner → Bool
+is_await_all AwaitAll = true
+is_await_all _ = false
+
+abbrev pub same : Bool → Bool → Bool
+same true b = b
+same false b = not b
+
+-- a `join` with no room for the answer, or whose targets don't fit the scope
+abbrev pub joins_wrongly : Frame → Option ℕ → Option ℕ → Scope → Bool
+joins_wrongly f failed timeout scope =
+    (nat_le 32 (length f.operands) && not (is_await_all scope.joiner))
+    || not (same (is_some failed) (can_fail scope.joiner)) || not (same (is_some timeout) scope.timed)
+
+-- a `join` whose form does not fit its scope
+abbrev pub misjoins : World → Frame → Instr → Bool
+misjoins w f (Join s failed timeout interrupted) = at_own w (slot f s) (λ _ scope. joins_wrongly f failed timeout scope)
+misjoins w f _ = false
+
+-- 65,536 stand, or 1,000,000 were born?
+abbrev pub is_crowded : ℕ → ℕ → Bool
+is_crowded standing born = nat_le 65536 standing || nat_le 1000000 born
+
+-- no room for an entry, a scope or a task
+abbrev pub has_no_room : World → Frame → Instr → Bool
+has_no_room w f (Open s j timed) = nat_le 16 (length f.entries) || is_crowded (standing_scopes w) (length w.scopes)
+has_no_room w f (Bind k) = nat_le 16 (length f.entries)
+has_no_room w f (Fork s g h) = is_crowded (standing_tasks w) (length w.tasks)
+has_no_room w f _ = false
+
+abbrev pub is_opened : Phase → Bool
+is_opened Opened = true
+is_opened _ = false
+
+-- may `join` be done in this phase?
+abbrev pub can_join : Phase → Bool
+can_join Opened = true
+can_join Attempted = true
+can_join _ = false
+
+abbrev pub is_joined : Phase → Bool
+is_joined Joined = true
+is_joined _ = false
+
+abbrev pub is_closing : Phase → Bool
+is_closing Closing = true
+is_closing _ = false
+
+abbrev pub is_success : Option End → Bool
+is_success None = false
+is_success (Some (Success v)) = true
+is_success (Some (Failed c)) = false
+
+abbrev pub is_failed : Option End → Bool
+is_failed None = false
+is_failed (Some (Success v)) = false
+is_failed (Some (Failed c)) = true
+
+abbrev pub is_two : Profile → Bool
+is_two One = false
+is_two Two = true
+
+-- may the scope's subtasks be read? After a timeout in profile two alone
+abbrev pub is_readable : Profile → Scope → Bool
+is_readable profile scope = is_joined scope.phase && (is_two profile || not scope.expired)
+
+-- is the scope or subtask not in the state for it?
+abbrev pub is_illegal : Program → World → Frame → Instr → Bool
+is_illegal p w f (Fork s g h) = at_own w (slot f s) (λ _ scope. not (is_opened scope.phase))
+is_illegal p w f (Join s failed timeout i) = at_own w (slot f s) (λ _ scope. not (can_join scope.phase))
+is_illegal p w f (Close s) = at_own w (slot f s) (λ n scope. is_opened scope.phase && nat_lt 0 (subtask_count w n))
+is_illegal p w f (Tally s k) = at_own w (slot f s) (λ _ scope. not (is_readable p.profile scope))
+is_illegal p w f (Total s) = at_own w (slot f s) (λ _ scope. not (is_readable p.profile scope))
+is_illegal p w f (Get h) = at_sub w (slot f h) (λ t scope. not (is_readable p.profile scope && is_success (sub_state w t)))
+is_illegal p w f (Except h) = at_sub w (slot f h) (λ t scope. not (is_readable p.profile scope && is_failed (sub_state w t)))
+is_illegal p w f _ = false
+
+-- ---- the structure list
+
+abbrev pub is_binding : Entry → Bool
+is_binding (entry.Binding k v) = true
+is_binding (entry.Scope s) = false
+
+abbrev pub is_entry_of : ℕ → Entry → Bool
+is_entry_of s (entry.Binding k v) = false
+is_entry_of s (entry.Scope r) = r == s
+
+-- does the innermost entry, if there is one, pass the test?
+abbrev pub innermost : (Entry → Bool) → List Entry → Bool
+innermost test [] = false
+innermost test (e ∷ es) = test e
+
+-- does a binding come after the scope, innermost first?
+abbrev pub binds_after : ℕ → List Entry → Bool
+binds_after s [] = false
+binds_after s (entry.Binding k v ∷ es) = true
+binds_after s (entry.Scope r ∷ es) = if r == s then false else binds_after s es
+
+-- against the order of the structure list
+abbrev pub breaks_structure : World → Frame → Instr → Bool
+breaks_structure w f (Fork s g h) = at_own w (slot f s) (λ n _. binds_after n f.entries)
+breaks_structure w f (Close s) = at_own w (slot f s) (λ n _. not (innermost (is_entry_of n) f.entries))
+breaks_structure w f Unbind = not (innermost is_binding f.entries)
+breaks_structure w f Ret = nat_lt 0 (length f.entries)
+breaks_structure w f Fail = nat_lt 0 (length f.entries)
+breaks_structure w f _ = false
+
+-- ---- all of it
+
+-- a key that is not bound
+abbrev pub is_unbound : World → ℕ → Instr → Bool
+is_unbound w t (Read k) = is_none (read (environment_of (task_at w t) w) k)
+is_unbound w t _ = false
+
+-- any row of the kind Operand
+abbrev pub misuses_operand : Program → World → Frame → Instr → Bool
+misuses_operand p w f i =
+    lacks_operands p f i || overflows p f i || breaks_loop p f i || has_wrong_slot f i || misjoins w f i || has_no_room w f i
+
+-- the fault of an instruction, the first kind that applies
+abbrev pub fault_of : Program → World → ℕ → Frame → Instr → Option Fault
+fault_of p w t f i =
+    if misuses_operand p w f i then Some Operand
+    else (if is_strangers f i then Some WrongThread
+    else (if is_illegal p w f i then Some IllegalState
+    else (if breaks_structure w f i then Some Structure
+    else (if is_unbound w t i then Some Unbound else None))))
+
+-- the same at the end of the function, where there is no instruction
+abbrev pub fault_at : Program → World → ℕ → Frame → Option Instr → Option Fault
+fault_at p w t f None = Some Operand
+fault_at p w t f (Some i) = fault_of p w t f i
+
+-- the fault that a step of this task would be, or none
+abbrev pub misuse : Program → World → ℕ → Option Fault
+misuse p w t = let f = (task_at w t).frame in fault_at p w t f (instr_at p f)
+
+-- no row of misuse applies to the instruction
+pub record IsFine (p : Program) (w : World) (t : ℕ) (f : Frame) (i : Instr) : Type 0 where
+  pub operands : lacks_operands p f i ≡ false
+  pub room : overflows p f i ≡ false
+  pub loops : breaks_loop p f i ≡ false
+  pub slots : has_wrong_slot f i ≡ false
+  pub joins : misjoins w f i ≡ false
+  pub births : has_no_room w f i ≡ false
+  pub own : is_strangers f i ≡ false
+  pub legal : is_illegal p w f i ≡ false
+  pub structure : breaks_structure w f i ≡ false
+  pub bound : is_unbound w t i ≡ false
