@@ -1,4 +1,6 @@
--- Environments of scoped values: which binding is innermost, and what stays of those that share records. JEP 506, "Rebinding scoped values" and "Inheriting scoped values"; the records are this project's own.
+-- Environments of scoped values as chains of records: which binding is innermost, and what stays of those that share records.
+-- Restates "Description" of JEP 506: the innermost binding is read, and a subtask inherits those in force when its scope was opened.
+-- That environments share records is this project's own.
 use Rattle.std.specs.Prelude.{◌≡◌, ◌≢◌, ℕ, zero, suc, ℤ, List, [], ◌∷◌, Option, Some, None, option_map, find, ◌==◌, slice_index_or}
 use Rattle.sts_env.specs.declared.env.Binding.{Binding}
 use Rattle.sts_env.specs.declared.env.Env.{Env}

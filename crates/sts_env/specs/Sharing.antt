@@ -1,4 +1,6 @@
--- Which environments in use hold which records: tasks and scopes by birth. JEP 506, "Inheriting scoped values": a subtask inherits the bindings of the scope that it is forked in, and binds in front of them. The records are this project's own.
+-- Which environments in use hold which records, for tasks and scopes by birth.
+-- Restates "Description" of JEP 506: a subtask inherits the bindings of its scope, and binds in front of them.
+-- That environments share records is this project's own.
 use Rattle.std.specs.Prelude.{◌≡◌, ◌≢◌, ℕ, ◌<◌, List, [], ◌∷◌, ◌++◌, Option, Some, None, Bool, true}
 use Rattle.sts_env.specs.Environments.{Records, IsWhole, keys_of, NotIn}
 use Rattle.sts_env.specs.declared.env.Env.{Env}

@@ -1,4 +1,5 @@
--- What a list of keys is in a store of links, and what a change of links leaves alone. This project's own.
+-- What a list of keys is in a store of links, and what a change of links leaves alone.
+-- This project's own.
 use Rattle.std.specs.Prelude.{◌≡◌, ◌≢◌, ℕ, List, [], ◌∷◌, Option, Some, None}
 use Rattle.std.specs.List.{last_or}
 use Rattle.sts_links.specs.declared.links.Link.{Link}
