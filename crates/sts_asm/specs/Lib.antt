@@ -1,0 +1,4 @@
+pub mod Fault
+pub mod Marks
+pub mod Operand
+pub mod Line
