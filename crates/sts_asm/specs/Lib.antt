@@ -2,3 +2,4 @@ pub mod Fault
 pub mod Marks
 pub mod Operand
 pub mod Line
+pub mod Outline

@@ -112,6 +112,7 @@ abbrev pub known : Option Names → Option Mnemonic → List (List ℕ) → Resu
 known names None words = Err UnknownWord
 known names (Some m) words = operated names m words
 
--- the instruction that a first word and the words after it spell, or the first place that is wrong
-abbrev pub instr_of : Option Names → List ℕ → List (List ℕ) → Result Instr AsmKind
-instr_of names word rest = known names (mnemonic_of word) rest
+-- the instruction that words spell, or the first place that is wrong
+abbrev pub instr_of : Option Names → List (List ℕ) → Result Instr AsmKind
+instr_of names [] = Err UnknownWord
+instr_of names (word ∷ rest) = known names (mnemonic_of word) rest

@@ -6,5 +6,6 @@ mod line;
 mod marks;
 mod mnemonic;
 mod operand;
+mod outline;
 
 pub use fault::{AsmError, AsmKind};

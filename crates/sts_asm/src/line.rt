@@ -1,6 +1,6 @@
 //! Instructions from their words.
 
-ghost use Rattle.std.specs.Prelude.{◌≡◌};
+ghost use Rattle.std.specs.Prelude.{◌≡◌, ◌∷◌};
 ghost use Rattle.std.specs.Option.{option_copied};
 ghost use Rattle.sts_asm.specs.Line.{open_at, fork_at, join_at, case_at, tally_at, operated, instr_of};
 ghost use Rattle.sts_asm.specs.declared.mnemonic.Mnemonic.TheVariants.{WithNumber, WithSlot, WithTarget, Push, Times};
@@ -164,7 +164,7 @@ pub fn instr_of(
     words: &mut Words<'_>,
     names: Option<&Names<'_, '_>>,
 ) -> Result<Instr, AsmKind>
-    ensures { result ≡ instr_of (option_copied names.entry) word.now words.old }
+    ensures { result ≡ instr_of (option_copied names.entry) (word.now ∷ words.old) }
 {
     match mnemonic_of(word) {
         None => Err(AsmKind::UnknownWord),
