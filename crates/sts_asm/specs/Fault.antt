@@ -22,6 +22,9 @@ abbrev pub code_error : AsmKind → Option CodeError
 code_error (Code e) = Some e
 code_error kind = None
 
+abbrev pub out_of_memory : AsmError
+out_of_memory = record { line = 0; kind = Memory }
+
 infixl 10 ◌>>=◌
 -- what follows where all was well so far; else the first fault
 abbrev pub ◌>>=◌ : {A B E : Type 0} → Result A E → (A → Result B E) → Result B E
@@ -58,6 +61,6 @@ StepsAt (Ok x) new read = read ≡ Ok new
 StepsAt (Err e) new read = FailsAt e e.kind read
 
 -- What a function returned is what the definition gives, unless memory ran out.
-abbrev pub Judges : {Y : Type 0} → Result Y AsmError → Result Y AsmError → Type 0
-Judges (Ok x) judged = judged ≡ Ok x
-Judges (Err e) judged = FailsAt e e.kind judged
+abbrev pub Judges : {X Y : Type 0} → (X → Y) → Result X AsmError → Result Y AsmError → Type 0
+Judges view (Ok x) judged = judged ≡ Ok (view x)
+Judges view (Err e) judged = FailsAt e e.kind judged

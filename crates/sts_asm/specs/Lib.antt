@@ -3,3 +3,4 @@ pub mod Marks
 pub mod Operand
 pub mod Line
 pub mod Outline
+pub mod Text

@@ -2,7 +2,7 @@
 
 ghost use Rattle.std.specs.Prelude.{◌≡◌};
 ghost use Rattle.sts_asm.specs.declared.fault.AsmKind.TheVariants.{Memory};
-ghost use Rattle.sts_asm.specs.Fault.{kind_number, code_error};
+ghost use Rattle.sts_asm.specs.Fault.{kind_number, code_error, out_of_memory};
 
 use std::alloc::{AllocError, AllocFailed};
 use sts_code::checking::CodeError;
@@ -84,5 +84,27 @@ impl<T: Drop> From<AllocFailed<T>> for AsmKind {
 
     fn from(_error: AllocFailed<T>) -> AsmKind {
         AsmKind::Memory
+    }
+}
+
+impl From<AllocError> for AsmError {
+    ghost from_gives = { λ _ e. e ≡ out_of_memory };
+
+    fn from(_error: AllocError) -> AsmError {
+        AsmError {
+            line: 0,
+            kind: AsmKind::Memory,
+        }
+    }
+}
+
+impl<T: Drop> From<AllocFailed<T>> for AsmError {
+    ghost from_gives = { λ _ e. e ≡ out_of_memory };
+
+    fn from(_error: AllocFailed<T>) -> AsmError {
+        AsmError {
+            line: 0,
+            kind: AsmKind::Memory,
+        }
     }
 }

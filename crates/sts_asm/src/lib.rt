@@ -7,5 +7,8 @@ mod marks;
 mod mnemonic;
 mod operand;
 mod outline;
+mod resolving;
+mod text;
 
 pub use fault::{AsmError, AsmKind};
+pub use text::assemble;

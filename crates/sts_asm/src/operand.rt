@@ -1,13 +1,15 @@
 //! The operands of a line, one reader for each kind.
 
-ghost use Rattle.std.specs.Prelude.{◌≡◌, ◌^◌, ◌-◌, ◌≤◌, option_map, IfOk};
+ghost use Rattle.std.specs.Prelude.{◌≡◌, ◌^◌, ◌-◌, ◌≤◌, option_map, IfOk, true};
 ghost use Rattle.std.specs.Option.{option_copied};
 ghost use Rattle.sts_asm.specs.Fault.{Reads};
 ghost use Rattle.sts_asm.specs.Operand.{number_at, value_at, slot, slot_at, handle, handle_at, name_at, target_at, function_at, maybe_target_at, looked_up, joiners, until_count_at, until_value_at, until_at, joiner_at, timed_at, kinds_counted, kind_at, finished};
+ghost use Rattle.sts_code.specs.Name as def_name;
 ghost use Rattle.sts_code.specs.declared.instr.Pred.TheVariants as pred;
 
 use crate::fault::AsmKind;
 use crate::marks::{Names, function_in, label_in};
+use std::str;
 use sts_code::instr::{Instr, Joiner, Kind, Pred};
 use sts_code::naming::is_name;
 use sts_text::{Words, digits_up_to, number, number_up_to};
@@ -90,7 +92,8 @@ pub fn handle_at(words: &mut Words<'_>) -> Result<Option<u8>, AsmKind>
 
 /// A name.
 pub fn name_at<'a>(words: &mut Words<'a>) -> Result<&'a [u8], AsmKind>
-    ensures { Reads (λ name. name.now) result words.new (name_at words.old) }
+    ensures read { Reads (λ name. name.now) result words.new (name_at words.old) }
+    ensures name { IfOk result (λ name. def_name.is_name name.now ≡ true) }
 {
     let Some(word) = words.word() else {
         return Err(AsmKind::BadOperands);
@@ -99,6 +102,18 @@ pub fn name_at<'a>(words: &mut Words<'a>) -> Result<&'a [u8], AsmKind>
         Ok(word)
     } else {
         Err(AsmKind::BadOperands)
+    }
+}
+
+/// A name as text, since it is ASCII.
+#[tactic(auto, using(crate::proofs::NameLemmas::name_is_text))]
+pub fn name_text(name: &[u8]) -> &str
+    requires { def_name.is_name name.now ≡ true }
+    ensures { result.now ≡ name.now }
+{
+    match str::from_utf8(name) {
+        Ok(text) => text,
+        Err(_) => "",
     }
 }
 

@@ -11,7 +11,7 @@ ghost use Rattle.sts_asm.specs.Outline.{no_needs, profile_at, with_keys, keys_at
 use crate::fault::AsmKind;
 use crate::line::instr_of;
 use crate::marks::Marks;
-use crate::operand::{byte_at, name_at, number_at};
+use crate::operand::{byte_at, name_at, name_text};
 use std::alloc::Global;
 use std::marker::Model;
 use sts_code::naming::is_name;
@@ -21,8 +21,8 @@ use sts_text::{Words, number_up_to};
 /// A line of an instruction, without its comment.
 #[derive(Drop)]
 pub struct Sentence<'a> {
-    line: u32,
-    text: &'a [u8],
+    pub(crate) line: u32,
+    pub(crate) text: &'a [u8],
 }
 
 impl<'a> Model for Sentence<'a> {
@@ -37,11 +37,11 @@ impl<'a> Model for Sentence<'a> {
 /// A function as far as it was read.
 #[derive(Drop)]
 pub struct Draft<'a> {
-    name: &'a [u8],
-    args: u8,
-    needs: [bool; 16],
-    labels: Marks<'a>,
-    code: Vec<Sentence<'a>>,
+    pub(crate) name: &'a str,
+    pub(crate) args: u8,
+    pub(crate) needs: [bool; 16],
+    pub(crate) labels: Marks<'a>,
+    pub(crate) code: Vec<Sentence<'a>>,
 }
 
 impl<'a> Model for Draft<'a> {
@@ -120,7 +120,7 @@ fn needs_at(rest: &mut Words<'_>) -> Result<[bool; 16], AsmKind>
 fn header_at<'a>(alloc: Global, rest: &mut Words<'a>) -> Result<Draft<'a>, AsmKind>
     ensures { result ≡ def.header_at rest.old }
 {
-    let name = name_at(rest)?;
+    let name = name_text(name_at(rest)?);
     let args = byte_at(rest)?;
     let needs = needs_at(rest)?;
     Ok(Draft {
@@ -188,9 +188,9 @@ impl<'a> Draft<'a> {
 /// A text as far as it was read.
 #[derive(Drop)]
 pub struct Outline<'a> {
-    profile: Profile,
-    functions: Marks<'a>,
-    done: Vec<Draft<'a>>,
+    pub(crate) profile: Profile,
+    pub(crate) functions: Marks<'a>,
+    pub(crate) done: Vec<Draft<'a>>,
     current: Option<Draft<'a>>,
     alloc: Global,
 }
@@ -264,7 +264,7 @@ impl<'a> Outline<'a> {
         }
         let draft = header_at(self.alloc, rest)?;
         let at = self.done.len() as u32;
-        self.functions.push(draft.name, at)?;
+        self.functions.push(draft.name.as_bytes(), at)?;
         self.current = Some(draft);
         Ok(())
     }
