@@ -1,0 +1,4 @@
+pub mod EachLemmas
+pub mod MarkLemmas
+pub mod NameLemmas
+pub mod TextLemmas

@@ -1,0 +1,6 @@
+pub mod Fault
+pub mod Marks
+pub mod Operand
+pub mod Line
+pub mod Outline
+pub mod Text

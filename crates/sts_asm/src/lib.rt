@@ -1,0 +1,14 @@
+//! Programs as text: the assembler and the listing.
+#![tactic(auto)]
+
+mod fault;
+mod line;
+mod marks;
+mod mnemonic;
+mod operand;
+mod outline;
+mod resolving;
+mod text;
+
+pub use fault::{AsmError, AsmKind};
+pub use text::assemble;
