@@ -1,0 +1,3 @@
+pub mod Joined
+pub mod Output
+pub mod Printed
