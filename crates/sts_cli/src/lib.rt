@@ -6,3 +6,4 @@ pub mod joined;
 pub mod mode;
 pub mod play;
 pub mod printed;
+pub mod taking;
