@@ -1,5 +1,5 @@
 -- The listing of a program (this project's own).
-use Rattle.std.specs.Prelude.{ℕ, ◌+◌, ◌==◌, Bool, true, false, List, [], ◌∷◌, ◌++◌, Option, Some, None, if◌then◌else◌, codes}
+use Rattle.std.specs.Prelude.{ℕ, ◌+◌, ◌==◌, Bool, true, false, List, [], ◌∷◌, ◌++◌, Option, Some, None, slice_set, if◌then◌else◌, codes}
 use Rattle.std.specs.List.{flat_map, list_any}
 use Rattle.std.specs.Fmt.{decimal}
 use Rattle.sts_code.specs.Program.{Program, Routine}
@@ -28,6 +28,11 @@ targets instr = []
 abbrev pub is_target : List Instr → ℕ → Bool
 is_target code pc = list_any (λ to. to == pc) (flat_map targets code)
 
+-- the instructions of a list, by index, of which each is marked that is named
+abbrev pub with_marks : List Bool → List ℕ → List Bool
+with_marks marks [] = marks
+with_marks marks (to ∷ rest) = with_marks (slice_set marks to true) rest
+
 -- ---- the text
 
 -- the numbers of the keys that are needed, counted from k
@@ -35,13 +40,17 @@ abbrev pub keys_from : ℕ → List Bool → List ℕ
 keys_from k [] = []
 keys_from k (needed ∷ rest) = if needed then k ∷ keys_from (k + 1) rest else keys_from (k + 1) rest
 
+-- each key after a space
 abbrev pub keys_text : List ℕ → List ℕ
-keys_text [] = []
-keys_text (k ∷ rest) = codes " needs" ++ flat_map (λ key. 32 ∷ decimal key) (k ∷ rest)
+keys_text keys = flat_map (λ key. 32 ∷ decimal key) keys
+
+-- `needs` and the keys rising, where there are any
+abbrev pub needs_text : List Bool → List ℕ
+needs_text needs = if list_any (λ needed. needed) needs then codes " needs" ++ keys_text (keys_from 0 needs) else []
 
 -- the first line of a function
 abbrev pub header : Routine → List ℕ
-header r = codes "func " ++ r.name ++ codes " " ++ decimal r.args ++ keys_text (keys_from 0 r.needs) ++ codes "\n"
+header r = codes "func " ++ r.name ++ codes " " ++ decimal r.args ++ needs_text r.needs ++ codes "\n"
 
 -- the line of a label, where an instruction is named by another
 abbrev pub label_line : Bool → ℕ → List ℕ

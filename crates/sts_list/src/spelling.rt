@@ -109,12 +109,7 @@ fn name_of(program: &Program, function: u32) -> &str
     }
 }
 
-fn write_open(
-    out: &mut String,
-    slot: u8,
-    joiner: Joiner,
-    timed: bool,
-) -> Result<(), AllocError>
+fn write_open(out: &mut String, slot: u8, joiner: Joiner, timed: bool) -> Result<(), AllocError>
     ensures { OnOk result (string_bytes out.new ≡ string_bytes out.old ++ ((32 ∷ def.slot slot) ++ (after_spaces (def.joiner_words joiner) ++ after_spaces (def.timed_words timed)))) }
 {
     write!(out, " s{slot}")?;
@@ -122,12 +117,7 @@ fn write_open(
     write_timed(out, timed)
 }
 
-fn write_fork(
-    out: &mut String,
-    slot: u8,
-    name: &str,
-    handle: Option<u8>,
-) -> Result<(), AllocError>
+fn write_fork(out: &mut String, slot: u8, name: &str, handle: Option<u8>) -> Result<(), AllocError>
     ensures { OnOk result (string_bytes out.new ≡ string_bytes out.old ++ after_spaces (def.slot slot ∷ name.now ∷ def.handle handle ∷ [])) }
 {
     write!(out, " s{slot} {name}")?;
