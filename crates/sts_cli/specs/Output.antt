@@ -1,5 +1,5 @@
 -- What the program prints and the status that it ends with, for each mode (this project's own).
-use Rattle.std.specs.Prelude.{◌≡◌, ◌⊎◌, ⊤, ℕ, List, ◌++◌, Result, Ok, Err, codes}
+use Rattle.std.specs.Prelude.{◌≡◌, ◌⊎◌, ⊤, ℕ, List, ◌++◌, Result, Ok, Err}
 use Rattle.sts_code.specs.Program.{Program}
 use Rattle.sts_model.specs.declared.event.Event.{Event}
 use Rattle.sts_model.specs.declared.event.End.{End}
@@ -8,6 +8,7 @@ use Rattle.sts_model.specs.Run.{after, taken}
 use Rattle.sts_asm.specs.Fault.{code_error}
 use Rattle.sts_asm.specs.Text.{judged}
 use Rattle.sts_asm.specs.declared.fault.AsmError.{AsmError}
+use Rattle.sts_list.specs.Listing.{listing}
 use Rattle.sts_plain.specs.Seen.{shown}
 use Rattle.sts_plain.specs.declared.misstep.PlainState.{PlainState}
 use Rattle.sts_plain.specs.declared.misstep.PlainState.TheVariants as plain
@@ -57,12 +58,18 @@ abbrev pub plain_output : Result Program AsmError → List ℕ → Output
 plain_output (Ok p) trace = traced_output p (trace_read trace)
 plain_output (Err e) trace = text_fault_output e
 
+-- ---- mode list
+
+abbrev pub list_output : Result Program AsmError → Output
+list_output (Ok p) = record { bytes = listing p; status = 0 }
+list_output (Err e) = text_fault_output e
+
 -- ---- all modes
 
 -- what is printed in a mode
 abbrev pub Shows : Mode → List ℕ → List ℕ → Output → Type 0
 Shows mode.Plain text trace output = output ≡ plain_output (judged text) trace
-Shows mode.List text trace output = ⊤
+Shows mode.List text trace output = output ≡ list_output (judged text)
 Shows mode.Verify text trace output = ⊤
 
 -- the output of the mode, or that memory was refused

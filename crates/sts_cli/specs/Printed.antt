@@ -8,7 +8,7 @@ use Rattle.sts_model.specs.declared.event.End.{End}
 use Rattle.sts_model.specs.declared.event.End.TheVariants.{Success, Failed}
 use Rattle.sts_model.specs.declared.event.Fault.{Fault}
 use Rattle.sts_model.specs.declared.event.Fault.TheVariants as fault
-use Rattle.sts_asm.specs.Fault.{kind_number, code_error}
+use Rattle.sts_asm.specs.Fault.{kind_number}
 use Rattle.sts_asm.specs.declared.fault.AsmError.{AsmError}
 use Rattle.sts_plain.specs.declared.misstep.PlainState.{PlainState}
 use Rattle.sts_plain.specs.declared.misstep.PlainState.TheVariants as plain

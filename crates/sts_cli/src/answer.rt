@@ -14,6 +14,7 @@ use std::alloc::{AllocError, Global};
 use std::marker::Model;
 use sts_asm::{AsmError, AsmKind, assemble};
 use sts_code::program::Program;
+use sts_list::list;
 use sts_model::event::{End, Event};
 use sts_plain::misstep::PlainState;
 use sts_plain::plain::Plain;
@@ -109,6 +110,19 @@ pub fn plain(alloc: Global, text: &[u8], trace: &[u8]) -> Result<Answer, AllocEr
 {
     match assemble(alloc, text) {
         Ok(program) => traced(alloc, &program, trace),
+        Err(error) => text_fault(alloc, error),
+    }
+}
+
+/// Assembles the text and lists the program.
+pub fn listed(alloc: Global, text: &[u8]) -> Result<Answer, AllocError>
+    ensures { IfOk result (λ a. a ≡ def.list_output (judged text.now)) }
+{
+    match assemble(alloc, text) {
+        Ok(program) => Ok(Answer {
+            text: list(alloc, &program)?,
+            status: 0,
+        }),
         Err(error) => text_fault(alloc, error),
     }
 }

@@ -6,4 +6,5 @@ pub mod joined;
 pub mod mode;
 pub mod play;
 pub mod printed;
+pub mod program;
 pub mod taking;

@@ -24,7 +24,8 @@ fn answer(alloc: Global, mode: Mode, text: &[u8], trace: &[u8]) -> Result<Answer
 {
     match mode {
         Mode::Plain => answer::plain(alloc, text, trace),
-        Mode::List | Mode::Verify => Err(AllocError),
+        Mode::List => answer::listed(alloc, text),
+        Mode::Verify => Err(AllocError),
     }
 }
 
