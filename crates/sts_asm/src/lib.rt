@@ -12,3 +12,6 @@ mod text;
 
 pub use fault::{AsmError, AsmKind};
 pub use text::assemble;
+
+#[cfg(test)]
+mod tests;
