@@ -1,3 +1,6 @@
-pub mod Lists
+pub mod Kept
 pub mod Later
+pub mod Lists
 pub mod Runs
+pub mod Sound
+pub mod Still
