@@ -4,3 +4,5 @@ pub mod Lists
 pub mod Runs
 pub mod Sound
 pub mod Still
+pub mod Frames
+pub mod Effects
