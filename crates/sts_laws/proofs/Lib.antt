@@ -6,3 +6,4 @@ pub mod Sound
 pub mod Still
 pub mod Frames
 pub mod Effects
+pub mod Births

@@ -10,6 +10,14 @@ at_set P (x ∷ xs) zero (suc j) y d new old = old
 at_set P (x ∷ xs) (suc i) zero y d new old = old
 at_set P (x ∷ xs) (suc i) (suc j) y d new old = at_set P xs i j y d (λ e. new (ap suc e)) old
 
+-- the same, where the old ones are those at other places
+pub at_put : {X : Type 0} (P : X → Type 0) (xs : List X) (i j : ℕ) (y d : X) → i < length xs → (j ≡ i → P y) → ((j ≡ i → ⊥) → P (get_or xs j d)) → P (get_or (set xs i y) j d)
+at_put P [] i j y d less new old = absurd (omega arith)
+at_put P (x ∷ xs) zero zero y d less new old = new refl
+at_put P (x ∷ xs) zero (suc j) y d less new old = old (λ e. absurd (omega (arith, e)))
+at_put P (x ∷ xs) (suc i) zero y d less new old = old (λ e. absurd (omega (arith, e)))
+at_put P (x ∷ xs) (suc i) (suc j) y d less new old = at_put P xs i j y d (omega (arith, less)) (λ e. new (ap suc e)) (λ never. old (λ e. never (omega (arith, e))))
+
 -- what holds of one more element and of the old ones
 pub at_more : {X : Type 0} (P : X → Type 0) (xs : List X) (y : X) (j : ℕ) (d : X) → (j ≡ length xs → P y) → P (get_or xs j d) → P (get_or (xs ++ y ∷ []) j d)
 at_more P [] y zero d new old = new refl

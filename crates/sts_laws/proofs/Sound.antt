@@ -10,13 +10,13 @@ use Rattle.sts_laws.specs.Runs.{IsTold}
 use Rattle.sts_laws.proofs.Kept.{Kept, Holds, dead_later}
 
 -- a scope was born, and this task owns it
-pub record Owner (w : World) (s t : ℕ) : Type 0 where
-  pub born : s < length w.scopes
-  pub owner : (scope_at w s).owner ≡ t
+pub record Owner (scopes : List Scope) (s t : ℕ) : Type 0 where
+  pub born : s < length scopes
+  pub owner : (get_or scopes s no_scope).owner ≡ t
 
 pub record Sound (w : World) : Type 0 where
   -- a slot owns scopes of its task alone
-  pub own : (t i s : ℕ) → slot (task_at w t).frame i ≡ Own s → Owner w s t
+  pub own : (t i s : ℕ) → slot (task_at w t).frame i ≡ Own s → Owner w.scopes s t
   -- the owner of a scope was born before its subtasks
   pub born : (u s : ℕ) → (task_at w u).scope ≡ Some s → (s < length w.scopes) × ((scope_at w s).owner < u)
   -- the root alone is no subtask
