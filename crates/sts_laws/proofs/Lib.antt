@@ -7,3 +7,4 @@ pub mod Still
 pub mod Frames
 pub mod Effects
 pub mod Births
+pub mod Told

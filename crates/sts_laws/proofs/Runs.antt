@@ -3,6 +3,7 @@ use Rattle.std.proofs.Common.{◌≡◌, ℕ, ◌+◌, ◌≤◌, List, [], ◌�
 use Rattle.std.proofs.lemmas.List.Sums.{fold-append}
 use Rattle.sts_laws.proofs.Kept.{kept-later}
 use Rattle.sts_laws.proofs.Births.{sound-open, sound-fork}
+use Rattle.sts_laws.proofs.Told.{completion-front, told-end}
 use Rattle.sts_laws.proofs.Effects.{still-effect, kept-end, still-interrupt, still-expire}
 use Rattle.sts_laws.proofs.Sound.{sound-kept}
 use Rattle.sts_laws.proofs.Still.{still-cancel}
