@@ -8,3 +8,6 @@ pub mod Frames
 pub mod Effects
 pub mod Births
 pub mod Told
+pub mod Events
+pub mod Laws
+pub mod Steps

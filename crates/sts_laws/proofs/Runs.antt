@@ -1,12 +1,6 @@
 -- Runs, event by event.
 use Rattle.std.proofs.Common.{◌≡◌, ℕ, ◌+◌, ◌≤◌, List, [], ◌∷◌, ◌++◌, Bool, true, false, refl, sym, ◌∙◌, ap, arith, cond, fold, ◌&&◌, add_assoc}
 use Rattle.std.proofs.lemmas.List.Sums.{fold-append}
-use Rattle.sts_laws.proofs.Kept.{kept-later}
-use Rattle.sts_laws.proofs.Births.{sound-open, sound-fork}
-use Rattle.sts_laws.proofs.Told.{completion-front, told-end}
-use Rattle.sts_laws.proofs.Effects.{still-effect, kept-end, still-interrupt, still-expire}
-use Rattle.sts_laws.proofs.Sound.{sound-kept}
-use Rattle.sts_laws.proofs.Still.{still-cancel}
 use Rattle.sts_code.specs.Program.{Program}
 use Rattle.sts_model.specs.declared.event.Event.{Event}
 use Rattle.sts_model.specs.declared.event.Fault.{Fault}
