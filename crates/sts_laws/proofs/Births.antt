@@ -22,7 +22,7 @@ use Rattle.sts_model.specs.Environment.{environment_of}
 use Rattle.sts_model.specs.Misuse.{slot, is_entry_of}
 use Rattle.sts_model.specs.Effect.{open_scope, fork_task, subtask_of, forked}
 use Rattle.sts_laws.proofs.Lists.{at_set, at_more, past, within}
-use Rattle.sts_laws.proofs.Later.{Later, later_task-refl, later_scope-refl, later-trans}
+use Rattle.sts_laws.proofs.Later.{Later, later_task-refl, later_scope-refl, later-trans, none_fresh}
 use Rattle.sts_laws.proofs.Kept.{Holds, kept-later}
 use Rattle.sts_laws.proofs.Still.{Still, Fits, still-frame}
 use Rattle.sts_laws.proofs.Frames.{owns-with_slot}
@@ -48,14 +48,22 @@ pub new-owns_nothing : (g : ℕ) (args : List ℤ) (x : Slot) → ((r : ℕ) →
 new-owns_nothing g args x never zero r e = never r e
 new-owns_nothing g args x never (suc i) r e = let q = empties 15 i in cc
 
-pub later-more_tasks : (w : World) (x : Task) → Later w (more_tasks w x)
-later-more_tasks w x =
+-- a task of no cancelled scope, or one that was not started
+abbrev pub IsFresh : World → Task → Type 0
+IsFresh w x = (s : ℕ) → x.scope ≡ Some s → (scope_at w s).cancelled ≡ true → x.started ≡ false
+
+pub later-more_tasks : (w : World) (x : Task) → IsFresh w x → Later w (more_tasks w x)
+later-more_tasks w x is_fresh =
     let n = length-append w.tasks (x ∷ []) in
     record {
       tasks = omega (arith, n);
       scopes = omega arith;
       task = λ t less. rw (get_or_append_left w.tasks (x ∷ []) no_task t less) (later_task-refl (task_at w t));
       scope = λ s less. later_scope-refl (scope_at w s);
+      fresh = λ u s late cancelled.
+        at_more (λ (task : Task). task.scope ≡ Some s → task.started ≡ false) w.tasks x u no_task
+        (λ e inside. is_fresh s inside cancelled)
+        (none_fresh w w (omega arith) u s late cancelled);
     }
 
 -- a subtask of a scope that isn't closed and whose owner was born
@@ -113,10 +121,19 @@ sound-fork p w t s g h o mine alive still =
     let x : Task = subtask_of p w (task_at w t).frame s g in
     sound-kept (more_tasks w x) _ (sound-more_tasks w x s o (child-of p w t s g mine alive still)) (still-forker p w t s g h alive).kept
 
+not_true : (b : Bool) → b ≡ true → not b ≡ false
+not_true true e = refl
+not_true false e = cc
+
 pub later-fork : (p : Program) (w : World) (t s g : ℕ) (h : Option ℕ) → lives (task_at w t) ≡ true → Later w (fork_task p w t (task_at w t).frame s g h)
 later-fork p w t s g h alive =
     let x : Task = subtask_of p w (task_at w t).frame s g in
-    later-trans w (more_tasks w x) _ (later-more_tasks w x) (kept-later (more_tasks w x) _ (still-forker p w t s g h alive).kept)
+    let fresh : IsFresh w x =
+      λ r inside cancelled.
+        let same : s ≡ r = cc in
+        not_true (scope_at w s).cancelled (rw same cancelled)
+    in
+    later-trans w (more_tasks w x) _ (later-more_tasks w x fresh) (kept-later (more_tasks w x) _ (still-forker p w t s g h alive).kept)
 
 -- ---- open
 
@@ -139,6 +156,7 @@ later-more_scopes w x =
       scopes = omega (arith, n);
       task = λ t less. later_task-refl (task_at w t);
       scope = λ s less. rw (get_or_append_left w.scopes (x ∷ []) no_scope s less) (later_scope-refl (scope_at w s));
+      fresh = none_fresh w (more_scopes w x) (omega arith);
     }
 
 -- the owner of an earlier scope owns it still

@@ -27,7 +27,7 @@ use Rattle.sts_model.specs.Run.{apply, after, step, stepped, perform}
 use Rattle.sts_laws.specs.Stays.{Between, Always}
 use Rattle.sts_laws.specs.Runs.{In, Ever}
 use Rattle.sts_laws.proofs.Lists.{at_set, both}
-use Rattle.sts_laws.proofs.Later.{LaterTask, Later, later_task-refl, later_scope-refl, later-refl, later-trans}
+use Rattle.sts_laws.proofs.Later.{LaterTask, Later, later_task-refl, later_scope-refl, later-refl, later-trans, none_fresh}
 use Rattle.sts_laws.proofs.Kept.{Kept, kept-later}
 use Rattle.sts_laws.proofs.Still.{Still}
 use Rattle.sts_laws.proofs.Frames.{own_slot, at_own-is}
@@ -65,6 +65,7 @@ later-frame w t f =
       scopes = omega arith;
       task = λ u less. at_set (λ (task : Task). LaterTask (task_at w u) task) w.tasks t u (record (task_at w t) { frame = f }) no_task (λ e. rw e (record { same = record { started = refl; scope = refl }; outcome = λ end d. d })) (later_task-refl (task_at w u));
       scope = λ s less. later_scope-refl (scope_at w s);
+      fresh = none_fresh w (with_frame w t f) (omega (arith, n));
     }
 
 next-open : (w : World) (t x : ℕ) (joiner : Joiner) (timed : Bool) → Right w → lives (task_at w t) ≡ true → Next w (open_scope w t (task_at w t).frame x joiner timed)

@@ -13,7 +13,7 @@ use Rattle.sts_model.specs.Cancelling.{raise, raised, marked, cancel}
 use Rattle.sts_model.specs.Misuse.{slot, is_entry_of}
 use Rattle.sts_laws.specs.Stays.{IsSameTask, KeepsMarks}
 use Rattle.sts_laws.proofs.Lists.{at_set}
-use Rattle.sts_laws.proofs.Later.{LaterTask, LaterScope, Later, later_task-refl, later_task-trans, later_scope-refl, later_scope-trans, same_scope-refl, completes-refl}
+use Rattle.sts_laws.proofs.Later.{LaterTask, LaterScope, Later, later_task-refl, later_task-trans, later_scope-refl, later_scope-trans, same_scope-refl, completes-refl, none_fresh}
 
 -- the task lives, and the scope is an entry of its frame
 pub record Holds (task : Task) (s : ℕ) : Type 0 where
@@ -150,4 +150,10 @@ pub kept-later : (w v : World) → Kept w v → Later w v
 kept-later w v k =
     let tasks = k.tasks in
     let scopes = k.scopes in
-    record { tasks = omega (arith, tasks); scopes = omega (arith, scopes); task = λ t less. k.task t; scope = λ s less. k.scope s }
+    record {
+      tasks = omega (arith, tasks);
+      scopes = omega (arith, scopes);
+      task = λ t less. k.task t;
+      scope = λ s less. k.scope s;
+      fresh = none_fresh w v (omega (arith, tasks));
+    }

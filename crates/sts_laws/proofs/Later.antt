@@ -1,12 +1,14 @@
 -- A later state of a run: what is the same in it, or only more.
-use Rattle.std.proofs.Common.{◌≡◌, ℕ, ◌+◌, ◌<◌, ◌≤◌, List, [], ◌∷◌, ◌++◌, Bool, true, false, Option, Some, None, refl, sym, ◌∙◌, ap, length, arith, cond, append_assoc}
+use Rattle.std.proofs.Common.{◌≡◌, ℕ, ◌+◌, ◌<◌, ◌≤◌, List, [], ◌∷◌, ◌++◌, Bool, true, false, Option, Some, None, refl, sym, ◌∙◌, ap, length, arith, cond, append_assoc, nat_lt}
+use Rattle.std.proofs.lemmas.Bool.Decides.{nat_tests}
 use Rattle.std.proofs.lemmas.List.{append-nil}
 use Rattle.sts_model.specs.declared.event.End.{End}
 use Rattle.sts_model.specs.declared.record.Task.{Task}
 use Rattle.sts_model.specs.declared.record.Scope.{Scope}
 use Rattle.sts_model.specs.declared.record.Completion.{Completion}
-use Rattle.sts_model.specs.World.{World, task_at, scope_at}
-use Rattle.sts_laws.specs.Stays.{IsSameTask, IsSameScope, KeepsMarks, Completes}
+use Rattle.sts_model.specs.World.{World, task_at, scope_at, no_task, no_scope}
+use Rattle.sts_laws.specs.Stays.{IsSameTask, IsSameScope, KeepsMarks, Completes, NothingStarts}
+use Rattle.sts_laws.proofs.Lists.{past, within}
 
 -- of one task
 pub record LaterTask (x y : Task) : Type 0 where
@@ -25,6 +27,7 @@ pub record Later (w v : World) : Type 0 where
   pub scopes : length w.scopes ≤ length v.scopes
   pub task : (t : ℕ) → t < length w.tasks → LaterTask (task_at w t) (task_at v t)
   pub scope : (s : ℕ) → s < length w.scopes → LaterScope (scope_at w s) (scope_at v s)
+  pub fresh : NothingStarts w v
 
 pub later_task-refl : (x : Task) → LaterTask x x
 later_task-refl x = record { same = record { started = refl; scope = refl }; outcome = λ end e. e }
@@ -71,8 +74,19 @@ later_scope-trans x y z h k =
       completions = completes-trans x y z h.completions h.marks k.completions;
     }
 
+-- where no task was born, none was started
+pub none_fresh : (w v : World) → length v.tasks ≤ length w.tasks → NothingStarts w v
+none_fresh w v few u s late cancelled inside = ap (λ (task : Task). task.started) (past v.tasks u no_task (omega (arith, few, late)))
+
 pub later-refl : (w : World) → Later w w
-later-refl w = record { tasks = omega arith; scopes = omega arith; task = λ t h. later_task-refl (task_at w t); scope = λ s h. later_scope-refl (scope_at w s) }
+later-refl w =
+    record {
+      tasks = omega arith;
+      scopes = omega arith;
+      task = λ t h. later_task-refl (task_at w t);
+      scope = λ s h. later_scope-refl (scope_at w s);
+      fresh = none_fresh w w (omega arith);
+    }
 
 pub later-trans : (w v x : World) → Later w v → Later v x → Later w x
 later-trans w v x h k =
@@ -81,4 +95,13 @@ later-trans w v x h k =
       scopes = let a = h.scopes in let b = k.scopes in omega (arith, a, b);
       task = λ t less. let a = h.tasks in later_task-trans (task_at w t) (task_at v t) (task_at x t) (h.task t less) (k.task t (omega (arith, a, less)));
       scope = λ s less. let a = h.scopes in later_scope-trans (scope_at w s) (scope_at v s) (scope_at x s) (h.scope s less) (k.scope s (omega (arith, a, less)));
+      fresh = λ u s late cancelled inside. fresh u s late cancelled inside (nat_lt u (length v.tasks)) refl;
     }
+  where
+    fresh : (u s : ℕ) → length w.tasks ≤ u → (scope_at w s).cancelled ≡ true → (task_at x u).scope ≡ Some s → (b : Bool) → nat_lt u (length v.tasks) ≡ b → (task_at x u).started ≡ false
+    fresh u s late cancelled inside true e =
+        let same = (k.task u (grind (arith, nat_tests))).same in
+        same.started ∙ h.fresh u s late cancelled (sym same.scope ∙ inside)
+    fresh u s late cancelled inside false e =
+        let born = within (λ (scope : Scope). scope.cancelled) w.scopes s no_scope refl cancelled in
+        k.fresh u s (grind (arith, nat_tests)) ((h.scope s born).marks.cancelled cancelled) inside

@@ -9,7 +9,7 @@ use Rattle.sts_model.specs.declared.record.Scope.{Scope}
 use Rattle.sts_model.specs.World.{World, task_at, scope_at, no_task, no_scope}
 use Rattle.sts_model.specs.Living.{lives, is_closed, parent, scope_of, completion_of, sub_state}
 use Rattle.sts_model.specs.Waiting.{can_step, can_go, stand_at}
-use Rattle.sts_laws.specs.Stays.{NothingIsLost, KeepsBorn, EndsStay, KeepsEnd, ClosedStays, KeepsMarks, CompletionsGrow, Completes, StatesStay}
+use Rattle.sts_laws.specs.Stays.{NothingIsLost, KeepsBorn, EndsStay, KeepsEnd, ClosedStays, KeepsMarks, CompletionsGrow, Completes, StatesStay, NothingStarts, CancelledStartsNothing}
 use Rattle.sts_laws.specs.Runs.{CompletionsAreEnds, ClosedIsEmpty, RootEndsLast}
 use Rattle.sts_laws.proofs.Lists.{past, within}
 use Rattle.sts_laws.proofs.Later.{Later, LaterTask, LaterScope}
@@ -18,6 +18,9 @@ use Rattle.sts_laws.proofs.Events.{Right, Next, ever, always}
 
 pub nothing_is_lost : NothingIsLost
 nothing_is_lost = always (λ p w v. KeepsBorn w v) (λ p w v h. let l = h.later in record { tasks = l.tasks; scopes = l.scopes; task = λ t less. (l.task t less).same; scope = λ s less. (l.scope s less).same })
+
+pub cancelled_starts_nothing : CancelledStartsNothing
+cancelled_starts_nothing = always (λ p w v. NothingStarts w v) (λ p w v h. h.later.fresh)
 
 -- ---- ends
 

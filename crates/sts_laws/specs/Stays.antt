@@ -78,6 +78,13 @@ CompletionsGrow = Always (λ p w v. (s : ℕ) → Completes (scope_at w s) (scop
 abbrev pub StatesStay : Type 0
 StatesStay = Always (λ p w v. (t : ℕ) (end : End) → sub_state w t ≡ Some end → sub_state v t ≡ Some end)
 
+-- no task that is born into a cancelled scope is ever started
+abbrev pub NothingStarts : World → World → Type 0
+NothingStarts w v = (u s : ℕ) → length w.tasks ≤ u → (scope_at w s).cancelled ≡ true → (task_at v u).scope ≡ Some s → (task_at v u).started ≡ false
+
+abbrev pub CancelledStartsNothing : Type 0
+CancelledStartsNothing = Always (λ p w v. NothingStarts w v)
+
 -- ---- steps taken
 
 -- one event more: at most one step more, and one exactly where a step counts

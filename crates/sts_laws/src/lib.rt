@@ -1,7 +1,7 @@
 //! Laws over all event lists of every program.
 #![tactic(auto)]
 
-ghost use Rattle.sts_laws.specs.Stays.{FaultsStay, StepsAreCounted, NothingIsLost, EndsStay, ClosedStays, CompletionsGrow, StatesStay};
+ghost use Rattle.sts_laws.specs.Stays.{FaultsStay, StepsAreCounted, NothingIsLost, EndsStay, ClosedStays, CompletionsGrow, StatesStay, CancelledStartsNothing};
 ghost use Rattle.sts_laws.specs.Runs.{CompletionsAreEnds, ClosedIsEmpty, RootEndsLast, SomeTaskSteps};
 
 /// A fault stays.
@@ -75,5 +75,12 @@ pub fn root_ends_last()
 /// While the root lives some task can step: the living task that was born last never waits.
 pub fn some_task_steps()
     ensures { SomeTaskSteps }
+{
+}
+
+/// No task that is born into a cancelled scope is ever started.
+#[tactic(auto, using(crate::proofs::Laws::cancelled_starts_nothing))]
+pub fn cancelled_starts_nothing()
+    ensures { CancelledStartsNothing }
 {
 }
