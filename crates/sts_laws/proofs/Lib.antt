@@ -11,3 +11,4 @@ pub mod Told
 pub mod Events
 pub mod Laws
 pub mod Steps
+pub mod Causes
