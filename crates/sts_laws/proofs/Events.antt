@@ -35,25 +35,37 @@ use Rattle.sts_laws.proofs.Sound.{Sound, Owner, sound-kept}
 use Rattle.sts_laws.proofs.Effects.{changes_tree, first_no, still-effect, kept-end, still-interrupt, still-expire}
 use Rattle.sts_laws.proofs.Births.{more_scopes, new_scope, opener, later-more_scopes, sound-open, sound-fork, later-fork, new-owns_nothing}
 use Rattle.sts_laws.proofs.Told.{AllTold, told-new, told-still, told-open, told-fork, told-end}
+use Rattle.sts_laws.proofs.Causes.{AllFollow, follow-end, follow-effect, follow-interrupt, follow-expire}
+use Rattle.sts_laws.proofs.Settled.{Settled, settled-kept, settled-open, settled-fork}
 use Rattle.sts_laws.proofs.Runs.{after-append}
 
 -- all facts about a state
 pub record Right (w : World) : Type 0 where
   pub sound : Sound w
   pub told : AllTold w
+  pub settled : Settled w
 
 -- a state where they hold, later than w
 pub record Next (w v : World) : Type 0 where
   pub right : Right v
   pub later : Later w v
 
-next-still : (w v : World) → Right w → Still w v → Next w v
-next-still w v o k = record { right = record { sound = sound-kept w v o.sound k.kept; told = told-still w v o.told k }; later = kept-later w v k.kept }
+next-still : (w v : World) → Right w → Still w v → AllFollow w v.scopes → Next w v
+next-still w v o k follows =
+    record {
+      right = record { sound = sound-kept w v o.sound k.kept; told = told-still w v o.told k; settled = settled-kept w v o.settled k.kept follows };
+      later = kept-later w v k.kept;
+    }
 
 next-end : (w : World) (t : ℕ) (end : End) → Right w → lives (task_at w t) ≡ true → (Kept w (end_task w t (task_at w t).frame end)) → Next w (end_task w t (task_at w t).frame end)
 next-end w t end o alive k =
     record {
-      right = record { sound = sound-kept w _ o.sound k; told = told-end w t end alive o.sound o.told };
+      right =
+        record {
+          sound = sound-kept w _ o.sound k;
+          told = told-end w t end alive o.sound o.told;
+          settled = settled-kept w _ o.settled k (follow-end w t (task_at w t).frame end o.sound o.settled.caused);
+        };
       later = kept-later w _ k;
     }
 
@@ -73,15 +85,13 @@ unfolding open_scope
 next-open w t x joiner timed o alive =
     let v : World = more_scopes w (new_scope w t joiner timed) in
     record {
-      right = record { sound = sound-open w t x joiner timed o.sound alive; told = told-open w t x joiner timed o.sound o.told };
+      right =
+        record {
+          sound = sound-open w t x joiner timed o.sound alive;
+          told = told-open w t x joiner timed o.sound o.told;
+          settled = settled-open w t x joiner timed o.settled;
+        };
       later = later-trans w v _ (later-more_scopes w (new_scope w t joiner timed)) (later-frame v t (opener w (task_at w t).frame x));
-    }
-
-next-fork : (p : Program) (w : World) (t s g : ℕ) (h : Option ℕ) → Right w → Owner w.scopes s t → lives (task_at w t) ≡ true → is_closed (scope_at w s).phase ≡ false → Next w (fork_task p w t (task_at w t).frame s g h)
-next-fork p w t s g h o mine alive still =
-    record {
-      right = record { sound = sound-fork p w t s g h o.sound mine alive still; told = told-fork p w t s g h alive o.told };
-      later = later-fork p w t s g h alive;
     }
 
 open_at_fork : (phase : Phase) → not (is_opened phase) ≡ false → is_closed phase ≡ false
@@ -91,6 +101,18 @@ open_at_fork Joined e = refl
 open_at_fork Closing e = refl
 open_at_fork Closed e = cc
 
+next-fork : (p : Program) (w : World) (t s g : ℕ) (h : Option ℕ) → Right w → Owner w.scopes s t → lives (task_at w t) ≡ true → not (is_opened (scope_at w s).phase) ≡ false → Next w (fork_task p w t (task_at w t).frame s g h)
+next-fork p w t s g h o mine alive opened =
+    record {
+      right =
+        record {
+          sound = sound-fork p w t s g h o.sound mine alive (open_at_fork (scope_at w s).phase opened);
+          told = told-fork p w t s g h alive o.told;
+          settled = settled-fork p w t s g h o.settled alive opened;
+        };
+      later = later-fork p w t s g h alive;
+    }
+
 -- an instruction that is no misuse
 next-effect : (p : Program) (w : World) (t : ℕ) (i : Instr) → Right w → lives (task_at w t) ≡ true → IsFine p w t (task_at w t).frame i → Next w (effect p w t (task_at w t).frame i)
 next-effect p w t (Open x joiner timed) o alive is = next-open w t x joiner timed o alive
@@ -98,10 +120,10 @@ next-effect p w t (Fork x g h) o alive is =
     let f : Frame = (task_at w t).frame in
     let mine : slot f x ≡ slots.Own (named (slot f x)) = own_slot (slot f x) (first_no _ _ (first_no _ _ is.slots)) is.own in
     let legal : not (is_opened (scope_at w (named (slot f x))).phase) ≡ false = sym (at_own-is w (slot f x) (λ n scope. not (is_opened scope.phase)) mine) ∙ is.legal in
-    next-fork p w t (named (slot f x)) g h o (o.sound.own t x (named (slot f x)) mine) alive (open_at_fork (scope_at w (named (slot f x))).phase legal)
+    next-fork p w t (named (slot f x)) g h o (o.sound.own t x (named (slot f x)) mine) alive legal
 next-effect p w t Ret o alive is = next-end w t (Success (operand (task_at w t).frame 0)) o alive (kept-end w t (Success (operand (task_at w t).frame 0)) alive is.structure)
 next-effect p w t Fail o alive is = next-end w t (Failed (operand (task_at w t).frame 0)) o alive (kept-end w t (Failed (operand (task_at w t).frame 0)) alive is.structure)
-next-effect p w t i o alive is = next-still w _ o (still-effect p w t i o.sound is refl)
+next-effect p w t i o alive is = next-still w _ o (still-effect p w t i o.sound is refl) (follow-effect p w t i o.sound o.settled.caused is)
 
 next-at : (p : Program) (w : World) (t : ℕ) → Right w → lives (task_at w t) ≡ true → misuse p w t ≡ None → (o : Option Instr) → instr_at p (task_at w t).frame ≡ o → Next w (perform p w t (task_at w t).frame o)
 next-at p w t right alive m None e = record { right = right; later = later-refl w }
@@ -117,8 +139,8 @@ next-step p w t right true e = next-stepped p w t right (both (lives (task_at w 
 
 next-apply : (p : Program) (w : World) (e : Event) → Right w → In (Next w) (apply p (Running w) e)
 next-apply p w (event.Step t) right = next-step p w t right (can_step p w t) refl
-next-apply p w (event.Interrupt t) right = next-still w _ right (still-interrupt w t)
-next-apply p w (event.Expire s) right = next-still w _ right (still-expire w s)
+next-apply p w (event.Interrupt t) right = next-still w _ right (still-interrupt w t) (follow-interrupt w t right.settled.caused)
+next-apply p w (event.Expire s) right = next-still w _ right (still-expire w s) (follow-expire w s right.settled.caused)
 
 -- ---- lists of events
 
@@ -165,6 +187,12 @@ right-opening p =
           empty = λ s u closed e. absurd (root-in_nothing p u s e);
         };
       told = λ s. told-new (main p ∷ []) s no_scope refl (λ u end inside e. root-in_nothing p u s inside);
+      settled =
+        record {
+          caused = λ s. record { asked = λ e h. refl; expired = λ e. cc; leaving = λ e. cc; cause = λ e. cc };
+          joined = λ s u e. cc;
+          started = λ s u inside. absurd (root-in_nothing p u s inside);
+        };
     }
 
 -- ---- whole runs

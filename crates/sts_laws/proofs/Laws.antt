@@ -11,11 +11,11 @@ use Rattle.sts_model.specs.Living.{lives, is_closed, parent, scope_of, completio
 use Rattle.sts_model.specs.Waiting.{can_step, can_go, stand_at}
 use Rattle.sts_laws.specs.Stays.{NothingIsLost, KeepsBorn, EndsStay, KeepsEnd, ClosedStays, KeepsMarks, CompletionsGrow, Completes, StatesStay, NothingStarts, CancelledStartsNothing}
 use Rattle.sts_laws.specs.Runs.{CompletionsAreEnds, ClosedIsEmpty, RootEndsLast}
+use Rattle.sts_laws.specs.Scopes.{CancelledHasCause, LeftOutIsCancelled, JoinedIsSettled, IsHeldBy, OwnersHold}
 use Rattle.sts_laws.proofs.Lists.{past, within}
 use Rattle.sts_laws.proofs.Later.{Later, LaterTask, LaterScope}
 use Rattle.sts_laws.proofs.Told.{completion-front, is_told}
 use Rattle.sts_laws.proofs.Events.{Right, Next, ever, always}
-use Rattle.sts_laws.proofs.Causes.{follow-open}
 
 pub nothing_is_lost : NothingIsLost
 nothing_is_lost = always (λ p w v. KeepsBorn w v) (λ p w v h. let l = h.later in record { tasks = l.tasks; scopes = l.scopes; task = λ t less. (l.task t less).same; scope = λ s less. (l.scope s less).same })
@@ -105,3 +105,36 @@ completions_are_ends = ever _ (λ p w h s. is_told w s (h.told s))
 
 pub closed_is_empty : ClosedIsEmpty
 closed_is_empty = ever _ (λ p w h s u closed inside. h.sound.empty s u closed inside)
+
+-- ---- scopes
+
+pub cancelled_has_cause : CancelledHasCause
+cancelled_has_cause = ever _ (λ p w h s. h.settled.caused s)
+
+pub joined_is_settled : JoinedIsSettled
+joined_is_settled = ever _ (λ p w h s u joined still inside. h.settled.joined s u joined still inside)
+
+pub owners_hold : OwnersHold
+owners_hold = ever _ (λ p w h s born still. let k = h.sound.held s born still in record { alive = k.alive; entry = k.entry })
+
+-- a started task that doesn't live has ended
+has_ended : (task : Task) → task.started ≡ true → lives task ≡ false → (end : End) × (task.outcome ≡ Some end)
+has_ended task started dead = by task.outcome refl
+  where
+    by : (o : Option End) → task.outcome ≡ o → (end : End) × (task.outcome ≡ Some end)
+    by (Some end) e = (end, e)
+    by None e = let alive : lives task ≡ true = rw (started, e) refl in cc
+
+left_out : (w : World) → Right w → (s u : ℕ) → (task_at w u).scope ≡ Some s → lives (task_at w u) ≡ false → sub_state w u ≡ None → (scope_at w s).cancelled ≡ true
+left_out w h s u inside dead out = by (scope_at w s).cancelled refl
+  where
+    by : (b : Bool) → (scope_at w s).cancelled ≡ b → b ≡ true
+    by true e = refl
+    by false e =
+        let end = has_ended (task_at w u) (h.settled.started s u inside e) dead in
+        let told = (h.told s).complete e u end.0 inside end.1 in
+        let state : sub_state w u ≡ Some end.0 = rw inside told in
+        cc
+
+pub left_out_is_cancelled : LeftOutIsCancelled
+left_out_is_cancelled = ever _ (λ p w h s u inside dead out. left_out w h s u inside dead out)

@@ -12,3 +12,4 @@ pub mod Events
 pub mod Laws
 pub mod Steps
 pub mod Causes
+pub mod Settled
