@@ -61,9 +61,9 @@ later-more_tasks w x is_fresh =
       task = λ t less. rw (get_or_append_left w.tasks (x ∷ []) no_task t less) (later_task-refl (task_at w t));
       scope = λ s less. later_scope-refl (scope_at w s);
       fresh = λ u s late cancelled.
-        at_more (λ (task : Task). task.scope ≡ Some s → task.started ≡ false) w.tasks x u no_task
-        (λ e inside. is_fresh s inside cancelled)
-        (none_fresh w w (omega arith) u s late cancelled);
+          at_more (λ (task : Task). task.scope ≡ Some s → task.started ≡ false) w.tasks x u no_task
+          (λ e inside. is_fresh s inside cancelled)
+          (none_fresh w w (omega arith) u s late cancelled);
     }
 
 -- a subtask of a scope that isn't closed and whose owner was born
@@ -83,17 +83,17 @@ sound-more_tasks w x s o child =
     record {
       own = λ u. at_more (λ (task : Task). (i r : ℕ) → slot task.frame i ≡ slots.Own r → Owner w.scopes r u) w.tasks x u no_task (λ e i r q. absurd (child.own i r q)) (o.own u);
       born = λ u.
-        at_more (λ (task : Task). (r : ℕ) → task.scope ≡ Some r → (r < length w.scopes) × ((scope_at w r).owner < u)) w.tasks x u no_task
-        (λ e r q. let same = same_some s r x.scope child.scope q in (rw (← same) child.born, rw (← same, e) child.owner))
-        (o.born u);
+          at_more (λ (task : Task). (r : ℕ) → task.scope ≡ Some r → (r < length w.scopes) × ((scope_at w r).owner < u)) w.tasks x u no_task
+          (λ e r q. let same = same_some s r x.scope child.scope q in (rw (← same) child.born, rw (← same, e) child.owner))
+          (o.born u);
       root = λ u. at_more (λ (task : Task). lives task ≡ true → task.scope ≡ None → u ≡ 0) w.tasks x u no_task (λ e alive q. let c = child.scope in cc) (o.root u);
       held = λ r less still.
-        let h : Holds (task_at w (scope_at w r).owner) r = o.held r less still in
-        rw (get_or_append_left w.tasks (x ∷ []) no_task (scope_at w r).owner (born_alive w (scope_at w r).owner h.alive)) h;
+          let h : Holds (task_at w (scope_at w r).owner) r = o.held r less still in
+          rw (get_or_append_left w.tasks (x ∷ []) no_task (scope_at w r).owner (born_alive w (scope_at w r).owner h.alive)) h;
       empty = λ r u closed.
-        at_more (λ (task : Task). task.scope ≡ Some r → lives task ≡ false) w.tasks x u no_task
-        (λ e q. let same = same_some s r x.scope child.scope q in let still = child.still in let never : true ≡ false = sym closed ∙ ap (λ n. is_closed (scope_at w n).phase) (sym same) ∙ still in cc)
-        (o.empty r u closed);
+          at_more (λ (task : Task). task.scope ≡ Some r → lives task ≡ false) w.tasks x u no_task
+          (λ e q. let same = same_some s r x.scope child.scope q in let still = child.still in let never : true ≡ false = sym closed ∙ ap (λ n. is_closed (scope_at w n).phase) (sym same) ∙ still in cc)
+          (o.empty r u closed);
     }
 
 -- the rest of a fork: the forker goes on
@@ -129,9 +129,9 @@ pub later-fork : (p : Program) (w : World) (t s g : ℕ) (h : Option ℕ) → li
 later-fork p w t s g h alive =
     let x : Task = subtask_of p w (task_at w t).frame s g in
     let fresh : IsFresh w x =
-      λ r inside cancelled.
-        let same : s ≡ r = cc in
-        not_true (scope_at w s).cancelled (rw same cancelled)
+    λ r inside cancelled.
+    let same : s ≡ r = cc in
+    not_true (scope_at w s).cancelled (rw same cancelled)
     in
     later-trans w (more_tasks w x) _ (later-more_tasks w x fresh) (kept-later (more_tasks w x) _ (still-forker p w t s g h alive).kept)
 
@@ -193,12 +193,12 @@ sound-open w t x joiner timed o alive =
     let tasks : List Task = set w.tasks t task in
     record {
       own = λ u.
-        at_set (λ (task : Task). (i s : ℕ) → slot task.frame i ≡ slots.Own s → Owner (w.scopes ++ new_scope w t joiner timed ∷ []) s u) w.tasks t u task no_task
-        (λ e i s.
-           at_set (λ (q : Slot). q ≡ slots.Own s → Owner (w.scopes ++ new_scope w t joiner timed ∷ []) s u) (task_at w t).frame.slots x i (slots.Own (length w.scopes)) slots.Empty
-           (λ d q. let same : length w.scopes ≡ s = cc in rw (← same, e) (owner-new w.scopes (new_scope w t joiner timed)))
-           (λ q. owner-more w.scopes (new_scope w t joiner timed) s u (rw e (o.own t i s q))))
-        (λ i s q. owner-more w.scopes (new_scope w t joiner timed) s u (o.own u i s q));
+          at_set (λ (task : Task). (i s : ℕ) → slot task.frame i ≡ slots.Own s → Owner (w.scopes ++ new_scope w t joiner timed ∷ []) s u) w.tasks t u task no_task
+          (λ e i s.
+          at_set (λ (q : Slot). q ≡ slots.Own s → Owner (w.scopes ++ new_scope w t joiner timed ∷ []) s u) (task_at w t).frame.slots x i (slots.Own (length w.scopes)) slots.Empty
+          (λ d q. let same : length w.scopes ≡ s = cc in rw (← same, e) (owner-new w.scopes (new_scope w t joiner timed)))
+          (λ q. owner-more w.scopes (new_scope w t joiner timed) s u (rw e (o.own t i s q))))
+          (λ i s q. owner-more w.scopes (new_scope w t joiner timed) s u (o.own u i s q));
       born = λ u s e. born u s (scope u ∙ e);
       root = λ u alive e. o.root u (alive_too u alive) (scope u ∙ e);
       held = λ s less still. held s less still (nat_eq s (length w.scopes)) refl;
@@ -207,15 +207,19 @@ sound-open w t x joiner timed o alive =
   where
     scope : (u : ℕ) → (task_at w u).scope ≡ (get_or (set w.tasks t (record (task_at w t) { frame = opener w (task_at w t).frame x })) u no_task).scope
     scope u = at_set (λ (task : Task). (task_at w u).scope ≡ task.scope) w.tasks t u (record (task_at w t) { frame = opener w (task_at w t).frame x }) no_task (λ e. rw e refl) refl
+
     living : (u : ℕ) → lives (task_at w u) ≡ lives (get_or (set w.tasks t (record (task_at w t) { frame = opener w (task_at w t).frame x })) u no_task)
     living u = at_set (λ (task : Task). lives (task_at w u) ≡ lives task) w.tasks t u (record (task_at w t) { frame = opener w (task_at w t).frame x }) no_task (λ e. rw e refl) refl
+
     alive_too : (u : ℕ) → lives (get_or (set w.tasks t (record (task_at w t) { frame = opener w (task_at w t).frame x })) u no_task) ≡ true → lives (task_at w u) ≡ true
     alive_too u e = living u ∙ e
+
     born : (u s : ℕ) → (task_at w u).scope ≡ Some s → (s < length (w.scopes ++ new_scope w t joiner timed ∷ [])) × ((get_or (w.scopes ++ new_scope w t joiner timed ∷ []) s no_scope).owner < u)
     born u s e =
         let h = o.born u s e in
         let m = owner-more w.scopes (new_scope w t joiner timed) s (scope_at w s).owner (record { born = h.0; owner = refl }) in
         (m.born, rw (m.owner) h.1)
+
     held : (s : ℕ) → s < length (w.scopes ++ new_scope w t joiner timed ∷ []) → is_closed (get_or (w.scopes ++ new_scope w t joiner timed ∷ []) s no_scope).phase ≡ false → (b : Bool) → nat_eq s (length w.scopes) ≡ b → Holds (get_or (set w.tasks t (record (task_at w t) { frame = opener w (task_at w t).frame x })) (get_or (w.scopes ++ new_scope w t joiner timed ∷ []) s no_scope).owner no_task) s
     held s less still true e =
         let same : s ≡ length w.scopes = grind (arith, nat_tests) in
@@ -229,8 +233,9 @@ sound-open w t x joiner timed o alive =
         let h : Holds (task_at w (scope_at w s).owner) s = o.held s before (rw at at still) in
         rw at
         (at_set (λ (task : Task). Holds task s) w.tasks t (scope_at w s).owner (record (task_at w t) { frame = opener w (task_at w t).frame x }) no_task
-         (λ e. holds-more (task_at w t) (opener w (task_at w t).frame x) s (or_true (length w.scopes == s) _) (rw e at h))
-         h)
+        (λ e. holds-more (task_at w t) (opener w (task_at w t).frame x) s (or_true (length w.scopes == s) _) (rw e at h))
+        h)
+
     empty : (s u : ℕ) → is_closed (get_or (w.scopes ++ new_scope w t joiner timed ∷ []) s no_scope).phase ≡ true → (task_at w u).scope ≡ Some s → lives (get_or (set w.tasks t (record (task_at w t) { frame = opener w (task_at w t).frame x })) u no_task) ≡ false
     empty s u =
         at_more (λ (scope : Scope). is_closed scope.phase ≡ true → (task_at w u).scope ≡ Some s → lives (get_or (set w.tasks t (record (task_at w t) { frame = opener w (task_at w t).frame x })) u no_task) ≡ false) w.scopes (new_scope w t joiner timed) s no_scope

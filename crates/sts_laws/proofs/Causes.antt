@@ -122,9 +122,9 @@ follow-join w t f s failed timeout interrupted h before =
     cond_both (scope_at w s).expired _ _ (λ (v : World). AllFollow w v.scopes)
     (λ late. follow-phase w s Joined h before refl (λ e still. let c = (h s).expired late in cc))
     (λ timely.
-       cond_both ((scope_at w s).cancelled || not (any_lives w s)) _ _ (λ (v : World). AllFollow w v.scopes)
-       (λ done. follow-verdict (result_of (scope_at w s).joiner (ends (scope_at w s)) (subtask_count w s)) w t s f failed h before (none_live (scope_at w s).cancelled (any_lives w s) done))
-       (λ waits. follow-phase w s Attempted h before refl (λ e. cc)))
+    cond_both ((scope_at w s).cancelled || not (any_lives w s)) _ _ (λ (v : World). AllFollow w v.scopes)
+    (λ done. follow-verdict (result_of (scope_at w s).joiner (ends (scope_at w s)) (subtask_count w s)) w t s f failed h before (none_live (scope_at w s).cancelled (any_lives w s) done))
+    (λ waits. follow-phase w s Attempted h before refl (λ e. cc)))
 
 -- a cancel marks its scope, and no other
 cancel-marks : (w : World) (s : ℕ) → s < length w.scopes → (scope_at (cancel w s) s).cancelled ≡ true
@@ -189,12 +189,12 @@ follow-told w tasks t s end h born =
     cond_both x.cancelled (record w { tasks = tasks }) (decide v s) (λ (a : World). AllFollow w a.scopes)
     (λ e. follow-refl w h)
     (λ still.
-       cond_both (is_asked (scope_at v s)) (cancel v s) v (λ (a : World). AllFollow w a.scopes)
-       (λ asked.
-          cond_both (scope_at v s).cancelled v (marked v s) (λ (a : World). AllFollow w a.scopes)
-          (λ e. let never : true ≡ false = sym e ∙ ap (λ (scope : Scope). scope.cancelled) at ∙ still in cc)
-          (λ e. follow-asked w v s y h refl born asked))
-       (λ quiet. follow-quiet w s x y h refl still refl refl refl (sym (ap is_asked at) ∙ quiet)))
+    cond_both (is_asked (scope_at v s)) (cancel v s) v (λ (a : World). AllFollow w a.scopes)
+    (λ asked.
+    cond_both (scope_at v s).cancelled v (marked v s) (λ (a : World). AllFollow w a.scopes)
+    (λ e. let never : true ≡ false = sym e ∙ ap (λ (scope : Scope). scope.cancelled) at ∙ still in cc)
+    (λ e. follow-asked w v s y h refl born asked))
+    (λ quiet. follow-quiet w s x y h refl still refl refl refl (sym (ap is_asked at) ∙ quiet)))
 
 pub follow-end : (w : World) (t : ℕ) (f : Frame) (end : End) → Sound w → AllCaused w → AllFollow w (end_task w t f end).scopes
 unfolding end_task
@@ -212,17 +212,17 @@ follow-expire w s h =
     let v : World = with_scope w s y in
     cond_both (can_expire (scope_at w s)) (cancel v s) w (λ (a : World). AllFollow w a.scopes)
     (λ can.
-       let born = within can_expire w.scopes s no_scope refl can in
-       let at : scope_at v s ≡ y = get_or-set_same w.scopes s y no_scope born in
-       let z : Scope = record (scope_at v s) { cancelled = true } in
-       let late : (scope_at v s).expired ≡ true = rw at refl in
-       let count = length-set w.scopes s y in
-       cond_both (scope_at v s).cancelled v (marked v s) (λ (a : World). AllFollow w a.scopes)
-       (λ e. follow-set w s y h (caused w s y (rw at at e) (λ timely. cc)))
-       (λ e r.
-          at_put (λ (scope : Scope). Follows w r scope) v.scopes s r z no_scope (omega (arith, count, born))
-          (λ d. caused w r z refl (λ timely staying. let never : true ≡ false = sym late ∙ timely in cc))
-          (λ other. rw (get_or-set_other w.scopes s r y no_scope other) (follow-refl w h r))))
+    let born = within can_expire w.scopes s no_scope refl can in
+    let at : scope_at v s ≡ y = get_or-set_same w.scopes s y no_scope born in
+    let z : Scope = record (scope_at v s) { cancelled = true } in
+    let late : (scope_at v s).expired ≡ true = rw at refl in
+    let count = length-set w.scopes s y in
+    cond_both (scope_at v s).cancelled v (marked v s) (λ (a : World). AllFollow w a.scopes)
+    (λ e. follow-set w s y h (caused w s y (rw at at e) (λ timely. cc)))
+    (λ e r.
+    at_put (λ (scope : Scope). Follows w r scope) v.scopes s r z no_scope (omega (arith, count, born))
+    (λ d. caused w r z refl (λ timely staying. let never : true ≡ false = sym late ∙ timely in cc))
+    (λ other. rw (get_or-set_other w.scopes s r y no_scope other) (follow-refl w h r))))
     (λ e. follow-refl w h)
 
 pub follow-interrupt : (w : World) (t : ℕ) → AllCaused w → AllFollow w (interrupt w t).scopes

@@ -70,8 +70,8 @@ still-join w t s failed timeout interrupted before =
     still-cond w (scope_at w s).expired _ _
     (λ e. still-joined w t s (goes f timeout 0 []) before (record { own = λ i r h. h; entries = λ r still h. h }))
     (λ e. still-cond w ((scope_at w s).cancelled || not (any_lives w s)) _ _
-       (λ h. still-verdict (result_of (scope_at w s).joiner (ends (scope_at w s)) (subtask_count w s)) w t s f failed before (fits-refl w f))
-       (λ h. still-interrupted w t s interrupted before))
+    (λ h. still-verdict (result_of (scope_at w s).joiner (ends (scope_at w s)) (subtask_count w s)) w t s f failed before (fits-refl w f))
+    (λ h. still-interrupted w t s interrupted before))
 
 -- ---- close
 
@@ -196,15 +196,15 @@ still-expire w s =
     let c = completes-refl (scope_at w s) in
     still-cond w (can_expire (scope_at w s)) _ w
     (λ e. still-trans w (with_scope w s x) (cancel (with_scope w s x) s)
-       (still-scope w s x
-        (record {
-          same = record { owner = refl; joiner = refl; timed = refl; environment = refl };
-          marks = record { closed = λ h. h; cancelled = λ h. h; expired = λ h. refl };
-          completions = record { grow = c.grow; stop = λ h. refl };
-        })
-        refl
-        (λ before after. cc))
-       (still-cancel (with_scope w s x) s))
+    (still-scope w s x
+    (record {
+      same = record { owner = refl; joiner = refl; timed = refl; environment = refl };
+      marks = record { closed = λ h. h; cancelled = λ h. h; expired = λ h. refl };
+      completions = record { grow = c.grow; stop = λ h. refl };
+    })
+    refl
+    (λ before after. cc))
+    (still-cancel (with_scope w s x) s))
     (λ e. still-refl w)
 
 -- ---- all instructions but four

@@ -61,11 +61,11 @@ next-end : (w : World) (t : ℕ) (end : End) → Right w → lives (task_at w t)
 next-end w t end o alive k =
     record {
       right =
-        record {
-          sound = sound-kept w _ o.sound k;
-          told = told-end w t end alive o.sound o.told;
-          settled = settled-kept w _ o.settled k (follow-end w t (task_at w t).frame end o.sound o.settled.caused);
-        };
+          record {
+            sound = sound-kept w _ o.sound k;
+            told = told-end w t end alive o.sound o.told;
+            settled = settled-kept w _ o.settled k (follow-end w t (task_at w t).frame end o.sound o.settled.caused);
+          };
       later = kept-later w _ k;
     }
 
@@ -86,11 +86,11 @@ next-open w t x joiner timed o alive =
     let v : World = more_scopes w (new_scope w t joiner timed) in
     record {
       right =
-        record {
-          sound = sound-open w t x joiner timed o.sound alive;
-          told = told-open w t x joiner timed o.sound o.told;
-          settled = settled-open w t x joiner timed o.settled;
-        };
+          record {
+            sound = sound-open w t x joiner timed o.sound alive;
+            told = told-open w t x joiner timed o.sound o.told;
+            settled = settled-open w t x joiner timed o.settled;
+          };
       later = later-trans w v _ (later-more_scopes w (new_scope w t joiner timed)) (later-frame v t (opener w (task_at w t).frame x));
     }
 
@@ -105,11 +105,11 @@ next-fork : (p : Program) (w : World) (t s g : ℕ) (h : Option ℕ) → Right w
 next-fork p w t s g h o mine alive opened =
     record {
       right =
-        record {
-          sound = sound-fork p w t s g h o.sound mine alive (open_at_fork (scope_at w s).phase opened);
-          told = told-fork p w t s g h alive o.told;
-          settled = settled-fork p w t s g h o.settled alive opened;
-        };
+          record {
+            sound = sound-fork p w t s g h o.sound mine alive (open_at_fork (scope_at w s).phase opened);
+            told = told-fork p w t s g h alive o.told;
+            settled = settled-fork p w t s g h o.settled alive opened;
+          };
       later = later-fork p w t s g h alive;
     }
 
@@ -179,20 +179,20 @@ right-opening : (p : Program) → In Right (opening p)
 right-opening p =
     record {
       sound =
-        record {
-          own = λ t i s e. absurd (root-owns_nothing p t i s e);
-          born = λ u s e. absurd (root-in_nothing p u s e);
-          root = λ u alive e. root-alone p u alive;
-          held = λ s less still. absurd (omega (arith, less));
-          empty = λ s u closed e. absurd (root-in_nothing p u s e);
-        };
+          record {
+            own = λ t i s e. absurd (root-owns_nothing p t i s e);
+            born = λ u s e. absurd (root-in_nothing p u s e);
+            root = λ u alive e. root-alone p u alive;
+            held = λ s less still. absurd (omega (arith, less));
+            empty = λ s u closed e. absurd (root-in_nothing p u s e);
+          };
       told = λ s. told-new (main p ∷ []) s no_scope refl (λ u end inside e. root-in_nothing p u s inside);
       settled =
-        record {
-          caused = λ s. record { asked = λ e h. refl; expired = λ e. cc; leaving = λ e. cc; cause = λ e. cc };
-          joined = λ s u e. cc;
-          started = λ s u inside. absurd (root-in_nothing p u s inside);
-        };
+          record {
+            caused = λ s. record { asked = λ e h. refl; expired = λ e. cc; leaving = λ e. cc; cause = λ e. cc };
+            joined = λ s u e. cc;
+            started = λ s u inside. absurd (root-in_nothing p u s inside);
+          };
     }
 
 -- ---- whole runs
@@ -225,6 +225,7 @@ always R law p before later = subst (Between (R p) (after p before)) (sym (after
     to : (w : World) (state : State) → In (Next w) state → Between (R p) (Running w) state
     to w (Running v) h = law p w v h
     to w (Faulted kind t f pc) h = tt
+
     from : (state : State) → In Right state → Between (R p) state (fold (apply p) state later)
     from (Running w) h = to w (fold (apply p) (Running w) later) (next-fold p w later (Running w) (record { right = h; later = later-refl w }))
     from (Faulted kind t f pc) h = tt

@@ -112,12 +112,12 @@ entries-close w (entry.Binding k v ∷ es) s r closed h still e = cc
 entries-close w (entry.Scope q ∷ es) s r closed h still e =
     either (q == r) (list_any (is_entry_of r) es)
     (λ same.
-       let a : q ≡ r = grind (arith, nat_tests) in
-       let b : q ≡ s = is_own (q == s) h refl in
-       let c : s ≡ r = cc in
-       let d : is_closed (scope_at w r).phase ≡ true = rw (← c) closed in
-       let never : true ≡ false = cc in
-       cc)
+    let a : q ≡ r = grind (arith, nat_tests) in
+    let b : q ≡ s = is_own (q == s) h refl in
+    let c : s ≡ r = cc in
+    let d : is_closed (scope_at w r).phase ≡ true = rw (← c) closed in
+    let never : true ≡ false = cc in
+    cc)
     e
   where
     is_own : (b : Bool) → not b ≡ false → (q == s) ≡ b → q ≡ s

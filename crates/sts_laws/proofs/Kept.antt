@@ -103,9 +103,9 @@ kept-scope w s x later emptied =
       own = λ u i r e. e;
       held = λ u r still h. h;
       emptied = λ u r inside before.
-        at_set (λ (scope : Scope). is_closed scope.phase ≡ true → lives (task_at w u) ≡ false) w.scopes s r x no_scope
-        (λ e after. emptied (rw (← e) before) after u (rw (← e) inside))
-        (λ after. cc);
+          at_set (λ (scope : Scope). is_closed scope.phase ≡ true → lives (task_at w u) ≡ false) w.scopes s r x no_scope
+          (λ e after. emptied (rw (← e) before) after u (rw (← e) inside))
+          (λ after. cc);
     }
 
 pub kept-cond : (w : World) (b : Bool) (x y : World) → (b ≡ true → Kept w x) → (b ≡ false → Kept w y) → Kept w (cond b x y)
@@ -141,9 +141,9 @@ pub kept-cancel : (w : World) (s : ℕ) → Kept w (cancel w s)
 kept-cancel w s =
     kept-cond w (scope_at w s).cancelled w (marked w s) (λ e. kept-refl w)
     (λ e. kept-trans w (record w { tasks = raised s w.tasks }) (marked w s) (kept-raised w s)
-     (kept-scope (record w { tasks = raised s w.tasks }) s (record (scope_at w s) { cancelled = true })
-      (record { same = record { owner = refl; joiner = refl; timed = refl; environment = refl }; marks = record { closed = λ h. h; cancelled = λ h. refl; expired = λ h. h }; completions = let c = completes-refl (scope_at w s) in record { grow = c.grow; stop = λ h. refl } })
-      (λ before after. cc)))
+    (kept-scope (record w { tasks = raised s w.tasks }) s (record (scope_at w s) { cancelled = true })
+    (record { same = record { owner = refl; joiner = refl; timed = refl; environment = refl }; marks = record { closed = λ h. h; cancelled = λ h. refl; expired = λ h. h }; completions = let c = completes-refl (scope_at w s) in record { grow = c.grow; stop = λ h. refl } })
+    (λ before after. cc)))
 
 -- a later state
 pub kept-later : (w v : World) → Kept w v → Later w v

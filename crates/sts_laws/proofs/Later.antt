@@ -59,18 +59,18 @@ pub later_scope-trans : (x y z : Scope) → LaterScope x y → LaterScope y z �
 later_scope-trans x y z h k =
     record {
       same =
-        record {
-          owner = k.same.owner ∙ h.same.owner;
-          joiner = k.same.joiner ∙ h.same.joiner;
-          timed = k.same.timed ∙ h.same.timed;
-          environment = k.same.environment ∙ h.same.environment;
-        };
+          record {
+            owner = k.same.owner ∙ h.same.owner;
+            joiner = k.same.joiner ∙ h.same.joiner;
+            timed = k.same.timed ∙ h.same.timed;
+            environment = k.same.environment ∙ h.same.environment;
+          };
       marks =
-        record {
-          closed = λ e. k.marks.closed (h.marks.closed e);
-          cancelled = λ e. k.marks.cancelled (h.marks.cancelled e);
-          expired = λ e. k.marks.expired (h.marks.expired e);
-        };
+          record {
+            closed = λ e. k.marks.closed (h.marks.closed e);
+            cancelled = λ e. k.marks.cancelled (h.marks.cancelled e);
+            expired = λ e. k.marks.expired (h.marks.expired e);
+          };
       completions = completes-trans x y z h.completions h.marks k.completions;
     }
 

@@ -37,8 +37,8 @@ settled-later w v o follows tasks marks =
     record {
       caused = λ s. (follows s).cause;
       joined = λ s u joined still inside.
-        let before = uncancelled_before (scope_at w s) (scope_at v s) (marks s) still in
-        dead_later (task_at w u) (task_at v u) (tasks u) (by s u before (sym (tasks u).same.scope ∙ inside) ((follows s).joined joined still));
+          let before = uncancelled_before (scope_at w s) (scope_at v s) (marks s) still in
+          dead_later (task_at w u) (task_at v u) (tasks u) (by s u before (sym (tasks u).same.scope ∙ inside) ((follows s).joined joined still));
       started = λ s u inside still. (tasks u).same.started ∙ o.started s u (sym (tasks u).same.scope ∙ inside) (uncancelled_before (scope_at w s) (scope_at v s) (marks s) still);
     }
   where
@@ -83,13 +83,13 @@ settled-more_tasks p w t s g o opened =
     record {
       caused = o.caused;
       joined = λ r u joined still.
-        at_more (λ (task : Task). task.scope ≡ Some r → lives task ≡ false) w.tasks (subtask_of p w (task_at w t).frame s g) u no_task
-        (λ e inside. let same : s ≡ r = cc in let never : is_joined (scope_at w r).phase ≡ false = rw (← same) (unjoined (scope_at w s).phase opened) in cc)
-        (o.joined r u joined still);
+          at_more (λ (task : Task). task.scope ≡ Some r → lives task ≡ false) w.tasks (subtask_of p w (task_at w t).frame s g) u no_task
+          (λ e inside. let same : s ≡ r = cc in let never : is_joined (scope_at w r).phase ≡ false = rw (← same) (unjoined (scope_at w s).phase opened) in cc)
+          (o.joined r u joined still);
       started = λ r u.
-        at_more (λ (task : Task). task.scope ≡ Some r → (scope_at w r).cancelled ≡ false → task.started ≡ true) w.tasks (subtask_of p w (task_at w t).frame s g) u no_task
-        (λ e inside still. let same : s ≡ r = cc in started_unless (scope_at w s).cancelled (rw same still))
-        (o.started r u);
+          at_more (λ (task : Task). task.scope ≡ Some r → (scope_at w r).cancelled ≡ false → task.started ≡ true) w.tasks (subtask_of p w (task_at w t).frame s g) u no_task
+          (λ e inside still. let same : s ≡ r = cc in started_unless (scope_at w s).cancelled (rw same still))
+          (o.started r u);
     }
 
 follow-fork : (p : Program) (w : World) (t s g : ℕ) (h : Option ℕ) → AllCaused w → AllFollow (more_tasks w (subtask_of p w (task_at w t).frame s g)) (fork_task p w t (task_at w t).frame s g h).scopes

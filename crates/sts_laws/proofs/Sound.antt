@@ -47,6 +47,7 @@ sound-kept w v o k =
     held : (s : ℕ) → s < length w.scopes → is_closed (scope_at v s).phase ≡ false → (b : Bool) → is_closed (scope_at w s).phase ≡ b → Holds (task_at v (scope_at v s).owner) s
     held s less still true e = let q = (k.scope s).marks.closed e in cc
     held s less still false e = rw ((k.scope s).same.owner) (k.held (scope_at w s).owner s still (o.held s less e))
+
     empty : (s u : ℕ) → is_closed (scope_at v s).phase ≡ true → (task_at w u).scope ≡ Some s → (b : Bool) → is_closed (scope_at w s).phase ≡ b → lives (task_at v u) ≡ false
     empty s u closed inside true e = dead_later (task_at w u) (task_at v u) (k.task u) (o.empty s u e inside)
     empty s u closed inside false e = k.emptied u s inside e closed

@@ -112,6 +112,7 @@ greatest w (suc n) dead root = by (lives (task_at w n)) refl (λ below. greatest
     same : (u : ℕ) → lives (task_at w n) ≡ false → n ≤ u → (b : Bool) → nat_eq n u ≡ b → lives (task_at w u) ≡ false
     same u h le true e = let q : n ≡ u = grind (arith, nat_tests) in rw q at h
     same u h le false e = dead u (grind (arith, nat_tests))
+
     by : (b : Bool) → lives (task_at w n) ≡ b → (((u : ℕ) → n ≤ u → lives (task_at w u) ≡ false) → (t : ℕ) × (lives (task_at w t) ≡ true) × IsLast w t) → (t : ℕ) × (lives (task_at w t) ≡ true) × IsLast w t
     by true h next = (n, h, λ u less. dead u (omega arith))
     by false h next = next (λ u le. same u h le (nat_eq n u) refl)
@@ -121,8 +122,8 @@ goes_on p w o =
     record {
       last = last_steps p w o;
       some = λ root.
-        let g = greatest w (length w.tasks) (λ u h. ap lives (past w.tasks u no_task h)) root in
-        (g.0, last_steps p w o g.0 g.1 g.2);
+          let g = greatest w (length w.tasks) (λ u h. ap lives (past w.tasks u no_task h)) root in
+          (g.0, last_steps p w o g.0 g.1 g.2);
     }
 
 pub some_task_steps : SomeTaskSteps

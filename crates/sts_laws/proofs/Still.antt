@@ -50,8 +50,8 @@ still-task w t f flag fits =
     let x : Task = record (task_at w t) { frame = f; flag = flag } in
     record {
       kept =
-        kept-task w t x (record { same = record { started = refl; scope = refl }; outcome = λ end e. e }) fits.own
-        (λ s still h. record { alive = h.alive; entry = fits.entries s still h.entry });
+          kept-task w t x (record { same = record { started = refl; scope = refl }; outcome = λ end e. e }) fits.own
+          (λ s still h. record { alive = h.alive; entry = fits.entries s still h.entry });
       outcome = λ u. at_set (λ (task : Task). task.outcome ≡ (task_at w u).outcome) w.tasks t u x no_task (λ e. rw e refl) refl;
       completions = λ s. refl;
     }
@@ -93,6 +93,7 @@ still-cancel w s =
     outcome : (u : ℕ) (b : Bool) → (task_at (cond b w (marked w s)) u).outcome ≡ (task_at w u).outcome
     outcome u true = refl
     outcome u false = at_raised (λ (task : Task). task.outcome ≡ (task_at w u).outcome) s w.tasks u refl refl
+
     completions : (r : ℕ) (b : Bool) → (scope_at (cond b w (marked w s)) r).completions ≡ (scope_at w r).completions
     completions r true = refl
     completions r false =

@@ -127,9 +127,9 @@ told-more_tasks tasks x s scope none h =
       subtask = λ u end e. at_more (λ (task : Task). task.scope ≡ Some s) tasks x u no_task (λ d. absurd (unborn u end d (h.ended u end e))) (h.subtask u end e);
       once = h.once;
       complete = λ still u end.
-        at_more (λ (task : Task). task.scope ≡ Some s → task.outcome ≡ Some end → completion_of scope.completions u ≡ Some end) tasks x u no_task
-        (λ d inside e. cc)
-        (h.complete still u end);
+          at_more (λ (task : Task). task.scope ≡ Some s → task.outcome ≡ Some end → completion_of scope.completions u ≡ Some end) tasks x u no_task
+          (λ d inside e. cc)
+          (h.complete still u end);
     }
   where
     unborn : (u : ℕ) (end : End) → u ≡ length tasks → (get_or tasks u no_task).outcome ≡ Some end → ⊥
@@ -148,9 +148,9 @@ told-ended w t s f end scope alive never h =
       subtask = λ u e c. at_set (λ (task : Task). task.scope ≡ Some s) w.tasks t u x no_task (λ d. rw d at (h.subtask u e c)) (h.subtask u e c);
       once = h.once;
       complete = λ still u e.
-        at_set (λ (task : Task). task.scope ≡ Some s → task.outcome ≡ Some e → completion_of scope.completions u ≡ Some e) w.tasks t u x no_task
-        (λ d inside c. absurd (never still inside))
-        (h.complete still u e);
+          at_set (λ (task : Task). task.scope ≡ Some s → task.outcome ≡ Some e → completion_of scope.completions u ≡ Some e) w.tasks t u x no_task
+          (λ d inside c. absurd (never still inside))
+          (h.complete still u e);
     }
   where
     x : Task
@@ -164,24 +164,29 @@ told-told w t s f end scope alive still mine h =
       subtask = λ u e c. subtask_by u e (completion-either scope.completions new u e c);
       once = λ u. once_by u (t == u) refl (count-more scope.completions new u);
       complete = λ uncancelled u e.
-        at_put (λ (task : Task). task.scope ≡ Some s → task.outcome ≡ Some e → completion_of (scope.completions ++ new ∷ []) u ≡ Some e) w.tasks t u x no_task (born_alive w t alive)
-        (λ d inside c. let same : end ≡ e = cc in rw (← same, d) (completion-new scope.completions new (untold (completion_of scope.completions t) refl)))
-        (λ other inside c. completion-front scope.completions (new ∷ []) u e (h.complete still u e inside c));
+          at_put (λ (task : Task). task.scope ≡ Some s → task.outcome ≡ Some e → completion_of (scope.completions ++ new ∷ []) u ≡ Some e) w.tasks t u x no_task (born_alive w t alive)
+          (λ d inside c. let same : end ≡ e = cc in rw (← same, d) (completion-new scope.completions new (untold (completion_of scope.completions t) refl)))
+          (λ other inside c. completion-front scope.completions (new ∷ []) u e (h.complete still u e inside c));
     }
   where
     x : Task
     x = record (task_at w t) { frame = steps f 1 []; outcome = Some end }
+
     new : Completion
     new = record { task = t; end = end }
+
     untold : (o : Option End) → completion_of scope.completions t ≡ o → completion_of scope.completions t ≡ None
     untold None e = e
     untold (Some end) e = absurd (endless (task_at w t) end alive (h.ended t end e))
+
     ended_by : (u : ℕ) (e : End) → (completion_of scope.completions u ≡ Some e) ⊎ ((u ≡ t) × (e ≡ end)) → (get_or (set w.tasks t x) u no_task).outcome ≡ Some e
     ended_by u e (inl c) = at_set (λ (task : Task). task.outcome ≡ Some e) w.tasks t u x no_task (λ d. absurd (endless (task_at w t) e alive (rw d at (h.ended u e c)))) (h.ended u e c)
     ended_by u e (inr c) = rw (c.0, c.1, get_or-set_same w.tasks t x no_task (born_alive w t alive)) refl
+
     subtask_by : (u : ℕ) (e : End) → (completion_of scope.completions u ≡ Some e) ⊎ ((u ≡ t) × (e ≡ end)) → (get_or (set w.tasks t x) u no_task).scope ≡ Some s
     subtask_by u e (inl c) = at_set (λ (task : Task). task.scope ≡ Some s) w.tasks t u x no_task (λ d. mine) (h.subtask u e c)
     subtask_by u e (inr c) = rw (c.0, get_or-set_same w.tasks t x no_task (born_alive w t alive)) mine
+
     once_by : (u : ℕ) (b : Bool) → (t == u) ≡ b → count_by (Test u) (scope.completions ++ new ∷ []) ≡ count_by (Test u) scope.completions + cond (t == u) 1 0 → count_by (Test u) (scope.completions ++ new ∷ []) ≤ 1
     once_by u true e k =
         let same : t ≡ u = grind (arith, nat_tests) in
@@ -208,8 +213,8 @@ told-open w t x joiner timed o h s =
     (λ u. at_set (λ (y : Task). y.outcome ≡ (task_at w u).outcome) w.tasks t u task no_task (λ e. rw e refl) refl)
     (λ u. at_set (λ (y : Task). y.scope ≡ (task_at w u).scope) w.tasks t u task no_task (λ e. rw e refl) refl)
     (at_more (λ (scope : Scope). ToldIn w.tasks s scope) w.scopes (new_scope w t joiner timed) s no_scope
-     (λ e. told-new w.tasks s (new_scope w t joiner timed) refl (λ u end inside d. let less = (o.born u s inside).0 in omega (arith, less, e)))
-     (h s))
+    (λ e. told-new w.tasks s (new_scope w t joiner timed) refl (λ u end inside d. let less = (o.born u s inside).0 in omega (arith, less, e)))
+    (h s))
   where
     task : Task
     task = record (task_at w t) { frame = opener w (task_at w t).frame x }
@@ -237,6 +242,7 @@ told-tell w t f end (Some s) mine alive sound h = by (scope_at w s).cancelled re
   where
     v : World
     v = with_scope (ended w t f end) s (told (scope_at w s) t end)
+
     by : (b : Bool) → (scope_at w s).cancelled ≡ b → AllTold (cond b (ended w t f end) (decide v s))
     by true e = told-untold w t f end alive (λ r still inside. let same : r ≡ s = cc in let c : (scope_at w r).cancelled ≡ true = rw same e in cc) h
     by false e = told-still v (decide v s) (told-scope w t s f end alive (sound.born t s mine).0 mine e h) (still-decide v s)
