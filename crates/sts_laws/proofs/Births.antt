@@ -160,13 +160,13 @@ later-more_scopes w x =
     }
 
 -- the owner of an earlier scope owns it still
-owner-more : (xs : List Scope) (x : Scope) (s t : ℕ) → Owner xs s t → Owner (xs ++ x ∷ []) s t
+pub owner-more : (xs : List Scope) (x : Scope) (s t : ℕ) → Owner xs s t → Owner (xs ++ x ∷ []) s t
 owner-more xs x s t h =
     let n = length-append xs (x ∷ []) in
     let less = h.born in
     record { born = omega (arith, n, less); owner = rw (get_or_append_left xs (x ∷ []) no_scope s h.born) h.owner }
 
-owner-new : (xs : List Scope) (x : Scope) → Owner (xs ++ x ∷ []) (length xs) x.owner
+pub owner-new : (xs : List Scope) (x : Scope) → Owner (xs ++ x ∷ []) (length xs) x.owner
 owner-new xs x =
     let n = length-append xs (x ∷ []) in
     record { born = omega (arith, n); owner = ap (λ (scope : Scope). scope.owner) (get_or-append_seam xs x [] no_scope) }

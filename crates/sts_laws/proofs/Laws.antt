@@ -16,6 +16,7 @@ use Rattle.sts_laws.proofs.Lists.{past, within}
 use Rattle.sts_laws.proofs.Later.{Later, LaterTask, LaterScope}
 use Rattle.sts_laws.proofs.Told.{completion-front, is_told}
 use Rattle.sts_laws.proofs.Events.{Right, Next, ever, always}
+use Rattle.sts_laws.proofs.Entries.{enters-effect}
 
 pub nothing_is_lost : NothingIsLost
 nothing_is_lost = always (λ p w v. KeepsBorn w v) (λ p w v h. let l = h.later in record { tasks = l.tasks; scopes = l.scopes; task = λ t less. (l.task t less).same; scope = λ s less. (l.scope s less).same })

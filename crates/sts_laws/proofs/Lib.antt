@@ -13,3 +13,4 @@ pub mod Laws
 pub mod Steps
 pub mod Causes
 pub mod Settled
+pub mod Entries

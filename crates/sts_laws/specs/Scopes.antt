@@ -1,5 +1,5 @@
 -- Why a scope is cancelled, who holds it and what is settled in it, in every state of every run (this project's own).
-use Rattle.std.specs.Prelude.{◌≡◌, ℕ, ◌<◌, List, [], length, Bool, true, false, Option, Some, None}
+use Rattle.std.specs.Prelude.{◌≡◌, ℕ, ◌<◌, ◌≤◌, count_by, List, [], length, Bool, true, false, Option, Some, None}
 use Rattle.std.specs.List.{list_any}
 use Rattle.sts_model.specs.declared.event.Phase.{Phase}
 use Rattle.sts_model.specs.declared.event.Phase.TheVariants.{Closing, Closed}
@@ -46,3 +46,13 @@ pub record IsHeldBy (w : World) (s t : ℕ) : Type 0 where
 -- a scope that isn't closed is held by its owner
 abbrev pub OwnersHold : Type 0
 OwnersHold = Ever (λ p w. (s : ℕ) → s < length w.scopes → is_closed (scope_at w s).phase ≡ false → IsHeldBy w s (scope_at w s).owner)
+
+-- a scope in the structure list of a living task is its own, isn't closed, and stands there once
+pub record IsEntered (w : World) (t s : ℕ) : Type 0 where
+  pub born : s < length w.scopes
+  pub owner : (scope_at w s).owner ≡ t
+  pub still : is_closed (scope_at w s).phase ≡ false
+  pub once : count_by (is_entry_of s) (task_at w t).frame.entries ≤ 1
+
+abbrev pub EntriesAreOpen : Type 0
+EntriesAreOpen = Ever (λ p w. (t s : ℕ) → lives (task_at w t) ≡ true → list_any (is_entry_of s) (task_at w t).frame.entries ≡ true → IsEntered w t s)
