@@ -103,7 +103,7 @@ alive_in w s e =
     let k = both (is_subtask s (task_at w h.0)) (lives (task_at w h.0)) h.1 in
     (h.0, some-is_in s (task_at w h.0).scope k.0, k.1)
 
-frame-cancel : (w : World) (s t : ℕ) → (task_at (cancel w s) t).frame ≡ (task_at w t).frame
+pub frame-cancel : (w : World) (s t : ℕ) → (task_at (cancel w s) t).frame ≡ (task_at w t).frame
 frame-cancel w s t = by (scope_at w s).cancelled
   where
     by : (b : Bool) → (task_at (cond b w (marked w s)) t).frame ≡ (task_at w t).frame

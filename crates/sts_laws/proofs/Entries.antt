@@ -97,7 +97,7 @@ enters-cancel w s =
     cond_both (scope_at w s).cancelled w (marked w s) (λ (v : World). Enters w v)
     (λ e. enters-refl w)
     (λ e. enters-trans w (record w { tasks = raised s w.tasks }) (marked w s) (enters-raised w s)
-       (enters-scope (record w { tasks = raised s w.tasks }) s (record (scope_at w s) { cancelled = true }) (λ h. h)))
+    (enters-scope (record w { tasks = raised s w.tasks }) s (record (scope_at w s) { cancelled = true }) (λ h. h)))
 
 -- ---- frames
 
@@ -111,7 +111,7 @@ same-local is (Times n) f = cond_both _ _ _ (λ (g : Frame). g.entries ≡ f.ent
 same-local is Next f = same-turns f f.loops
 same-local is _ f = refl
 
-any-drop : (es : List Entry) (s : ℕ) → Has s (drop 1 es) → Has s es
+pub any-drop : (es : List Entry) (s : ℕ) → Has s (drop 1 es) → Has s es
 any-drop [] s h = h
 any-drop (x ∷ es) s h = later (is_entry_of s x) h
   where
@@ -119,10 +119,10 @@ any-drop (x ∷ es) s h = later (is_entry_of s x) h
     later true h = refl
     later false h = h
 
-times-cons : (x : Entry) (es : List Entry) (s : ℕ) → times_in s (x ∷ es) ≡ cond (is_entry_of s x) 1 0 + times_in s es
+pub times-cons : (x : Entry) (es : List Entry) (s : ℕ) → times_in s (x ∷ es) ≡ cond (is_entry_of s x) 1 0 + times_in s es
 times-cons x es s = sum_by-cons (λ (y : Entry). cond (is_entry_of s y) 1 0) x es
 
-times-drop : (es : List Entry) (s : ℕ) → times_in s (drop 1 es) ≤ times_in s es
+pub times-drop : (es : List Entry) (s : ℕ) → times_in s (drop 1 es) ≤ times_in s es
 times-drop [] s = omega arith
 times-drop (x ∷ es) s = let h = times-cons x es s in omega (arith, h)
 
@@ -154,9 +154,9 @@ enters-join w t s failed timeout interrupted =
     cond_both (scope_at w s).expired _ _ (λ (v : World). Enters w v)
     (λ e. enters-going w t s Joined (goes (task_at w t).frame timeout 0 []) (task_at w t).flag refl refl)
     (λ e.
-       cond_both ((scope_at w s).cancelled || not (any_lives w s)) _ _ (λ (v : World). Enters w v)
-       (λ h. enters-verdict (result_of (scope_at w s).joiner (ends (scope_at w s)) (subtask_count w s)) w t s failed)
-       (λ h. enters-going w t s Attempted (goes (task_at w t).frame interrupted 0 []) false refl refl))
+    cond_both ((scope_at w s).cancelled || not (any_lives w s)) _ _ (λ (v : World). Enters w v)
+    (λ h. enters-verdict (result_of (scope_at w s).joiner (ends (scope_at w s)) (subtask_count w s)) w t s failed)
+    (λ h. enters-going w t s Attempted (goes (task_at w t).frame interrupted 0 []) false refl refl))
 
 enters-decide : (w : World) (s : ℕ) → Enters w (decide w s)
 enters-decide w s = cond_both (cancels (scope_at w s).joiner (ends (scope_at w s))) (cancel w s) w (λ (v : World). Enters w v) (λ e. enters-cancel w s) (λ e. enters-refl w)
@@ -169,7 +169,7 @@ enters-tell w t (Some s) end =
     (λ e. enters-refl w)
     (λ e. enters-trans w v (decide v s) (enters-scope w s (told (scope_at w s) t end) (λ h. h)) (enters-decide v s))
 
-enters-end : (w : World) (t : ℕ) (end : End) → Enters w (end_task w t (task_at w t).frame end)
+pub enters-end : (w : World) (t : ℕ) (end : End) → Enters w (end_task w t (task_at w t).frame end)
 unfolding end_task
 enters-end w t end =
     let v : World = ended w t (task_at w t).frame end in

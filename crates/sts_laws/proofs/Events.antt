@@ -1,5 +1,5 @@
 -- Every event leads from a state where all facts hold to one where they hold, and undoes nothing.
-use Rattle.std.proofs.Common.{◌≡◌, ℕ, zero, suc, ◌<◌, List, [], ◌∷◌, ◌++◌, Bool, true, false, Option, Some, None, refl, sym, ◌∙◌, ap, length, arith, get_or, set, cond, ◌&&◌, not, fold, nat_eq, replicate, subst, ◌-◌, length-set}
+use Rattle.std.proofs.Common.{◌≡◌, ℕ, zero, suc, ◌<◌, List, [], ◌∷◌, ◌++◌, Bool, true, false, Option, Some, None, refl, sym, ◌∙◌, ap, length, arith, get_or, set, cond, ◌&&◌, not, fold, nat_eq, replicate, subst, ◌-◌, ◌≤◌, length-set}
 use Rattle.sts_code.specs.Program.{Program, routine}
 use Rattle.sts_code.specs.declared.instr.Instr.{Instr}
 use Rattle.sts_code.specs.declared.instr.Joiner.{Joiner}
@@ -18,7 +18,7 @@ use Rattle.sts_model.specs.declared.record.Scope.{Scope}
 use Rattle.sts_model.specs.World.{World, State, Running, Faulted, task_at, scope_at, no_task, no_scope, instr_at, opening, entry_frame, with_frame}
 use Rattle.sts_model.specs.Local.{operand}
 use Rattle.sts_model.specs.Living.{lives, is_closed}
-use Rattle.sts_model.specs.Misuse.{slot, is_opened, misuse, IsFine}
+use Rattle.sts_model.specs.Misuse.{slot, is_opened, is_entry_of, innermost, misuse, IsFine}
 use Rattle.sts_model.proofs.Fine.{fine}
 use Rattle.sts_model.specs.Waiting.{can_step}
 use Rattle.sts_model.specs.Effect.{effect, named, open_scope, fork_task, end_task}
@@ -37,6 +37,8 @@ use Rattle.sts_laws.proofs.Births.{more_scopes, new_scope, opener, later-more_sc
 use Rattle.sts_laws.proofs.Told.{AllTold, told-new, told-still, told-open, told-fork, told-end}
 use Rattle.sts_laws.proofs.Causes.{AllFollow, follow-end, follow-effect, follow-interrupt, follow-expire}
 use Rattle.sts_laws.proofs.Settled.{Settled, settled-kept, settled-open, settled-fork}
+use Rattle.sts_laws.proofs.Entries.{Has, times_in, enters-end, enters-effect, enters-interrupt, enters-expire}
+use Rattle.sts_laws.proofs.Entered.{Entered, entered-enters, entered-open, entered-fork, entered-close}
 use Rattle.sts_laws.proofs.Runs.{after-append}
 
 -- all facts about a state
@@ -44,16 +46,17 @@ pub record Right (w : World) : Type 0 where
   pub sound : Sound w
   pub told : AllTold w
   pub settled : Settled w
+  pub entered : Entered w
 
 -- a state where they hold, later than w
 pub record Next (w v : World) : Type 0 where
   pub right : Right v
   pub later : Later w v
 
-next-still : (w v : World) → Right w → Still w v → AllFollow w v.scopes → Next w v
-next-still w v o k follows =
+next-still : (w v : World) → Right w → Still w v → AllFollow w v.scopes → Entered v → Next w v
+next-still w v o k follows entered =
     record {
-      right = record { sound = sound-kept w v o.sound k.kept; told = told-still w v o.told k; settled = settled-kept w v o.settled k.kept follows };
+      right = record { sound = sound-kept w v o.sound k.kept; told = told-still w v o.told k; settled = settled-kept w v o.settled k.kept follows; entered = entered };
       later = kept-later w v k.kept;
     }
 
@@ -65,6 +68,7 @@ next-end w t end o alive k =
             sound = sound-kept w _ o.sound k;
             told = told-end w t end alive o.sound o.told;
             settled = settled-kept w _ o.settled k (follow-end w t (task_at w t).frame end o.sound o.settled.caused);
+            entered = entered-enters w _ o.entered k (enters-end w t end);
           };
       later = kept-later w _ k;
     }
@@ -90,6 +94,7 @@ next-open w t x joiner timed o alive =
             sound = sound-open w t x joiner timed o.sound alive;
             told = told-open w t x joiner timed o.sound o.told;
             settled = settled-open w t x joiner timed o.settled;
+            entered = entered-open w t x joiner timed o.entered alive;
           };
       later = later-trans w v _ (later-more_scopes w (new_scope w t joiner timed)) (later-frame v t (opener w (task_at w t).frame x));
     }
@@ -109,6 +114,7 @@ next-fork p w t s g h o mine alive opened =
             sound = sound-fork p w t s g h o.sound mine alive (open_at_fork (scope_at w s).phase opened);
             told = told-fork p w t s g h alive o.told;
             settled = settled-fork p w t s g h o.settled alive opened;
+            entered = entered-fork p w t s g h o.entered alive;
           };
       later = later-fork p w t s g h alive;
     }
@@ -123,7 +129,15 @@ next-effect p w t (Fork x g h) o alive is =
     next-fork p w t (named (slot f x)) g h o (o.sound.own t x (named (slot f x)) mine) alive legal
 next-effect p w t Ret o alive is = next-end w t (Success (operand (task_at w t).frame 0)) o alive (kept-end w t (Success (operand (task_at w t).frame 0)) alive is.structure)
 next-effect p w t Fail o alive is = next-end w t (Failed (operand (task_at w t).frame 0)) o alive (kept-end w t (Failed (operand (task_at w t).frame 0)) alive is.structure)
-next-effect p w t i o alive is = next-still w _ o (still-effect p w t i o.sound is refl) (follow-effect p w t i o.sound o.settled.caused is)
+next-effect p w t (Close x) o alive is =
+    let f : Frame = (task_at w t).frame in
+    let mine : slot f x ≡ slots.Own (named (slot f x)) = own_slot (slot f x) (first_no _ _ (first_no _ _ is.slots)) is.own in
+    let order : not (innermost (is_entry_of (named (slot f x))) f.entries) ≡ false = sym (at_own-is w (slot f x) (λ n scope. not (innermost (is_entry_of n) f.entries)) mine) ∙ is.structure in
+    next-still w _ o (still-effect p w t (Close x) o.sound is refl) (follow-effect p w t (Close x) o.sound o.settled.caused is)
+    (entered-close w t (named (slot f x)) o.entered (o.sound.own t x (named (slot f x)) mine) alive order)
+next-effect p w t i o alive is =
+    let k = still-effect p w t i o.sound is refl in
+    next-still w _ o k (follow-effect p w t i o.sound o.settled.caused is) (entered-enters w _ o.entered k.kept (enters-effect p w t i refl))
 
 next-at : (p : Program) (w : World) (t : ℕ) → Right w → lives (task_at w t) ≡ true → misuse p w t ≡ None → (o : Option Instr) → instr_at p (task_at w t).frame ≡ o → Next w (perform p w t (task_at w t).frame o)
 next-at p w t right alive m None e = record { right = right; later = later-refl w }
@@ -139,8 +153,8 @@ next-step p w t right true e = next-stepped p w t right (both (lives (task_at w 
 
 next-apply : (p : Program) (w : World) (e : Event) → Right w → In (Next w) (apply p (Running w) e)
 next-apply p w (event.Step t) right = next-step p w t right (can_step p w t) refl
-next-apply p w (event.Interrupt t) right = next-still w _ right (still-interrupt w t) (follow-interrupt w t right.settled.caused)
-next-apply p w (event.Expire s) right = next-still w _ right (still-expire w s) (follow-expire w s right.settled.caused)
+next-apply p w (event.Interrupt t) right = next-still w _ right (still-interrupt w t) (follow-interrupt w t right.settled.caused) (entered-enters w _ right.entered (still-interrupt w t).kept (enters-interrupt w t))
+next-apply p w (event.Expire s) right = next-still w _ right (still-expire w s) (follow-expire w s right.settled.caused) (entered-enters w _ right.entered (still-expire w s).kept (enters-expire w s))
 
 -- ---- lists of events
 
@@ -171,6 +185,14 @@ root-in_nothing : (p : Program) (u s : ℕ) → (get_or (main p ∷ []) u no_tas
 root-in_nothing p zero s e = cc
 root-in_nothing p (suc u) s e = cc
 
+root-enters_nothing : (p : Program) (t s : ℕ) → Has s (get_or (main p ∷ []) t no_task).frame.entries → ⊥
+root-enters_nothing p zero s e = cc
+root-enters_nothing p (suc t) s e = cc
+
+root-once : (p : Program) (t s : ℕ) → times_in s (get_or (main p ∷ []) t no_task).frame.entries ≤ 1
+root-once p zero s = omega arith
+root-once p (suc t) s = omega arith
+
 root-alone : (p : Program) (u : ℕ) → lives (get_or (main p ∷ []) u no_task) ≡ true → u ≡ 0
 root-alone p zero e = refl
 root-alone p (suc u) e = cc
@@ -193,6 +215,7 @@ right-opening p =
             joined = λ s u e. cc;
             started = λ s u inside. absurd (root-in_nothing p u s inside);
           };
+      entered = record { opens = λ t s alive has. absurd (root-enters_nothing p t s has); once = root-once p };
     }
 
 -- ---- whole runs

@@ -11,12 +11,11 @@ use Rattle.sts_model.specs.Living.{lives, is_closed, parent, scope_of, completio
 use Rattle.sts_model.specs.Waiting.{can_step, can_go, stand_at}
 use Rattle.sts_laws.specs.Stays.{NothingIsLost, KeepsBorn, EndsStay, KeepsEnd, ClosedStays, KeepsMarks, CompletionsGrow, Completes, StatesStay, NothingStarts, CancelledStartsNothing}
 use Rattle.sts_laws.specs.Runs.{CompletionsAreEnds, ClosedIsEmpty, RootEndsLast}
-use Rattle.sts_laws.specs.Scopes.{CancelledHasCause, LeftOutIsCancelled, JoinedIsSettled, IsHeldBy, OwnersHold}
+use Rattle.sts_laws.specs.Scopes.{CancelledHasCause, LeftOutIsCancelled, JoinedIsSettled, IsHeldBy, OwnersHold, IsEntered, EntriesAreOpen}
 use Rattle.sts_laws.proofs.Lists.{past, within}
 use Rattle.sts_laws.proofs.Later.{Later, LaterTask, LaterScope}
 use Rattle.sts_laws.proofs.Told.{completion-front, is_told}
 use Rattle.sts_laws.proofs.Events.{Right, Next, ever, always}
-use Rattle.sts_laws.proofs.Entries.{enters-effect}
 
 pub nothing_is_lost : NothingIsLost
 nothing_is_lost = always (λ p w v. KeepsBorn w v) (λ p w v h. let l = h.later in record { tasks = l.tasks; scopes = l.scopes; task = λ t less. (l.task t less).same; scope = λ s less. (l.scope s less).same })
@@ -117,6 +116,11 @@ joined_is_settled = ever _ (λ p w h s u joined still inside. h.settled.joined s
 
 pub owners_hold : OwnersHold
 owners_hold = ever _ (λ p w h s born still. let k = h.sound.held s born still in record { alive = k.alive; entry = k.entry })
+
+pub entries_are_open : EntriesAreOpen
+entries_are_open =
+    ever _
+    (λ p w h t s alive has. let k = h.entered.opens t s alive has in record { born = k.owner.born; owner = k.owner.owner; still = k.still; once = h.entered.once t s })
 
 -- a started task that doesn't live has ended
 has_ended : (task : Task) → task.started ≡ true → lives task ≡ false → (end : End) × (task.outcome ≡ Some end)

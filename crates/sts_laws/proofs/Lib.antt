@@ -14,3 +14,4 @@ pub mod Steps
 pub mod Causes
 pub mod Settled
 pub mod Entries
+pub mod Entered

@@ -3,7 +3,7 @@
 
 ghost use Rattle.sts_laws.specs.Stays.{FaultsStay, StepsAreCounted, NothingIsLost, EndsStay, ClosedStays, CompletionsGrow, StatesStay, CancelledStartsNothing};
 ghost use Rattle.sts_laws.specs.Runs.{CompletionsAreEnds, ClosedIsEmpty, RootEndsLast, SomeTaskSteps};
-ghost use Rattle.sts_laws.specs.Scopes.{CancelledHasCause, LeftOutIsCancelled, JoinedIsSettled, OwnersHold};
+ghost use Rattle.sts_laws.specs.Scopes.{CancelledHasCause, LeftOutIsCancelled, JoinedIsSettled, OwnersHold, EntriesAreOpen};
 
 /// A fault stays.
 #[tactic(auto, using(crate::proofs::Runs::faults_stay))]
@@ -92,4 +92,9 @@ pub fn joined_is_settled()
 /// A scope that isn't closed is held by its owner, which lives.
 pub fn owners_hold()
     ensures { OwnersHold }
+{}
+
+/// A scope in the structure list of a living task is its own, isn't closed, and stands there once.
+pub fn entries_are_open()
+    ensures { EntriesAreOpen }
 {}
