@@ -1,12 +1,11 @@
 -- What `open` and `fork` keep: a scope more, a task more.
-use Rattle.std.proofs.Common.{◌≡◌, ◌≢◌, ℕ, zero, suc, ◌+◌, ◌-◌, ◌<◌, ◌≤◌, List, [], ◌∷◌, ◌++◌, Bool, true, false, Option, Some, None, refl, sym, ◌∙◌, ap, length, arith, get_or, set, cond, ◌&&◌, ◌||◌, not, nat_eq, replicate, take, length-append, length-set, get_or-set_same}
-use Rattle.std.specs.Prelude.{slice_set, reverse, ℤ, is_none, ◌==◌}
+use Rattle.std.proofs.Common.{◌≡◌, ◌≢◌, ℕ, zero, suc, ◌<◌, List, [], ◌∷◌, ◌++◌, Bool, true, false, Option, Some, None, refl, sym, ◌∙◌, ap, length, arith, get_or, set, ◌||◌, not, nat_eq, replicate, take, length-append, get_or-set_same}
+use Rattle.std.specs.Prelude.{slice_set, reverse, ℤ, ◌==◌}
 use Rattle.std.specs.List.{list_any}
 use Rattle.std.proofs.lemmas.List.{get_or_append_left}
 use Rattle.std.proofs.Math.Seq.{get_or-append_seam}
 use Rattle.std.proofs.lemmas.Bool.Decides.{nat_tests}
 use Rattle.sts_code.specs.Program.{Program, routine}
-use Rattle.sts_model.specs.declared.event.Phase.{Phase}
 use Rattle.sts_model.specs.declared.event.Phase.TheVariants.{Opened}
 use Rattle.sts_code.specs.declared.instr.Joiner.{Joiner}
 use Rattle.sts_model.specs.declared.record.Slot.{Slot}
@@ -15,16 +14,16 @@ use Rattle.sts_model.specs.declared.record.Entry.TheVariants as entry
 use Rattle.sts_model.specs.declared.record.Frame.{Frame}
 use Rattle.sts_model.specs.declared.record.Task.{Task}
 use Rattle.sts_model.specs.declared.record.Scope.{Scope}
-use Rattle.sts_model.specs.World.{World, task_at, scope_at, no_task, no_scope, entry_frame, with_frame}
+use Rattle.sts_model.specs.World.{World, task_at, scope_at, no_task, no_scope, entry_frame}
 use Rattle.sts_model.specs.Local.{steps}
 use Rattle.sts_model.specs.Living.{lives, is_closed}
 use Rattle.sts_model.specs.Environment.{environment_of}
 use Rattle.sts_model.specs.Misuse.{slot, is_entry_of}
 use Rattle.sts_model.specs.Effect.{open_scope, fork_task, subtask_of, forked}
-use Rattle.sts_laws.proofs.Lists.{at_set, at_more, past, within}
+use Rattle.sts_laws.proofs.Lists.{at_set, at_more, within}
 use Rattle.sts_laws.proofs.Later.{Later, later_task-refl, later_scope-refl, later-trans, none_fresh}
 use Rattle.sts_laws.proofs.Kept.{Holds, kept-later}
-use Rattle.sts_laws.proofs.Still.{Still, Fits, still-frame}
+use Rattle.sts_laws.proofs.Still.{Still, still-frame}
 use Rattle.sts_laws.proofs.Frames.{owns-with_slot}
 use Rattle.sts_laws.proofs.Sound.{Sound, Owner, sound-kept}
 

@@ -1,10 +1,10 @@
 -- Why scopes are cancelled: what each effect makes of the list of scopes.
-use Rattle.std.proofs.Common.{◌⊎◌, inl, inr, ◌≡◌, ◌≢◌, ℕ, zero, suc, ◌<◌, List, [], ◌∷◌, ◌++◌, Bool, true, false, Option, Some, None, refl, sym, ◌∙◌, ap, length, arith, get_or, set, cond, ◌&&◌, ◌||◌, not, unwrap_or, length-set, get_or-set_same, get_or-set_other}
+use Rattle.std.proofs.Common.{◌⊎◌, inl, inr, ◌≡◌, ℕ, ◌<◌, List, [], Bool, true, false, Option, Some, None, refl, sym, ◌∙◌, ap, length, arith, get_or, set, ◌||◌, not, unwrap_or, length-set, get_or-set_same, get_or-set_other}
 use Rattle.std.proofs.lemmas.Bool.{cond_both}
 use Rattle.sts_code.specs.Program.{Program}
 use Rattle.sts_code.specs.declared.instr.Instr.{Instr}
 use Rattle.sts_code.specs.declared.instr.Joiner.{Joiner}
-use Rattle.sts_code.specs.declared.instr.Instr.TheVariants.{Open, Fork, Join, Close, Cancelled, Case, Get, Except, Tally, Total, Forget, Bind, Unbind, Read, Bound, OrElse, Interrupted, Ret, Fail}
+use Rattle.sts_code.specs.declared.instr.Instr.TheVariants.{Open, Join, Close, Ret, Fail}
 use Rattle.sts_model.specs.declared.event.End.{End}
 use Rattle.sts_model.specs.declared.event.End.TheVariants.{Success, Failed}
 use Rattle.sts_model.specs.declared.event.Phase.{Phase}
@@ -17,11 +17,11 @@ use Rattle.sts_model.specs.declared.record.Task.{Task}
 use Rattle.sts_model.specs.declared.record.Scope.{Scope}
 use Rattle.sts_model.specs.World.{World, task_at, scope_at, no_scope, with_scope}
 use Rattle.sts_model.specs.Local.{operand}
-use Rattle.sts_model.specs.Joining.{cancels, result_of}
+use Rattle.sts_model.specs.Joining.{result_of}
 use Rattle.sts_model.specs.Living.{lives, any_lives, ends, subtask_count}
 use Rattle.sts_model.specs.Cancelling.{marked, cancel}
 use Rattle.sts_model.specs.Misuse.{slot, can_join, is_joined, IsFine}
-use Rattle.sts_model.specs.Effect.{effect, named, with_phase, joined, join_verdict, join_scope, closed, close_scope, told, decide, complete, tell, ended, end_task, open_scope, fork_task}
+use Rattle.sts_model.specs.Effect.{effect, named, with_phase, joined, join_verdict, join_scope, close_scope, told, decide, complete, tell, ended, end_task, open_scope, fork_task}
 use Rattle.sts_model.specs.Outside.{interrupt, can_expire, expire}
 use Rattle.sts_laws.specs.Scopes.{is_leaving, is_asked, HasCause}
 use Rattle.sts_laws.proofs.Lists.{at_set, at_put, at_more, within}

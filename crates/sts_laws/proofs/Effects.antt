@@ -1,13 +1,12 @@
 -- What each effect keeps, but those of `open` and `fork`.
-use Rattle.std.proofs.Common.{◌≡◌, ℕ, zero, suc, ◌<◌, ◌≤◌, subst, List, [], ◌∷◌, Bool, true, false, Option, Some, None, refl, sym, ◌∙◌, ap, length, get_or, set, cond, ◌&&◌, ◌||◌, not, unwrap_or, drop, nat_eq, arith, get_or-set_same}
+use Rattle.std.proofs.Common.{◌≡◌, ℕ, ◌<◌, ◌≤◌, subst, List, [], ◌∷◌, Bool, true, false, Option, Some, None, refl, sym, ◌∙◌, ap, length, cond, ◌||◌, not, unwrap_or, arith, get_or-set_same}
 use Rattle.std.proofs.lemmas.Bool.Decides.{nat_tests}
 use Rattle.std.specs.List.{list_any}
 use Rattle.std.specs.Prelude.{◌==◌, nat_lt, is_none}
 use Rattle.sts_code.specs.Program.{Program}
 use Rattle.sts_code.specs.declared.instr.Instr.{Instr}
-use Rattle.sts_code.specs.declared.instr.Instr.TheVariants.{Push, Pop, Dup, Swap, Load, Store, Add, Sub, Mul, Lt, Eq, Div, Jmp, Jz, Times, Next, Open, Fork, Join, Close, Cancelled, Case, Get, Except, Tally, Total, Forget, Bind, Unbind, Read, Bound, OrElse, Interrupted, Ret, Fail}
+use Rattle.sts_code.specs.declared.instr.Instr.TheVariants.{Open, Fork, Join, Close, Cancelled, Case, Get, Except, Tally, Total, Forget, Bind, Unbind, Read, Bound, OrElse, Interrupted, Ret, Fail}
 use Rattle.sts_model.specs.declared.event.End.{End}
-use Rattle.sts_model.specs.declared.event.End.TheVariants.{Success, Failed}
 use Rattle.sts_model.specs.declared.event.Phase.{Phase}
 use Rattle.sts_model.specs.declared.event.Phase.TheVariants.{Opened, Attempted, Joined, Closing, Closed}
 use Rattle.sts_model.specs.declared.event.Verdict.{Verdict}
@@ -17,20 +16,20 @@ use Rattle.sts_model.specs.declared.record.Entry.{Entry}
 use Rattle.sts_model.specs.declared.record.Frame.{Frame}
 use Rattle.sts_model.specs.declared.record.Task.{Task}
 use Rattle.sts_model.specs.declared.record.Scope.{Scope}
-use Rattle.sts_model.specs.World.{World, task_at, scope_at, no_task, no_scope, code, with_task, with_scope, with_frame}
-use Rattle.sts_model.specs.Local.{local, operand, goes, steps}
+use Rattle.sts_model.specs.World.{World, task_at, scope_at, no_task, no_scope, code, with_task, with_scope}
+use Rattle.sts_model.specs.Local.{goes, steps}
 use Rattle.sts_model.specs.Joining.{cancels, result_of}
 use Rattle.sts_model.specs.Living.{lives, is_in, is_subtask, is_living_subtask, any_lives, is_closed, ends, subtask_count}
-use Rattle.sts_model.specs.Cancelling.{raised, marked, cancel}
-use Rattle.sts_model.specs.Misuse.{slot, is_scope, can_join, is_entry_of, innermost, at_own, IsFine}
-use Rattle.sts_model.specs.Effect.{effect, named, with_phase, joined, join_verdict, join_scope, closed, close_scope, told, decide, complete, tell, ended, end_task}
+use Rattle.sts_model.specs.Cancelling.{marked, cancel}
+use Rattle.sts_model.specs.Misuse.{slot, can_join, is_entry_of, innermost, IsFine}
+use Rattle.sts_model.specs.Effect.{effect, named, with_phase, joined, join_verdict, join_scope, closed, close_scope, told, decide, tell, ended, end_task}
 use Rattle.sts_model.specs.Outside.{interrupt, can_expire, expire}
 use Rattle.sts_laws.proofs.Lists.{at_set, found, none_found, both, all_true, neither}
-use Rattle.sts_laws.proofs.Later.{completes-refl, same_scope-refl}
-use Rattle.sts_laws.proofs.Kept.{Kept, Holds, kept-refl, kept-trans, kept-task, kept-scope, kept-cond, kept-cancel, at_raised}
+use Rattle.sts_laws.proofs.Later.{completes-refl}
+use Rattle.sts_laws.proofs.Kept.{Kept, kept-refl, kept-trans, kept-task, kept-scope, kept-cond, at_raised}
 use Rattle.sts_laws.proofs.Still.{Still, Fits, still-refl, still-trans, still-cond, still-task, still-frame, still-scope, still-phase, still-cancel}
 use Rattle.sts_laws.proofs.Frames.{fits-refl, fits-local, fits-bind, fits-unbind, fits-close, owns-forget, own_slot, at_own-is}
-use Rattle.sts_laws.proofs.Sound.{Sound, Owner, sound-kept}
+use Rattle.sts_laws.proofs.Sound.{Sound, sound-kept}
 
 -- ---- join
 

@@ -1,16 +1,13 @@
 -- What `open`, `fork` and `close` make of structure lists.
-use Rattle.std.proofs.Common.{◌≡◌, ◌≢◌, ℕ, zero, suc, ◌+◌, ◌<◌, ◌≤◌, List, [], ◌∷◌, ◌++◌, Bool, true, false, Option, Some, None, refl, sym, ◌∙◌, ap, length, arith, get_or, set, cond, drop, ◌&&◌, ◌||◌, not, nat_eq, length-set, length-append, get_or-set_same, get_or-set_other}
-use Rattle.std.specs.Prelude.{◌==◌, count_by}
+use Rattle.std.proofs.Common.{◌≡◌, ℕ, ◌+◌, ◌<◌, ◌≤◌, List, [], ◌∷◌, ◌++◌, Bool, true, false, Option, refl, sym, ◌∙◌, ap, length, arith, get_or, set, cond, drop, ◌||◌, not, length-set, get_or-set_other}
+use Rattle.std.specs.Prelude.{◌==◌}
 use Rattle.std.specs.List.{list_any}
 use Rattle.std.proofs.lemmas.Bool.{cond_both}
 use Rattle.std.proofs.lemmas.Bool.Decides.{nat_tests}
 use Rattle.std.proofs.lemmas.List.{get_or_append_left}
 use Rattle.std.proofs.Math.Seq.{get_or-append_seam}
 use Rattle.sts_code.specs.Program.{Program, routine}
-use Rattle.sts_code.specs.declared.instr.Instr.{Instr}
 use Rattle.sts_code.specs.declared.instr.Joiner.{Joiner}
-use Rattle.sts_code.specs.declared.instr.Instr.TheVariants.{Open, Fork, Close}
-use Rattle.sts_model.specs.declared.event.Phase.{Phase}
 use Rattle.sts_model.specs.declared.event.Phase.TheVariants.{Closing, Closed}
 use Rattle.sts_model.specs.declared.record.Entry.{Entry}
 use Rattle.sts_model.specs.declared.record.Entry.TheVariants as entry
@@ -26,9 +23,9 @@ use Rattle.sts_model.specs.Effect.{with_phase, closed, close_scope, cleared, ope
 use Rattle.sts_laws.proofs.Lists.{at_set, at_put, at_more}
 use Rattle.sts_laws.proofs.Kept.{Kept, kept-cancel, at_raised}
 use Rattle.sts_laws.proofs.Effects.{frame-cancel}
-use Rattle.sts_laws.proofs.Sound.{Sound, Owner, alive_before}
+use Rattle.sts_laws.proofs.Sound.{Owner, alive_before}
 use Rattle.sts_laws.proofs.Births.{more_tasks, new_scope, opener, still-forker, born_alive, owner-more, owner-new}
-use Rattle.sts_laws.proofs.Entries.{Has, times_in, Enters, Drops, enters-task, enters-scope, enters-trans, enters-cancel, drops-same, any-drop, times-drop, times-cons}
+use Rattle.sts_laws.proofs.Entries.{Has, times_in, Enters, enters-task, enters-cancel, drops-same, any-drop, times-drop, times-cons}
 
 -- a scope that was born, of this owner, and isn't closed
 pub record IsOpen (scopes : List Scope) (s t : ℕ) : Type 0 where

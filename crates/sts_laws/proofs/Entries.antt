@@ -1,21 +1,18 @@
 -- The scopes in structure lists: their owners' own, not closed, each once.
-use Rattle.std.proofs.Common.{◌≡◌, ◌≢◌, ℕ, zero, suc, ◌+◌, ◌<◌, ◌≤◌, List, [], ◌∷◌, ◌++◌, Bool, true, false, Option, Some, None, refl, sym, ◌∙◌, ap, length, arith, get_or, set, cond, drop, ◌&&◌, ◌||◌, not, nat_eq, unwrap_or, length-set, length-append, get_or-set_same, get_or-set_other}
-use Rattle.std.specs.Prelude.{◌==◌, nat_le, count_by, pos}
+use Rattle.std.proofs.Common.{◌≡◌, ℕ, ◌+◌, ◌≤◌, List, [], ◌∷◌, Bool, true, false, Option, Some, None, refl, arith, cond, drop, ◌||◌, not, unwrap_or}
+use Rattle.std.specs.Prelude.{nat_le, count_by}
 use Rattle.std.specs.List.{list_any}
 use Rattle.std.proofs.lemmas.Bool.{cond_both}
-use Rattle.std.proofs.lemmas.Bool.Decides.{nat_tests}
 use Rattle.std.proofs.lemmas.List.Sums.{sum_by-cons}
-use Rattle.sts_code.specs.Program.{Program, routine}
+use Rattle.sts_code.specs.Program.{Program}
 use Rattle.sts_code.specs.declared.instr.Instr.{Instr}
-use Rattle.sts_code.specs.declared.instr.Joiner.{Joiner}
-use Rattle.sts_code.specs.declared.instr.Instr.TheVariants.{Push, Pop, Dup, Swap, Load, Store, Add, Sub, Mul, Lt, Eq, Div, Jmp, Jz, Times, Next, Open, Fork, Join, Close, Cancelled, Case, Get, Except, Tally, Total, Forget, Bind, Unbind, Read, Bound, OrElse, Interrupted, Ret, Fail}
+use Rattle.sts_code.specs.declared.instr.Instr.TheVariants.{Push, Div, Times, Next, Open, Fork, Join, Close, Bind, Unbind, Ret, Fail}
 use Rattle.sts_model.specs.declared.event.End.{End}
 use Rattle.sts_model.specs.declared.event.End.TheVariants.{Success, Failed}
 use Rattle.sts_model.specs.declared.event.Phase.{Phase}
-use Rattle.sts_model.specs.declared.event.Phase.TheVariants.{Opened, Attempted, Joined, Closing, Closed}
+use Rattle.sts_model.specs.declared.event.Phase.TheVariants.{Attempted, Joined}
 use Rattle.sts_model.specs.declared.event.Verdict.{Verdict}
 use Rattle.sts_model.specs.declared.event.Verdict.TheVariants as verdict
-use Rattle.sts_model.specs.declared.record.Slot.TheVariants as slots
 use Rattle.sts_model.specs.declared.record.Entry.{Entry}
 use Rattle.sts_model.specs.declared.record.Entry.TheVariants as entry
 use Rattle.sts_model.specs.declared.record.Frame.{Frame}
@@ -23,18 +20,15 @@ use Rattle.sts_model.specs.declared.record.Loop.{Loop}
 use Rattle.sts_model.specs.declared.record.Task.{Task}
 use Rattle.sts_model.specs.declared.record.Scope.{Scope}
 use Rattle.sts_model.specs.World.{World, task_at, scope_at, no_task, no_scope, code, with_task, with_scope, with_frame}
-use Rattle.sts_model.specs.Local.{local, turns, enters, operand, goes, steps}
+use Rattle.sts_model.specs.Local.{local, turns, operand, goes, steps}
 use Rattle.sts_model.specs.Joining.{cancels, result_of}
 use Rattle.sts_model.specs.Living.{lives, any_lives, is_closed, ends, subtask_count}
 use Rattle.sts_model.specs.Cancelling.{raised, marked, cancel}
-use Rattle.sts_model.specs.Misuse.{slot, is_binding, is_entry_of, innermost, IsFine}
-use Rattle.sts_model.specs.Effect.{effect, named, with_phase, joined, join_verdict, join_scope, closed, close_scope, told, decide, complete, tell, ended, end_task, open_scope, fork_task, subtask_of, forked}
+use Rattle.sts_model.specs.Misuse.{slot, is_entry_of}
+use Rattle.sts_model.specs.Effect.{effect, named, with_phase, join_verdict, join_scope, told, decide, tell, ended, end_task}
 use Rattle.sts_model.specs.Outside.{interrupt, can_expire, expire}
-use Rattle.sts_laws.proofs.Lists.{at_set, at_put, at_more}
-use Rattle.sts_laws.proofs.Kept.{Kept, at_raised}
-use Rattle.sts_laws.proofs.Sound.{Sound, Owner, alive_before}
-use Rattle.sts_laws.proofs.Frames.{own_slot, at_own-is}
-use Rattle.sts_laws.proofs.Births.{more_tasks, more_scopes, new_scope, opener, born_alive, owner-more, owner-new}
+use Rattle.sts_laws.proofs.Lists.{at_set}
+use Rattle.sts_laws.proofs.Kept.{at_raised}
 
 -- the entries hold the scope; how often
 abbrev pub Has : ℕ → List Entry → Type 0

@@ -1,9 +1,9 @@
 -- Every event leads from a state where all facts hold to one where they hold, and undoes nothing.
-use Rattle.std.proofs.Common.{◌≡◌, ℕ, zero, suc, ◌<◌, List, [], ◌∷◌, ◌++◌, Bool, true, false, Option, Some, None, refl, sym, ◌∙◌, ap, length, arith, get_or, set, cond, ◌&&◌, not, fold, nat_eq, replicate, subst, ◌-◌, ◌≤◌, length-set}
-use Rattle.sts_code.specs.Program.{Program, routine}
+use Rattle.std.proofs.Common.{◌≡◌, ℕ, zero, suc, List, [], ◌∷◌, Bool, true, false, Option, Some, None, refl, sym, ◌∙◌, length, arith, get_or, cond, not, fold, subst, ◌-◌, ◌≤◌, length-set}
+use Rattle.sts_code.specs.Program.{Program}
 use Rattle.sts_code.specs.declared.instr.Instr.{Instr}
 use Rattle.sts_code.specs.declared.instr.Joiner.{Joiner}
-use Rattle.sts_code.specs.declared.instr.Instr.TheVariants.{Open, Fork, Join, Close, Cancelled, Case, Get, Except, Tally, Total, Forget, Bind, Unbind, Read, Bound, OrElse, Interrupted, Ret, Fail}
+use Rattle.sts_code.specs.declared.instr.Instr.TheVariants.{Open, Fork, Close, Ret, Fail}
 use Rattle.sts_model.specs.declared.event.Event.{Event}
 use Rattle.sts_model.specs.declared.event.Event.TheVariants as event
 use Rattle.sts_model.specs.declared.event.End.{End}
@@ -14,7 +14,6 @@ use Rattle.sts_model.specs.declared.event.Phase.TheVariants.{Opened, Attempted, 
 use Rattle.sts_model.specs.declared.record.Slot.TheVariants as slots
 use Rattle.sts_model.specs.declared.record.Frame.{Frame}
 use Rattle.sts_model.specs.declared.record.Task.{Task}
-use Rattle.sts_model.specs.declared.record.Scope.{Scope}
 use Rattle.sts_model.specs.World.{World, State, Running, Faulted, task_at, scope_at, no_task, no_scope, instr_at, opening, entry_frame, with_frame}
 use Rattle.sts_model.specs.Local.{operand}
 use Rattle.sts_model.specs.Living.{lives, is_closed}
@@ -22,8 +21,7 @@ use Rattle.sts_model.specs.Misuse.{slot, is_opened, is_entry_of, innermost, misu
 use Rattle.sts_model.proofs.Fine.{fine}
 use Rattle.sts_model.specs.Waiting.{can_step}
 use Rattle.sts_model.specs.Effect.{effect, named, open_scope, fork_task, end_task}
-use Rattle.sts_model.specs.Outside.{interrupt, expire}
-use Rattle.sts_model.specs.Run.{apply, after, step, stepped, perform}
+use Rattle.sts_model.specs.Run.{apply, after, stepped, perform}
 use Rattle.sts_laws.specs.Stays.{Between, Always}
 use Rattle.sts_laws.specs.Runs.{In, Ever}
 use Rattle.sts_laws.proofs.Lists.{at_set, both}
@@ -32,7 +30,7 @@ use Rattle.sts_laws.proofs.Kept.{Kept, kept-later}
 use Rattle.sts_laws.proofs.Still.{Still}
 use Rattle.sts_laws.proofs.Frames.{own_slot, at_own-is}
 use Rattle.sts_laws.proofs.Sound.{Sound, Owner, sound-kept}
-use Rattle.sts_laws.proofs.Effects.{changes_tree, first_no, still-effect, kept-end, still-interrupt, still-expire}
+use Rattle.sts_laws.proofs.Effects.{first_no, still-effect, kept-end, still-interrupt, still-expire}
 use Rattle.sts_laws.proofs.Births.{more_scopes, new_scope, opener, later-more_scopes, sound-open, sound-fork, later-fork, new-owns_nothing}
 use Rattle.sts_laws.proofs.Told.{AllTold, told-new, told-still, told-open, told-fork, told-end}
 use Rattle.sts_laws.proofs.Causes.{AllFollow, follow-end, follow-effect, follow-interrupt, follow-expire}

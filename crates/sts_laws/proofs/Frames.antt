@@ -1,5 +1,5 @@
 -- Frames that a step leaves: they own no more, and have the entries of what is open.
-use Rattle.std.proofs.Common.{◌≡◌, ℕ, zero, suc, ◌+◌, ◌<◌, List, [], ◌∷◌, Bool, true, false, Option, Some, None, refl, get_or, set, drop, cond, ◌||◌, not, nat_eq, arith}
+use Rattle.std.proofs.Common.{◌≡◌, ℕ, zero, suc, ◌+◌, List, [], ◌∷◌, Bool, true, false, Option, Some, None, refl, get_or, set, drop, cond, ◌||◌, not, arith}
 use Rattle.std.proofs.lemmas.Bool.Decides.{nat_tests}
 use Rattle.std.specs.List.{list_any}
 use Rattle.std.specs.Prelude.{◌==◌, ◌-◌, nat_le, pos, unwrap_or}
@@ -17,7 +17,7 @@ use Rattle.sts_model.specs.declared.record.Scope.{Scope}
 use Rattle.sts_model.specs.World.{World, scope_at}
 use Rattle.sts_model.specs.Local.{local, turns, enters, clipped, match_of, operand, goes, steps}
 use Rattle.sts_model.specs.Living.{is_closed}
-use Rattle.sts_model.specs.Misuse.{slot, is_scope, is_lent, is_binding, is_entry_of, innermost, at_own}
+use Rattle.sts_model.specs.Misuse.{is_scope, is_lent, is_binding, is_entry_of, innermost, at_own}
 use Rattle.sts_model.specs.Effect.{named, cleared, is_of, with_slot}
 use Rattle.sts_laws.proofs.Lists.{at_set}
 use Rattle.sts_laws.proofs.Still.{Fits}

@@ -1,19 +1,18 @@
 -- What every effect but those of `open` and `fork` keeps, and its building blocks.
-use Rattle.std.proofs.Common.{◌≡◌, ℕ, zero, suc, ◌+◌, ◌<◌, ◌≤◌, List, [], ◌∷◌, ◌++◌, Bool, true, false, Option, Some, None, refl, sym, ◌∙◌, ap, length, arith, get_or, set, cond, ◌&&◌, length-set}
+use Rattle.std.proofs.Common.{◌≡◌, ℕ, zero, suc, List, [], ◌∷◌, Bool, true, false, Option, Some, None, refl, ◌∙◌, length, arith, get_or, cond, ◌&&◌, length-set}
 use Rattle.std.proofs.lemmas.List.{length-map}
 use Rattle.std.specs.List.{list_any}
 use Rattle.sts_model.specs.declared.event.End.{End}
 use Rattle.sts_model.specs.declared.record.Slot.TheVariants.{Own}
-use Rattle.sts_model.specs.declared.record.Frame.{Frame}
 use Rattle.sts_model.specs.declared.record.Task.{Task}
 use Rattle.sts_model.specs.declared.record.Scope.{Scope}
-use Rattle.sts_model.specs.World.{World, task_at, scope_at, no_task, no_scope, with_task, with_scope, with_frame}
+use Rattle.sts_model.specs.World.{World, task_at, scope_at, no_task, no_scope, with_task, with_scope}
 use Rattle.sts_model.specs.Living.{lives, is_living_subtask, is_closed}
 use Rattle.sts_model.specs.Cancelling.{raise, raised, marked, cancel}
 use Rattle.sts_model.specs.Misuse.{slot, is_entry_of}
-use Rattle.sts_laws.specs.Stays.{IsSameTask, KeepsMarks}
+use Rattle.sts_laws.specs.Stays.{KeepsMarks}
 use Rattle.sts_laws.proofs.Lists.{at_set}
-use Rattle.sts_laws.proofs.Later.{LaterTask, LaterScope, Later, later_task-refl, later_task-trans, later_scope-refl, later_scope-trans, same_scope-refl, completes-refl, none_fresh}
+use Rattle.sts_laws.proofs.Later.{LaterTask, LaterScope, Later, later_task-refl, later_task-trans, later_scope-refl, later_scope-trans, completes-refl, none_fresh}
 
 -- the task lives, and the scope is an entry of its frame
 pub record Holds (task : Task) (s : ℕ) : Type 0 where

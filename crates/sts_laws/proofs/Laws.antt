@@ -1,21 +1,21 @@
 -- The laws over every run.
-use Rattle.std.proofs.Common.{◌≡◌, ℕ, zero, suc, ◌+◌, ◌<◌, ◌≤◌, List, [], ◌∷◌, ◌++◌, Bool, true, false, Option, Some, None, refl, sym, ◌∙◌, ap, length, arith, get_or, cond, ◌&&◌, nat_lt}
-use Rattle.std.specs.Prelude.{is_some, is_none}
+use Rattle.std.proofs.Common.{◌≡◌, ℕ, ◌<◌, ◌≤◌, Bool, true, false, Option, Some, None, refl, ◌∙◌, length, arith, ◌&&◌, nat_lt}
+use Rattle.std.specs.Prelude.{is_some}
 use Rattle.std.proofs.lemmas.Bool.Decides.{nat_tests}
 use Rattle.sts_code.specs.Program.{Program}
 use Rattle.sts_model.specs.declared.event.End.{End}
 use Rattle.sts_model.specs.declared.record.Task.{Task}
 use Rattle.sts_model.specs.declared.record.Scope.{Scope}
 use Rattle.sts_model.specs.World.{World, task_at, scope_at, no_task, no_scope}
-use Rattle.sts_model.specs.Living.{lives, is_closed, parent, scope_of, completion_of, sub_state}
+use Rattle.sts_model.specs.Living.{lives, is_closed, parent, completion_of, sub_state}
 use Rattle.sts_model.specs.Waiting.{can_step, can_go, stand_at}
 use Rattle.sts_laws.specs.Stays.{NothingIsLost, KeepsBorn, EndsStay, KeepsEnd, ClosedStays, KeepsMarks, CompletionsGrow, Completes, StatesStay, NothingStarts, CancelledStartsNothing}
-use Rattle.sts_laws.specs.Runs.{CompletionsAreEnds, ClosedIsEmpty, RootEndsLast}
-use Rattle.sts_laws.specs.Scopes.{CancelledHasCause, LeftOutIsCancelled, JoinedIsSettled, IsHeldBy, OwnersHold, IsEntered, EntriesAreOpen}
+use Rattle.sts_laws.specs.Runs.{CompletionsAreEnds, ClosedIsEmpty}
+use Rattle.sts_laws.specs.Scopes.{CancelledHasCause, LeftOutIsCancelled, JoinedIsSettled, OwnersHold, EntriesAreOpen}
 use Rattle.sts_laws.proofs.Lists.{past, within}
-use Rattle.sts_laws.proofs.Later.{Later, LaterTask, LaterScope}
+use Rattle.sts_laws.proofs.Later.{Later}
 use Rattle.sts_laws.proofs.Told.{completion-front, is_told}
-use Rattle.sts_laws.proofs.Events.{Right, Next, ever, always}
+use Rattle.sts_laws.proofs.Events.{Right, ever, always}
 
 pub nothing_is_lost : NothingIsLost
 nothing_is_lost = always (λ p w v. KeepsBorn w v) (λ p w v h. let l = h.later in record { tasks = l.tasks; scopes = l.scopes; task = λ t less. (l.task t less).same; scope = λ s less. (l.scope s less).same })

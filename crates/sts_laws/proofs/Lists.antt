@@ -1,5 +1,5 @@
 -- Lists of tasks and scopes: what holds of each element after a write or with one more.
-use Rattle.std.proofs.Common.{◌≡◌, ℕ, zero, suc, ◌+◌, ◌<◌, ◌≤◌, List, [], ◌∷◌, ◌++◌, Bool, true, false, refl, sym, ◌∙◌, ap, length, arith, get_or, set, map, cond, ◌&&◌, ◌||◌, length-append}
+use Rattle.std.proofs.Common.{◌≡◌, ℕ, zero, suc, ◌<◌, ◌≤◌, List, [], ◌∷◌, ◌++◌, Bool, true, false, refl, ap, length, arith, get_or, set, ◌&&◌, ◌||◌}
 use Rattle.std.specs.List.{list_any}
 
 -- what holds of the new element and of the old ones

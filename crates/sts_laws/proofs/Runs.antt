@@ -1,12 +1,12 @@
 -- Runs, event by event.
-use Rattle.std.proofs.Common.{◌≡◌, ℕ, ◌+◌, ◌≤◌, List, [], ◌∷◌, ◌++◌, Bool, true, false, refl, sym, ◌∙◌, ap, arith, cond, fold, ◌&&◌, add_assoc}
+use Rattle.std.proofs.Common.{◌≡◌, ℕ, ◌+◌, ◌≤◌, List, [], ◌∷◌, ◌++◌, Bool, true, false, refl, ◌∙◌, ap, arith, cond, fold, ◌&&◌}
 use Rattle.std.proofs.lemmas.List.Sums.{fold-append}
 use Rattle.sts_code.specs.Program.{Program}
 use Rattle.sts_model.specs.declared.event.Event.{Event}
 use Rattle.sts_model.specs.declared.event.Fault.{Fault}
-use Rattle.sts_model.specs.World.{World, State, Running, Faulted, opening}
+use Rattle.sts_model.specs.World.{State, Faulted, opening}
 use Rattle.sts_model.specs.Run.{apply, after, counts, is_step, steps_in, taken, taken_from}
-use Rattle.sts_laws.specs.Stays.{FaultsStay, Counts, StepsAreCounted}
+use Rattle.sts_laws.specs.Stays.{FaultsStay, StepsAreCounted}
 
 -- events one after another
 pub after-append : (p : Program) (before later : List Event) → after p (before ++ later) ≡ fold (apply p) (after p before) later

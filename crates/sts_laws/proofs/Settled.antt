@@ -1,5 +1,5 @@
 -- What is settled: where `join` had an outcome, and which subtasks were started.
-use Rattle.std.proofs.Common.{◌⊎◌, inl, inr, ◌≡◌, ℕ, ◌<◌, List, [], ◌∷◌, ◌++◌, Bool, true, false, Option, Some, None, refl, sym, ◌∙◌, ap, length, arith, get_or, set, not}
+use Rattle.std.proofs.Common.{◌⊎◌, inl, inr, ◌≡◌, ℕ, Bool, true, false, Option, Some, refl, sym, ◌∙◌, arith, not}
 use Rattle.sts_code.specs.Program.{Program}
 use Rattle.sts_code.specs.declared.instr.Joiner.{Joiner}
 use Rattle.sts_model.specs.declared.event.Phase.{Phase}
@@ -11,12 +11,11 @@ use Rattle.sts_model.specs.Living.{lives, any_lives}
 use Rattle.sts_model.specs.Misuse.{is_joined, is_opened}
 use Rattle.sts_model.specs.Effect.{open_scope, fork_task, subtask_of}
 use Rattle.sts_laws.specs.Stays.{KeepsMarks}
-use Rattle.sts_laws.specs.Scopes.{HasCause}
 use Rattle.sts_laws.proofs.Lists.{at_set, at_more, past}
 use Rattle.sts_laws.proofs.Later.{LaterTask, later_task-refl}
 use Rattle.sts_laws.proofs.Kept.{Kept, dead_later}
 use Rattle.sts_laws.proofs.Effects.{dead_in}
-use Rattle.sts_laws.proofs.Causes.{AllCaused, AllFollow, Follows, follow-open}
+use Rattle.sts_laws.proofs.Causes.{AllCaused, AllFollow, follow-open}
 use Rattle.sts_laws.proofs.Births.{more_tasks, new_scope, opener, still-forker}
 
 pub record Settled (w : World) : Type 0 where

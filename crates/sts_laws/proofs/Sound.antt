@@ -1,12 +1,10 @@
 -- What holds of every state of every run: who owns what, which scopes stand, who lives.
-use Rattle.std.proofs.Common.{◌≡◌, ℕ, zero, suc, ◌+◌, ◌<◌, ◌≤◌, List, [], ◌∷◌, Bool, true, false, Option, Some, None, refl, sym, ◌∙◌, ap, length, arith, get_or, cond, ◌&&◌, subst}
+use Rattle.std.proofs.Common.{◌≡◌, ℕ, ◌<◌, List, Bool, true, false, Some, None, refl, sym, ◌∙◌, length, get_or}
 use Rattle.sts_model.specs.declared.record.Slot.TheVariants.{Own}
-use Rattle.sts_model.specs.declared.record.Task.{Task}
 use Rattle.sts_model.specs.declared.record.Scope.{Scope}
-use Rattle.sts_model.specs.World.{World, task_at, scope_at, no_task, no_scope}
+use Rattle.sts_model.specs.World.{World, task_at, scope_at, no_scope}
 use Rattle.sts_model.specs.Living.{lives, is_closed}
 use Rattle.sts_model.specs.Misuse.{slot}
-use Rattle.sts_laws.specs.Runs.{IsTold}
 use Rattle.sts_laws.proofs.Kept.{Kept, Holds, dead_later}
 
 -- a scope was born, and this task owns it

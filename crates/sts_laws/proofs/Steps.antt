@@ -1,26 +1,23 @@
 -- The root ends last, and the living task that was born last never waits.
-use Rattle.std.proofs.Common.{◌≡◌, ℕ, zero, suc, ◌<◌, ◌≤◌, Bool, true, false, Option, Some, None, refl, sym, ◌∙◌, ap, length, arith, get_or, cond, ◌&&◌, ◌||◌, not, nat_eq}
+use Rattle.std.proofs.Common.{◌≡◌, ℕ, zero, suc, ◌<◌, ◌≤◌, Bool, true, false, Option, Some, None, refl, ap, length, arith, cond, ◌||◌, not, nat_eq}
 use Rattle.std.proofs.lemmas.Bool.Decides.{nat_tests}
 use Rattle.sts_code.specs.Program.{Program}
 use Rattle.sts_code.specs.declared.instr.Instr.{Instr}
 use Rattle.sts_code.specs.declared.instr.Instr.TheVariants.{Join, Close}
 use Rattle.sts_model.specs.declared.event.End.{End}
 use Rattle.sts_model.specs.declared.event.Fault.{Fault}
-use Rattle.sts_model.specs.declared.event.Stand.{Stand}
-use Rattle.sts_model.specs.declared.event.Stand.TheVariants.{Free, AtJoin, AtClose}
+use Rattle.sts_model.specs.declared.event.Stand.TheVariants.{Free, AtClose}
 use Rattle.sts_model.specs.declared.record.Slot.{Slot}
 use Rattle.sts_model.specs.declared.record.Slot.TheVariants.{Empty, Own, Lent, Sub}
-use Rattle.sts_model.specs.declared.record.Task.{Task}
 use Rattle.sts_model.specs.World.{World, task_at, scope_at, no_task, instr_at}
 use Rattle.sts_model.specs.Living.{lives, any_lives, is_closed}
 use Rattle.sts_model.specs.Misuse.{slot, is_closing, misuse}
 use Rattle.sts_model.specs.Waiting.{stands_at_join, stands_at_close, stand_at_instr, stand_at, can_go, can_step}
 use Rattle.sts_laws.specs.Runs.{IsLast, GoesOn, RootEndsLast, SomeTaskSteps}
 use Rattle.sts_laws.proofs.Lists.{past, all_true}
-use Rattle.sts_laws.proofs.Kept.{Holds}
 use Rattle.sts_laws.proofs.Sound.{Sound, Owner}
 use Rattle.sts_laws.proofs.Effects.{alive_in}
-use Rattle.sts_laws.proofs.Events.{Right, ever}
+use Rattle.sts_laws.proofs.Events.{ever}
 use Rattle.sts_laws.proofs.Laws.{ended_is_dead}
 
 -- ---- the root

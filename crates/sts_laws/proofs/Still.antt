@@ -1,21 +1,19 @@
 -- What every effect keeps by which no task is born or ends and no scope opens.
-use Rattle.std.proofs.Common.{◌≡◌, ℕ, List, Bool, true, false, Option, Some, None, refl, sym, ◌∙◌, ap, get_or, set, cond}
-use Rattle.sts_model.specs.declared.event.End.{End}
+use Rattle.std.proofs.Common.{◌≡◌, ℕ, Bool, true, false, Some, refl, ◌∙◌, cond}
 use Rattle.sts_model.specs.declared.event.Phase.{Phase}
 use Rattle.sts_model.specs.declared.record.Slot.TheVariants.{Own}
 use Rattle.sts_model.specs.declared.record.Frame.{Frame}
 use Rattle.sts_model.specs.declared.record.Task.{Task}
 use Rattle.sts_model.specs.declared.record.Scope.{Scope}
-use Rattle.sts_model.specs.declared.record.Completion.{Completion}
 use Rattle.sts_model.specs.World.{World, task_at, scope_at, no_task, no_scope, with_task, with_scope, with_frame}
 use Rattle.std.specs.List.{list_any}
 use Rattle.sts_model.specs.Living.{lives, is_closed}
-use Rattle.sts_model.specs.Cancelling.{raised, marked, cancel}
+use Rattle.sts_model.specs.Cancelling.{marked, cancel}
 use Rattle.sts_model.specs.Misuse.{slot, is_entry_of}
 use Rattle.sts_model.specs.Effect.{with_phase}
 use Rattle.sts_laws.proofs.Lists.{at_set}
-use Rattle.sts_laws.proofs.Later.{LaterTask, LaterScope, completes-refl, same_scope-refl}
-use Rattle.sts_laws.proofs.Kept.{Kept, Holds, kept-refl, kept-trans, kept-task, kept-scope, kept-cancel, at_raised}
+use Rattle.sts_laws.proofs.Later.{LaterScope, completes-refl}
+use Rattle.sts_laws.proofs.Kept.{Kept, kept-refl, kept-trans, kept-task, kept-scope, kept-cancel, at_raised}
 
 -- besides what is kept, no task ends and nobody is told
 pub record Still (w v : World) : Type 0 where

@@ -1,5 +1,5 @@
 -- Completions: of subtasks that ended so, each once, and of all of them while the scope isn't cancelled.
-use Rattle.std.proofs.Common.{◌⊎◌, inl, inr, ◌≡◌, ◌≢◌, ℕ, zero, suc, ◌+◌, ◌<◌, ◌≤◌, List, [], ◌∷◌, ◌++◌, Bool, true, false, Option, Some, None, refl, sym, ◌∙◌, ap, length, arith, get_or, set, cond, nat_eq, length-set, get_or-set_same}
+use Rattle.std.proofs.Common.{◌⊎◌, inl, inr, ◌≡◌, ℕ, ◌+◌, ◌<◌, ◌≤◌, List, [], ◌∷◌, ◌++◌, Bool, true, false, Option, Some, None, refl, sym, ◌∙◌, length, arith, get_or, set, cond, get_or-set_same}
 use Rattle.std.specs.Prelude.{◌==◌, find, option_map, count_by, is_some}
 use Rattle.std.proofs.lemmas.Bool.Decides.{nat_tests}
 use Rattle.std.proofs.lemmas.List.Sums.{sum_by-cons, sum_by-append}
@@ -13,10 +13,9 @@ use Rattle.sts_model.specs.Local.{steps}
 use Rattle.sts_model.specs.Living.{lives, completion_of}
 use Rattle.sts_code.specs.Program.{Program}
 use Rattle.sts_code.specs.declared.instr.Joiner.{Joiner}
-use Rattle.sts_model.specs.Effect.{open_scope, fork_task, subtask_of, told, decide, complete, tell, ended, end_task}
+use Rattle.sts_model.specs.Effect.{open_scope, fork_task, subtask_of, told, decide, tell, ended, end_task}
 use Rattle.sts_laws.specs.Runs.{IsTold}
 use Rattle.sts_laws.proofs.Lists.{at_set, at_put, at_more, within}
-use Rattle.sts_laws.proofs.Kept.{open_before}
 use Rattle.sts_laws.proofs.Still.{Still}
 use Rattle.sts_laws.proofs.Effects.{endless, still-decide}
 use Rattle.sts_laws.proofs.Sound.{Sound}

@@ -1,5 +1,5 @@
 -- Why a scope is cancelled, who holds it and what is settled in it, in every state of every run (this project's own).
-use Rattle.std.specs.Prelude.{◌≡◌, ℕ, ◌<◌, ◌≤◌, count_by, List, [], length, Bool, true, false, Option, Some, None}
+use Rattle.std.specs.Prelude.{◌≡◌, ℕ, ◌<◌, ◌≤◌, count_by, [], length, Bool, true, false, Some, None}
 use Rattle.std.specs.List.{list_any}
 use Rattle.sts_model.specs.declared.event.Phase.{Phase}
 use Rattle.sts_model.specs.declared.event.Phase.TheVariants.{Closing, Closed}

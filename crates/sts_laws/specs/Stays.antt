@@ -1,5 +1,5 @@
 -- What no event undoes: laws over every run, a state and any later one (this project's own).
-use Rattle.std.specs.Prelude.{◌≡◌, ℕ, ◌+◌, ◌<◌, ◌≤◌, List, [], ◌∷◌, ◌++◌, length, true, false, Option, Some, ◌&&◌}
+use Rattle.std.specs.Prelude.{◌≡◌, ℕ, ◌+◌, ◌<◌, ◌≤◌, List, [], ◌∷◌, ◌++◌, length, true, false, Some, ◌&&◌}
 use Rattle.sts_code.specs.Program.{Program}
 use Rattle.sts_model.specs.declared.event.Event.{Event}
 use Rattle.sts_model.specs.declared.event.End.{End}
@@ -10,7 +10,7 @@ use Rattle.sts_model.specs.declared.record.Completion.{Completion}
 use Rattle.sts_model.specs.World.{World, State, Running, Faulted, task_at, scope_at}
 use Rattle.sts_model.specs.Living.{is_closed, sub_state}
 use Rattle.sts_model.specs.Waiting.{can_step}
-use Rattle.sts_model.specs.Run.{after, counts, is_step, steps_in, taken}
+use Rattle.sts_model.specs.Run.{after, counts, is_step, taken}
 
 -- a fault stays
 abbrev pub FaultsStay : Type 0
