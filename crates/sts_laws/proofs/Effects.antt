@@ -1,5 +1,5 @@
 -- What each effect keeps, but those of `open` and `fork`.
-use Rattle.std.proofs.Common.{◌≡◌, ℕ, ◌<◌, ◌≤◌, subst, List, [], ◌∷◌, Bool, true, false, Option, Some, None, refl, sym, ◌∙◌, ap, length, cond, ◌||◌, not, unwrap_or, arith, get_or-set_same}
+use Rattle.std.proofs.Common.{◌&&◌, ◌≡◌, ℕ, ◌<◌, ◌≤◌, subst, List, [], ◌∷◌, Bool, true, false, Option, Some, None, refl, sym, ◌∙◌, ap, length, cond, ◌||◌, not, unwrap_or, arith, get_or-set_same}
 use Rattle.std.proofs.lemmas.Bool.Decides.{nat_tests}
 use Rattle.std.specs.List.{list_any}
 use Rattle.std.specs.Prelude.{◌==◌, nat_lt, is_none}
@@ -24,8 +24,9 @@ use Rattle.sts_model.specs.Cancelling.{marked, cancel}
 use Rattle.sts_model.specs.Misuse.{slot, can_join, is_entry_of, innermost, IsFine}
 use Rattle.sts_model.specs.Effect.{effect, named, with_phase, joined, join_verdict, join_scope, closed, close_scope, told, decide, tell, ended, end_task}
 use Rattle.sts_model.specs.Outside.{interrupt, can_expire, expire}
+use Rattle.sts_laws.specs.Stays.{stage}
 use Rattle.sts_laws.proofs.Lists.{at_set, found, none_found, both, all_true, neither}
-use Rattle.sts_laws.proofs.Later.{completes-refl}
+use Rattle.sts_laws.proofs.Later.{moves_on-same, completes-refl}
 use Rattle.sts_laws.proofs.Kept.{Kept, kept-refl, kept-trans, kept-task, kept-scope, kept-cond, at_raised}
 use Rattle.sts_laws.proofs.Still.{Still, Fits, still-refl, still-trans, still-cond, still-task, still-frame, still-scope, still-phase, still-cancel}
 use Rattle.sts_laws.proofs.Frames.{fits-refl, fits-local, fits-bind, fits-unbind, fits-close, owns-forget, own_slot, at_own-is}
@@ -40,29 +41,53 @@ open_at_join Joined e = cc
 open_at_join Closing e = cc
 open_at_join Closed e = cc
 
--- a phase of a scope that isn't closed, to one that isn't
-still-open_phase : (w : World) (s : ℕ) (phase : Phase) → is_closed (scope_at w s).phase ≡ false → is_closed phase ≡ false → Still w (with_phase w s phase)
-still-open_phase w s phase before after = still-phase w s phase (λ e. cc) (λ e h. cc)
+early : (phase : Phase) → not (can_join phase) ≡ false → stage phase ≤ 1
+early Opened e = omega arith
+early Attempted e = omega arith
+early Joined e = cc
+early Closing e = cc
+early Closed e = cc
 
-pub still-joined : (w : World) (t s : ℕ) (f : Frame) → is_closed (scope_at w s).phase ≡ false → Fits w (task_at w t).frame f → Still w (joined w t s f)
+not_closed : (phase : Phase) → is_closed phase ≡ false → stage phase ≤ 3
+not_closed Opened e = omega arith
+not_closed Attempted e = omega arith
+not_closed Joined e = omega arith
+not_closed Closing e = omega arith
+not_closed Closed e = cc
+
+at_most_closed : (phase : Phase) → stage phase ≤ 4
+at_most_closed Opened = omega arith
+at_most_closed Attempted = omega arith
+at_most_closed Joined = omega arith
+at_most_closed Closing = omega arith
+at_most_closed Closed = omega arith
+
+-- a phase of a scope that may be joined, to one that isn't Closed
+still-open_phase : (w : World) (s : ℕ) (phase : Phase) → not (can_join (scope_at w s).phase) ≡ false → 1 ≤ stage phase → is_closed phase ≡ false → Still w (with_phase w s phase)
+still-open_phase w s phase before next after =
+    let first = early (scope_at w s).phase before in
+    let open_before = open_at_join (scope_at w s).phase before in
+    still-phase w s phase (omega (arith, first, next)) (λ e. cc) (λ e h. cc)
+
+pub still-joined : (w : World) (t s : ℕ) (f : Frame) → not (can_join (scope_at w s).phase) ≡ false → Fits w (task_at w t).frame f → Still w (joined w t s f)
 still-joined w t s f before fits =
-    still-trans w (with_phase w s Joined) _ (still-open_phase w s Joined before refl)
+    still-trans w (with_phase w s Joined) _ (still-open_phase w s Joined before (omega arith) refl)
     (still-frame (with_phase w s Joined) t f (record { own = fits.own; entries = λ r still. fits.entries r (reopened r still) }))
   where
     reopened : (r : ℕ) → is_closed (scope_at (with_phase w s Joined) r).phase ≡ false → is_closed (scope_at w r).phase ≡ false
-    reopened r = at_set (λ (scope : Scope). is_closed scope.phase ≡ false → is_closed (scope_at w r).phase ≡ false) w.scopes s r (record (scope_at w s) { phase = Joined }) no_scope (λ e h. rw e before) (λ h. h)
+    reopened r = at_set (λ (scope : Scope). is_closed scope.phase ≡ false → is_closed (scope_at w r).phase ≡ false) w.scopes s r (record (scope_at w s) { phase = Joined }) no_scope (λ e h. rw e (open_at_join (scope_at w s).phase before)) (λ h. h)
 
-still-verdict : (v : Verdict) (w : World) (t s : ℕ) (f : Frame) (failed : ℕ) → is_closed (scope_at w s).phase ≡ false → Fits w (task_at w t).frame f → Still w (join_verdict v w t s f failed)
+still-verdict : (v : Verdict) (w : World) (t s : ℕ) (f : Frame) (failed : ℕ) → not (can_join (scope_at w s).phase) ≡ false → Fits w (task_at w t).frame f → Still w (join_verdict v w t s f failed)
 still-verdict (verdict.Ok None) w t s f failed before fits = still-joined w t s (steps f 0 []) before (record { own = fits.own; entries = fits.entries })
 still-verdict (verdict.Ok (Some x)) w t s f failed before fits = still-joined w t s (steps f 0 (x ∷ [])) before (record { own = fits.own; entries = fits.entries })
 still-verdict (verdict.Failed c) w t s f failed before fits = still-joined w t s (goes f failed 0 (c ∷ [])) before (record { own = fits.own; entries = fits.entries })
 
-still-interrupted : (w : World) (t s to : ℕ) → is_closed (scope_at w s).phase ≡ false → Still w (with_task (with_phase w s Attempted) t (record (task_at w t) { frame = goes (task_at w t).frame to 0 []; flag = false }))
+still-interrupted : (w : World) (t s to : ℕ) → not (can_join (scope_at w s).phase) ≡ false → Still w (with_task (with_phase w s Attempted) t (record (task_at w t) { frame = goes (task_at w t).frame to 0 []; flag = false }))
 still-interrupted w t s to before =
-    still-trans w (with_phase w s Attempted) _ (still-open_phase w s Attempted before refl)
+    still-trans w (with_phase w s Attempted) _ (still-open_phase w s Attempted before (omega arith) refl)
     (still-task (with_phase w s Attempted) t (goes (task_at w t).frame to 0 []) false (record { own = λ i r e. e; entries = λ r still e. e }))
 
-still-join : (w : World) (t s failed timeout interrupted : ℕ) → is_closed (scope_at w s).phase ≡ false → Still w (join_scope w t (task_at w t).frame s failed timeout interrupted)
+still-join : (w : World) (t s failed timeout interrupted : ℕ) → not (can_join (scope_at w s).phase) ≡ false → Still w (join_scope w t (task_at w t).frame s failed timeout interrupted)
 unfolding join_scope
 still-join w t s failed timeout interrupted before =
     let f : Frame = (task_at w t).frame in
@@ -111,9 +136,13 @@ frame-cancel w s t = by (scope_at w s).cancelled
 
 still-closing : (w : World) (s : ℕ) → Sound w → any_lives w s ≡ true → Still w (with_phase w s Closing)
 still-closing w s o some =
-    still-phase w s Closing
+    still-phase w s Closing (closing_next (is_closed (scope_at w s).phase) refl)
     (λ closed. let h = alive_in w s some in let dead = o.empty s h.0 closed h.1 in cc)
     (λ e h. cc)
+  where
+    closing_next : (b : Bool) → is_closed (scope_at w s).phase ≡ b → stage (scope_at w s).phase ≤ 3
+    closing_next false e = not_closed (scope_at w s).phase e
+    closing_next true closed = let h = alive_in w s some in let dead = o.empty s h.0 closed h.1 in cc
 
 still-closed : (w v : World) (t s : ℕ) (f : Frame) → s < length v.scopes → any_lives v s ≡ false → (task_at v t).frame ≡ f → not (innermost (is_entry_of s) f.entries) ≡ false → Still v (closed v t f s)
 still-closed w v t s f born none same order =
@@ -121,7 +150,7 @@ still-closed w v t s f born none same order =
     let now : scope_at (with_phase v s Closed) s ≡ x = get_or-set_same v.scopes s x no_scope born in
     let shut : is_closed (scope_at (with_phase v s Closed) s).phase ≡ true = rw now refl in
     still-trans v (with_phase v s Closed) _
-    (still-phase v s Closed (λ e. refl) (λ before after u inside. dead_in v s u none inside))
+    (still-phase v s Closed (at_most_closed (scope_at v s).phase) (λ e. refl) (λ before after u inside. dead_in v s u none inside))
     (still-frame (with_phase v s Closed) t _ (rw same (fits-close v (with_phase v s Closed) f s shut order)))
 
 still-close : (w : World) (t s : ℕ) → Sound w → s < length w.scopes → not (innermost (is_entry_of s) (task_at w t).frame.entries) ≡ false → Still w (close_scope w t (task_at w t).frame s)
@@ -161,6 +190,7 @@ kept-told w t s end uncancelled =
     (record {
       same = record { owner = refl; joiner = refl; timed = refl; environment = refl };
       marks = record { closed = λ e. e; cancelled = λ e. e; expired = λ e. e };
+      moves = moves_on-same (scope_at w s) (told (scope_at w s) t end) refl refl;
       completions = record { grow = (record { task = t; end = end } ∷ [], refl); stop = λ e. cc };
     })
     (λ before after. cc)
@@ -189,6 +219,9 @@ still-interrupt w t =
     (λ e. still-task w t (task_at w t).frame true (fits-refl w (task_at w t).frame))
     (λ e. still-refl w)
 
+timely : (scope : Scope) → can_expire scope ≡ true → can_join scope.phase ≡ true
+timely scope e = (both (scope.timed && not scope.expired) (can_join scope.phase) e).1
+
 pub still-expire : (w : World) (s : ℕ) → Still w (expire w s)
 still-expire w s =
     let x : Scope = record (scope_at w s) { expired = true } in
@@ -199,6 +232,7 @@ still-expire w s =
     (record {
       same = record { owner = refl; joiner = refl; timed = refl; environment = refl };
       marks = record { closed = λ h. h; cancelled = λ h. h; expired = λ h. refl };
+      moves = record { forward = omega arith; timely = λ h. let can = timely (scope_at w s) e in cc };
       completions = record { grow = c.grow; stop = λ h. refl };
     })
     refl
@@ -232,7 +266,7 @@ still-effect p w t (Join x failed timeout interrupted) o fine e =
     let f : Frame = (task_at w t).frame in
     let mine : slot f x ≡ slots.Own (named (slot f x)) = own_slot (slot f x) (first_no _ _ (first_no _ _ fine.slots)) fine.own in
     let legal : not (can_join (scope_at w (named (slot f x))).phase) ≡ false = sym (at_own-is w (slot f x) (λ n scope. not (can_join scope.phase)) mine) ∙ fine.legal in
-    still-join w t (named (slot f x)) (unwrap_or failed 0) (unwrap_or timeout 0) interrupted (open_at_join (scope_at w (named (slot f x))).phase legal)
+    still-join w t (named (slot f x)) (unwrap_or failed 0) (unwrap_or timeout 0) interrupted legal
 still-effect p w t (Close x) o fine e =
     let f : Frame = (task_at w t).frame in
     let mine : slot f x ≡ slots.Own (named (slot f x)) = own_slot (slot f x) (first_no _ _ (first_no _ _ fine.slots)) fine.own in

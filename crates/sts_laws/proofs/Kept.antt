@@ -12,7 +12,7 @@ use Rattle.sts_model.specs.Cancelling.{raise, raised, marked, cancel}
 use Rattle.sts_model.specs.Misuse.{slot, is_entry_of}
 use Rattle.sts_laws.specs.Stays.{KeepsMarks}
 use Rattle.sts_laws.proofs.Lists.{at_set}
-use Rattle.sts_laws.proofs.Later.{LaterTask, LaterScope, Later, later_task-refl, later_task-trans, later_scope-refl, later_scope-trans, completes-refl, none_fresh}
+use Rattle.sts_laws.proofs.Later.{LaterTask, LaterScope, Later, later_task-refl, later_task-trans, later_scope-refl, later_scope-trans, completes-refl, moves_on-same, none_fresh}
 
 -- the task lives, and the scope is an entry of its frame
 pub record Holds (task : Task) (s : ℕ) : Type 0 where
@@ -141,7 +141,7 @@ kept-cancel w s =
     kept-cond w (scope_at w s).cancelled w (marked w s) (λ e. kept-refl w)
     (λ e. kept-trans w (record w { tasks = raised s w.tasks }) (marked w s) (kept-raised w s)
     (kept-scope (record w { tasks = raised s w.tasks }) s (record (scope_at w s) { cancelled = true })
-    (record { same = record { owner = refl; joiner = refl; timed = refl; environment = refl }; marks = record { closed = λ h. h; cancelled = λ h. refl; expired = λ h. h }; completions = let c = completes-refl (scope_at w s) in record { grow = c.grow; stop = λ h. refl } })
+    (record { same = record { owner = refl; joiner = refl; timed = refl; environment = refl }; marks = record { closed = λ h. h; cancelled = λ h. refl; expired = λ h. h }; moves = moves_on-same (scope_at w s) (record (scope_at w s) { cancelled = true }) refl refl; completions = let c = completes-refl (scope_at w s) in record { grow = c.grow; stop = λ h. refl } })
     (λ before after. cc)))
 
 -- a later state

@@ -6,7 +6,10 @@ use Rattle.sts_model.specs.declared.event.End.{End}
 use Rattle.sts_model.specs.declared.record.Task.{Task}
 use Rattle.sts_model.specs.declared.record.Scope.{Scope}
 use Rattle.sts_model.specs.World.{World, task_at, scope_at, no_task, no_scope}
-use Rattle.sts_laws.specs.Stays.{IsSameTask, IsSameScope, KeepsMarks, Completes, NothingStarts}
+use Rattle.sts_model.specs.declared.event.Phase.{Phase}
+use Rattle.sts_model.specs.declared.event.Phase.TheVariants.{Opened, Attempted, Joined, Closing, Closed}
+use Rattle.sts_model.specs.Misuse.{can_join}
+use Rattle.sts_laws.specs.Stays.{stage, MovesOn, IsSameTask, IsSameScope, KeepsMarks, Completes, NothingStarts}
 use Rattle.sts_laws.proofs.Lists.{past, within}
 
 -- of one task
@@ -18,6 +21,7 @@ pub record LaterTask (x y : Task) : Type 0 where
 pub record LaterScope (x y : Scope) : Type 0 where
   pub same : IsSameScope x y
   pub marks : KeepsMarks x y
+  pub moves : MovesOn x y
   pub completions : Completes x y
 
 -- of what was born before
@@ -44,8 +48,33 @@ same_scope-refl x = record { owner = refl; joiner = refl; timed = refl; environm
 pub completes-refl : (x : Scope) → Completes x x
 completes-refl x = record { grow = ([], sym (append-nil x.completions)); stop = λ e. refl }
 
+-- of the same phase, and expired or not as before
+pub moves_on-same : (x y : Scope) → y.phase ≡ x.phase → y.expired ≡ x.expired → MovesOn x y
+moves_on-same x y phase expired = record { forward = rw phase (omega arith); timely = λ e. expired }
+
+late_stage : (phase : Phase) → can_join phase ≡ false → 2 ≤ stage phase
+late_stage Opened e = cc
+late_stage Attempted e = cc
+late_stage Joined e = omega arith
+late_stage Closing e = omega arith
+late_stage Closed e = omega arith
+
+stage_late : (phase : Phase) → 2 ≤ stage phase → can_join phase ≡ false
+stage_late Opened e = absurd (omega arith)
+stage_late Attempted e = absurd (omega arith)
+stage_late Joined e = refl
+stage_late Closing e = refl
+stage_late Closed e = refl
+
+moves_on-trans : (x y z : Scope) → MovesOn x y → MovesOn y z → MovesOn x z
+moves_on-trans x y z h k =
+    record {
+      forward = let a = h.forward in let b = k.forward in omega (arith, a, b);
+      timely = λ e. let a = late_stage x.phase e in let b = h.forward in k.timely (stage_late y.phase (omega (arith, a, b))) ∙ h.timely e;
+    }
+
 pub later_scope-refl : (x : Scope) → LaterScope x x
-later_scope-refl x = record { same = same_scope-refl x; marks = record { closed = λ e. e; cancelled = λ e. e; expired = λ e. e }; completions = completes-refl x }
+later_scope-refl x = record { same = same_scope-refl x; marks = record { closed = λ e. e; cancelled = λ e. e; expired = λ e. e }; moves = moves_on-same x x refl refl; completions = completes-refl x }
 
 completes-trans : (x y z : Scope) → Completes x y → KeepsMarks x y → Completes y z → Completes x z
 completes-trans x y z h m k =
@@ -70,6 +99,7 @@ later_scope-trans x y z h k =
             cancelled = λ e. k.marks.cancelled (h.marks.cancelled e);
             expired = λ e. k.marks.expired (h.marks.expired e);
           };
+      moves = moves_on-trans x y z h.moves k.moves;
       completions = completes-trans x y z h.completions h.marks k.completions;
     }
 

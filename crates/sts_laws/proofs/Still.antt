@@ -1,5 +1,5 @@
 -- What every effect keeps by which no task is born or ends and no scope opens.
-use Rattle.std.proofs.Common.{◌≡◌, ℕ, Bool, true, false, Some, refl, ◌∙◌, cond}
+use Rattle.std.proofs.Common.{◌≤◌, ◌≡◌, ℕ, Bool, true, false, Some, refl, ◌∙◌, cond}
 use Rattle.sts_model.specs.declared.event.Phase.{Phase}
 use Rattle.sts_model.specs.declared.record.Slot.TheVariants.{Own}
 use Rattle.sts_model.specs.declared.record.Frame.{Frame}
@@ -11,6 +11,7 @@ use Rattle.sts_model.specs.Living.{lives, is_closed}
 use Rattle.sts_model.specs.Cancelling.{marked, cancel}
 use Rattle.sts_model.specs.Misuse.{slot, is_entry_of}
 use Rattle.sts_model.specs.Effect.{with_phase}
+use Rattle.sts_laws.specs.Stays.{stage}
 use Rattle.sts_laws.proofs.Lists.{at_set}
 use Rattle.sts_laws.proofs.Later.{LaterScope, completes-refl}
 use Rattle.sts_laws.proofs.Kept.{Kept, kept-refl, kept-trans, kept-task, kept-scope, kept-cancel, at_raised}
@@ -68,13 +69,14 @@ still-scope w s x later same emptied =
     }
 
 -- a phase that does not reopen a closed scope, nor close one in which a task lives
-pub still-phase : (w : World) (s : ℕ) (phase : Phase) → (is_closed (scope_at w s).phase ≡ true → is_closed phase ≡ true) → (is_closed (scope_at w s).phase ≡ false → is_closed phase ≡ true → (u : ℕ) → (task_at w u).scope ≡ Some s → lives (task_at w u) ≡ false) → Still w (with_phase w s phase)
-still-phase w s phase closed emptied =
+pub still-phase : (w : World) (s : ℕ) (phase : Phase) → stage (scope_at w s).phase ≤ stage phase → (is_closed (scope_at w s).phase ≡ true → is_closed phase ≡ true) → (is_closed (scope_at w s).phase ≡ false → is_closed phase ≡ true → (u : ℕ) → (task_at w u).scope ≡ Some s → lives (task_at w u) ≡ false) → Still w (with_phase w s phase)
+still-phase w s phase forward closed emptied =
     let c = completes-refl (scope_at w s) in
     still-scope w s (record (scope_at w s) { phase = phase })
     (record {
       same = record { owner = refl; joiner = refl; timed = refl; environment = refl };
       marks = record { closed = closed; cancelled = λ e. e; expired = λ e. e };
+      moves = record { forward = forward; timely = λ e. refl };
       completions = record { grow = c.grow; stop = λ e. refl };
     })
     refl

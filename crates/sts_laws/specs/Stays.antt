@@ -4,11 +4,14 @@ use Rattle.sts_code.specs.Program.{Program}
 use Rattle.sts_model.specs.declared.event.Event.{Event}
 use Rattle.sts_model.specs.declared.event.End.{End}
 use Rattle.sts_model.specs.declared.event.Fault.{Fault}
+use Rattle.sts_model.specs.declared.event.Phase.{Phase}
+use Rattle.sts_model.specs.declared.event.Phase.TheVariants.{Opened, Attempted, Joined, Closing, Closed}
 use Rattle.sts_model.specs.declared.record.Task.{Task}
 use Rattle.sts_model.specs.declared.record.Scope.{Scope}
 use Rattle.sts_model.specs.declared.record.Completion.{Completion}
 use Rattle.sts_model.specs.World.{World, State, Running, Faulted, task_at, scope_at}
 use Rattle.sts_model.specs.Living.{is_closed, sub_state}
+use Rattle.sts_model.specs.Misuse.{can_join}
 use Rattle.sts_model.specs.Waiting.{can_step}
 use Rattle.sts_model.specs.Run.{after, counts, is_step, taken}
 
@@ -65,6 +68,22 @@ pub record KeepsMarks (x y : Scope) : Type 0 where
 
 abbrev pub ClosedStays : Type 0
 ClosedStays = Always (λ p w v. (s : ℕ) → KeepsMarks (scope_at w s) (scope_at v s))
+
+-- how far a scope is
+abbrev pub stage : Phase → ℕ
+stage Opened = 0
+stage Attempted = 1
+stage Joined = 2
+stage Closing = 3
+stage Closed = 4
+
+-- a scope never goes back to an earlier phase, and where `join` had an outcome or the close has begun it doesn't expire any more
+pub record MovesOn (x y : Scope) : Type 0 where
+  pub forward : stage x.phase ≤ stage y.phase
+  pub timely : can_join x.phase ≡ false → y.expired ≡ x.expired
+
+abbrev pub PhasesGoForward : Type 0
+PhasesGoForward = Always (λ p w v. (s : ℕ) → MovesOn (scope_at w s) (scope_at v s))
 
 -- completions only grow: the earlier ones are a front of the later; those of a cancelled scope don't change any more
 pub record Completes (x y : Scope) : Type 0 where

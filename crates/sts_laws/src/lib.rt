@@ -1,7 +1,7 @@
 //! Laws over all event lists of every program.
 #![tactic(auto)]
 
-ghost use Rattle.sts_laws.specs.Stays.{FaultsStay, StepsAreCounted, NothingIsLost, EndsStay, ClosedStays, CompletionsGrow, StatesStay, CancelledStartsNothing};
+ghost use Rattle.sts_laws.specs.Stays.{FaultsStay, StepsAreCounted, NothingIsLost, EndsStay, ClosedStays, PhasesGoForward, CompletionsGrow, StatesStay, CancelledStartsNothing};
 ghost use Rattle.sts_laws.specs.Runs.{CompletionsAreEnds, ClosedIsEmpty, RootEndsLast, SomeTaskSteps};
 ghost use Rattle.sts_laws.specs.Scopes.{CancelledHasCause, LeftOutIsCancelled, JoinedIsSettled, OwnersHold, EntriesAreOpen};
 
@@ -27,6 +27,12 @@ pub fn ends_stay()
 #[tactic(auto, using(crate::proofs::Laws::closed_stays))]
 pub fn closed_stays()
     ensures { ClosedStays }
+{}
+
+/// A scope never goes back to an earlier phase, and where `join` had an outcome or the close has begun it doesn't expire any more.
+#[tactic(auto, using(crate::proofs::Laws::phases_go_forward))]
+pub fn phases_go_forward()
+    ensures { PhasesGoForward }
 {}
 
 /// Completions only grow, and no more once their scope is cancelled.
