@@ -9,7 +9,7 @@ use Rattle.sts_model.specs.declared.record.Slot.TheVariants.{Empty}
 use Rattle.sts_model.specs.declared.record.Frame.{Frame}
 use Rattle.sts_model.specs.declared.record.Task.{Task}
 use Rattle.sts_model.specs.declared.record.Scope.{Scope}
-use Rattle.sts_model.specs.declared.event.Phase.TheVariants.{Opened}
+use Rattle.sts_model.specs.declared.event.Phase.TheVariants.{Closed}
 use Rattle.sts_model.specs.declared.event.Fault.{Fault}
 
 pub record World : Type 0 where
@@ -54,14 +54,14 @@ entry_frame function args slot =
 abbrev pub no_task : Task
 no_task = record { frame = entry_frame 0 [] Empty; started = false; flag = false; scope = None; outcome = None }
 
--- what is read where no scope was born
+-- what is read where no scope was born: nothing can be done with it
 abbrev pub no_scope : Scope
 no_scope =
     record {
       owner = 0;
       joiner = AwaitAll;
       timed = false;
-      phase = Opened;
+      phase = Closed;
       cancelled = false;
       expired = false;
       completions = [];
