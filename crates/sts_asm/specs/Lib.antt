@@ -2,5 +2,6 @@ pub mod Fault
 pub mod Marks
 pub mod Operand
 pub mod Line
+pub mod Table
 pub mod Outline
 pub mod Text

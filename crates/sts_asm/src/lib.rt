@@ -2,6 +2,7 @@
 #![tactic(auto)]
 
 mod fault;
+mod laws;
 mod line;
 mod marks;
 mod mnemonic;
@@ -11,4 +12,8 @@ mod resolving;
 mod text;
 
 pub use fault::{AsmError, AsmKind};
+pub use laws::instructions_are_read_by_the_table;
 pub use text::assemble;
+
+#[cfg(test)]
+mod tests;

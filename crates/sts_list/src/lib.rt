@@ -7,3 +7,6 @@ mod targets;
 
 pub use listing::list;
 pub use spelling::spell;
+
+#[cfg(test)]
+mod tests;

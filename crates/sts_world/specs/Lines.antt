@@ -1,0 +1,24 @@
+-- What the kept numbers go by: of each task its scope and whether it lives, of each scope whether it is closed (this project's own).
+use Rattle.std.specs.Prelude.{ℕ, List, map, Bool, Option}
+use Rattle.sts_model.specs.declared.record.Task.{Task}
+use Rattle.sts_model.specs.declared.record.Scope.{Scope}
+use Rattle.sts_model.specs.Living.{lives, is_closed}
+use Rattle.sts_model.specs.World.{World}
+
+pub record Line : Type 0 where
+  pub scope : Option ℕ
+  pub lives : Bool
+
+-- the tasks and the scopes by birth number
+pub record Lines : Type 0 where
+  pub tasks : List Line
+  pub closed : List Bool
+
+abbrev pub line : Task → Line
+line task = record { scope = task.scope; lives = lives task }
+
+abbrev pub is_shut : Scope → Bool
+is_shut scope = is_closed scope.phase
+
+abbrev pub lines : World → Lines
+lines w = record { tasks = map line w.tasks; closed = map is_shut w.scopes }
