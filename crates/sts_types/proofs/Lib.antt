@@ -1,1 +1,1 @@
-pub mod Same
+pub mod Comparing

@@ -3,16 +3,28 @@
 ghost use Rattle.std.specs.Prelude.{◌≡◌, ◌↔◌, IsTrue, length, drop, reverse};
 
 use sts_model::stack::Stack;
-use sts_model::typing::{SlotKind, TypedEntry, TypedLoop, TypedScope};
+use sts_model::typing::{SlotKind, TypedEntry, TypedLoop};
 
 /// A copy, which takes no memory.
-pub(crate) fn copy_of<T: Default + Copy + Drop, const N: usize>(stack: &Stack<T, N>) -> Stack<T, N>
+pub(crate) fn copy_of_loops(stack: &Stack<TypedLoop, 8>) -> Stack<TypedLoop, 8>
     ensures { result ≡ stack.now }
 {
     let mut copy = Stack::new();
     let len = stack.len();
     for i in 0..len {
-        copy.push(stack.get_or(len - 1 - i, T::default()));
+        copy.push(stack.get_or(len - 1 - i, TypedLoop::default()));
+    }
+    copy
+}
+
+/// A copy, which takes no memory.
+pub(crate) fn copy_of_entries(stack: &Stack<TypedEntry, 16>) -> Stack<TypedEntry, 16>
+    ensures { result ≡ stack.now }
+{
+    let mut copy = Stack::new();
+    let len = stack.len();
+    for i in 0..len {
+        copy.push(stack.get_or(len - 1 - i, TypedEntry::default()));
     }
     copy
 }
@@ -21,12 +33,6 @@ pub(crate) fn are_same_loops(a: &Stack<TypedLoop, 8>, b: &Stack<TypedLoop, 8>) -
     ensures { IsTrue result ↔ (a.now ≡ b.now) }
 {
     a.as_slice() == b.as_slice()
-}
-
-fn is_same_scope(a: TypedScope, b: TypedScope) -> bool
-    ensures { IsTrue result ↔ (a ≡ b) }
-{
-    a == b
 }
 
 pub(crate) fn are_same_entries(a: &Stack<TypedEntry, 16>, b: &Stack<TypedEntry, 16>) -> bool

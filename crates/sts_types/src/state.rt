@@ -3,7 +3,7 @@
 ghost use Rattle.std.specs.Prelude.{◌≡◌, ◌↔◌, ◌<◌, ◌≤◌, ◌+◌, ◌∷◌, IsTrue, length, drop, slice_set};
 ghost use Rattle.sts_model.specs.TypeState as def;
 
-use crate::same::{are_same_entries, are_same_loops, are_same_slots, copy_of};
+use crate::same::{are_same_entries, are_same_loops, are_same_slots, copy_of_entries, copy_of_loops};
 use sts_code::program::Program;
 use sts_model::stack::Stack;
 use sts_model::typing::{SlotKind, TypedEntry, TypedLoop};
@@ -37,8 +37,8 @@ impl TypeState {
     {
         TypeState {
             height: self.height,
-            loops: copy_of(&self.loops),
-            entries: copy_of(&self.entries),
+            loops: copy_of_loops(&self.loops),
+            entries: copy_of_entries(&self.entries),
             slots: self.slots,
         }
     }
@@ -55,12 +55,12 @@ impl TypeState {
 }
 
 /// The typestate at the beginning of a function, which has to be one of the program's.
-pub fn entry(program: &Program, function: usize) -> TypeState
+pub fn entry(program: &Program, function: u32) -> TypeState
     requires { function < length program.now.routines }
     ensures { result ≡ def.entry program.now function }
 {
     let mut slots = [SlotKind::Empty; 16];
-    if function + 1 != program.functions().len() {
+    if function as usize + 1 != program.functions().len() {
         slots[0] = SlotKind::Lent;
     }
     TypeState {
