@@ -1,2 +1,4 @@
 pub mod Comparing
+pub mod Counting
 pub mod Matching
+pub mod Nesting

@@ -41,7 +41,7 @@ times_before code k = count_by is_times (take k code)
 abbrev pub nexts_before : List Instr → ℕ → ℕ
 nexts_before code k = count_by is_next (take k code)
 
-abbrev one_if : Bool → ℕ
+abbrev pub one_if : Bool → ℕ
 one_if b = if b then 1 else 0
 
 -- one place more
