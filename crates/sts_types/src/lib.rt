@@ -3,5 +3,7 @@
 
 mod ends;
 mod loops;
+mod operands;
 mod same;
+mod slots;
 pub mod state;
