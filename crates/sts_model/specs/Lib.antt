@@ -4,6 +4,7 @@ pub mod Causes
 pub mod Edges
 pub mod Effect
 pub mod Environment
+pub mod Fits
 pub mod Flow
 pub mod Joining
 pub mod Live

@@ -1,7 +1,7 @@
 -- Finding the match of a `times` by counting.
-use Rattle.std.proofs.Common.{◌≡◌, ℕ, suc, ◌+◌, ◌-◌, ◌<◌, ◌≤◌, List, length, take, drop, Bool, true, false, Option, Some, None, find, count_by, ◌==◌, cond, refl, sym, ap, ◌∙◌, subst, arith, slice_range, get_or, eqb-true, eq-eqb}
+use Rattle.std.proofs.Common.{◌≡◌, ℕ, suc, ◌+◌, ◌-◌, ◌<◌, ◌≤◌, List, length, take, drop, Bool, true, false, Option, Some, None, find, count_by, ◌==◌, cond, ◌||◌, refl, sym, ap, ◌∙◌, subst, arith, slice_range, get_or, eqb-true, eq-eqb}
 use mir.Val.{bool_byte}
-use Rattle.std.specs.List.{range_with_len}
+use Rattle.std.specs.List.{range_with_len, list_any}
 use Rattle.std.proofs.lemmas.List.{get_or-drop, get_or_default, length-drop}
 use Rattle.std.proofs.lemmas.List.Sums.{count_by_more_yes, count_by_more_no, count_by-le-length}
 use Rattle.sts_code.specs.declared.instr.Instr.{Instr}
@@ -65,3 +65,31 @@ is_no_match code at q times nexts h t n uneven rest =
     by : (b : Bool) → is_balanced (slice_range code at (q + 1)) ≡ b → is_balanced (slice_range code at (q + 1)) ≡ false
     by false e = e
     by true e = let same = eqb-true (count_by is_next (slice_range code at (q + 1))) (count_by is_times (slice_range code at (q + 1))) e in absurd (uneven (t ∙ sym same ∙ sym n))
+
+-- ---- tests of a range of numbers
+
+-- does one of the numbers from q up to n pass?
+unfoldable pub any_from : (ℕ → Bool) → ℕ → ℕ → Bool
+any_from test q n = list_any test (range_with_len q (n - q))
+
+step_any : (test : ℕ → Bool) (q n : ℕ) → q < n → any_from test q n ≡ test q || any_from test (q + 1) n
+unfolding any_from
+step_any test q n h =
+    let one : n - q ≡ suc (n - (q + 1)) = omega arith in
+    ap (λ m. list_any test (range_with_len q m)) one
+
+pub any_next : (test : ℕ → Bool) (q n : ℕ) (b : Bool) → q < n → b ≡ test q → b ≡ false → any_from test (q + 1) n ≡ any_from test q n
+any_next test q n b h e f = sym (step_any test q n h ∙ ap (λ x. x || any_from test (q + 1) n) (sym e ∙ f))
+
+pub any_here : (test : ℕ → Bool) (q n : ℕ) (b : Bool) → q < n → b ≡ test q → b ≡ true → true ≡ any_from test q n
+any_here test q n b h e t = sym (step_any test q n h ∙ ap (λ x. x || any_from test (q + 1) n) (sym e ∙ t))
+
+pub any_end : (test : ℕ → Bool) (q n : ℕ) → n ≤ q → false ≡ any_from test q n
+unfolding any_from
+any_end test q n h =
+    let none : n - q ≡ 0 = omega arith in
+    ap (λ m. list_any test (range_with_len q m)) (sym none)
+
+pub any_all : (test : ℕ → Bool) (n : ℕ) → any_from test 0 n ≡ list_any test (range_with_len 0 n)
+unfolding any_from
+any_all test n = let z : n - 0 ≡ n = omega arith in ap (λ m. list_any test (range_with_len 0 m)) z

@@ -237,12 +237,18 @@ fn is_bound(program: &Program, function: u32, state: &TypeState, key: u8) -> boo
     state.has_binding(key) || needs(program, function, key)
 }
 
-/// Does the child need a key that may be unbound here?
+/// Does the child need this key, which may be unbound here?
+fn lacks(program: &Program, function: u32, child: u32, state: &TypeState, key: u8) -> bool
+    ensures { result ≡ (def.needs program.now child key && not (def.is_bound program.now function state.now key)) }
+{
+    needs(program, child, key) && !is_bound(program, function, state, key)
+}
+
 fn lacks_key(program: &Program, function: u32, child: u32, state: &TypeState) -> bool
     ensures { result ≡ list_any (λ k. def.needs program.now child k && not (def.is_bound program.now function state.now k)) (range_with_len 0 16) }
 {
     for key in 0..16u8 {
-        if needs(program, child, key) && !is_bound(program, function, state, key) {
+        if lacks(program, function, child, state, key) {
             return true;
         }
     }

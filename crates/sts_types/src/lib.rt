@@ -1,8 +1,11 @@
 //! Typestates, the edges of an instruction, and the typing of a function.
 #![tactic(auto)]
 
+mod after;
 mod cause;
 mod ends;
+mod leads;
+mod least;
 mod loops;
 mod operands;
 mod same;

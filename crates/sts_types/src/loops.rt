@@ -1,6 +1,6 @@
 //! Which loops are around a place: looked up in tables where there are any.
 
-ghost use Rattle.std.specs.Prelude.{◌≡◌, ◌≤◌, ◌<◌, ◌+◌, ◌∷◌, ◌==◌, ◌&&◌, length, drop, true, bytes_eq};
+ghost use Rattle.std.specs.Prelude.{◌≡◌, ◌≤◌, ◌<◌, ◌+◌, ◌∷◌, length, drop, bytes_eq, ◌↔◌, IsTrue, Some};
 ghost use Rattle.sts_model.specs.Around as def;
 ghost use Rattle.sts_model.specs.Causes.{closes_loop};
 ghost use Rattle.sts_model.specs.TypeState.{heads};
@@ -72,6 +72,15 @@ impl<'c> CodeLoops<'c> {
         self.code.len() as u32
     }
 
+    /// The place after this one.
+    pub(crate) fn after(&self, place: u32) -> u32
+        requires { place < length self.now }
+        ensures { result ≡ place + 1 }
+    {
+        let _ = &self.code;
+        place + 1
+    }
+
     /// Does a `times` stand there?
     fn has_times(&self, at: u32) -> bool
         ensures value { result ≡ local.is_times (def.instr_at self.now at) }
@@ -139,6 +148,25 @@ impl<'c> CodeLoops<'c> {
             place = at;
         }
         self.head(place).is_none()
+    }
+
+    /// Are the loops around the next place this one and the open ones?
+    pub(crate) fn begins(&self, pc: u32, loops: &Stack<TypedLoop, 8>) -> bool
+        requires { pc < length self.now }
+        ensures { result ≡ bytes_eq (def.around self.now (pc + 1)) (pc ∷ heads loops.now) }
+    {
+        self.begins_at(pc) && self.are_around(pc, loops, 0)
+    }
+
+    /// Is the loop at this place the innermost around the next?
+    fn begins_at(&self, pc: u32) -> bool
+        requires { pc < length self.now }
+        ensures { IsTrue result ↔ (head self.now (pc + 1) ≡ Some pc) }
+    {
+        match self.head(self.after(pc)) {
+            None => false,
+            Some(at) => at == pc,
+        }
     }
 
     /// Is this the match of the innermost open loop?
