@@ -1,7 +1,8 @@
 //! What an instruction makes of a typestate, where no cause holds.
 
-ghost use Rattle.std.specs.Prelude.{◌≡◌, ◌<◌, ◌≤◌, ◌-◌, ◌+◌, ◌∷◌, length, map, false, slice_set, if◌then◌else◌};
-ghost use Rattle.sts_model.specs.Causes as test;
+ghost use Rattle.std.specs.Prelude.{◌≡◌, ◌<◌, ◌≤◌, ◌-◌, ◌+◌, ◌∷◌, length, drop, map, true, slice_set, slice_get, if◌then◌else◌, List, Some};
+ghost use Rattle.sts_types.specs.Room.{HasRoom};
+ghost use Rattle.sts_model.specs.Around as around;
 ghost use Rattle.sts_model.specs.Edges as def;
 ghost use Rattle.sts_model.specs.Misuse as misuse;
 ghost use Rattle.sts_model.specs.TypeState as typed;
@@ -12,7 +13,7 @@ use crate::state::TypeState;
 use sts_code::instr::{Instr, Joiner};
 use sts_code::program::Program;
 use sts_model::stack::Stack;
-use sts_model::typing::{Known, SlotKind, TypedEntry, TypedPhase, TypedScope};
+use sts_model::typing::{Known, SlotKind, TypedEntry, TypedLoop, TypedPhase, TypedScope};
 
 fn is_sub_of(slot: u8, kind: SlotKind) -> bool
     ensures { result ≡ def.is_sub_of slot kind }
@@ -127,7 +128,7 @@ impl TypeState {
 
     /// The operands are popped and pushed.
     pub(crate) fn moved(&self, program: &Program, instr: Instr) -> TypeState
-        requires { test.overflows program.now instr self.now ≡ false }
+        requires { self.now.height - misuse.pops program.now instr + misuse.pushes instr ≤ 32 }
         ensures { result ≡ def.moved program.now instr self.now }
     {
         self.with_height(self.height.saturating_sub(pops(program, instr)) + pushes(instr))
@@ -167,6 +168,150 @@ impl TypeState {
             loops: copy_of_loops(&self.loops),
             entries: entries_with_phase(&self.entries, slot, phase),
             slots: self.slots,
+        }
+    }
+
+    /// A copy after the ok outcome of the `join` of the scope in this slot.
+    fn joined(&self, slot: u8) -> TypeState
+        requires { self.now.height + def.ok_pushes (def.joiner_of (typed.scope_in self.now.entries slot)) ≤ 32 }
+        ensures { result ≡ def.after_ok slot (def.joiner_of (typed.scope_in self.now.entries slot)) self.now }
+    {
+        let joiner = joiner_of(self.scope_in(slot));
+        let mut after = self.with_phase(slot, TypedPhase::Joined);
+        after.height += ok_pushes(joiner);
+        if is_all_success(joiner) {
+            after.slots = succeeded(slot, &self.slots);
+        }
+        after
+    }
+
+    /// A copy after the failed outcome.
+    pub(crate) fn failed(&self, slot: u8) -> TypeState
+        requires { self.now.height < 32 }
+        ensures { result ≡ def.raised 1 (def.with_phase slot TypedPhase.Joined self.now) }
+    {
+        let mut after = self.with_phase(slot, TypedPhase::Joined);
+        after.height += 1;
+        after
+    }
+
+    /// A copy after a `times` at `pc` that makes a turn.
+    fn entered(&self, program: &Program, pc: u32, instr: Instr) -> TypeState
+        requires room { self.now.height - misuse.pops program.now instr + misuse.pushes instr ≤ 32 }
+        requires loops { length self.now.loops < 8 }
+        ensures { result ≡ record (def.moved program.now instr self.now) { loops = record { at = pc; entries = length self.now.entries } ∷ self.now.loops } }
+    {
+        let mut after = self.moved(program, instr);
+        after.loops.push(TypedLoop {
+            at: pc,
+            entries: self.entries.len() as u8,
+        });
+        after
+    }
+
+    /// A copy with a scope opened.
+    fn opened(&self, slot: u8, joiner: Joiner, timed: bool) -> TypeState
+        requires { length self.now.entries < 16 }
+        ensures { result ≡ record self.now { entries = TypedEntry.Scope (record { slot = slot; joiner = joiner; timed = timed; phase = TypedPhase.Opened }) ∷ self.now.entries; slots = slice_set self.now.slots slot SlotKind.Own } }
+    {
+        let mut after = self.copy();
+        after.entries.push(TypedEntry::Scope(TypedScope {
+            slot,
+            joiner,
+            timed,
+            phase: TypedPhase::Opened,
+        }));
+        after.set_slot(slot, SlotKind::Own);
+        after
+    }
+
+    /// A copy after a fork.
+    fn forked(
+        &self,
+        program: &Program,
+        instr: Instr,
+        slot: u8,
+        handle: Option<u8>,
+    ) -> TypeState
+        requires { self.now.height - misuse.pops program.now instr + misuse.pushes instr ≤ 32 }
+        ensures { result ≡ def.with_slot handle (SlotKind.Sub slot Known.Unknown) (def.moved program.now instr self.now) }
+    {
+        let mut after = self.moved(program, instr);
+        if let Some(handle) = handle {
+            after.set_slot(handle, SlotKind::Sub(slot, Known::Unknown));
+        }
+        after
+    }
+
+    /// A copy with the innermost entry, a scope, closed.
+    fn closed(&self, slot: u8) -> TypeState
+        ensures { result ≡ record self.now { entries = drop 1 self.now.entries; slots = def.cleared slot self.now.slots } }
+    {
+        let mut after = self.copy();
+        after.entries.drop_top(1);
+        after.slots = forgotten(slot, &self.slots);
+        after.set_slot(slot, SlotKind::Empty);
+        after
+    }
+
+    /// A copy with a key bound.
+    fn bound(&self, program: &Program, instr: Instr, key: u8) -> TypeState
+        requires room { self.now.height - misuse.pops program.now instr + misuse.pushes instr ≤ 32 }
+        requires entries { length self.now.entries < 16 }
+        ensures { result ≡ record (def.moved program.now instr self.now) { entries = TypedEntry.Binding key ∷ self.now.entries } }
+    {
+        let mut after = self.moved(program, instr);
+        after.entries.push(TypedEntry::Binding(key));
+        after
+    }
+
+    fn with_empty(&self, handle: u8) -> TypeState
+        ensures { result ≡ def.with_slot (Some handle) SlotKind.Empty self.now }
+    {
+        let mut after = self.copy();
+        after.set_slot(handle, SlotKind::Empty);
+        after
+    }
+
+    fn without_loop(&self) -> TypeState
+        ensures { result ≡ record self.now { loops = drop 1 self.now.loops } }
+    {
+        let mut after = self.copy();
+        after.loops.drop_top(1);
+        after
+    }
+
+    fn without_entry(&self) -> TypeState
+        ensures { result ≡ record self.now { entries = drop 1 self.now.entries } }
+    {
+        let mut after = self.copy();
+        after.entries.drop_top(1);
+        after
+    }
+
+    /// The typestate at the next instruction, where that may follow.
+    pub(crate) fn after(&self, program: &Program, pc: u32, instr: Instr) -> TypeState
+        requires falls { around.falls_through instr ≡ true }
+        requires room { HasRoom program.now instr self.now }
+        ensures { (code : List Instr) → slice_get (def.follows program.now code pc instr self.now) 0 ≡ Some (pc + 1, result) }
+    {
+        match instr {
+            Instr::Div(_) => self.popped(1),
+            Instr::Times(_) => self.entered(program, pc, instr),
+            Instr::Next => self.without_loop(),
+            Instr::Open {
+                slot,
+                joiner,
+                timed,
+            } => self.opened(slot, joiner, timed),
+            Instr::Fork { slot, handle, .. } => self.forked(program, instr, slot, handle),
+            Instr::Join { slot, .. } => self.joined(slot),
+            Instr::Close(slot) => self.closed(slot),
+            Instr::Case { handle, .. } => self.with_known(handle, Known::Unknown),
+            Instr::Forget(handle) => self.with_empty(handle),
+            Instr::Bind(key) => self.bound(program, instr, key),
+            Instr::Unbind => self.without_entry(),
+            _ => self.moved(program, instr),
         }
     }
 }
