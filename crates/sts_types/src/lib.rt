@@ -5,6 +5,7 @@ mod after;
 mod cause;
 mod ends;
 mod leads;
+mod follow;
 mod least;
 mod loops;
 mod operands;
