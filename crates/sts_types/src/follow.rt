@@ -8,9 +8,34 @@ ghost use Rattle.sts_types.specs.Room.{HasRoom};
 use crate::loops::CodeLoops;
 use crate::operands::falls_through;
 use crate::state::TypeState;
+use arrayvec::ArrayVec;
 use sts_code::instr::Instr;
 use sts_code::program::Program;
 use sts_model::typing::{Known, TypedPhase};
+use std::marker::Model;
+
+/// The places that follow an instruction, each with its typestate, at most four: contracts see the list of them.
+#[derive(Drop)]
+pub struct Edges {
+    edges: ArrayVec<(u32, TypeState), 4>,
+}
+
+impl Model for Edges {
+    ghost use Rattle.std.specs.Prelude.{ℕ, List};
+    ghost use Rattle.sts_model.specs.TypeState.{TypeState};
+
+    ghost Value = { List (ℕ × TypeState) };
+
+    ghost view = { λ e. e.edges.items };
+}
+
+impl Edges {
+    pub fn as_slice(&self) -> &[(u32, TypeState)]
+        ensures { result.now ≡ self.now }
+    {
+        self.edges.as_slice()
+    }
+}
 
 /// The first edge of an instruction.
 fn first_edge(
@@ -139,3 +164,27 @@ pub(crate) fn edge(
         later_edge(program, loops, pc, instr, state, skip, number - 1)
     }
 }
+
+/// All edges of an instruction.
+pub(crate) fn all_edges(
+    program: &Program,
+    loops: &CodeLoops<'_>,
+    pc: u32,
+    instr: Instr,
+    state: &TypeState,
+    skip: Option<u32>,
+) -> Edges
+    requires inside { pc < length loops.now }
+    requires skip { option_to_list skip ≡ around.skipped_to loops.now pc instr }
+    requires room { HasRoom program.now instr state.now }
+    ensures { result ≡ def.follows program.now loops.now pc instr state.now }
+{
+    let mut edges = ArrayVec::new();
+    for number in 0..4 {
+        if let Some(next) = edge(program, loops, pc, instr, state, skip, number) {
+            edges.push(next);
+        }
+    }
+    Edges { edges }
+}
+

@@ -3,9 +3,10 @@
 
 mod after;
 mod cause;
+pub mod edges;
 mod ends;
 mod leads;
-mod follow;
+pub mod follow;
 mod least;
 mod loops;
 mod operands;

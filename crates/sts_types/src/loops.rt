@@ -29,6 +29,7 @@ impl Model for Tables {
 }
 
 /// The code of a function, with or without its tables: contracts see the code.
+#[derive(Drop)]
 pub(crate) struct CodeLoops<'c> {
     code: &'c [Instr],
     tables: Option<&'c Tables>,

@@ -30,6 +30,18 @@ impl Model for TypeState {
     ghost invariant = { λ s. s.height ≤ 32 };
 }
 
+impl Default for TypeState {
+    /// Nothing is open, and each slot is empty.
+    fn default() -> TypeState {
+        TypeState {
+            height: 0,
+            loops: Stack::new(),
+            entries: Stack::new(),
+            slots: [SlotKind::Empty; 16],
+        }
+    }
+}
+
 impl TypeState {
     /// A copy, which takes no memory.
     pub fn copy(&self) -> TypeState
