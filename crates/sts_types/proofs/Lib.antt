@@ -2,7 +2,10 @@ pub mod Comparing
 pub mod Counting
 pub mod Fitting
 pub mod FollowLemmas
+pub mod Laws
+pub mod Marking
 pub mod Matching
 pub mod Nesting
+pub mod Pass
 pub mod RoomLemmas
 pub mod Short

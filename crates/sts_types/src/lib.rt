@@ -2,6 +2,7 @@
 #![tactic(auto)]
 
 mod after;
+mod arrival;
 mod cause;
 pub mod edges;
 mod ends;
@@ -13,3 +14,4 @@ mod operands;
 mod same;
 mod slots;
 pub mod state;
+mod tables;
