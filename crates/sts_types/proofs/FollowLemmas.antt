@@ -24,7 +24,7 @@ none_past {X} xs n e = by (slice_get_cases xs n).1
 pub take_missing : {X : Type 0} (xs : List X) (n : ℕ) → slice_get xs n ≡ None → take (n + 1) xs ≡ take n xs
 take_missing xs n e = let h = none_past xs n e in take_all (n + 1) xs (omega arith) ∙ sym (take_all n xs h)
 
-abbrev at_place : TypeState → ℕ → ℕ × TypeState
+abbrev pub at_place : TypeState → ℕ → ℕ × TypeState
 at_place s to = (to, s)
 
 few_skipped : (o : Option ℕ) (s : TypeState) → suc (length (map (at_place s) (option_to_list (option_map (λ q. q + 1) o)))) ≤ 4

@@ -6,6 +6,6 @@ pub mod Laws
 pub mod Marking
 pub mod Matching
 pub mod Nesting
-pub mod Pass
+pub mod Passing
 pub mod RoomLemmas
 pub mod Short

@@ -11,6 +11,7 @@ pub mod follow;
 mod least;
 mod loops;
 mod operands;
+pub mod pass;
 mod same;
 mod slots;
 pub mod state;
