@@ -1,3 +1,4 @@
+pub mod Arriving
 pub mod Comparing
 pub mod Counting
 pub mod Fitting
