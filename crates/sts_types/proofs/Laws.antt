@@ -155,7 +155,7 @@ first_false : (a b : Bool) → a || b ≡ false → a ≡ false
 first_false true b e = cc
 first_false false b e = refl
 
-back_down : (p : Program) (f pc : ℕ) (i : Instr) (s : TypeState) (q : ℕ) → Fits p f pc i s → back_of i s ≡ Some q → q ≤ pc
+pub back_down : (p : Program) (f pc : ℕ) (i : Instr) (s : TypeState) (q : ℕ) → Fits p f pc i s → back_of i s ≡ Some q → q ≤ pc
 back_down p f pc Next s q fit b =
     let matched = first_false _ _ (first_false _ _ fit.loops) in
     ends_before (routine p f).code pc s.loops q (not_false (closes_loop (routine p f).code pc s.loops) matched) b

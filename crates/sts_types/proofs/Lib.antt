@@ -10,3 +10,4 @@ pub mod Nesting
 pub mod Passing
 pub mod RoomLemmas
 pub mod Short
+pub mod Visiting

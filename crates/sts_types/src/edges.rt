@@ -18,6 +18,7 @@ use sts_model::typing::Cause;
 pub(crate) fn code_of(program: &Program, function: u32) -> &[Instr]
     ensures value { result.now ≡ (routine program.now function).code }
     ensures short { length result.now ≤ 4096 }
+    ensures some { function < length program.now.routines → 0 < length result.now }
 {
     match program.functions().get(function as usize) {
         Some(f) => f.code.as_slice(),

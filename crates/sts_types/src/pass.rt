@@ -1,7 +1,6 @@
 //! One forward pass over a function, which finds its least place with a cause.
 
 ghost use Rattle.std.specs.Prelude.{◌≡◌, ◌≤◌, ◌<◌, ◌^◌, ◌↔◌, length, replicate, slice_index_or, slice_set, vec_len, IsTrue, IfOk, IfSome, MatchResult, All, Some, ℕ, option_to_list};
-ghost use Rattle.sts_code.specs.Program.{routine};
 ghost use Rattle.sts_model.specs.Around as around;
 ghost use Rattle.sts_model.specs.Edges as def;
 ghost use Rattle.sts_model.specs.Refusal.{IsWellTyped};
@@ -18,7 +17,7 @@ use crate::loops::{CodeLoops, Tables};
 use crate::state::{TypeState, entry};
 use sts_code::instr::Instr;
 use sts_code::program::Program;
-use sts_model::typing::{Cause, TypedLoop};
+use sts_model::typing::Cause;
 use std::alloc::{AllocError, Global};
 
 /// Why a function is refused.
@@ -110,4 +109,42 @@ fn spread(
             arrive(table, to, after);
         }
     }
+}
+
+/// Whether each place of one of the program's functions has one typestate and no cause from V1 to V16; else the least
+/// place that has a cause, with the least cause there.
+pub fn type_function(alloc: Global, program: &Program, function: u32) -> Result<(), TypeError>
+    requires { function < length program.now.routines }
+    ensures { MatchResult result (λ _. IsWellTyped program.now function) (Tells program.now function) }
+{
+    let code = code_of(program, function);
+    let tables = Tables::new(alloc, code)?;
+    let loops = CodeLoops::with_tables(code, &tables);
+    let mut table = empty_table(alloc, code.len())?;
+    table[0] = Arrival::One(entry(program, function));
+    for pc in 0..loops.len() {
+        let state = match &table[pc as usize] {
+            Arrival::Nothing => return Err(refused(pc, Cause::DeadCode)),
+            Arrival::Several => return Err(refused(pc, Cause::StatesDiffer)),
+            Arrival::One(state) => state.copy(),
+        };
+        let instr = code[pc as usize];
+        let skip = skip(&loops, pc, instr);
+        if let Some(cause) = least_cause(program, function, &loops, pc, instr, &state, skip) {
+            return Err(refused(pc, cause));
+        }
+        if let Some(start) = back_to(instr, &state) {
+            if !is_one(&table[start as usize], &state) {
+                return Err(refused(pc, Cause::StatesDiffer));
+            }
+        }
+        spread(program, &loops, pc, instr, &state, skip, &mut table);
+    }
+    Ok(())
+}
+
+fn refused(pc: u32, cause: Cause) -> TypeError
+    ensures { result ≡ TypeError.Refused pc cause }
+{
+    TypeError::Refused { pc, cause }
 }
