@@ -1,1 +1,3 @@
 pub mod TargetLemmas
+pub mod ByteLemmas
+pub mod DecimalLemmas
