@@ -12,6 +12,7 @@ use Rattle.sts_text.specs.Number.{is_digits, digits_up_to, number, number_up_to,
 use Rattle.sts_text.proofs.NumberLemmas.{own}
 use Rattle.sts_asm.specs.Operand as operand
 use Rattle.sts_list.specs.Spelling.{label, slot}
+use Rattle.sts_list.specs.RoundTrip.{IsValue}
 use Rattle.sts_list.proofs.ByteLemmas.{both, joined, is_plain, all_implied, all_append, IsWord}
 
 digit_plain : (b : ℕ) → is_ascii_digit b ≡ true → is_plain b ≡ true
@@ -52,11 +53,6 @@ negative_read n h =
     let wide : suc n < 2 ^ 64 = omega arith in
     let small : nat_le (suc n) (2 ^ 63) ≡ true = grind (arith, nat_tests) in
     rw (are_digits (suc n) wide, digits_value-decimal own (suc n) wide, small) refl
-
--- a value of 64 bits
-abbrev pub IsValue : ℤ → Type 0
-IsValue (pos n) = n < 2 ^ 63
-IsValue (negsuc n) = n < 2 ^ 63
 
 pub value_read : (v : ℤ) → IsValue v → number (signed_decimal v) ≡ Some v
 value_read (pos n) h = positive_read n h

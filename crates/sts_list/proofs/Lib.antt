@@ -1,3 +1,4 @@
 pub mod TargetLemmas
 pub mod ByteLemmas
 pub mod DecimalLemmas
+pub mod SpellingLemmas
