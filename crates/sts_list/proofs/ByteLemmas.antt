@@ -35,7 +35,7 @@ all_append f xs ys e h = list_all-append f xs ys ∙ joined (list_all f xs) (lis
 plain_no_blank : (b : ℕ) → is_plain b ≡ true → not (is_blank b) ≡ true
 plain_no_blank b e = grind (arith, nat_tests)
 
-plain_text : (b : ℕ) → is_plain b ≡ true → is_text b ≡ true
+pub plain_text : (b : ℕ) → is_plain b ≡ true → is_text b ≡ true
 plain_text b e = grind (arith, nat_tests)
 
 text_no_newline : (b : ℕ) → is_text b ≡ true → not (is_newline b) ≡ true

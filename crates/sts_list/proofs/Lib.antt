@@ -2,3 +2,4 @@ pub mod TargetLemmas
 pub mod ByteLemmas
 pub mod DecimalLemmas
 pub mod SpellingLemmas
+pub mod LineLemmas

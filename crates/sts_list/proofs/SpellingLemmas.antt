@@ -39,10 +39,18 @@ moved found other (i.Case h s f) = i.Case h (found s) (found f)
 moved found other (i.Fork s f h) = i.Fork s (other f) h
 moved found other instr = instr
 
+-- the function that an instruction forks
+abbrev pub forked : Instr → Option ℕ
+forked (i.Fork s f h) = Some f
+forked instr = None
+
+abbrev pub ForkFound : Program → Option Names → (ℕ → ℕ) → Option ℕ → Type 0
+ForkFound p names other None = ⊤
+ForkFound p names other (Some f) = IsFunction names (other f) (routine p f).name
+
 -- the function that an instruction forks is found
 abbrev pub Forks : Program → Option Names → (ℕ → ℕ) → Instr → Type 0
-Forks p names other (i.Fork s f h) = IsFunction names (other f) (routine p f).name
-Forks p names other instr = ⊤
+Forks p names other instr = ForkFound p names other (forked instr)
 
 either : (a b : Bool) → (a || b) ≡ false → (a ≡ false) × (b ≡ false)
 either true b e = cc
