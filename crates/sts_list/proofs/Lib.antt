@@ -3,3 +3,4 @@ pub mod ByteLemmas
 pub mod DecimalLemmas
 pub mod SpellingLemmas
 pub mod LineLemmas
+pub mod HeaderLemmas

@@ -185,7 +185,7 @@ kind_is_word S = record { filled = omega arith; plain = refl }
 kind_is_word F = record { filled = omega arith; plain = refl }
 kind_is_word U = record { filled = omega arith; plain = refl }
 
-concrete : (w : List ℕ) → nat_lt 0 (length w) ≡ true → list_all is_plain w ≡ true → IsWord w
+pub concrete : (w : List ℕ) → nat_lt 0 (length w) ≡ true → list_all is_plain w ≡ true → IsWord w
 concrete w f e = record { filled = grind (arith, nat_tests); plain = e }
 
 condition_are_words : (c : Pred) → has_bad_count (Until c) ≡ false → FitsCondition c → AreWords (condition_words c)
