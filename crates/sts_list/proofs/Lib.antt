@@ -4,3 +4,4 @@ pub mod DecimalLemmas
 pub mod SpellingLemmas
 pub mod LineLemmas
 pub mod HeaderLemmas
+pub mod CodeLemmas
