@@ -5,3 +5,5 @@ pub mod SpellingLemmas
 pub mod LineLemmas
 pub mod HeaderLemmas
 pub mod CodeLemmas
+pub mod FunctionLemmas
+pub mod CheckLemmas

@@ -52,7 +52,7 @@ ForkFound p names other (Some f) = IsFunction names (other f) (routine p f).name
 abbrev pub Forks : Program → Option Names → (ℕ → ℕ) → Instr → Type 0
 Forks p names other instr = ForkFound p names other (forked instr)
 
-either : (a b : Bool) → (a || b) ≡ false → (a ≡ false) × (b ≡ false)
+pub either : (a b : Bool) → (a || b) ≡ false → (a ≡ false) × (b ≡ false)
 either true b e = cc
 either false b e = (refl, e)
 
