@@ -229,12 +229,12 @@ found_more rs r h named new = λ k small.
     let size : length (rs ++ r ∷ []) ≡ length rs + 1 = simp length-append (omega arith) in
     let last : Mark = record { name = r.name; at = length rs } in
     elim (order_at (nat_lt k (length rs)) k (length rs) refl (omega (arith, size, small))) [
-      inl below ↦
-        let g = h k below in
-        let q = get_or rs k no_routine in
-        rw (get_front rs r k below) (g.0, ap (λ (ms : List Mark). marked ms q.name) (names_last rs r) ∙ marked_append (names_from 0 rs) last q.name ∙ rw g.1 refl)
-    | inr same ↦
-        rw (same, get_last rs r) (named, ap (λ (ms : List Mark). marked ms r.name) (names_last rs r) ∙ marked_append (names_from 0 rs) last r.name ∙ rw (not_marked 0 rs r.name new, same_bytes r.name) refl)
+      | inl below ↦
+          let g = h k below in
+          let q = get_or rs k no_routine in
+          rw (get_front rs r k below) (g.0, ap (λ (ms : List Mark). marked ms q.name) (names_last rs r) ∙ marked_append (names_from 0 rs) last q.name ∙ rw g.1 refl)
+      | inr same ↦
+          rw (same, get_last rs r) (named, ap (λ (ms : List Mark). marked ms r.name) (names_last rs r) ∙ marked_append (names_from 0 rs) last r.name ∙ rw (not_marked 0 rs r.name new, same_bytes r.name) refl)
     ]
 
 all_found : (earlier rest : List Routine) → AreFound earlier → AreChecked earlier rest → AreFound (earlier ++ rest)

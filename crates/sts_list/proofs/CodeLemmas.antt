@@ -85,7 +85,7 @@ unlabelled_draft at pc d ws = rw (append-nil d.labels) refl
 -- one instruction with its label
 step : (b : Bool) (p : Program) (at pc : ℕ) (instr : Instr) (o : Outline) (d : Draft) (more : List ℕ) → IsGood p instr → pc < 10000 → length d.code ≡ pc → Fresh d.labels pc
     → lines_read at (with_current o d) (lines (label_line b pc ++ (instr_line p instr ++ more)))
-      ≡ lines_read (below b at + 1) (with_current o (with_code d (mark_if b pc) (record { line = below b at; words = keyword instr ∷ operands p instr } ∷ []))) (lines more)
+    ≡ lines_read (below b at + 1) (with_current o (with_code d (mark_if b pc) (record { line = below b at; words = keyword instr ∷ operands p instr } ∷ []))) (lines more)
 step true p at pc instr o d more g small n fresh =
     label_line_read at pc o d (instr_line p instr ++ more) small n (fresh pc (omega arith) small)
     ∙ instr_line_read (at + 1) p instr o (with_label d (label pc)) more g
@@ -108,7 +108,7 @@ code_read p code at pc (instr ∷ rest) o d tail g small n fresh =
     let e = with_code d (mark_if b pc) (s ∷ []) in
     let longer : length e.code ≡ pc + 1 = rw (length-append d.code (s ∷ []), n) refl in
     let shape : code_lines p code pc (instr ∷ rest) ++ tail ≡ label_line b pc ++ (instr_line p instr ++ (code_lines p code (pc + 1) rest ++ tail)) =
-          append_assoc (label_line b pc ++ instr_line p instr) (code_lines p code (pc + 1) rest) tail ∙ append_assoc (label_line b pc) (instr_line p instr) (code_lines p code (pc + 1) rest ++ tail) in
+    append_assoc (label_line b pc ++ instr_line p instr) (code_lines p code (pc + 1) rest) tail ∙ append_assoc (label_line b pc) (instr_line p instr) (code_lines p code (pc + 1) rest ++ tail) in
     ap (λ (text : List ℕ). lines_read at (with_current o d) (lines text)) shape
     ∙ step b p at pc instr o d (code_lines p code (pc + 1) rest ++ tail) g.0 (omega arith) n fresh
     ∙ code_read p code (below b at + 1) (pc + 1) rest o e tail g.1 (omega arith) longer (fresh_step b d.labels pc (omega arith) fresh)

@@ -42,7 +42,7 @@ pub function_read : (p : Program) (at : ℕ) (r : Routine) (o : Outline) (tail :
 function_read p at r o tail g none =
     let more = codes "end\n" ++ tail in
     let shape : function_lines p r ++ tail ≡ header r ++ (code_lines p r.code 0 r.code ++ more) =
-          append_assoc (header r ++ code_lines p r.code 0 r.code) (codes "end\n") tail ∙ append_assoc (header r) (code_lines p r.code 0 r.code) more in
+    append_assoc (header r ++ code_lines p r.code 0 r.code) (codes "end\n") tail ∙ append_assoc (header r) (code_lines p r.code 0 r.code) more in
     let opened : Outline = with_function o (draft_of r) in
     ap (λ (text : List ℕ). lines_read at o (lines text)) shape
     ∙ header_line_read at o r (code_lines p r.code 0 r.code ++ more) none g.name g.args g.needs

@@ -39,9 +39,9 @@ keys_read front (true ∷ rest) h =
     let more = keys_read (front ++ true ∷ []) rest (rw (grown front true) (omega arith)) in
     let ok : List Bool → Result (List Bool) AsmKind = λ bs. Ok bs in
     rw (key_at (length front) k)
-      (ap (λ (bs : List Bool). with_keys bs (map decimal (keys_from (length front + 1) rest))) (set_at front false true (replicate (length rest) false) ∙ sym (one_more front true (replicate (length rest) false)))
-      ∙ ap (λ (n : ℕ). with_keys ((front ++ true ∷ []) ++ replicate (length rest) false) (map decimal (keys_from n rest))) (sym (grown front true))
-      ∙ more ∙ ap ok (one_more front true rest))
+    (ap (λ (bs : List Bool). with_keys bs (map decimal (keys_from (length front + 1) rest))) (set_at front false true (replicate (length rest) false) ∙ sym (one_more front true (replicate (length rest) false)))
+    ∙ ap (λ (n : ℕ). with_keys ((front ++ true ∷ []) ++ replicate (length rest) false) (map decimal (keys_from n rest))) (sym (grown front true))
+    ∙ more ∙ ap ok (one_more front true rest))
 keys_read front (false ∷ rest) h =
     let more = keys_read (front ++ false ∷ []) rest (rw (grown front false) (omega arith)) in
     let ok : List Bool → Result (List Bool) AsmKind = λ bs. Ok bs in
@@ -131,5 +131,5 @@ unfolding header_words
 header_line_read at o r rest none n a h =
     ap (λ (text : List ℕ). lines_read at o (lines text)) (header_bytes r rest)
     ∙ words_said at o (with_function o (draft_of r)) (codes "func") (header_words r) rest (concrete (codes "func") refl refl)
-      (name_word r.name n, (decimal_word r.args (omega arith), needs_are_words (list_any (λ needed. needed) r.needs) r.needs h))
-      (rw none (rw (header_read r n a h) refl))
+    (name_word r.name n, (decimal_word r.args (omega arith), needs_are_words (list_any (λ needed. needed) r.needs) r.needs h))
+    (rw none (rw (header_read r n a h) refl))

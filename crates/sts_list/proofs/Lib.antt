@@ -7,3 +7,4 @@ pub mod HeaderLemmas
 pub mod CodeLemmas
 pub mod FunctionLemmas
 pub mod CheckLemmas
+pub mod RoundTrip

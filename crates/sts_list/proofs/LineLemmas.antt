@@ -160,4 +160,4 @@ instr_line_read at p instr o d rest g =
     let e : instr_line p instr ++ rest ≡ (32 ∷ 32 ∷ (keyword instr ++ after_spaces (operands p instr))) ++ 10 ∷ rest = simp append_assoc in
     ap (λ (text : List ℕ). lines_read at (with_current o d) (lines text)) e
     ∙ indented_said at (with_current o d) (with_current o (with_sentence at d (keyword instr ∷ operands p instr))) (keyword instr) (operands p instr) rest (keyword_is_word instr)
-      (operands_are_words p None (λ _. 0) (λ _. 0) instr g.range g.fits (labels_near (targets instr) g.near) g.forks) (instr_said at p instr o d g)
+    (operands_are_words p None (λ _. 0) (λ _. 0) instr g.range g.fits (labels_near (targets instr) g.near) g.forks) (instr_said at p instr o d g)
