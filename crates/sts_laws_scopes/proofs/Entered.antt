@@ -25,7 +25,7 @@ use Rattle.sts_laws.proofs.Kept.{Kept, kept-cancel, at_raised}
 use Rattle.sts_laws.proofs.Effects.{frame-cancel}
 use Rattle.sts_laws.proofs.Sound.{Owner, alive_before}
 use Rattle.sts_laws.proofs.Births.{more_tasks, new_scope, opener, still-forker, born_alive, owner-more, owner-new}
-use Rattle.sts_laws.proofs.Entries.{Has, times_in, Enters, enters-task, enters-cancel, drops-same, any-drop, times-drop, times-cons}
+use Rattle.sts_laws_scopes.proofs.Entries.{Has, times_in, Enters, enters-task, enters-cancel, drops-same, any-drop, times-drop, times-cons}
 
 -- a scope that was born, of this owner, and isn't closed
 pub record IsOpen (scopes : List Scope) (s t : ℕ) : Type 0 where

@@ -23,7 +23,7 @@ use Rattle.sts_model.specs.Cancelling.{marked, cancel}
 use Rattle.sts_model.specs.Misuse.{slot, can_join, is_joined, IsFine}
 use Rattle.sts_model.specs.Effect.{effect, named, with_phase, joined, join_verdict, join_scope, close_scope, told, decide, complete, tell, ended, end_task, open_scope, fork_task}
 use Rattle.sts_model.specs.Outside.{interrupt, can_expire, expire}
-use Rattle.sts_laws.specs.Scopes.{is_leaving, is_asked, HasCause}
+use Rattle.sts_laws_scopes.specs.Scopes.{is_leaving, is_asked, HasCause}
 use Rattle.sts_laws.proofs.Lists.{at_set, at_put, at_more, within}
 use Rattle.sts_laws.proofs.Frames.{own_slot, at_own-is}
 use Rattle.sts_laws.proofs.Effects.{first_no, owned_slot}

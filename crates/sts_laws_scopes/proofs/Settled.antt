@@ -15,7 +15,7 @@ use Rattle.sts_laws.proofs.Lists.{at_set, at_more, past}
 use Rattle.sts_laws.proofs.Later.{LaterTask, later_task-refl}
 use Rattle.sts_laws.proofs.Kept.{Kept, dead_later}
 use Rattle.sts_laws.proofs.Effects.{dead_in}
-use Rattle.sts_laws.proofs.Causes.{AllCaused, AllFollow, follow-open}
+use Rattle.sts_laws_scopes.proofs.Causes.{AllCaused, AllFollow, follow-open}
 use Rattle.sts_laws.proofs.Births.{more_tasks, new_scope, opener, still-forker}
 
 pub record Settled (w : World) : Type 0 where

@@ -1,4 +1,6 @@
--- Why a scope is cancelled, who holds it and what is settled in it, in every state of every run (this project's own).
+-- Why a scope is cancelled, what is settled in it and where it is entered, in every state of every run.
+-- That `join` waits until all subtasks have completed or the scope is cancelled restates `join` of `StructuredTaskScope`; the rest is this
+-- project's own.
 use Rattle.std.specs.Prelude.{◌≡◌, ℕ, ◌<◌, ◌≤◌, count_by, [], length, Bool, true, false, Some, None}
 use Rattle.std.specs.List.{list_any}
 use Rattle.sts_model.specs.declared.event.Phase.{Phase}
@@ -16,11 +18,12 @@ is_leaving Closing = true
 is_leaving Closed = true
 is_leaving _ = false
 
--- its joiner asks for it by the ends so far
+-- does its joiner ask for a cancel, by the ends so far?
 abbrev pub is_asked : Scope → Bool
 is_asked scope = cancels scope.joiner (ends scope)
 
--- a scope is cancelled by an end after which its joiner asks for it, by its expiry or by its close, and by nothing else
+-- a scope is cancelled by an end after which its joiner asks for it, by its expiry or by its close, and by nothing else; a joiner that
+-- asks for it without any end (`until failed 0`) is heard at the first one
 pub record HasCause (scope : Scope) : Type 0 where
   pub asked : scope.cancelled ≡ false → is_asked scope ≡ true → scope.completions ≡ []
   pub expired : scope.expired ≡ true → scope.cancelled ≡ true
@@ -37,15 +40,6 @@ LeftOutIsCancelled = Ever (λ p w. (s u : ℕ) → (task_at w u).scope ≡ Some 
 -- where `join` had an outcome, the scope is cancelled or no subtask of it lives
 abbrev pub JoinedIsSettled : Type 0
 JoinedIsSettled = Ever (λ p w. (s u : ℕ) → is_joined (scope_at w s).phase ≡ true → (scope_at w s).cancelled ≡ false → (task_at w u).scope ≡ Some s → lives (task_at w u) ≡ false)
-
--- a task lives and has the scope in its structure list
-pub record IsHeldBy (w : World) (s t : ℕ) : Type 0 where
-  pub alive : lives (task_at w t) ≡ true
-  pub entry : list_any (is_entry_of s) (task_at w t).frame.entries ≡ true
-
--- a scope that isn't closed is held by its owner
-abbrev pub OwnersHold : Type 0
-OwnersHold = Ever (λ p w. (s : ℕ) → s < length w.scopes → is_closed (scope_at w s).phase ≡ false → IsHeldBy w s (scope_at w s).owner)
 
 -- a scope in the structure list of a living task is its own, isn't closed, and stands there once
 pub record IsEntered (w : World) (t s : ℕ) : Type 0 where
