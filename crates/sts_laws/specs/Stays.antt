@@ -1,4 +1,5 @@
--- What no event undoes: laws over every run, a state and any later one (this project's own).
+-- What no event undoes: laws over every run, of a state and any later one.
+-- That nothing is started in a cancelled scope restates "Cancellation" of `StructuredTaskScope`; the rest is this project's own.
 use Rattle.std.specs.Prelude.{◌≡◌, ℕ, ◌+◌, ◌<◌, ◌≤◌, List, [], ◌∷◌, ◌++◌, length, true, false, Some, ◌&&◌}
 use Rattle.sts_code.specs.Program.{Program}
 use Rattle.sts_model.specs.declared.event.Event.{Event}
