@@ -7,7 +7,7 @@ use Rattle.sts_model.specs.declared.event.End.{End}
 use Rattle.sts_model.specs.declared.record.Task.{Task}
 use Rattle.sts_model.specs.declared.record.Scope.{Scope}
 use Rattle.sts_model.specs.World.{World, task_at, scope_at, no_task, no_scope}
-use Rattle.sts_model.specs.Living.{lives, is_closed, parent, completion_of, sub_state}
+use Rattle.sts_model.specs.Living.{lives, parent, completion_of, sub_state}
 use Rattle.sts_model.specs.Waiting.{can_step, can_go, stand_at}
 use Rattle.sts_laws.specs.Stays.{MovesOn, PhasesGoForward, NothingIsLost, KeepsBorn, EndsStay, KeepsEnd, ClosedStays, KeepsMarks, CompletionsGrow, Completes, StatesStay, NothingStarts, CancelledStartsNothing}
 use Rattle.sts_laws.specs.Runs.{OwnersHold, CompletionsAreEnds, ClosedIsEmpty}
@@ -51,29 +51,11 @@ ends_stay = always (λ p w v. (t : ℕ) (end : End) → (task_at w t).outcome �
 
 -- ---- scopes
 
-keeps_marks : (w v : World) → Later w v → (s : ℕ) → KeepsMarks (scope_at w s) (scope_at v s)
-keeps_marks w v l s =
-    record {
-      closed = λ e. let less = within (λ (scope : Scope). is_closed scope.phase) w.scopes s no_scope refl e in (l.scope s less).marks.closed e;
-      cancelled = λ e. let less = within (λ (scope : Scope). scope.cancelled) w.scopes s no_scope refl e in (l.scope s less).marks.cancelled e;
-      expired = λ e. let less = within (λ (scope : Scope). scope.expired) w.scopes s no_scope refl e in (l.scope s less).marks.expired e;
-    }
-
 pub closed_stays : ClosedStays
-closed_stays = always (λ p w v. (s : ℕ) → KeepsMarks (scope_at w s) (scope_at v s)) (λ p w v h. keeps_marks w v h.later)
-
-moves_on : (w v : World) → Later w v → (s : ℕ) → MovesOn (scope_at w s) (scope_at v s)
-moves_on w v l s = by (nat_lt s (length w.scopes)) refl
-  where
-    unborn : (x y : Scope) → x ≡ no_scope → MovesOn x y
-    unborn x y e = rw e (record { forward = omega arith; timely = λ h. cc })
-
-    by : (b : Bool) → nat_lt s (length w.scopes) ≡ b → MovesOn (scope_at w s) (scope_at v s)
-    by true e = let less : s < length w.scopes = grind (arith, nat_tests) in (l.scope s less).moves
-    by false e = let more : length w.scopes ≤ s = grind (arith, nat_tests) in unborn (scope_at w s) (scope_at v s) (past w.scopes s no_scope more)
+closed_stays = always (λ p w v. (s : ℕ) → s < length w.scopes → KeepsMarks (scope_at w s) (scope_at v s)) (λ p w v h s born. (h.later.scope s born).marks)
 
 pub phases_go_forward : PhasesGoForward
-phases_go_forward = always (λ p w v. (s : ℕ) → MovesOn (scope_at w s) (scope_at v s)) (λ p w v h. moves_on w v h.later)
+phases_go_forward = always (λ p w v. (s : ℕ) → s < length w.scopes → MovesOn (scope_at w s) (scope_at v s)) (λ p w v h s born. (h.later.scope s born).moves)
 
 -- a scope that was not born has no completions
 unborn_completes : (x y : Scope) → x ≡ no_scope → Completes x y

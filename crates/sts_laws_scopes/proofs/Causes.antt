@@ -24,14 +24,14 @@ use Rattle.sts_model.specs.Misuse.{slot, can_join, is_joined, IsFine}
 use Rattle.sts_model.specs.Effect.{effect, named, with_phase, joined, join_verdict, join_scope, close_scope, told, decide, complete, tell, ended, end_task, open_scope, fork_task}
 use Rattle.sts_model.specs.Outside.{interrupt, can_expire, expire}
 use Rattle.sts_laws_scopes.specs.Scopes.{is_leaving, is_asked, HasCause}
-use Rattle.sts_laws.proofs.Lists.{at_set, at_put, at_more, within}
+use Rattle.sts_laws.proofs.Lists.{at_set, at_put, at_one_more, within}
 use Rattle.sts_laws.proofs.Frames.{own_slot, at_own-is}
 use Rattle.sts_laws.proofs.Effects.{first_no, owned_slot}
 use Rattle.sts_laws.proofs.Sound.{Sound}
 use Rattle.sts_laws.proofs.Births.{new_scope}
 
 abbrev pub AllCaused : World → Type 0
-AllCaused w = (s : ℕ) → HasCause (scope_at w s)
+AllCaused w = (s : ℕ) → s < length w.scopes → HasCause (scope_at w s)
 
 -- a scope s after an effect in w: cancelled for a cause, and joined before, or where nothing lived
 pub record Follows (w : World) (s : ℕ) (y : Scope) : Type 0 where
@@ -39,13 +39,15 @@ pub record Follows (w : World) (s : ℕ) (y : Scope) : Type 0 where
   pub joined : is_joined y.phase ≡ true → y.cancelled ≡ false → (is_joined (scope_at w s).phase ≡ true) ⊎ (any_lives w s ≡ false)
 
 abbrev pub AllFollow : World → List Scope → Type 0
-AllFollow w ys = (s : ℕ) → Follows w s (get_or ys s no_scope)
+AllFollow w ys = (s : ℕ) → s < length ys → Follows w s (get_or ys s no_scope)
 
 follow-refl : (w : World) → AllCaused w → AllFollow w w.scopes
-follow-refl w h s = record { cause = h s; joined = λ e still. inl e }
+follow-refl w h s born = record { cause = h s born; joined = λ e still. inl e }
 
 follow-set : (w : World) (s : ℕ) (y : Scope) → AllCaused w → Follows w s y → AllFollow w (set w.scopes s y)
-follow-set w s y h new r = at_set (λ (scope : Scope). Follows w r scope) w.scopes s r y no_scope (λ e. rw e new) (follow-refl w h r)
+follow-set w s y h new r born =
+    let count = length-set w.scopes s y in
+    at_set (λ (scope : Scope). Follows w r scope) w.scopes s r y no_scope (λ e. rw e new) (follow-refl w h r (omega (arith, count, born)))
 
 -- ---- scopes that were changed
 
@@ -84,9 +86,9 @@ not_leaving x h still = by (is_leaving x.phase) refl
 
 pub follow-open : (w : World) (t x : ℕ) (f : Frame) (joiner : Joiner) (timed : Bool) → AllCaused w → AllFollow w (open_scope w t f x joiner timed).scopes
 unfolding open_scope
-follow-open w t x f joiner timed h s =
-    at_more (λ (scope : Scope). Follows w s scope) w.scopes (new_scope w t joiner timed) s no_scope
-    (λ e. uncaused w s (new_scope w t joiner timed) refl refl refl (λ h. refl) (λ h. cc))
+follow-open w t x f joiner timed h s born =
+    at_one_more (λ (scope : Scope). Follows w s scope) w.scopes (new_scope w t joiner timed) s no_scope born
+    (uncaused w s (new_scope w t joiner timed) refl refl refl (λ h. refl) (λ h. cc))
     (follow-refl w h s)
 
 staying_at_join : (phase : Phase) → not (can_join phase) ≡ false → is_leaving phase ≡ false
@@ -96,10 +98,14 @@ staying_at_join Joined e = refl
 staying_at_join Closing e = cc
 staying_at_join Closed e = cc
 
+-- a scope whose close hasn't begun was born
+born_staying : (w : World) (s : ℕ) → is_leaving (scope_at w s).phase ≡ false → s < length w.scopes
+born_staying w s e = within (λ (scope : Scope). not (is_leaving scope.phase)) w.scopes s no_scope refl (rw e refl)
+
 -- another phase of a scope whose close hasn't begun
 follow-phase : (w : World) (s : ℕ) (phase : Phase) → AllCaused w → is_leaving (scope_at w s).phase ≡ false → is_leaving phase ≡ false → (is_joined phase ≡ true → (scope_at w s).cancelled ≡ false → any_lives w s ≡ false) → AllFollow w (with_phase w s phase).scopes
 follow-phase w s phase h before after settled =
-    let c = h s in
+    let c = h s (born_staying w s before) in
     follow-set w s (record (scope_at w s) { phase = phase }) h
     (record {
       cause = record { asked = c.asked; expired = c.expired; leaving = λ e. cc; cause = λ e d q. c.cause e d before };
@@ -120,7 +126,7 @@ follow-join : (w : World) (t : ℕ) (f : Frame) (s failed timeout interrupted : 
 unfolding join_scope
 follow-join w t f s failed timeout interrupted h before =
     cond_both (scope_at w s).expired _ _ (λ (v : World). AllFollow w v.scopes)
-    (λ late. follow-phase w s Joined h before refl (λ e still. let c = (h s).expired late in cc))
+    (λ late. follow-phase w s Joined h before refl (λ e still. let c = (h s (born_staying w s before)).expired late in cc))
     (λ timely.
     cond_both ((scope_at w s).cancelled || not (any_lives w s)) _ _ (λ (v : World). AllFollow w v.scopes)
     (λ done. follow-verdict (result_of (scope_at w s).joiner (ends (scope_at w s)) (subtask_count w s)) w t s f failed h before (none_live (scope_at w s).cancelled (any_lives w s) done))
@@ -147,13 +153,14 @@ cancel-scopes w s =
 
 -- a phase of the close, of the cancelled scope
 follow-leaving : (w : World) (s : ℕ) (phase : Phase) → AllCaused w → s < length w.scopes → is_leaving phase ≡ true → AllFollow w (with_phase (cancel w s) s phase).scopes
-follow-leaving w s phase h born leaving r =
+follow-leaving w s phase h born leaving r less =
     let v : World = cancel w s in
     let y : Scope = record (scope_at v s) { phase = phase } in
     let count = cancel-scopes w s in
+    let phases = length-set v.scopes s y in
     at_put (λ (scope : Scope). Follows w r scope) v.scopes s r y no_scope (omega (arith, count, born))
     (λ e. caused w r y (cancel-marks w s born) (λ timely staying. cc))
-    (λ other. rw (cancel-others w s r other) (follow-refl w h r))
+    (λ other. rw (cancel-others w s r other) (follow-refl w h r (omega (arith, count, phases, less))))
 
 follow-close : (w : World) (t : ℕ) (f : Frame) (s : ℕ) → AllCaused w → s < length w.scopes → AllFollow w (close_scope w t f s).scopes
 unfolding close_scope
@@ -166,17 +173,18 @@ follow-close w t f s h born =
 
 -- the scope was told, and its joiner asks for a cancel
 follow-asked : (w v : World) (s : ℕ) (y : Scope) → AllCaused w → v.scopes ≡ set w.scopes s y → s < length w.scopes → is_asked (scope_at v s) ≡ true → AllFollow w (marked v s).scopes
-follow-asked w v s y h is born asked r =
+follow-asked w v s y h is born asked r less =
     let z : Scope = record (scope_at v s) { cancelled = true } in
     let count : length v.scopes ≡ length w.scopes = ap (λ (l : List Scope). length l) is ∙ length-set w.scopes s y in
+    let marks = length-set v.scopes s z in
     at_put (λ (scope : Scope). Follows w r scope) v.scopes s r z no_scope (omega (arith, count, born))
     (λ e. caused w r z refl (λ timely staying. asked))
-    (λ other. rw (is, get_or-set_other w.scopes s r y no_scope other) (follow-refl w h r))
+    (λ other. rw (is, get_or-set_other w.scopes s r y no_scope other) (follow-refl w h r (omega (arith, count, marks, less))))
 
 -- the scope was told, and its joiner does not ask
-follow-quiet : (w : World) (s : ℕ) (x y : Scope) → AllCaused w → scope_at w s ≡ x → x.cancelled ≡ false → y.cancelled ≡ x.cancelled → y.expired ≡ x.expired → y.phase ≡ x.phase → is_asked y ≡ false → AllFollow w (set w.scopes s y)
-follow-quiet w s x y h at still cancelled expired phase quiet =
-    let c : HasCause x = rw (← at) (h s) in
+follow-quiet : (w : World) (s : ℕ) (x y : Scope) → AllCaused w → s < length w.scopes → scope_at w s ≡ x → x.cancelled ≡ false → y.cancelled ≡ x.cancelled → y.expired ≡ x.expired → y.phase ≡ x.phase → is_asked y ≡ false → AllFollow w (set w.scopes s y)
+follow-quiet w s x y h born at still cancelled expired phase quiet =
+    let c : HasCause x = rw (← at) (h s born) in
     follow-set w s y h
     (uncaused w s y (cancelled ∙ still) (expired ∙ not_expired x c still) (rw phase (not_leaving x c still)) (λ asked. cc) (λ e. inl (rw at (rw phase at e))))
 
@@ -194,7 +202,7 @@ follow-told w tasks t s end h born =
     cond_both (scope_at v s).cancelled v (marked v s) (λ (a : World). AllFollow w a.scopes)
     (λ e. let never : true ≡ false = sym e ∙ ap (λ (scope : Scope). scope.cancelled) at ∙ still in cc)
     (λ e. follow-asked w v s y h refl born asked))
-    (λ quiet. follow-quiet w s x y h refl still refl refl refl (sym (ap is_asked at) ∙ quiet)))
+    (λ quiet. follow-quiet w s x y h born refl still refl refl refl (sym (ap is_asked at) ∙ quiet)))
 
 pub follow-end : (w : World) (t : ℕ) (f : Frame) (end : End) → Sound w → AllCaused w → AllFollow w (end_task w t f end).scopes
 unfolding end_task
@@ -217,12 +225,13 @@ follow-expire w s h =
     let z : Scope = record (scope_at v s) { cancelled = true } in
     let late : (scope_at v s).expired ≡ true = rw at refl in
     let count = length-set w.scopes s y in
+    let marks = length-set v.scopes s z in
     cond_both (scope_at v s).cancelled v (marked v s) (λ (a : World). AllFollow w a.scopes)
     (λ e. follow-set w s y h (caused w s y (rw at at e) (λ timely. cc)))
-    (λ e r.
+    (λ e r less.
     at_put (λ (scope : Scope). Follows w r scope) v.scopes s r z no_scope (omega (arith, count, born))
     (λ d. caused w r z refl (λ timely staying. let never : true ≡ false = sym late ∙ timely in cc))
-    (λ other. rw (get_or-set_other w.scopes s r y no_scope other) (follow-refl w h r))))
+    (λ other. rw (get_or-set_other w.scopes s r y no_scope other) (follow-refl w h r (omega (arith, count, marks, less))))))
     (λ e. follow-refl w h)
 
 pub follow-interrupt : (w : World) (t : ℕ) → AllCaused w → AllFollow w (interrupt w t).scopes

@@ -98,7 +98,7 @@ orderly-opening p =
     record {
       settled =
           record {
-            caused = λ s. record { asked = λ e h. refl; expired = λ e. cc; leaving = λ e. cc; cause = λ e. cc };
+            caused = λ s born. absurd (omega (arith, born));
             joined = λ s u e. cc;
             started = λ s u inside. absurd (root-in_nothing p u s inside);
           };
@@ -119,7 +119,7 @@ ever P law p events = by (after p events) (orderly-after p events)
     by (Faulted kind t f pc) h = tt
 
 pub cancelled_has_cause : CancelledHasCause
-cancelled_has_cause = ever _ (λ p w h s. h.also.settled.caused s)
+cancelled_has_cause = ever _ (λ p w h s born. h.also.settled.caused s born)
 
 pub joined_is_settled : JoinedIsSettled
 joined_is_settled = ever _ (λ p w h s u joined still inside. h.also.settled.joined s u joined still inside)

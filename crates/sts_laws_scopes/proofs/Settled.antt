@@ -10,8 +10,7 @@ use Rattle.sts_model.specs.World.{World, task_at, scope_at, no_task, no_scope}
 use Rattle.sts_model.specs.Living.{lives, any_lives}
 use Rattle.sts_model.specs.Misuse.{is_joined, is_opened}
 use Rattle.sts_model.specs.Effect.{open_scope, fork_task, subtask_of}
-use Rattle.sts_laws.specs.Stays.{KeepsMarks}
-use Rattle.sts_laws.proofs.Lists.{at_set, at_more, past}
+use Rattle.sts_laws.proofs.Lists.{at_set, at_more, within}
 use Rattle.sts_laws.proofs.Later.{LaterTask, later_task-refl}
 use Rattle.sts_laws.proofs.Kept.{Kept, dead_later}
 use Rattle.sts_laws.proofs.Effects.{dead_in}
@@ -24,21 +23,22 @@ pub record Settled (w : World) : Type 0 where
   pub started : (s u : ℕ) → (task_at w u).scope ≡ Some s → (scope_at w s).cancelled ≡ false → (task_at w u).started ≡ true
 
 -- a scope that isn't cancelled later wasn't before
-uncancelled_before : (x y : Scope) → KeepsMarks x y → y.cancelled ≡ false → x.cancelled ≡ false
-uncancelled_before x y m still = by x.cancelled refl
+uncancelled_before : (x y : Scope) → (x.cancelled ≡ true → y.cancelled ≡ true) → y.cancelled ≡ false → x.cancelled ≡ false
+uncancelled_before x y stays still = by x.cancelled refl
   where
     by : (b : Bool) → x.cancelled ≡ b → b ≡ false
     by false e = refl
-    by true e = let c = m.cancelled e in cc
+    by true e = let c = stays e in cc
 
-settled-later : (w v : World) → Settled w → AllFollow w v.scopes → ((u : ℕ) → LaterTask (task_at w u) (task_at v u)) → ((s : ℕ) → KeepsMarks (scope_at w s) (scope_at v s)) → Settled v
-settled-later w v o follows tasks marks =
+settled-later : (w v : World) → Settled w → AllFollow w v.scopes → ((u : ℕ) → LaterTask (task_at w u) (task_at v u)) → ((s : ℕ) → (scope_at w s).cancelled ≡ true → (scope_at v s).cancelled ≡ true) → Settled v
+settled-later w v o follows tasks stays =
     record {
-      caused = λ s. (follows s).cause;
+      caused = λ s born. (follows s born).cause;
       joined = λ s u joined still inside.
-          let before = uncancelled_before (scope_at w s) (scope_at v s) (marks s) still in
-          dead_later (task_at w u) (task_at v u) (tasks u) (by s u before (sym (tasks u).same.scope ∙ inside) ((follows s).joined joined still));
-      started = λ s u inside still. (tasks u).same.started ∙ o.started s u (sym (tasks u).same.scope ∙ inside) (uncancelled_before (scope_at w s) (scope_at v s) (marks s) still);
+          let born = within (λ (scope : Scope). is_joined scope.phase) v.scopes s no_scope refl joined in
+          let before = uncancelled_before (scope_at w s) (scope_at v s) (stays s) still in
+          dead_later (task_at w u) (task_at v u) (tasks u) (by s u before (sym (tasks u).same.scope ∙ inside) ((follows s born).joined joined still));
+      started = λ s u inside still. (tasks u).same.started ∙ o.started s u (sym (tasks u).same.scope ∙ inside) (uncancelled_before (scope_at w s) (scope_at v s) (stays s) still);
     }
   where
     by : (s u : ℕ) → (scope_at w s).cancelled ≡ false → (task_at w u).scope ≡ Some s → (is_joined (scope_at w s).phase ≡ true) ⊎ (any_lives w s ≡ false) → lives (task_at w u) ≡ false
@@ -46,7 +46,7 @@ settled-later w v o follows tasks marks =
     by s u still inside (inr none) = dead_in w s u none inside
 
 pub settled-kept : (w v : World) → Settled w → Kept w v → AllFollow w v.scopes → Settled v
-settled-kept w v o k follows = settled-later w v o follows k.task (λ s. (k.scope s).marks)
+settled-kept w v o k follows = settled-later w v o follows k.task (λ s. (k.scope s).marks.cancelled)
 
 opened_tasks : (w : World) (t x : ℕ) (joiner : Joiner) (timed : Bool) (u : ℕ) → LaterTask (task_at w u) (task_at (open_scope w t (task_at w t).frame x joiner timed) u)
 unfolding open_scope
@@ -55,16 +55,16 @@ opened_tasks w t x joiner timed u =
     (λ e. rw e (record { same = record { started = refl; scope = refl }; outcome = λ end d. d }))
     (later_task-refl (task_at w u))
 
-opened_marks : (w : World) (t x : ℕ) (joiner : Joiner) (timed : Bool) (s : ℕ) → KeepsMarks (scope_at w s) (scope_at (open_scope w t (task_at w t).frame x joiner timed) s)
+opened_cancelled : (w : World) (t x : ℕ) (joiner : Joiner) (timed : Bool) (s : ℕ) → (scope_at w s).cancelled ≡ true → (scope_at (open_scope w t (task_at w t).frame x joiner timed) s).cancelled ≡ true
 unfolding open_scope
-opened_marks w t x joiner timed s =
-    at_more (λ (scope : Scope). KeepsMarks (scope_at w s) scope) w.scopes (new_scope w t joiner timed) s no_scope
-    (λ e. let at : scope_at w s ≡ no_scope = past w.scopes s no_scope (omega (arith, e)) in rw at (record { closed = λ h. cc; cancelled = λ h. cc; expired = λ h. cc }))
-    (record { closed = λ h. h; cancelled = λ h. h; expired = λ h. h })
+opened_cancelled w t x joiner timed s cancelled =
+    at_more (λ (scope : Scope). scope.cancelled ≡ true) w.scopes (new_scope w t joiner timed) s no_scope
+    (λ e. let born = within (λ (scope : Scope). scope.cancelled) w.scopes s no_scope refl cancelled in absurd (omega (arith, e, born)))
+    cancelled
 
 pub settled-open : (w : World) (t x : ℕ) (joiner : Joiner) (timed : Bool) → Settled w → Settled (open_scope w t (task_at w t).frame x joiner timed)
 settled-open w t x joiner timed o =
-    settled-later w (open_scope w t (task_at w t).frame x joiner timed) o (follow-open w t x (task_at w t).frame joiner timed o.caused) (opened_tasks w t x joiner timed) (opened_marks w t x joiner timed)
+    settled-later w (open_scope w t (task_at w t).frame x joiner timed) o (follow-open w t x (task_at w t).frame joiner timed o.caused) (opened_tasks w t x joiner timed) (opened_cancelled w t x joiner timed)
 
 unjoined : (phase : Phase) → not (is_opened phase) ≡ false → is_joined phase ≡ false
 unjoined Opened e = refl
@@ -93,7 +93,7 @@ settled-more_tasks p w t s g o opened =
 
 follow-fork : (p : Program) (w : World) (t s g : ℕ) (h : Option ℕ) → AllCaused w → AllFollow (more_tasks w (subtask_of p w (task_at w t).frame s g)) (fork_task p w t (task_at w t).frame s g h).scopes
 unfolding fork_task
-follow-fork p w t s g h caused r = record { cause = caused r; joined = λ e still. inl e }
+follow-fork p w t s g h caused r born = record { cause = caused r born; joined = λ e still. inl e }
 
 pub settled-fork : (p : Program) (w : World) (t s g : ℕ) (h : Option ℕ) → Settled w → lives (task_at w t) ≡ true → not (is_opened (scope_at w s).phase) ≡ false → Settled (fork_task p w t (task_at w t).frame s g h)
 settled-fork p w t s g h o alive opened =

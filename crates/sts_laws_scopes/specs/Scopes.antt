@@ -22,8 +22,8 @@ is_leaving _ = false
 abbrev pub is_asked : Scope → Bool
 is_asked scope = cancels scope.joiner (ends scope)
 
--- a scope is cancelled by an end after which its joiner asks for it, by its expiry or by its close, and by nothing else; a joiner that
--- asks for it without any end (`until failed 0`) is heard at the first one
+-- a scope that was born is cancelled by an end after which its joiner asks for it, by its expiry or by its close, and by nothing else; a
+-- joiner that asks for it without any end (`until failed 0`) is heard at the first one
 pub record HasCause (scope : Scope) : Type 0 where
   pub asked : scope.cancelled ≡ false → is_asked scope ≡ true → scope.completions ≡ []
   pub expired : scope.expired ≡ true → scope.cancelled ≡ true
@@ -31,7 +31,7 @@ pub record HasCause (scope : Scope) : Type 0 where
   pub cause : scope.cancelled ≡ true → scope.expired ≡ false → is_leaving scope.phase ≡ false → is_asked scope ≡ true
 
 abbrev pub CancelledHasCause : Type 0
-CancelledHasCause = Ever (λ p w. (s : ℕ) → HasCause (scope_at w s))
+CancelledHasCause = Ever (λ p w. (s : ℕ) → s < length w.scopes → HasCause (scope_at w s))
 
 -- a subtask that doesn't live and is unavailable is of a cancelled scope
 abbrev pub LeftOutIsCancelled : Type 0
