@@ -1,5 +1,5 @@
 -- The operands of a line, read from left to right up to the first place that is wrong (this project's own).
-use Rattle.std.specs.Prelude.{◌≡◌, ℕ, ◌^◌, ◌-◌, ◌==◌, Bool, true, false, List, [], ◌∷◌, drop, slice_index, Option, Some, None, option_map, Result, Ok, Err, if◌then◌else◌, ℤ, codes}
+use Rattle.std.specs.Prelude.{ℕ, ◌^◌, ◌-◌, ◌==◌, Bool, true, false, List, [], ◌∷◌, drop, slice_index, Option, Some, None, option_map, Result, Ok, Err, if◌then◌else◌, ℤ, codes}
 use Rattle.std.specs.Str.{bytes_eq}
 use Rattle.sts_code.specs.Name.{is_name}
 use Rattle.sts_code.specs.declared.instr.Joiner.{Joiner}

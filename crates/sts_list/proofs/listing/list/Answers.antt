@@ -1,5 +1,5 @@
-use Rattle.std.proofs.Common.{◌≡◌, ◌≤◌, length, ◌++◌, string_bytes, take, take_all, List, ℕ, sym, ◌∙◌, ap, rules}
-use Rattle.std.specs.List.{flat_map, AllByRecursion}
+use Rattle.std.proofs.Common.{◌≡◌, ◌≤◌, length, ◌++◌, string_bytes, take_all, List, ◌∙◌, ap}
+use Rattle.std.specs.List.{flat_map}
 use Rattle.sts_code.specs.Program.{Program, Routine}
 use Rattle.sts_list.specs.Listing.{function_lines, profile_line, listing}
 use Rattle.sts_list.specs.RoundTrip.{FitsRoutine}
