@@ -1,26 +1,18 @@
-use Rattle.std.proofs.Common.{◌≡◌, ℕ, suc, zero, ◌+◌, ◌<◌, ◌≤◌, ◌^◌, ◌-◌, Bool, true, false, cond, List, [], ◌∷◌, ◌++◌, length, map, drop, refl, sym, ◌∙◌, ap, arith, rules, append_assoc, append-nil, length-append}
-use Rattle.std.specs.Prelude.{Option, Some, None, codes, ⊤, Result, Ok, Err}
-use Rattle.std.specs.List.{flat_map, AllByRecursion}
-use Rattle.std.specs.Option.{option_or}
-use Rattle.std.specs.Fmt.{decimal}
+use Rattle.std.proofs.Common.{◌≡◌, ℕ, ◌+◌, ◌<◌, ◌≤◌, Bool, true, false, List, [], ◌∷◌, ◌++◌, length, drop, refl, sym, ◌∙◌, ap, arith, append_assoc, append-nil, length-append}
+use Rattle.std.specs.Prelude.{None}
+use Rattle.std.specs.List.{AllByRecursion}
 use Rattle.std.specs.Str.{bytes_eq}
 use Rattle.std.proofs.lemmas.Fmt.{decimal_injective}
 use Rattle.std.proofs.lemmas.Slice.Eq.{bytes_eq-Decides}
-use Rattle.sts_code.specs.Name.{is_name}
-use Rattle.sts_code.specs.Program.{Program, Routine}
-use Rattle.sts_code.specs.declared.profile.Profile.TheVariants.{One, Two}
+use Rattle.sts_code.specs.Program.{Program}
 use Rattle.sts_code.specs.declared.instr.Instr.{Instr}
 use Rattle.sts_text.specs.Words.{lines}
-use Rattle.sts_asm.specs.declared.fault.AsmError.{AsmError}
-use Rattle.sts_asm.specs.Fault.{◌>>=◌, at_line}
 use Rattle.sts_asm.specs.Marks.{Mark, marked}
-use Rattle.sts_asm.specs.Outline.{Sentence, Draft, Outline, empty, with_function, with_label, with_sentence, said, lines_read, closed, outline_of}
+use Rattle.sts_asm.specs.Outline.{Sentence, Draft, Outline, with_label, with_sentence, lines_read}
 use Rattle.sts_asm.proofs.MarkLemmas.{marked_append}
 use Rattle.sts_list.specs.Spelling.{keyword, operands, label}
-use Rattle.sts_list.specs.Listing.{is_target, label_line, instr_line, code_lines, function_lines, header, profile_line, listing}
-use Rattle.sts_list.proofs.SpellingLemmas.{concrete}
-use Rattle.sts_list.proofs.LineLemmas.{IsGood, words_said, label_line_read, instr_line_read, with_current}
-use Rattle.sts_list.proofs.HeaderLemmas.{draft_of, header_line_read}
+use Rattle.sts_list.specs.Listing.{is_target, label_line, instr_line, code_lines}
+use Rattle.sts_list.proofs.LineLemmas.{IsGood, label_line_read, instr_line_read, with_current}
 
 -- ---- fresh labels
 

@@ -1,19 +1,17 @@
-use Rattle.std.proofs.Common.{◌≡◌, ℕ, suc, zero, ◌+◌, ◌<◌, ◌≤◌, ◌^◌, ◌-◌, Bool, true, false, cond, List, [], ◌∷◌, ◌++◌, length, refl, sym, ◌∙◌, ap, arith, rules, drop, get_or}
-use Rattle.std.specs.Prelude.{◌==◌, ◌&&◌, ◌||◌, not, nat_le, nat_lt, Option, Some, None, ℤ, pos, negsuc, neg_ℤ, codes, FitsSigned}
-use Rattle.std.specs.Int.{w64}
+use Rattle.std.proofs.Common.{◌≡◌, ℕ, suc, ◌<◌, ◌≤◌, ◌^◌, true, false, List, [], ◌∷◌, length, refl, ◌∙◌, ap, arith, get_or}
+use Rattle.std.specs.Prelude.{◌==◌, not, nat_le, nat_lt, Some, ℤ, pos, negsuc}
 use Rattle.std.specs.List.{list_all}
 use Rattle.std.specs.Char.{is_ascii_digit}
 use Rattle.std.specs.Fmt.{decimal, signed_decimal}
-use Rattle.std.specs.Str.Parse.{digits_value}
 use Rattle.std.proofs.lemmas.Fmt.{digits_decimal, digits_value-decimal, decimal_nonempty, length-decimal-le}
 use Rattle.std.proofs.lemmas.Bool.Decides.{nat_tests}
 use Rattle.sts_code.specs.Name.{is_name, is_name_byte}
-use Rattle.sts_text.specs.Number.{is_digits, digits_up_to, number, number_up_to, up_to}
+use Rattle.sts_text.specs.Number.{is_digits, number, number_up_to, up_to}
 use Rattle.sts_text.proofs.NumberLemmas.{own}
 use Rattle.sts_asm.specs.Operand as operand
 use Rattle.sts_list.specs.Spelling.{label, slot}
 use Rattle.sts_list.specs.RoundTrip.{IsValue}
-use Rattle.sts_list.proofs.ByteLemmas.{both, joined, is_plain, all_implied, all_append, IsWord}
+use Rattle.sts_list.proofs.ByteLemmas.{both, joined, is_plain, all_implied, IsWord}
 
 digit_plain : (b : ℕ) → is_ascii_digit b ≡ true → is_plain b ≡ true
 digit_plain b e = grind (arith, nat_tests)

@@ -1,20 +1,18 @@
-use Rattle.std.proofs.Common.{◌≡◌, ℕ, suc, zero, ◌+◌, ◌<◌, ◌≤◌, ◌^◌, ◌-◌, Bool, true, false, cond, List, [], ◌∷◌, ◌++◌, length, refl, sym, ◌∙◌, ap, arith, rules, append_assoc, append-nil, length-append}
-use Rattle.std.specs.Prelude.{Option, Some, None, codes, ⊤, Result, Ok, Err}
+use Rattle.std.proofs.Common.{◌≡◌, ℕ, ◌+◌, ◌≤◌, true, List, [], ◌∷◌, ◌++◌, length, refl, sym, ◌∙◌, ap, arith, append_assoc, append-nil, length-append}
+use Rattle.std.specs.Prelude.{None, codes, Ok}
 use Rattle.std.specs.List.{flat_map, AllByRecursion}
 use Rattle.sts_code.specs.Name.{is_name}
 use Rattle.sts_code.specs.Program.{Program, Routine}
 use Rattle.sts_code.specs.declared.profile.Profile.{Profile}
 use Rattle.sts_code.specs.declared.profile.Profile.TheVariants.{One, Two}
-use Rattle.sts_code.specs.declared.instr.Instr.{Instr}
 use Rattle.sts_text.specs.Words.{lines}
-use Rattle.sts_asm.specs.Fault.{◌>>=◌, at_line}
-use Rattle.sts_asm.specs.Marks.{Mark, marked}
-use Rattle.sts_asm.specs.Outline.{Sentence, Draft, Outline, empty, with_function, said, lines_read, closed, outline_of}
+use Rattle.sts_asm.specs.Marks.{Mark}
+use Rattle.sts_asm.specs.Outline.{Draft, Outline, empty, with_function, lines_read, outline_of}
 use Rattle.sts_list.specs.Listing.{code_lines, function_lines, header, profile_line, listing}
 use Rattle.sts_list.proofs.SpellingLemmas.{concrete}
 use Rattle.sts_list.proofs.LineLemmas.{IsGood, words_said, with_current}
 use Rattle.sts_list.proofs.HeaderLemmas.{draft_of, header_line_read}
-use Rattle.sts_list.proofs.CodeLemmas.{marks_of, sentences, line_after, with_code, code_read}
+use Rattle.sts_list.proofs.CodeLemmas.{marks_of, sentences, line_after, code_read}
 
 -- a function as a program that passed its checks has it
 pub record IsGoodRoutine (p : Program) (r : Routine) : Type 0 where

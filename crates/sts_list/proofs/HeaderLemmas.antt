@@ -1,17 +1,16 @@
-use Rattle.std.proofs.Common.{◌≡◌, ℕ, suc, zero, ◌+◌, ◌<◌, ◌≤◌, ◌^◌, ◌-◌, Bool, true, false, cond, List, [], ◌∷◌, ◌++◌, length, map, replicate, refl, sym, ◌∙◌, ap, arith, rules, append_assoc, append-nil, length-append}
-use Rattle.std.specs.Prelude.{Option, Some, None, codes, ⊤, Result, Ok, Err, slice_set, if◌then◌else◌}
-use Rattle.std.specs.List.{list_any, flat_map}
+use Rattle.std.proofs.Common.{◌≡◌, ℕ, ◌+◌, ◌<◌, ◌≤◌, Bool, true, false, cond, List, [], ◌∷◌, ◌++◌, length, map, replicate, refl, sym, ◌∙◌, ap, arith, append_assoc, length-append}
+use Rattle.std.specs.Prelude.{None, codes, Result, Ok, slice_set}
+use Rattle.std.specs.List.{list_any}
 use Rattle.std.specs.Fmt.{decimal}
 use Rattle.sts_code.specs.Name.{is_name}
 use Rattle.sts_code.specs.Program.{Routine}
 use Rattle.sts_text.specs.Words.{lines}
 use Rattle.sts_asm.specs.declared.fault.AsmKind.{AsmKind}
-use Rattle.sts_asm.specs.Fault.{◌>>=◌}
 use Rattle.sts_asm.specs.Operand.{number_at}
-use Rattle.sts_asm.specs.Outline.{Draft, Outline, with_keys, keys_at, needs_at, no_needs, header_at, with_function, begun, said, lines_read}
+use Rattle.sts_asm.specs.Outline.{Draft, Outline, with_keys, keys_at, needs_at, no_needs, header_at, with_function, lines_read}
 use Rattle.sts_list.specs.Spelling.{after_spaces}
 use Rattle.sts_list.specs.Listing.{keys_from, keys_text, needs_text, header}
-use Rattle.sts_list.proofs.ByteLemmas.{IsWord, AreWords}
+use Rattle.sts_list.proofs.ByteLemmas.{AreWords}
 use Rattle.sts_list.proofs.DecimalLemmas.{number_read, decimal_word}
 use Rattle.sts_list.proofs.SpellingLemmas.{name_word, concrete}
 use Rattle.sts_list.proofs.LineLemmas.{words_said}

@@ -8,3 +8,4 @@ pub mod CodeLemmas
 pub mod FunctionLemmas
 pub mod CheckLemmas
 pub mod RoundTrip
+pub mod FitLemmas

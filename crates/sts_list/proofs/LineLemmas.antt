@@ -1,28 +1,24 @@
-use Rattle.std.proofs.Common.{◌≡◌, ℕ, suc, zero, ◌+◌, ◌<◌, ◌≤◌, ◌^◌, ◌-◌, Bool, true, false, cond, List, [], ◌∷◌, ◌++◌, length, map, take, get_or, replicate, refl, sym, ◌∙◌, ap, arith, rules, append_assoc, append-nil, length-append}
-use Rattle.std.specs.Prelude.{◌==◌, ◌&&◌, ◌||◌, not, nat_le, nat_lt, Option, Some, None, is_some, codes, ⊤, Result, Ok, Err, slice_set}
-use Rattle.std.specs.List.{list_all, list_any, flat_map, AllByRecursion, before_first}
-use Rattle.std.specs.Fmt.{decimal}
+use Rattle.std.proofs.Common.{◌≡◌, ℕ, ◌+◌, ◌<◌, ◌-◌, Bool, true, false, List, [], ◌∷◌, ◌++◌, length, take, get_or, refl, ◌∙◌, ap, arith, append_assoc, append-nil, length-append}
+use Rattle.std.specs.Prelude.{◌==◌, ◌&&◌, Some, None, codes, Ok}
+use Rattle.std.specs.List.{list_all, AllByRecursion}
 use Rattle.std.specs.Str.{bytes_eq}
-use Rattle.std.proofs.lemmas.Bool.Decides.{nat_tests}
 use Rattle.sts_code.specs.Name.{is_name}
-use Rattle.sts_code.specs.Program.{Program, Routine, routine}
+use Rattle.sts_code.specs.Program.{Program}
 use Rattle.sts_code.specs.Checks.{has_bad_range}
 use Rattle.sts_code.specs.declared.instr.Instr.{Instr}
 use Rattle.sts_code.specs.declared.instr.Instr.TheVariants as i
 use Rattle.sts_text.specs.Words.{lines, words}
-use Rattle.sts_asm.specs.declared.fault.AsmKind.{AsmKind}
-use Rattle.sts_asm.specs.Fault.{◌>>=◌, at_line}
-use Rattle.sts_asm.specs.Marks.{Mark, Names, marked}
-use Rattle.sts_asm.specs.Line.{instr_of}
-use Rattle.sts_asm.specs.Outline.{Sentence, Draft, Outline, with_keys, keys_at, needs_at, no_needs, header_at, with_function, begun, ended, label_of, with_label, labelled, with_sentence, inner, inside, said, line_read, lines_read, is_semicolon}
+use Rattle.sts_asm.specs.Fault.{at_line}
+use Rattle.sts_asm.specs.Marks.{marked}
+use Rattle.sts_asm.specs.Outline.{Draft, Outline, label_of, with_label, with_sentence, inside, said, line_read, lines_read}
 use Rattle.sts_asm.proofs.TextLemmas.{line_step}
 use Rattle.sts_asm.proofs.TableLemmas.{spelled_read}
-use Rattle.sts_list.specs.Spelling.{keyword, operands, label, after_spaces, spelled}
-use Rattle.sts_list.specs.Listing.{targets, keys_from, keys_text, needs_text, header, label_line, instr_line}
+use Rattle.sts_list.specs.Spelling.{keyword, operands, label, after_spaces}
+use Rattle.sts_list.specs.Listing.{targets, label_line, instr_line}
 use Rattle.sts_list.specs.RoundTrip.{FitsInstr}
-use Rattle.sts_list.proofs.ByteLemmas.{both, joined, is_plain, is_text, plain_text, all_implied, all_append, IsWord, AreWords, words_text, words_read, line_cut, line_uncommented, line_allowed}
-use Rattle.sts_list.proofs.DecimalLemmas.{number_read, decimal_word, label_word, label_name}
-use Rattle.sts_list.proofs.SpellingLemmas.{Labels, forked, ForkFound, Forks, moved, spelled_as, operands_are_words, keyword_is_word, name_word}
+use Rattle.sts_list.proofs.ByteLemmas.{is_plain, is_text, plain_text, all_implied, all_append, IsWord, AreWords, words_text, words_read, line_cut, line_uncommented, line_allowed}
+use Rattle.sts_list.proofs.DecimalLemmas.{label_word, label_name}
+use Rattle.sts_list.proofs.SpellingLemmas.{Labels, forked, ForkFound, moved, spelled_as, operands_are_words, keyword_is_word}
 
 -- ---- a line of words
 

@@ -1,25 +1,22 @@
-use Rattle.std.proofs.Common.{◌≡◌, ℕ, suc, zero, ◌+◌, ◌<◌, ◌≤◌, ◌^◌, ◌-◌, Bool, true, false, cond, List, [], ◌∷◌, ◌++◌, length, refl, sym, ◌∙◌, ap, ◌⊎◌, inl, inr, arith, rules, append_assoc, length-append}
-use Rattle.std.specs.Prelude.{◌==◌, ◌||◌, nat_lt, Option, Some, None, ⊤, Result, Ok, Err}
+use Rattle.std.proofs.Common.{◌≡◌, ℕ, ◌+◌, ◌<◌, ◌≤◌, Bool, true, false, List, [], ◌∷◌, ◌++◌, length, refl, sym, ◌∙◌, ap, ◌⊎◌, inl, inr, arith, append_assoc, length-append}
+use Rattle.std.specs.Prelude.{◌==◌, ◌||◌, nat_lt, Option, Some, None, Result, Ok}
 use Rattle.std.specs.List.{flat_map, AllByRecursion, list_any}
 use Rattle.std.proofs.lemmas.Bool.Decides.{nat_tests}
-use Rattle.sts_code.specs.Name.{is_name}
-use Rattle.sts_code.specs.Program.{Program, Routine, no_routine, routine}
-use Rattle.sts_code.specs.Checks.{program_fault}
+use Rattle.sts_code.specs.Program.{Program, Routine}
 use Rattle.sts_code.specs.declared.instr.Instr.{Instr}
 use Rattle.sts_asm.specs.declared.fault.AsmKind.{AsmKind}
 use Rattle.sts_asm.specs.Marks.{Mark, Names, marked}
 use Rattle.sts_asm.specs.Line.{instr_of}
-use Rattle.sts_asm.specs.Outline.{Sentence, Draft, Outline}
-use Rattle.sts_asm.specs.Text.{each, instr_at, routine_of, program_of, judged}
+use Rattle.sts_asm.specs.Text.{each, instr_at, routine_of}
 use Rattle.sts_asm.proofs.MarkLemmas.{marked_cons}
 use Rattle.sts_asm.proofs.TableLemmas.{spelled_read}
 use Rattle.sts_list.specs.Spelling.{keyword, operands, label}
 use Rattle.sts_list.specs.Listing.{targets, is_target, listing}
-use Rattle.sts_list.specs.RoundTrip.{FitsInstr, FitsRoutine, IsProgram, AssembledAgain}
+use Rattle.sts_list.specs.RoundTrip.{FitsInstr, FitsRoutine, AssembledAgain}
 use Rattle.sts_list.proofs.SpellingLemmas.{Labels, forked, ForkFound, moved, spelled_as, moved_nowhere}
 use Rattle.sts_list.proofs.LineLemmas.{IsGood}
 use Rattle.sts_list.proofs.CodeLemmas.{labels_differ, mark_if, marks_of, below, sentences}
-use Rattle.sts_list.proofs.FunctionLemmas.{IsGoodRoutine, draft_at, line_below, drafts, names_from, first_line, outline_with, listing_outlined}
+use Rattle.sts_list.proofs.FunctionLemmas.{IsGoodRoutine, draft_at, line_below, drafts, names_from, first_line, listing_outlined}
 use Rattle.sts_list.proofs.CheckLemmas.{IsChecked, IsCheckedRoutine, AreChecked, AreFound, IsBelow, targets_within, fork_within, program_checked, functions_found, same_bytes}
 
 -- ---- each label of a listing is found

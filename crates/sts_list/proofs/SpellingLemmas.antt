@@ -1,5 +1,5 @@
-use Rattle.std.proofs.Common.{◌≡◌, ℕ, suc, zero, ◌+◌, ◌<◌, ◌≤◌, ◌^◌, ◌-◌, Bool, true, false, cond, List, [], ◌∷◌, ◌++◌, length, refl, sym, ◌∙◌, ap, arith, rules}
-use Rattle.std.specs.Prelude.{◌==◌, ◌&&◌, ◌||◌, not, nat_le, nat_lt, Option, Some, None, option_map, ℤ, codes, ⊤}
+use Rattle.std.proofs.Common.{◌≡◌, ℕ, ◌<◌, ◌≤◌, ◌^◌, ◌-◌, Bool, true, false, List, [], ◌∷◌, ◌++◌, length, refl, arith}
+use Rattle.std.specs.Prelude.{◌==◌, ◌||◌, nat_lt, Option, Some, None, option_map, codes, ⊤}
 use Rattle.std.specs.List.{list_all, AllByRecursion}
 use Rattle.std.proofs.lemmas.Bool.Decides.{nat_tests}
 use Rattle.sts_code.specs.Name.{is_name, is_name_byte}
@@ -13,15 +13,15 @@ use Rattle.sts_code.specs.declared.instr.Pred.{Pred}
 use Rattle.sts_code.specs.declared.instr.Pred.TheVariants.{Failed, Success, AtLeast}
 use Rattle.sts_code.specs.declared.instr.Kind.{Kind}
 use Rattle.sts_code.specs.declared.instr.Kind.TheVariants.{S, F, U}
-use Rattle.sts_asm.specs.Marks.{Names, label_in, function_in}
+use Rattle.sts_asm.specs.Marks.{Names, label_in}
 use Rattle.std.specs.Fmt.{decimal, signed_decimal}
 use Rattle.sts_text.specs.Number.{number_up_to}
 use Rattle.sts_asm.specs.Operand as operand
 use Rattle.sts_asm.specs.Table.{Spells, IsLabel, IsMaybeLabel, IsFunction, IsHandle, IsKind, IsJoiner, IsTimed}
 use Rattle.sts_list.specs.Spelling.{keyword, operands, label, slot, maybe_label, handle, kind_word, joiner_words, condition_words, timed_words}
 use Rattle.sts_list.specs.Listing.{targets, maybe}
-use Rattle.sts_list.specs.RoundTrip.{IsValue, FitsCondition, FitsJoiner, FitsInstr}
-use Rattle.sts_list.proofs.ByteLemmas.{both, is_plain, all_implied, IsWord, AreWords}
+use Rattle.sts_list.specs.RoundTrip.{FitsCondition, FitsJoiner, FitsInstr}
+use Rattle.sts_list.proofs.ByteLemmas.{is_plain, all_implied, IsWord, AreWords}
 use Rattle.sts_list.proofs.DecimalLemmas.{number_read, value_read, value_word, decimal_word, slot_read, slot_word, label_word, label_name}
 
 -- a label of a listing, and what it names

@@ -1,5 +1,5 @@
 -- A listing is assembled to the program that it lists (this project's own).
-use Rattle.std.specs.Prelude.{◌≡◌, ℕ, ◌<◌, ◌≤◌, ◌^◌, List, length, ⊤, None, Result, Ok, ℤ, pos, negsuc}
+use Rattle.std.specs.Prelude.{◌≡◌, ◌<◌, ◌≤◌, ◌^◌, length, ⊤, None, Ok, ℤ, pos, negsuc}
 use Rattle.std.specs.List.{AllByRecursion}
 use Rattle.sts_code.specs.Checks.{program_fault}
 use Rattle.sts_code.specs.Program.{Program, Routine}
@@ -17,10 +17,12 @@ abbrev pub IsValue : ℤ → Type 0
 IsValue (pos n) = n < 2 ^ 63
 IsValue (negsuc n) = n < 2 ^ 63
 
+-- its value is of 64 bits
 abbrev pub FitsCondition : Pred → Type 0
 FitsCondition (AtLeast v) = IsValue v
 FitsCondition condition = ⊤
 
+-- its value is of 64 bits
 abbrev pub FitsJoiner : Joiner → Type 0
 FitsJoiner (Until condition) = FitsCondition condition
 FitsJoiner joiner = ⊤
@@ -31,6 +33,7 @@ FitsInstr (i.Push k) = IsValue k
 FitsInstr (i.Open s joiner timed) = FitsJoiner joiner
 FitsInstr instr = ⊤
 
+-- it says of sixteen keys whether it needs them, and its values are of 64 bits
 abbrev pub FitsRoutine : Routine → Type 0
 FitsRoutine r = (length r.needs ≡ 16) × AllByRecursion FitsInstr r.code
 
