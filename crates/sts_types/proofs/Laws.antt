@@ -18,7 +18,7 @@ use Rattle.sts_model.specs.Flow.{Flow, Leads}
 use Rattle.sts_model.specs.Refusal.{size}
 use Rattle.sts_types.proofs.Fitting.{fits}
 use Rattle.sts_types.proofs.FollowLemmas.{at_place}
-use Rattle.sts_types.proofs.Matching.{ends}
+use Rattle.sts_loops.proofs.Matching.{ends}
 use Rattle.sts_types.proofs.Passing.{IsForward}
 
 -- the place stands in the list
