@@ -12,6 +12,7 @@ pub mod Living
 pub mod Local
 pub mod Misuse
 pub mod Outside
+pub mod Promises
 pub mod Refusal
 pub mod Run
 pub mod Standing

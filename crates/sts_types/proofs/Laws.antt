@@ -18,7 +18,7 @@ use Rattle.sts_model.specs.Flow.{Flow, Leads}
 use Rattle.sts_model.specs.Refusal.{size}
 use Rattle.sts_types.proofs.Fitting.{fits}
 use Rattle.sts_types.proofs.FollowLemmas.{at_place}
-use Rattle.sts_types.proofs.Matching.{ends}
+use Rattle.sts_loops.proofs.Matching.{ends}
 use Rattle.sts_types.proofs.Passing.{IsForward}
 
 -- the place stands in the list
@@ -26,12 +26,12 @@ abbrev pub Among : List ℕ → ℕ → Type 0
 Among [] to = ⊥
 Among (x ∷ xs) to = (x ≡ to) ⊎ Among xs to
 
-among_left : (xs ys : List ℕ) (to : ℕ) → Among xs to → Among (xs ++ ys) to
+pub among_left : (xs ys : List ℕ) (to : ℕ) → Among xs to → Among (xs ++ ys) to
 among_left [] ys to m = elim m [ ]
 among_left (x ∷ xs) ys to (inl e) = inl e
 among_left (x ∷ xs) ys to (inr m) = inr (among_left xs ys to m)
 
-among_right : (xs ys : List ℕ) (to : ℕ) → Among ys to → Among (xs ++ ys) to
+pub among_right : (xs ys : List ℕ) (to : ℕ) → Among ys to → Among (xs ++ ys) to
 among_right [] ys to m = m
 among_right (x ∷ xs) ys to m = inr (among_right xs ys to m)
 
@@ -44,7 +44,7 @@ rest_passes true b e = cc
 rest_passes false b e = e
 
 -- a test that no place passes
-none_passes : (test : ℕ → Bool) (xs : List ℕ) (to : ℕ) → list_any test xs ≡ false → Among xs to → test to ≡ false
+pub none_passes : (test : ℕ → Bool) (xs : List ℕ) (to : ℕ) → list_any test xs ≡ false → Among xs to → test to ≡ false
 none_passes test [] to e m = elim m [ ]
 none_passes test (x ∷ xs) to e (inl same) = first_passes test x to (list_any test xs) (test x) refl e same
 none_passes test (x ∷ xs) to e (inr m) = none_passes test xs to (rest_passes (test x) (list_any test xs) e) m
@@ -53,7 +53,7 @@ none_passes test (x ∷ xs) to e (inr m) = none_passes test xs to (rest_passes (
 abbrev pub LeadsTo : List Instr → ℕ → Instr → ℕ → Type 0
 LeadsTo code pc i to = Among (named i) to ⊎ (((pc + 1 ≡ to) × (falls_through i ≡ true)) ⊎ Among (skipped_to code pc i) to)
 
-leads_among : (xs : List ℕ) (s : TypeState) (to : ℕ) (x : TypeState) → Leads (map (at_place s) xs) to x → Among xs to
+pub leads_among : (xs : List ℕ) (s : TypeState) (to : ℕ) (x : TypeState) → Leads (map (at_place s) xs) to x → Among xs to
 leads_among [] s to x m = elim m [ ]
 leads_among (y ∷ ys) s to x (inl l) = inl l.0
 leads_among (y ∷ ys) s to x (inr m) = inr (leads_among ys s to x m)
@@ -116,7 +116,7 @@ skip_after code pc (Times n) to m = by (match_of code pc) refl m
     by (Some q) e (inr m) = elim m [ ]
 skip_after code pc i to m = elim m [ ]
 
-next_among : (pc : ℕ) (i : Instr) (to : ℕ) → (pc + 1 ≡ to) × (falls_through i ≡ true) → Among (next_place pc i) to
+pub next_among : (pc : ℕ) (i : Instr) (to : ℕ) → (pc + 1 ≡ to) × (falls_through i ≡ true) → Among (next_place pc i) to
 next_among pc i to h = subst (λ xs. Among xs to) (ap (λ b. cond b ((pc + 1) ∷ []) []) (sym h.1)) (inl h.0)
 
 leads_up : (p : Program) (f pc : ℕ) (i : Instr) (s : TypeState) (to : ℕ) → Fits p f pc i s → LeadsTo (routine p f).code pc i to → (pc < to) × (to < size p f)

@@ -1,13 +1,8 @@
 pub mod Arriving
-pub mod Comparing
-pub mod Counting
 pub mod Fitting
 pub mod FollowLemmas
 pub mod Laws
-pub mod Marking
-pub mod Matching
-pub mod Nesting
 pub mod Passing
+pub mod Promising
 pub mod RoomLemmas
-pub mod Short
 pub mod Visiting

@@ -13,7 +13,7 @@ use Rattle.sts_model.specs.TypeState.{TypeState, kind, scope_in}
 use Rattle.sts_model.specs.Causes.{is_own, is_lent, passes, can_join, overflows, join_overflows}
 use Rattle.sts_model.specs.Edges.{joiner_of, ok_pushes}
 use Rattle.sts_model.specs.Fits.{Fits}
-use Rattle.sts_types.specs.Room.{HasRoom, JoinHasRoom}
+use Rattle.sts_states.specs.Room.{HasRoom, JoinHasRoom}
 
 neither : (a b : Bool) → a || b ≡ false → (a ≡ false) × (b ≡ false)
 neither true b e = cc

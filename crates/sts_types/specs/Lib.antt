@@ -1,4 +1,2 @@
 pub mod Arrivals
-pub mod Room
-pub mod Tables
 pub mod Typing

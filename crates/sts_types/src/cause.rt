@@ -5,12 +5,12 @@ ghost use Rattle.std.specs.List.{list_any, range_with_len};
 ghost use Rattle.sts_model.specs.Causes as def;
 ghost use Rattle.sts_model.specs.Misuse as misuse;
 
-use crate::operands::{pops, pushes};
-use crate::slots::{
+use sts_states::operands::{pops, pushes};
+use sts_states::slots::{
     can_fail, can_join, filled_slot, is_await_all, is_binding, is_empty, is_failed, is_lent,
     is_opened, is_own, is_readable, is_scope_in, is_sub, is_success, owners_slot, subtask_slot,
 };
-use crate::state::TypeState;
+use sts_states::state::TypeState;
 use sts_code::instr::Instr;
 use sts_code::profile::Profile;
 use sts_code::program::Program;
@@ -21,7 +21,7 @@ use sts_model::typing::{SlotKind, TypedEntry, TypedScope};
 pub(crate) fn lacks_operands(program: &Program, instr: Instr, state: &TypeState) -> bool
     ensures { result ≡ def.lacks_operands program.now instr state.now }
 {
-    state.height < pops(program, instr)
+    state.height() < pops(program, instr)
 }
 
 /// Does the answer of this scope's `join` take room?
@@ -39,7 +39,7 @@ fn join_overflows(state: &TypeState, instr: Instr) -> bool
 {
     match instr {
         Instr::Join { slot, .. } => {
-            32 <= state.height && is_own(state.kind(slot)) && answers(state.scope_in(slot))
+            32 <= state.height() && is_own(state.kind(slot)) && answers(state.scope_in(slot))
         }
         _ => false,
     }
@@ -48,14 +48,14 @@ fn join_overflows(state: &TypeState, instr: Instr) -> bool
 pub(crate) fn overflows(program: &Program, instr: Instr, state: &TypeState) -> bool
     ensures { result ≡ def.overflows program.now instr state.now }
 {
-    let left = state.height.saturating_sub(pops(program, instr));
+    let left = state.height().saturating_sub(pops(program, instr));
     32 < left + pushes(instr) || join_overflows(state, instr)
 }
 
 pub(crate) fn is_too_deep(instr: Instr, state: &TypeState) -> bool
     ensures { result ≡ def.is_too_deep instr state.now }
 {
-    matches!(instr, Instr::Times(_)) && 8 <= state.loops.len()
+    matches!(instr, Instr::Times(_)) && 8 <= state.loops().len()
 }
 
 // ---- V9 to V11
@@ -184,7 +184,7 @@ pub(crate) fn is_illegal(profile: Profile, instr: Instr, state: &TypeState) -> b
 fn is_innermost(state: &TypeState, slot: u8) -> bool
     ensures { result ≡ def.innermost (def.is_scope_in slot) state.now.entries }
 {
-    match state.entries.get(0) {
+    match state.entries().get(0) {
         None => false,
         Some(entry) => is_scope_in(slot, entry),
     }
@@ -193,7 +193,7 @@ fn is_innermost(state: &TypeState, slot: u8) -> bool
 fn has_binding_innermost(state: &TypeState) -> bool
     ensures { result ≡ def.innermost def.is_binding state.now.entries }
 {
-    match state.entries.get(0) {
+    match state.entries().get(0) {
         None => false,
         Some(entry) => is_binding(entry),
     }
@@ -208,7 +208,7 @@ pub(crate) fn breaks_structure(instr: Instr, state: &TypeState) -> bool
             is_own(state.kind(slot)) && (!is_innermost(state, slot) || state.is_held())
         }
         Instr::Unbind => !has_binding_innermost(state) || state.is_held(),
-        Instr::Ret | Instr::Fail => 0 < state.entries.len(),
+        Instr::Ret | Instr::Fail => 0 < state.entries().len(),
         _ => false,
     }
 }
@@ -216,7 +216,7 @@ pub(crate) fn breaks_structure(instr: Instr, state: &TypeState) -> bool
 pub(crate) fn is_nested(instr: Instr, state: &TypeState) -> bool
     ensures { result ≡ def.is_nested instr state.now }
 {
-    matches!(instr, Instr::Open { .. } | Instr::Bind(_)) && 16 <= state.entries.len()
+    matches!(instr, Instr::Open { .. } | Instr::Bind(_)) && 16 <= state.entries().len()
 }
 
 fn needs(program: &Program, function: u32, key: u8) -> bool

@@ -3,11 +3,11 @@
 ghost use Rattle.std.specs.Prelude.{◌≡◌, ◌<◌, ◌≤◌, ◌-◌, ◌+◌, ◌++◌, ◌∷◌, [], length, slice_get, option_to_list, IfSome};
 ghost use Rattle.sts_model.specs.Around as around;
 ghost use Rattle.sts_model.specs.Edges as def;
-ghost use Rattle.sts_types.specs.Room.{HasRoom};
+ghost use Rattle.sts_states.specs.Room.{HasRoom};
 
-use crate::loops::CodeLoops;
-use crate::operands::falls_through;
-use crate::state::TypeState;
+use sts_loops::loops::CodeLoops;
+use sts_states::operands::falls_through;
+use sts_states::state::TypeState;
 use arrayvec::ArrayVec;
 use sts_code::instr::Instr;
 use sts_code::program::Program;

@@ -6,9 +6,9 @@ ghost use Rattle.sts_model.specs.Around as around;
 ghost use Rattle.sts_model.specs.Causes as def;
 ghost use Rattle.sts_model.specs.TypeState.{heads};
 
-use crate::loops::CodeLoops;
-use crate::operands::falls_through;
-use crate::state::TypeState;
+use sts_loops::loops::CodeLoops;
+use sts_states::operands::falls_through;
+use sts_states::state::TypeState;
 use sts_code::instr::Instr;
 use sts_model::stack::Stack;
 use sts_model::typing::TypedLoop;
@@ -70,7 +70,7 @@ fn is_unmatched(loops: &CodeLoops<'_>, pc: u32, instr: Instr, state: &TypeState)
 {
     match instr {
         Instr::Times(_) => loops.end_of(pc).is_none(),
-        Instr::Next => !loops.closes_loop(pc, &state.loops),
+        Instr::Next => !loops.closes_loop(pc, state.loops()),
         _ => false,
     }
 }
@@ -97,9 +97,9 @@ fn next_differs(loops: &CodeLoops<'_>, pc: u32, instr: Instr, state: &TypeState)
     ensures { result ≡ list_any (def.is_other_loop loops.now (around.open_after pc instr (heads state.now.loops))) (around.next_place pc instr) }
 {
     match instr {
-        Instr::Times(_) => !loops.begins(pc, &state.loops),
-        Instr::Next => !loops.are_around(loops.after(pc), &state.loops, 1),
-        _ => falls_through(instr) && !loops.are_around(loops.after(pc), &state.loops, 0),
+        Instr::Times(_) => !loops.begins(pc, state.loops()),
+        Instr::Next => !loops.are_around(loops.after(pc), state.loops(), 1),
+        _ => falls_through(instr) && !loops.are_around(loops.after(pc), state.loops(), 0),
     }
 }
 
@@ -117,7 +117,7 @@ pub(crate) fn mismatches(
     ensures { result ≡ def.mismatches loops.now pc instr state.now }
 {
     is_unmatched(loops, pc, instr, state)
-        || any_other(loops, &state.loops, named)
-        || is_other(loops, &state.loops, skip)
+        || any_other(loops, state.loops(), named)
+        || is_other(loops, state.loops(), skip)
         || next_differs(loops, pc, instr, state)
 }

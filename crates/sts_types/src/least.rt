@@ -10,9 +10,9 @@ use crate::cause::{
     is_too_deep, is_unbound, lacks_operands, misjoins, overflows,
 };
 use crate::leads::{falls_off, jumps_back, mismatches};
-use crate::loops::CodeLoops;
-use crate::operands::named;
-use crate::state::TypeState;
+use sts_loops::loops::CodeLoops;
+use sts_states::operands::named;
+use sts_states::state::TypeState;
 use sts_code::instr::Instr;
 use sts_code::program::Program;
 use sts_model::typing::Cause;

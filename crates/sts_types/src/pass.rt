@@ -5,7 +5,7 @@ ghost use Rattle.sts_model.specs.Around as around;
 ghost use Rattle.sts_model.specs.Edges as def;
 ghost use Rattle.sts_model.specs.Refusal.{IsWellTyped};
 ghost use Rattle.sts_types.specs.Arrivals.{Merged, Arrive};
-ghost use Rattle.sts_types.specs.Room.{HasRoom};
+ghost use Rattle.sts_states.specs.Room.{HasRoom};
 ghost use Rattle.sts_types.specs.Typing.{Tells};
 
 use crate::arrival::Arrival;
@@ -13,8 +13,8 @@ use crate::edges::code_of;
 use crate::follow::edge;
 use crate::leads::skip;
 use crate::least::least_cause;
-use crate::loops::{CodeLoops, Tables};
-use crate::state::{TypeState, entry};
+use sts_loops::loops::{CodeLoops, Tables};
+use sts_states::state::{TypeState, entry};
 use sts_code::instr::Instr;
 use sts_code::program::Program;
 use sts_model::typing::Cause;
@@ -80,7 +80,7 @@ fn back_to(instr: Instr, state: &TypeState) -> Option<u32>
     ensures { result ≡ def.back_of instr state.now }
 {
     match instr {
-        Instr::Next => match state.loops.get(0) {
+        Instr::Next => match state.loops().get(0) {
             Some(innermost) => Some(innermost.at + 1),
             None => None,
         },

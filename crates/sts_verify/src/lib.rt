@@ -2,4 +2,8 @@
 #![tactic(auto)]
 
 pub mod error;
+pub mod laws;
 pub mod verified;
+
+#[cfg(test)]
+mod tests;

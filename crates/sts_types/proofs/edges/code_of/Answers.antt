@@ -1,6 +1,6 @@
 use Rattle.std.proofs.Common.{◌≡◌, length, ap, ◌∙◌}
 use Rattle.sts_code.specs.Program.{Routine}
-use Rattle.sts_types.proofs.Short.{function_is_short, function_has_code}
+use Rattle.sts_states.proofs.Short.{function_is_short, function_has_code}
 use Rattle.sts_types.proofs.edges.code_of.Goals as goal
 
 pub returns-in-Some-clause-short : goal.returns-in-Some-clause-short
