@@ -1,0 +1,17 @@
+pub mod Kept
+pub mod Later
+pub mod Lists
+pub mod Runs
+pub mod Sound
+pub mod Still
+pub mod Frames
+pub mod Effects
+pub mod Births
+pub mod Told
+pub mod Events
+pub mod Laws
+pub mod Steps
+pub mod Causes
+pub mod Settled
+pub mod Entries
+pub mod Entered

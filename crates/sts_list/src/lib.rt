@@ -1,0 +1,12 @@
+//! Programs written as text: the listing of a program and the words of one instruction.
+#![tactic(auto)]
+
+mod listing;
+mod spelling;
+mod targets;
+
+pub use listing::list;
+pub use spelling::spell;
+
+#[cfg(test)]
+mod tests;
