@@ -5,7 +5,6 @@ pub mod changes;
 pub mod code;
 pub mod family;
 pub mod frames;
-pub mod joining;
 pub mod reading;
 pub mod records;
 pub mod world;
