@@ -1,5 +1,5 @@
-use Rattle.std.proofs.Common.{◌≡◌, ℕ, ◌^◌, ◌-◌, Bool, true, false, cond, List, [], ◌∷◌, ◌++◌, refl, sym, ◌∙◌, ap, ◌⊎◌, inl, inr}
-use Rattle.std.specs.Prelude.{◌↔◌, Option, Some, None, option_map, Result, Ok, Err, ℤ, codes}
+use Rattle.std.proofs.Common.{◌≡◌, ℕ, ◌^◌, ◌-◌, Bool, true, false, cond, List, [], ◌∷◌, ◌++◌, refl, ◌∙◌, ap, ◌⊎◌, inl, inr}
+use Rattle.std.specs.Prelude.{Option, Some, None, option_map, Result, Ok, Err, ℤ, codes}
 use Rattle.std.specs.List.{AllByRecursion}
 use Rattle.std.specs.Option.{option_or}
 use Rattle.std.specs.Str.{bytes_eq}
@@ -15,7 +15,7 @@ use Rattle.sts_code.specs.declared.instr.Kind.{Kind}
 use Rattle.sts_code.specs.declared.instr.Kind.TheVariants.{S, F, U}
 use Rattle.sts_text.specs.Number.{number, number_up_to}
 use Rattle.sts_asm.specs.declared.fault.AsmKind.{AsmKind}
-use Rattle.sts_asm.specs.declared.fault.AsmKind.TheVariants.{UnknownWord, BadNumber, BadOperands, UnknownLabel}
+use Rattle.sts_asm.specs.declared.fault.AsmKind.TheVariants.{BadNumber, BadOperands, UnknownLabel}
 use Rattle.sts_asm.specs.Fault.{◌>>=◌}
 use Rattle.sts_asm.specs.Marks.{Names, label_in, function_in}
 use Rattle.sts_asm.specs.Operand.{Read, wanted, looked_up, number_at, value_at, slot, slot_at, handle, handle_at, named, name_at, target_at, function_at, maybe_target_at, until_count_at, until_value_at, until_at, joiners, joiner_at, timed_at, kinds_counted, kind_at, finished}

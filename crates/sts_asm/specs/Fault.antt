@@ -18,10 +18,12 @@ kind_number TextTooLong = 8
 kind_number (Code e) = 9
 kind_number Memory = 10
 
+-- what the program checks refuse, for A9
 abbrev pub code_error : AsmKind → Option CodeError
 code_error (Code e) = Some e
 code_error kind = None
 
+-- want of memory; it has no line
 abbrev pub out_of_memory : AsmError
 out_of_memory = record { line = 0; kind = Memory }
 
@@ -56,6 +58,7 @@ abbrev pub FailsAt : {Y : Type 0} → AsmError → AsmKind → Result Y AsmError
 FailsAt e Memory read = e.line ≡ 0
 FailsAt e kind read = read ≡ Err e
 
+-- The same, where what a function left is the value.
 abbrev pub StepsAt : {X Y : Type 0} → Result X AsmError → Y → Result Y AsmError → Type 0
 StepsAt (Ok x) new read = read ≡ Ok new
 StepsAt (Err e) new read = FailsAt e e.kind read

@@ -1,5 +1,5 @@
 -- The instructions by their words: the instruction table as it is read (this project's own).
-use Rattle.std.specs.Prelude.{◌≡◌, ℕ, ◌^◌, ◌-◌, List, [], ◌∷◌, Option, Some, None, Result, Ok, Err, codes}
+use Rattle.std.specs.Prelude.{ℕ, ◌^◌, ◌-◌, List, [], ◌∷◌, Option, Some, None, Result, Err, codes}
 use Rattle.std.specs.Option.{option_or}
 use Rattle.sts_code.specs.declared.instr.Instr.{Instr}
 use Rattle.sts_code.specs.declared.instr.Instr.TheVariants as i
@@ -58,6 +58,7 @@ mnemonic_of word =
 
 -- ---- with their operands
 
+-- the instruction with this local or key
 abbrev pub with_number : Numbered → ℕ → Instr
 with_number numbered.Load x = i.Load x
 with_number numbered.Store x = i.Store x
@@ -66,6 +67,7 @@ with_number numbered.Read k = i.Read k
 with_number numbered.Bound k = i.Bound k
 with_number numbered.OrElse k = i.OrElse k
 
+-- the instruction with this slot
 abbrev pub with_slot : Slotted → ℕ → Instr
 with_slot slotted.Close s = i.Close s
 with_slot slotted.Cancelled s = i.Cancelled s
@@ -74,23 +76,29 @@ with_slot slotted.Except h = i.Except h
 with_slot slotted.Total s = i.Total s
 with_slot slotted.Forget h = i.Forget h
 
+-- the instruction with this target
 abbrev pub with_target : Targeted → ℕ → Instr
 with_target targeted.Div to = i.Div to
 with_target targeted.Jmp to = i.Jmp to
 with_target targeted.Jz to = i.Jz to
 
+-- a slot, a joiner, and `timed` or nothing
 abbrev pub open_at : List (List ℕ) → Result Instr AsmKind
 open_at words = slot_at words >>= λ s. joiner_at s.1 >>= λ j. timed_at j.1 >>= λ t. finished (i.Open s.0 j.0 t.0) t.1
 
+-- a slot, a function, and a slot or `_`
 abbrev pub fork_at : Option Names → List (List ℕ) → Result Instr AsmKind
 fork_at names words = slot_at words >>= λ s. function_at names s.1 >>= λ f. handle_at f.1 >>= λ h. finished (i.Fork s.0 f.0 h.0) h.1
 
+-- a slot, two labels that may be left out by `-`, and a label
 abbrev pub join_at : Option Names → List (List ℕ) → Result Instr AsmKind
 join_at names words = slot_at words >>= λ s. maybe_target_at names s.1 >>= λ f. maybe_target_at names f.1 >>= λ t. target_at names t.1 >>= λ r. finished (i.Join s.0 f.0 t.0 r.0) r.1
 
+-- a slot and two labels
 abbrev pub case_at : Option Names → List (List ℕ) → Result Instr AsmKind
 case_at names words = slot_at words >>= λ h. target_at names h.1 >>= λ s. target_at names s.1 >>= λ f. finished (i.Case h.0 s.0 f.0) f.1
 
+-- a slot and a state
 abbrev pub tally_at : List (List ℕ) → Result Instr AsmKind
 tally_at words = slot_at words >>= λ s. kind_at s.1 >>= λ k. finished (i.Tally s.0 k.0) k.1
 
@@ -108,6 +116,7 @@ operated names Join words = join_at names words
 operated names Case words = case_at names words
 operated names Tally words = tally_at words
 
+-- a first word that is no instruction's is the first fault
 abbrev pub known : Option Names → Option Mnemonic → List (List ℕ) → Result Instr AsmKind
 known names None words = Err UnknownWord
 known names (Some m) words = operated names m words

@@ -1,5 +1,5 @@
 -- The operands of a line, read from left to right up to the first place that is wrong (this project's own).
-use Rattle.std.specs.Prelude.{◌≡◌, ℕ, ◌^◌, ◌-◌, ◌==◌, Bool, true, false, List, [], ◌∷◌, drop, slice_index, Option, Some, None, option_map, Result, Ok, Err, if◌then◌else◌, ℤ, codes}
+use Rattle.std.specs.Prelude.{ℕ, ◌^◌, ◌-◌, ◌==◌, Bool, true, false, List, [], ◌∷◌, drop, slice_index, Option, Some, None, option_map, Result, Ok, Err, if◌then◌else◌, ℤ, codes}
 use Rattle.std.specs.Str.{bytes_eq}
 use Rattle.sts_code.specs.Name.{is_name}
 use Rattle.sts_code.specs.declared.instr.Joiner.{Joiner}
@@ -42,6 +42,7 @@ value_at (word ∷ rest) = wanted BadNumber (number word) rest
 abbrev pub slot : List ℕ → Option ℕ
 slot word = if slice_index word 0 == 115 then digits_up_to 255 (drop 1 word) else None
 
+-- a slot
 abbrev pub slot_at : List (List ℕ) → Read ℕ
 slot_at [] = Err BadOperands
 slot_at (word ∷ rest) = wanted BadOperands (slot word) rest
@@ -50,13 +51,16 @@ slot_at (word ∷ rest) = wanted BadOperands (slot word) rest
 abbrev pub handle : List ℕ → Option (Option ℕ)
 handle word = if bytes_eq word (codes "_") then Some None else option_map (λ s. Some s) (slot word)
 
+-- a slot or `_`
 abbrev pub handle_at : List (List ℕ) → Read (Option ℕ)
 handle_at [] = Err BadOperands
 handle_at (word ∷ rest) = wanted BadOperands (handle word) rest
 
+-- a word that is a name
 abbrev pub named : List ℕ → Option (List ℕ)
 named word = if is_name word then Some word else None
 
+-- a name
 abbrev pub name_at : List (List ℕ) → Read (List ℕ)
 name_at [] = Err BadOperands
 name_at (word ∷ rest) = wanted BadOperands (named word) rest
@@ -80,6 +84,7 @@ maybe_target_at names (word ∷ rest) =
 abbrev pub until_count_at : (ℕ → Pred) → List (List ℕ) → Read Joiner
 until_count_at condition words = number_at (2 ^ 32 - 1) words >>= λ n. Ok (Until (condition n.0), n.1)
 
+-- the condition of `until` that compares values
 abbrev pub until_value_at : List (List ℕ) → Read Joiner
 until_value_at words = value_at words >>= λ v. Ok (Until (pred.AtLeast v.0), v.1)
 
@@ -96,6 +101,7 @@ until_at (word ∷ rest) =
 abbrev pub joiners : List (List ℕ × Joiner)
 joiners = (codes "all", AllSucceed) ∷ (codes "any", AnySucceeds) ∷ (codes "awaitok", AwaitOk) ∷ (codes "awaitall", AwaitAll) ∷ []
 
+-- the joiner of a scope
 abbrev pub joiner_at : List (List ℕ) → Read Joiner
 joiner_at [] = Err BadOperands
 joiner_at (word ∷ rest) =
@@ -111,6 +117,7 @@ timed_at (word ∷ rest) = if bytes_eq word (codes "timed") then Ok (true, rest)
 abbrev pub kinds_counted : List (List ℕ × Kind)
 kinds_counted = (codes "S", kinds.S) ∷ (codes "F", kinds.F) ∷ (codes "U", kinds.U) ∷ []
 
+-- the state of a subtask
 abbrev pub kind_at : List (List ℕ) → Read Kind
 kind_at [] = Err BadOperands
 kind_at (word ∷ rest) = wanted BadOperands (looked_up kinds_counted word) rest

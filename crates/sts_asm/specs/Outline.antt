@@ -1,5 +1,5 @@
 -- A text line by line: its functions with their labels and their lines of instructions, while no name is looked up (this project's own).
-use Rattle.std.specs.Prelude.{◌≡◌, ℕ, ◌+◌, ◌++◌, ◌==◌, ◌-◌, Bool, true, false, ◌&&◌, ◌||◌, List, [], ◌∷◌, length, take, replicate, slice_index, slice_set, nat_le, Option, Some, None, is_some, Result, Ok, Err, if◌then◌else◌, codes}
+use Rattle.std.specs.Prelude.{ℕ, ◌+◌, ◌++◌, ◌==◌, ◌-◌, Bool, true, false, ◌&&◌, ◌||◌, List, [], ◌∷◌, length, take, replicate, slice_index, slice_set, nat_le, Option, Some, None, is_some, Result, Ok, Err, if◌then◌else◌, codes}
 use Rattle.std.specs.List.{list_all, before_first}
 use Rattle.std.specs.Str.{bytes_eq}
 use Rattle.sts_code.specs.Name.{is_name}
@@ -35,6 +35,7 @@ pub record Outline : Type 0 where
   pub done : List Draft
   pub current : Option Draft
 
+-- before the first line
 abbrev pub empty : Outline
 empty = record { profile = One; functions = []; done = []; current = None }
 
@@ -50,6 +51,7 @@ abbrev pub profile_at : List (List ℕ) → Result Profile AsmKind
 profile_at [] = Err BadOperands
 profile_at (word ∷ rest) = profile_of (number_up_to 2 word) >>= λ p. finished p rest
 
+-- the line `profile`, which may be line 1 alone
 abbrev pub profiled : Outline → List (List ℕ) → Result Outline AsmKind
 profiled o words = profile_at words >>= λ p. Ok (record o { profile = p })
 
@@ -58,6 +60,7 @@ abbrev pub with_keys : List Bool → List (List ℕ) → Result (List Bool) AsmK
 with_keys needs [] = Ok needs
 with_keys needs (word ∷ rest) = number_at 15 (word ∷ []) >>= λ k. with_keys (slice_set needs k.0 true) rest
 
+-- none of the sixteen keys
 abbrev pub no_needs : List Bool
 no_needs = replicate 16 false
 
@@ -75,14 +78,17 @@ needs_at (word ∷ rest) = if bytes_eq word (codes "needs") then keys_at rest el
 abbrev pub header_at : List (List ℕ) → Result Draft AsmKind
 header_at words = name_at words >>= λ name. number_at 255 name.1 >>= λ args. needs_at args.1 >>= λ needs. Ok (record { name = name.0; args = args.0; needs = needs; labels = []; code = [] })
 
+-- a function is opened; where a name is given twice, the first counts
 abbrev pub with_function : Outline → Draft → Outline
 with_function o d = record o { functions = o.functions ++ record { name = d.name; at = length o.done } ∷ []; current = Some d }
 
+-- the line `func`, outside a function
 abbrev pub begun : Outline → List (List ℕ) → Result Outline AsmKind
 begun o words = if is_some o.current then Err Unclosed else (header_at words >>= λ d. Ok (with_function o d))
 
 -- ---- `end`, labels and instructions
 
+-- the line `end`, in a function
 abbrev pub ended : Outline → Option Draft → List (List ℕ) → Result Outline AsmKind
 ended o None rest = Err UnknownWord
 ended o (Some d) rest = finished (record o { done = o.done ++ d ∷ []; current = None }) rest
@@ -96,9 +102,11 @@ label_of word =
 abbrev pub with_label : Draft → List ℕ → Draft
 with_label d name = record d { labels = d.labels ++ record { name = name; at = length d.code } ∷ [] }
 
+-- a label that the function doesn't have yet
 abbrev pub labelled : Draft → List ℕ → Result Draft AsmKind
 labelled d name = if is_some (marked d.labels name) then Err DuplicateLabel else Ok (with_label d name)
 
+-- a line of an instruction is added
 abbrev pub with_sentence : ℕ → Draft → List (List ℕ) → Draft
 with_sentence at d words = record d { code = d.code ++ record { line = at; words = words } ∷ [] }
 
@@ -107,6 +115,7 @@ abbrev pub inner : ℕ → Draft → Option (List ℕ) → List ℕ → List (Li
 inner at d (Some name) word rest = finished name rest >>= λ name. labelled d name
 inner at d None word rest = instr_of None (word ∷ rest) >>= λ i. Ok (with_sentence at d (word ∷ rest))
 
+-- a label or an instruction, in a function
 abbrev pub inside : ℕ → Outline → Option Draft → List ℕ → List (List ℕ) → Result Outline AsmKind
 inside at o None word rest = Err UnknownWord
 inside at o (Some d) word rest = inner at d (label_of word) word rest >>= λ e. Ok (record o { current = Some e })
@@ -143,11 +152,13 @@ lines_read at o (line ∷ more) = at_line at (line_read at o line) >>= λ p. lin
 abbrev pub closed : ℕ → Outline → Result Outline AsmError
 closed last o = if is_some o.current then Err (record { line = last; kind = Unclosed }) else Ok o
 
+-- a whole text, while no name is looked up
 abbrev pub outline_of : List ℕ → Result Outline AsmError
 outline_of text = lines_read 1 empty (lines text) >>= λ o. closed (length (lines text)) o
 
 -- ---- sizes
 
+-- how many instructions an open function has
 abbrev pub instructions : Option Draft → ℕ
 instructions None = 0
 instructions (Some d) = length d.code

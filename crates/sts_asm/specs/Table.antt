@@ -1,5 +1,5 @@
 -- The instruction table: which words spell which instruction (this project's own).
-use Rattle.std.specs.Prelude.{◌≡◌, ℕ, ◌^◌, ◌-◌, ◌↔◌, Bool, true, false, List, [], ◌∷◌, ◌++◌, Option, Some, None, Result, Ok, codes}
+use Rattle.std.specs.Prelude.{◌≡◌, ℕ, ◌^◌, ◌-◌, ◌↔◌, Bool, true, false, List, [], ◌∷◌, ◌++◌, Option, Some, None, Ok, codes}
 use Rattle.sts_code.specs.Name.{is_name}
 use Rattle.sts_code.specs.declared.instr.Instr.{Instr}
 use Rattle.sts_code.specs.declared.instr.Instr.TheVariants as i
@@ -19,6 +19,7 @@ use Rattle.sts_asm.specs.Line.{instr_of}
 abbrev pub IsLabel : Option Names → ℕ → List ℕ → Type 0
 IsLabel names to word = (is_name word ≡ true) × (label_in names word ≡ Some to)
 
+-- a label, or `-` for none
 abbrev pub IsMaybeLabel : Option Names → Option ℕ → List ℕ → Type 0
 IsMaybeLabel names None word = word ≡ codes "-"
 IsMaybeLabel names (Some to) word = IsLabel names to word
@@ -27,10 +28,12 @@ IsMaybeLabel names (Some to) word = IsLabel names to word
 abbrev pub IsFunction : Option Names → ℕ → List ℕ → Type 0
 IsFunction names f word = (is_name word ≡ true) × (function_in names word ≡ Some f)
 
+-- a slot, or `_` for none
 abbrev pub IsHandle : Option ℕ → List ℕ → Type 0
 IsHandle None word = word ≡ codes "_"
 IsHandle (Some h) word = slot word ≡ Some h
 
+-- the state of a subtask
 abbrev pub IsKind : Kind → List ℕ → Type 0
 IsKind S word = word ≡ codes "S"
 IsKind F word = word ≡ codes "F"
@@ -40,12 +43,15 @@ IsKind U word = word ≡ codes "U"
 abbrev pub IsNumbered : List ℕ → ℕ → ℕ → List (List ℕ) → Type 0
 IsNumbered first most n words = (w : List ℕ) × (words ≡ first ∷ w ∷ []) × (number_up_to most w ≡ Some n)
 
+-- a word and a slot
 abbrev pub IsSlotted : List ℕ → ℕ → List (List ℕ) → Type 0
 IsSlotted first s words = (w : List ℕ) × (words ≡ first ∷ w ∷ []) × (slot w ≡ Some s)
 
+-- a word and a label
 abbrev pub IsTargeted : Option Names → List ℕ → ℕ → List (List ℕ) → Type 0
 IsTargeted names first to words = (w : List ℕ) × (words ≡ first ∷ w ∷ []) × IsLabel names to w
 
+-- the words of a joiner
 abbrev pub IsJoiner : Joiner → List (List ℕ) → Type 0
 IsJoiner AllSucceed words = words ≡ codes "all" ∷ []
 IsJoiner AnySucceeds words = words ≡ codes "any" ∷ []
@@ -55,6 +61,7 @@ IsJoiner (Until (Failed n)) words = (w : List ℕ) × (words ≡ codes "until" �
 IsJoiner (Until (Success n)) words = (w : List ℕ) × (words ≡ codes "until" ∷ codes "success" ∷ w ∷ []) × (number_up_to (2 ^ 32 - 1) w ≡ Some n)
 IsJoiner (Until (AtLeast v)) words = (w : List ℕ) × (words ≡ codes "until" ∷ codes "atleast" ∷ w ∷ []) × (number w ≡ Some v)
 
+-- `timed`, or nothing
 abbrev pub IsTimed : Bool → List (List ℕ) → Type 0
 IsTimed true words = words ≡ codes "timed" ∷ []
 IsTimed false words = words ≡ []

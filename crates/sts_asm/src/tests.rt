@@ -67,9 +67,9 @@ end";
 fn every_word_is_assembled(rt: HostRuntime) -> Result<(), Fail> {
     let program = assemble(rt.alloc(), EVERY_WORD.as_bytes())?;
     assert_eq!(rt; program.profile(), Profile::Two);
-    let functions = program.functions();
-    assert_eq!(rt; functions.len(), 3);
-    let kid = &functions[0];
+    let [kid, short, main] = program.functions() else {
+        panic!(rt; "three functions");
+    };
     assert_eq!(rt; kid.name.as_str(), "kid");
     assert_eq!(rt; kid.args, 2);
     let mut needs = [false; 16];
@@ -96,8 +96,8 @@ fn every_word_is_assembled(rt: HostRuntime) -> Result<(), Fail> {
         Instr::Ret,
     ];
     assert_eq!(rt; kid.code.as_slice(), local.as_slice());
-    assert_eq!(rt; functions[1].name.as_str(), "_");
-    assert_eq!(rt; functions[1].code.as_slice(), [Instr::Fail].as_slice());
+    assert_eq!(rt; short.name.as_str(), "_");
+    assert_eq!(rt; short.code.as_slice(), [Instr::Fail].as_slice());
     let scopes = [
         open(0, Joiner::AllSucceed, false),
         open(1, Joiner::AnySucceeds, true),
@@ -150,7 +150,7 @@ fn every_word_is_assembled(rt: HostRuntime) -> Result<(), Fail> {
         Instr::Interrupted,
         Instr::Ret,
     ];
-    assert_eq!(rt; functions[2].code.as_slice(), scopes.as_slice());
+    assert_eq!(rt; main.code.as_slice(), scopes.as_slice());
     Ok(())
 }
 

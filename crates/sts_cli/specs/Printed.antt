@@ -1,8 +1,9 @@
 -- The lines that the program prints (this project's own).
-use Rattle.std.specs.Prelude.{ℕ, List, ◌∷◌, [], ◌++◌, Option, Some, None, codes}
+use Rattle.std.specs.Prelude.{ℕ, List, ◌∷◌, [], ◌++◌, Option, Some, None, codes, slice_get}
 use Rattle.std.specs.Fmt.{decimal, signed_decimal}
 use Rattle.sts_code.specs.Checks.{cause_number}
 use Rattle.sts_code.specs.Program.{Program, routine}
+use Rattle.sts_code.specs.declared.instr.Instr.{Instr}
 use Rattle.sts_code.specs.declared.checking.CodeError.{CodeError}
 use Rattle.sts_model.specs.declared.event.End.{End}
 use Rattle.sts_model.specs.declared.event.End.TheVariants.{Success, Failed}
@@ -10,6 +11,9 @@ use Rattle.sts_model.specs.declared.event.Fault.{Fault}
 use Rattle.sts_model.specs.declared.event.Fault.TheVariants as fault
 use Rattle.sts_asm.specs.Fault.{kind_number}
 use Rattle.sts_asm.specs.declared.fault.AsmError.{AsmError}
+use Rattle.sts_list.specs.Spelling.{spelled}
+use Rattle.sts_model.specs.Causes.{cause_number as refusal_number}
+use Rattle.sts_model.specs.declared.typing.Cause.{Cause}
 use Rattle.sts_plain.specs.declared.misstep.PlainState.{PlainState}
 use Rattle.sts_plain.specs.declared.misstep.PlainState.TheVariants as plain
 use Rattle.sts_trace.specs.declared.error.TraceError.{TraceError}
@@ -68,3 +72,15 @@ state_line p (plain.Fault kind task function pc) = fault_line p kind task functi
 
 abbrev pub steps_line : ℕ → List ℕ
 steps_line n = ended (codes "steps " ++ decimal n)
+
+-- ---- the verdict
+
+-- the instruction at a place, or `end`
+abbrev pub place_words : Program → Option Instr → List ℕ
+place_words p None = codes "end"
+place_words p (Some i) = spelled p i
+
+-- `refused V13 in NAME at PC: INSTRUCTION`
+abbrev pub refused_line : Program → ℕ → ℕ → Cause → List ℕ
+refused_line p f pc c =
+    ended (codes "refused V" ++ decimal (refusal_number c) ++ codes " in " ++ (routine p f).name ++ codes " at " ++ decimal pc ++ codes ": " ++ place_words p (slice_get (routine p f).code pc))

@@ -37,7 +37,7 @@ impl Model for Answer {
 }
 
 /// The answer to a fault of a text; want of memory is no fault of it.
-fn text_fault(alloc: Global, error: AsmError) -> Result<Answer, AllocError>
+pub(crate) fn text_fault(alloc: Global, error: AsmError) -> Result<Answer, AllocError>
     ensures { (read : Result Program AsmError) → FailsAt error error.kind read → IfOk result (λ a. (read ≡ Err error) × (a ≡ def.text_fault_output error)) }
 {
     if matches!(error.kind, AsmKind::Memory) {

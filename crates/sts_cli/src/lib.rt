@@ -8,3 +8,4 @@ pub mod play;
 pub mod printed;
 pub mod program;
 pub mod taking;
+pub mod verdict;

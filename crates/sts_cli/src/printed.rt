@@ -1,17 +1,20 @@
 //! The lines that are printed.
 
-ghost use Rattle.std.specs.Prelude.{◌≡◌, ◌++◌, OnOk, codes};
+ghost use Rattle.std.specs.Prelude.{◌≡◌, ◌++◌, OnOk, codes, slice_get};
 ghost use Rattle.std.specs.String.{string_bytes};
 ghost use Rattle.sts_code.specs.Program.{routine};
 ghost use Rattle.sts_asm.specs.Fault.{code_error};
 ghost use Rattle.sts_cli.specs.Printed as def;
 
-use std::alloc::AllocError;
+use std::alloc::{AllocError, Global};
 use std::fmt::Write;
 use sts_asm::AsmError;
 use sts_code::checking::CodeError;
+use sts_code::instr::Instr;
 use sts_code::program::Program;
+use sts_list::spell;
 use sts_model::event::{End, Fault};
+use sts_model::typing::Cause;
 use sts_plain::misstep::PlainState;
 use sts_trace::TraceError;
 
@@ -117,4 +120,52 @@ pub fn steps_line(out: &mut String, steps: u64) -> Result<(), AllocError>
     ensures { OnOk result (string_bytes out.new ≡ string_bytes out.old ++ def.steps_line steps) }
 {
     writeln!(out, "steps {steps}")
+}
+
+/// The instruction at a place of a function, or `end`.
+fn place_words(
+    alloc: Global,
+    out: &mut String,
+    program: &Program,
+    instr: Option<Instr>,
+) -> Result<(), AllocError>
+    ensures { OnOk result (string_bytes out.new ≡ string_bytes out.old ++ def.place_words program.now instr) }
+{
+    match instr {
+        None => out.push_str("end")?,
+        Some(instr) => {
+            let words = spell(alloc, &instr, program)?;
+            out.push_str(words.as_str())?;
+        }
+    }
+    Ok(())
+}
+
+/// The instruction at a place of a function.
+fn instr_at(program: &Program, function: u32, pc: u32) -> Option<Instr>
+    ensures { result ≡ slice_get (routine program.now function).code pc }
+{
+    match program.functions().get(function as usize) {
+        Some(f) => f.code.get(pc as usize).copied(),
+        None => None,
+    }
+}
+
+/// The line that says where and why a program is refused.
+pub fn refused_line(
+    alloc: Global,
+    out: &mut String,
+    program: &Program,
+    function: u32,
+    pc: u32,
+    cause: Cause,
+) -> Result<(), AllocError>
+    ensures { OnOk result (string_bytes out.new ≡ string_bytes out.old ++ def.refused_line program.now function pc cause) }
+{
+    let number = cause.number();
+    let name = name_of(program, function);
+    write!(out, "refused V{number} in {name} at {pc}: ")?;
+    place_words(alloc, out, program, instr_at(program, function, pc))?;
+    out.push('\n')?;
+    Ok(())
 }

@@ -1,6 +1,7 @@
 //! Takes a reader's bytes, up to a most.
 
-ghost use Rattle.std.specs.Prelude.{◌≡◌, ◌≤◌, ◌<◌, ◌+◌, ℕ, List, IfSome, IfOk, OnOk, OnErr, length, take, vec_len, ◌++◌};
+ghost use Rattle.std.specs.IoError.{error_kind};
+ghost use Rattle.std.specs.Prelude.{◌≡◌, ◌↔◌, ◌≤◌, ◌<◌, ◌++◌, Some, IsNone, IfSome, IfOk, OnErr, length, take};
 ghost use Rattle.std.specs.Io.{ReadsAtMost};
 ghost use Rattle.std.specs.Io.KnownBytes.{Keeps, Consumes, IsAtEnd};
 ghost use Rattle.sts_cli.specs.Taking.{LosesUpTo};
@@ -19,6 +20,11 @@ pub enum TakeError {
 }
 
 impl From<AllocError> for TakeError {
+    ghost use Rattle.std.specs.Prelude.{◌≡◌};
+    ghost use Rattle.sts_cli.specs.declared.taking.TakeError.TheVariants.{Memory};
+
+    ghost from_gives = { λ _ e. e ≡ Memory };
+
     fn from(_error: AllocError) -> TakeError {
         TakeError::Memory
     }
@@ -28,7 +34,10 @@ impl From<AllocError> for TakeError {
 const PIECE: usize = 64 * 1024;
 
 /// What a failed read is told as; an interrupted one is none, and is tried again.
-fn told_as(error: &io::Error) -> Option<TakeError> {
+fn told_as(error: &io::Error) -> Option<TakeError>
+    ensures interrupted { IsNone result ↔ (error_kind error.now ≡ ErrorKind.Interrupted) }
+    ensures memory { (result ≡ Some TakeError.Memory) ↔ (error_kind error.now ≡ ErrorKind.OutOfMemory) }
+{
     match error.kind() {
         ErrorKind::Interrupted => None,
         ErrorKind::OutOfMemory => Some(TakeError::Memory),

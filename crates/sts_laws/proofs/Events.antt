@@ -1,9 +1,9 @@
 -- Every event leads from a state where all facts hold to one where they hold, and undoes nothing.
-use Rattle.std.proofs.Common.{◌≡◌, ℕ, zero, suc, List, [], ◌∷◌, Bool, true, false, Option, Some, None, refl, sym, ◌∙◌, length, arith, get_or, cond, not, fold, subst, ◌-◌, ◌≤◌, length-set}
+use Rattle.std.proofs.Common.{◌≡◌, ℕ, zero, suc, List, [], ◌∷◌, Bool, true, false, Option, Some, None, refl, sym, ◌∙◌, length, arith, get_or, cond, not, fold, subst, ◌-◌, length-set}
 use Rattle.sts_code.specs.Program.{Program}
 use Rattle.sts_code.specs.declared.instr.Instr.{Instr}
 use Rattle.sts_code.specs.declared.instr.Joiner.{Joiner}
-use Rattle.sts_code.specs.declared.instr.Instr.TheVariants.{Open, Fork, Close, Ret, Fail}
+use Rattle.sts_code.specs.declared.instr.Instr.TheVariants.{Open, Fork, Ret, Fail}
 use Rattle.sts_model.specs.declared.event.Event.{Event}
 use Rattle.sts_model.specs.declared.event.Event.TheVariants as event
 use Rattle.sts_model.specs.declared.event.End.{End}
@@ -17,10 +17,12 @@ use Rattle.sts_model.specs.declared.record.Task.{Task}
 use Rattle.sts_model.specs.World.{World, State, Running, Faulted, task_at, scope_at, no_task, no_scope, instr_at, opening, entry_frame, with_frame}
 use Rattle.sts_model.specs.Local.{operand}
 use Rattle.sts_model.specs.Living.{lives, is_closed}
-use Rattle.sts_model.specs.Misuse.{slot, is_opened, is_entry_of, innermost, misuse, IsFine}
+use Rattle.sts_model.specs.Misuse.{slot, is_opened, misuse, IsFine}
 use Rattle.sts_model.proofs.Fine.{fine}
 use Rattle.sts_model.specs.Waiting.{can_step}
-use Rattle.sts_model.specs.Effect.{effect, named, open_scope, fork_task, end_task}
+use Rattle.sts_model.specs.Effect as def
+use Rattle.sts_model.specs.Effect.{named, open_scope, fork_task, end_task}
+use Rattle.sts_model.specs.Outside as outside
 use Rattle.sts_model.specs.Run.{apply, after, stepped, perform}
 use Rattle.sts_laws.specs.Stays.{Between, Always}
 use Rattle.sts_laws.specs.Runs.{In, Ever}
@@ -33,30 +35,20 @@ use Rattle.sts_laws.proofs.Sound.{Sound, Owner, sound-kept}
 use Rattle.sts_laws.proofs.Effects.{first_no, still-effect, kept-end, still-interrupt, still-expire}
 use Rattle.sts_laws.proofs.Births.{more_scopes, new_scope, opener, later-more_scopes, sound-open, sound-fork, later-fork, new-owns_nothing}
 use Rattle.sts_laws.proofs.Told.{AllTold, told-new, told-still, told-open, told-fork, told-end}
-use Rattle.sts_laws.proofs.Causes.{AllFollow, follow-end, follow-effect, follow-interrupt, follow-expire}
-use Rattle.sts_laws.proofs.Settled.{Settled, settled-kept, settled-open, settled-fork}
-use Rattle.sts_laws.proofs.Entries.{Has, times_in, enters-end, enters-effect, enters-interrupt, enters-expire}
-use Rattle.sts_laws.proofs.Entered.{Entered, entered-enters, entered-open, entered-fork, entered-close}
 use Rattle.sts_laws.proofs.Runs.{after-append}
 
 -- all facts about a state
 pub record Right (w : World) : Type 0 where
   pub sound : Sound w
   pub told : AllTold w
-  pub settled : Settled w
-  pub entered : Entered w
 
 -- a state where they hold, later than w
 pub record Next (w v : World) : Type 0 where
   pub right : Right v
   pub later : Later w v
 
-next-still : (w v : World) → Right w → Still w v → AllFollow w v.scopes → Entered v → Next w v
-next-still w v o k follows entered =
-    record {
-      right = record { sound = sound-kept w v o.sound k.kept; told = told-still w v o.told k; settled = settled-kept w v o.settled k.kept follows; entered = entered };
-      later = kept-later w v k.kept;
-    }
+next-still : (w v : World) → Right w → Still w v → Next w v
+next-still w v o k = record { right = record { sound = sound-kept w v o.sound k.kept; told = told-still w v o.told k }; later = kept-later w v k.kept }
 
 next-end : (w : World) (t : ℕ) (end : End) → Right w → lives (task_at w t) ≡ true → (Kept w (end_task w t (task_at w t).frame end)) → Next w (end_task w t (task_at w t).frame end)
 next-end w t end o alive k =
@@ -65,8 +57,6 @@ next-end w t end o alive k =
           record {
             sound = sound-kept w _ o.sound k;
             told = told-end w t end alive o.sound o.told;
-            settled = settled-kept w _ o.settled k (follow-end w t (task_at w t).frame end o.sound o.settled.caused);
-            entered = entered-enters w _ o.entered k (enters-end w t end);
           };
       later = kept-later w _ k;
     }
@@ -91,8 +81,6 @@ next-open w t x joiner timed o alive =
           record {
             sound = sound-open w t x joiner timed o.sound alive;
             told = told-open w t x joiner timed o.sound o.told;
-            settled = settled-open w t x joiner timed o.settled;
-            entered = entered-open w t x joiner timed o.entered alive;
           };
       later = later-trans w v _ (later-more_scopes w (new_scope w t joiner timed)) (later-frame v t (opener w (task_at w t).frame x));
     }
@@ -111,14 +99,12 @@ next-fork p w t s g h o mine alive opened =
           record {
             sound = sound-fork p w t s g h o.sound mine alive (open_at_fork (scope_at w s).phase opened);
             told = told-fork p w t s g h alive o.told;
-            settled = settled-fork p w t s g h o.settled alive opened;
-            entered = entered-fork p w t s g h o.entered alive;
           };
       later = later-fork p w t s g h alive;
     }
 
 -- an instruction that is no misuse
-next-effect : (p : Program) (w : World) (t : ℕ) (i : Instr) → Right w → lives (task_at w t) ≡ true → IsFine p w t (task_at w t).frame i → Next w (effect p w t (task_at w t).frame i)
+next-effect : (p : Program) (w : World) (t : ℕ) (i : Instr) → Right w → lives (task_at w t) ≡ true → IsFine p w t (task_at w t).frame i → Next w (def.effect p w t (task_at w t).frame i)
 next-effect p w t (Open x joiner timed) o alive is = next-open w t x joiner timed o alive
 next-effect p w t (Fork x g h) o alive is =
     let f : Frame = (task_at w t).frame in
@@ -127,32 +113,53 @@ next-effect p w t (Fork x g h) o alive is =
     next-fork p w t (named (slot f x)) g h o (o.sound.own t x (named (slot f x)) mine) alive legal
 next-effect p w t Ret o alive is = next-end w t (Success (operand (task_at w t).frame 0)) o alive (kept-end w t (Success (operand (task_at w t).frame 0)) alive is.structure)
 next-effect p w t Fail o alive is = next-end w t (Failed (operand (task_at w t).frame 0)) o alive (kept-end w t (Failed (operand (task_at w t).frame 0)) alive is.structure)
-next-effect p w t (Close x) o alive is =
-    let f : Frame = (task_at w t).frame in
-    let mine : slot f x ≡ slots.Own (named (slot f x)) = own_slot (slot f x) (first_no _ _ (first_no _ _ is.slots)) is.own in
-    let order : not (innermost (is_entry_of (named (slot f x))) f.entries) ≡ false = sym (at_own-is w (slot f x) (λ n scope. not (innermost (is_entry_of n) f.entries)) mine) ∙ is.structure in
-    next-still w _ o (still-effect p w t (Close x) o.sound is refl) (follow-effect p w t (Close x) o.sound o.settled.caused is)
-    (entered-close w t (named (slot f x)) o.entered (o.sound.own t x (named (slot f x)) mine) alive order)
-next-effect p w t i o alive is =
-    let k = still-effect p w t i o.sound is refl in
-    next-still w _ o k (follow-effect p w t i o.sound o.settled.caused is) (entered-enters w _ o.entered k.kept (enters-effect p w t i refl))
+next-effect p w t i o alive is = next-still w _ o (still-effect p w t i o.sound is refl)
 
-next-at : (p : Program) (w : World) (t : ℕ) → Right w → lives (task_at w t) ≡ true → misuse p w t ≡ None → (o : Option Instr) → instr_at p (task_at w t).frame ≡ o → Next w (perform p w t (task_at w t).frame o)
-next-at p w t right alive m None e = record { right = right; later = later-refl w }
-next-at p w t right alive m (Some i) e = next-effect p w t i right alive (fine p w t i m e)
+-- ---- one event
 
-next-stepped : (p : Program) (w : World) (t : ℕ) → Right w → lives (task_at w t) ≡ true → (m : Option Fault) → misuse p w t ≡ m → In (Next w) (stepped m p w t (task_at w t).frame)
-next-stepped p w t right alive None e = next-at p w t right alive e (instr_at p (task_at w t).frame) refl
-next-stepped p w t right alive (Some kind) e = tt
+-- the instruction that a task does, which is no misuse
+pub record Does (p : Program) (w : World) (t : ℕ) (i : Instr) : Type 0 where
+  pub alive : lives (task_at w t) ≡ true
+  pub can : can_step p w t ≡ true
+  pub at : instr_at p (task_at w t).frame ≡ Some i
+  pub fine : IsFine p w t (task_at w t).frame i
 
-next-step : (p : Program) (w : World) (t : ℕ) → Right w → (b : Bool) → can_step p w t ≡ b → In (Next w) (cond b (stepped (misuse p w t) p w t (task_at w t).frame) (Running w))
-next-step p w t right false e = record { right = right; later = later-refl w }
-next-step p w t right true e = next-stepped p w t right (both (lives (task_at w t)) _ e).0 (misuse p w t) refl
+-- where P holds, each effect leads to a state that R says
+pub record Leads (p : Program) (P : World → Type 0) (R : World → World → Type 0) : Type 0 where
+  pub nothing : (w : World) → P w → R w w
+  pub effect : (w : World) (t : ℕ) (i : Instr) → P w → Does p w t i → R w (def.effect p w t (task_at w t).frame i)
+  pub interrupt : (w : World) (t : ℕ) → P w → R w (outside.interrupt w t)
+  pub expire : (w : World) (s : ℕ) → P w → R w (outside.expire w s)
+
+lead-at : (p : Program) (P : World → Type 0) (R : World → World → Type 0) → Leads p P R → (w : World) (t : ℕ) → P w → can_step p w t ≡ true → misuse p w t ≡ None → (o : Option Instr) → instr_at p (task_at w t).frame ≡ o → R w (perform p w t (task_at w t).frame o)
+lead-at p P R l w t h can m None e = l.nothing w h
+lead-at p P R l w t h can m (Some i) e = l.effect w t i h (record { alive = (both (lives (task_at w t)) _ can).0; can = can; at = e; fine = fine p w t i m e })
+
+lead-stepped : (p : Program) (P : World → Type 0) (R : World → World → Type 0) → Leads p P R → (w : World) (t : ℕ) → P w → can_step p w t ≡ true → (m : Option Fault) → misuse p w t ≡ m → In (R w) (stepped m p w t (task_at w t).frame)
+lead-stepped p P R l w t h can None e = lead-at p P R l w t h can e (instr_at p (task_at w t).frame) refl
+lead-stepped p P R l w t h can (Some kind) e = tt
+
+lead-step : (p : Program) (P : World → Type 0) (R : World → World → Type 0) → Leads p P R → (w : World) (t : ℕ) → P w → (b : Bool) → can_step p w t ≡ b → In (R w) (cond b (stepped (misuse p w t) p w t (task_at w t).frame) (Running w))
+lead-step p P R l w t h false e = l.nothing w h
+lead-step p P R l w t h true e = lead-stepped p P R l w t h e (misuse p w t) refl
+
+-- what the effects lead to, an event leads to
+pub lead : (p : Program) (P : World → Type 0) (R : World → World → Type 0) → Leads p P R → (w : World) (e : Event) → P w → In (R w) (apply p (Running w) e)
+lead p P R l w (event.Step t) h = lead-step p P R l w t h (can_step p w t) refl
+lead p P R l w (event.Interrupt t) h = l.interrupt w t h
+lead p P R l w (event.Expire s) h = l.expire w s h
+
+next-leads : (p : Program) → Leads p Right Next
+next-leads p =
+    record {
+      nothing = λ w h. record { right = h; later = later-refl w };
+      effect = λ w t i h d. next-effect p w t i h d.alive d.fine;
+      interrupt = λ w t h. next-still w _ h (still-interrupt w t);
+      expire = λ w s h. next-still w _ h (still-expire w s);
+    }
 
 next-apply : (p : Program) (w : World) (e : Event) → Right w → In (Next w) (apply p (Running w) e)
-next-apply p w (event.Step t) right = next-step p w t right (can_step p w t) refl
-next-apply p w (event.Interrupt t) right = next-still w _ right (still-interrupt w t) (follow-interrupt w t right.settled.caused) (entered-enters w _ right.entered (still-interrupt w t).kept (enters-interrupt w t))
-next-apply p w (event.Expire s) right = next-still w _ right (still-expire w s) (follow-expire w s right.settled.caused) (entered-enters w _ right.entered (still-expire w s).kept (enters-expire w s))
+next-apply p w e h = lead p Right Next (next-leads p) w e h
 
 -- ---- lists of events
 
@@ -171,7 +178,7 @@ next-fold p w (e ∷ es) state h = next-fold p w es (apply p state e) (next-even
 
 -- ---- the beginning
 
-abbrev main : Program → Task
+abbrev pub main : Program → Task
 main p = record { frame = entry_frame (length p.routines - 1) [] slots.Empty; started = true; flag = false; scope = None; outcome = None }
 
 -- the root owns nothing, and no other task was born
@@ -179,17 +186,9 @@ root-owns_nothing : (p : Program) (t i s : ℕ) → slot (get_or (main p ∷ [])
 root-owns_nothing p zero i s e = new-owns_nothing (length p.routines - 1) [] slots.Empty (λ r d. cc) i s e
 root-owns_nothing p (suc t) i s e = new-owns_nothing 0 [] slots.Empty (λ r d. cc) i s e
 
-root-in_nothing : (p : Program) (u s : ℕ) → (get_or (main p ∷ []) u no_task).scope ≡ Some s → ⊥
+pub root-in_nothing : (p : Program) (u s : ℕ) → (get_or (main p ∷ []) u no_task).scope ≡ Some s → ⊥
 root-in_nothing p zero s e = cc
 root-in_nothing p (suc u) s e = cc
-
-root-enters_nothing : (p : Program) (t s : ℕ) → Has s (get_or (main p ∷ []) t no_task).frame.entries → ⊥
-root-enters_nothing p zero s e = cc
-root-enters_nothing p (suc t) s e = cc
-
-root-once : (p : Program) (t s : ℕ) → times_in s (get_or (main p ∷ []) t no_task).frame.entries ≤ 1
-root-once p zero s = omega arith
-root-once p (suc t) s = omega arith
 
 root-alone : (p : Program) (u : ℕ) → lives (get_or (main p ∷ []) u no_task) ≡ true → u ≡ 0
 root-alone p zero e = refl
@@ -207,13 +206,6 @@ right-opening p =
             empty = λ s u closed e. absurd (root-in_nothing p u s e);
           };
       told = λ s. told-new (main p ∷ []) s no_scope refl (λ u end inside e. root-in_nothing p u s inside);
-      settled =
-          record {
-            caused = λ s. record { asked = λ e h. refl; expired = λ e. cc; leaving = λ e. cc; cause = λ e. cc };
-            joined = λ s u e. cc;
-            started = λ s u inside. absurd (root-in_nothing p u s inside);
-          };
-      entered = record { opens = λ t s alive has. absurd (root-enters_nothing p t s has); once = root-once p };
     }
 
 -- ---- whole runs
@@ -230,6 +222,27 @@ right_fold p (e ∷ es) (Faulted kind t f pc) h = right_fold p es (Faulted kind 
 
 pub right-after : (p : Program) (events : List Event) → In Right (after p events)
 right-after p events = right_fold p events (opening p) (right-opening p)
+
+-- a further fact beside them
+pub record Also (E : World → Type 0) (w : World) : Type 0 where
+  pub right : Right w
+  pub also : E w
+
+-- a fact that holds at the beginning and that each effect keeps holds in every state of every run
+pub also-after : (p : Program) (E : World → Type 0) → In E (opening p) → Leads p (Also E) (λ w v. E v) → (events : List Event) → In (Also E) (after p events)
+also-after p E start l events = fold_also events (opening p) (record { right = right-opening p; also = start })
+  where
+    joined : (w : World) (state : State) → In (Next w) state → In E state → In (Also E) state
+    joined w (Running v) n h = record { right = n.right; also = h }
+    joined w (Faulted kind t f pc) n h = tt
+
+    one_event : (state : State) (e : Event) → In (Also E) state → In (Also E) (apply p state e)
+    one_event (Running w) e h = joined w (apply p (Running w) e) (next-apply p w e h.right) (lead p (Also E) (λ w v. E v) l w e h)
+    one_event (Faulted kind t f pc) e h = tt
+
+    fold_also : (events : List Event) (state : State) → In (Also E) state → In (Also E) (fold (apply p) state events)
+    fold_also [] state h = h
+    fold_also (e ∷ es) state h = fold_also es (apply p state e) (one_event state e h)
 
 -- a law of single states
 pub ever : (P : Program → World → Type 0) → ((p : Program) (w : World) → Right w → P p w) → Ever P

@@ -7,15 +7,14 @@ use Rattle.sts_model.specs.declared.event.End.{End}
 use Rattle.sts_model.specs.declared.record.Task.{Task}
 use Rattle.sts_model.specs.declared.record.Scope.{Scope}
 use Rattle.sts_model.specs.World.{World, task_at, scope_at, no_task, no_scope}
-use Rattle.sts_model.specs.Living.{lives, is_closed, parent, completion_of, sub_state}
+use Rattle.sts_model.specs.Living.{lives, parent, completion_of, sub_state}
 use Rattle.sts_model.specs.Waiting.{can_step, can_go, stand_at}
 use Rattle.sts_laws.specs.Stays.{MovesOn, PhasesGoForward, NothingIsLost, KeepsBorn, EndsStay, KeepsEnd, ClosedStays, KeepsMarks, CompletionsGrow, Completes, StatesStay, NothingStarts, CancelledStartsNothing}
-use Rattle.sts_laws.specs.Runs.{CompletionsAreEnds, ClosedIsEmpty}
-use Rattle.sts_laws.specs.Scopes.{CancelledHasCause, LeftOutIsCancelled, JoinedIsSettled, OwnersHold, EntriesAreOpen}
+use Rattle.sts_laws.specs.Runs.{OwnersHold, CompletionsAreEnds, ClosedIsEmpty}
 use Rattle.sts_laws.proofs.Lists.{past, within}
 use Rattle.sts_laws.proofs.Later.{Later}
 use Rattle.sts_laws.proofs.Told.{completion-front, is_told}
-use Rattle.sts_laws.proofs.Events.{Right, ever, always}
+use Rattle.sts_laws.proofs.Events.{ever, always}
 
 pub nothing_is_lost : NothingIsLost
 nothing_is_lost = always (λ p w v. KeepsBorn w v) (λ p w v h. let l = h.later in record { tasks = l.tasks; scopes = l.scopes; task = λ t less. (l.task t less).same; scope = λ s less. (l.scope s less).same })
@@ -52,29 +51,11 @@ ends_stay = always (λ p w v. (t : ℕ) (end : End) → (task_at w t).outcome �
 
 -- ---- scopes
 
-keeps_marks : (w v : World) → Later w v → (s : ℕ) → KeepsMarks (scope_at w s) (scope_at v s)
-keeps_marks w v l s =
-    record {
-      closed = λ e. let less = within (λ (scope : Scope). is_closed scope.phase) w.scopes s no_scope refl e in (l.scope s less).marks.closed e;
-      cancelled = λ e. let less = within (λ (scope : Scope). scope.cancelled) w.scopes s no_scope refl e in (l.scope s less).marks.cancelled e;
-      expired = λ e. let less = within (λ (scope : Scope). scope.expired) w.scopes s no_scope refl e in (l.scope s less).marks.expired e;
-    }
-
 pub closed_stays : ClosedStays
-closed_stays = always (λ p w v. (s : ℕ) → KeepsMarks (scope_at w s) (scope_at v s)) (λ p w v h. keeps_marks w v h.later)
-
-moves_on : (w v : World) → Later w v → (s : ℕ) → MovesOn (scope_at w s) (scope_at v s)
-moves_on w v l s = by (nat_lt s (length w.scopes)) refl
-  where
-    unborn : (x y : Scope) → x ≡ no_scope → MovesOn x y
-    unborn x y e = rw e (record { forward = omega arith; timely = λ h. cc })
-
-    by : (b : Bool) → nat_lt s (length w.scopes) ≡ b → MovesOn (scope_at w s) (scope_at v s)
-    by true e = let less : s < length w.scopes = grind (arith, nat_tests) in (l.scope s less).moves
-    by false e = let more : length w.scopes ≤ s = grind (arith, nat_tests) in unborn (scope_at w s) (scope_at v s) (past w.scopes s no_scope more)
+closed_stays = always (λ p w v. (s : ℕ) → s < length w.scopes → KeepsMarks (scope_at w s) (scope_at v s)) (λ p w v h s born. (h.later.scope s born).marks)
 
 pub phases_go_forward : PhasesGoForward
-phases_go_forward = always (λ p w v. (s : ℕ) → MovesOn (scope_at w s) (scope_at v s)) (λ p w v h. moves_on w v h.later)
+phases_go_forward = always (λ p w v. (s : ℕ) → s < length w.scopes → MovesOn (scope_at w s) (scope_at v s)) (λ p w v h s born. (h.later.scope s born).moves)
 
 -- a scope that was not born has no completions
 unborn_completes : (x y : Scope) → x ≡ no_scope → Completes x y
@@ -121,38 +102,5 @@ closed_is_empty = ever _ (λ p w h s u closed inside. h.sound.empty s u closed i
 
 -- ---- scopes
 
-pub cancelled_has_cause : CancelledHasCause
-cancelled_has_cause = ever _ (λ p w h s. h.settled.caused s)
-
-pub joined_is_settled : JoinedIsSettled
-joined_is_settled = ever _ (λ p w h s u joined still inside. h.settled.joined s u joined still inside)
-
 pub owners_hold : OwnersHold
 owners_hold = ever _ (λ p w h s born still. let k = h.sound.held s born still in record { alive = k.alive; entry = k.entry })
-
-pub entries_are_open : EntriesAreOpen
-entries_are_open =
-    ever _
-    (λ p w h t s alive has. let k = h.entered.opens t s alive has in record { born = k.owner.born; owner = k.owner.owner; still = k.still; once = h.entered.once t s })
-
--- a started task that doesn't live has ended
-has_ended : (task : Task) → task.started ≡ true → lives task ≡ false → (end : End) × (task.outcome ≡ Some end)
-has_ended task started dead = by task.outcome refl
-  where
-    by : (o : Option End) → task.outcome ≡ o → (end : End) × (task.outcome ≡ Some end)
-    by (Some end) e = (end, e)
-    by None e = let alive : lives task ≡ true = rw (started, e) refl in cc
-
-left_out : (w : World) → Right w → (s u : ℕ) → (task_at w u).scope ≡ Some s → lives (task_at w u) ≡ false → sub_state w u ≡ None → (scope_at w s).cancelled ≡ true
-left_out w h s u inside dead out = by (scope_at w s).cancelled refl
-  where
-    by : (b : Bool) → (scope_at w s).cancelled ≡ b → b ≡ true
-    by true e = refl
-    by false e =
-        let end = has_ended (task_at w u) (h.settled.started s u inside e) dead in
-        let told = (h.told s).complete e u end.0 inside end.1 in
-        let state : sub_state w u ≡ Some end.0 = rw inside told in
-        cc
-
-pub left_out_is_cancelled : LeftOutIsCancelled
-left_out_is_cancelled = ever _ (λ p w h s u inside dead out. left_out w h s u inside dead out)

@@ -25,6 +25,13 @@ at_more P [] y (suc j) d new old = old
 at_more P (x ∷ xs) y zero d new old = old
 at_more P (x ∷ xs) y (suc j) d new old = at_more P xs y j d (λ e. new (ap suc e)) old
 
+-- the same, where the old ones are those that were there
+pub at_one_more : {X : Type 0} (P : X → Type 0) (xs : List X) (y : X) (j : ℕ) (d : X) → j < length (xs ++ y ∷ []) → P y → (j < length xs → P (get_or xs j d)) → P (get_or (xs ++ y ∷ []) j d)
+at_one_more P [] y zero d less new old = new
+at_one_more P [] y (suc j) d less new old = absurd (omega (arith, less))
+at_one_more P (x ∷ xs) y zero d less new old = old (omega arith)
+at_one_more P (x ∷ xs) y (suc j) d less new old = at_one_more P xs y j d (omega (arith, less)) new (λ h. old (omega (arith, h)))
+
 -- past the end there is the default
 pub past : {X : Type 0} (xs : List X) (i : ℕ) (d : X) → length xs ≤ i → get_or xs i d ≡ d
 past [] i d h = refl

@@ -1,3 +1,2 @@
-pub mod Stays
 pub mod Runs
-pub mod Scopes
+pub mod Stays

@@ -1,11 +1,15 @@
--- What holds of every state of every run (this project's own).
-use Rattle.std.specs.Prelude.{◌≡◌, ℕ, ◌<◌, ◌≤◌, List, true, false, Some, count_by, ◌==◌}
+-- What holds of every state of every run.
+-- That no subtask of a closed scope lives, and that a scope which isn't closed has a living owner, restates "Description" of JEP 505 (the
+-- lifetime of subtasks and scopes is confined to the block that opened the scope); the rest is this project's own.
+use Rattle.std.specs.Prelude.{◌≡◌, ℕ, ◌<◌, ◌≤◌, List, true, false, Some, count_by, length, ◌==◌}
+use Rattle.std.specs.List.{list_any}
 use Rattle.sts_code.specs.Program.{Program}
 use Rattle.sts_model.specs.declared.event.Event.{Event}
 use Rattle.sts_model.specs.declared.event.End.{End}
 use Rattle.sts_model.specs.declared.record.Completion.{Completion}
 use Rattle.sts_model.specs.World.{World, State, Running, Faulted, task_at, scope_at}
 use Rattle.sts_model.specs.Living.{lives, is_closed, completion_of}
+use Rattle.sts_model.specs.Misuse.{is_entry_of}
 use Rattle.sts_model.specs.Waiting.{can_step}
 use Rattle.sts_model.specs.Run.{after}
 
@@ -18,7 +22,7 @@ In P (Faulted kind t f pc) = Unit {0}
 abbrev pub Ever : (Program → World → Type 0) → Type 0
 Ever P = (p : Program) (events : List Event) → In (P p) (after p events)
 
--- the completions of a scope are of subtasks that ended so, each once; while it isn't cancelled, of all that ended
+-- the completions of a scope are of subtasks of it, each once with its end; while the scope isn't cancelled, of all that have ended
 pub record IsTold (w : World) (s : ℕ) : Type 0 where
   pub ended : (u : ℕ) (end : End) → completion_of (scope_at w s).completions u ≡ Some end → (task_at w u).outcome ≡ Some end
   pub subtask : (u : ℕ) (end : End) → completion_of (scope_at w s).completions u ≡ Some end → (task_at w u).scope ≡ Some s
@@ -47,3 +51,14 @@ pub record GoesOn (p : Program) (w : World) : Type 0 where
 
 abbrev pub SomeTaskSteps : Type 0
 SomeTaskSteps = Ever GoesOn
+
+-- ---- owners
+
+-- a task lives and has the scope in its structure list
+pub record IsHeldBy (w : World) (s t : ℕ) : Type 0 where
+  pub alive : lives (task_at w t) ≡ true
+  pub entry : list_any (is_entry_of s) (task_at w t).frame.entries ≡ true
+
+-- a scope that isn't closed is held by its owner
+abbrev pub OwnersHold : Type 0
+OwnersHold = Ever (λ p w. (s : ℕ) → s < length w.scopes → is_closed (scope_at w s).phase ≡ false → IsHeldBy w s (scope_at w s).owner)

@@ -1,4 +1,5 @@
--- What no event undoes: laws over every run, a state and any later one (this project's own).
+-- What no event undoes: laws over every run, of a state and any later one.
+-- That nothing is started in a cancelled scope restates "Cancellation" of `StructuredTaskScope`; the rest is this project's own.
 use Rattle.std.specs.Prelude.{◌≡◌, ℕ, ◌+◌, ◌<◌, ◌≤◌, List, [], ◌∷◌, ◌++◌, length, true, false, Some, ◌&&◌}
 use Rattle.sts_code.specs.Program.{Program}
 use Rattle.sts_model.specs.declared.event.Event.{Event}
@@ -60,14 +61,14 @@ pub record KeepsEnd (p : Program) (w v : World) (t : ℕ) (end : End) : Type 0 w
 abbrev pub EndsStay : Type 0
 EndsStay = Always (λ p w v. (t : ℕ) (end : End) → (task_at w t).outcome ≡ Some end → KeepsEnd p w v t end)
 
--- a closed scope stays closed, as a cancelled one stays cancelled and an expired one expired
+-- of a scope that was born (a closed one is read until then): once closed it stays closed, once cancelled cancelled, once expired expired
 pub record KeepsMarks (x y : Scope) : Type 0 where
   pub closed : is_closed x.phase ≡ true → is_closed y.phase ≡ true
   pub cancelled : x.cancelled ≡ true → y.cancelled ≡ true
   pub expired : x.expired ≡ true → y.expired ≡ true
 
 abbrev pub ClosedStays : Type 0
-ClosedStays = Always (λ p w v. (s : ℕ) → KeepsMarks (scope_at w s) (scope_at v s))
+ClosedStays = Always (λ p w v. (s : ℕ) → s < length w.scopes → KeepsMarks (scope_at w s) (scope_at v s))
 
 -- how far a scope is
 abbrev pub stage : Phase → ℕ
@@ -77,13 +78,14 @@ stage Joined = 2
 stage Closing = 3
 stage Closed = 4
 
--- a scope never goes back to an earlier phase, and where `join` had an outcome or the close has begun it doesn't expire any more
+-- a scope that was born never goes back to an earlier phase, and where `join` had an outcome or the close has begun it doesn't expire
+-- any more
 pub record MovesOn (x y : Scope) : Type 0 where
   pub forward : stage x.phase ≤ stage y.phase
   pub timely : can_join x.phase ≡ false → y.expired ≡ x.expired
 
 abbrev pub PhasesGoForward : Type 0
-PhasesGoForward = Always (λ p w v. (s : ℕ) → MovesOn (scope_at w s) (scope_at v s))
+PhasesGoForward = Always (λ p w v. (s : ℕ) → s < length w.scopes → MovesOn (scope_at w s) (scope_at v s))
 
 -- completions only grow: the earlier ones are a front of the later; those of a cancelled scope don't change any more
 pub record Completes (x y : Scope) : Type 0 where

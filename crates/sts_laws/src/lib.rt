@@ -2,8 +2,7 @@
 #![tactic(auto)]
 
 ghost use Rattle.sts_laws.specs.Stays.{FaultsStay, StepsAreCounted, NothingIsLost, EndsStay, ClosedStays, PhasesGoForward, CompletionsGrow, StatesStay, CancelledStartsNothing};
-ghost use Rattle.sts_laws.specs.Runs.{CompletionsAreEnds, ClosedIsEmpty, RootEndsLast, SomeTaskSteps};
-ghost use Rattle.sts_laws.specs.Scopes.{CancelledHasCause, LeftOutIsCancelled, JoinedIsSettled, OwnersHold, EntriesAreOpen};
+ghost use Rattle.sts_laws.specs.Runs.{CompletionsAreEnds, ClosedIsEmpty, RootEndsLast, SomeTaskSteps, OwnersHold};
 
 /// A fault stays.
 #[tactic(auto, using(crate::proofs::Runs::faults_stay))]
@@ -80,27 +79,7 @@ pub fn cancelled_starts_nothing()
     ensures { CancelledStartsNothing }
 {}
 
-/// A scope is cancelled by an end after which its joiner asks for it, by its expiry or by its close, and by nothing else.
-pub fn cancelled_has_cause()
-    ensures { CancelledHasCause }
-{}
-
-/// A subtask that doesn't live and is unavailable is of a cancelled scope.
-pub fn left_out_is_cancelled()
-    ensures { LeftOutIsCancelled }
-{}
-
-/// Where `join` had an outcome, the scope is cancelled or no subtask of it lives.
-pub fn joined_is_settled()
-    ensures { JoinedIsSettled }
-{}
-
 /// A scope that isn't closed is held by its owner, which lives.
 pub fn owners_hold()
     ensures { OwnersHold }
-{}
-
-/// A scope in the structure list of a living task is its own, isn't closed, and stands there once.
-pub fn entries_are_open()
-    ensures { EntriesAreOpen }
 {}

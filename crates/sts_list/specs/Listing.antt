@@ -11,6 +11,7 @@ use Rattle.sts_list.specs.Spelling.{label, spelled}
 
 -- ---- targets
 
+-- what an option has, as a list
 abbrev pub maybe : Option ℕ → List ℕ
 maybe None = []
 maybe (Some x) = x ∷ []
@@ -57,6 +58,7 @@ abbrev pub label_line : Bool → ℕ → List ℕ
 label_line true pc = label pc ++ codes ":\n"
 label_line false pc = []
 
+-- an instruction after two spaces
 abbrev pub instr_line : Program → Instr → List ℕ
 instr_line p instr = codes "  " ++ spelled p instr ++ codes "\n"
 
@@ -65,6 +67,7 @@ abbrev pub code_lines : Program → List Instr → ℕ → List Instr → List �
 code_lines p code pc [] = []
 code_lines p code pc (instr ∷ rest) = label_line (is_target code pc) pc ++ instr_line p instr ++ code_lines p code (pc + 1) rest
 
+-- a function from its first line to `end`
 abbrev pub function_lines : Program → Routine → List ℕ
 function_lines p r = header r ++ code_lines p r.code 0 r.code ++ codes "end\n"
 
@@ -73,5 +76,6 @@ abbrev pub profile_line : Profile → List ℕ
 profile_line One = []
 profile_line Two = codes "profile 2\n"
 
+-- the whole listing
 abbrev pub listing : Program → List ℕ
 listing p = profile_line p.profile ++ flat_map (function_lines p) p.routines

@@ -58,24 +58,29 @@ label pc = codes "L" ++ decimal pc
 abbrev pub slot : ℕ → List ℕ
 slot s = codes "s" ++ decimal s
 
+-- a label, or `-` for none
 abbrev pub maybe_label : Option ℕ → List ℕ
 maybe_label None = codes "-"
 maybe_label (Some pc) = label pc
 
+-- a slot, or `_` for none
 abbrev pub handle : Option ℕ → List ℕ
 handle None = codes "_"
 handle (Some h) = slot h
 
+-- the state that `tally` counts
 abbrev pub kind_word : Kind → List ℕ
 kind_word S = codes "S"
 kind_word F = codes "F"
 kind_word U = codes "U"
 
+-- what follows `until`
 abbrev pub condition_words : Pred → List (List ℕ)
 condition_words (Failed n) = codes "failed" ∷ decimal n ∷ []
 condition_words (Success n) = codes "success" ∷ decimal n ∷ []
 condition_words (AtLeast v) = codes "atleast" ∷ signed_decimal v ∷ []
 
+-- the words of a joiner
 abbrev pub joiner_words : Joiner → List (List ℕ)
 joiner_words AllSucceed = codes "all" ∷ []
 joiner_words AnySucceeds = codes "any" ∷ []
@@ -83,6 +88,7 @@ joiner_words AwaitOk = codes "awaitok" ∷ []
 joiner_words AwaitAll = codes "awaitall" ∷ []
 joiner_words (Until condition) = codes "until" ∷ condition_words condition
 
+-- `timed`, or nothing
 abbrev pub timed_words : Bool → List (List ℕ)
 timed_words true = codes "timed" ∷ []
 timed_words false = []

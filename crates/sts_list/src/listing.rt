@@ -1,8 +1,10 @@
 //! The listing of a program.
 
-ghost use Rattle.std.specs.Prelude.{◌≡◌, ◌∷◌, [], ◌++◌, ◌≤◌, OnOk, IfOk, string_bytes, codes};
-ghost use Rattle.std.specs.List.{flat_map, list_any};
+ghost use Rattle.std.specs.Prelude.{◌≡◌, ◌∷◌, [], ◌++◌, ◌≤◌, OnOk, IfOk, Ok, length, string_bytes, codes};
+ghost use Rattle.std.specs.List.{flat_map, list_any, AllByRecursion};
 ghost use Rattle.std.specs.Fmt.{decimal};
+ghost use Rattle.sts_asm.specs.Text.{judged};
+ghost use Rattle.sts_list.specs.RoundTrip.{FitsInstr, FitsRoutine};
 ghost use Rattle.sts_list.specs.Listing as def;
 ghost use Rattle.sts_list.specs.Listing.{keys_from, keys_text, needs_text, header, instr_line, label_line, code_lines, function_lines, profile_line, listing};
 
@@ -32,7 +34,8 @@ fn write_keys(out: &mut String, needs: &[bool; 16]) -> Result<(), AllocError>
 }
 
 fn write_needs(out: &mut String, needs: &[bool; 16]) -> Result<(), AllocError>
-    ensures { OnOk result (string_bytes out.new ≡ string_bytes out.old ++ needs_text needs.now) }
+    ensures text { OnOk result (string_bytes out.new ≡ string_bytes out.old ++ needs_text needs.now) }
+    ensures keys { length needs.now ≡ 16 }
 {
     if needs_any(needs) {
         write!(out, " needs")?;
@@ -42,7 +45,8 @@ fn write_needs(out: &mut String, needs: &[bool; 16]) -> Result<(), AllocError>
 }
 
 fn write_header(out: &mut String, function: &Function) -> Result<(), AllocError>
-    ensures { OnOk result (string_bytes out.new ≡ string_bytes out.old ++ header function.now) }
+    ensures line { OnOk result (string_bytes out.new ≡ string_bytes out.old ++ header function.now) }
+    ensures keys { OnOk result (length function.now.needs ≡ 16) }
 {
     write!(out, "func {} {}", function.name.as_str(), function.args)?;
     write_needs(out, &function.needs)?;
@@ -60,7 +64,8 @@ fn write_label(out: &mut String, is_target: bool, pc: usize) -> Result<(), Alloc
 }
 
 fn write_line(out: &mut String, instr: Instr, program: &Program) -> Result<(), AllocError>
-    ensures { OnOk result (string_bytes out.new ≡ string_bytes out.old ++ instr_line program.now instr) }
+    ensures line { OnOk result (string_bytes out.new ≡ string_bytes out.old ++ instr_line program.now instr) }
+    ensures fits { FitsInstr instr }
 {
     out.push_str("  ")?;
     write_instr(out, instr, program)?;
@@ -73,7 +78,8 @@ fn write_code(
     code: &[Instr],
     program: &Program,
 ) -> Result<(), AllocError>
-    ensures { OnOk result (string_bytes out.new ≡ string_bytes out.old ++ code_lines program.now code.now 0 code.now) }
+    ensures lines { OnOk result (string_bytes out.new ≡ string_bytes out.old ++ code_lines program.now code.now 0 code.now) }
+    ensures fits { OnOk result (AllByRecursion FitsInstr code.now) }
 {
     let marks = target_marks(alloc, code)?;
     for pc in 0..code.len() {
@@ -89,7 +95,8 @@ fn write_function(
     function: &Function,
     program: &Program,
 ) -> Result<(), AllocError>
-    ensures { OnOk result (string_bytes out.new ≡ string_bytes out.old ++ function_lines program.now function.now) }
+    ensures lines { OnOk result (string_bytes out.new ≡ string_bytes out.old ++ function_lines program.now function.now) }
+    ensures fits { OnOk result (FitsRoutine function.now) }
 {
     write_header(out, function)?;
     write_code(alloc, out, function.code.as_slice(), program)?;
@@ -107,7 +114,10 @@ fn write_profile(out: &mut String, profile: Profile) -> Result<(), AllocError>
 
 /// The listing of a program.
 pub fn list(alloc: Global, program: &Program) -> Result<String, AllocError>
-    ensures { IfOk result (λ text. string_bytes text ≡ listing program.now) }
+    ensures listing { IfOk result (λ text. string_bytes text ≡ listing program.now) }
+
+    // A listing that is no longer than a text may be is assembled to the same program.
+    ensures again { IfOk result (λ text. length (string_bytes text) ≤ 1048576 → judged (string_bytes text) ≡ Ok program.now) }
 {
     let mut out = String::new(alloc);
     write_profile(&mut out, program.profile())?;

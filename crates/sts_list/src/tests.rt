@@ -3,6 +3,7 @@
 use crate::{list, spell};
 use std::test::Fail;
 use sts_asm::assemble;
+use sts_code::instr::Instr;
 
 static TEXT: &str = "profile 02
 func kid 0 needs 7 0 7
@@ -55,7 +56,11 @@ fn a_program_is_listed(rt: HostRuntime) -> Result<(), Fail> {
     assert_eq!(rt; listing.as_str(), LISTING);
     let again = assemble(alloc, listing.as_bytes())?;
     assert_eq!(rt; list(alloc, &again)?.as_str(), LISTING);
-    let fork = &program.functions()[1].code[1];
-    assert_eq!(rt; spell(alloc, fork, &program)?.as_str(), "fork s0 kid _");
+    let fork = Instr::Fork {
+        slot: 0,
+        function: 0,
+        handle: None,
+    };
+    assert_eq!(rt; spell(alloc, &fork, &program)?.as_str(), "fork s0 kid _");
     Ok(())
 }

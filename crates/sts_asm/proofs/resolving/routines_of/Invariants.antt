@@ -1,5 +1,5 @@
 use Rattle.std.proofs.Common.{◌≡◌, drop}
-use Rattle.sts_asm.specs.Text.{each, instr_at, routine_of}
+use Rattle.sts_asm.specs.Text.{each, routine_of}
 use Rattle.sts_asm.proofs.EachLemmas.{with_front}
 use Rattle.sts_asm.proofs.resolving.routines_of.Given as goal
 

@@ -1,8 +1,6 @@
-use Rattle.std.proofs.Common.{rules, [], ◌≡◌, Err, sym, ◌∙◌}
+use Rattle.std.proofs.Common.{rules, [], ◌∙◌}
 use Rattle.std.proofs.lemmas.Result.{err_from_is_err_and}
 use Rattle.sts_text.specs.Words.{lines}
-use Rattle.sts_asm.specs.Fault.{FailsAt, at_line}
-use Rattle.sts_asm.specs.Outline.{line_read}
 use Rattle.sts_asm.proofs.TextLemmas.{outline_fails, outline_read, closed_open, closed_well}
 use Rattle.sts_asm.proofs.text.outline_of.Goals as goal
 

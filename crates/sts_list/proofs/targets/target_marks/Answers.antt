@@ -1,4 +1,4 @@
-use Rattle.std.proofs.Common.{◌≡◌, ◌∙◌, ap, rules, List, Bool, false, length, take, take_all, replicate, get_or}
+use Rattle.std.proofs.Common.{◌∙◌, ap, List, Bool, false, length, take_all, replicate, get_or}
 use Rattle.std.specs.List.{flat_map}
 use Rattle.std.specs.Prelude.{pos}
 use Rattle.sts_code.specs.declared.instr.Instr.{Instr}

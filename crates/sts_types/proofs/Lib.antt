@@ -1,0 +1,13 @@
+pub mod Arriving
+pub mod Comparing
+pub mod Counting
+pub mod Fitting
+pub mod FollowLemmas
+pub mod Laws
+pub mod Marking
+pub mod Matching
+pub mod Nesting
+pub mod Passing
+pub mod RoomLemmas
+pub mod Short
+pub mod Visiting

@@ -1,0 +1,4 @@
+pub mod Arrivals
+pub mod Room
+pub mod Tables
+pub mod Typing
