@@ -1,4 +1,4 @@
--- What contracts see of the plain machine.
+-- What contracts see of the plain machine: its program, its state and the steps that it took (this project's own).
 use Rattle.std.specs.Prelude.{ℕ, ◌+◌, ◌-◌, ◌^◌, Bool, Option, Some, None, min, if◌then◌else◌, ◌&&◌}
 use Rattle.sts_code.specs.Program.{Program}
 use Rattle.sts_model.specs.declared.event.Event.{Event}

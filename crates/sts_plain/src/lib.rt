@@ -8,3 +8,5 @@ pub mod operands;
 pub mod perform;
 pub mod plain;
 pub mod stand;
+#[cfg(test)]
+mod tests;

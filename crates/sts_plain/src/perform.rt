@@ -210,7 +210,7 @@ fn change(world: &mut World, program: &Program, t: u32, instr: Instr)
         }
         Instr::Total(x) => {
             let s = at_slot(world.records(), t, x);
-            let sum = world.records().total(s);
+            let sum = world.total(s);
             push_value(world, t, 0, sum);
         }
         Instr::Forget(h) => world.forget(t, h),

@@ -1,18 +1,15 @@
 -- Births and counts of lists of lines, after one more line, another line or another scope that is closed.
-use Rattle.std.proofs.Common.{◌≡◌, ℕ, zero, suc, ◌+◌, ◌<◌, ◌≤◌, List, [], ◌∷◌, ◌++◌, length, count_by, Bool, true, false, cond, not, Option, Some, None, eqb, refl, ap, sym, ◌∙◌, arith, get_or, set}
+use Rattle.std.proofs.Common.{◌≡◌, ℕ, zero, suc, ◌+◌, ◌<◌, ◌≤◌, List, [], ◌∷◌, ◌++◌, length, count_by, Bool, true, false, cond, not, ◌&&◌, Option, Some, None, eqb, refl, ap, sym, ◌∙◌, arith, get_or, set}
 use Rattle.std.proofs.lemmas.Bool.{eqb-true, eqb-false, ne_eqb}
 use Rattle.std.proofs.lemmas.List.{get_or-set_same, get_or-set_other}
-use Rattle.std.proofs.lemmas.List.Sums.{sum_by-cons, count_by-le-length}
+use Rattle.std.proofs.lemmas.List.Sums.{sum_by-cons, sum_by-le-sum_by, count_by-le-length}
 use Rattle.sts_model.specs.Living.{is_in}
 use Rattle.sts_world.specs.Lines.{Line}
-use Rattle.sts_world.specs.Kept.{births_from, births, stands}
+use Rattle.sts_world.specs.Kept.{births_from, births, count_in, lives_in, stands, no_line}
 
 -- what a test counts as
 abbrev pub as_one : {X : Type 0} → (X → Bool) → X → ℕ
 as_one p x = cond (p x) 1 0
-
-abbrev pub count_in : ℕ → List Line → ℕ
-count_in s xs = count_by (λ (x : Line). is_in s x.scope) xs
 
 -- ---- births
 
@@ -119,3 +116,29 @@ stands_push closed n (x ∷ xs) e =
     ∙ ap (λ b. cond b 1 0 + count_by (λ (l : Line). stands (closed ++ false ∷ []) l.scope) xs) (stands_past closed x.scope apart.0)
     ∙ ap (λ n. cond (stands closed x.scope) 1 0 + n) (stands_push closed (n + 1) xs apart.1)
     ∙ sym (sum_by-cons (as_one (λ (l : Line). stands closed l.scope)) x xs)
+
+-- ---- bounds
+
+pub and_le : (a b : Bool) → cond (a && b) 1 0 ≤ cond a 1 0
+and_le true true = omega arith
+and_le true false = omega arith
+and_le false b = omega arith
+
+-- those that live are among the subtasks
+pub living_in : (s : ℕ) (xs : List Line) → count_by (lives_in s) xs ≤ count_in s xs
+living_in s xs = sum_by-le-sum_by (as_one (lives_in s)) (as_one (λ (x : Line). is_in s x.scope)) xs (λ x. and_le (is_in s x.scope) x.lives)
+
+stands_here : (closed : List Bool) (s r : ℕ) → get_or closed s true ≡ false → (t : Bool) → eqb r s ≡ t → cond t 1 0 ≤ cond (not (get_or closed r true)) 1 0
+stands_here closed s r e true f = let same : r ≡ s = eqb-true r s f in rw (same, e) (omega arith)
+stands_here closed s r e false f = omega arith
+
+in_stands : (closed : List Bool) (s : ℕ) (o : Option ℕ) → get_or closed s true ≡ false → cond (is_in s o) 1 0 ≤ cond (stands closed o) 1 0
+in_stands closed s None e = omega arith
+in_stands closed s (Some r) e = stands_here closed s r e (eqb r s) refl
+
+-- the subtasks of an open scope stand, and so does the root
+pub root_besides : (closed : List Bool) (s : ℕ) (xs : List Line) → get_or closed s true ≡ false → 0 < length xs → (get_or xs 0 no_line).scope ≡ None → count_in s xs + 1 ≤ count_by (λ (x : Line). stands closed x.scope) xs
+root_besides closed s [] e h root = absurd (omega arith)
+root_besides closed s (x ∷ xs) e h root =
+    let among : count_in s xs ≤ count_by (λ (y : Line). stands closed y.scope) xs = sum_by-le-sum_by (as_one (λ (y : Line). is_in s y.scope)) (as_one (λ (y : Line). stands closed y.scope)) xs (λ y. in_stands closed s y.scope e) in
+    rw (sum_by-cons (as_one (λ (y : Line). is_in s y.scope)) x xs, sum_by-cons (as_one (λ (y : Line). stands closed y.scope)) x xs, root) (omega (arith, among))

@@ -6,13 +6,13 @@ use Rattle.sts_model.specs.declared.record.Scope.{Scope}
 use Rattle.sts_model.specs.World.{World, task_at, scope_at, with_task, with_scope, no_task, no_scope}
 use Rattle.sts_model.specs.Living.{is_living_subtask}
 use Rattle.sts_model.specs.Cancelling.{raised}
-use Rattle.sts_world.specs.Lines.{Line, line, is_shut, lines}
+use Rattle.sts_world.specs.Lines.{Line, line, is_shut, tally_of, lines}
 
 pub same_task : (w : World) (t : ℕ) (x : Task) → line x ≡ line (task_at w t) → lines (with_task w t x) ≡ lines w
-same_task w t x e = ap (λ (xs : List Line). record { tasks = xs; closed = map is_shut w.scopes }) (map-set_same line w.tasks t x no_task e)
+same_task w t x e = ap (λ (xs : List Line). record (lines w) { tasks = xs }) (map-set_same line w.tasks t x no_task e)
 
-pub same_scope : (w : World) (s : ℕ) (x : Scope) → is_shut x ≡ is_shut (scope_at w s) → lines (with_scope w s x) ≡ lines w
-same_scope w s x e = ap (λ (xs : List Bool). record { tasks = map line w.tasks; closed = xs }) (map-set_same is_shut w.scopes s x no_scope e)
+pub same_scope : (w : World) (s : ℕ) (x : Scope) → is_shut x ≡ is_shut (scope_at w s) → tally_of x ≡ tally_of (scope_at w s) → lines (with_scope w s x) ≡ lines w
+same_scope w s x e f = rw (map-set_same is_shut w.scopes s x no_scope e, map-set_same tally_of w.scopes s x no_scope f) refl
 
 same_line : (b : Bool) (x : Task) → line (cond b (record x { flag = true }) x) ≡ line x
 same_line true x = refl

@@ -1,6 +1,8 @@
 -- What is kept so that no event walks over all tasks: of each scope the birth numbers of its subtasks and how many of them live, and
 -- how many tasks and scopes stand (this project's own).
-use Rattle.std.specs.Prelude.{◌≡◌, ℕ, ◌+◌, ◌-◌, List, [], ◌∷◌, ◌++◌, length, count_by, Bool, true, Option, Some, None, ◌&&◌, not, if◌then◌else◌, slice_index_or}
+use Rattle.std.specs.Prelude.{◌≡◌, ℕ, ◌+◌, ◌-◌, ◌<◌, ◌≤◌, List, [], ◌∷◌, ◌++◌, length, count_by, Bool, true, false, Option, Some, None, ◌&&◌, not, if◌then◌else◌, slice_index_or}
+use Rattle.sts_code.specs.declared.instr.Joiner.TheVariants.{AwaitAll}
+use Rattle.sts_joiners.specs.Tallied.{Tallied, tallied, ends_told}
 use Rattle.sts_model.specs.Living.{is_in}
 use Rattle.sts_world.specs.Lines.{Line, Lines}
 
@@ -47,9 +49,26 @@ standing_tasks l = count_by (λ (x : Line). stands l.closed x.scope) l.tasks
 abbrev pub standing_scopes : Lines → ℕ
 standing_scopes l = count_by not l.closed
 
--- what is kept, of each scope and of what stands, is what a walk would find
-pub record IsKept (l : Lines) (kept : List Family) (tasks_kept scopes_kept : ℕ) : Type 0 where
+-- what is read where no task, no scope was born
+abbrev pub no_line : Line
+no_line = record { scope = None; lives = false }
+
+abbrev pub no_tally : Tallied
+no_tally = tallied AwaitAll []
+
+-- how many subtasks the scope s has
+abbrev pub count_in : ℕ → List Line → ℕ
+count_in s tasks = count_by (λ (x : Line). is_in s x.scope) tasks
+
+-- what is kept, of each scope and of what stands, is what a walk would find. Besides, the root is in no scope, no subtask that lives was
+-- told of, and no scope has more subtasks than may stand
+pub record IsKept (l : Lines) (kept : List Family) (tallies_kept : List Tallied) (tasks_kept scopes_kept : ℕ) : Type 0 where
   pub as_many : length kept ≡ length l.closed
   pub families : (s : ℕ) → slice_index_or kept s no_family ≡ family_of s l.tasks
+  pub tallies : tallies_kept ≡ l.tallies
   pub tasks : tasks_kept ≡ standing_tasks l
   pub scopes : scopes_kept ≡ standing_scopes l
+  pub some : 0 < length l.tasks
+  pub root : (slice_index_or l.tasks 0 no_line).scope ≡ None
+  pub told : (s : ℕ) → ends_told (slice_index_or l.tallies s no_tally) + count_by (lives_in s) l.tasks ≤ count_in s l.tasks
+  pub few : (s : ℕ) → count_in s l.tasks < 65536

@@ -29,7 +29,7 @@ use sts_model::stack::Items;
 
 impl Records {
     /// Pops `n` operands and goes to `to`.
-    pub fn goes(&mut self, t: u32, to: u32, n: usize)
+    pub(crate) fn goes(&mut self, t: u32, to: u32, n: usize)
         requires born { t < length self.old.tasks }
         ensures { self.new ≡ def.with_frame self.old t (frames.goes (def.task_at self.old t).frame to n []) }
     {
@@ -38,7 +38,7 @@ impl Records {
     }
 
     /// Pops `n` operands, pushes a value and goes to `to`.
-    pub fn goes_with(&mut self, t: u32, to: u32, n: usize, value: i64)
+    pub(crate) fn goes_with(&mut self, t: u32, to: u32, n: usize, value: i64)
         requires born { t < length self.old.tasks }
         requires room { length (def.task_at self.old t).frame.operands - n < 32 }
         ensures { self.new ≡ def.with_frame self.old t (frames.goes (def.task_at self.old t).frame to n (value ∷ [])) }
@@ -48,7 +48,7 @@ impl Records {
     }
 
     /// Does a local instruction.
-    pub fn local(&mut self, program: &Program, t: u32, instr: Instr)
+    pub(crate) fn local(&mut self, program: &Program, t: u32, instr: Instr)
         requires born { t < length self.old.tasks }
         requires at { def.instr_at program.now (def.task_at self.old t).frame ≡ Some instr }
         requires more { (def.task_at self.old t).frame.pc + 1 < 2 ^ 32 }
@@ -64,7 +64,7 @@ impl Records {
     }
 
     /// Empties a slot.
-    pub fn forget(&mut self, t: u32, x: u8)
+    pub(crate) fn forget(&mut self, t: u32, x: u8)
         requires born { t < length self.old.tasks }
         requires more { (def.task_at self.old t).frame.pc + 1 < 2 ^ 32 }
         ensures { self.new ≡ effect.forget self.old t (def.task_at self.old t).frame x }
@@ -76,7 +76,7 @@ impl Records {
     }
 
     /// Binds a key to the popped operand.
-    pub fn bind(&mut self, t: u32, k: u8)
+    pub(crate) fn bind(&mut self, t: u32, k: u8)
         requires born { t < length self.old.tasks }
         requires more { (def.task_at self.old t).frame.pc + 1 < 2 ^ 32 }
         requires entries { length (def.task_at self.old t).frame.entries < 16 }
@@ -90,7 +90,7 @@ impl Records {
     }
 
     /// Ends the innermost binding.
-    pub fn unbind(&mut self, t: u32)
+    pub(crate) fn unbind(&mut self, t: u32)
         requires born { t < length self.old.tasks }
         requires more { (def.task_at self.old t).frame.pc + 1 < 2 ^ 32 }
         ensures { self.new ≡ effect.unbind self.old t (def.task_at self.old t).frame }
@@ -102,7 +102,7 @@ impl Records {
     }
 
     /// Pushes the flag and clears it.
-    pub fn take_flag(&mut self, t: u32)
+    pub(crate) fn take_flag(&mut self, t: u32)
         requires born { t < length self.old.tasks }
         requires more { (def.task_at self.old t).frame.pc + 1 < 2 ^ 32 }
         requires room { length (def.task_at self.old t).frame.operands < 32 }
@@ -116,7 +116,7 @@ impl Records {
     }
 
     /// Leaves a `join` that was interrupted.
-    pub fn leave_join(&mut self, t: u32, to: u32)
+    pub(crate) fn leave_join(&mut self, t: u32, to: u32)
         requires born { t < length self.old.tasks }
         ensures { self.new ≡ def.with_task self.old t (record (def.task_at self.old t) { frame = frames.goes (def.task_at self.old t).frame to 0 []; flag = false }) }
     {
@@ -126,7 +126,7 @@ impl Records {
     }
 
     /// Leaves a `close` that has ended, with these slots.
-    pub fn leave_close(&mut self, t: u32, slots: [Slot; 16])
+    pub(crate) fn leave_close(&mut self, t: u32, slots: [Slot; 16])
         requires born { t < length self.old.tasks }
         requires more { (def.task_at self.old t).frame.pc + 1 < 2 ^ 32 }
         ensures { self.new ≡ def.with_frame self.old t (record (frames.steps (def.task_at self.old t).frame 0 []) { entries = drop 1 (def.task_at self.old t).frame.entries; slots = slots }) }
@@ -152,7 +152,7 @@ impl Records {
     }
 
     /// The slots of a task, those emptied that name the scope or one of its subtasks.
-    pub fn cleared(&self, t: u32, s: u32) -> [Slot; 16]
+    pub(crate) fn cleared(&self, t: u32, s: u32) -> [Slot; 16]
         requires { t < length self.now.tasks }
         ensures { result ≡ effect.cleared self.now s (def.task_at self.now t).frame.slots }
     {
@@ -166,7 +166,7 @@ impl Records {
     }
 
     /// Sets the flag of a living task.
-    pub fn interrupt(&mut self, t: u32)
+    pub(crate) fn interrupt(&mut self, t: u32)
         ensures { self.new ≡ outside.interrupt self.old t }
     {
         if self.lives(t) {
@@ -175,7 +175,7 @@ impl Records {
     }
 
     /// Sets the end of a task, and tells nobody.
-    pub fn set_end(&mut self, t: u32, end: End)
+    pub(crate) fn set_end(&mut self, t: u32, end: End)
         requires born { t < length self.old.tasks }
         requires more { (def.task_at self.old t).frame.pc + 1 < 2 ^ 32 }
         ensures { self.new ≡ effect.ended self.old t (def.task_at self.old t).frame end }
@@ -190,7 +190,7 @@ impl Records {
 // ---- one scope
 
 impl Records {
-    pub fn set_phase(&mut self, s: u32, phase: Phase)
+    pub(crate) fn set_phase(&mut self, s: u32, phase: Phase)
         ensures { self.new ≡ effect.with_phase self.old s phase }
     {
         let s = s as usize;
@@ -199,7 +199,7 @@ impl Records {
         }
     }
 
-    pub fn set_expired(&mut self, s: u32)
+    pub(crate) fn set_expired(&mut self, s: u32)
         ensures { self.new ≡ def.with_scope self.old s (record (def.scope_at self.old s) { expired = true }) }
     {
         let s = s as usize;
@@ -209,7 +209,7 @@ impl Records {
     }
 
     /// Tells a scope of an end.
-    pub fn tell(&mut self, s: u32, t: u32, end: End) -> Result<(), AllocError>
+    pub(crate) fn tell(&mut self, s: u32, t: u32, end: End) -> Result<(), AllocError>
         ensures ok { OnOk result (self.new ≡ def.with_scope self.old s (effect.told (def.scope_at self.old s) t end)) }
         ensures err { OnErr result (self.new ≡ self.old) }
     {
@@ -223,7 +223,7 @@ impl Records {
     }
 
     /// Cancels the scope whose subtasks these are.
-    pub fn cancel(&mut self, s: u32, births: &[u32])
+    pub(crate) fn cancel(&mut self, s: u32, births: &[u32])
         requires { births.now ≡ births_of s (lines self.old).tasks }
         ensures { self.new ≡ cancelling.cancel self.old s }
     {
@@ -270,7 +270,7 @@ fn raise_each(tasks: &mut [Task], s: u32, births: &[u32])
 
 impl Records {
     /// The root task alone.
-    pub fn opening(alloc: Global, program: &Program) -> Result<Records, AllocError>
+    pub(crate) fn opening(alloc: Global, program: &Program) -> Result<Records, AllocError>
         ensures { IfOk result (λ w. def.opening program.now ≡ def.Running w) }
     {
         let last = program.functions().len() - 1;
@@ -289,7 +289,7 @@ impl Records {
     }
 
     /// A task's whole environment.
-    pub fn environment(&self, alloc: Global, t: u32) -> Result<Items<Bound>, AllocError>
+    pub(crate) fn environment(&self, alloc: Global, t: u32) -> Result<Items<Bound>, AllocError>
         requires { t < length self.now.tasks }
         ensures { IfOk result (λ e. e ≡ scoped.environment_of (def.task_at self.now t) self.now) }
     {
@@ -306,7 +306,7 @@ impl Records {
 
     /// Opens a scope.
     #[tactic(auto, unfolding(sts_model::specs::Effect::open_scope))]
-    pub fn open_scope(
+    pub(crate) fn open_scope(
         &mut self,
         alloc: Global,
         t: u32,
@@ -342,7 +342,7 @@ impl Records {
 
     /// Makes a subtask.
     #[tactic(auto, unfolding(sts_model::specs::Effect::fork_task))]
-    pub fn fork_task(
+    pub(crate) fn fork_task(
         &mut self,
         program: &Program,
         t: u32,

@@ -1,11 +1,10 @@
 //! The tasks and scopes of the plain machine, with what a walk over them would find kept beside them.
 #![tactic(auto)]
 
-pub mod changes;
+mod changes;
 pub mod code;
-pub mod family;
-pub mod frames;
-pub mod joining;
-pub mod reading;
+mod family;
+mod frames;
+mod reading;
 pub mod records;
 pub mod world;

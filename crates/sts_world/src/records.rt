@@ -1,20 +1,16 @@
 //! All tasks and all scopes, by birth number, and what is read of them.
 
-ghost use Rattle.std.specs.Prelude.{◌≡◌, ◌<◌, ◌≤◌, length, true, count_by, pos};
+ghost use Rattle.std.specs.Prelude.{◌≡◌, ◌<◌, ◌≤◌, length, true};
 ghost use Rattle.sts_model.specs.Environment as scoped;
-ghost use Rattle.sts_model.specs.Joining as joining;
 ghost use Rattle.sts_model.specs.Living as living;
-ghost use Rattle.sts_model.specs.Local as frames;
-ghost use Rattle.sts_model.specs.Effect as effect;
 ghost use Rattle.sts_model.specs.Misuse as misuse;
 ghost use Rattle.sts_model.specs.Outside as outside;
 ghost use Rattle.sts_model.specs.World as def;
 
-use crate::joining::{cancels, failures, successes, total, verdict};
 use crate::reading::{kept_value, own_value};
 use std::marker::Model;
 use sts_code::instr::Joiner;
-use sts_model::event::{End, Phase, Verdict};
+use sts_model::event::{End, Phase};
 use sts_model::record::{Completion, Frame, Scope, Task};
 
 /// The tasks and the scopes by birth number: contracts see the two lists.
@@ -189,50 +185,6 @@ impl Records {
             Some(s) => completion_of(self.completions(s), t),
             None => None,
         }
-    }
-
-    /// How many ends a scope was told of.
-    pub fn told(&self, s: u32) -> usize
-        ensures { result ≡ length (def.scope_at self.now s).completions }
-    {
-        self.completions(s).len()
-    }
-
-    /// How many subtasks have completed as successes.
-    pub fn successes(&self, s: u32) -> i64
-        ensures { result ≡ pos (count_by joining.is_success (living.ends (def.scope_at self.now s))) }
-    {
-        let completions = self.completions(s);
-        successes(completions) as i64
-    }
-
-    /// How many subtasks have completed as failures.
-    pub fn failures(&self, s: u32) -> i64
-        ensures { result ≡ pos (count_by joining.is_failure (living.ends (def.scope_at self.now s))) }
-    {
-        let completions = self.completions(s);
-        failures(completions) as i64
-    }
-
-    /// The sum of the values of the successes.
-    pub fn total(&self, s: u32) -> i64
-        ensures { result ≡ effect.total self.now s }
-    {
-        total(self.completions(s))
-    }
-
-    /// The joiner's answer, for so many subtasks.
-    pub fn verdict(&self, s: u32, subtasks: u32) -> Verdict
-        ensures { result ≡ joining.result_of (def.scope_at self.now s).joiner (living.ends (def.scope_at self.now s)) subtasks }
-    {
-        verdict(self.joiner(s), self.completions(s), subtasks)
-    }
-
-    /// Does the joiner ask to cancel the scope?
-    pub fn asks_to_cancel(&self, s: u32) -> bool
-        ensures { result ≡ joining.cancels (def.scope_at self.now s).joiner (living.ends (def.scope_at self.now s)) }
-    {
-        cancels(self.joiner(s), self.completions(s))
     }
 
     fn value_kept(&self, scope: Option<u32>, k: u8) -> Option<i64>

@@ -1,6 +1,6 @@
 //! The tasks and scopes with what is kept of them.
 
-ghost use Rattle.std.specs.Prelude.{◌≡◌, ◌<◌, ◌≤◌, ◌+◌, ◌-◌, ◌^◌, length, [], ◌∷◌, OnOk, OnErr, IfOk, Some, None, true, false, drop, if◌then◌else◌, slice_index_or, nat_lt, nat_le, ◌&&◌, not, pos};
+ghost use Rattle.std.specs.Prelude.{◌≡◌, ◌<◌, ◌≤◌, ◌+◌, ◌-◌, ◌^◌, length, [], ◌∷◌, OnOk, OnErr, IfOk, Some, None, true, false, drop, if◌then◌else◌, slice_index_or, nat_lt, nat_le, ◌&&◌, not, pos, count_by};
 ghost use Rattle.sts_code.specs.Program.{routine};
 ghost use Rattle.sts_model.specs.Cancelling as cancelling;
 ghost use Rattle.sts_model.specs.Effect as effect;
@@ -21,17 +21,19 @@ use std::alloc::{AllocError, Global};
 use std::marker::Model;
 use sts_code::instr::{Instr, Joiner, Kind};
 use sts_code::program::Program;
+use sts_joiners::tally::Tally;
 use sts_model::event::{End, Phase, Verdict};
 use sts_model::record::Slot;
 
 /// The tasks and scopes: contracts see the two lists of all that were ever born.
 ///
-/// Beside them it keeps of each scope its subtasks and how many of them live, and how many tasks and scopes stand, so
-/// that no call walks over all tasks.
+/// Beside them it keeps of each scope its subtasks, how many of them live and its joiner's tally, and how many tasks and
+/// scopes stand, so that no call walks over all tasks.
 #[derive(Drop)]
 pub struct World {
     records: Records,
     families: Vec<Family>,
+    tallies: Vec<Tally>,
     standing_tasks: usize,
     standing_scopes: usize,
 }
@@ -46,7 +48,7 @@ impl Model for World {
     ghost use Rattle.sts_world.specs.Kept.{IsKept};
     ghost use Rattle.sts_world.specs.Lines.{lines};
 
-    ghost invariant = { λ w. IsKept (lines w.records) w.families.items w.standing_tasks w.standing_scopes };
+    ghost invariant = { λ w. IsKept (lines w.records) w.families.items w.tallies.items w.standing_tasks w.standing_scopes };
 }
 
 /// The number, or 0 where the scope is closed.
@@ -134,14 +136,42 @@ impl World {
         any_lives(&self.families, s)
     }
 
+    /// How many subtasks completed as successes, and how many as failures.
+    fn completed(&self, s: u32) -> (u32, u32)
+        ensures { result ≡ (count_by joining.is_success (living.ends (def.scope_at self.now s)), count_by joining.is_failure (living.ends (def.scope_at self.now s))) }
+    {
+        match self.tallies.get(s as usize) {
+            Some(tally) => (tally.successes(), tally.failures()),
+            None => (0, 0),
+        }
+    }
+
+    /// How many ends a scope was told of.
+    fn told(&self, s: u32) -> usize
+        ensures { result ≡ length (def.scope_at self.now s).completions }
+    {
+        let (successes, failures) = self.completed(s);
+        successes as usize + failures as usize
+    }
+
     /// How many subtasks are in a state.
     pub fn tally(&self, s: u32, kind: Kind) -> i64
         ensures { result ≡ pos (effect.tally self.now s kind) }
     {
         match kind {
-            Kind::S => self.records.successes(s),
-            Kind::F => self.records.failures(s),
-            Kind::U => self.subtask_count(s).saturating_sub(self.records.told(s)) as i64,
+            Kind::S => i64::from(self.completed(s).0),
+            Kind::F => i64::from(self.completed(s).1),
+            Kind::U => self.subtask_count(s).saturating_sub(self.told(s)) as i64,
+        }
+    }
+
+    /// The sum of the values of the subtasks that succeeded.
+    pub fn total(&self, s: u32) -> i64
+        ensures { result ≡ effect.total self.now s }
+    {
+        match self.tallies.get(s as usize) {
+            Some(tally) => tally.total(),
+            None => 0,
         }
     }
 
@@ -150,7 +180,10 @@ impl World {
         ensures { result ≡ joining.result_of (def.scope_at self.now s).joiner (living.ends (def.scope_at self.now s)) (living.subtask_count self.now s) }
     {
         let count = self.subtask_count(s) as u32;
-        self.records.verdict(s, count)
+        match self.tallies.get(s as usize) {
+            Some(tally) => tally.result(count),
+            None => Verdict::Ok(None),
+        }
     }
 }
 
@@ -299,22 +332,20 @@ impl World {
         }
     }
 
-    /// Tells a scope of an end.
-    fn tell(&mut self, s: u32, t: u32, end: End) -> Result<(), AllocError>
-        ensures ok { OnOk result (self.new ≡ def.with_scope self.old s (effect.told (def.scope_at self.old s) t end)) }
+    /// Ends a living subtask of a scope that is told of it, and answers whether the scope's joiner now asks to cancel it.
+    fn complete(&mut self, t: u32, s: u32, end: End) -> Result<bool, AllocError>
+        requires born { t < length self.old.tasks }
+        requires lives { living.lives (def.task_at self.old t) ≡ true }
+        requires in_scope { (def.task_at self.old t).scope ≡ Some s }
+        requires more { (def.task_at self.old t).frame.pc + 1 < 2 ^ 32 }
+        ensures ok { OnOk result (self.new ≡ effect.ended (def.with_scope self.old s (effect.told (def.scope_at self.old s) t end)) t (def.task_at self.old t).frame end) }
+        ensures asks { IfOk result (λ asks. asks ≡ joining.cancels (def.scope_at self.new s).joiner (living.ends (def.scope_at self.new s))) }
         ensures err { OnErr result (self.new ≡ self.old) }
     {
         self.records.tell(s, t, end)?;
-        Ok(())
-    }
-
-    /// Cancels a scope if its joiner asks for it.
-    fn decide(&mut self, s: u32)
-        ensures { self.new ≡ effect.decide self.old s }
-    {
-        if self.records.asks_to_cancel(s) {
-            self.cancel(s);
-        }
+        self.records.set_end(t, end);
+        self.families[s as usize].lose();
+        Ok(self.tallies[s as usize].on_complete(end))
     }
 
     /// Ends a living task.
@@ -334,9 +365,9 @@ impl World {
                 if self.records.is_cancelled(s) {
                     self.set_end(t, end);
                 } else {
-                    self.tell(s, t, end)?;
-                    self.set_end(t, end);
-                    self.decide(s);
+                    if self.complete(t, s, end)? {
+                        self.cancel(s);
+                    }
                 }
             }
         }
@@ -454,6 +485,7 @@ impl World {
         Ok(World {
             records,
             families: Vec::new(alloc),
+            tallies: Vec::new(alloc),
             standing_tasks: 1,
             standing_scopes: 0,
         })
@@ -476,9 +508,11 @@ impl World {
         ensures err { OnErr result (self.new ≡ self.old) }
     {
         self.families.reserve(1)?;
+        self.tallies.reserve(1)?;
         let scopes = self.standing_scopes();
         self.records.open_scope(alloc, t, slot, joiner, timed)?;
         self.families.push(Family::new(alloc))?;
+        self.tallies.push(Tally::new(joiner))?;
         self.standing_scopes = scopes + 1;
         Ok(())
     }
@@ -497,6 +531,7 @@ impl World {
         requires room { length self.old.tasks < 1000000 }
         requires enough { (routine program.now function).args ≤ length (def.task_at self.old t).frame.operands }
         requires opened { living.is_closed (def.scope_at self.old s).phase ≡ false }
+        requires few { standing.standing_tasks self.old < 65536 }
         ensures ok { OnOk result (self.new ≡ effect.fork_task program.now self.old t (def.task_at self.old t).frame s function handle) }
         ensures err { OnErr result (self.new ≡ self.old) }
     {
