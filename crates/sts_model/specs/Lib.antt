@@ -1,4 +1,6 @@
+pub mod Budget
 pub mod Cancelling
+pub mod ControlPaths
 pub mod Effect
 pub mod Environment
 pub mod Joining

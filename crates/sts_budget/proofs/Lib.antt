@@ -1,0 +1,2 @@
+pub mod Structured
+pub mod Sums
