@@ -1,0 +1,16 @@
+//! The five joiners by counters: a few words in place of the list of all ends.
+#![tactic(auto)]
+
+ghost use Rattle.std.specs.Prelude.{ℕ, List};
+ghost use Rattle.sts_code.specs.declared.instr.Joiner.{Joiner};
+ghost use Rattle.sts_model.specs.declared.event.End.{End};
+ghost use Rattle.sts_joiners.specs.Enough.{IsEnough};
+
+pub mod tally;
+
+pub use sts_model::event::Verdict;
+
+/// A law of the definitions: what is kept of the ends goes on by itself, and gives what the whole list gives.
+pub fn what_is_kept_is_enough()
+    ensures { (joiner : Joiner) (ends : List End) (end : End) (subtasks : ℕ) → IsEnough joiner ends end subtasks }
+{}

@@ -1,0 +1,28 @@
+//! What a command line asks for, or why it asks for nothing.
+
+use std::alloc::AllocError;
+
+/// What the program is asked to do: the names of the files come as they were written.
+#[derive(Clone, Copy, Debug)]
+pub enum Line<'a> {
+    /// No word after the program's name: a text, a line `%` and a trace come on standard input.
+    Joined,
+    Verify { file: &'a str },
+    List { file: &'a str },
+    Plain { file: &'a str, trace: &'a str },
+}
+
+/// Why a command line asks for nothing: the text is for the person who wrote it.
+#[derive(Debug, Drop)]
+pub enum LineError {
+    Memory,
+    /// Help was asked for, which is no failure.
+    Help(String),
+    Usage(String),
+}
+
+impl From<AllocError> for LineError {
+    fn from(_error: AllocError) -> LineError {
+        LineError::Memory
+    }
+}

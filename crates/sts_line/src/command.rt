@@ -1,0 +1,74 @@
+//! The commands that the program knows, as `clap` is told of them.
+
+ghost use Rattle.std.specs.Prelude.{◌≡◌, IfOk, false};
+ghost use Rattle.clap.specs.Words.{app_of, new_app, rule_of, with_rule};
+ghost use Rattle.clap.specs.declared.builder.Command.TheViews.{out-Command};
+ghost use Rattle.sts_line.specs.Command as def;
+
+use clap::{Arg, Command};
+use std::alloc::{AllocError, Global};
+
+/// The text file that each command takes first.
+fn file<'a>(alloc: Global) -> Arg<'a>
+    ensures rule { rule_of result ≡ def.file_rule }
+    ensures local { result.global ≡ false }
+{
+    Arg::new(alloc, "FILE")
+        .required(true)
+        .help("a text of functions")
+}
+
+fn trace<'a>(alloc: Global) -> Arg<'a>
+    ensures rule { rule_of result ≡ def.trace_rule }
+    ensures local { result.global ≡ false }
+{
+    Arg::new(alloc, "TRACE")
+        .required(true)
+        .help("a trace: lines `step N`, `interrupt N` and `expire N`")
+}
+
+/// A command that takes one text file.
+fn on_file<'a>(alloc: Global, name: &'a str, about: &'a str) -> Result<Command<'a>, AllocError>
+    ensures app { IfOk result (λ c. app_of c ≡ with_rule (new_app name.entry.now) def.file_rule) }
+    ensures local { IfOk result (λ c. (out-Command c).has_globals ≡ false) }
+{
+    Command::new(alloc, name).about(about).arg(file(alloc))
+}
+
+/// The command `plain`, which takes a trace too.
+fn on_trace<'a>(alloc: Global, name: &'a str, about: &'a str) -> Result<Command<'a>, AllocError>
+    ensures app { IfOk result (λ c. app_of c ≡ with_rule (with_rule (new_app name.entry.now) def.file_rule) def.trace_rule) }
+    ensures local { IfOk result (λ c. (out-Command c).has_globals ≡ false) }
+{
+    on_file(alloc, name, about)?.arg(trace(alloc))
+}
+
+/// The whole program.
+pub fn program<'a>(alloc: Global) -> Result<Command<'a>, AllocError>
+    ensures { IfOk result (λ c. app_of c ≡ def.program) }
+{
+    let verify = on_file(
+        alloc,
+        "verify",
+        "Prints the budgets of each function, or the refused instruction",
+    )?;
+    let list = on_file(
+        alloc,
+        "list",
+        "Prints the text as the assembler understands it",
+    )?;
+    let plain = on_trace(
+        alloc,
+        "plain",
+        "Runs the events of a trace on the machine that tests everything",
+    )?;
+    Command::new(alloc, "sts")
+        .about("Structured task scopes over a small stack code")
+        .after_help(
+            "With no command it reads a text, a line `%` and a trace from standard input, and does what `plain` does.",
+        )
+        .subcommand_required(true)
+        .subcommand(verify)?
+        .subcommand(list)?
+        .subcommand(plain)
+}

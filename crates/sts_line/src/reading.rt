@@ -1,0 +1,103 @@
+//! Reads a command line.
+
+ghost use Rattle.std.specs.Prelude.{◌≡◌, IfOk, IsErr, map, option_map, Some, codes, List, ℕ, [], ◌∷◌};
+ghost use Rattle.clap.specs.Words.{first_of, rows_of, found_of, subcommand_rows_of};
+ghost use Rattle.sts_line.specs.Asked.{asked, asked_by, given};
+
+use crate::asked;
+use crate::asked::LineError;
+use crate::command::program;
+use clap::error::ErrorKind;
+use clap::{ArgMatches, Error};
+use std::alloc::Global;
+
+fn told(error: &Error, alloc: Global) -> LineError {
+    let kind = error.kind();
+    if matches!(kind, ErrorKind::OutOfMemory) {
+        return LineError::Memory;
+    }
+    match error.to_string(alloc) {
+        Err(_) => LineError::Memory,
+        Ok(text) => {
+            if matches!(kind, ErrorKind::DisplayHelp) {
+                LineError::Help(text)
+            } else {
+                LineError::Usage(text)
+            }
+        }
+    }
+}
+
+/// Reads the words of a command line, the program's own name first.
+pub fn line<'a>(alloc: Global, words: &'a [&'a str]) -> Result<asked::Line<'a>, LineError>
+    ensures { IfOk result (λ l. asked l ≡ asked_by (map (λ w. w.now) words.entry.now)) }
+{
+    if words.len() <= 1 {
+        return Ok(asked::Line::Joined);
+    }
+    let command = program(alloc)?;
+    match command.try_get_matches_from(words) {
+        Err(error) => Err(told(&error, alloc)),
+        Ok(matches) => chosen(alloc, &matches),
+    }
+}
+
+/// What the command that `clap` found asks for.
+fn chosen<'a>(alloc: Global, matches: &ArgMatches<'a>) -> Result<asked::Line<'a>, LineError>
+    ensures { IfOk result (λ l. asked l ≡ option_map given (subcommand_rows_of matches.now)) }
+{
+    match matches.subcommand() {
+        Some((name, inner)) => asked_of(alloc, name, inner),
+        None => unknown(alloc),
+    }
+}
+
+/// The answer where `clap` found no command of the program, which it never does.
+fn unknown<'a>(alloc: Global) -> Result<asked::Line<'a>, LineError>
+    ensures { IsErr result }
+{
+    Err(LineError::Usage("a command is missing".to_string(alloc)?))
+}
+
+/// The text that the command was given under an id.
+fn text_of<'a>(inner: &ArgMatches<'a>, id: &str) -> Option<&'a str>
+    ensures { option_map (λ t. t.now) result ≡ first_of id.now (rows_of (found_of inner.now)) }
+{
+    inner.get_str(id)
+}
+
+fn asked_of<'a>(
+    alloc: Global,
+    name: &'a str,
+    inner: &ArgMatches<'a>,
+) -> Result<asked::Line<'a>, LineError>
+    ensures { IfOk result (λ l. asked l ≡ Some (given (name.now, rows_of (found_of inner.now)))) }
+{
+    match text_of(inner, "FILE") {
+        None => unknown(alloc),
+        Some(file) => {
+            if name == "verify" {
+                Ok(asked::Line::Verify { file })
+            } else if name == "list" {
+                Ok(asked::Line::List { file })
+            } else if name == "plain" {
+                with_trace(alloc, file, inner)
+            } else {
+                unknown(alloc)
+            }
+        }
+    }
+}
+
+fn with_trace<'a>(
+    alloc: Global,
+    file: &'a str,
+    inner: &ArgMatches<'a>,
+) -> Result<asked::Line<'a>, LineError>
+    ensures { IfOk result (λ l. (t : List ℕ) × (first_of (codes "TRACE") (rows_of (found_of inner.now)) ≡ Some t) × (asked l ≡ Some (codes "plain", file.now ∷ t ∷ []))) }
+{
+    match text_of(inner, "TRACE") {
+        Some(trace) => Ok(asked::Line::Plain { file, trace }),
+        None => unknown(alloc),
+    }
+}

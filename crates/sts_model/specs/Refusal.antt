@@ -1,0 +1,34 @@
+-- Which programs are accepted, and where and why the others are refused (this project's own).
+use Rattle.std.specs.Prelude.{ℕ, ◌<◌, length}
+use Rattle.sts_code.specs.Program.{Program, routine}
+use Rattle.sts_model.specs.declared.typing.Cause.{Cause}
+use Rattle.sts_model.specs.Flow as flow
+use Rattle.sts_model.specs.Edges.{typing}
+
+-- the number of instructions of a function
+abbrev pub size : Program → ℕ → ℕ
+size p f = length (routine p f).code
+
+-- no cause from V1 to V16 at any place of the function
+abbrev pub IsWellTyped : Program → ℕ → Type 0
+IsWellTyped p f = flow.IsAccepted (typing p f) (size p f)
+
+-- the least place of the function with a cause from V1 to V16, and the least cause there
+abbrev pub IsTypeRefusal : Program → ℕ → ℕ → Cause → Type 0
+IsTypeRefusal p f pc c = flow.IsRefusal (typing p f) (size p f) pc c
+
+-- no place of the function has a cause
+pub record IsSound (p : Program) (f : ℕ) : Type 0 where
+  pub typed : IsWellTyped p f
+
+-- the least place of the function that has a cause, and the least cause there
+pub data IsUnsound (p : Program) (f : ℕ) : ℕ → Cause → Type 0 where
+  ill_typed : {pc : ℕ} {c : Cause} → IsTypeRefusal p f pc c → IsUnsound p f pc c
+
+-- of all places, function by function, the least with a cause, and the least cause there
+abbrev pub IsRefusal : Program → ℕ → ℕ → Cause → Type 0
+IsRefusal p f pc c = (f < length p.routines) × IsUnsound p f pc c × ((earlier : ℕ) → earlier < f → IsSound p earlier)
+
+-- there is no such place
+abbrev pub IsAccepted : Program → Type 0
+IsAccepted p = (f : ℕ) → f < length p.routines → IsSound p f

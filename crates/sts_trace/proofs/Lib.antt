@@ -1,0 +1,5 @@
+pub mod Found
+pub mod Lines
+pub mod Only
+pub mod Spelled
+pub mod TooMany

@@ -1,0 +1,102 @@
+//! Events from outside, and reading them.
+
+ghost use Rattle.std.specs.Prelude.{◌≡◌, ◌∷◌, [], List, IfOk, Ok};
+ghost use Rattle.sts_text.specs.Words.{fields};
+ghost use Rattle.sts_trace.specs.declared.outside.Due.{Due};
+ghost use Rattle.sts_trace.specs.Spelling.{AreDues, outside_text};
+ghost use Rattle.sts_trace.specs.Reading.{Gives, due_line, due_said, outside_read, is_outside_word};
+
+use crate::error::TraceError;
+use crate::fields::{event_of, numeral_at};
+use std::alloc::Global;
+use sts_model::event::Event;
+use sts_text::{cut_at_newline, cut_at_space};
+
+/// An event from outside.
+#[derive(Clone, Copy, Debug, PartialEq, Eq)]
+pub struct Due {
+    /// How many entries the journal holds when the event is due.
+    pub at: u32,
+    pub event: Event,
+}
+
+/// The lines that an outside text may have.
+const MOST_LINES: u64 = 4096;
+
+fn is_outside_word(word: &[u8]) -> bool
+    ensures { result ≡ is_outside_word word.now }
+{
+    word == b"interrupt".as_slice() || word == b"expire".as_slice()
+}
+
+#[tactic(auto, using(crate::proofs::TooMany::too_many))]
+fn due_line(at: u64, line: &[u8]) -> Result<Due, TraceError>
+    ensures { Gives (λ due. due) result (due_line at line.now) }
+{
+    if at > MOST_LINES {
+        return Err(TraceError::BadLine(at));
+    }
+    let Some((first, rest)) = cut_at_space(line) else {
+        return Err(TraceError::BadLine(at));
+    };
+    let Some((time, rest)) = cut_at_space(rest) else {
+        return Err(TraceError::BadLine(at));
+    };
+    let Some((word, number)) = cut_at_space(rest) else {
+        return Err(TraceError::BadLine(at));
+    };
+    if cut_at_space(number).is_some() {
+        return Err(TraceError::BadLine(at));
+    }
+    due_said(at, first, time, word, number)
+}
+
+fn due_said(at: u64, first: &[u8], time: &[u8], word: &[u8], number: &[u8]) -> Result<Due, TraceError>
+    ensures { Gives (λ due. due) result (due_said at (first.now ∷ time.now ∷ word.now ∷ number.now ∷ [])) }
+{
+    if first != b"at".as_slice() || time.is_empty() || !is_outside_word(word) || number.is_empty() {
+        return Err(TraceError::BadLine(at));
+    }
+    let time = numeral_at(at, time)?;
+    let event = event_of(at, word, number)?;
+    Ok(Due { at: time, event })
+}
+
+#[tactic(auto, using(crate::proofs::Lines::reads))]
+fn read_dues(alloc: Global, text: &[u8]) -> Result<Vec<Due>, TraceError>
+    ensures { Gives (λ dues. dues.items) result (outside_read text.now) }
+{
+    let mut dues = Vec::new(alloc);
+    let mut rest = text;
+    let mut at: u64 = 1;
+    while let Some((line, after)) = cut_at_newline(rest) {
+        let due = due_line(at, line)?;
+        dues.push(due)?;
+        rest = after;
+        at += 1;
+    }
+    if rest.is_empty() {
+        Ok(dues)
+    } else {
+        Err(TraceError::NoNewline)
+    }
+}
+
+/// The outside events whose text the bytes are, at most 4,096, or the first fault of them.
+///
+/// # Errors
+///
+/// Lines are judged in order. A line that isn't `at`, a number's place, `interrupt` or `expire` and a number's place,
+/// with one space between them, is `BadLine`, and so is a line 4,097; else a bad number is `BadNumber`; bytes after
+/// the last newline are `NoNewline`. `Memory` may come in place of any answer.
+#[tactic(auto, using(crate::proofs::Found::dues_found, crate::proofs::Only::outside_only))]
+pub fn read_outside(alloc: Global, text: &[u8]) -> Result<Vec<Due>, TraceError>
+    // What is read is what the text spells.
+    ensures found { IfOk result (λ dues. AreDues dues.items × (text.now ≡ outside_text dues.items)) }
+    // Whatever the text spells is read.
+    ensures only { (dues : List Due) → AreDues dues → text.now ≡ outside_text dues → Gives (λ read. read.items) result (Ok dues) }
+    // What is wrong is the first fault.
+    ensures exact { Gives (λ dues. dues.items) result (outside_read text.now) }
+{
+    read_dues(alloc, text)
+}

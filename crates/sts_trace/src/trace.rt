@@ -1,0 +1,74 @@
+//! Reading traces.
+
+ghost use Rattle.std.specs.Prelude.{◌≡◌, ◌∷◌, [], List, IfOk, Ok};
+ghost use Rattle.std.specs.List.{All};
+ghost use Rattle.sts_model.specs.declared.event.Event.{Event};
+ghost use Rattle.sts_trace.specs.Spelling.{IsEvent, trace_text};
+ghost use Rattle.sts_trace.specs.Reading.{Gives, event_line, event_said, trace_read};
+
+use crate::error::TraceError;
+use crate::fields::event_of;
+use std::alloc::Global;
+use sts_model::event::Event;
+use sts_text::{cut_at_newline, cut_at_space};
+
+fn event_said(at: u64, word: &[u8], number: &[u8]) -> Result<Event, TraceError>
+    ensures { Gives (λ e. e) result (event_said at (word.now ∷ number.now ∷ [])) }
+{
+    if number.is_empty() {
+        return Err(TraceError::BadLine(at));
+    }
+    event_of(at, word, number)
+}
+
+#[tactic(auto, using(crate::proofs::TooMany::too_many))]
+fn event_line(at: u64, line: &[u8]) -> Result<Event, TraceError>
+    ensures { Gives (λ e. e) result (event_line at line.now) }
+{
+    let Some((word, number)) = cut_at_space(line) else {
+        return Err(TraceError::BadLine(at));
+    };
+    if cut_at_space(number).is_some() {
+        return Err(TraceError::BadLine(at));
+    }
+    event_said(at, word, number)
+}
+
+#[tactic(auto, using(crate::proofs::Lines::reads))]
+fn read_events(alloc: Global, text: &[u8]) -> Result<Vec<Event>, TraceError>
+    ensures { Gives (λ events. events.items) result (trace_read text.now) }
+{
+    let mut events = Vec::new(alloc);
+    let mut rest = text;
+    let mut at: u64 = 1;
+    while let Some((line, after)) = cut_at_newline(rest) {
+        let event = event_line(at, line)?;
+        events.push(event)?;
+        rest = after;
+        at += 1;
+    }
+    if rest.is_empty() {
+        Ok(events)
+    } else {
+        Err(TraceError::NoNewline)
+    }
+}
+
+/// The events whose trace text the bytes are, or the first fault of them.
+///
+/// # Errors
+///
+/// Lines are judged in order. A line that isn't `step`, `interrupt` or `expire`, one space and a number's place
+/// is `BadLine`, else a bad number is `BadNumber`; bytes after the last newline are `NoNewline`. `Memory` may come
+/// in place of any answer.
+#[tactic(auto, using(crate::proofs::Found::events_found, crate::proofs::Only::trace_only))]
+pub fn read_trace(alloc: Global, text: &[u8]) -> Result<Vec<Event>, TraceError>
+    // What is read is what the text spells.
+    ensures found { IfOk result (λ events. All IsEvent events.items × (text.now ≡ trace_text events.items)) }
+    // Whatever the text spells is read.
+    ensures only { (events : List Event) → All IsEvent events → text.now ≡ trace_text events → Gives (λ read. read.items) result (Ok events) }
+    // What is wrong is the first fault.
+    ensures exact { Gives (λ events. events.items) result (trace_read text.now) }
+{
+    read_events(alloc, text)
+}
