@@ -1,8 +1,13 @@
 -- The four budgets of a function: the steps of its control paths, and the most tasks, scopes and bindings that stand at a point of them (this project's own).
-use Rattle.std.specs.Prelude.{◌≡◌, ℕ, suc, ◌+◌, ◌<◌, ◌≤◌, List, [], ◌∷◌, ◌++◌, length, drop, sum_by, Option, Some, None, if◌then◌else◌, ◌==◌, unwrap_or, slice_index_or}
+use Rattle.std.specs.Prelude.{◌≡◌, ℕ, ◌+◌, ◌<◌, List, [], ◌∷◌, ◌++◌, length, take, drop, sum_by, if◌then◌else◌, ◌==◌, unwrap_or, slice_index_or}
 use Rattle.sts_code.specs.declared.instr.Instr.{Instr}
-use Rattle.sts_code.specs.declared.instr.Instr.TheVariants.{Push, Div, Jmp, Jz, Times, Next, Open, Fork, Join, Close, Case, Bind, Unbind, Ret, Fail}
+use Rattle.sts_code.specs.declared.instr.Instr.TheVariants.{Times, Next, Open, Fork, Close, Bind, Unbind, Ret, Fail}
+use Rattle.sts_code.specs.Program.{Program, routine}
+use Rattle.sts_model.specs.declared.typing.Cause.{Cause}
+use Rattle.sts_model.specs.declared.typing.Cause.TheVariants.{TooManySteps, TooManyTasks, TooManyScopes, TooManyBinds}
+use Rattle.sts_model.specs.Causes.{cause_number}
 use Rattle.sts_model.specs.Local.{match_of}
+use Rattle.sts_model.specs.Around.{instr_at, named, next_place}
 use Rattle.sts_model.specs.ControlPaths.{Shape, GoesTo, Repeats, EndsTurn, EndsPath, OpenEntry, OpenScope, OpenBinding, Skeleton, IsGreatest, IsPeak, PathCounts, PointHolds}
 
 -- the budgets of a function
@@ -21,22 +26,13 @@ budget_at earlier f = slice_index_or earlier f no_budget
 
 -- ---- one instruction
 
-abbrev pub given : Option ℕ → List ℕ
-given None = []
-given (Some to) = to ∷ []
-
 -- how the instruction at pc goes on
 abbrev pub shape_of : ℕ → Instr → Shape
-shape_of pc (Div to) = GoesTo (to ∷ (pc + 1) ∷ [])
-shape_of pc (Jmp to) = GoesTo (to ∷ [])
-shape_of pc (Jz to) = GoesTo (to ∷ (pc + 1) ∷ [])
 shape_of pc (Times n) = Repeats n
 shape_of pc Next = EndsTurn
-shape_of pc (Join slot failed timeout interrupted) = GoesTo (given failed ++ given timeout ++ interrupted ∷ (pc + 1) ∷ [])
-shape_of pc (Case handle success failed) = GoesTo (success ∷ failed ∷ (pc + 1) ∷ [])
 shape_of pc Ret = EndsPath
 shape_of pc Fail = EndsPath
-shape_of pc _ = GoesTo ((pc + 1) ∷ [])
+shape_of pc i = GoesTo (named i ++ next_place pc i)
 
 -- how many steps it counts: a close has two, a fork also those of its child
 abbrev pub steps_of : List Budget → Instr → ℕ
@@ -61,10 +57,6 @@ entries_of (Close slot) es = drop 1 es
 entries_of Unbind es = drop 1 es
 entries_of (Fork slot function handle) es = forked slot function es
 entries_of _ es = es
-
--- the instruction at pc; past the end there is none, and a path ends
-abbrev pub instr_at : List Instr → ℕ → Instr
-instr_at code pc = slice_index_or code pc Ret
 
 -- what control paths see of this code, where the earlier functions have these budgets
 abbrev pub skeleton : List Budget → List Instr → Skeleton
@@ -101,3 +93,35 @@ scopes_sum earlier es = entries_sum (record { scope = 1; binding = 0; subtask = 
 -- the open bindings, and those of the subtasks in open scopes
 abbrev pub binds_sum : List Budget → List OpenEntry → ℕ
 binds_sum earlier es = entries_sum (record { scope = 0; binding = 1; subtask = λ f. (budget_at earlier f).binds }) es
+
+-- ---- the budgets
+
+-- these are the budgets of this code, where the earlier functions have those
+pub record IsBudget (earlier : List Budget) (code : List Instr) (b : Budget) : Type 0 where
+  pub steps : IsGreatest (skeleton earlier code) b.steps
+  pub tasks : IsPeak (skeleton earlier code) (tasks_sum earlier) b.tasks
+  pub scopes : IsPeak (skeleton earlier code) (scopes_sum earlier) b.scopes
+  pub binds : IsPeak (skeleton earlier code) (binds_sum earlier) b.binds
+
+-- these are the budgets of the first functions of the program, in order
+abbrev pub AreBudgets : Program → List Budget → Type 0
+AreBudgets p budgets = (f : ℕ) → f < length budgets → IsBudget (take f budgets) (routine p f).code (budget_at budgets f)
+
+-- more than the limit: on some control path, or at some point of one
+abbrev pub PathExceeds : Skeleton → ℕ → Type 0
+PathExceeds c limit = (m : ℕ) × (PathCounts c m × (limit < m))
+
+abbrev pub PointExceeds : Skeleton → (List OpenEntry → ℕ) → ℕ → Type 0
+PointExceeds c sum limit = (m : ℕ) × (PointHolds c sum m × (limit < m))
+
+-- the cause of a budget that passes its limit, V17 to V20
+abbrev pub Exceeds : List Budget → List Instr → Cause → Type 0
+Exceeds earlier code TooManySteps = PathExceeds (skeleton earlier code) 1000000
+Exceeds earlier code TooManyTasks = PointExceeds (skeleton earlier code) (tasks_sum earlier) 65536
+Exceeds earlier code TooManyScopes = PointExceeds (skeleton earlier code) (scopes_sum earlier) 65536
+Exceeds earlier code TooManyBinds = PointExceeds (skeleton earlier code) (binds_sum earlier) 65536
+Exceeds earlier code _ = ⊥
+
+-- the least of these causes
+abbrev pub IsLeastExcess : List Budget → List Instr → Cause → Type 0
+IsLeastExcess earlier code c = Exceeds earlier code c × ((other : Cause) → cause_number other < cause_number c → ¬ Exceeds earlier code other)

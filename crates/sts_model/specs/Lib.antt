@@ -1,7 +1,6 @@
 pub mod Around
 pub mod Budget
 pub mod Cancelling
-pub mod Cancelling
 pub mod Causes
 pub mod ControlPaths
 pub mod Edges
