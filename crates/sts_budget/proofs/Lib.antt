@@ -1,2 +1,4 @@
 pub mod Structured
 pub mod Sums
+pub mod Sorts
+pub mod Match
