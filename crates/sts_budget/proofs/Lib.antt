@@ -2,3 +2,5 @@ pub mod Structured
 pub mod Sums
 pub mod Sorts
 pub mod Match
+pub mod Allowed
+pub mod Typed
