@@ -138,6 +138,35 @@ closed pc (Some q) e = ap (λ (k : ℕ). Some k) (eqb-true q pc e)
 shape_times : (code : List Instr) (p : ℕ) → is_times (instr_at code p) ≡ true → (n : ℕ) × (shape_of p (instr_at code p) ≡ Repeats n)
 shape_times code p t = let n = times_is (instr_at code p) t in (n.0, ap (shape_of p) n.1)
 
+-- ---- what the shape says of the instruction
+
+pub goes_of : (p : Program) (code : List Instr) (pc : ℕ) (i : Instr) (places : List ℕ) → Sort p code pc i → shape_of pc i ≡ GoesTo places → GoesOn p code pc i × (places ≡ named i ++ next_place pc i)
+goes_of p code pc i places (times_sort n) e = absurd (cc)
+goes_of p code pc i places next_sort e = absurd (cc)
+goes_of p code pc i places (end_sort shape none) e = let z : EndsPath ≡ GoesTo places = sym shape ∙ e in absurd (cc)
+goes_of p code pc i places (goes_on g) e = let z : GoesTo places ≡ GoesTo (named i ++ next_place pc i) = sym e ∙ g.shape in (g, (cc))
+
+pub times_of : (p : Program) (code : List Instr) (pc : ℕ) (i : Instr) (n : ℕ) → Sort p code pc i → shape_of pc i ≡ Repeats n → i ≡ Times n
+times_of p code pc i n (times_sort m) e = let z : m ≡ n = cc in ap (λ (k : ℕ). Times k) z
+times_of p code pc i n next_sort e = absurd (cc)
+times_of p code pc i n (end_sort shape none) e = let z : EndsPath ≡ Repeats n = sym shape ∙ e in absurd (cc)
+times_of p code pc i n (goes_on g) e = let z : GoesTo (named i ++ next_place pc i) ≡ Repeats n = sym g.shape ∙ e in absurd (cc)
+
+pub next_of : (p : Program) (code : List Instr) (pc : ℕ) (i : Instr) → Sort p code pc i → shape_of pc i ≡ EndsTurn → i ≡ Next
+next_of p code pc i (times_sort m) e = absurd (cc)
+next_of p code pc i next_sort e = refl
+next_of p code pc i (end_sort shape none) e = let z : EndsPath ≡ EndsTurn = sym shape ∙ e in absurd (cc)
+next_of p code pc i (goes_on g) e = let z : GoesTo (named i ++ next_place pc i) ≡ EndsTurn = sym g.shape ∙ e in absurd (cc)
+
+some_match : (o : Option ℕ) → is_none o ≡ false → (q : ℕ) × (o ≡ Some q)
+some_match None e = absurd (cc)
+some_match (Some q) e = (q, refl)
+
+-- the innermost loop ends here
+closing : (code : List Instr) (pc : ℕ) (ls : List TypedLoop) → closes_loop code pc ls ≡ true → (l : TypedLoop) × ((rest : List TypedLoop) × ((ls ≡ l ∷ rest) × (match_of code l.at ≡ Some pc)))
+closing code pc [] e = absurd (cc)
+closing code pc (l ∷ rest) e = (l, (rest, (refl, closed pc (match_of code l.at) e)))
+
 -- ---- the function
 
 -- the code of an accepted function
@@ -252,3 +281,108 @@ module _ (p : Program) (f : ℕ) (accepted : IsWellTyped p f) (some_code : 0 < l
   stack_at pc h hs e = elim (cases_lt pc (length (routine p f).code)) [
       inl lt ↦ (let k = here pc lt in subst (λ l. Stacked l pc) e k.fit.stack)
     | inr ge ↦ (let z = none_past (routine p f).code pc (h ∷ hs) e ge in absurd (cc)) ]
+
+  sort_at : (pc : ℕ) → Sort p (routine p f).code pc (instr_at (routine p f).code pc)
+  sort_at pc = sort p (routine p f).code pc (instr_at (routine p f).code pc)
+
+  pub times_at : (pc n : ℕ) → c.shape pc ≡ Repeats n → instr_at (routine p f).code pc ≡ Times n
+  times_at pc n e = times_of p (routine p f).code pc (instr_at (routine p f).code pc) n (sort_at pc) e
+
+  pub next_at : (pc : ℕ) → c.shape pc ≡ EndsTurn → instr_at (routine p f).code pc ≡ Next
+  next_at pc e = next_of p (routine p f).code pc (instr_at (routine p f).code pc) (sort_at pc) e
+
+  pub goes_at : (pc : ℕ) (places : List ℕ) → c.shape pc ≡ GoesTo places → GoesOn p (routine p f).code pc (instr_at (routine p f).code pc) × (places ≡ named (instr_at (routine p f).code pc) ++ next_place pc (instr_at (routine p f).code pc))
+  goes_at pc places e = goes_of p (routine p f).code pc (instr_at (routine p f).code pc) places (sort_at pc) e
+
+  -- a place with an instruction that isn't the end of a path
+  pub within_code : (pc : ℕ) → (c.shape pc ≡ EndsPath → ⊥) → pc < length (routine p f).code
+  within_code pc no_end = inside pc (instr_at (routine p f).code pc) refl (λ e. no_end (ap (shape_of pc) e))
+
+  -- the loop that a `next` ends
+  pub record Ended (pc : ℕ) : Type 0 where
+    pub head : ℕ
+    pub turns : ℕ
+    pub times : instr_at (routine p f).code head ≡ Times turns
+    pub ends : match_of (routine p f).code head ≡ Some pc
+    pub here_is : around (routine p f).code pc ≡ head ∷ around (routine p f).code head
+
+  pub ended : (pc : ℕ) → instr_at (routine p f).code pc ≡ Next → Ended pc
+  ended pc e =
+      let k = here pc (inside pc Next e (λ z. (cc))) in
+      let a = subst (λ j. Allowed p f pc j k.clear.state k.clear.out) e k.rules in
+      let h = closing (routine p f).code pc k.clear.state.loops (not_false _ a.matched) in
+      let l = h.0 in
+      let around_is : around (routine p f).code pc ≡ l.at ∷ heads h.1.0 = sym k.fit.loops ∙ ap heads h.1.1.0 in
+      let stack = stack_at pc l.at (heads h.1.0) around_is in
+      let n = times_is (instr_at (routine p f).code l.at) stack.0 in
+      record { head = l.at; turns = n.0; times = n.1; ends = h.1.1.1; here_is = around_is ∙ ap (λ hs. l.at ∷ hs) (sym stack.1) }
+
+  -- two loops have two ends
+  one_head : (pc h q : ℕ) → instr_at (routine p f).code pc ≡ Next → Ended pc → is_times (instr_at (routine p f).code q) ≡ true → match_of (routine p f).code q ≡ Some pc → q < pc → (e : Ended pc) → q ≡ e.head
+  one_head pc h q is d t m lt e =
+      let a = round (routine p f).code pc q pc lt t m (omega arith) in
+      let a' = subst (λ hs. Among hs q) e.here_is a in
+      let k = here pc (inside pc Next is (λ z. (cc))) in
+      let rules = subst (λ j. Allowed p f pc j k.clear.state k.clear.out) is k.rules in
+      let l = leading_next pc k.clear.state k.clear.out rules in
+      let after : around (routine p f).code (pc + 1) ≡ around (routine p f).code e.head = l.1 ∙ ap (drop 1) k.fit.loops ∙ ap (drop 1) e.here_is in
+      elim a' [
+        inl same ↦ sym same
+      | inr outer ↦ (
+          let r = is_round (routine p f).code (pc + 1) q (subst (λ hs. Among hs q) (sym after) outer) in
+          let twice : Some pc ≡ Some r.1.0 = sym m ∙ r.1.1.0 in
+          let same : pc ≡ r.1.0 = cc in
+          absurd (omega (arith, r.1.1.1))) ]
+
+  -- the loop that a `times` opens
+  pub record Opened (pc n : ℕ) : Type 0 where
+    pub end : ℕ
+    pub ends : match_of (routine p f).code pc ≡ Some end
+    pub mate : c.mate pc ≡ end
+    pub is_end : instr_at (routine p f).code end ≡ Next
+    pub later : pc < end
+    pub within : end + 1 < length (routine p f).code
+    pub around_turn : around (routine p f).code (pc + 1) ≡ pc ∷ around (routine p f).code pc
+    pub around_end : around (routine p f).code end ≡ pc ∷ around (routine p f).code pc
+    pub around_after : around (routine p f).code (end + 1) ≡ around (routine p f).code pc
+
+  pub opened : (pc n : ℕ) → instr_at (routine p f).code pc ≡ Times n → Opened pc n
+  opened pc n e =
+      let lt = inside pc (Times n) e (λ z. (cc)) in
+      let k = here pc lt in
+      let a = subst (λ j. Allowed p f pc j k.clear.state k.clear.out) e k.rules in
+      let m = some_match (match_of (routine p f).code pc) a.matched in
+      let q = m.0 in
+      let next = match_is_next (routine p f).code pc n q lt e m.1 in
+      let enter = leading_enter pc n k.clear.state k.clear.out a in
+      let skip = leading_skip pc n q k.clear.state k.clear.out a m.1 in
+      let d = ended q next.0 in
+      let same : pc ≡ d.head = one_head q pc pc next.0 d (ap is_times e) m.1 next.1 d in
+      record {
+        end = q; ends = m.1; mate = ap (λ o. unwrap_or o 0) m.1; is_end = next.0; later = next.1; within = skip.0;
+        around_turn = enter.1 ∙ ap (λ hs. pc ∷ hs) k.fit.loops;
+        around_end = d.here_is ∙ ap (λ h. h ∷ around (routine p f).code h) (sym same);
+        around_after = skip.1 ∙ k.fit.loops }
+
+  pub structured : IsStructured c (around (routine p f).code)
+  structured = record {
+    outside = refl;
+    some = λ pc places e. (let g = goes_at pc places e in (g.0.some.0, subst (λ ps. Among ps g.0.some.0) (sym g.1) g.0.some.1));
+    forward = λ pc to places e among.
+      (let g = goes_at pc places e in
+       let k = here pc (within_code pc (λ z. (let w : EndsPath ≡ GoesTo places = sym z ∙ e in (cc)))) in
+       let a' = subst (λ ps. Among ps to) g.1 among in
+       let u = leading_go pc (instr_at (routine p f).code pc) k.clear.state k.clear.out to k.clear.state k.rules g.0 a' refl in
+       (u.later, u.within, u.loops ∙ k.fit.loops));
+    loop = λ pc n e.
+      (let i = times_at pc n e in
+       let o = opened pc n i in
+       let at : (P : ℕ → Type 0) → P o.end → P (c.mate pc) = λ P x. subst P (sym o.mate) x in
+       (bounds pc n i, at (λ q. pc < q) o.later, at (λ q. q + 1 < length (routine p f).code) o.within, at (λ q. c.shape q ≡ EndsTurn) (ap (shape_of o.end) o.is_end),
+        o.around_turn, at (λ q. around (routine p f).code q ≡ pc ∷ around (routine p f).code pc) o.around_end, at (λ q. around (routine p f).code (q + 1) ≡ around (routine p f).code pc) o.around_after));
+    nested = λ pc h hs e. (let s = stack_at pc h hs e in (shape_times (routine p f).code h s.0, s.1));
+    lesser = λ pc h hs e. (stack_at pc h hs e).2;
+    some_code = some_code;
+    end = λ pc e.
+      (let d = ended pc (next_at pc e) in
+       (d.head, (d.turns, (ap (shape_of d.head) d.times, ap (λ o. unwrap_or o 0) d.ends)))) }

@@ -1,7 +1,7 @@
 -- The open entries by their names alone (this project's own).
-use Rattle.std.specs.Prelude.{ℕ, List, [], ◌∷◌, length, drop, Option, Some, None}
+use Rattle.std.specs.Prelude.{◌≡◌, ℕ, ◌<◌, ◌⊎◌, List, [], ◌∷◌, length, drop, Option, Some, None}
 use Rattle.sts_code.specs.declared.instr.Instr.{Instr}
-use Rattle.sts_code.specs.declared.instr.Instr.TheVariants.{Open, Close, Bind, Unbind}
+use Rattle.sts_code.specs.declared.instr.Instr.TheVariants.{Open, Fork, Close, Bind, Unbind}
 
 -- the names of the open entries, the innermost first: a scope's slot, or none for a binding
 abbrev pub Names : Type 0
@@ -14,3 +14,15 @@ names_after (Bind key) ns = None ∷ ns
 names_after (Close slot) ns = drop 1 ns
 names_after Unbind ns = drop 1 ns
 names_after _ ns = ns
+
+-- is there a scope in this slot among them?
+abbrev pub HasScope : ℕ → Names → Type 0
+HasScope slot [] = ⊥
+HasScope slot (n ∷ ns) = (n ≡ Some slot) ⊎ HasScope slot ns
+
+-- a close has an entry to close, and a fork an open scope in its slot
+abbrev pub FitsNames : Instr → Names → Type 0
+FitsNames (Close slot) ns = 0 < length ns
+FitsNames Unbind ns = 0 < length ns
+FitsNames (Fork slot function handle) ns = HasScope slot ns
+FitsNames _ ns = Unit {0}
