@@ -4,3 +4,4 @@ pub mod Sorts
 pub mod Match
 pub mod Allowed
 pub mod Typed
+pub mod Named

@@ -23,6 +23,12 @@ pub record IsStructured (c : Skeleton) (around : ℕ → List ℕ) : Type 0 wher
   pub some_code : 0 < c.size
   pub end : (pc : ℕ) → c.shape pc ≡ EndsTurn → (p : ℕ) × ((n : ℕ) × ((c.shape p ≡ Repeats n) × (c.mate p ≡ pc)))
 
+-- each place but the first is led to by one before it
+pub data Led (c : Skeleton) : ℕ → Type 0 where
+  from_go : (from pc : ℕ) (places : List ℕ) → c.shape from ≡ GoesTo places → Among places pc → Led c pc
+  from_head : (p n : ℕ) → c.shape p ≡ Repeats n → Led c (p + 1)
+  from_end : (p n : ℕ) → c.shape p ≡ Repeats n → Led c (c.mate p + 1)
+
 module _ (c : Skeleton) (around : ℕ → List ℕ) (good : IsStructured c around) where
   -- each open loop has a turn under way
   abbrev pub FitTurns : Loops → Type 0

@@ -123,7 +123,7 @@ within_times : (code : List Instr) (p : ℕ) → is_times (instr_at code p) ≡ 
 within_times code p t = elim (cases_lt p (length code)) [ inl lt ↦ lt | inr ge ↦ (let z : false ≡ true = sym (ap is_times (get_or_past code p Ret ge)) ∙ t in absurd (cc)) ]
 
 -- past the end there is no loop
-none_past : (code : List Instr) (pc : ℕ) (hs : List ℕ) → around code pc ≡ hs → length code ≤ pc → hs ≡ []
+pub none_past : (code : List Instr) (pc : ℕ) (hs : List ℕ) → around code pc ≡ hs → length code ≤ pc → hs ≡ []
 none_past code pc [] e ge = refl
 none_past code pc (p ∷ ps) e ge =
     let r = is_round code pc p (subst (λ hs. Among hs p) (sym e) (inl refl)) in
@@ -177,7 +177,7 @@ module _ (p : Program) (f : ℕ) (accepted : IsWellTyped p f) (some_code : 0 < l
   abbrev c : Skeleton
   c = skeleton earlier (routine p f).code
 
-  edge_at : (pc : ℕ) (s : TypeState) (out : List (ℕ × TypeState)) (to : ℕ) (x : TypeState) → edges_of p f pc (instr_at (routine p f).code pc) s ≡ Ok out → Leads out to x → IsEdge p (routine p f).code pc (instr_at (routine p f).code pc) s to x
+  pub edge_at : (pc : ℕ) (s : TypeState) (out : List (ℕ × TypeState)) (to : ℕ) (x : TypeState) → edges_of p f pc (instr_at (routine p f).code pc) s ≡ Ok out → Leads out to x → IsEdge p (routine p f).code pc (instr_at (routine p f).code pc) s to x
   edge_at pc s out to x e l =
       let a = allowed p f pc (instr_at (routine p f).code pc) s out e in
       edge_of p (routine p f).code pc (instr_at (routine p f).code pc) (sort p (routine p f).code pc (instr_at (routine p f).code pc)) s to x (subst (λ o. Leads o to x) a.is l)
@@ -277,7 +277,7 @@ module _ (p : Program) (f : ℕ) (accepted : IsWellTyped p f) (some_code : 0 < l
   pub inside : (pc : ℕ) (i : Instr) → instr_at (routine p f).code pc ≡ i → (i ≡ Ret → ⊥) → pc < length (routine p f).code
   inside pc i e no_end = elim (cases_lt pc (length (routine p f).code)) [ inl lt ↦ lt | inr ge ↦ absurd (no_end (sym e ∙ get_or_past (routine p f).code pc Ret ge)) ]
 
-  stack_at : (pc h : ℕ) (hs : List ℕ) → around (routine p f).code pc ≡ h ∷ hs → Stacked (h ∷ hs) pc
+  pub stack_at : (pc h : ℕ) (hs : List ℕ) → around (routine p f).code pc ≡ h ∷ hs → Stacked (h ∷ hs) pc
   stack_at pc h hs e = elim (cases_lt pc (length (routine p f).code)) [
       inl lt ↦ (let k = here pc lt in subst (λ l. Stacked l pc) e k.fit.stack)
     | inr ge ↦ (let z = none_past (routine p f).code pc (h ∷ hs) e ge in absurd (cc)) ]
