@@ -5,3 +5,4 @@ pub mod Match
 pub mod Allowed
 pub mod Typed
 pub mod Named
+pub mod Entries

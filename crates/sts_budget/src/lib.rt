@@ -1,2 +1,4 @@
 //! The four budgets of a function: the steps of its control paths, and the peaks of what stands at their points.
 #![tactic(auto)]
+
+pub mod effect;

@@ -82,17 +82,26 @@ entry_sum k OpenBinding = k.binding
 abbrev pub entries_sum : Measure → List OpenEntry → ℕ
 entries_sum k es = sum_by (entry_sum k) es
 
+abbrev pub tasks_measure : List Budget → Measure
+tasks_measure earlier = record { scope = 0; binding = 0; subtask = λ f. (budget_at earlier f).tasks }
+
+abbrev pub scopes_measure : List Budget → Measure
+scopes_measure earlier = record { scope = 1; binding = 0; subtask = λ f. (budget_at earlier f).scopes }
+
+abbrev pub binds_measure : List Budget → Measure
+binds_measure earlier = record { scope = 0; binding = 1; subtask = λ f. (budget_at earlier f).binds }
+
 -- the task itself, and the tasks of the subtasks in open scopes
 abbrev pub tasks_sum : List Budget → List OpenEntry → ℕ
-tasks_sum earlier es = 1 + entries_sum (record { scope = 0; binding = 0; subtask = λ f. (budget_at earlier f).tasks }) es
+tasks_sum earlier es = 1 + entries_sum (tasks_measure earlier) es
 
 -- the open scopes, and those of the subtasks in them
 abbrev pub scopes_sum : List Budget → List OpenEntry → ℕ
-scopes_sum earlier es = entries_sum (record { scope = 1; binding = 0; subtask = λ f. (budget_at earlier f).scopes }) es
+scopes_sum earlier es = entries_sum (scopes_measure earlier) es
 
 -- the open bindings, and those of the subtasks in open scopes
 abbrev pub binds_sum : List Budget → List OpenEntry → ℕ
-binds_sum earlier es = entries_sum (record { scope = 0; binding = 1; subtask = λ f. (budget_at earlier f).binds }) es
+binds_sum earlier es = entries_sum (binds_measure earlier) es
 
 -- ---- the budgets
 
