@@ -7,7 +7,8 @@ use Rattle.sts_code.specs.declared.instr.Instr.{Instr}
 use Rattle.sts_code.specs.declared.instr.Instr.TheVariants.{Push, Pop, Dup, Swap, Load, Store, Add, Sub, Mul, Lt, Eq, Div, Jmp, Jz, Times, Next, Open, Fork, Join, Close, Cancelled, Case, Get, Except, Tally, Total, Forget, Bind, Unbind, Read, Bound, OrElse, Interrupted, Ret, Fail}
 use Rattle.sts_model.specs.Around.{instr_at}
 use Rattle.sts_model.specs.ControlPaths.{Shape, GoesTo, Repeats, EndsTurn, EndsPath, OpenEntry, OpenScope, OpenBinding, Skeleton, Among, Loops, Follows, go, skip, enter, again, leave, Comes, start, step}
-use Rattle.sts_model.specs.Budget.{Budget, Measure, entry_sum, entries_sum, forked, entries_of, skeleton}
+use Rattle.sts_model.specs.declared.budget.Budgets.{Budgets}
+use Rattle.sts_model.specs.Budget.{Measure, entry_sum, entries_sum, forked, entries_of, skeleton}
 use Rattle.sts_budget.specs.Layout.{Names, names_after, HasScope, FitsNames}
 use Rattle.sts_budget.specs.declared.effect.Effect.{Effect}
 use Rattle.sts_budget.specs.declared.effect.Effect.TheVariants.{Rises, Opens, Adds}
@@ -21,7 +22,7 @@ name_of OpenBinding = None
 abbrev pub names : List OpenEntry → Names
 names es = map name_of es
 
-long : (es : List OpenEntry) → length (names es) ≡ length es
+pub long : (es : List OpenEntry) → length (names es) ≡ length es
 long [] = refl
 long (e ∷ es) = ap suc (long es)
 

@@ -6,3 +6,4 @@ pub mod Allowed
 pub mod Typed
 pub mod Named
 pub mod Entries
+pub mod FourKinds

@@ -19,7 +19,8 @@ use Rattle.sts_model.specs.Causes.{breaks_structure, is_illegal, has_wrong_slot,
 use Rattle.sts_model.specs.Edges.{follows, moved, typing, edges_of, back_of}
 use Rattle.sts_model.specs.Refusal.{IsWellTyped}
 use Rattle.sts_model.specs.ControlPaths.{Shape, GoesTo, Repeats, EndsTurn, EndsPath, Skeleton, Among}
-use Rattle.sts_model.specs.Budget.{Budget, skeleton, shape_of}
+use Rattle.sts_model.specs.declared.budget.Budgets.{Budgets}
+use Rattle.sts_model.specs.Budget.{skeleton, shape_of}
 use Rattle.sts_budget.specs.Layout.{Names, names_after, HasScope, FitsNames}
 use Rattle.sts_budget.proofs.Sorts.{GoesOn, names}
 use Rattle.sts_budget.proofs.Allowed.{Allowed, allowed, not_false, neither}
@@ -157,6 +158,8 @@ pub record KnowsNames (code : List Instr) (c : Skeleton) (round : ℕ → List �
   pub empty : names_at 0 ≡ []
   pub over_go : (pc to : ℕ) (places : List ℕ) → c.shape pc ≡ GoesTo places → Among places to → names_at to ≡ names_after (instr_at code pc) (names_at pc)
   pub same : (pc n : ℕ) → c.shape pc ≡ Repeats n → (names_at (pc + 1) ≡ names_at pc) × (names_at (c.mate pc) ≡ names_at pc) × (names_at (c.mate pc + 1) ≡ names_at pc)
+  pub times : (pc n : ℕ) → c.shape pc ≡ Repeats n → instr_at code pc ≡ Times n
+  pub next : (pc : ℕ) → c.shape pc ≡ EndsTurn → instr_at code pc ≡ Next
   pub fit : (pc : ℕ) → pc < c.size → FitsNames (instr_at code pc) (names_at pc)
   pub deeper : (pc h : ℕ) (hs : List ℕ) → round pc ≡ h ∷ hs → length (names_at h) ≤ length (names_at pc)
 
@@ -168,7 +171,7 @@ long : (es : List TypedEntry) → length (names es) ≡ length es
 long [] = refl
 long (e ∷ es) = ap suc (long es)
 
-module _ (p : Program) (f : ℕ) (accepted : IsWellTyped p f) (some_code : 0 < length (routine p f).code) (bounds : (pc n : ℕ) → instr_at (routine p f).code pc ≡ Times n → 0 < n) (earlier : List Budget) where
+module _ (p : Program) (f : ℕ) (accepted : IsWellTyped p f) (some_code : 0 < length (routine p f).code) (bounds : (pc n : ℕ) → instr_at (routine p f).code pc ≡ Times n → 0 < n) (earlier : List Budgets) where
   abbrev c : Skeleton
   c = skeleton earlier (routine p f).code
 
@@ -296,6 +299,8 @@ module _ (p : Program) (f : ℕ) (accepted : IsWellTyped p f) (some_code : 0 < l
       empty = sym (right 0 _ first);
       over_go = over_jump;
       same = same_names;
+      times = times_at p f accepted some_code bounds earlier;
+      next = next_at p f accepted some_code bounds earlier;
       fit = λ pc lt. (let k = here p f accepted some_code bounds earlier pc lt in
         subst (FitsNames (instr_at (routine p f).code pc)) (right pc k.clear.state k.clear.alone.0) (fits_names p (instr_at (routine p f).code pc) k.clear.state k.rules.ordered k.rules.legal k.rules.right_slot k.rules.own_thread));
       deeper = deeper }

@@ -29,6 +29,10 @@ pub record FitsEntries (c : Skeleton) (around : ℕ → List ℕ) (f : Flows) : 
   -- inside a loop no fewer entries stand than at its head
   pub deeper : (pc p : ℕ) (ps : List ℕ) → around pc ≡ p ∷ ps → f.depth p ≤ f.depth pc
 
+-- so much or more stands at some point, over the first entries
+abbrev pub Stands : Skeleton → Flows → ℕ → Type 0
+Stands c f v = (d : ℕ) × ((pc : ℕ) × ((loops : Loops) × ((m : ℕ) × ((d ≤ f.depth pc) × Sums c f d pc loops m × (v ≤ m)))))
+
 -- what one turn of the loop at p adds
 abbrev pub gain : Skeleton → Flows → (ℕ → ℕ → ℕ) → ℕ → ℕ → ℕ
 gain c f best p d = best (c.mate p) d + f.added (c.mate p) d
@@ -200,19 +204,15 @@ module _ (c : Skeleton) (around : ℕ → List ℕ) (good : IsStructured c aroun
       let here = attained p p_in x low (last_turns ps) outer.0 inside outer.1 in
       (_, plain x p _ _ _ _ low_1 (fits.times p n x e) here (enter n 1 e (omega arith) (omega (arith, l.0))))
 
-  -- so much or more stands at some point, over the first entries
-  abbrev pub Stands : ℕ → Type 0
-  Stands v = (d : ℕ) × ((pc : ℕ) × ((loops : Loops) × ((m : ℕ) × ((d ≤ f.depth pc) × Sums c f d pc loops m × (v ≤ m)))))
-
   -- what a place hands on over a jump stands at some point
-  pub go_stands : (pc to d : ℕ) (places : List ℕ) → pc < bound → c.shape pc ≡ GoesTo places → Among places to → d ≤ f.depth to → Stands (best pc (f.source pc d) + f.added pc d)
+  pub go_stands : (pc to d : ℕ) (places : List ℕ) → pc < bound → c.shape pc ≡ GoesTo places → Among places to → d ≤ f.depth to → Stands c f (best pc (f.source pc d) + f.added pc d)
   go_stands pc to d places within e among low =
       let b = begins (around pc) pc (f.source pc d) within refl in
       let at = attained pc within (f.source pc d) (fits.from pc to d places e among low) (last_turns (around pc)) b.0 (heads_last (around pc)) b.1 in
       (d, (to, (_, (_, (low, more low at (go places e among), omega arith)))))
 
   -- what a loop hands on stands at some point
-  pub loop_stands : (p n d : ℕ) → c.mate p < bound → c.shape p ≡ Repeats n → d ≤ f.depth p → Stands (best p d + f.added p d + n * gain c f best p d)
+  pub loop_stands : (p n d : ℕ) → c.mate p < bound → c.shape p ≡ Repeats n → d ≤ f.depth p → Stands c f (best p d + f.added p d + n * gain c f best p d)
   loop_stands p n d within e low =
       let l = good.loop p n e in
       let s = fits.same p n e in

@@ -18,7 +18,8 @@ use Rattle.sts_model.specs.Causes.{is_unmatched, closes_loop}
 use Rattle.sts_model.specs.Edges.{follows, moved, typing, edges_of, back_of}
 use Rattle.sts_model.specs.Refusal.{IsWellTyped}
 use Rattle.sts_model.specs.ControlPaths.{Shape, GoesTo, Repeats, EndsTurn, EndsPath, Skeleton, Among}
-use Rattle.sts_model.specs.Budget.{Budget, skeleton, shape_of}
+use Rattle.sts_model.specs.declared.budget.Budgets.{Budgets}
+use Rattle.sts_model.specs.Budget.{skeleton, shape_of}
 use Rattle.sts_budget.specs.Layout.{Names, names_after}
 use Rattle.sts_budget.proofs.Sorts.{Sort, is_times as times_sort, is_next as next_sort, is_end as end_sort, goes_on, GoesOn, sort, names, among_of, among_left, among_right}
 use Rattle.sts_budget.proofs.Allowed.{Allowed, allowed, not_false}
@@ -170,7 +171,7 @@ closing code pc (l ∷ rest) e = (l, (rest, (refl, closed pc (match_of code l.at
 -- ---- the function
 
 -- the code of an accepted function
-module _ (p : Program) (f : ℕ) (accepted : IsWellTyped p f) (some_code : 0 < length (routine p f).code) (bounds : (pc n : ℕ) → instr_at (routine p f).code pc ≡ Times n → 0 < n) (earlier : List Budget) where
+module _ (p : Program) (f : ℕ) (accepted : IsWellTyped p f) (some_code : 0 < length (routine p f).code) (bounds : (pc n : ℕ) → instr_at (routine p f).code pc ≡ Times n → 0 < n) (earlier : List Budgets) where
   abbrev code : List Instr
   code = (routine p f).code
 

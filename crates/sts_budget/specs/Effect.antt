@@ -5,7 +5,8 @@ use Rattle.sts_code.specs.declared.instr.Instr.TheVariants.{Open, Fork, Bind}
 use Rattle.sts_model.specs.declared.typing.Cause.{Cause}
 use Rattle.sts_model.specs.declared.typing.Cause.TheVariants.{TooManySteps, TooManyTasks, TooManyScopes, TooManyBinds}
 use Rattle.sts_model.specs.ControlPaths.{OpenEntry, IsGreatest, IsPeak}
-use Rattle.sts_model.specs.Budget.{Budget, budget_at, Measure, entries_sum, steps_of, skeleton, tasks_sum, scopes_sum, binds_sum, tasks_measure, scopes_measure, binds_measure}
+use Rattle.sts_model.specs.declared.budget.Budgets.{Budgets}
+use Rattle.sts_model.specs.Budget.{budget_at, Measure, entries_sum, steps_of, skeleton, tasks_sum, scopes_sum, binds_sum, tasks_measure, scopes_measure, binds_measure}
 use Rattle.sts_budget.specs.declared.effect.Kind.{Kind}
 use Rattle.sts_budget.specs.declared.effect.Kind.TheVariants.{Steps, Tasks, Scopes, Binds}
 use Rattle.sts_budget.specs.declared.effect.Effect.{Effect}
@@ -36,7 +37,7 @@ measured m (Fork slot function handle) ns = Adds (position_of slot ns) (m.subtas
 measured m _ ns = Rises 0
 
 -- steps are summed over no entry
-abbrev pub effect_of : Kind → List Budget → Instr → Names → Effect
+abbrev pub effect_of : Kind → List Budgets → Instr → Names → Effect
 effect_of Steps earlier i ns = Rises (steps_of earlier i)
 effect_of Tasks earlier i ns = measured (tasks_measure earlier) i ns
 effect_of Scopes earlier i ns = measured (scopes_measure earlier) i ns
@@ -65,7 +66,7 @@ cause_of Scopes = TooManyScopes
 cause_of Binds = TooManyBinds
 
 -- m is the budget of this kind
-abbrev pub IsMost : Kind → List Budget → List Instr → ℕ → Type 0
+abbrev pub IsMost : Kind → List Budgets → List Instr → ℕ → Type 0
 IsMost Steps earlier code m = IsGreatest (skeleton earlier code) m
 IsMost Tasks earlier code m = IsPeak (skeleton earlier code) (tasks_sum earlier) m
 IsMost Scopes earlier code m = IsPeak (skeleton earlier code) (scopes_sum earlier) m
