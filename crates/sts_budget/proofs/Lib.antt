@@ -7,3 +7,4 @@ pub mod Typed
 pub mod Named
 pub mod Entries
 pub mod FourKinds
+pub mod Forward
