@@ -225,7 +225,7 @@ module _ (earlier : List Budgets) (code : List Instr) (round : ℕ → List ℕ)
 
   -- ---- the greatest of all places
 
-  steps_most : (best : ℕ → ℕ → ℕ) (table : IsTable c (flows Steps earlier code names_at) best) (r : ℕ) → ((pc : ℕ) → pc < c.size → full c round good (flows Steps earlier code names_at) fits_steps best table pc ≤ r) → (pc : ℕ) → pc < c.size → full c round good (flows Steps earlier code names_at) fits_steps best table pc ≡ r → IsGreatest c (1 + r)
+  steps_most : (best : ℕ → ℕ → ℕ) (table : IsTable c (flows Steps earlier code names_at) best) (r : ℕ) → ((pc : ℕ) → pc < c.size → full c (flows Steps earlier code names_at) round best pc ≤ r) → (pc : ℕ) → pc < c.size → full c (flows Steps earlier code names_at) round best pc ≡ r → IsGreatest c (1 + r)
   steps_most best table r most pc within is =
       let w = from_steps 0 pc _ _ (point_attained c round good (flows Steps earlier code names_at) fits_steps best table pc within) in
       let p = at_points c round good pc _ _ w.0 w.1 in
@@ -243,7 +243,7 @@ module _ (earlier : List Budgets) (code : List Instr) (round : ℕ → List ℕ)
           let one = end_counts earlier at (instr_at code at) h.1 in
           omega (arith, h.2)
 
-  points_most : (k : Measure) (best : ℕ → ℕ → ℕ) (table : IsTable c (flows_by k code names_at) best) (r : ℕ) → ((pc : ℕ) → pc < c.size → full c round good (flows_by k code names_at) (fits_by k) best table pc ≤ r) → (pc : ℕ) → pc < c.size → full c round good (flows_by k code names_at) (fits_by k) best table pc ≡ r → IsPeak c (entries_sum k) r
+  points_most : (k : Measure) (best : ℕ → ℕ → ℕ) (table : IsTable c (flows_by k code names_at) best) (r : ℕ) → ((pc : ℕ) → pc < c.size → full c (flows_by k code names_at) round best pc ≤ r) → (pc : ℕ) → pc < c.size → full c (flows_by k code names_at) round best pc ≡ r → IsPeak c (entries_sum k) r
   points_most k best table r most pc within is =
       let w = from_sums k (length (names_at pc)) pc _ _ (point_attained c round good (flows_by k code names_at) (fits_by k) best table pc within) in
       let n = comes_names pc _ w.0 w.1.0 w.1.1.0 in
@@ -264,7 +264,7 @@ module _ (earlier : List Budgets) (code : List Instr) (round : ℕ → List ℕ)
       ((h.0.0, (h.0.1.0, (h.0.1.1.0, (h.0.1.1.1.0, (h.0.1.1.1.1.0, ap (λ n. 1 + n) h.0.1.1.1.1.1))))),
        λ other p. (let le = h.1 (entries_sum k p.1.1.1.0) (p.0, (p.1.0, (p.1.1.0, (p.1.1.1.0, (p.1.1.1.1.0, refl))))) in omega (arith, p.1.1.1.1.1)))
 
-  pub top_is_most : (k : Kind) (best : ℕ → ℕ → ℕ) (table : IsTable c (flows k earlier code names_at) best) (r : ℕ) → ((pc : ℕ) → pc < c.size → full c round good (flows k earlier code names_at) (fits k) best table pc ≤ r) → (pc : ℕ) → pc < c.size → full c round good (flows k earlier code names_at) (fits k) best table pc ≡ r → IsMost k earlier code (own_of k + r)
+  pub top_is_most : (k : Kind) (best : ℕ → ℕ → ℕ) (table : IsTable c (flows k earlier code names_at) best) (r : ℕ) → ((pc : ℕ) → pc < c.size → full c (flows k earlier code names_at) round best pc ≤ r) → (pc : ℕ) → pc < c.size → full c (flows k earlier code names_at) round best pc ≡ r → IsMost k earlier code (own_of k + r)
   top_is_most Steps best table r most pc within is = steps_most best table r most pc within is
   top_is_most Tasks best table r most pc within is = one_more (tasks_measure earlier) r (points_most (tasks_measure earlier) best table r most pc within is)
   top_is_most Scopes best table r most pc within is = let z : r ≡ 0 + r = omega arith in subst (IsPeak c (scopes_sum earlier)) z (points_most (scopes_measure earlier) best table r most pc within is)

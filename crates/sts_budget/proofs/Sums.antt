@@ -222,32 +222,40 @@ module _ (c : Skeleton) (around : ℕ → List ℕ) (good : IsStructured c aroun
       let at = loop_done p n d e low' (λ q less. attained q (omega arith)) (last_turns (around p)) b.0 (heads_last (around p)) b.1 in
       (d, (c.mate p + 1, (_, (_, (low', at, omega arith)))))
 
-module _ (c : Skeleton) (around : ℕ → List ℕ) (good : IsStructured c around) (f : Flows) (fits : FitsEntries c around f) (best : ℕ → ℕ → ℕ) (table : IsTable c f best) where
-  -- the greatest sum before the turns under way, where so many are left
-  abbrev pub base : Loops → ℕ → ℕ
-  base [] d = 0
-  base (l ∷ ls) d = base ls (min d (f.depth l.0)) + best l.0 (min d (f.depth l.0)) + f.added l.0 (min d (f.depth l.0)) + (bound_of (c.shape l.0) - l.1) * gain c f best l.0 (min d (f.depth l.0))
+-- the greatest sum before the turns under way, where so many are left
+abbrev pub base : Skeleton → Flows → (ℕ → ℕ → ℕ) → Loops → ℕ → ℕ
+base c f best [] d = 0
+base c f best (l ∷ ls) d = base c f best ls (min d (f.depth l.0)) + best l.0 (min d (f.depth l.0)) + f.added l.0 (min d (f.depth l.0)) + (bound_of (c.shape l.0) - l.1) * gain c f best l.0 (min d (f.depth l.0))
 
+-- the greatest sum of all that stands at a place
+abbrev pub full : Skeleton → Flows → (ℕ → List ℕ) → (ℕ → ℕ → ℕ) → ℕ → ℕ
+full c f around best pc = base c f best (last_turns (around pc)) (f.depth pc) + best pc (f.depth pc)
+
+-- what the last turn of the loop at p starts from
+abbrev pub turn_base : Skeleton → Flows → (ℕ → List ℕ) → (ℕ → ℕ → ℕ) → ℕ → ℕ
+turn_base c f around best p = full c f around best p + f.added p (f.depth p) + (bound_of (c.shape p) - 1) * gain c f best p (f.depth p)
+
+module _ (c : Skeleton) (around : ℕ → List ℕ) (good : IsStructured c around) (f : Flows) (fits : FitsEntries c around f) (best : ℕ → ℕ → ℕ) (table : IsTable c f best) where
   pub record Bounded (d pc : ℕ) (loops : Loops) (m : ℕ) : Type 0 where
     pub at : IsInside c around good pc loops
     pub low : d ≤ f.depth pc
-    pub most : m ≤ base loops d + best pc d
+    pub most : m ≤ base c f best loops d + best pc d
 
   -- a jump moves no entry that stood at the innermost loop's head
-  base_kept : (pc to d : ℕ) (places : List ℕ) (loops : Loops) → c.shape pc ≡ GoesTo places → Among places to → d ≤ f.depth to → heads loops ≡ around pc → base loops (f.source pc d) ≡ base loops d
+  base_kept : (pc to d : ℕ) (places : List ℕ) (loops : Loops) → c.shape pc ≡ GoesTo places → Among places to → d ≤ f.depth to → heads loops ≡ around pc → base c f best loops (f.source pc d) ≡ base c f best loops d
   base_kept pc to d places [] e among low inside = refl
   base_kept pc to d places (l ∷ ls) e among low inside =
       let k = fits.kept pc to d places l.0 (heads ls) e among low (sym inside) in
-      ap (λ x. base ls x + best l.0 x + f.added l.0 x + (bound_of (c.shape l.0) - l.1) * gain c f best l.0 x) k
+      ap (λ x. base c f best ls x + best l.0 x + f.added l.0 x + (bound_of (c.shape l.0) - l.1) * gain c f best l.0 x) k
 
   -- one loop more, where d is at most the depth at its head
-  base_more : (p t d : ℕ) (ls : Loops) → d ≤ f.depth p → base ((p, t) ∷ ls) d ≡ base ls d + best p d + f.added p d + (bound_of (c.shape p) - t) * gain c f best p d
-  base_more p t d ls low = ap (λ x. base ls x + best p x + f.added p x + (bound_of (c.shape p) - t) * gain c f best p x) (min_low d (f.depth p) low)
+  base_more : (p t d : ℕ) (ls : Loops) → d ≤ f.depth p → base c f best ((p, t) ∷ ls) d ≡ base c f best ls d + best p d + f.added p d + (bound_of (c.shape p) - t) * gain c f best p d
+  base_more p t d ls low = ap (λ x. base c f best ls x + best p x + f.added p x + (bound_of (c.shape p) - t) * gain c f best p x) (min_low d (f.depth p) low)
 
   turns_less : (k t g : ℕ) → t < k → (k - suc t) * g + g ≡ (k - t) * g
   turns_less k t g lt = let e : k - t ≡ suc (k - suc t) = omega arith in rw (e, suc-mul) refl
 
-  most_step : (d pc : ℕ) (loops : Loops) (m to : ℕ) (after : Loops) → d ≤ f.depth to → Bounded (f.source pc d) pc loops m → Follows c pc loops to after → m + f.added pc d ≤ base after d + best to d
+  most_step : (d pc : ℕ) (loops : Loops) (m to : ℕ) (after : Loops) → d ≤ f.depth to → Bounded (f.source pc d) pc loops m → Follows c pc loops to after → m + f.added pc d ≤ base c f best after d + best to d
   most_step d pc loops m to after low b (go places e among) =
       let u = table.over_go pc to d places e among low in
       let k = base_kept pc to d places loops e among low b.at.inside in
@@ -257,14 +265,14 @@ module _ (c : Skeleton) (around : ℕ → List ℕ) (good : IsStructured c aroun
       let s = fits.same pc n e in
       let low' : d ≤ f.depth pc = omega (arith, s.2) in
       let u = table.over_loop pc n d e low' in
-      let most : m ≤ base loops d + best pc d = subst (λ x. m ≤ base loops x + best pc x) t b.most in
+      let most : m ≤ base c f best loops d + best pc d = subst (λ x. m ≤ base c f best loops x + best pc x) t b.most in
       omega arith
   most_step d pc loops m to after low b (enter n turns e pos le) =
       let t = fits.times pc n d e in
       let s = fits.same pc n e in
       let low' : d ≤ f.depth pc = omega (arith, s.0) in
       let z = table.turn pc n d e low' in
-      let most : m ≤ base loops d + best pc d = subst (λ x. m ≤ base loops x + best pc x) t b.most in
+      let most : m ≤ base c f best loops d + best pc d = subst (λ x. m ≤ base c f best loops x + best pc x) t b.most in
       let same_d = base_more pc turns d loops low' in
       omega arith
   most_step d pc loops m to after low b (again p left {loops = ls} e pos) =
@@ -275,7 +283,7 @@ module _ (c : Skeleton) (around : ℕ → List ℕ) (good : IsStructured c aroun
       let z = table.turn p o.0 d o.1.0 low' in
       let k = bound_of (c.shape p) in
       let lt : left < k = b.at.fit.1 in
-      let most : m ≤ base ((p, suc left) ∷ ls) d + best pc d = subst (λ x. m ≤ base ((p, suc left) ∷ ls) x + best pc x) t b.most in
+      let most : m ≤ base c f best ((p, suc left) ∷ ls) d + best pc d = subst (λ x. m ≤ base c f best ((p, suc left) ∷ ls) x + best pc x) t b.most in
       let before = base_more p (suc left) d ls low' in
       let later = base_more p left d ls low' in
       let g : best pc d + f.added pc d ≡ gain c f best p d = ap (λ q. best q d + f.added q d) (sym o.1.1) in
@@ -290,7 +298,7 @@ module _ (c : Skeleton) (around : ℕ → List ℕ) (good : IsStructured c aroun
       let u = table.over_loop p o.0 d o.1.0 low' in
       let k = bound_of (c.shape p) in
       let lt : 0 < k = b.at.fit.1 in
-      let most : m ≤ base ((p, 1) ∷ ls) d + best pc d = subst (λ x. m ≤ base ((p, 1) ∷ ls) x + best pc x) t b.most in
+      let most : m ≤ base c f best ((p, 1) ∷ ls) d + best pc d = subst (λ x. m ≤ base c f best ((p, 1) ∷ ls) x + best pc x) t b.most in
       let before = base_more p 1 d ls low' in
       let g : best pc d + f.added pc d ≡ gain c f best p d = ap (λ q. best q d + f.added q d) (sym o.1.1) in
       let zero_off : k - 0 ≡ k = omega arith in
@@ -307,11 +315,7 @@ module _ (c : Skeleton) (around : ℕ → List ℕ) (good : IsStructured c aroun
   bounded d pc loops m none = record { at = inside_start c around good; low = omega arith; most = omega arith }
   bounded d pc loops m (more {pc = from} {loops = ls} {m = before} low r s) = bounded_step d from ls before pc loops low (bounded (f.source from d) from ls before r) s
 
-  -- the greatest sum of all that stands at this place
-  abbrev pub full : ℕ → ℕ
-  full pc = base (last_turns (around pc)) (f.depth pc) + best pc (f.depth pc)
-
-  most_turns : (ls : Loops) (d : ℕ) → FitTurns c around good ls → base ls d ≤ base (last_turns (heads ls)) d
+  most_turns : (ls : Loops) (d : ℕ) → FitTurns c around good ls → base c f best ls d ≤ base c f best (last_turns (heads ls)) d
   most_turns [] d fit = omega arith
   most_turns (l ∷ ls) d fit =
       let k = bound_of (c.shape l.0) in
@@ -319,14 +323,14 @@ module _ (c : Skeleton) (around : ℕ → List ℕ) (good : IsStructured c aroun
       let g = gain c f best l.0 x in
       let fewer : k - l.1 ≤ k - 1 = omega (arith, fit.0) in
       let m : (k - l.1) * g ≤ (k - 1) * g = mul-le-mul_right g fewer in
-      let i : base ls x ≤ base (last_turns (heads ls)) x = most_turns ls x fit.2 in
+      let i : base c f best ls x ≤ base c f best (last_turns (heads ls)) x = most_turns ls x fit.2 in
       omega (arith, m, i)
 
-  pub point_most : (pc : ℕ) (loops : Loops) (m : ℕ) → Sums c f (f.depth pc) pc loops m → m ≤ full pc
+  pub point_most : (pc : ℕ) (loops : Loops) (m : ℕ) → Sums c f (f.depth pc) pc loops m → m ≤ full c f around best pc
   point_most pc loops m r =
       let b = bounded (f.depth pc) pc loops m r in
       let t = most_turns loops (f.depth pc) b.at.fit in
-      let same : base (last_turns (heads loops)) (f.depth pc) ≡ base (last_turns (around pc)) (f.depth pc) = ap (λ hs. base (last_turns hs) (f.depth pc)) b.at.inside in
+      let same : base c f best (last_turns (heads loops)) (f.depth pc) ≡ base c f best (last_turns (around pc)) (f.depth pc) = ap (λ hs. base c f best (last_turns hs) (f.depth pc)) b.at.inside in
       omega (arith, b.most)
 
   to_last : (p n d : ℕ) (e : c.shape p ≡ Repeats n) (low : d ≤ f.depth p) (ls : Loops) → heads ls ≡ around p → (left m : ℕ) → Sums c f d (p + 1) ((p, suc left) ∷ ls) m → Sums c f d (p + 1) ((p, 1) ∷ ls) (m + left * gain c f best p d)
@@ -346,7 +350,7 @@ module _ (c : Skeleton) (around : ℕ → List ℕ) (good : IsStructured c aroun
       let same : m + best (c.mate p) d + f.added (c.mate p) d + left * g ≡ m + suc left * g = omega (arith, suc-mul left g) in
       subst (λ x. Sums c f d (p + 1) ((p, 1) ∷ ls) x) same rest
 
-  begins_last : (ps : List ℕ) (pc d : ℕ) → around pc ≡ ps → Begins c around good f fits best c.size table.sourced (last_turns ps) d (base (last_turns ps) d)
+  begins_last : (ps : List ℕ) (pc d : ℕ) → around pc ≡ ps → Begins c around good f fits best c.size table.sourced (last_turns ps) d (base c f best (last_turns ps) d)
   begins_last [] pc d is = refl
   begins_last (p ∷ ps) pc d is =
       let q = good.nested pc p ps is in
@@ -360,36 +364,32 @@ module _ (c : Skeleton) (around : ℕ → List ℕ) (good : IsStructured c aroun
       let outer = begins_last ps p x q.1 in
       let inside : heads (last_turns ps) ≡ around p = heads_last ps ∙ sym q.1 in
       let p_in : p < c.size = omega (arith, l.1, l.2) in
-      let here = attained c around good f fits best c.size table.sourced p p_in x low (last_turns ps) (base (last_turns ps) x) inside outer in
+      let here = attained c around good f fits best c.size table.sourced p p_in x low (last_turns ps) (base c f best (last_turns ps) x) inside outer in
       let opened = plain c around good f fits best c.size table.sourced x p _ _ _ _ low_1 (fits.times p n x e) here (enter n n e l.0 (omega arith)) in
       let n_is : n ≡ suc (n - 1) = omega (arith, l.0) in
-      let opened' = subst (λ t. Sums c f x (p + 1) ((p, t) ∷ last_turns ps) (base (last_turns ps) x + best p x + f.added p x)) n_is opened in
+      let opened' = subst (λ t. Sums c f x (p + 1) ((p, t) ∷ last_turns ps) (base c f best (last_turns ps) x + best p x + f.added p x)) n_is opened in
       let bound_is : n - 1 ≡ bound_of (c.shape p) - 1 = ap (λ sh. bound_of sh - 1) (sym e) in
-      let last = to_last p n x e low (last_turns ps) inside (n - 1) (base (last_turns ps) x + best p x + f.added p x) opened' in
-      subst (λ y. Sums c f x (p + 1) ((p, 1) ∷ last_turns ps) (base (last_turns ps) x + best p x + f.added p x + y * gain c f best p x)) bound_is last
+      let last = to_last p n x e low (last_turns ps) inside (n - 1) (base c f best (last_turns ps) x + best p x + f.added p x) opened' in
+      subst (λ y. Sums c f x (p + 1) ((p, 1) ∷ last_turns ps) (base c f best (last_turns ps) x + best p x + f.added p x + y * gain c f best p x)) bound_is last
 
-  pub point_attained : (pc : ℕ) → pc < c.size → Sums c f (f.depth pc) pc (last_turns (around pc)) (full pc)
+  pub point_attained : (pc : ℕ) → pc < c.size → Sums c f (f.depth pc) pc (last_turns (around pc)) (full c f around best pc)
   point_attained pc within =
       let le : f.depth pc ≤ f.depth pc = omega arith in
-      attained c around good f fits best c.size table.sourced pc within (f.depth pc) le (last_turns (around pc)) (base (last_turns (around pc)) (f.depth pc)) (heads_last (around pc)) (begins_last (around pc) pc (f.depth pc) refl)
-
-  -- what the last turn of the loop at p starts from: what the code needs to know of the loop
-  abbrev pub turn_base : ℕ → ℕ
-  turn_base p = full p + f.added p (f.depth p) + (bound_of (c.shape p) - 1) * gain c f best p (f.depth p)
+      attained c around good f fits best c.size table.sourced pc within (f.depth pc) le (last_turns (around pc)) (base c f best (last_turns (around pc)) (f.depth pc)) (heads_last (around pc)) (begins_last (around pc) pc (f.depth pc) refl)
 
   -- inside a loop the greatest sum is counted from the last turn's start
-  pub full_inside : (pc p : ℕ) (ps : List ℕ) → around pc ≡ p ∷ ps → full pc ≡ turn_base p + best pc (f.depth pc)
+  pub full_inside : (pc p : ℕ) (ps : List ℕ) → around pc ≡ p ∷ ps → full c f around best pc ≡ turn_base c f around best p + best pc (f.depth pc)
   full_inside pc p ps is =
       let q = good.nested pc p ps is in
       let deep = fits.deeper pc p ps is in
       let m : min (f.depth pc) (f.depth p) ≡ f.depth p = omega arith in
-      let a : base (last_turns (around pc)) (f.depth pc) ≡ base (last_turns (p ∷ ps)) (f.depth pc) = ap (λ hs. base (last_turns hs) (f.depth pc)) is in
-      let b : base (last_turns (p ∷ ps)) (f.depth pc) ≡ base (last_turns ps) (f.depth p) + best p (f.depth p) + f.added p (f.depth p) + (bound_of (c.shape p) - 1) * gain c f best p (f.depth p) =
-            ap (λ x. base (last_turns ps) x + best p x + f.added p x + (bound_of (c.shape p) - 1) * gain c f best p x) m in
-      let o : base (last_turns (around p)) (f.depth p) ≡ base (last_turns ps) (f.depth p) = ap (λ hs. base (last_turns hs) (f.depth p)) q.1 in
+      let a : base c f best (last_turns (around pc)) (f.depth pc) ≡ base c f best (last_turns (p ∷ ps)) (f.depth pc) = ap (λ hs. base c f best (last_turns hs) (f.depth pc)) is in
+      let b : base c f best (last_turns (p ∷ ps)) (f.depth pc) ≡ base c f best (last_turns ps) (f.depth p) + best p (f.depth p) + f.added p (f.depth p) + (bound_of (c.shape p) - 1) * gain c f best p (f.depth p) =
+            ap (λ x. base c f best (last_turns ps) x + best p x + f.added p x + (bound_of (c.shape p) - 1) * gain c f best p x) m in
+      let o : base c f best (last_turns (around p)) (f.depth p) ≡ base c f best (last_turns ps) (f.depth p) = ap (λ hs. base c f best (last_turns hs) (f.depth p)) q.1 in
       omega arith
 
-  pub full_outside : (pc : ℕ) → around pc ≡ [] → full pc ≡ best pc (f.depth pc)
+  pub full_outside : (pc : ℕ) → around pc ≡ [] → full c f around best pc ≡ best pc (f.depth pc)
   full_outside pc is =
-      let a : base (last_turns (around pc)) (f.depth pc) ≡ 0 = ap (λ hs. base (last_turns hs) (f.depth pc)) is in
+      let a : base c f best (last_turns (around pc)) (f.depth pc) ≡ 0 = ap (λ hs. base c f best (last_turns hs) (f.depth pc)) is in
       omega arith

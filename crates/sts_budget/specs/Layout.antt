@@ -26,3 +26,9 @@ FitsNames (Close slot) ns = 0 < length ns
 FitsNames Unbind ns = 0 < length ns
 FitsNames (Fork slot function handle) ns = HasScope slot ns
 FitsNames _ ns = Unit {0}
+
+-- there is room for the entry that an instruction opens
+abbrev pub HasRoom : Instr → Names → Type 0
+HasRoom (Open slot joiner timed) ns = length ns < 16
+HasRoom (Bind key) ns = length ns < 16
+HasRoom _ ns = Unit {0}

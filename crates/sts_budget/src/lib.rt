@@ -2,3 +2,4 @@
 #![tactic(auto)]
 
 pub mod effect;
+pub mod layout;
