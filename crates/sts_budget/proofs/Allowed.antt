@@ -16,7 +16,7 @@ use Rattle.sts_model.specs.declared.typing.SlotKind.TheVariants.{Empty, Own, Len
 use Rattle.sts_model.specs.declared.typing.TypedScope.{TypedScope}
 use Rattle.sts_model.specs.TypeState.{TypeState, kind, scope_in, heads}
 use Rattle.sts_model.specs.Around.{named, next_place, skipped_to, open_after, around}
-use Rattle.sts_model.specs.Causes.{holds, causes, least_cause, is_unmatched, mismatches, falls_off, jumps_back, breaks_structure, is_illegal, has_wrong_slot, is_strangers, is_other_loop, is_own, is_lent, passes, is_opened}
+use Rattle.sts_model.specs.Causes.{holds, causes, least_cause, is_unmatched, mismatches, falls_off, jumps_back, breaks_structure, is_nested, is_illegal, has_wrong_slot, is_strangers, is_other_loop, is_own, is_lent, passes, is_opened}
 use Rattle.sts_model.specs.Edges.{follows, or_cause, edges_of}
 use Rattle.sts_model.specs.ControlPaths.{Among}
 use Rattle.sts_budget.proofs.Sorts.{among_of}
@@ -66,6 +66,7 @@ pub record Allowed (p : Program) (f pc : ℕ) (i : Instr) (s : TypeState) (out :
   pub around_named : (to : ℕ) → Among (named i ++ skipped_to (routine p f).code pc i) to → around (routine p f).code to ≡ heads s.loops
   pub around_next : (to : ℕ) → Among (next_place pc i) to → around (routine p f).code to ≡ open_after pc i (heads s.loops)
   pub ordered : breaks_structure i s ≡ false
+  pub nested : is_nested i s ≡ false
   pub legal : is_illegal p.profile i s ≡ false
   pub right_slot : has_wrong_slot i s ≡ false
   pub own_thread : is_strangers i s ≡ false
@@ -82,6 +83,7 @@ allowed p f pc i s out e =
     let c11 = none_holds t causes cause.WrongThread o.0 (inr (inr (inr (inr (inr (inr (inr (inr (inl refl))))))))) in
     let c12 = none_holds t causes cause.IllegalState o.0 (inr (inr (inr (inr (inr (inr (inr (inr (inr (inl refl)))))))))) in
     let c13 = none_holds t causes cause.Structure o.0 (inr (inr (inr (inr (inr (inr (inr (inr (inr (inr (inl refl))))))))))) in
+    let c14 = none_holds t causes cause.Nesting o.0 (inr (inr (inr (inr (inr (inr (inr (inr (inr (inr (inr (inl refl)))))))))))) in
     let m = neither (is_unmatched code pc i s || list_any (is_other_loop code (heads s.loops)) (named i ++ skipped_to code pc i)) (list_any (is_other_loop code (open_after pc i (heads s.loops))) (next_place pc i)) c5 in
     let m' = neither (is_unmatched code pc i s) (list_any (is_other_loop code (heads s.loops)) (named i ++ skipped_to code pc i)) m.0 in
     record {
@@ -92,6 +94,7 @@ allowed p f pc i s out e =
       around_named = λ to a. same_loops code (heads s.loops) to (none_passes _ (named i ++ skipped_to code pc i) to m'.1 a);
       around_next = λ to a. same_loops code (open_after pc i (heads s.loops)) to (none_passes _ (next_place pc i) to m.1 a);
       ordered = c13;
+      nested = c14;
       legal = c12;
       right_slot = c9;
       own_thread = c11 }

@@ -24,7 +24,7 @@ max_more P x v h = by (cases_lt v x)
 max_same : (P Q : ℕ → Type 0) (x : ℕ) → ((m : ℕ) → P m → Q m) → ((m : ℕ) → Q m → P m) → MaxOf P x → MaxOf Q x
 max_same P Q x to from h = (λ m q. h.0 m (from m q), elim h.1 [ inl p ↦ inl (to x p) | inr z ↦ inr (z.0, λ m q. z.1 m (from m q)) ])
 
-among_cases : (places : List ℕ) (x : ℕ) → Among places x ⊎ (Among places x → ⊥)
+pub among_cases : (places : List ℕ) (x : ℕ) → Among places x ⊎ (Among places x → ⊥)
 among_cases [] x = inr (λ a. a)
 among_cases (y ∷ ys) x = elim (cases_eq y x) [ inl e ↦ inl (inl e) | inr ne ↦ elim (among_cases ys x) [ inl a ↦ inl (inr a) | inr out ↦ inr (λ b. elim b [ inl e ↦ ne e | inr a ↦ out a ]) ] ]
 

@@ -8,3 +8,4 @@ pub mod Named
 pub mod Entries
 pub mod FourKinds
 pub mod Forward
+pub mod Laid

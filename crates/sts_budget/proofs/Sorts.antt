@@ -50,7 +50,7 @@ pub record GoesOn (p : Program) (code : List Instr) (pc : ℕ) (i : Instr) : Typ
 pub data Sort (p : Program) (code : List Instr) (pc : ℕ) : Instr → Type 0 where
   is_times : (n : ℕ) → Sort p code pc (Times n)
   is_next : Sort p code pc Next
-  is_end : {i : Instr} → shape_of pc i ≡ EndsPath → ((s : TypeState) → follows p code pc i s ≡ []) → Sort p code pc i
+  is_end : {i : Instr} → shape_of pc i ≡ EndsPath → ((s : TypeState) → follows p code pc i s ≡ []) → (named i ++ next_place pc i ≡ []) → Sort p code pc i
   goes_on : {i : Instr} → GoesOn p code pc i → Sort p code pc i
 
 -- an instruction that goes on at the next place alone
@@ -187,8 +187,8 @@ join_of p code pc x failed timeout interrupted = record {
 pub sort : (p : Program) (code : List Instr) (pc : ℕ) (i : Instr) → Sort p code pc i
 sort p code pc (Times n) = is_times n
 sort p code pc Next = is_next
-sort p code pc Ret = is_end refl (λ s. refl)
-sort p code pc Fail = is_end refl (λ s. refl)
+sort p code pc Ret = is_end refl (λ s. refl) refl
+sort p code pc Fail = is_end refl (λ s. refl) refl
 sort p code pc (Jmp to) = goes_on (jump p code pc to)
 sort p code pc (Div to) = goes_on (branch p code pc to (Div to) (λ s. record s { height = s.height - 1 }) (λ s. record s { height = s.height - 2 }) refl refl refl (λ hs. refl) (λ s. refl) (λ s. (refl, refl)) (λ s. (refl, refl)))
 sort p code pc (Jz to) = goes_on (branch p code pc to (Jz to) (λ s. moved p (Jz to) s) (λ s. moved p (Jz to) s) refl refl refl (λ hs. refl) (λ s. refl) (λ s. (refl, refl)) (λ s. (refl, refl)))

@@ -51,10 +51,10 @@ next_edge p code pc s to x (inr out_of) = absurd out_of
 edge_of : (p : Program) (code : List Instr) (pc : ℕ) (i : Instr) → Sort p code pc i → (s : TypeState) (to : ℕ) (x : TypeState) → Leads (follows p code pc i s) to x → IsEdge p code pc i s to x
 edge_of p code pc i (times_sort n) s to x l = times_edge p code pc n s to x l
 edge_of p code pc i next_sort s to x l = next_edge p code pc s to x l
-edge_of p code pc i (end_sort shape none) s to x l = absurd (subst (λ o. Leads o to x) (none s) l)
+edge_of p code pc i (end_sort shape none nowhere) s to x l = absurd (subst (λ o. Leads o to x) (none s) l)
 edge_of p code pc i (goes_on g) s to x l = let h = g.from s to x l in over_go g h.0 h.1 h.2
 
-among_next : (pc : ℕ) (i : Instr) (to : ℕ) → Among (next_place pc i) to → to ≡ pc + 1
+pub among_next : (pc : ℕ) (i : Instr) (to : ℕ) → Among (next_place pc i) to → to ≡ pc + 1
 among_next pc i to a = by (falls_through i) a
   where
     by : (b : Bool) → Among (cond b ((pc + 1) ∷ []) []) to → to ≡ pc + 1
@@ -144,19 +144,19 @@ shape_times code p t = let n = times_is (instr_at code p) t in (n.0, ap (shape_o
 pub goes_of : (p : Program) (code : List Instr) (pc : ℕ) (i : Instr) (places : List ℕ) → Sort p code pc i → shape_of pc i ≡ GoesTo places → GoesOn p code pc i × (places ≡ named i ++ next_place pc i)
 goes_of p code pc i places (times_sort n) e = absurd (cc)
 goes_of p code pc i places next_sort e = absurd (cc)
-goes_of p code pc i places (end_sort shape none) e = let z : EndsPath ≡ GoesTo places = sym shape ∙ e in absurd (cc)
+goes_of p code pc i places (end_sort shape none nowhere) e = let z : EndsPath ≡ GoesTo places = sym shape ∙ e in absurd (cc)
 goes_of p code pc i places (goes_on g) e = let z : GoesTo places ≡ GoesTo (named i ++ next_place pc i) = sym e ∙ g.shape in (g, (cc))
 
 pub times_of : (p : Program) (code : List Instr) (pc : ℕ) (i : Instr) (n : ℕ) → Sort p code pc i → shape_of pc i ≡ Repeats n → i ≡ Times n
 times_of p code pc i n (times_sort m) e = let z : m ≡ n = cc in ap (λ (k : ℕ). Times k) z
 times_of p code pc i n next_sort e = absurd (cc)
-times_of p code pc i n (end_sort shape none) e = let z : EndsPath ≡ Repeats n = sym shape ∙ e in absurd (cc)
+times_of p code pc i n (end_sort shape none nowhere) e = let z : EndsPath ≡ Repeats n = sym shape ∙ e in absurd (cc)
 times_of p code pc i n (goes_on g) e = let z : GoesTo (named i ++ next_place pc i) ≡ Repeats n = sym g.shape ∙ e in absurd (cc)
 
 pub next_of : (p : Program) (code : List Instr) (pc : ℕ) (i : Instr) → Sort p code pc i → shape_of pc i ≡ EndsTurn → i ≡ Next
 next_of p code pc i (times_sort m) e = absurd (cc)
 next_of p code pc i next_sort e = refl
-next_of p code pc i (end_sort shape none) e = let z : EndsPath ≡ EndsTurn = sym shape ∙ e in absurd (cc)
+next_of p code pc i (end_sort shape none nowhere) e = let z : EndsPath ≡ EndsTurn = sym shape ∙ e in absurd (cc)
 next_of p code pc i (goes_on g) e = let z : GoesTo (named i ++ next_place pc i) ≡ EndsTurn = sym g.shape ∙ e in absurd (cc)
 
 some_match : (o : Option ℕ) → is_none o ≡ false → (q : ℕ) × (o ≡ Some q)
@@ -206,7 +206,7 @@ module _ (p : Program) (f : ℕ) (accepted : IsWellTyped p f) (some_code : 0 < l
     pub within : to < length (routine p f).code
     pub loops : around (routine p f).code to ≡ heads x.loops
 
-  leading_go : (pc : ℕ) (i : Instr) (s : TypeState) (out : List (ℕ × TypeState)) (to : ℕ) (x : TypeState) → Allowed p f pc i s out → GoesOn p (routine p f).code pc i → Among (named i ++ next_place pc i) to → x.loops ≡ s.loops → Leading pc s to x
+  pub leading_go : (pc : ℕ) (i : Instr) (s : TypeState) (out : List (ℕ × TypeState)) (to : ℕ) (x : TypeState) → Allowed p f pc i s out → GoesOn p (routine p f).code pc i → Among (named i ++ next_place pc i) to → x.loops ≡ s.loops → Leading pc s to x
   leading_go pc i s out to x a g among same = record {
       later = elim (among_of (named i) (next_place pc i) to among) [ inl m ↦ a.later to m | inr m ↦ (let e = among_next pc i to m in omega arith) ];
       within = a.inside to (among_left (named i ++ next_place pc i) (skipped_to (routine p f).code pc i) to among);

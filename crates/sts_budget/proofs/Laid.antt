@@ -1,0 +1,275 @@
+-- The pass that finds what is open at each place.
+use Rattle.std.proofs.Common.{◌≡◌, ◌≢◌, ℕ, zero, suc, ◌+◌, ◌-◌, ◌<◌, ◌≤◌, ◌⊎◌, inl, inr, List, [], ◌∷◌, ◌++◌, length, take, drop, set, get_or, Bool, true, false, Option, Some, None, refl, sym, ap, ◌∙◌, subst, arith, length-set, get_or-set_same, get_or-set_other, unwrap_or}
+use Rattle.std.proofs.Math.Seq.{take-suc}
+use Rattle.std.proofs.lemmas.Bool.{cases_eq, cases_lt, leb-false}
+use Rattle.sts_code.specs.Program.{Program, routine}
+use Rattle.sts_code.specs.declared.instr.Instr.{Instr}
+use Rattle.sts_code.specs.declared.instr.Instr.TheVariants.{Push, Pop, Dup, Swap, Load, Store, Add, Sub, Mul, Lt, Eq, Div, Jmp, Jz, Times, Next, Open, Fork, Join, Close, Cancelled, Case, Get, Except, Tally, Total, Forget, Bind, Unbind, Read, Bound, OrElse, Interrupted, Ret, Fail}
+use Rattle.sts_model.specs.Flow.{Reaches, first, IsClear, IsAlone}
+use Rattle.sts_model.specs.Local.{match_of}
+use Rattle.sts_model.specs.declared.typing.TypedEntry.{TypedEntry}
+use Rattle.sts_model.specs.TypeState.{TypeState}
+use Rattle.sts_model.specs.Around.{instr_at, named, next_place, around}
+use Rattle.sts_model.specs.Causes.{is_nested}
+use Rattle.sts_model.specs.Edges.{typing}
+use Rattle.sts_model.specs.Refusal.{IsWellTyped}
+use Rattle.sts_model.specs.ControlPaths.{Shape, GoesTo, Repeats, EndsTurn, EndsPath, Skeleton, Among}
+use Rattle.sts_model.specs.declared.budget.Budgets.{Budgets}
+use Rattle.sts_model.specs.Budget.{skeleton, shape_of}
+use Rattle.sts_budget.specs.Layout.{Names, names_after, HasRoom}
+use Rattle.sts_budget.proofs.Sorts.{names, Sort, sort, is_times, is_next, is_end, goes_on, GoesOn, among_of, among_left, among_right}
+use Rattle.sts_budget.proofs.Structured.{Led, from_go, from_head, from_end}
+use Rattle.sts_budget.proofs.Forward.{among_cases}
+use Rattle.sts_budget.proofs.Typed.{among_next, goes_at, here, Here, fits, opened, Opened, ended, Ended, inside, leading_go, next_of, times_of}
+use Rattle.sts_budget.proofs.Named.{KnowsNames, NamesRight, led, knows_names}
+
+-- ---- lists
+
+-- one value is written at these places
+pub record Writes {A : Type 0} (places : List ℕ) (value d : A) (old new : List A) : Type 0 where
+  pub long : length new ≡ length old
+  pub at : (pc : ℕ) → Among places pc → pc < length old → get_or new pc d ≡ value
+  pub other : (pc : ℕ) → (Among places pc → ⊥) → get_or new pc d ≡ get_or old pc d
+
+pub writes_none : {A : Type 0} (places : List ℕ) (value d : A) (old : List A) → Writes (take 0 places) value d old old
+writes_none places value d old = record { long = refl; at = λ pc a lt. absurd a; other = λ pc out. refl }
+
+pub writes_more : {A : Type 0} (places : List ℕ) (i to : ℕ) (value d : A) (old mid : List A) → i < length places → get_or places i 0 ≡ to → Writes (take i places) value d old mid → Writes (take (i + 1) places) value d old (set mid to value)
+writes_more places i to value d old mid lt is w = record {
+    long = length-set mid to value ∙ w.long;
+    at = λ pc a within. by_at pc within (among_of (take i places) (to ∷ []) pc (subst (λ ps. Among ps pc) more a));
+    other = λ pc out. (let ne : pc ≢ to = λ e. out (subst (λ ps. Among ps pc) (sym more) (among_right (take i places) (to ∷ []) pc (inl (sym e)))) in
+        get_or-set_other mid to pc value d ne ∙ w.other pc (λ a. out (subst (λ ps. Among ps pc) (sym more) (among_left (take i places) (to ∷ []) pc a)))) }
+  where
+    more : take (i + 1) places ≡ take i places ++ to ∷ []
+    more = let n : i + 1 ≡ suc i = omega arith in ap (λ k. take k places) n ∙ take-suc places i 0 lt ∙ ap (λ x. take i places ++ x ∷ []) is
+    by_at : (pc : ℕ) → pc < length old → Among (take i places) pc ⊎ Among (to ∷ []) pc → get_or (set mid to value) pc d ≡ value
+    by_at pc within a = elim (cases_eq pc to) [
+        inl e ↦ (let within' : pc < length mid = omega (arith, w.long) in subst (λ q. get_or (set mid q value) pc d ≡ value) e (get_or-set_same mid pc value d within'))
+      | inr ne ↦ (get_or-set_other mid to pc value d ne ∙ elim a [ inl b ↦ w.at pc b within | inr b ↦ elim b [ inl e ↦ absurd (ne (sym e)) | inr out_of ↦ absurd out_of ] ]) ]
+
+abbrev pub first_of : List ℕ → Option ℕ
+first_of [] = None
+first_of (x ∷ xs) = Some x
+
+-- ---- one instruction
+
+-- there is room for what an instruction opens
+has_room : (i : Instr) (s : TypeState) (ns : Names) → length ns ≡ length s.entries → is_nested i s ≡ false → HasRoom i ns
+has_room (Push k) s ns long e = tt
+has_room Pop s ns long e = tt
+has_room Dup s ns long e = tt
+has_room Swap s ns long e = tt
+has_room (Load x) s ns long e = tt
+has_room (Store x) s ns long e = tt
+has_room Add s ns long e = tt
+has_room Sub s ns long e = tt
+has_room Mul s ns long e = tt
+has_room Lt s ns long e = tt
+has_room Eq s ns long e = tt
+has_room (Div to) s ns long e = tt
+has_room (Jmp to) s ns long e = tt
+has_room (Jz to) s ns long e = tt
+has_room (Times n) s ns long e = tt
+has_room Next s ns long e = tt
+has_room (Open x j timed) s ns long e = (let lt = leb-false 16 (length s.entries) e in omega arith)
+has_room (Fork x g h) s ns long e = tt
+has_room (Join x a b c) s ns long e = tt
+has_room (Close x) s ns long e = tt
+has_room (Cancelled x) s ns long e = tt
+has_room (Case h a b) s ns long e = tt
+has_room (Get h) s ns long e = tt
+has_room (Except h) s ns long e = tt
+has_room (Tally x k) s ns long e = tt
+has_room (Total x) s ns long e = tt
+has_room (Forget h) s ns long e = tt
+has_room (Bind k) s ns long e = (let lt = leb-false 16 (length s.entries) e in omega arith)
+has_room Unbind s ns long e = tt
+has_room (Read k) s ns long e = tt
+has_room (Bound k) s ns long e = tt
+has_room (OrElse k) s ns long e = tt
+has_room Interrupted s ns long e = tt
+has_room Ret s ns long e = tt
+has_room Fail s ns long e = tt
+
+-- the `times` of the innermost loop at the places to which an instruction leads
+abbrev pub head_after : Instr → ℕ → List (Option ℕ) → Option ℕ
+head_after (Times n) pc heads = Some pc
+head_after Next pc heads = get_or heads (unwrap_or (get_or heads pc None) 0) None
+head_after _ pc heads = get_or heads pc None
+
+head_kept : (p : Program) (code : List Instr) (pc : ℕ) (i : Instr) (heads : List (Option ℕ)) → GoesOn p code pc i → head_after i pc heads ≡ get_or heads pc None
+head_kept p code pc (Push k) heads goes = refl
+head_kept p code pc Pop heads goes = refl
+head_kept p code pc Dup heads goes = refl
+head_kept p code pc Swap heads goes = refl
+head_kept p code pc (Load x) heads goes = refl
+head_kept p code pc (Store x) heads goes = refl
+head_kept p code pc Add heads goes = refl
+head_kept p code pc Sub heads goes = refl
+head_kept p code pc Mul heads goes = refl
+head_kept p code pc Lt heads goes = refl
+head_kept p code pc Eq heads goes = refl
+head_kept p code pc (Div to) heads goes = refl
+head_kept p code pc (Jmp to) heads goes = refl
+head_kept p code pc (Jz to) heads goes = refl
+head_kept p code pc (Times n) heads goes = (let z : Repeats n ≡ GoesTo (named (Times n) ++ next_place pc (Times n)) = goes.shape in absurd (cc))
+head_kept p code pc Next heads goes = (let z : EndsTurn ≡ GoesTo (named Next ++ next_place pc Next) = goes.shape in absurd (cc))
+head_kept p code pc (Open x j timed) heads goes = refl
+head_kept p code pc (Fork x g h) heads goes = refl
+head_kept p code pc (Join x a b c) heads goes = refl
+head_kept p code pc (Close x) heads goes = refl
+head_kept p code pc (Cancelled x) heads goes = refl
+head_kept p code pc (Case h a b) heads goes = refl
+head_kept p code pc (Get h) heads goes = refl
+head_kept p code pc (Except h) heads goes = refl
+head_kept p code pc (Tally x k) heads goes = refl
+head_kept p code pc (Total x) heads goes = refl
+head_kept p code pc (Forget h) heads goes = refl
+head_kept p code pc (Bind k) heads goes = refl
+head_kept p code pc Unbind heads goes = refl
+head_kept p code pc (Read k) heads goes = refl
+head_kept p code pc (Bound k) heads goes = refl
+head_kept p code pc (OrElse k) heads goes = refl
+head_kept p code pc Interrupted heads goes = refl
+head_kept p code pc Ret heads goes = refl
+head_kept p code pc Fail heads goes = refl
+
+-- ---- the function
+
+-- what the tables say of a place
+pub record IsRight (p : Program) (f : ℕ) (heads : List (Option ℕ)) (table : List Names) (pc : ℕ) : Type 0 where
+  pub head : get_or heads pc None ≡ first_of (around (routine p f).code pc)
+  pub name : (s : TypeState) → Reaches (typing p f) pc s → names s.entries ≡ get_or table pc []
+
+-- a place to which one below k leads, or the first
+abbrev pub IsWritten : List Instr → ℕ → ℕ → Type 0
+IsWritten code k pc = (pc ≡ 0) ⊎ ((from : ℕ) × ((from < k) × Among (named (instr_at code from) ++ next_place from (instr_at code from)) pc))
+
+-- the tables after the places below k
+pub record IsLaid (p : Program) (f k : ℕ) (heads : List (Option ℕ)) (mates : List ℕ) (table : List Names) : Type 0 where
+  pub heads_long : length heads ≡ length (routine p f).code
+  pub mates_long : length mates ≡ length (routine p f).code
+  pub names_long : length table ≡ length (routine p f).code
+  pub right : (pc : ℕ) → pc < length (routine p f).code → IsWritten (routine p f).code k pc → IsRight p f heads table pc
+  pub mated : (h n : ℕ) → instr_at (routine p f).code h ≡ Times n → (q : ℕ) → match_of (routine p f).code h ≡ Some q → q < k → get_or mates h 0 ≡ q
+
+module _ (p : Program) (f : ℕ) (accepted : IsWellTyped p f) (some_code : 0 < length (routine p f).code) (bounds : (pc n : ℕ) → instr_at (routine p f).code pc ≡ Times n → 0 < n) where
+  abbrev code : List Instr
+  code = (routine p f).code
+
+  -- the names of the one typestate of each place
+  abbrev names_here : ℕ → Names
+  names_here pc = elim (cases_lt pc (length (routine p f).code)) [ inl lt ↦ names (accepted pc lt).state.entries | inr ge ↦ [] ]
+
+  names_right : NamesRight p f names_here
+  names_right pc s r = by (cases_lt pc (length (routine p f).code))
+    where
+      within : pc < length (routine p f).code
+      within = (fits p f accepted some_code bounds [] pc s r).1
+      by : (o : (pc < length (routine p f).code) ⊎ (length (routine p f).code ≤ pc)) → names s.entries ≡ elim o [ inl lt ↦ names (accepted pc lt).state.entries | inr ge ↦ [] ]
+      by (inl lt) = ap (λ (x : TypeState). names x.entries) ((accepted pc lt).alone.1 s r)
+      by (inr ge) = absurd (omega (arith, within))
+
+  known : KnowsNames (routine p f).code (skeleton [] (routine p f).code) (around (routine p f).code) names_here
+  known = knows_names p f accepted some_code bounds [] names_here names_right
+
+  -- each place up to k is written
+  pub is_written : (k pc : ℕ) → pc ≤ k → pc < length (routine p f).code → IsWritten (routine p f).code k pc
+  is_written k pc le lt = elim (cases_eq pc 0) [ inl z ↦ inl z | inr nz ↦ inr (by pc le (led p f accepted some_code bounds [] pc (omega arith) lt)) ]
+    where
+      by : (pc : ℕ) → pc ≤ k → Led (skeleton [] (routine p f).code) pc → (from : ℕ) × ((from < k) × Among (named (instr_at (routine p f).code from) ++ next_place from (instr_at (routine p f).code from)) pc)
+      by pc le (from_go from to places e among) =
+          let g = goes_at p f accepted some_code bounds [] from places e in
+          let k' = here p f accepted some_code bounds [] from (inside p f accepted some_code bounds [] from (instr_at (routine p f).code from) refl (λ z. (let w : EndsPath ≡ GoesTo places = sym (ap (shape_of from) z) ∙ e in (cc)))) in
+          let a = subst (λ ps. Among ps to) g.1 among in
+          let u = leading_go p f accepted some_code bounds [] from (instr_at (routine p f).code from) k'.clear.state k'.clear.out to k'.clear.state k'.rules g.0 a refl in
+          (from, (omega (arith, u.later), a))
+      by pc le (from_head h n e) =
+          let i = times_of p (routine p f).code h (instr_at (routine p f).code h) n (sort p (routine p f).code h (instr_at (routine p f).code h)) e in
+          (h, (omega arith, subst (λ j. Among (named j ++ next_place h j) (h + 1)) (sym i) (inl refl)))
+      by pc le (from_end h n e) =
+          let i = times_of p (routine p f).code h (instr_at (routine p f).code h) n (sort p (routine p f).code h (instr_at (routine p f).code h)) e in
+          let o = opened p f accepted some_code bounds [] h n i in
+          (o.end, (omega (arith, o.mate), subst (λ q. Among (named (instr_at (routine p f).code o.end) ++ next_place o.end (instr_at (routine p f).code o.end)) (q + 1)) (sym o.mate) (subst (λ j. Among (named j ++ next_place o.end j) (o.end + 1)) (sym o.is_end) (inl refl))))
+
+  pub fits_room : (k : ℕ) (heads : List (Option ℕ)) (table : List Names) → k < length (routine p f).code → IsRight p f heads table k → HasRoom (instr_at (routine p f).code k) (get_or table k [])
+  fits_room k heads table lt r =
+      let h = here p f accepted some_code bounds [] k lt in
+      has_room (instr_at (routine p f).code k) h.clear.state (get_or table k []) (ap length (sym (r.name h.clear.state h.clear.alone.0)) ∙ long h.clear.state.entries) h.rules.nested
+    where
+      long : (es : List TypedEntry) → length (names es) ≡ length es
+      long [] = refl
+      long (e ∷ es) = ap suc (long es)
+
+  -- where an instruction leads to lies in the code
+  pub leads_inside : (k to : ℕ) → k < length (routine p f).code → Among (named (instr_at (routine p f).code k) ++ next_place k (instr_at (routine p f).code k)) to → (k < to) × (to < length (routine p f).code)
+  leads_inside k to lt a =
+      let h = here p f accepted some_code bounds [] k lt in
+      (elim (among_of (named (instr_at (routine p f).code k)) (next_place k (instr_at (routine p f).code k)) to a) [ inl m ↦ h.rules.later to m | inr m ↦ (let e = among_next k (instr_at (routine p f).code k) to m in omega arith) ],
+       h.rules.inside to (among_left (named (instr_at (routine p f).code k) ++ next_place k (instr_at (routine p f).code k)) _ to a))
+
+  -- the values that are written at the places to which an instruction leads
+  pub right_value : (k to : ℕ) (heads : List (Option ℕ)) (mates : List ℕ) (table : List Names) → k < length (routine p f).code → IsLaid p f k heads mates table → Among (named (instr_at (routine p f).code k) ++ next_place k (instr_at (routine p f).code k)) to
+    → (head_after (instr_at (routine p f).code k) k heads ≡ first_of (around (routine p f).code to)) × ((s : TypeState) → Reaches (typing p f) to s → names s.entries ≡ names_after (instr_at (routine p f).code k) (get_or table k []))
+  right_value k to heads mates table lt laid a = by (instr_at (routine p f).code k) refl (sort p (routine p f).code k (instr_at (routine p f).code k)) a
+    where
+      now : IsRight p f heads table k
+      now = laid.right k lt (is_written k k (omega arith) lt)
+      table_is : get_or table k [] ≡ names_here k
+      table_is = let h = accepted k lt in sym (now.name h.state h.alone.0) ∙ names_right k h.state h.alone.0
+      named_by : (i : Instr) → names_here to ≡ names_after i (names_here k) → (s : TypeState) → Reaches (typing p f) to s → names s.entries ≡ names_after i (get_or table k [])
+      named_by i e s r = names_right to s r ∙ e ∙ ap (names_after i) (sym table_is)
+      by : (i : Instr) → instr_at (routine p f).code k ≡ i → Sort p (routine p f).code k i → Among (named i ++ next_place k i) to → (head_after i k heads ≡ first_of (around (routine p f).code to)) × ((s : TypeState) → Reaches (typing p f) to s → names s.entries ≡ names_after i (get_or table k []))
+      by i e (is_times n) (inl same) =
+          let o = opened p f accepted some_code bounds [] k n e in
+          (sym (ap first_of (ap (around (routine p f).code) (sym same) ∙ o.around_turn)), named_by (Times n) (ap names_here (sym same) ∙ (known.same k n (ap (shape_of k) e)).0))
+      by i e (is_times n) (inr out_of) = absurd out_of
+      by i e is_next (inl same) =
+          let d = ended p f accepted some_code bounds [] k e in
+          let o = opened p f accepted some_code bounds [] d.head d.turns d.times in
+          let twice : Some o.end ≡ Some k = sym o.ends ∙ d.ends in
+          let end_is : o.end ≡ k = cc in
+          let s = known.same d.head d.turns (ap (shape_of d.head) d.times) in
+          let head_in : d.head < length (routine p f).code = omega (arith, o.later, o.within) in
+          let before : d.head < k = omega (arith, o.later) in
+          let outer = laid.right d.head head_in (is_written k d.head (omega arith) head_in) in
+          let head_is : get_or heads k None ≡ Some d.head = now.head ∙ ap first_of d.here_is in
+          let after : around (routine p f).code to ≡ around (routine p f).code d.head = ap (around (routine p f).code) (sym same ∙ ap (λ q. q + 1) (sym end_is)) ∙ o.around_after in
+          let mate_is : (skeleton [] (routine p f).code).mate d.head ≡ k = o.mate ∙ end_is in
+          (ap (λ h. get_or heads (unwrap_or h 0) None) head_is ∙ outer.head ∙ sym (ap first_of after),
+           named_by Next (ap names_here (sym same ∙ ap (λ q. q + 1) (sym mate_is)) ∙ s.2 ∙ sym s.1 ∙ ap names_here mate_is))
+      by i e is_next (inr out_of) = absurd out_of
+      by i e (is_end shape none nowhere) among = absurd (subst (λ ps. Among ps to) nowhere among)
+      by i e (goes_on g) among =
+          let h = here p f accepted some_code bounds [] k lt in
+          let g' = subst (λ j. GoesOn p (routine p f).code k j) (sym e) g in
+          let among' = subst (λ j. Among (named j ++ next_place k j) to) (sym e) among in
+          let u = leading_go p f accepted some_code bounds [] k (instr_at (routine p f).code k) h.clear.state h.clear.out to h.clear.state h.rules g' among' refl in
+          let around_is : around (routine p f).code to ≡ around (routine p f).code k = u.loops ∙ h.fit.loops in
+          (head_kept p (routine p f).code k i heads g ∙ now.head ∙ sym (ap first_of around_is),
+           named_by i (known.over_go k to (named i ++ next_place k i) (ap (shape_of k) e ∙ g.shape) among ∙ ap (λ j. names_after j (names_here k)) e))
+
+  -- one more place
+  pub laid_more : (k : ℕ) (heads heads' : List (Option ℕ)) (mates mates' : List ℕ) (table table' : List Names) → k < length (routine p f).code → IsLaid p f k heads mates table
+    → Writes (named (instr_at (routine p f).code k) ++ next_place k (instr_at (routine p f).code k)) (head_after (instr_at (routine p f).code k) k heads) None heads heads'
+    → Writes (named (instr_at (routine p f).code k) ++ next_place k (instr_at (routine p f).code k)) (names_after (instr_at (routine p f).code k) (get_or table k [])) [] table table'
+    → length mates' ≡ length mates
+    → ((h n : ℕ) → instr_at (routine p f).code h ≡ Times n → (q : ℕ) → match_of (routine p f).code h ≡ Some q → q < k + 1 → get_or mates' h 0 ≡ q)
+    → IsLaid p f (k + 1) heads' mates' table'
+  laid_more k heads heads' mates mates' table table' lt laid wh wn ml md = record {
+      heads_long = wh.long ∙ laid.heads_long;
+      mates_long = ml ∙ laid.mates_long;
+      names_long = wn.long ∙ laid.names_long;
+      right = right;
+      mated = md }
+    where
+      outs : List ℕ
+      outs = named (instr_at (routine p f).code k) ++ next_place k (instr_at (routine p f).code k)
+      right : (pc : ℕ) → pc < length (routine p f).code → IsWritten (routine p f).code (k + 1) pc → IsRight p f heads' table' pc
+      right pc within w = elim (among_cases outs pc) [
+          inl a ↦ (let v = right_value k pc heads mates table lt laid a in record { head = wh.at pc a (omega (arith, laid.heads_long)) ∙ v.0; name = λ s r. (v.1 s r ∙ sym (wn.at pc a (omega (arith, laid.names_long)))) })
+        | inr out ↦ (let old : IsRight p f heads table pc = laid.right pc within (elim w [ inl z ↦ inl z | inr x ↦ inr (earlier out x) ]) in record { head = wh.other pc out ∙ old.head; name = λ s r. (old.name s r ∙ sym (wn.other pc out)) }) ]
+        where
+          earlier : (Among outs pc → ⊥) → ((from : ℕ) × ((from < k + 1) × Among (named (instr_at (routine p f).code from) ++ next_place from (instr_at (routine p f).code from)) pc)) → (from : ℕ) × ((from < k) × Among (named (instr_at (routine p f).code from) ++ next_place from (instr_at (routine p f).code from)) pc)
+          earlier out (from, x) = elim (cases_eq from k) [ inl e ↦ absurd (out (subst (λ q. Among (named (instr_at (routine p f).code q) ++ next_place q (instr_at (routine p f).code q)) pc) e x.1)) | inr ne ↦ (from, (omega (arith, x.0), x.1)) ]
