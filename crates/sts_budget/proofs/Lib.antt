@@ -9,3 +9,4 @@ pub mod Entries
 pub mod FourKinds
 pub mod Forward
 pub mod Laid
+pub mod Checked

@@ -1,10 +1,12 @@
 //! What is open at each place of a function's code.
 
-ghost use Rattle.std.specs.Prelude.{◌≡◌, ◌<◌, ◌≤◌, ◌+◌, ◌++◌, length, option_to_list};
+ghost use Rattle.std.specs.Prelude.{ℕ, List, [], All, IfOk, IfSome, Some, None, get_or, replicate, unwrap_or, vec_len, ◌≡◌, ◌<◌, ◌≤◌, ◌+◌, ◌++◌, length, option_to_list};
 ghost use Rattle.sts_model.specs.Around as around;
 ghost use Rattle.sts_budget.specs.Layout as def;
+ghost use Rattle.sts_budget.proofs.Laid.{Writes, head_after};
 
 use arrayvec::ArrayVec;
+use std::alloc::{AllocError, Global};
 
 use sts_code::instr::Instr;
 use sts_model::stack::Stack;
@@ -96,4 +98,79 @@ fn falls_through(instr: Instr) -> bool
     ensures { result ≡ around.falls_through instr }
 {
     !matches!(instr, Instr::Jmp(_) | Instr::Ret | Instr::Fail)
+}
+
+/// Writes a value at these places.
+fn write_heads(heads: &mut Vec<Option<u32>>, places: &[u32], head: Option<u32>)
+    requires { All (λ to. to < vec_len heads.old) places.now }
+    ensures { Writes places.now head None heads.old.items heads.new.items }
+{
+    for i in 0..places.len() {
+        heads[places[i] as usize] = head;
+    }
+}
+
+/// Writes copies of a value at these places.
+fn write_names(table: &mut Vec<Names>, places: &[u32], names: &Names)
+    requires { All (λ to. to < vec_len table.old) places.now }
+    ensures { Writes places.now names.now [] table.old.items table.new.items }
+{
+    for i in 0..places.len() {
+        table[places[i] as usize] = copy_of(names);
+    }
+}
+
+/// The `times` of the innermost loop at the places to which the instruction at `pc` leads.
+fn head_after(instr: Instr, pc: u32, heads: &[Option<u32>]) -> Option<u32>
+    requires in_code { pc < length heads.now }
+    requires head { (h : ℕ) → get_or heads.now pc None ≡ Some h → h < length heads.now }
+    ensures { result ≡ head_after instr pc heads.now }
+{
+    match instr {
+        Instr::Times(_) => Some(pc),
+        Instr::Next => outer(heads, heads[pc as usize]),
+        _ => heads[pc as usize],
+    }
+}
+
+/// The `times` of the innermost loop at a place of the code, if there is one.
+fn outer(heads: &[Option<u32>], place: Option<u32>) -> Option<u32>
+    requires some { 0 < length heads.now }
+    requires inside { IfSome place (λ h. h < length heads.now) }
+    ensures { result ≡ get_or heads.now (unwrap_or place 0) None }
+{
+    match place {
+        Some(at) => heads[at as usize],
+        None => heads[0],
+    }
+}
+
+fn empty_heads(alloc: Global, count: usize) -> Result<Vec<Option<u32>>, AllocError>
+    ensures { IfOk result (λ t. t.items ≡ replicate count None) }
+{
+    let mut heads = Vec::with_capacity(alloc, count)?;
+    for _place in 0..count {
+        heads.push(None)?;
+    }
+    Ok(heads)
+}
+
+fn empty_mates(alloc: Global, count: usize) -> Result<Vec<u32>, AllocError>
+    ensures { IfOk result (λ t. t.items ≡ replicate count 0) }
+{
+    let mut mates = Vec::with_capacity(alloc, count)?;
+    for _place in 0..count {
+        mates.push(0)?;
+    }
+    Ok(mates)
+}
+
+fn empty_names(alloc: Global, count: usize) -> Result<Vec<Names>, AllocError>
+    ensures { IfOk result (λ t. t.items ≡ replicate count []) }
+{
+    let mut names = Vec::with_capacity(alloc, count)?;
+    for _place in 0..count {
+        names.push(Stack::new())?;
+    }
+    Ok(names)
 }
