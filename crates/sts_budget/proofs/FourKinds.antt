@@ -10,10 +10,13 @@ use Rattle.sts_budget.specs.Layout.{Names, names_after, FitsNames}
 use Rattle.sts_budget.specs.declared.effect.Kind.{Kind}
 use Rattle.sts_budget.specs.declared.effect.Kind.TheVariants.{Steps, Tasks, Scopes, Binds}
 use Rattle.sts_budget.specs.Effect.{source_of, added_of, measured, effect_of, depth_of, own_of, limit_of, cause_of, IsMost}
-use Rattle.sts_budget.proofs.Structured.{IsStructured, heads, own_loop, IsInside, inside_step, comes_inside, at_points, Counts}
-use Rattle.sts_budget.proofs.Sums.{Flows, Sums, none, more, FitsEntries, Stands, IsTable, full, point_most, point_attained, last_turns}
-use Rattle.sts_budget.proofs.Named.{KnowsNames}
+use Rattle.sts_budget.proofs.Structured.{own_loop, IsInside, inside_step, comes_inside, at_points, Counts}
+use Rattle.sts_budget.proofs.Sums.{IsTable, point_most, point_attained}
 use Rattle.sts_budget.proofs.Entries.{names, front, front_all, front_le, names_of, front_of, source_low, source_kept, long}
+use Rattle.sts_budget.specs.Flowing.{flows, flows_by}
+use Rattle.sts_budget.specs.Known.{KnowsNames}
+use Rattle.sts_budget.specs.Structured.{IsStructured, heads}
+use Rattle.sts_budget.specs.Sums.{Flows, Sums, none, more, FitsEntries, Stands, full, last_turns}
 
 -- each instruction counts a step
 counts_one : (earlier : List Budgets) (i : Instr) → 1 ≤ steps_of earlier i
@@ -90,19 +93,6 @@ end_counts earlier pc (OrElse k) e = absurd (cc)
 end_counts earlier pc Interrupted e = absurd (cc)
 end_counts earlier pc Ret e = refl
 end_counts earlier pc Fail e = refl
-
--- how the sums of a kind flow, where the open entries at each place have these names
-abbrev pub flows : Kind → List Budgets → List Instr → (ℕ → Names) → Flows
-flows k earlier code names_at = record {
-  depth = λ pc. depth_of k (names_at pc);
-  source = λ pc d. source_of (effect_of k earlier (instr_at code pc) (names_at pc)) (depth_of k (names_at pc)) d;
-  added = λ pc d. added_of (effect_of k earlier (instr_at code pc) (names_at pc)) (depth_of k (names_at pc)) d }
-
-abbrev pub flows_by : Measure → List Instr → (ℕ → Names) → Flows
-flows_by m code names_at = record {
-  depth = λ pc. length (names_at pc);
-  source = λ pc d. source_of (measured m (instr_at code pc) (names_at pc)) (length (names_at pc)) d;
-  added = λ pc d. added_of (measured m (instr_at code pc) (names_at pc)) (length (names_at pc)) d }
 
 module _ (earlier : List Budgets) (code : List Instr) (round : ℕ → List ℕ) (good : IsStructured (skeleton earlier code) round) (names_at : ℕ → Names) (known : KnowsNames code (skeleton earlier code) round names_at) where
   abbrev c : Skeleton

@@ -17,19 +17,16 @@ use Rattle.sts_model.specs.ControlPaths.{Shape, GoesTo, Repeats, EndsTurn, EndsP
 use Rattle.sts_model.specs.declared.budget.Budgets.{Budgets}
 use Rattle.sts_model.specs.Budget.{skeleton, shape_of}
 use Rattle.sts_budget.specs.Layout.{Names, names_after, HasRoom}
-use Rattle.sts_budget.proofs.Sorts.{names, Sort, sort, is_times, is_next, is_end, goes_on, GoesOn, among_of, among_left, among_right}
-use Rattle.sts_budget.proofs.Structured.{Led, from_go, from_head, from_end}
+use Rattle.sts_budget.proofs.Sorts.{Sort, sort, is_times, is_next, is_end, goes_on, GoesOn, among_of, among_left, among_right}
 use Rattle.sts_budget.proofs.Forward.{among_cases}
 use Rattle.sts_budget.proofs.Typed.{among_next, goes_at, here, Here, fits, opened, Opened, ended, Ended, inside, leading_go, next_of, times_of}
-use Rattle.sts_budget.proofs.Named.{KnowsNames, NamesRight, led, knows_names}
+use Rattle.sts_budget.proofs.Named.{led, knows_names}
+use Rattle.sts_budget.specs.Known.{KnowsNames, NamesRight}
+use Rattle.sts_budget.specs.Laid.{Writes, first_of, head_after, IsRight, IsWritten, IsLaid}
+use Rattle.sts_budget.specs.Structured.{Led, from_go, from_head, from_end}
+use Rattle.sts_budget.specs.TypedNames.{names}
 
 -- ---- lists
-
--- one value is written at these places
-pub record Writes {A : Type 0} (places : List ℕ) (value d : A) (old new : List A) : Type 0 where
-  pub long : length new ≡ length old
-  pub at : (pc : ℕ) → Among places pc → pc < length old → get_or new pc d ≡ value
-  pub other : (pc : ℕ) → (Among places pc → ⊥) → get_or new pc d ≡ get_or old pc d
 
 pub writes_none : {A : Type 0} (places : List ℕ) (value d : A) (old : List A) → Writes (take 0 places) value d old old
 writes_none places value d old = record { long = refl; at = λ pc a lt. absurd a; other = λ pc out. refl }
@@ -47,10 +44,6 @@ writes_more places i to value d old mid lt is w = record {
     by_at pc within a = elim (cases_eq pc to) [
         inl e ↦ (let within' : pc < length mid = omega (arith, w.long) in subst (λ q. get_or (set mid q value) pc d ≡ value) e (get_or-set_same mid pc value d within'))
       | inr ne ↦ (get_or-set_other mid to pc value d ne ∙ elim a [ inl b ↦ w.at pc b within | inr b ↦ elim b [ inl e ↦ absurd (ne (sym e)) | inr out_of ↦ absurd out_of ] ]) ]
-
-abbrev pub first_of : List ℕ → Option ℕ
-first_of [] = None
-first_of (x ∷ xs) = Some x
 
 -- ---- one instruction
 
@@ -92,12 +85,6 @@ has_room Interrupted s ns long e = tt
 has_room Ret s ns long e = tt
 has_room Fail s ns long e = tt
 
--- the `times` of the innermost loop at the places to which an instruction leads
-abbrev pub head_after : Instr → ℕ → List (Option ℕ) → Option ℕ
-head_after (Times n) pc heads = Some pc
-head_after Next pc heads = get_or heads (unwrap_or (get_or heads pc None) 0) None
-head_after _ pc heads = get_or heads pc None
-
 head_kept : (p : Program) (code : List Instr) (pc : ℕ) (i : Instr) (heads : List (Option ℕ)) → GoesOn p code pc i → head_after i pc heads ≡ get_or heads pc None
 head_kept p code pc (Push k) heads goes = refl
 head_kept p code pc Pop heads goes = refl
@@ -136,23 +123,6 @@ head_kept p code pc Ret heads goes = refl
 head_kept p code pc Fail heads goes = refl
 
 -- ---- the function
-
--- what the tables say of a place
-pub record IsRight (p : Program) (f : ℕ) (heads : List (Option ℕ)) (table : List Names) (pc : ℕ) : Type 0 where
-  pub head : get_or heads pc None ≡ first_of (around (routine p f).code pc)
-  pub name : (s : TypeState) → Reaches (typing p f) pc s → names s.entries ≡ get_or table pc []
-
--- a place to which one below k leads, or the first
-abbrev pub IsWritten : List Instr → ℕ → ℕ → Type 0
-IsWritten code k pc = (pc ≡ 0) ⊎ ((from : ℕ) × ((from < k) × Among (named (instr_at code from) ++ next_place from (instr_at code from)) pc))
-
--- the tables after the places below k
-pub record IsLaid (p : Program) (f k : ℕ) (heads : List (Option ℕ)) (mates : List ℕ) (table : List Names) : Type 0 where
-  pub heads_long : length heads ≡ length (routine p f).code
-  pub mates_long : length mates ≡ length (routine p f).code
-  pub names_long : length table ≡ length (routine p f).code
-  pub right : (pc : ℕ) → pc < length (routine p f).code → IsWritten (routine p f).code k pc → IsRight p f heads table pc
-  pub mated : (h n : ℕ) → instr_at (routine p f).code h ≡ Times n → (q : ℕ) → match_of (routine p f).code h ≡ Some q → q < k → get_or mates h 0 ≡ q
 
 module _ (p : Program) (f : ℕ) (accepted : IsWellTyped p f) (some_code : 0 < length (routine p f).code) (bounds : (pc n : ℕ) → instr_at (routine p f).code pc ≡ Times n → 0 < n) where
   abbrev code : List Instr

@@ -22,10 +22,12 @@ use Rattle.sts_model.specs.ControlPaths.{Shape, GoesTo, Repeats, EndsTurn, EndsP
 use Rattle.sts_model.specs.declared.budget.Budgets.{Budgets}
 use Rattle.sts_model.specs.Budget.{skeleton, shape_of}
 use Rattle.sts_budget.specs.Layout.{Names, names_after, HasScope, FitsNames}
-use Rattle.sts_budget.proofs.Sorts.{GoesOn, names}
+use Rattle.sts_budget.proofs.Sorts.{GoesOn}
 use Rattle.sts_budget.proofs.Allowed.{Allowed, allowed, not_false, neither}
-use Rattle.sts_budget.proofs.Structured.{IsStructured, Led, from_go, from_head, from_end}
 use Rattle.sts_budget.proofs.Typed.{IsEdge, over_go, into_loop, past_loop, over_next, edge_at, here, Here, fits, times_at, next_at, goes_at, within_code, opened, Opened, ended, stack_at, inside, none_past}
+use Rattle.sts_budget.specs.Known.{KnowsNames, NamesRight}
+use Rattle.sts_budget.specs.Structured.{IsStructured, Led, from_go, from_head, from_end}
+use Rattle.sts_budget.specs.TypedNames.{names}
 
 -- ---- one instruction
 
@@ -152,20 +154,6 @@ keeps_depth Ret s ordered right own = inl (omega arith)
 keeps_depth Fail s ordered right own = inl (omega arith)
 
 -- ---- the function
-
--- the names of the open entries at each place fit the instructions and the jumps
-pub record KnowsNames (code : List Instr) (c : Skeleton) (round : ℕ → List ℕ) (names_at : ℕ → Names) : Type 0 where
-  pub empty : names_at 0 ≡ []
-  pub over_go : (pc to : ℕ) (places : List ℕ) → c.shape pc ≡ GoesTo places → Among places to → names_at to ≡ names_after (instr_at code pc) (names_at pc)
-  pub same : (pc n : ℕ) → c.shape pc ≡ Repeats n → (names_at (pc + 1) ≡ names_at pc) × (names_at (c.mate pc) ≡ names_at pc) × (names_at (c.mate pc + 1) ≡ names_at pc)
-  pub times : (pc n : ℕ) → c.shape pc ≡ Repeats n → instr_at code pc ≡ Times n
-  pub next : (pc : ℕ) → c.shape pc ≡ EndsTurn → instr_at code pc ≡ Next
-  pub fit : (pc : ℕ) → pc < c.size → FitsNames (instr_at code pc) (names_at pc)
-  pub deeper : (pc h : ℕ) (hs : List ℕ) → round pc ≡ h ∷ hs → length (names_at h) ≤ length (names_at pc)
-
--- each typestate that reaches a place has the names of the place
-abbrev pub NamesRight : Program → ℕ → (ℕ → Names) → Type 0
-NamesRight p f names_at = (pc : ℕ) (s : TypeState) → Reaches (typing p f) pc s → names s.entries ≡ names_at pc
 
 long : (es : List TypedEntry) → length (names es) ≡ length es
 long [] = refl

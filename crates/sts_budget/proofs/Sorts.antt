@@ -17,14 +17,7 @@ use Rattle.sts_model.specs.Edges.{follows, moved, with_slot, with_known, with_ph
 use Rattle.sts_model.specs.ControlPaths.{Shape, GoesTo, Repeats, EndsTurn, EndsPath, Among}
 use Rattle.sts_model.specs.Budget.{shape_of}
 use Rattle.sts_budget.specs.Layout.{Names, names_after}
-
-abbrev pub name_of : TypedEntry → Option ℕ
-name_of (Scope r) = Some r.slot
-name_of (Binding k) = None
-
--- the names of the entries of a typestate
-abbrev pub names : List TypedEntry → Names
-names es = map name_of es
+use Rattle.sts_budget.specs.TypedNames.{name_of, names}
 
 name_kept : (x : ℕ) (phase : TypedPhase) (e : TypedEntry) → name_of (phase_set x phase e) ≡ name_of e
 name_kept x phase (Binding k) = refl

@@ -21,10 +21,11 @@ use Rattle.sts_model.specs.ControlPaths.{Shape, GoesTo, Repeats, EndsTurn, EndsP
 use Rattle.sts_model.specs.declared.budget.Budgets.{Budgets}
 use Rattle.sts_model.specs.Budget.{skeleton, shape_of}
 use Rattle.sts_budget.specs.Layout.{Names, names_after}
-use Rattle.sts_budget.proofs.Sorts.{Sort, is_times as times_sort, is_next as next_sort, is_end as end_sort, goes_on, GoesOn, sort, names, among_of, among_left, among_right}
+use Rattle.sts_budget.proofs.Sorts.{Sort, is_times as times_sort, is_next as next_sort, is_end as end_sort, goes_on, GoesOn, sort, among_of, among_left, among_right}
 use Rattle.sts_budget.proofs.Allowed.{Allowed, allowed, not_false}
 use Rattle.sts_budget.proofs.Match.{match_is_next, next_is, times_is}
-use Rattle.sts_budget.proofs.Structured.{IsStructured}
+use Rattle.sts_budget.specs.Structured.{IsStructured}
+use Rattle.sts_budget.specs.TypedNames.{names}
 
 -- ---- one step of the typing
 

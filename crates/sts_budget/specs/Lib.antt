@@ -1,2 +1,9 @@
-pub mod Layout
 pub mod Effect
+pub mod Flowing
+pub mod Known
+pub mod Laid
+pub mod Layout
+pub mod Structured
+pub mod Sums
+pub mod Table
+pub mod TypedNames

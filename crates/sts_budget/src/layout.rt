@@ -3,7 +3,7 @@
 ghost use Rattle.std.specs.Prelude.{ℕ, List, [], All, IfOk, IfSome, Some, None, get_or, replicate, unwrap_or, vec_len, ◌≡◌, ◌<◌, ◌≤◌, ◌+◌, ◌++◌, length, option_to_list};
 ghost use Rattle.sts_model.specs.Around as around;
 ghost use Rattle.sts_budget.specs.Layout as def;
-ghost use Rattle.sts_budget.proofs.Laid.{Writes, head_after};
+ghost use Rattle.sts_budget.specs.Laid.{Writes, head_after};
 
 use arrayvec::ArrayVec;
 use std::alloc::{AllocError, Global};

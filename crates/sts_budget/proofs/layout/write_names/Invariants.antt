@@ -1,5 +1,5 @@
 use Rattle.std.proofs.Common.{take, []}
-use Rattle.sts_budget.proofs.Laid.{Writes}
+use Rattle.sts_budget.specs.Laid.{Writes}
 use Rattle.sts_budget.proofs.layout.write_names.Given as goal
 
 -- the first places are written
