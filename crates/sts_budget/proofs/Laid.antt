@@ -1,6 +1,7 @@
 -- The pass that finds what is open at each place.
-use Rattle.std.proofs.Common.{◌≡◌, ◌≢◌, ℕ, zero, suc, ◌+◌, ◌-◌, ◌<◌, ◌≤◌, ◌⊎◌, inl, inr, List, [], ◌∷◌, ◌++◌, length, take, drop, set, get_or, Bool, true, false, Option, Some, None, refl, sym, ap, ◌∙◌, subst, arith, length-set, get_or-set_same, get_or-set_other, unwrap_or}
+use Rattle.std.proofs.Common.{◌≡◌, ◌≢◌, ℕ, zero, suc, ◌+◌, ◌-◌, ◌<◌, ◌≤◌, ◌⊎◌, inl, inr, List, [], ◌∷◌, ◌++◌, length, take, drop, set, get_or, Bool, true, false, Option, Some, None, refl, sym, ap, ◌∙◌, subst, arith, length-set, get_or-set_same, get_or-set_other, unwrap_or, replicate}
 use Rattle.std.proofs.Math.Seq.{take-suc}
+use Rattle.std.proofs.lemmas.List.{length-replicate, get_or-replicate}
 use Rattle.std.proofs.lemmas.Bool.{cases_eq, cases_lt, leb-false}
 use Rattle.sts_code.specs.Program.{Program, routine}
 use Rattle.sts_code.specs.declared.instr.Instr.{Instr}
@@ -19,10 +20,11 @@ use Rattle.sts_model.specs.Budget.{skeleton, shape_of}
 use Rattle.sts_budget.specs.Layout.{Names, names_after, HasRoom}
 use Rattle.sts_budget.proofs.Sorts.{Sort, sort, is_times, is_next, is_end, goes_on, GoesOn, among_of, among_left, among_right}
 use Rattle.sts_budget.proofs.Forward.{among_cases}
-use Rattle.sts_budget.proofs.Typed.{among_next, goes_at, here, Here, fits, opened, Opened, ended, Ended, inside, leading_go, next_of, times_of}
+use Rattle.sts_budget.proofs.Typed.{among_next, goes_at, here, Here, fits, opened, Opened, ended, Ended, inside, structured, leading_go, next_of, times_of}
 use Rattle.sts_budget.proofs.Named.{led, knows_names}
+use Rattle.sts_budget.specs.Structured.{IsStructured}
 use Rattle.sts_budget.specs.Known.{KnowsNames, NamesRight}
-use Rattle.sts_budget.specs.Laid.{Writes, first_of, head_after, IsRight, IsWritten, IsLaid}
+use Rattle.sts_budget.specs.Laid.{mates_after, Writes, first_of, head_after, IsRight, IsWritten, IsLaid}
 use Rattle.sts_budget.specs.Structured.{Led, from_go, from_head, from_end}
 use Rattle.sts_budget.specs.TypedNames.{names}
 
@@ -122,6 +124,119 @@ head_kept p code pc Interrupted heads goes = refl
 head_kept p code pc Ret heads goes = refl
 head_kept p code pc Fail heads goes = refl
 
+long_after : (i : Instr) (pc : ℕ) (head : Option ℕ) (mates : List ℕ) → length (mates_after i pc head mates) ≡ length mates
+long_after Next pc (Some h) mates = length-set mates h pc
+long_after Next pc None mates = refl
+long_after (Push k) pc head mates = refl
+long_after Pop pc head mates = refl
+long_after Dup pc head mates = refl
+long_after Swap pc head mates = refl
+long_after (Load x) pc head mates = refl
+long_after (Store x) pc head mates = refl
+long_after Add pc head mates = refl
+long_after Sub pc head mates = refl
+long_after Mul pc head mates = refl
+long_after Lt pc head mates = refl
+long_after Eq pc head mates = refl
+long_after (Div to) pc head mates = refl
+long_after (Jmp to) pc head mates = refl
+long_after (Jz to) pc head mates = refl
+long_after (Times n) pc head mates = refl
+long_after (Open x j timed) pc head mates = refl
+long_after (Fork x g h) pc head mates = refl
+long_after (Join x a b c) pc head mates = refl
+long_after (Close x) pc head mates = refl
+long_after (Cancelled x) pc head mates = refl
+long_after (Case h a b) pc head mates = refl
+long_after (Get h) pc head mates = refl
+long_after (Except h) pc head mates = refl
+long_after (Tally x k) pc head mates = refl
+long_after (Total x) pc head mates = refl
+long_after (Forget h) pc head mates = refl
+long_after (Bind k) pc head mates = refl
+long_after Unbind pc head mates = refl
+long_after (Read k) pc head mates = refl
+long_after (Bound k) pc head mates = refl
+long_after (OrElse k) pc head mates = refl
+long_after Interrupted pc head mates = refl
+long_after Ret pc head mates = refl
+long_after Fail pc head mates = refl
+
+-- the other instructions end no loop
+mates_kept : (p : Program) (code : List Instr) (pc : ℕ) (i : Instr) (head : Option ℕ) (mates : List ℕ) → (i ≡ Next → ⊥) → mates_after i pc head mates ≡ mates
+mates_kept p code pc Next head mates other = absurd (other refl)
+mates_kept p code pc (Push k) head mates other = refl
+mates_kept p code pc Pop head mates other = refl
+mates_kept p code pc Dup head mates other = refl
+mates_kept p code pc Swap head mates other = refl
+mates_kept p code pc (Load x) head mates other = refl
+mates_kept p code pc (Store x) head mates other = refl
+mates_kept p code pc Add head mates other = refl
+mates_kept p code pc Sub head mates other = refl
+mates_kept p code pc Mul head mates other = refl
+mates_kept p code pc Lt head mates other = refl
+mates_kept p code pc Eq head mates other = refl
+mates_kept p code pc (Div to) head mates other = refl
+mates_kept p code pc (Jmp to) head mates other = refl
+mates_kept p code pc (Jz to) head mates other = refl
+mates_kept p code pc (Times n) head mates other = refl
+mates_kept p code pc (Open x j timed) head mates other = refl
+mates_kept p code pc (Fork x g h) head mates other = refl
+mates_kept p code pc (Join x a b c) head mates other = refl
+mates_kept p code pc (Close x) head mates other = refl
+mates_kept p code pc (Cancelled x) head mates other = refl
+mates_kept p code pc (Case h a b) head mates other = refl
+mates_kept p code pc (Get h) head mates other = refl
+mates_kept p code pc (Except h) head mates other = refl
+mates_kept p code pc (Tally x k) head mates other = refl
+mates_kept p code pc (Total x) head mates other = refl
+mates_kept p code pc (Forget h) head mates other = refl
+mates_kept p code pc (Bind k) head mates other = refl
+mates_kept p code pc Unbind head mates other = refl
+mates_kept p code pc (Read k) head mates other = refl
+mates_kept p code pc (Bound k) head mates other = refl
+mates_kept p code pc (OrElse k) head mates other = refl
+mates_kept p code pc Interrupted head mates other = refl
+mates_kept p code pc Ret head mates other = refl
+mates_kept p code pc Fail head mates other = refl
+
+is_next_instr : (i : Instr) → (i ≡ Next) ⊎ (i ≡ Next → ⊥)
+is_next_instr (Push k) = inr (λ e. (cc))
+is_next_instr Pop = inr (λ e. (cc))
+is_next_instr Dup = inr (λ e. (cc))
+is_next_instr Swap = inr (λ e. (cc))
+is_next_instr (Load x) = inr (λ e. (cc))
+is_next_instr (Store x) = inr (λ e. (cc))
+is_next_instr Add = inr (λ e. (cc))
+is_next_instr Sub = inr (λ e. (cc))
+is_next_instr Mul = inr (λ e. (cc))
+is_next_instr Lt = inr (λ e. (cc))
+is_next_instr Eq = inr (λ e. (cc))
+is_next_instr (Div to) = inr (λ e. (cc))
+is_next_instr (Jmp to) = inr (λ e. (cc))
+is_next_instr (Jz to) = inr (λ e. (cc))
+is_next_instr (Times n) = inr (λ e. (cc))
+is_next_instr Next = inl refl
+is_next_instr (Open x j timed) = inr (λ e. (cc))
+is_next_instr (Fork x g h) = inr (λ e. (cc))
+is_next_instr (Join x a b c) = inr (λ e. (cc))
+is_next_instr (Close x) = inr (λ e. (cc))
+is_next_instr (Cancelled x) = inr (λ e. (cc))
+is_next_instr (Case h a b) = inr (λ e. (cc))
+is_next_instr (Get h) = inr (λ e. (cc))
+is_next_instr (Except h) = inr (λ e. (cc))
+is_next_instr (Tally x k) = inr (λ e. (cc))
+is_next_instr (Total x) = inr (λ e. (cc))
+is_next_instr (Forget h) = inr (λ e. (cc))
+is_next_instr (Bind k) = inr (λ e. (cc))
+is_next_instr Unbind = inr (λ e. (cc))
+is_next_instr (Read k) = inr (λ e. (cc))
+is_next_instr (Bound k) = inr (λ e. (cc))
+is_next_instr (OrElse k) = inr (λ e. (cc))
+is_next_instr Interrupted = inr (λ e. (cc))
+is_next_instr Ret = inr (λ e. (cc))
+is_next_instr Fail = inr (λ e. (cc))
+
 -- ---- the function
 
 module _ (p : Program) (f : ℕ) (accepted : IsWellTyped p f) (some_code : 0 < length (routine p f).code) (bounds : (pc n : ℕ) → instr_at (routine p f).code pc ≡ Times n → 0 < n) where
@@ -220,19 +335,75 @@ module _ (p : Program) (f : ℕ) (accepted : IsWellTyped p f) (some_code : 0 < l
           (head_kept p (routine p f).code k i heads g ∙ now.head ∙ sym (ap first_of around_is),
            named_by i (known.over_go k to (named i ++ next_place k i) (ap (shape_of k) e ∙ g.shape) among ∙ ap (λ j. names_after j (names_here k)) e))
 
+  -- before the first place
+  pub laid_none : (heads : List (Option ℕ)) (mates : List ℕ) (table : List Names) → heads ≡ replicate (length (routine p f).code) None → mates ≡ replicate (length (routine p f).code) 0 → table ≡ replicate (length (routine p f).code) [] → IsLaid p f 0 heads mates table
+  laid_none heads mates table hs ms ns = record {
+      heads_long = ap length hs ∙ length-replicate (length (routine p f).code) None;
+      mates_long = ap length ms ∙ length-replicate (length (routine p f).code) 0;
+      names_long = ap length ns ∙ length-replicate (length (routine p f).code) [];
+      right = λ pc lt w. elim w [ inl z ↦ subst (IsRight p f heads table) (sym z) at_first | inr x ↦ absurd (omega (arith, x.1.0)) ];
+      mated = λ h n i q m less. absurd (omega arith) }
+    where
+      at_first : IsRight p f heads table 0
+      at_first = record {
+        head = ap (λ xs. get_or xs 0 None) hs ∙ get_or-replicate (length (routine p f).code) 0 None None some_code;
+        name = λ s r. (names_right 0 s r ∙ known.empty ∙ sym (ap (λ xs. get_or xs 0 []) ns ∙ get_or-replicate (length (routine p f).code) 0 [] [] some_code)) }
+
+  -- the loop round a place is open before it
+  pub head_before : (k : ℕ) (heads : List (Option ℕ)) (mates : List ℕ) (table : List Names) → k < length (routine p f).code → IsLaid p f k heads mates table → (h : ℕ) → get_or heads k None ≡ Some h → h < length heads
+  head_before k heads mates table lt laid h e =
+      let r = laid.right k lt (is_written k k (omega arith) lt) in
+      by (around (routine p f).code k) refl (sym r.head ∙ e)
+    where
+      good : IsStructured (skeleton [] (routine p f).code) (around (routine p f).code)
+      good = structured p f accepted some_code bounds []
+      by : (hs : List ℕ) → around (routine p f).code k ≡ hs → first_of hs ≡ Some h → h < length heads
+      by [] is z = absurd (cc)
+      by (x ∷ xs) is z = let same : x ≡ h = cc in let less = good.lesser k x xs is in omega (arith, laid.heads_long)
+
+  -- the loop that ends at a place is known there
+  mated_more : (k : ℕ) (heads : List (Option ℕ)) (mates : List ℕ) (table : List Names) → k < length (routine p f).code → IsLaid p f k heads mates table → (h n : ℕ) → instr_at (routine p f).code h ≡ Times n → (q : ℕ) → match_of (routine p f).code h ≡ Some q → q < k + 1 → get_or (mates_after (instr_at (routine p f).code k) k (get_or heads k None) mates) h 0 ≡ q
+  mated_more k heads mates table lt laid h n i q m less = elim (is_next_instr (instr_at (routine p f).code k)) [ inl e ↦ at_next e | inr ne ↦ at_other ne ]
+    where
+      o : Opened p f accepted some_code bounds [] h n
+      o = opened p f accepted some_code bounds [] h n i
+      q_is : o.end ≡ q
+      q_is = let twice : Some o.end ≡ Some q = sym o.ends ∙ m in cc
+      at_other : (instr_at (routine p f).code k ≡ Next → ⊥) → get_or (mates_after (instr_at (routine p f).code k) k (get_or heads k None) mates) h 0 ≡ q
+      at_other ne =
+          let other : q ≢ k = λ e. ne (subst (λ x. instr_at (routine p f).code x ≡ Next) (q_is ∙ e) o.is_end) in
+          ap (λ ms. get_or ms h 0) (mates_kept p (routine p f).code k (instr_at (routine p f).code k) (get_or heads k None) mates ne) ∙ laid.mated h n i q m (omega arith)
+      at_next : instr_at (routine p f).code k ≡ Next → get_or (mates_after (instr_at (routine p f).code k) k (get_or heads k None) mates) h 0 ≡ q
+      at_next e =
+          let d = ended p f accepted some_code bounds [] k e in
+          let r = laid.right k lt (is_written k k (omega arith) lt) in
+          let head_is : get_or heads k None ≡ Some d.head = r.head ∙ ap first_of d.here_is in
+          let after : mates_after (instr_at (routine p f).code k) k (get_or heads k None) mates ≡ set mates d.head k = ap (λ j. mates_after j k (get_or heads k None) mates) e ∙ ap (λ x. mates_after Next k x mates) head_is in
+          ap (λ ms. get_or ms h 0) after ∙ elim (cases_eq h d.head) [
+              inl same ↦ (let twice : Some q ≡ Some k = sym m ∙ ap (match_of (routine p f).code) same ∙ d.ends in
+                          let q_k : q ≡ k = cc in
+                          let within : d.head < length mates = omega (arith, laid.mates_long, o.later, o.within) in
+                          ap (λ x. get_or (set mates d.head k) x 0) same ∙ get_or-set_same mates d.head k 0 within ∙ sym q_k)
+            | inr ne ↦ (let other : q ≢ k = λ z. (let o' = opened p f accepted some_code bounds [] d.head d.turns d.times in
+                            let twice : Some o'.end ≡ Some k = sym o'.ends ∙ d.ends in
+                            let k_is : o'.end ≡ k = cc in
+                            let both : h ∷ around (routine p f).code h ≡ d.head ∷ around (routine p f).code d.head = sym o.around_end ∙ ap (around (routine p f).code) (q_is ∙ z) ∙ d.here_is in
+                            let same : h ≡ d.head = cc in
+                            ne same) in
+                        get_or-set_other mates d.head h k 0 ne ∙ laid.mated h n i q m (omega arith)) ]
+
   -- one more place
   pub laid_more : (k : ℕ) (heads heads' : List (Option ℕ)) (mates mates' : List ℕ) (table table' : List Names) → k < length (routine p f).code → IsLaid p f k heads mates table
     → Writes (named (instr_at (routine p f).code k) ++ next_place k (instr_at (routine p f).code k)) (head_after (instr_at (routine p f).code k) k heads) None heads heads'
     → Writes (named (instr_at (routine p f).code k) ++ next_place k (instr_at (routine p f).code k)) (names_after (instr_at (routine p f).code k) (get_or table k [])) [] table table'
-    → length mates' ≡ length mates
-    → ((h n : ℕ) → instr_at (routine p f).code h ≡ Times n → (q : ℕ) → match_of (routine p f).code h ≡ Some q → q < k + 1 → get_or mates' h 0 ≡ q)
+    → mates' ≡ mates_after (instr_at (routine p f).code k) k (get_or heads k None) mates
     → IsLaid p f (k + 1) heads' mates' table'
-  laid_more k heads heads' mates mates' table table' lt laid wh wn ml md = record {
+  laid_more k heads heads' mates mates' table table' lt laid wh wn ml = record {
       heads_long = wh.long ∙ laid.heads_long;
-      mates_long = ml ∙ laid.mates_long;
+      mates_long = ap length ml ∙ long_after (instr_at (routine p f).code k) k (get_or heads k None) mates ∙ laid.mates_long;
       names_long = wn.long ∙ laid.names_long;
       right = right;
-      mated = md }
+      mated = λ h n i q m less. subst (λ ms. get_or ms h 0 ≡ q) (sym ml) (mated_more k heads mates table lt laid h n i q m less) }
     where
       outs : List ℕ
       outs = named (instr_at (routine p f).code k) ++ next_place k (instr_at (routine p f).code k)

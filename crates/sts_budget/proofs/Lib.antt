@@ -10,3 +10,4 @@ pub mod FourKinds
 pub mod Forward
 pub mod Laid
 pub mod Checked
+pub mod LaidStep

@@ -1,5 +1,5 @@
 -- What is known to be open at each place of a function (this project's own).
-use Rattle.std.proofs.Common.{◌≡◌, ◌≢◌, ℕ, zero, suc, ◌+◌, ◌-◌, ◌<◌, ◌≤◌, ◌⊎◌, inl, inr, List, [], ◌∷◌, ◌++◌, length, take, drop, set, get_or, Bool, true, false, Option, Some, None, refl, sym, ap, ◌∙◌, subst, arith, length-set, get_or-set_same, get_or-set_other, unwrap_or}
+use Rattle.std.proofs.Common.{◌≡◌, ◌≢◌, ℕ, zero, suc, ◌+◌, ◌-◌, ◌<◌, ◌≤◌, ◌⊎◌, inl, inr, List, [], ◌∷◌, ◌++◌, length, take, drop, set, get_or, Bool, true, false, Option, Some, None, refl, sym, ap, ◌∙◌, subst, arith, length-set, get_or-set_same, get_or-set_other, unwrap_or, slice_set}
 use Rattle.std.proofs.Math.Seq.{take-suc}
 use Rattle.std.proofs.lemmas.Bool.{cases_eq, cases_lt, leb-false}
 use Rattle.sts_code.specs.Program.{Program, routine}
@@ -16,6 +16,7 @@ use Rattle.sts_model.specs.Refusal.{IsWellTyped}
 use Rattle.sts_model.specs.ControlPaths.{Shape, GoesTo, Repeats, EndsTurn, EndsPath, Skeleton, Among}
 use Rattle.sts_model.specs.declared.budget.Budgets.{Budgets}
 use Rattle.sts_model.specs.Budget.{skeleton, shape_of}
+use Rattle.sts_budget.specs.declared.layout.Layout.{Layout}
 use Rattle.sts_budget.specs.Layout.{Names, names_after, HasRoom}
 use Rattle.sts_budget.specs.Known.{KnowsNames, NamesRight}
 use Rattle.sts_budget.specs.Structured.{Led, from_go, from_head, from_end}
@@ -53,3 +54,12 @@ pub record IsLaid (p : Program) (f k : ℕ) (heads : List (Option ℕ)) (mates :
   pub names_long : length table ≡ length (routine p f).code
   pub right : (pc : ℕ) → pc < length (routine p f).code → IsWritten (routine p f).code k pc → IsRight p f heads table pc
   pub mated : (h n : ℕ) → instr_at (routine p f).code h ≡ Times n → (q : ℕ) → match_of (routine p f).code h ≡ Some q → q < k → get_or mates h 0 ≡ q
+
+-- the `next` at pc ends the loop of this head
+abbrev pub mates_after : Instr → ℕ → Option ℕ → List ℕ → List ℕ
+mates_after Next pc (Some h) mates = slice_set mates h pc
+mates_after _ pc head mates = mates
+
+-- the tables of the whole function
+abbrev pub IsLaidOut : Program → ℕ → Layout → Type 0
+IsLaidOut p f l = IsLaid p f (length (routine p f).code) l.heads.items l.mates.items l.names.items

@@ -1,14 +1,18 @@
 //! What is open at each place of a function's code.
 
 ghost use Rattle.std.specs.Prelude.{ℕ, List, [], All, IfOk, IfSome, Some, None, get_or, replicate, unwrap_or, vec_len, ◌≡◌, ◌<◌, ◌≤◌, ◌+◌, ◌++◌, length, option_to_list};
+ghost use Rattle.sts_code.specs.Checks.{program_fault};
+ghost use Rattle.sts_code.specs.Program.{routine};
 ghost use Rattle.sts_model.specs.Around as around;
+ghost use Rattle.sts_model.specs.Refusal.{IsWellTyped};
 ghost use Rattle.sts_budget.specs.Layout as def;
-ghost use Rattle.sts_budget.specs.Laid.{Writes, head_after};
+ghost use Rattle.sts_budget.specs.Laid.{Writes, head_after, mates_after, IsLaidOut};
 
 use arrayvec::ArrayVec;
 use std::alloc::{AllocError, Global};
 
 use sts_code::instr::Instr;
+use sts_code::program::Program;
 use sts_model::stack::Stack;
 
 /// The names of the open entries at a place, the innermost on top: a scope's slot, or none for a binding.
@@ -173,4 +177,52 @@ fn empty_names(alloc: Global, count: usize) -> Result<Vec<Names>, AllocError>
         names.push(Stack::new())?;
     }
     Ok(names)
+}
+
+/// The `next` at `pc` ends the loop of this head.
+fn write_mate(mates: &mut Vec<u32>, instr: Instr, pc: u32, head: Option<u32>)
+    requires { IfSome head (λ h. h < length mates.old.items) }
+    ensures { mates.new.items ≡ mates_after instr pc head mates.old.items }
+{
+    if let (Instr::Next, Some(at)) = (instr, head) {
+        mates[at as usize] = pc;
+    }
+}
+
+/// The instructions of a function.
+pub fn code_of(program: &Program, function: usize) -> &[Instr]
+    requires { function < length program.now.routines }
+    ensures value { result.now ≡ (routine program.now function).code }
+    ensures checked { program_fault program.now.routines ≡ None }
+{
+    let functions = program.functions();
+    let routine = &functions[function];
+    routine.code.as_slice()
+}
+
+/// What is open at each place of a well-typed function.
+pub fn lay_out(alloc: Global, program: &Program, function: usize) -> Result<Layout, AllocError>
+    requires in_program { function < length program.now.routines }
+    requires typed { IsWellTyped program.now function }
+    ensures { IfOk result (λ l. IsLaidOut program.now function l) }
+{
+    let code = code_of(program, function);
+    let mut heads = empty_heads(alloc, code.len())?;
+    let mut mates = empty_mates(alloc, code.len())?;
+    let mut names = empty_names(alloc, code.len())?;
+    for pc in 0..code.len() {
+        let instr = code[pc];
+        let places = targets(instr, pc as u32);
+        let after = names_after(instr, &names[pc]);
+        let innermost = heads[pc];
+        let head = head_after(instr, pc as u32, heads.as_slice());
+        write_mate(&mut mates, instr, pc as u32, innermost);
+        write_heads(&mut heads, places.as_slice(), head);
+        write_names(&mut names, places.as_slice(), &after);
+    }
+    Ok(Layout {
+        heads,
+        mates,
+        names,
+    })
 }
