@@ -1,5 +1,5 @@
 -- What instructions do to the sums over the open entries, the outermost first, by which the budgets are found (this project's own).
-use Rattle.std.specs.Prelude.{ℕ, ◌+◌, ◌-◌, List, [], ◌∷◌, length, min, cond, nat_lt, ◌==◌, if◌then◌else◌, Option, Some, None}
+use Rattle.std.specs.Prelude.{ℕ, ◌+◌, ◌-◌, ◌<◌, List, [], ◌∷◌, length, min, cond, nat_lt, ◌==◌, if◌then◌else◌, Option, Some, None}
 use Rattle.sts_code.specs.declared.instr.Instr.{Instr}
 use Rattle.sts_code.specs.declared.instr.Instr.TheVariants.{Open, Fork, Bind}
 use Rattle.sts_model.specs.declared.typing.Cause.{Cause}
@@ -35,6 +35,18 @@ measured m (Open slot joiner timed) ns = Opens m.scope
 measured m (Bind key) ns = Opens m.binding
 measured m (Fork slot function handle) ns = Adds (position_of slot ns) (m.subtask function)
 measured m _ ns = Rises 0
+
+-- a fork is of an earlier function
+abbrev pub ForksEarlier : ℕ → Instr → Type 0
+ForksEarlier n (Fork slot function handle) = function < n
+ForksEarlier n _ = Unit {0}
+
+-- what is summed for a kind
+abbrev pub measure_of : Kind → List Budgets → Measure
+measure_of Steps earlier = record { scope = 0; binding = 0; subtask = λ f. 0 }
+measure_of Tasks earlier = tasks_measure earlier
+measure_of Scopes earlier = scopes_measure earlier
+measure_of Binds earlier = binds_measure earlier
 
 -- steps are summed over no entry
 abbrev pub effect_of : Kind → List Budgets → Instr → Names → Effect
