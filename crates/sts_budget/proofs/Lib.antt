@@ -11,3 +11,4 @@ pub mod Forward
 pub mod Laid
 pub mod Checked
 pub mod LaidStep
+pub mod Rows

@@ -83,3 +83,8 @@ IsMost Steps earlier code m = IsGreatest (skeleton earlier code) m
 IsMost Tasks earlier code m = IsPeak (skeleton earlier code) (tasks_sum earlier) m
 IsMost Scopes earlier code m = IsPeak (skeleton earlier code) (scopes_sum earlier) m
 IsMost Binds earlier code m = IsPeak (skeleton earlier code) (binds_sum earlier) m
+
+-- what a `times` or a `next` counts
+abbrev pub own_step : Kind → ℕ
+own_step Steps = 1
+own_step _ = 0

@@ -7,3 +7,6 @@ pub mod Structured
 pub mod Sums
 pub mod Table
 pub mod TypedNames
+pub mod Row
+pub mod Ready
+pub mod Handing

@@ -34,3 +34,23 @@ pub record IsSpread (c : Skeleton) (f : Flows) (head : ℕ → ℕ) (k : ℕ) (b
 pub record IsPartial (c : Skeleton) (f : Flows) (k : ℕ) (rows : List (List ℕ)) : Type 0 where
   pub long : length rows ≡ c.size
   pub greatest : (pc d : ℕ) → pc < c.size → d ≤ f.depth pc → MaxOf (Handed c f (read rows) k pc d) (read rows pc d)
+
+-- the rows at these places are raised to the values, as far as entries are open there
+pub record IsSent (values : List ℕ) (low : ℕ → ℕ) (most : ℕ) (places : List ℕ) (before after : List (List ℕ)) : Type 0 where
+  pub long : length after ≡ length before
+  pub raised : (pc d : ℕ) → Among places pc → d ≤ low pc → read after pc d ≡ max (read before pc d) (get_or values d 0)
+  pub same : (pc d : ℕ) → (Among places pc → ⊥) → read after pc d ≡ read before pc d
+  pub small : (pc d : ℕ) → Among places pc → d ≤ low pc → get_or values d 0 ≤ most
+  pub few : (pc : ℕ) → Among places pc → low pc ≤ 16
+
+-- at one of these places a value passes the limit
+abbrev pub IsStopped : List ℕ → (ℕ → ℕ) → ℕ → List ℕ → Type 0
+IsStopped values low most places = (pc : ℕ) × ((d : ℕ) × (Among places pc × (d ≤ low pc) × (d ≤ 16) × (most < get_or values d 0)))
+
+-- a place hands on more than the limit
+abbrev pub HandsTooMuch : Skeleton → Flows → (ℕ → ℕ) → ℕ → (ℕ → ℕ → ℕ) → ℕ → Type 0
+HandsTooMuch c f head k best most = (pc : ℕ) × ((d : ℕ) × ((m : ℕ) × ((pc < c.size) × (d ≤ f.depth pc) × New c f head best k (c.shape k) pc d m × (most < m))))
+
+-- more than the limit stands at some point
+abbrev pub Passes : Skeleton → Flows → ℕ → Type 0
+Passes c f most = (v : ℕ) × (Stands c f v × (most < v))

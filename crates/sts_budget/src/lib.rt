@@ -3,3 +3,5 @@
 
 pub mod effect;
 pub mod layout;
+pub mod pass;
+pub mod row;
