@@ -12,3 +12,5 @@ pub mod Laid
 pub mod Checked
 pub mod LaidStep
 pub mod Rows
+pub mod HandOn
+pub mod LastTurns

@@ -1,5 +1,5 @@
 -- What a place hands on to those to which its instruction leads (this project's own).
-use Rattle.std.specs.Prelude.{ℕ, ◌+◌, ◌*◌, List, Bool, true, false}
+use Rattle.std.specs.Prelude.{ℕ, ◌+◌, ◌-◌, ◌*◌, List, get_or, slice_set, Option, Some, None, Bool, true, false}
 use Rattle.sts_code.specs.declared.instr.Instr.{Instr}
 use Rattle.sts_code.specs.declared.instr.Instr.TheVariants.{Times, Next, Ret, Fail}
 use Rattle.sts_model.specs.Around.{instr_at}
@@ -28,3 +28,13 @@ value_by k earlier code l best pc i d = best pc (source_of (effect_of k earlier 
 
 abbrev pub handed_value : Kind → List Budgets → List Instr → Layout → (ℕ → ℕ → ℕ) → ℕ → ℕ → ℕ
 handed_value k earlier code l best pc d = value_by k earlier code l best pc (instr_at code pc) d
+
+-- the greatest sum before the last turn of the loop of this head, or 0 outside of loops
+abbrev pub base_of : List ℕ → Option ℕ → ℕ
+base_of bases None = 0
+base_of bases (Some h) = get_or bases h 0
+
+-- a `times` at pc opens a loop
+abbrev pub bases_after : Instr → (pc own full end : ℕ) → List ℕ → List ℕ
+bases_after (Times n) pc own full end bases = slice_set bases pc (full + own + (n - 1) * (end + own))
+bases_after _ pc own full end bases = bases

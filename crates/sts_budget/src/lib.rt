@@ -5,3 +5,4 @@ pub mod effect;
 pub mod layout;
 pub mod pass;
 pub mod row;
+pub mod top;

@@ -52,7 +52,7 @@ fn turns_of(instr: Instr) -> u16
 }
 
 /// What a `times` or a `next` counts itself.
-fn own_step(kind: Kind) -> u32
+pub(crate) fn own_step(kind: Kind) -> u32
     ensures { result ≡ own_step kind }
 {
     match kind {
