@@ -13,6 +13,7 @@ use Rattle.sts_budget.specs.declared.layout.Layout.{Layout}
 use Rattle.sts_budget.specs.Effect.{own_step, own_of, limit_of, cause_of, depth_of, IsMost}
 use Rattle.sts_budget.specs.Handing.{base_of, bases_after}
 use Rattle.sts_budget.specs.Laid.{first_of}
+use Rattle.sts_budget.specs.Last.{HasBases, IsTop}
 use Rattle.sts_budget.specs.Ready.{IsReady, names_in, head_in, flows_in}
 use Rattle.sts_budget.specs.Structured.{IsStructured, bound_of}
 use Rattle.sts_budget.specs.Sums.{Flows, Stands, full, turn_base, gain}
@@ -80,13 +81,7 @@ module _ (k : Kind) (earlier : List Budgets) (code : List Instr) (l : Layout) (r
   table : IsTable c f (read rows)
   table = is_table c (around code) ready.good f (fits_here k earlier code l ready) (head_in l) (heads_right k earlier code l ready) rows whole ready.led
 
-  -- the bases of the loops that open before pc
-  pub record HasBases (pc : ℕ) (bases : List ℕ) : Type 0 where
-    pub long : length bases ≡ length code
-    pub right : (h n : ℕ) → h < pc → instr_at code h ≡ Times n → get_or bases h 0 ≡ turn_base c f (around code) (read rows) h
-    pub small : (i : ℕ) → get_or bases i 0 < 1125899906842624
-
-  pub head_small : (pc : ℕ) → pc < length code → (bases : List ℕ) → HasBases pc bases → (o d : Option ℕ) → o ≡ get_or l.heads.items pc d → IfSome o (λ h. h < length bases)
+  pub head_small : (pc : ℕ) → pc < length code → (bases : List ℕ) → HasBases k earlier code l rows pc bases → (o d : Option ℕ) → o ≡ get_or l.heads.items pc d → IfSome o (λ h. h < length bases)
   head_small pc lt bases b None d e = search rules
   head_small pc lt bases b (Some h) d e = by (around code pc) refl
     where
@@ -97,7 +92,7 @@ module _ (k : Kind) (earlier : List Budgets) (code : List Instr) (l : Layout) (r
       by (x ∷ xs) is = let z : Some h ≡ Some x = head ∙ ap first_of is in let same : h ≡ x = cc in let less = ready.good.lesser pc x xs is in omega (arith, b.long)
 
   -- the greatest sum of a place
-  pub full_is : (pc : ℕ) → pc < length code → (bases : List ℕ) → HasBases pc bases → (o d : Option ℕ) → o ≡ get_or l.heads.items pc d → base_of bases o + read rows pc (depth_of k (names_in l pc)) ≡ here pc
+  pub full_is : (pc : ℕ) → pc < length code → (bases : List ℕ) → HasBases k earlier code l rows pc bases → (o d : Option ℕ) → o ≡ get_or l.heads.items pc d → base_of bases o + read rows pc (depth_of k (names_in l pc)) ≡ here pc
   full_is pc lt bases b o d e = by (around code pc) refl
     where
       head : o ≡ first_of (around code pc)
@@ -133,7 +128,7 @@ module _ (k : Kind) (earlier : List Budgets) (code : List Instr) (l : Layout) (r
         ∙ ap (λ x. here pc + own_step k + (n - 1) * (read rows (c.mate pc) d + x)) g
         ∙ ap (λ x. here pc + own_step k + (n - 1) * (x + own_step k)) (sym e))
 
-  pub bases_none : (bases : List ℕ) → bases ≡ replicate (length code) 0 → HasBases 0 bases
+  pub bases_none : (bases : List ℕ) → bases ≡ replicate (length code) 0 → HasBases k earlier code l rows 0 bases
   bases_none bases e = record {
       long = ap length e ∙ length-replicate (length code) 0;
       right = λ h n lt t. absurd (omega arith);
@@ -144,21 +139,23 @@ module _ (k : Kind) (earlier : List Budgets) (code : List Instr) (l : Layout) (r
       zeros (suc n) zero = refl
       zeros (suc n) (suc i) = zeros n i
 
-  pub bases_next : (pc full' end : ℕ) (bases bases' : List ℕ) → pc < length code → HasBases pc bases → full' ≡ here pc → full' < 4294967296 → end < 4294967296 → ((n : ℕ) → instr_at code pc ≡ Times n → (n < 65536) × (end ≡ read rows (c.mate pc) (depth_of k (names_in l pc)))) → bases' ≡ bases_after (instr_at code pc) pc (own_step k) full' end bases → HasBases (pc + 1) bases'
-  bases_next pc full' end bases bases' lt b full_here low low' at e = elim (is_times_or (instr_at code pc) pc (own_step k) full' end bases) [ inl t ↦ subst (HasBases (pc + 1)) (sym (e ∙ ap (λ i. bases_after i pc (own_step k) full' end bases) t.1)) (opens t.0 t.1) | inr other ↦ subst (HasBases (pc + 1)) (sym (e ∙ other.1)) (same other.0) ]
+  pub bases_next : (pc full' end : ℕ) (bases bases' : List ℕ) → pc < length code → HasBases k earlier code l rows pc bases → full' ≡ here pc → full' < 4294967296 → end < 4294967296 → ((n : ℕ) → instr_at code pc ≡ Times n → (n < 65536) × (end ≡ read rows (c.mate pc) (depth_of k (names_in l pc)))) → bases' ≡ bases_after (instr_at code pc) pc (own_step k) full' end bases → HasBases k earlier code l rows (pc + 1) bases'
+  bases_next pc full' end bases bases' lt b full_here low low' at e = elim (is_times_or (instr_at code pc) pc (own_step k) full' end bases) [ inl t ↦ subst (HasBases k earlier code l rows (pc + 1)) (sym (e ∙ ap (λ i. bases_after i pc (own_step k) full' end bases) t.1)) (opens t.0 t.1) | inr other ↦ subst (HasBases k earlier code l rows (pc + 1)) (sym (e ∙ other.1)) (same other.0) ]
     where
-      same : ((n : ℕ) → instr_at code pc ≡ Times n → ⊥) → HasBases (pc + 1) bases
+      same : ((n : ℕ) → instr_at code pc ≡ Times n → ⊥) → HasBases k earlier code l rows (pc + 1) bases
       same no_times = record {
         long = b.long;
         right = λ h n less t. (let ne : h ≢ pc = λ z. no_times n (subst (λ q. instr_at code q ≡ Times n) z t) in b.right h n (omega arith) t);
         small = b.small }
       value : ℕ → ℕ
       value n = full' + own_step k + (n - 1) * (end + own_step k)
-      opens : (n : ℕ) → instr_at code pc ≡ Times n → HasBases (pc + 1) (set bases pc (value n))
+      opens : (n : ℕ) → instr_at code pc ≡ Times n → HasBases k earlier code l rows (pc + 1) (set bases pc (value n))
       opens n t =
           let a = at n t in
           let own : own_step k ≤ 1 = own_low k in
-          let product : (n - 1) * (end + own_step k) ≤ 65535 * 4294967296 = mul-le-mul (omega (arith, a.0)) (omega (arith, own)) in
+          let few : n - 1 ≤ 65535 = omega (arith, a.0) in
+          let step : end + own_step k ≤ 4294967296 = omega (arith, own) in
+          let product : (n - 1) * (end + own_step k) ≤ 65535 * 4294967296 = mul-le-mul few step in
           let v : value n < 1125899906842624 = omega (arith, product, own) in
           record {
             long = length-set bases pc (value n) ∙ b.long;
@@ -170,16 +167,10 @@ module _ (k : Kind) (earlier : List Budgets) (code : List Instr) (l : Layout) (r
                 inl z ↦ subst (λ q. get_or (set bases pc (value n)) q 0 < 1125899906842624) (sym z) (subst (λ x. x < 1125899906842624) (sym (get_or-set_same bases pc (value n) 0 (omega (arith, b.long)))) v)
               | inr ne ↦ subst (λ x. x < 1125899906842624) (sym (get_or-set_other bases pc i (value n) 0 ne)) (b.small i) ] }
 
-  -- what is found so far is the greatest
-  pub record IsTop (pc top : ℕ) : Type 0 where
-    pub most : (q : ℕ) → q < pc → here q ≤ top
-    pub attained : (pc ≡ 0) ⊎ ((q : ℕ) × ((q < pc) × (here q ≡ top)))
-    pub none_yet : pc ≡ 0 → top ≡ 0
-
-  pub top_none : IsTop 0 0
+  pub top_none : IsTop k earlier code l rows 0 0
   top_none = record { most = λ q lt. absurd (omega arith); attained = inl refl; none_yet = λ e. refl }
 
-  pub top_next : (pc top v : ℕ) → IsTop pc top → v ≡ here pc → IsTop (pc + 1) (max v top)
+  pub top_next : (pc top v : ℕ) → IsTop k earlier code l rows pc top → v ≡ here pc → IsTop k earlier code l rows (pc + 1) (max v top)
   top_next pc top v t is = record {
       most = λ q lt. elim (cases_eq q pc) [ inl e ↦ (let s : here q ≡ here pc = ap (λ x. here x) e in omega arith) | inr ne ↦ (let h = t.most q (omega arith) in omega arith) ];
       attained = inr (elim (cases_lt v top) [ inl lt ↦ old lt | inr ge ↦ (pc, (omega arith, (let m : max v top ≡ v = omega arith in sym is ∙ sym m))) ]);
@@ -190,7 +181,7 @@ module _ (k : Kind) (earlier : List Budgets) (code : List Instr) (l : Layout) (r
           inl e ↦ absurd (omega (arith, t.none_yet e))
         | inr a ↦ (a.0, (omega (arith, a.1.0), (let m : top ≡ max v top = omega arith in a.1.1 ∙ m))) ]
 
-  pub finished : (top : ℕ) → IsTop (length code) top → IsMost k earlier code (own_of k + top)
+  pub finished : (top : ℕ) → IsTop k earlier code l rows (length code) top → IsMost k earlier code (own_of k + top)
   finished top t = elim t.attained [
       inl e ↦ absurd (omega (arith, ready.good.some_code))
     | inr a ↦ top_is_most earlier code (around code) ready.good (names_in l) ready.known k (read rows) table top t.most a.0 a.1.0 a.1.1 ]

@@ -10,3 +10,4 @@ pub mod TypedNames
 pub mod Row
 pub mod Ready
 pub mod Handing
+pub mod Last

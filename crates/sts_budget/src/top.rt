@@ -1,14 +1,17 @@
 //! The budget of one kind: the greatest sum of all places, each loop being in its last turn.
 
 ghost use Rattle.std.specs.Prelude.{◌≡◌, ◌<◌, ◌≤◌, ◌+◌, ◌-◌, ◌*◌, ◌^◌, ℕ, IfOk, IfSome, MatchOption, length, replicate, get_or};
+ghost use Rattle.sts_model.specs.Around.{instr_at};
 ghost use Rattle.sts_model.specs.Budget.{Exceeds};
 ghost use Rattle.sts_budget.specs.Effect.{own_of, limit_of, cause_of, IsMost};
 ghost use Rattle.sts_budget.specs.Ready.{IsReady};
 ghost use Rattle.sts_budget.specs.Handing.{base_of, bases_after};
+ghost use Rattle.sts_budget.specs.Table.{read};
 
 use crate::effect::{Kind, depth_of};
 use crate::layout::Layout;
 use crate::pass::{own_step, table};
+use crate::row::Row;
 use std::alloc::{AllocError, Global};
 use sts_code::instr::Instr;
 use sts_model::budget::Budgets;
@@ -65,6 +68,20 @@ fn open_loop(bases: &mut Vec<u64>, instr: Instr, pc: usize, own: u32, full: u64,
     }
 }
 
+/// The sum at the end of a turn of the loop that a `times` opens.
+fn turn_end(code: &[Instr], layout: &Layout, best: &[Row], pc: usize, depth: usize) -> u32
+    requires in_code { pc < length code.now }
+    requires mates { pc < length layout.now.mates.items }
+    requires inside { (n : ℕ) → instr_at code.now pc ≡ Instr.Times n → get_or layout.now.mates.items pc 0 < length best.now }
+    requires few { depth ≤ 16 }
+    ensures { (n : ℕ) → instr_at code.now pc ≡ Instr.Times n → result ≡ read best.now (get_or layout.now.mates.items pc 0) depth }
+{
+    match code[pc] {
+        Instr::Times(_) => best[layout.mates[pc] as usize][depth],
+        _ => 0,
+    }
+}
+
 /// The budget of this kind, or none where it passes its limit.
 pub(crate) fn top(alloc: Global, kind: Kind, earlier: &[Budgets], code: &[Instr], layout: &Layout) -> Result<Option<u32>, AllocError>
     requires ready { IsReady earlier.now code.now layout.now }
@@ -85,7 +102,7 @@ pub(crate) fn top(alloc: Global, kind: Kind, earlier: &[Budgets], code: &[Instr]
             return Ok(None);
         }
         greatest = full.max(greatest);
-        let end = best[layout.mates[pc] as usize][depth];
+        let end = turn_end(code, layout, best.as_slice(), pc, depth);
         open_loop(&mut bases, code[pc], pc, own_step(kind), full, end);
     }
     Ok(Some(own + greatest as u32))
