@@ -1,7 +1,7 @@
 -- What the program checks say of the code of a function.
 use Rattle.std.proofs.Common.{◌≡◌, ℕ, zero, suc, ◌+◌, ◌<◌, ◌≤◌, List, [], ◌∷◌, length, take, Bool, true, false, Option, Some, None, cond, ◌||◌, not, nat_lt, ◌==◌, refl, sym, ap, ◌∙◌, subst, arith, slice_index_or, length-take-le}
 use Rattle.std.specs.Option.{option_or}
-use Rattle.std.proofs.lemmas.Bool.{eqb-false, leb-false, eq-eqb}
+use Rattle.std.proofs.lemmas.Bool.{eqb-false, leb-false, ltb-false, eq-eqb}
 use Rattle.sts_code.specs.Checks as def
 use Rattle.sts_code.specs.Name.{is_name}
 use Rattle.sts_code.specs.Program.{Program, Routine, no_routine, routine}
@@ -38,11 +38,15 @@ some_turn : (n : ℕ) → (n == 0) || nat_lt 10000 n ≡ false → 0 < n
 some_turn zero e = absurd (cc)
 some_turn (suc n) e = omega arith
 
+few_turns : (n : ℕ) → (n == 0) || nat_lt 10000 n ≡ false → n < 65536
+few_turns n e = let f = ltb-false 10000 n (either_false (n == 0) (nat_lt 10000 n) e).1 in omega arith
+
 -- a function of a program that passed the checks
 pub record IsChecked (p : Program) (f : ℕ) : Type 0 where
   pub some_code : 0 < length (routine p f).code
   pub short : length (routine p f).code ≤ 4096
   pub bounds : (pc n : ℕ) → instr_at (routine p f).code pc ≡ Times n → 0 < n
+  pub few : (pc n : ℕ) → instr_at (routine p f).code pc ≡ Times n → n < 65536
   pub earlier : (pc x g : ℕ) (h : Option ℕ) → instr_at (routine p f).code pc ≡ Fork x g h → g < f
 
 in_code : (code : List Instr) (pc : ℕ) (i : Instr) → instr_at code pc ≡ i → (Ret ≡ i → ⊥) → pc < length code
@@ -71,6 +75,13 @@ is_checked p f e lt =
         let l = no_test (def.forks_later (length (take f p.routines)) (Times n)) LaterFunction _ t.1 in
         let r = no_test (def.has_bad_range (Times n)) BadRange None l.1 in
         some_turn n r.0);
+      few = λ pc n is. (
+        let within = in_code (routine p f).code pc (Times n) is (λ z. (cc)) in
+        let c : def.instr_cause (length (take f p.routines)) (length (routine p f).code) (Times n) ≡ None = ap (def.instr_cause (length (take f p.routines)) (length (routine p f).code)) (sym is) ∙ each pc within in
+        let t = no_test (def.has_bad_target (length (routine p f).code) (Times n)) BadTarget _ c in
+        let l = no_test (def.forks_later (length (take f p.routines)) (Times n)) LaterFunction _ t.1 in
+        let r = no_test (def.has_bad_range (Times n)) BadRange None l.1 in
+        few_turns n r.0);
       earlier = λ pc x g h is. (
         let within = in_code (routine p f).code pc (Fork x g h) is (λ z. (cc)) in
         let c : def.instr_cause (length (take f p.routines)) (length (routine p f).code) (Fork x g h) ≡ None = ap (def.instr_cause (length (take f p.routines)) (length (routine p f).code)) (sym is) ∙ each pc within in

@@ -6,7 +6,10 @@ use Rattle.sts_code.specs.declared.instr.Instr.{Instr}
 use Rattle.sts_code.specs.declared.instr.Instr.TheVariants.{Push, Pop, Dup, Swap, Load, Store, Add, Sub, Mul, Lt, Eq, Div, Jmp, Jz, Times, Next, Open, Fork, Join, Close, Cancelled, Case, Get, Except, Tally, Total, Forget, Bind, Unbind, Read, Bound, OrElse, Interrupted, Ret, Fail}
 use Rattle.sts_model.specs.Around.{instr_at, around}
 use Rattle.sts_model.specs.declared.budget.Budgets.{Budgets}
-use Rattle.sts_model.specs.Budget.{skeleton, shape_of, Exceeds}
+use Rattle.sts_model.specs.declared.typing.Cause.{Cause}
+use Rattle.sts_model.specs.declared.typing.Cause.TheVariants as cause
+use Rattle.sts_model.specs.Causes.{cause_number}
+use Rattle.sts_model.specs.Budget.{skeleton, shape_of, Exceeds, IsLeastExcess}
 use Rattle.sts_model.specs.ControlPaths.{Shape, Repeats, Skeleton}
 use Rattle.sts_budget.specs.declared.effect.Kind.{Kind}
 use Rattle.sts_budget.specs.declared.layout.Layout.{Layout}
@@ -24,6 +27,12 @@ use Rattle.sts_budget.proofs.Forward.{is_table}
 use Rattle.sts_budget.proofs.FourKinds.{stands_exceeds, top_is_most}
 use Rattle.sts_budget.proofs.HandOn.{fits_here, heads_right, counts_times, counts_next}
 use Rattle.sts_budget.proofs.Sums.{IsTable, point_attained, full_inside, full_outside}
+
+pub own_within : (k : Kind) → own_of k ≤ limit_of k
+own_within Steps = omega arith
+own_within Tasks = omega arith
+own_within Scopes = omega arith
+own_within Binds = omega arith
 
 own_low : (k : Kind) → own_step k ≤ 1
 own_low Steps = omega arith
@@ -189,3 +198,36 @@ module _ (k : Kind) (earlier : List Budgets) (code : List Instr) (l : Layout) (r
 -- the limit is passed
 pub exceeds : (k : Kind) (earlier : List Budgets) (code : List Instr) (l : Layout) → IsReady earlier code l → (most : ℕ) → most ≡ limit_of k - own_of k → Passes (skeleton earlier code) (flows_in k earlier code l) most → Exceeds earlier code (cause_of k)
 exceeds k earlier code l ready most e (v, h) = stands_exceeds earlier code (around code) ready.good (names_in l) ready.known k v h.0 (omega (arith, h.1))
+
+-- a budget within its limit is no cause
+pub no_excess : (k : Kind) (earlier : List Budgets) (code : List Instr) (m : ℕ) → IsMost k earlier code m → m ≤ limit_of k → Exceeds earlier code (cause_of k) → ⊥
+no_excess Steps earlier code m h le (x, t) = let top = h.1 x t.0 in omega (arith, t.1)
+no_excess Tasks earlier code m h le (x, t) = let top = h.1 x t.0 in omega (arith, t.1)
+no_excess Scopes earlier code m h le (x, t) = let top = h.1 x t.0 in omega (arith, t.1)
+no_excess Binds earlier code m h le (x, t) = let top = h.1 x t.0 in omega (arith, t.1)
+
+-- the first kind that passes its limit gives the least cause
+pub least_excess : (k : Kind) (earlier : List Budgets) (code : List Instr) → Exceeds earlier code (cause_of k) → ((j : Kind) → cause_number (cause_of j) < cause_number (cause_of k) → Exceeds earlier code (cause_of j) → ⊥) → IsLeastExcess earlier code (cause_of k)
+least_excess k earlier code here before = (here, less)
+  where
+    less : (other : Cause) → cause_number other < cause_number (cause_of k) → Exceeds earlier code other → ⊥
+    less cause.StackUnder lt e = e
+    less cause.StackOver lt e = e
+    less cause.FallsOff lt e = e
+    less cause.BackJump lt e = e
+    less cause.LoopMismatch lt e = e
+    less cause.LoopDepth lt e = e
+    less cause.StatesDiffer lt e = e
+    less cause.DeadCode lt e = e
+    less cause.SlotKind lt e = e
+    less cause.SlotBusy lt e = e
+    less cause.WrongThread lt e = e
+    less cause.IllegalState lt e = e
+    less cause.Structure lt e = e
+    less cause.Nesting lt e = e
+    less cause.Unbound lt e = e
+    less cause.JoinEdges lt e = e
+    less cause.TooManySteps lt e = before Steps lt e
+    less cause.TooManyTasks lt e = before Tasks lt e
+    less cause.TooManyScopes lt e = before Scopes lt e
+    less cause.TooManyBinds lt e = before Binds lt e

@@ -14,3 +14,4 @@ pub mod LaidStep
 pub mod Rows
 pub mod HandOn
 pub mod LastTurns
+pub mod Ready

@@ -11,3 +11,4 @@ pub mod Row
 pub mod Ready
 pub mod Handing
 pub mod Last
+pub mod Outcome

@@ -38,4 +38,5 @@ pub record IsReady (earlier : List Budgets) (code : List Instr) (l : Layout) : T
   pub mates_long : length l.mates.items ≡ length code
   pub names_long : length l.names.items ≡ length code
   pub forks : (pc : ℕ) → ForksEarlier (length earlier) (instr_at code pc)
+  pub turns : (pc n : ℕ) → instr_at code pc ≡ Times n → n < 65536
   pub short : length code ≤ 4096

@@ -85,7 +85,7 @@ fn turn_end(code: &[Instr], layout: &Layout, best: &[Row], pc: usize, depth: usi
 /// The budget of this kind, or none where it passes its limit.
 pub(crate) fn top(alloc: Global, kind: Kind, earlier: &[Budgets], code: &[Instr], layout: &Layout) -> Result<Option<u32>, AllocError>
     requires ready { IsReady earlier.now code.now layout.now }
-    ensures { IfOk result (λ o. MatchOption o (Exceeds earlier.now code.now (cause_of kind)) (λ m. IsMost kind earlier.now code.now m)) }
+    ensures { IfOk result (λ o. MatchOption o (Exceeds earlier.now code.now (cause_of kind)) (λ m. IsMost kind earlier.now code.now m × (m ≤ limit_of kind))) }
 {
     let own = own_of(kind);
     let most = limit_of(kind) - own;
