@@ -15,3 +15,4 @@ pub mod Rows
 pub mod HandOn
 pub mod LastTurns
 pub mod Ready
+pub mod Found
