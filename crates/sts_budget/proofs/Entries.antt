@@ -61,10 +61,10 @@ names_forked x g (OpenScope s subtasks ∷ es) = by (s == x) (names_forked x g e
     by true ih = refl
     by false ih = ap (λ ns. Some s ∷ ns) ih
 
-length_forked : (x g : ℕ) (es : List OpenEntry) → length (forked x g es) ≡ length es
+pub length_forked : (x g : ℕ) (es : List OpenEntry) → length (forked x g es) ≡ length es
 length_forked x g es = sym (long (forked x g es)) ∙ ap length (names_forked x g es) ∙ long es
 
-front_forked : (m : Measure) (x g : ℕ) (es : List OpenEntry) (d : ℕ) → HasScope x (names es) → front m (forked x g es) d ≡ front m es d + cond (ltb (position_of x (names es)) d) (m.subtask g) 0
+pub front_forked : (m : Measure) (x g : ℕ) (es : List OpenEntry) (d : ℕ) → HasScope x (names es) → front m (forked x g es) d ≡ front m es d + cond (ltb (position_of x (names es)) d) (m.subtask g) 0
 front_forked m x g [] d h = absurd h
 front_forked m x g (OpenBinding ∷ es) d (inl e) = absurd (cc)
 front_forked m x g (OpenBinding ∷ es) d (inr h) =

@@ -244,10 +244,10 @@ module _ (p : Program) (f : ℕ) (accepted : IsWellTyped p f) (some_code : 0 < l
   code = (routine p f).code
 
   -- the names of the one typestate of each place
-  abbrev names_here : ℕ → Names
+  abbrev pub names_here : ℕ → Names
   names_here pc = elim (cases_lt pc (length (routine p f).code)) [ inl lt ↦ names (accepted pc lt).state.entries | inr ge ↦ [] ]
 
-  names_right : NamesRight p f names_here
+  pub names_right : NamesRight p f names_here
   names_right pc s r = by (cases_lt pc (length (routine p f).code))
     where
       within : pc < length (routine p f).code

@@ -16,3 +16,4 @@ pub mod HandOn
 pub mod LastTurns
 pub mod Ready
 pub mod Found
+pub mod PathLaws

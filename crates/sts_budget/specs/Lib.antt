@@ -12,3 +12,4 @@ pub mod Ready
 pub mod Handing
 pub mod Last
 pub mod Outcome
+pub mod Laws
