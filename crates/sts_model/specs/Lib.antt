@@ -6,6 +6,7 @@ pub mod ControlPaths
 pub mod Edges
 pub mod Effect
 pub mod Environment
+pub mod Fits
 pub mod Flow
 pub mod Joining
 pub mod Live
@@ -13,6 +14,7 @@ pub mod Living
 pub mod Local
 pub mod Misuse
 pub mod Outside
+pub mod Promises
 pub mod Refusal
 pub mod Run
 pub mod Standing

@@ -30,5 +30,5 @@ abbrev pub IsRefusal : Program → ℕ → ℕ → Cause → Type 0
 IsRefusal p f pc c = (f < length p.routines) × IsUnsound p f pc c × ((earlier : ℕ) → earlier < f → IsSound p earlier)
 
 -- there is no such place
-abbrev pub IsAccepted : Program → Type 0
-IsAccepted p = (f : ℕ) → f < length p.routines → IsSound p f
+pub record IsAccepted (p : Program) : Type 0 where
+  pub sound : (f : ℕ) → f < length p.routines → IsSound p f

@@ -1,5 +1,10 @@
-//! Typestates, the edges of an instruction, and the typing of a function.
+//! The edges of an instruction, and the typing of a function.
 #![tactic(auto)]
 
-mod same;
-pub mod state;
+mod arrival;
+mod cause;
+pub mod edges;
+pub mod follow;
+mod leads;
+mod least;
+pub mod pass;

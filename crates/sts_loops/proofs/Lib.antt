@@ -1,0 +1,4 @@
+pub mod Counting
+pub mod Marking
+pub mod Matching
+pub mod Nesting

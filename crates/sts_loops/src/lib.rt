@@ -1,0 +1,6 @@
+//! The loops of a function's code: their ends, and which are around a place.
+#![tactic(auto)]
+
+pub mod ends;
+pub mod loops;
+mod tables;

@@ -1,0 +1,74 @@
+//! The tables of a function's loops, made once.
+
+ghost use Rattle.std.specs.Prelude.{◌≡◌, ◌≤◌, ◌<◌, ◌&&◌, length, map, replicate, nat_lt, nat_le, if◌then◌else◌, slice_index_or, IfOk, Some, None, ℕ, vec_len};
+ghost use Rattle.std.specs.List.{range_with_len};
+ghost use Rattle.sts_loops.specs.Tables as table;
+
+use crate::ends::{is_times, match_of};
+use crate::loops::Tables;
+use sts_code::instr::Instr;
+use std::alloc::{AllocError, Global};
+
+/// The match of a `times` at `at`, if there is one.
+fn end_at(code: &[Instr], at: usize) -> Option<u32>
+    requires short { length code.now ≤ 4096 }
+    requires inside { at < length code.now }
+    ensures { result ≡ table.end_at code.now at }
+{
+    if is_times(code[at]) {
+        match_of(code, at as u32)
+    } else {
+        None
+    }
+}
+
+/// The match of each `times`, by place.
+fn ends_of(alloc: Global, code: &[Instr]) -> Result<Vec<Option<u32>>, AllocError>
+    requires { length code.now ≤ 4096 }
+    ensures { IfOk result (λ ends. ends.items ≡ map (table.end_at code.now) (range_with_len 0 (length code.now))) }
+{
+    let mut ends = Vec::with_capacity(alloc, code.len())?;
+    for at in 0..code.len() {
+        ends.push(end_at(code, at))?;
+    }
+    Ok(ends)
+}
+
+/// No loop around any of so many places.
+fn no_heads(alloc: Global, places: usize) -> Result<Vec<Option<u32>>, AllocError>
+    ensures { IfOk result (λ heads. heads.items ≡ replicate places None) }
+{
+    let mut heads = Vec::with_capacity(alloc, places)?;
+    for _ in 0..places {
+        heads.push(None)?;
+    }
+    Ok(heads)
+}
+
+/// The loop at `at` is the innermost around the places after it, up to its match.
+fn mark(heads: &mut Vec<Option<u32>>, at: u32, end: u32)
+    requires inside { end < vec_len heads.old }
+    requires after { at ≤ end }
+    ensures len { vec_len heads.new ≡ vec_len heads.old }
+    ensures marked { (q : ℕ) → slice_index_or heads.new.items q None ≡ (if nat_lt at q && nat_le q end then Some at else slice_index_or heads.old.items q None) }
+{
+    for place in at as usize + 1..end as usize + 1 {
+        heads[place] = Some(at);
+    }
+}
+
+impl Tables {
+    pub fn new(alloc: Global, code: &[Instr]) -> Result<Tables, AllocError>
+        requires { length code.now ≤ 4096 }
+        ensures { IfOk result (table.AreTablesOf code.now) }
+    {
+        let ends = ends_of(alloc, code)?;
+        let mut heads = no_heads(alloc, code.len())?;
+        for at in 0..code.len() {
+            if let Some(end) = ends[at] {
+                mark(&mut heads, at as u32, end);
+            }
+        }
+        Ok(Tables { ends, heads })
+    }
+}

@@ -1,0 +1,8 @@
+//! Typestates: what they tell, and what instructions make of them.
+#![tactic(auto)]
+
+pub mod after;
+pub mod operands;
+mod same;
+pub mod slots;
+pub mod state;

@@ -1,0 +1,246 @@
+//! Tests of slots, scopes and entries of a typestate.
+
+ghost use Rattle.std.specs.Prelude.{◌≡◌, nat_le};
+ghost use Rattle.std.specs.List.{list_any};
+ghost use Rattle.sts_model.specs.Causes as def;
+ghost use Rattle.sts_model.specs.TypeState as typed;
+ghost use Rattle.sts_model.specs.Misuse as misuse;
+
+use crate::state::TypeState;
+use sts_code::instr::{Instr, Joiner};
+use sts_code::profile::Profile;
+use sts_model::stack::Stack;
+use sts_model::typing::{Known, SlotKind, TypedEntry, TypedLoop, TypedPhase, TypedScope};
+
+pub fn is_empty(kind: SlotKind) -> bool
+    ensures { result ≡ def.is_empty kind }
+{
+    matches!(kind, SlotKind::Empty)
+}
+
+pub fn is_own(kind: SlotKind) -> bool
+    ensures { result ≡ def.is_own kind }
+{
+    matches!(kind, SlotKind::Own)
+}
+
+pub fn is_lent(kind: SlotKind) -> bool
+    ensures { result ≡ def.is_lent kind }
+{
+    matches!(kind, SlotKind::Lent)
+}
+
+pub fn is_sub(kind: SlotKind) -> bool
+    ensures { result ≡ def.is_sub kind }
+{
+    matches!(kind, SlotKind::Sub(_, _))
+}
+
+impl TypeState {
+    /// What a slot holds.
+    pub fn kind(&self, slot: u8) -> SlotKind
+        ensures { result ≡ typed.kind self.now slot }
+    {
+        match self.slots.get(slot as usize) {
+            Some(kind) => *kind,
+            None => SlotKind::Empty,
+        }
+    }
+
+    /// The innermost scope in this slot.
+    pub fn scope_in(&self, slot: u8) -> Option<TypedScope>
+        ensures { result ≡ typed.scope_in self.now.entries slot }
+    {
+        scope_in(&self.entries, slot)
+    }
+}
+
+fn scope_in(entries: &Stack<TypedEntry, 16>, slot: u8) -> Option<TypedScope>
+    ensures { result ≡ typed.scope_in entries.now slot }
+{
+    for i in 0..entries.len() {
+        if let TypedEntry::Scope(scope) = entries.get_or(i, TypedEntry::Binding(0)) {
+            if scope.slot == slot {
+                return Some(scope);
+            }
+        }
+    }
+    None
+}
+
+/// The slot of an instruction that only the owner of a scope may do.
+pub fn owners_slot(instr: Instr) -> Option<u8>
+    ensures { result ≡ misuse.owners_slot instr }
+{
+    match instr {
+        Instr::Fork { slot, .. }
+        | Instr::Join { slot, .. }
+        | Instr::Close(slot)
+        | Instr::Tally(slot, _)
+        | Instr::Total(slot) => Some(slot),
+        _ => None,
+    }
+}
+
+/// The slot of an instruction on a subtask.
+pub fn subtask_slot(instr: Instr) -> Option<u8>
+    ensures { result ≡ misuse.subtask_slot instr }
+{
+    match instr {
+        Instr::Case { handle, .. }
+        | Instr::Get(handle)
+        | Instr::Except(handle)
+        | Instr::Forget(handle) => Some(handle),
+        _ => None,
+    }
+}
+
+/// The slot that an instruction fills.
+pub fn filled_slot(instr: Instr) -> Option<u8>
+    ensures { result ≡ misuse.filled_slot instr }
+{
+    match instr {
+        Instr::Open { slot, .. } => Some(slot),
+        Instr::Fork { handle, .. } => handle,
+        _ => None,
+    }
+}
+
+/// Can `join` fail under this joiner?
+pub fn can_fail(joiner: Joiner) -> bool
+    ensures { result ≡ misuse.can_fail joiner }
+{
+    matches!(
+        joiner,
+        Joiner::AllSucceed | Joiner::AwaitOk | Joiner::AnySucceeds
+    )
+}
+
+pub fn is_await_all(joiner: Joiner) -> bool
+    ensures { result ≡ misuse.is_await_all joiner }
+{
+    matches!(joiner, Joiner::AwaitAll)
+}
+
+pub fn is_opened(scope: TypedScope) -> bool
+    ensures { result ≡ def.is_opened scope }
+{
+    matches!(scope.phase, TypedPhase::Opened)
+}
+
+/// May `join` be done?
+pub fn can_join(scope: TypedScope) -> bool
+    ensures { result ≡ def.can_join scope }
+{
+    matches!(scope.phase, TypedPhase::Opened | TypedPhase::Attempted)
+}
+
+/// May the subtasks be read?
+pub fn is_readable(profile: Profile, scope: TypedScope) -> bool
+    ensures { result ≡ def.is_readable profile scope }
+{
+    match scope.phase {
+        TypedPhase::Joined => true,
+        TypedPhase::Late => matches!(profile, Profile::Two),
+        _ => false,
+    }
+}
+
+pub fn is_success(known: Known) -> bool
+    ensures { result ≡ def.is_success known }
+{
+    matches!(known, Known::Success)
+}
+
+pub fn is_failed(known: Known) -> bool
+    ensures { result ≡ def.is_failed known }
+{
+    matches!(known, Known::Failed)
+}
+
+pub fn is_binding(entry: TypedEntry) -> bool
+    ensures { result ≡ def.is_binding entry }
+{
+    matches!(entry, TypedEntry::Binding(_))
+}
+
+pub fn is_scope_in(slot: u8, entry: TypedEntry) -> bool
+    ensures { result ≡ def.is_scope_in slot entry }
+{
+    match entry {
+        TypedEntry::Binding(_) => false,
+        TypedEntry::Scope(scope) => scope.slot == slot,
+    }
+}
+
+pub fn binds(key: u8, entry: TypedEntry) -> bool
+    ensures { result ≡ def.binds key entry }
+{
+    match entry {
+        TypedEntry::Binding(bound) => bound == key,
+        TypedEntry::Scope(_) => false,
+    }
+}
+
+impl TypeState {
+    /// Does a binding come after the scope in this slot?
+    pub fn binds_after(&self, slot: u8) -> bool
+        ensures { result ≡ def.binds_after slot self.now.entries }
+    {
+        binds_after(&self.entries, slot)
+    }
+
+    /// Did the innermost entry stand at the `times` of an open loop?
+    pub fn is_held(&self) -> bool
+        ensures { result ≡ def.is_held self.now }
+    {
+        holds(&self.loops, self.entries.len())
+    }
+
+    /// Is a binding of this key in the structure list?
+    pub fn has_binding(&self, key: u8) -> bool
+        ensures { result ≡ list_any (def.binds key) self.now.entries }
+    {
+        has_binding(&self.entries, key)
+    }
+}
+
+/// Did the structure list have at least this length at the `times` of one of these loops?
+fn holds(loops: &Stack<TypedLoop, 8>, len: usize) -> bool
+    ensures { result ≡ list_any (λ l. nat_le len l.entries) loops.now }
+{
+    for i in 0..loops.len() {
+        let around = loops.get_or(i, TypedLoop::default());
+        if len <= around.entries as usize {
+            return true;
+        }
+    }
+    false
+}
+
+fn has_binding(entries: &Stack<TypedEntry, 16>, key: u8) -> bool
+    ensures { result ≡ list_any (def.binds key) entries.now }
+{
+    for i in 0..entries.len() {
+        if binds(key, entries.get_or(i, TypedEntry::Binding(0))) {
+            return true;
+        }
+    }
+    false
+}
+
+fn binds_after(entries: &Stack<TypedEntry, 16>, slot: u8) -> bool
+    ensures { result ≡ def.binds_after slot entries.now }
+{
+    for i in 0..entries.len() {
+        match entries.get_or(i, TypedEntry::Binding(0)) {
+            TypedEntry::Binding(_) => return true,
+            TypedEntry::Scope(scope) => {
+                if scope.slot == slot {
+                    return false;
+                }
+            }
+        }
+    }
+    false
+}

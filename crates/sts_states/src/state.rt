@@ -1,0 +1,106 @@
+//! Typestates.
+
+ghost use Rattle.std.specs.Prelude.{◌≡◌, ◌↔◌, ◌<◌, ◌≤◌, ◌+◌, ◌∷◌, IsTrue, length, drop, slice_set};
+ghost use Rattle.sts_model.specs.TypeState as def;
+
+use crate::same::{are_same_entries, are_same_loops, are_same_slots, copy_of_entries, copy_of_loops};
+use sts_code::program::Program;
+use sts_model::stack::Stack;
+use sts_model::typing::{SlotKind, TypedEntry, TypedLoop};
+use std::marker::Model;
+
+/// What the verifier knows of a task at an instruction: contracts see the number of operands, the open loops and the
+/// structure list, the innermost first, and what each slot holds.
+#[derive(Drop)]
+pub struct TypeState {
+    pub(crate) height: u8,
+    pub(crate) loops: Stack<TypedLoop, 8>,
+    pub(crate) entries: Stack<TypedEntry, 16>,
+    pub(crate) slots: [SlotKind; 16],
+}
+
+impl Model for TypeState {
+    ghost use Rattle.std.specs.Prelude.{◌≤◌};
+    ghost use Rattle.sts_model.specs.TypeState.{TypeState};
+
+    ghost Value = { TypeState };
+
+    ghost view = { λ s. record { height = s.height; loops = s.loops; entries = s.entries; slots = s.slots } };
+
+    ghost invariant = { λ s. s.height ≤ 32 };
+}
+
+impl Default for TypeState {
+    /// Nothing is open, and each slot is empty.
+    fn default() -> TypeState {
+        TypeState {
+            height: 0,
+            loops: Stack::new(),
+            entries: Stack::new(),
+            slots: [SlotKind::Empty; 16],
+        }
+    }
+}
+
+impl TypeState {
+    /// A copy, which takes no memory.
+    pub fn copy(&self) -> TypeState
+        ensures { result ≡ self.now }
+    {
+        TypeState {
+            height: self.height,
+            loops: copy_of_loops(&self.loops),
+            entries: copy_of_entries(&self.entries),
+            slots: self.slots,
+        }
+    }
+
+    /// The number of operands.
+    pub fn height(&self) -> u8
+        ensures value { result ≡ self.now.height }
+        ensures few { result ≤ 32 }
+    {
+        self.height
+    }
+
+    /// The open loops.
+    pub fn loops(&self) -> &Stack<TypedLoop, 8>
+        ensures { result.now ≡ self.now.loops }
+    {
+        &self.loops
+    }
+
+    /// The structure list.
+    pub fn entries(&self) -> &Stack<TypedEntry, 16>
+        ensures { result.now ≡ self.now.entries }
+    {
+        &self.entries
+    }
+
+    /// Are all parts of the two the same?
+    pub fn is_same(&self, other: &TypeState) -> bool
+        ensures { IsTrue result ↔ (self.now ≡ other.now) }
+    {
+        self.height == other.height
+            && are_same_loops(&self.loops, &other.loops)
+            && are_same_entries(&self.entries, &other.entries)
+            && are_same_slots(&self.slots, &other.slots)
+    }
+}
+
+/// The typestate at the beginning of a function, which has to be one of the program's.
+pub fn entry(program: &Program, function: u32) -> TypeState
+    requires { function < length program.now.routines }
+    ensures { result ≡ def.entry program.now function }
+{
+    let mut slots = [SlotKind::Empty; 16];
+    if function as usize + 1 != program.functions().len() {
+        slots[0] = SlotKind::Lent;
+    }
+    TypeState {
+        height: 0,
+        loops: Stack::new(),
+        entries: Stack::new(),
+        slots,
+    }
+}

@@ -1,0 +1,34 @@
+-- Typestates arrive one after the other.
+use Rattle.std.proofs.Common.{◌≡◌, ℕ, zero, suc, ◌+◌, ◌<◌, List, [], ◌∷◌, ◌++◌, length, take, get_or, set, Option, Some, slice_get, inl, inr, refl, sym, ap, ◌∙◌, subst, arith}
+use Rattle.std.specs.List.{All}
+use Rattle.std.proofs.lemmas.Option.{slice_get_within, get_or_from_slice_get}
+use Rattle.sts_model.specs.Flow.{Leads}
+use Rattle.sts_types.specs.declared.arrival.Arrival.{Arrival}
+use Rattle.sts_types.specs.declared.arrival.Arrival.TheVariants.{Nothing, One, Several}
+use Rattle.sts_types.specs.Arrivals.{Merged, Arrive}
+use Rattle.sts_types.proofs.FollowLemmas.{take_there}
+
+module _ {S : Type 0} where
+  arrive_push : (es : List (ℕ × S)) (table now : List (Arrival S)) (e : ℕ × S) (b : Arrival S) → Arrive table es now → Merged (get_or now e.0 Nothing) e.1 b → Arrive table (es ++ e ∷ []) (set now e.0 b)
+  arrive_push [] table now e b h m = (b, (subst (λ t. Merged (get_or t e.0 Nothing) e.1 b) h m, ap (λ t. set t e.0 b) h))
+  arrive_push (x ∷ es) table now e b h m = (h.0, (h.1.0, arrive_push es _ now e b h.1.1 m))
+
+  -- one more has arrived
+  pub arrive_next : (out : List (ℕ × S)) (table now after : List (Arrival S)) (k to : ℕ) (s : S) (b : Arrival S) → Arrive table (take k out) now → slice_get out k ≡ Some (to, s) → Merged (get_or now to Nothing) s b → after ≡ set now to b → Arrive table (take (k + 1) out) after
+  arrive_next out table now after k to s b h there m is =
+      subst (λ t. Arrive table (take (k + 1) out) t) (sym is) (subst (λ es. Arrive table es (set now to b)) (sym (take_there out k (to, s) there)) (arrive_push (take k out) table now (to, s) b h m))
+
+  -- the place of an edge
+  pub place_within : (out : List (ℕ × S)) (k to n : ℕ) (s : S) → slice_get out k ≡ Some (to, s) → All (λ e. e.0 < n) out → to < n
+  place_within out k to n s there all =
+      let h = all k (to, s) (slice_get_within out k (to, s) there) in
+      subst (λ (e : ℕ × S). e.0 < n) (get_or_from_slice_get out k (to, s) (to, s) there) h
+
+  leads_at : (out : List (ℕ × S)) (k : ℕ) (d : ℕ × S) → k < length out → Leads out (get_or out k d).0 (get_or out k d).1
+  leads_at [] k d h = absurd (omega arith)
+  leads_at (e ∷ es) zero d h = inl (refl, refl)
+  leads_at (e ∷ es) (suc k) d h = inr (leads_at es k d (omega arith))
+
+  -- what is said of each edge
+  pub all_places : (out : List (ℕ × S)) (n : ℕ) → ((to : ℕ) (s : S) → Leads out to s → to < n) → All (λ e. e.0 < n) out
+  all_places out n h k d lt = h _ _ (leads_at out k d lt)

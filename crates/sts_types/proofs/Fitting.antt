@@ -1,0 +1,112 @@
+-- What it means that no cause is found.
+use Rattle.std.proofs.Common.{◌≡◌, ℕ, Bool, true, false, Option, Some, None, cond, refl, ap, ◌∙◌, is_some, List}
+use Rattle.sts_code.specs.Program.{Program, routine}
+use Rattle.sts_code.specs.declared.instr.Instr.{Instr}
+use Rattle.sts_model.specs.declared.typing.Cause.{Cause}
+use Rattle.sts_model.specs.declared.typing.Cause.TheVariants.{StackUnder, StackOver, FallsOff, BackJump, LoopMismatch, LoopDepth, SlotKind, SlotBusy, WrongThread, IllegalState, Structure, Nesting, Unbound, JoinEdges}
+use Rattle.sts_model.specs.TypeState.{TypeState}
+use Rattle.sts_model.specs.Causes.{holds, least_cause}
+use Rattle.sts_model.specs.Causes as test
+use Rattle.sts_model.specs.Fits.{Fits}
+
+-- where the first is not found, the rest is looked through
+none_here : (b : Bool) (c : Cause) (rest : Option Cause) → cond b (Some c) rest ≡ None → (b ≡ false) × (rest ≡ None)
+none_here true c rest e = cc
+none_here false c rest e = (refl, e)
+
+pub fits : (p : Program) (f pc : ℕ) (i : Instr) (s : TypeState) → least_cause p f pc i s ≡ None → Fits p f pc i s
+fits p f pc i s e =
+    let t = holds p f pc i s in
+    let a = none_here (t StackUnder) StackUnder _ e in
+    let b = none_here (t StackOver) StackOver _ a.1 in
+    let c = none_here (t FallsOff) FallsOff _ b.1 in
+    let d = none_here (t BackJump) BackJump _ c.1 in
+    let g = none_here (t LoopMismatch) LoopMismatch _ d.1 in
+    let h = none_here (t LoopDepth) LoopDepth _ g.1 in
+    let j = none_here (t SlotKind) SlotKind _ h.1 in
+    let k = none_here (t SlotBusy) SlotBusy _ j.1 in
+    let l = none_here (t WrongThread) WrongThread _ k.1 in
+    let m = none_here (t IllegalState) IllegalState _ l.1 in
+    let n = none_here (t Structure) Structure _ m.1 in
+    let o = none_here (t Nesting) Nesting _ n.1 in
+    let q = none_here (t Unbound) Unbound _ o.1 in
+    let r = none_here (t JoinEdges) JoinEdges _ q.1 in
+    record {
+      operands = a.0;
+      room = b.0;
+      inside = c.0;
+      forward = d.0;
+      loops = g.0;
+      depth = h.0;
+      slots = j.0;
+      free = k.0;
+      own = l.0;
+      legal = m.0;
+      structure = n.0;
+      nesting = o.0;
+      bound = q.0;
+      joins = r.0;
+    }
+
+-- ---- the least cause, found in parts
+
+-- the first of three that holds
+abbrev pub one_of : (x y z : Bool) (a b c : Cause) → Option Cause → Option Cause
+one_of x y z a b c rest = cond x (Some a) (cond y (Some b) (cond z (Some c) rest))
+
+-- it is the answer where it is found
+pub found : (x y z : Bool) (a b c : Cause) (o rest : Option Cause) → o ≡ one_of x y z a b c None → is_some o ≡ true → o ≡ one_of x y z a b c rest
+found true y z a b c o rest e t = e
+found false true z a b c o rest e t = e
+found false false true a b c o rest e t = e
+found false false false a b c o rest e t = let no : is_some o ≡ false = ap is_some e in cc
+
+-- and else the rest is
+pub missed : (x y z : Bool) (a b c : Cause) (o rest : Option Cause) → o ≡ one_of x y z a b c None → is_some o ≡ false → rest ≡ one_of x y z a b c rest
+missed true y z a b c o rest e f = let yes : is_some o ≡ true = ap is_some e in cc
+missed false true z a b c o rest e f = let yes : is_some o ≡ true = ap is_some e in cc
+missed false false true a b c o rest e f = let yes : is_some o ≡ true = ap is_some e in cc
+missed false false false a b c o rest e f = refl
+
+pub past : (b : Bool) (c : Cause) (rest : Option Cause) → b ≡ false → rest ≡ cond b (Some c) rest
+past true c rest e = cc
+past false c rest e = refl
+
+module _ (p : Program) (f pc : ℕ) (i : Instr) (s : TypeState) where
+  -- the least cause from V3 to V5, if one holds there
+  abbrev pub lead : List Instr → Option Cause → Option Cause
+  lead code rest = one_of (test.falls_off code pc i) (test.jumps_back pc i) (test.mismatches code pc i s) FallsOff BackJump LoopMismatch rest
+
+  -- the same from V9 to V11
+  abbrev pub slot : Option Cause → Option Cause
+  slot rest = one_of (test.has_wrong_slot i s) (test.has_busy_slot i s) (test.is_strangers i s) SlotKind SlotBusy WrongThread rest
+
+  abbrev pub late : Option Cause
+  late = one_of (test.is_nested i s) (test.is_unbound p f i s) (test.misjoins i s) Nesting Unbound JoinEdges None
+
+  abbrev pub after_slots : Option Cause
+  after_slots = cond (test.is_illegal p.profile i s) (Some IllegalState) (cond (test.breaks_structure i s) (Some Structure) late)
+
+  abbrev pub after_leads : Option Cause
+  after_leads = cond (test.is_too_deep i s) (Some LoopDepth) (slot after_slots)
+
+  module _ (code : List Instr) (is : code ≡ (routine p f).code) (some_operands : test.lacks_operands p i s ≡ false) (room : test.overflows p i s ≡ false) (o : Option Cause) (e : o ≡ lead code None) where
+    lead_is : o ≡ lead (routine p f).code None
+    lead_is = e ∙ ap (λ c. lead c None) is
+
+    first_two : (rest : Option Cause) → rest ≡ cond (test.lacks_operands p i s) (Some StackUnder) (cond (test.overflows p i s) (Some StackOver) rest)
+    first_two rest = past _ StackOver rest room ∙ past _ StackUnder _ some_operands
+
+    pub lead_found : is_some o ≡ true → o ≡ least_cause p f pc i s
+    lead_found t = found _ _ _ FallsOff BackJump LoopMismatch o after_leads lead_is t ∙ first_two (lead (routine p f).code after_leads)
+
+    lead_missed : is_some o ≡ false → after_leads ≡ least_cause p f pc i s
+    lead_missed t = missed _ _ _ FallsOff BackJump LoopMismatch o after_leads lead_is t ∙ first_two (lead (routine p f).code after_leads)
+
+    module _ (none : is_some o ≡ false) (flat : test.is_too_deep i s ≡ false) (o' : Option Cause) (e' : o' ≡ slot None) where
+      pub slot_found : is_some o' ≡ true → o' ≡ least_cause p f pc i s
+      slot_found t = found _ _ _ SlotKind SlotBusy WrongThread o' after_slots e' t ∙ past _ LoopDepth (slot after_slots) flat ∙ lead_missed none
+
+      pub slot_missed : is_some o' ≡ false → test.is_illegal p.profile i s ≡ false → test.breaks_structure i s ≡ false → late ≡ least_cause p f pc i s
+      slot_missed t legal ordered =
+          past _ Structure late ordered ∙ past _ IllegalState _ legal ∙ missed _ _ _ SlotKind SlotBusy WrongThread o' after_slots e' t ∙ past _ LoopDepth (slot after_slots) flat ∙ lead_missed none

@@ -1,0 +1,8 @@
+use Rattle.sts_model.specs.Edges.{typing}
+use Rattle.sts_model.specs.Refusal.{size}
+use Rattle.sts_types.proofs.Passing.{Passed}
+use Rattle.sts_types.proofs.pass.type_function.Given as goal
+
+-- what has arrived is in the table, and the places so far have no cause
+abbrev pub invariant-loop-pc : goal.invariant-loop-pc
+invariant-loop-pc l = Passed (typing l.program l.function) (size l.program l.function) l.table.items l.pc

@@ -1,0 +1,9 @@
+//! What has arrived at a place.
+
+/// No state, one, or two that differ.
+#[derive(Drop)]
+pub(crate) enum Arrival<S> {
+    Nothing,
+    One(S),
+    Several,
+}

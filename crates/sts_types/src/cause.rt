@@ -1,0 +1,294 @@
+//! The causes of a refusal that are read off one instruction and one typestate, each a test.
+
+ghost use Rattle.std.specs.Prelude.{◌≡◌, not, ◌&&◌, ◌||◌, is_some};
+ghost use Rattle.std.specs.List.{list_any, range_with_len};
+ghost use Rattle.sts_model.specs.Causes as def;
+ghost use Rattle.sts_model.specs.Misuse as misuse;
+
+use sts_states::operands::{pops, pushes};
+use sts_states::slots::{
+    can_fail, can_join, filled_slot, is_await_all, is_binding, is_empty, is_failed, is_lent,
+    is_opened, is_own, is_readable, is_scope_in, is_sub, is_success, owners_slot, subtask_slot,
+};
+use sts_states::state::TypeState;
+use sts_code::instr::Instr;
+use sts_code::profile::Profile;
+use sts_code::program::Program;
+use sts_model::typing::{SlotKind, TypedEntry, TypedScope};
+
+// ---- V1, V2 and V6
+
+pub(crate) fn lacks_operands(program: &Program, instr: Instr, state: &TypeState) -> bool
+    ensures { result ≡ def.lacks_operands program.now instr state.now }
+{
+    state.height() < pops(program, instr)
+}
+
+/// Does the answer of this scope's `join` take room?
+fn answers(scope: Option<TypedScope>) -> bool
+    ensures { result ≡ def.passes (λ scope. not (misuse.is_await_all scope.joiner)) scope }
+{
+    match scope {
+        None => false,
+        Some(scope) => !is_await_all(scope.joiner),
+    }
+}
+
+fn join_overflows(state: &TypeState, instr: Instr) -> bool
+    ensures { result ≡ def.join_overflows state.now instr }
+{
+    match instr {
+        Instr::Join { slot, .. } => {
+            32 <= state.height() && is_own(state.kind(slot)) && answers(state.scope_in(slot))
+        }
+        _ => false,
+    }
+}
+
+pub(crate) fn overflows(program: &Program, instr: Instr, state: &TypeState) -> bool
+    ensures { result ≡ def.overflows program.now instr state.now }
+{
+    let left = state.height().saturating_sub(pops(program, instr));
+    32 < left + pushes(instr) || join_overflows(state, instr)
+}
+
+pub(crate) fn is_too_deep(instr: Instr, state: &TypeState) -> bool
+    ensures { result ≡ def.is_too_deep instr state.now }
+{
+    matches!(instr, Instr::Times(_)) && 8 <= state.loops().len()
+}
+
+// ---- V9 to V11
+
+/// Does the slot that only an owner may use hold no scope?
+fn has_no_scope(instr: Instr, state: &TypeState) -> bool
+    ensures { result ≡ def.at_slot state.now (misuse.owners_slot instr) (λ k. not (def.is_own k || def.is_lent k)) }
+{
+    match owners_slot(instr) {
+        None => false,
+        Some(slot) => {
+            let kind = state.kind(slot);
+            !(is_own(kind) || is_lent(kind))
+        }
+    }
+}
+
+fn has_no_subtask(instr: Instr, state: &TypeState) -> bool
+    ensures { result ≡ def.at_slot state.now (misuse.subtask_slot instr) (λ k. not (def.is_sub k)) }
+{
+    match subtask_slot(instr) {
+        None => false,
+        Some(slot) => !is_sub(state.kind(slot)),
+    }
+}
+
+pub(crate) fn has_wrong_slot(instr: Instr, state: &TypeState) -> bool
+    ensures { result ≡ def.has_wrong_slot instr state.now }
+{
+    match instr {
+        Instr::Cancelled(slot) => {
+            let kind = state.kind(slot);
+            !(is_own(kind) || is_lent(kind))
+        }
+        _ => has_no_scope(instr, state) || has_no_subtask(instr, state),
+    }
+}
+
+pub(crate) fn has_busy_slot(instr: Instr, state: &TypeState) -> bool
+    ensures { result ≡ def.has_busy_slot instr state.now }
+{
+    match filled_slot(instr) {
+        None => false,
+        Some(slot) => !is_empty(state.kind(slot)),
+    }
+}
+
+pub(crate) fn is_strangers(instr: Instr, state: &TypeState) -> bool
+    ensures { result ≡ def.is_strangers instr state.now }
+{
+    match owners_slot(instr) {
+        None => false,
+        Some(slot) => is_lent(state.kind(slot)),
+    }
+}
+
+// ---- V12
+
+fn may_fork(scope: Option<TypedScope>) -> bool
+    ensures { result ≡ def.passes def.is_opened scope }
+{
+    match scope {
+        None => false,
+        Some(scope) => is_opened(scope),
+    }
+}
+
+fn may_join(scope: Option<TypedScope>) -> bool
+    ensures { result ≡ def.passes def.can_join scope }
+{
+    match scope {
+        None => false,
+        Some(scope) => can_join(scope),
+    }
+}
+
+fn may_read(profile: Profile, scope: Option<TypedScope>) -> bool
+    ensures { result ≡ def.passes (def.is_readable profile) scope }
+{
+    match scope {
+        None => false,
+        Some(scope) => is_readable(profile, scope),
+    }
+}
+
+fn is_illegal_get(profile: Profile, state: &TypeState, handle: u8) -> bool
+    ensures { result ≡ def.is_illegal profile (Instr.Get handle) state.now }
+{
+    match state.kind(handle) {
+        SlotKind::Sub(slot, known) => {
+            !(may_read(profile, state.scope_in(slot)) && is_success(known))
+        }
+        _ => false,
+    }
+}
+
+fn is_illegal_except(profile: Profile, state: &TypeState, handle: u8) -> bool
+    ensures { result ≡ def.is_illegal profile (Instr.Except handle) state.now }
+{
+    match state.kind(handle) {
+        SlotKind::Sub(slot, known) => {
+            !(may_read(profile, state.scope_in(slot)) && is_failed(known))
+        }
+        _ => false,
+    }
+}
+
+pub(crate) fn is_illegal(profile: Profile, instr: Instr, state: &TypeState) -> bool
+    ensures { result ≡ def.is_illegal profile instr state.now }
+{
+    match instr {
+        Instr::Fork { slot, .. } => is_own(state.kind(slot)) && !may_fork(state.scope_in(slot)),
+        Instr::Join { slot, .. } => is_own(state.kind(slot)) && !may_join(state.scope_in(slot)),
+        Instr::Close(slot) => is_own(state.kind(slot)) && may_fork(state.scope_in(slot)),
+        Instr::Tally(slot, _) | Instr::Total(slot) => {
+            is_own(state.kind(slot)) && !may_read(profile, state.scope_in(slot))
+        }
+        Instr::Get(handle) => is_illegal_get(profile, state, handle),
+        Instr::Except(handle) => is_illegal_except(profile, state, handle),
+        _ => false,
+    }
+}
+
+// ---- V13 to V16
+
+fn is_innermost(state: &TypeState, slot: u8) -> bool
+    ensures { result ≡ def.innermost (def.is_scope_in slot) state.now.entries }
+{
+    match state.entries().get(0) {
+        None => false,
+        Some(entry) => is_scope_in(slot, entry),
+    }
+}
+
+fn has_binding_innermost(state: &TypeState) -> bool
+    ensures { result ≡ def.innermost def.is_binding state.now.entries }
+{
+    match state.entries().get(0) {
+        None => false,
+        Some(entry) => is_binding(entry),
+    }
+}
+
+pub(crate) fn breaks_structure(instr: Instr, state: &TypeState) -> bool
+    ensures { result ≡ def.breaks_structure instr state.now }
+{
+    match instr {
+        Instr::Fork { slot, .. } => is_own(state.kind(slot)) && state.binds_after(slot),
+        Instr::Close(slot) => {
+            is_own(state.kind(slot)) && (!is_innermost(state, slot) || state.is_held())
+        }
+        Instr::Unbind => !has_binding_innermost(state) || state.is_held(),
+        Instr::Ret | Instr::Fail => 0 < state.entries().len(),
+        _ => false,
+    }
+}
+
+pub(crate) fn is_nested(instr: Instr, state: &TypeState) -> bool
+    ensures { result ≡ def.is_nested instr state.now }
+{
+    matches!(instr, Instr::Open { .. } | Instr::Bind(_)) && 16 <= state.entries().len()
+}
+
+fn needs(program: &Program, function: u32, key: u8) -> bool
+    ensures { result ≡ def.needs program.now function key }
+{
+    match program.functions().get(function as usize) {
+        None => false,
+        Some(f) => match f.needs.get(key as usize) {
+            None => false,
+            Some(needed) => *needed,
+        },
+    }
+}
+
+fn is_bound(program: &Program, function: u32, state: &TypeState, key: u8) -> bool
+    ensures { result ≡ def.is_bound program.now function state.now key }
+{
+    state.has_binding(key) || needs(program, function, key)
+}
+
+/// Does the child need this key, which may be unbound here?
+fn lacks(program: &Program, function: u32, child: u32, state: &TypeState, key: u8) -> bool
+    ensures { result ≡ (def.needs program.now child key && not (def.is_bound program.now function state.now key)) }
+{
+    needs(program, child, key) && !is_bound(program, function, state, key)
+}
+
+fn lacks_key(program: &Program, function: u32, child: u32, state: &TypeState) -> bool
+    ensures { result ≡ list_any (λ k. def.needs program.now child k && not (def.is_bound program.now function state.now k)) (range_with_len 0 16) }
+{
+    for key in 0..16u8 {
+        if lacks(program, function, child, state, key) {
+            return true;
+        }
+    }
+    false
+}
+
+pub(crate) fn is_unbound(program: &Program, function: u32, instr: Instr, state: &TypeState) -> bool
+    ensures { result ≡ def.is_unbound program.now function instr state.now }
+{
+    match instr {
+        Instr::Read(key) => !is_bound(program, function, state, key),
+        Instr::Fork {
+            function: child, ..
+        } => lacks_key(program, function, child, state),
+        _ => false,
+    }
+}
+
+/// Do the targets not fit the scope?
+fn misfits(failed: Option<u32>, timeout: Option<u32>, scope: Option<TypedScope>) -> bool
+    ensures { result ≡ def.passes (λ scope. not (misuse.same (is_some failed) (misuse.can_fail scope.joiner)) || not (misuse.same (is_some timeout) scope.timed)) scope }
+{
+    match scope {
+        None => false,
+        Some(scope) => {
+            failed.is_some() != can_fail(scope.joiner) || timeout.is_some() != scope.timed
+        }
+    }
+}
+
+pub(crate) fn misjoins(instr: Instr, state: &TypeState) -> bool
+    ensures { result ≡ def.misjoins instr state.now }
+{
+    match instr {
+        Instr::Join {
+            slot,
+            failed,
+            timeout,
+            ..
+        } => is_own(state.kind(slot)) && misfits(failed, timeout, state.scope_in(slot)),
+        _ => false,
+    }
+}

@@ -1,0 +1,45 @@
+//! The edges of an instruction, or the least cause that holds there.
+
+ghost use Rattle.std.specs.Prelude.{◌≡◌, ◌<◌, ◌≤◌, length, MatchResult, Ok, Err};
+ghost use Rattle.sts_code.specs.Program.{routine};
+ghost use Rattle.sts_model.specs.Edges as def;
+ghost use Rattle.sts_model.specs.Refusal.{size};
+
+use crate::follow::{Edges, all_edges};
+use crate::leads::skip;
+use crate::least::least_cause;
+use sts_loops::loops::CodeLoops;
+use sts_states::state::TypeState;
+use sts_code::instr::Instr;
+use sts_code::program::Program;
+use sts_model::typing::Cause;
+
+/// The instructions of a function.
+pub(crate) fn code_of(program: &Program, function: u32) -> &[Instr]
+    ensures value { result.now ≡ (routine program.now function).code }
+    ensures short { length result.now ≤ 4096 }
+    ensures some { function < length program.now.routines → 0 < length result.now }
+{
+    match program.functions().get(function as usize) {
+        Some(f) => f.code.as_slice(),
+        None => &[],
+    }
+}
+
+/// The edges of the instruction at a place of one of the program's functions, or the least cause that holds there.
+///
+/// Causes that compare typestates or look for dead code aren't tested: they speak of a whole function.
+pub fn edges(program: &Program, function: u32, pc: u32, state: &TypeState) -> Result<Edges, Cause>
+    requires function { function < length program.now.routines }
+    requires pc { pc < size program.now function }
+    ensures { MatchResult result (λ edges. def.edges program.now function pc state.now ≡ Ok edges) (λ cause. def.edges program.now function pc state.now ≡ Err cause) }
+{
+    let code = code_of(program, function);
+    let loops = CodeLoops::new(code);
+    let instr = code[pc as usize];
+    let skip = skip(&loops, pc, instr);
+    match least_cause(program, function, &loops, pc, instr, state, skip) {
+        Some(cause) => Err(cause),
+        None => Ok(all_edges(program, &loops, pc, instr, state, skip)),
+    }
+}

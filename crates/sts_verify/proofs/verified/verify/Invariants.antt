@@ -1,0 +1,7 @@
+use Rattle.std.proofs.Common.{◌<◌, ℕ}
+use Rattle.sts_model.specs.Refusal.{IsSound}
+use Rattle.sts_verify.proofs.verified.verify.Given as goal
+
+-- no place of the functions so far has a cause
+abbrev pub invariant-loop-function : goal.invariant-loop-function
+invariant-loop-function l = (f : ℕ) → f < l.function → IsSound l.program f

@@ -1,0 +1,18 @@
+//! Why a program is not verified.
+
+use sts_code::program::Program;
+use sts_model::typing::Cause;
+
+/// Why a program is not verified. The program is given back.
+#[derive(Drop)]
+pub enum VerifyError {
+    /// Memory was refused.
+    Memory(Program),
+    /// The least place with a cause, function by function, and the least cause there.
+    Refused {
+        program: Program,
+        function: u32,
+        pc: u32,
+        cause: Cause,
+    },
+}
