@@ -3,8 +3,10 @@ use Rattle.std.proofs.Common.{◌≡◌, ℕ, ◌<◌, ◌≤◌, List, Result, 
 use Rattle.std.specs.Result.{IsErrAnd}
 use Rattle.sts_code.specs.declared.instr.Instr.{Instr}
 use Rattle.sts_model.specs.declared.budget.Budgets.{Budgets}
+use Rattle.sts_model.specs.declared.typing.Cause.{Cause}
+use Rattle.sts_model.specs.declared.typing.Cause.TheVariants as cause
 use Rattle.sts_model.specs.Causes.{cause_number}
-use Rattle.sts_model.specs.Budget.{Exceeds, IsBudget, IsLeastExcess}
+use Rattle.sts_model.specs.Budget.{Exceeds, IsLeastExcess}
 use Rattle.sts_budget.specs.declared.effect.Kind.{Kind}
 use Rattle.sts_budget.specs.declared.effect.Kind.TheVariants.{Steps, Tasks, Scopes, Binds}
 use Rattle.sts_budget.specs.declared.budget.BudgetError.{BudgetError}
@@ -52,5 +54,27 @@ found_error k earlier code code' same before (TooMuch c) h (Err x) a =
     let least = least_excess k earlier code h.1 before in
     subst (λ y. IsFound earlier code' (Err y)) (sym a) (subst (λ xs. IsLeastExcess earlier xs c) same (subst (IsLeastExcess earlier code) (sym h.0) least))
 
-pub found_all : (earlier : List Budgets) (code code' : List Instr) → code ≡ code' → (s t o b : ℕ) → IsWithin Steps earlier code s → IsWithin Tasks earlier code t → IsWithin Scopes earlier code o → IsWithin Binds earlier code b → IsBudget earlier code' (record { steps = s; tasks = t; scopes = o; binds = b })
-found_all earlier code code' same s t o b hs ht ho hb = subst (λ xs. IsBudget earlier xs (record { steps = s; tasks = t; scopes = o; binds = b })) same (record { steps = hs.0; tasks = ht.0; scopes = ho.0; binds = hb.0 })
+none_exceeds : (earlier : List Budgets) (code : List Instr) (s t o b : ℕ) → IsWithin Steps earlier code s → IsWithin Tasks earlier code t → IsWithin Scopes earlier code o → IsWithin Binds earlier code b → (c : Cause) → Exceeds earlier code c → ⊥
+none_exceeds earlier code s t o b hs ht ho hb cause.StackUnder e = e
+none_exceeds earlier code s t o b hs ht ho hb cause.StackOver e = e
+none_exceeds earlier code s t o b hs ht ho hb cause.FallsOff e = e
+none_exceeds earlier code s t o b hs ht ho hb cause.BackJump e = e
+none_exceeds earlier code s t o b hs ht ho hb cause.LoopMismatch e = e
+none_exceeds earlier code s t o b hs ht ho hb cause.LoopDepth e = e
+none_exceeds earlier code s t o b hs ht ho hb cause.StatesDiffer e = e
+none_exceeds earlier code s t o b hs ht ho hb cause.DeadCode e = e
+none_exceeds earlier code s t o b hs ht ho hb cause.SlotKind e = e
+none_exceeds earlier code s t o b hs ht ho hb cause.SlotBusy e = e
+none_exceeds earlier code s t o b hs ht ho hb cause.WrongThread e = e
+none_exceeds earlier code s t o b hs ht ho hb cause.IllegalState e = e
+none_exceeds earlier code s t o b hs ht ho hb cause.Structure e = e
+none_exceeds earlier code s t o b hs ht ho hb cause.Nesting e = e
+none_exceeds earlier code s t o b hs ht ho hb cause.Unbound e = e
+none_exceeds earlier code s t o b hs ht ho hb cause.JoinEdges e = e
+none_exceeds earlier code s t o b hs ht ho hb cause.TooManySteps e = no_excess Steps earlier code s hs.0 hs.1 e
+none_exceeds earlier code s t o b hs ht ho hb cause.TooManyTasks e = no_excess Tasks earlier code t ht.0 ht.1 e
+none_exceeds earlier code s t o b hs ht ho hb cause.TooManyScopes e = no_excess Scopes earlier code o ho.0 ho.1 e
+none_exceeds earlier code s t o b hs ht ho hb cause.TooManyBinds e = no_excess Binds earlier code b hb.0 hb.1 e
+
+pub found_all : (earlier : List Budgets) (code code' : List Instr) → code ≡ code' → (s t o b : ℕ) → IsWithin Steps earlier code s → IsWithin Tasks earlier code t → IsWithin Scopes earlier code o → IsWithin Binds earlier code b → IsFound earlier code' (Ok (record { steps = s; tasks = t; scopes = o; binds = b }))
+found_all earlier code code' same s t o b hs ht ho hb = subst (λ xs. IsFound earlier xs (Ok (record { steps = s; tasks = t; scopes = o; binds = b }))) same (record { steps = hs.0; tasks = ht.0; scopes = ho.0; binds = hb.0 }, none_exceeds earlier code s t o b hs ht ho hb)

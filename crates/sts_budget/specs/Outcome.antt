@@ -1,6 +1,7 @@
 -- What the search for the budgets of a function answers (this project's own).
 use Rattle.std.specs.Prelude.{◌≡◌, ◌≤◌, ℕ, List, Result, Ok, Err}
 use Rattle.sts_code.specs.declared.instr.Instr.{Instr}
+use Rattle.sts_model.specs.declared.typing.Cause.{Cause}
 use Rattle.sts_model.specs.declared.budget.Budgets.{Budgets}
 use Rattle.sts_model.specs.Budget.{IsBudget, IsLeastExcess, Exceeds}
 use Rattle.sts_budget.specs.declared.effect.Kind.{Kind}
@@ -8,9 +9,9 @@ use Rattle.sts_budget.specs.Effect.{cause_of, limit_of, IsMost}
 use Rattle.sts_budget.specs.declared.budget.BudgetError.{BudgetError}
 use Rattle.sts_budget.specs.declared.budget.BudgetError.TheVariants.{Memory, TooMuch}
 
--- the budgets; or the least cause by which one passes its limit, if there was memory
+-- the budgets, none of which passes its limit; or the least cause by which one does, if there was memory
 abbrev pub IsFound : List Budgets → List Instr → Result Budgets BudgetError → Type 0
-IsFound earlier code (Ok b) = IsBudget earlier code b
+IsFound earlier code (Ok b) = IsBudget earlier code b × ((c : Cause) → ¬ Exceeds earlier code c)
 IsFound earlier code (Err (TooMuch c)) = IsLeastExcess earlier code c
 IsFound earlier code (Err Memory) = Unit {0}
 
