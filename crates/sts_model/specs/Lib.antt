@@ -1,6 +1,8 @@
 pub mod Around
+pub mod Budget
 pub mod Cancelling
 pub mod Causes
+pub mod ControlPaths
 pub mod Edges
 pub mod Effect
 pub mod Environment

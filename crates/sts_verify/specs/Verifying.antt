@@ -1,7 +1,9 @@
 -- What the verifier tells (this project's own).
 use Rattle.std.specs.Prelude.{◌≡◌, ℕ}
 use Rattle.sts_code.specs.Program.{Program}
-use Rattle.sts_model.specs.Refusal.{IsRefusal}
+use Rattle.sts_budget.specs.declared.budget.BudgetError.{BudgetError}
+use Rattle.sts_budget.specs.declared.budget.BudgetError.TheVariants as budgets
+use Rattle.sts_model.specs.Refusal.{IsRefusal, IsUnsound}
 use Rattle.sts_types.specs.declared.pass.TypeError.{TypeError}
 use Rattle.sts_types.specs.declared.pass.TypeError.TheVariants as typing
 use Rattle.sts_verify.specs.declared.error.VerifyError.{VerifyError}
@@ -16,3 +18,13 @@ Tells given (Refused p f pc cause) = (p ≡ given) × IsRefusal given f pc cause
 abbrev pub told : Program → ℕ → TypeError → VerifyError
 told p f typing.Memory = Memory p
 told p f (typing.Refused pc cause) = Refused p f pc cause
+
+-- want of memory says nothing; a refusal is the least place of the function with a cause, and the least cause there
+abbrev pub TellsOf : Program → ℕ → TypeError → Type 0
+TellsOf p f typing.Memory = Unit {0}
+TellsOf p f (typing.Refused pc cause) = IsUnsound p f pc cause
+
+-- the causes of budgets are told behind the last of so many instructions
+abbrev pub at_end : ℕ → BudgetError → TypeError
+at_end count budgets.Memory = typing.Memory
+at_end count (budgets.TooMuch cause) = typing.Refused count cause

@@ -1,11 +1,15 @@
 //! Programs that were verified.
 
-ghost use Rattle.std.specs.Prelude.{◌≡◌, MatchResult};
-ghost use Rattle.sts_model.specs.Refusal.{IsAccepted};
+ghost use Rattle.std.specs.Prelude.{◌≡◌, ◌<◌, ◌≤◌, ◌+◌, length, MatchResult};
+ghost use Rattle.sts_model.specs.Budget.{AreBudgets};
+ghost use Rattle.sts_model.specs.Refusal.{IsAccepted, IsSound, IsBudgetOf};
 ghost use Rattle.sts_verify.specs.Verifying as def;
 
 use crate::error::VerifyError;
+use sts_budget::budget::{BudgetError, budget};
+use sts_budget::layout::code_of;
 use sts_code::program::Program;
+use sts_model::budget::Budgets;
 use sts_types::pass::{TypeError, type_function};
 use std::alloc::Global;
 use std::marker::Model;
@@ -14,17 +18,20 @@ use std::marker::Model;
 #[derive(Drop)]
 pub struct Verified {
     program: Program,
+    budgets: Vec<Budgets>,
 }
 
 impl Model for Verified {
+    ghost use Rattle.std.specs.Prelude.{◌≡◌, length};
     ghost use Rattle.sts_code.specs.Program.{Program};
     ghost use Rattle.sts_model.specs.Refusal.{IsAccepted};
+    ghost use Rattle.sts_model.specs.Budget.{AreBudgets};
 
     ghost Value = { Program };
 
     ghost view = { λ v. v.program };
 
-    ghost invariant = { λ v. IsAccepted v.program };
+    ghost invariant = { λ v. IsAccepted v.program × (length v.budgets.items ≡ length v.program.routines) × AreBudgets v.program v.budgets.items };
 }
 
 impl Verified {
@@ -33,6 +40,14 @@ impl Verified {
         ensures accepted { IsAccepted self.now }
     {
         &self.program
+    }
+
+    /// The budgets of a function.
+    pub fn budgets(&self, function: usize) -> Budgets
+        requires { function < length self.now.routines }
+        ensures { IsBudgetOf self.now function result }
+    {
+        self.budgets[function]
     }
 
     pub fn into_program(self) -> Program
@@ -58,14 +73,49 @@ fn told(program: Program, function: u32, error: TypeError) -> VerifyError
     }
 }
 
+/// A cause of budgets is told behind the last of so many instructions.
+fn at_end(count: usize, error: BudgetError) -> TypeError
+    requires { count ≤ 4096 }
+    ensures { result ≡ def.at_end count error }
+{
+    match error {
+        BudgetError::Memory => TypeError::Memory,
+        BudgetError::TooMuch(cause) => TypeError::Refused {
+            pc: count as u32,
+            cause,
+        },
+    }
+}
+
+/// Verifies a function, where these are the budgets of those before it: its own are added.
+fn verify_function(alloc: Global, program: &Program, function: u32, budgets: &mut Vec<Budgets>) -> Result<(), TypeError>
+    requires in_program { function < length program.now.routines }
+    requires long { length budgets.old.items ≡ function }
+    requires right { AreBudgets program.now budgets.old.items }
+    ensures { MatchResult result (λ _. IsSound program.now function × (length budgets.new.items ≡ function + 1) × AreBudgets program.now budgets.new.items) (def.TellsOf program.now function) }
+{
+    if let Err(error) = type_function(alloc, program, function) {
+        return Err(error);
+    }
+    let count = code_of(program, function as usize).len();
+    match budget(alloc, program, function as usize, budgets.as_slice()) {
+        Ok(found) => match budgets.push(found) {
+            Ok(()) => Ok(()),
+            Err(_) => Err(TypeError::Memory),
+        },
+        Err(error) => Err(at_end(count, error)),
+    }
+}
+
 /// Verifies a program: it is accepted, or refused at its least place with a cause, by the least cause there.
 pub fn verify(alloc: Global, program: Program) -> Result<Verified, VerifyError>
     ensures { MatchResult result (λ verified. (verified ≡ program) × IsAccepted program) (def.Tells program) }
 {
+    let mut budgets = Vec::new(alloc);
     for function in 0..program.functions().len() as u32 {
-        if let Err(error) = type_function(alloc, &program, function) {
+        if let Err(error) = verify_function(alloc, &program, function, &mut budgets) {
             return Err(told(program, function, error));
         }
     }
-    Ok(Verified { program })
+    Ok(Verified { program, budgets })
 }

@@ -1,0 +1,100 @@
+-- What it says of an instruction that no cause holds at it.
+use Rattle.std.proofs.Common.{◌≡◌, ◌≢◌, ℕ, zero, suc, ◌+◌, ◌-◌, ◌<◌, ◌≤◌, ◌⊎◌, inl, inr, List, [], ◌∷◌, ◌++◌, length, drop, map, Bool, true, false, cond, not, ◌&&◌, ◌||◌, Option, Some, None, Result, Ok, Err, find, refl, sym, ap, ◌∙◌, subst, arith}
+use Rattle.std.specs.List.{list_any}
+use Rattle.std.specs.Bool.{Decides}
+use Rattle.std.specs.Str.{bytes_eq}
+use Rattle.std.proofs.lemmas.Bool.{leb-false}
+use Rattle.std.proofs.lemmas.List.Folds.{list_any-append}
+use Rattle.std.proofs.lemmas.Slice.Eq.{bytes_eq-Decides}
+use Rattle.sts_code.specs.Program.{Program, routine}
+use Rattle.sts_code.specs.declared.instr.Instr.{Instr}
+use Rattle.sts_code.specs.declared.instr.Instr.TheVariants.{Fork}
+use Rattle.sts_model.specs.declared.typing.Cause.{Cause}
+use Rattle.sts_model.specs.declared.typing.Cause.TheVariants as cause
+use Rattle.sts_model.specs.declared.typing.SlotKind.{SlotKind}
+use Rattle.sts_model.specs.declared.typing.SlotKind.TheVariants.{Empty, Own, Lent, Sub}
+use Rattle.sts_model.specs.declared.typing.TypedScope.{TypedScope}
+use Rattle.sts_model.specs.TypeState.{TypeState, kind, scope_in, heads}
+use Rattle.sts_model.specs.Around.{named, next_place, skipped_to, open_after, around}
+use Rattle.sts_model.specs.Causes.{holds, causes, least_cause, is_unmatched, mismatches, falls_off, jumps_back, breaks_structure, is_nested, is_illegal, has_wrong_slot, is_strangers, is_other_loop, is_own, is_lent, passes, is_opened}
+use Rattle.sts_model.specs.Edges.{follows, or_cause, edges_of}
+use Rattle.sts_model.specs.ControlPaths.{Among}
+use Rattle.sts_budget.proofs.Sorts.{among_of}
+
+-- no cause was found, and these are the edges
+fine : (o : Option Cause) (es out : List (ℕ × TypeState)) → or_cause o es ≡ Ok out → (o ≡ None) × (out ≡ es)
+fine None es out e = (refl, (cc))
+fine (Some c) es out e = absurd (cc)
+
+not_found : (t : Cause → Bool) (x : Cause) (xs : List Cause) → find t (x ∷ xs) ≡ None → (t x ≡ false) × (find t xs ≡ None)
+not_found t x xs e = by (t x) refl
+  where
+    by : (b : Bool) → t x ≡ b → (t x ≡ false) × (find t xs ≡ None)
+    by true is = let z : Some x ≡ None = sym (ap (λ b. cond b (Some x) (find t xs)) is) ∙ e in absurd (cc)
+    by false is = (is, sym (ap (λ b. cond b (Some x) (find t xs)) is) ∙ e)
+
+abbrev Has : List Cause → Cause → Type 0
+Has [] c = ⊥
+Has (x ∷ xs) c = (x ≡ c) ⊎ Has xs c
+
+none_holds : (t : Cause → Bool) (xs : List Cause) (c : Cause) → find t xs ≡ None → Has xs c → t c ≡ false
+none_holds t [] c e h = absurd h
+none_holds t (x ∷ xs) c e (inl same) = ap t (sym same) ∙ (not_found t x xs e).0
+none_holds t (x ∷ xs) c e (inr h) = none_holds t xs c (not_found t x xs e).1 h
+
+pub neither : (a b : Bool) → a || b ≡ false → (a ≡ false) × (b ≡ false)
+neither true b e = absurd (cc)
+neither false b e = (refl, e)
+
+pub not_false : (a : Bool) → not a ≡ false → a ≡ true
+not_false true e = refl
+not_false false e = absurd (cc)
+
+none_passes : (t : ℕ → Bool) (xs : List ℕ) (x : ℕ) → list_any t xs ≡ false → Among xs x → t x ≡ false
+none_passes t [] x e a = absurd a
+none_passes t (y ∷ ys) x e (inl same) = ap t (sym same) ∙ (neither (t y) (list_any t ys) e).0
+none_passes t (y ∷ ys) x e (inr a) = none_passes t ys x (neither (t y) (list_any t ys) e).1 a
+
+same_loops : (code : List Instr) (hs : List ℕ) (to : ℕ) → is_other_loop code hs to ≡ false → around code to ≡ hs
+same_loops code hs to e = (bytes_eq-Decides (around code to) hs).0 (not_false _ e)
+
+pub record Allowed (p : Program) (f pc : ℕ) (i : Instr) (s : TypeState) (out : List (ℕ × TypeState)) : Type 0 where
+  pub is : out ≡ follows p (routine p f).code pc i s
+  pub inside : (to : ℕ) → Among (named i ++ next_place pc i ++ skipped_to (routine p f).code pc i) to → to < length (routine p f).code
+  pub later : (to : ℕ) → Among (named i) to → pc < to
+  pub matched : is_unmatched (routine p f).code pc i s ≡ false
+  pub around_named : (to : ℕ) → Among (named i ++ skipped_to (routine p f).code pc i) to → around (routine p f).code to ≡ heads s.loops
+  pub around_next : (to : ℕ) → Among (next_place pc i) to → around (routine p f).code to ≡ open_after pc i (heads s.loops)
+  pub ordered : breaks_structure i s ≡ false
+  pub nested : is_nested i s ≡ false
+  pub legal : is_illegal p.profile i s ≡ false
+  pub right_slot : has_wrong_slot i s ≡ false
+  pub own_thread : is_strangers i s ≡ false
+
+pub allowed : (p : Program) (f pc : ℕ) (i : Instr) (s : TypeState) (out : List (ℕ × TypeState)) → edges_of p f pc i s ≡ Ok out → Allowed p f pc i s out
+allowed p f pc i s out e =
+    let t = holds p f pc i s in
+    let code = (routine p f).code in
+    let o = fine (least_cause p f pc i s) (follows p code pc i s) out e in
+    let c3 = none_holds t causes cause.FallsOff o.0 (inr (inr (inl refl))) in
+    let c4 = none_holds t causes cause.BackJump o.0 (inr (inr (inr (inl refl)))) in
+    let c5 = none_holds t causes cause.LoopMismatch o.0 (inr (inr (inr (inr (inl refl))))) in
+    let c9 = none_holds t causes cause.SlotKind o.0 (inr (inr (inr (inr (inr (inr (inl refl))))))) in
+    let c11 = none_holds t causes cause.WrongThread o.0 (inr (inr (inr (inr (inr (inr (inr (inr (inl refl))))))))) in
+    let c12 = none_holds t causes cause.IllegalState o.0 (inr (inr (inr (inr (inr (inr (inr (inr (inr (inl refl)))))))))) in
+    let c13 = none_holds t causes cause.Structure o.0 (inr (inr (inr (inr (inr (inr (inr (inr (inr (inr (inl refl))))))))))) in
+    let c14 = none_holds t causes cause.Nesting o.0 (inr (inr (inr (inr (inr (inr (inr (inr (inr (inr (inr (inl refl)))))))))))) in
+    let m = neither (is_unmatched code pc i s || list_any (is_other_loop code (heads s.loops)) (named i ++ skipped_to code pc i)) (list_any (is_other_loop code (open_after pc i (heads s.loops))) (next_place pc i)) c5 in
+    let m' = neither (is_unmatched code pc i s) (list_any (is_other_loop code (heads s.loops)) (named i ++ skipped_to code pc i)) m.0 in
+    record {
+      is = o.1;
+      inside = λ to a. leb-false (length code) to (none_passes _ (named i ++ next_place pc i ++ skipped_to code pc i) to c3 a);
+      later = λ to a. leb-false to pc (none_passes _ (named i) to c4 a);
+      matched = m'.0;
+      around_named = λ to a. same_loops code (heads s.loops) to (none_passes _ (named i ++ skipped_to code pc i) to m'.1 a);
+      around_next = λ to a. same_loops code (open_after pc i (heads s.loops)) to (none_passes _ (next_place pc i) to m.1 a);
+      ordered = c13;
+      nested = c14;
+      legal = c12;
+      right_slot = c9;
+      own_thread = c11 }

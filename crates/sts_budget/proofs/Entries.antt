@@ -1,0 +1,281 @@
+-- The open entries at a point of a path, and the sums over the first d of them.
+use Rattle.std.proofs.Common.{◌≡◌, ◌≢◌, ℕ, zero, suc, ◌+◌, ◌-◌, ◌<◌, ◌≤◌, ◌⊎◌, min, inl, inr, List, [], ◌∷◌, ◌++◌, length, drop, map, Bool, true, false, cond, ltb, ◌==◌, Option, Some, None, refl, sym, ap, ◌∙◌, subst, arith, add-zero}
+use Rattle.std.specs.List.{sum_by}
+use Rattle.std.proofs.lemmas.Bool.{cases_eq, cases_lt, ltb-true, ltb-false, lt-ltb, le-ltb, eqb-true, eqb-false}
+use Rattle.std.proofs.lemmas.List.Sums.{sum_by-cons}
+use Rattle.sts_code.specs.declared.instr.Instr.{Instr}
+use Rattle.sts_code.specs.declared.instr.Instr.TheVariants.{Push, Pop, Dup, Swap, Load, Store, Add, Sub, Mul, Lt, Eq, Div, Jmp, Jz, Times, Next, Open, Fork, Join, Close, Cancelled, Case, Get, Except, Tally, Total, Forget, Bind, Unbind, Read, Bound, OrElse, Interrupted, Ret, Fail}
+use Rattle.sts_model.specs.Around.{instr_at}
+use Rattle.sts_model.specs.ControlPaths.{Shape, GoesTo, Repeats, EndsTurn, EndsPath, OpenEntry, OpenScope, OpenBinding, Skeleton, Among, Loops, Follows, go, skip, enter, again, leave, Comes, start, step}
+use Rattle.sts_model.specs.declared.budget.Budgets.{Budgets}
+use Rattle.sts_model.specs.Budget.{Measure, entry_sum, entries_sum, forked, entries_of, skeleton}
+use Rattle.sts_budget.specs.Layout.{Names, names_after, HasScope, FitsNames}
+use Rattle.sts_budget.specs.declared.effect.Effect.{Effect}
+use Rattle.sts_budget.specs.declared.effect.Effect.TheVariants.{Rises, Opens, Adds}
+use Rattle.sts_budget.specs.Effect.{source_of, added_of, position_of, measured}
+
+abbrev pub name_of : OpenEntry → Option ℕ
+name_of (OpenScope s subtasks) = Some s
+name_of OpenBinding = None
+
+-- the names of the open entries of a path
+abbrev pub names : List OpenEntry → Names
+names es = map name_of es
+
+pub long : (es : List OpenEntry) → length (names es) ≡ length es
+long [] = refl
+long (e ∷ es) = ap suc (long es)
+
+-- the sum over the first d entries; the list has the innermost first, so an entry is one of them where fewer than d stand outside it
+abbrev pub front : Measure → List OpenEntry → ℕ → ℕ
+front m [] d = 0
+front m (e ∷ es) d = cond (ltb (length es) d) (entry_sum m e) 0 + front m es d
+
+front_past : (m : Measure) (es : List OpenEntry) (d : ℕ) → length es ≤ d → front m es d ≡ entries_sum m es
+front_past m [] d le = refl
+front_past m (e ∷ es) d le =
+    let a : ltb (length es) d ≡ true = lt-ltb (length es) d (omega arith) in
+    ap (λ t. cond t (entry_sum m e) 0 + front m es d) a ∙ ap (λ y. entry_sum m e + y) (front_past m es d (omega arith)) ∙ sym (sum_by-cons (entry_sum m) e es)
+
+-- the sum over the first entries is a part of the whole
+pub front_le : (m : Measure) (es : List OpenEntry) (d : ℕ) → front m es d ≤ entries_sum m es
+front_le m [] d = omega arith
+front_le m (e ∷ es) d =
+    let r = front_le m es d in
+    let s : entries_sum m (e ∷ es) ≡ entry_sum m e + entries_sum m es = sum_by-cons (entry_sum m) e es in
+    let one : cond (ltb (length es) d) (entry_sum m e) 0 ≤ entry_sum m e = elim (ltb (length es) d) as (λ b. cond b (entry_sum m e) 0 ≤ entry_sum m e) [ true ↦ omega arith | false ↦ omega arith ] in
+    omega arith
+
+-- all entries together
+pub front_all : (m : Measure) (es : List OpenEntry) (n : ℕ) → length es ≡ n → front m es n ≡ entries_sum m es
+front_all m es n e = front_past m es n (omega arith)
+
+-- ---- a fork
+
+names_forked : (x g : ℕ) (es : List OpenEntry) → names (forked x g es) ≡ names es
+names_forked x g [] = refl
+names_forked x g (OpenBinding ∷ es) = ap (λ ns. None ∷ ns) (names_forked x g es)
+names_forked x g (OpenScope s subtasks ∷ es) = by (s == x) (names_forked x g es)
+  where
+    by : (b : Bool) → names (forked x g es) ≡ names es → names (cond b (OpenScope s (g ∷ subtasks) ∷ es) (OpenScope s subtasks ∷ forked x g es)) ≡ Some s ∷ names es
+    by true ih = refl
+    by false ih = ap (λ ns. Some s ∷ ns) ih
+
+pub length_forked : (x g : ℕ) (es : List OpenEntry) → length (forked x g es) ≡ length es
+length_forked x g es = sym (long (forked x g es)) ∙ ap length (names_forked x g es) ∙ long es
+
+pub front_forked : (m : Measure) (x g : ℕ) (es : List OpenEntry) (d : ℕ) → HasScope x (names es) → front m (forked x g es) d ≡ front m es d + cond (ltb (position_of x (names es)) d) (m.subtask g) 0
+front_forked m x g [] d h = absurd h
+front_forked m x g (OpenBinding ∷ es) d (inl e) = absurd (cc)
+front_forked m x g (OpenBinding ∷ es) d (inr h) =
+    let n = length_forked x g es in
+    let r = front_forked m x g es d h in
+    ap (λ k. cond (ltb k d) m.binding 0 + front m (forked x g es) d) n ∙ omega (arith, r)
+front_forked m x g (OpenScope s subtasks ∷ es) d h = by (s == x) refl (λ h'. front_forked m x g es d h')
+  where
+    own : ℕ
+    own = m.scope + sum_by m.subtask subtasks
+    more : m.scope + sum_by m.subtask (g ∷ subtasks) ≡ own + m.subtask g
+    more = let e = sum_by-cons m.subtask g subtasks in omega arith
+    split : (b : Bool) (k : ℕ) → cond b (m.scope + sum_by m.subtask (g ∷ subtasks)) 0 + k ≡ cond b own 0 + k + cond b (m.subtask g) 0
+    split true k = omega (arith, more)
+    split false k = omega arith
+    outside : (b : Bool) → s == x ≡ b → b ≡ false → HasScope x (names es)
+    outside b e f = elim h [ inl same ↦ (let k : s ≡ x = cc in absurd (eqb-false s x (e ∙ f) k)) | inr r ↦ r ]
+    Goal : Bool → Type 0
+    Goal b = front m (cond b (OpenScope s (g ∷ subtasks) ∷ es) (OpenScope s subtasks ∷ forked x g es)) d ≡ front m (OpenScope s subtasks ∷ es) d + cond (ltb (cond b (length (names es)) (position_of x (names es))) d) (m.subtask g) 0
+    by : (b : Bool) → s == x ≡ b → (HasScope x (names es) → front m (forked x g es) d ≡ front m es d + cond (ltb (position_of x (names es)) d) (m.subtask g) 0) → Goal b
+    by true e ih = split (ltb (length es) d) (front m es d) ∙ ap (λ k. cond (ltb (length es) d) own 0 + front m es d + cond (ltb k d) (m.subtask g) 0) (sym (long es))
+    by false e ih =
+        let r = ih (outside false e refl) in
+        ap (λ k. cond (ltb k d) own 0 + front m (forked x g es) d) (length_forked x g es) ∙ omega (arith, r)
+
+-- ---- one instruction
+
+names_dropped : (es : List OpenEntry) → names (drop 1 es) ≡ drop 1 (names es)
+names_dropped [] = refl
+names_dropped (e ∷ es) = refl
+
+pub names_of : (i : Instr) (es : List OpenEntry) → names (entries_of i es) ≡ names_after i (names es)
+names_of (Push k) es = refl
+names_of Pop es = refl
+names_of Dup es = refl
+names_of Swap es = refl
+names_of (Load x) es = refl
+names_of (Store x) es = refl
+names_of Add es = refl
+names_of Sub es = refl
+names_of Mul es = refl
+names_of Lt es = refl
+names_of Eq es = refl
+names_of (Div to) es = refl
+names_of (Jmp to) es = refl
+names_of (Jz to) es = refl
+names_of (Times n) es = refl
+names_of Next es = refl
+names_of (Open x j timed) es = refl
+names_of (Fork x g h) es = names_forked x g es
+names_of (Join x a b c) es = refl
+names_of (Close x) es = names_dropped es
+names_of (Cancelled x) es = refl
+names_of (Case h a b) es = refl
+names_of (Get h) es = refl
+names_of (Except h) es = refl
+names_of (Tally x k) es = refl
+names_of (Total x) es = refl
+names_of (Forget h) es = refl
+names_of (Bind k) es = refl
+names_of Unbind es = names_dropped es
+names_of (Read k) es = refl
+names_of (Bound k) es = refl
+names_of (OrElse k) es = refl
+names_of Interrupted es = refl
+names_of Ret es = refl
+names_of Fail es = refl
+
+front_opened : (m : Measure) (e : OpenEntry) (es : List OpenEntry) (n d : ℕ) → n ≡ length es → front m (e ∷ es) d ≡ front m es (min d n) + cond (ltb n d) (entry_sum m e) 0
+front_opened m e es n d same = by (cases_lt n d)
+  where
+    by : (n < d) ⊎ (d ≤ n) → cond (ltb (length es) d) (entry_sum m e) 0 + front m es d ≡ front m es (min d n) + cond (ltb n d) (entry_sum m e) 0
+    by (inl lt) =
+        let a : min d n ≡ n = omega arith in
+        let b = front_past m es n (omega arith) in
+        let b' = front_past m es d (omega arith) in
+        let c : front m es (min d n) ≡ front m es d = ap (front m es) a ∙ b ∙ sym b' in
+        let k : cond (ltb (length es) d) (entry_sum m e) 0 ≡ cond (ltb n d) (entry_sum m e) 0 = ap (λ q. cond (ltb q d) (entry_sum m e) 0) (sym same) in
+        omega arith
+    by (inr ge) =
+        let a : min d n ≡ d = omega arith in
+        let c : front m es (min d n) ≡ front m es d = ap (front m es) a in
+        let k : cond (ltb (length es) d) (entry_sum m e) 0 ≡ cond (ltb n d) (entry_sum m e) 0 = ap (λ q. cond (ltb q d) (entry_sum m e) 0) (sym same) in
+        omega arith
+
+front_closed : (m : Measure) (es : List OpenEntry) (d : ℕ) → 0 < length (names es) → d ≤ length (drop 1 (names es)) → front m (drop 1 es) d ≡ front m es d + 0
+front_closed m [] d pos le = absurd (omega arith)
+front_closed m (e ∷ es) d pos le =
+    let f : ltb (length es) d ≡ false = le-ltb (length es) d (omega (arith, long es)) in
+    let z : cond (ltb (length es) d) (entry_sum m e) 0 ≡ 0 = ap (λ b. cond b (entry_sum m e) 0) f in
+    omega arith
+
+-- a scope that opens has no subtask
+opened_alone : (m : Measure) (b : Bool) (k : ℕ) → k + cond b (entry_sum m (OpenScope 0 [])) 0 ≡ k + cond b m.scope 0
+opened_alone m true k = omega arith
+opened_alone m false k = refl
+
+-- the sums after an instruction come from those before it
+pub front_of : (m : Measure) (i : Instr) (es : List OpenEntry) (d : ℕ) → FitsNames i (names es) → d ≤ length (names_after i (names es)) → front m (entries_of i es) d ≡ front m es (source_of (measured m i (names es)) (length (names es)) d) + added_of (measured m i (names es)) (length (names es)) d
+front_of m (Push k) es d fits le = sym (add-zero _)
+front_of m Pop es d fits le = sym (add-zero _)
+front_of m Dup es d fits le = sym (add-zero _)
+front_of m Swap es d fits le = sym (add-zero _)
+front_of m (Load x) es d fits le = sym (add-zero _)
+front_of m (Store x) es d fits le = sym (add-zero _)
+front_of m Add es d fits le = sym (add-zero _)
+front_of m Sub es d fits le = sym (add-zero _)
+front_of m Mul es d fits le = sym (add-zero _)
+front_of m Lt es d fits le = sym (add-zero _)
+front_of m Eq es d fits le = sym (add-zero _)
+front_of m (Div to) es d fits le = sym (add-zero _)
+front_of m (Jmp to) es d fits le = sym (add-zero _)
+front_of m (Jz to) es d fits le = sym (add-zero _)
+front_of m (Times n) es d fits le = sym (add-zero _)
+front_of m Next es d fits le = sym (add-zero _)
+front_of m (Open x j timed) es d fits le = front_opened m (OpenScope x []) es (length (names es)) d (long es) ∙ opened_alone m (ltb (length (names es)) d) (front m es (min d (length (names es))))
+front_of m (Fork x g h) es d fits le = front_forked m x g es d fits
+front_of m (Join x a b c) es d fits le = sym (add-zero _)
+front_of m (Close x) es d fits le = front_closed m es d fits le
+front_of m (Cancelled x) es d fits le = sym (add-zero _)
+front_of m (Case h a b) es d fits le = sym (add-zero _)
+front_of m (Get h) es d fits le = sym (add-zero _)
+front_of m (Except h) es d fits le = sym (add-zero _)
+front_of m (Tally x k) es d fits le = sym (add-zero _)
+front_of m (Total x) es d fits le = sym (add-zero _)
+front_of m (Forget h) es d fits le = sym (add-zero _)
+front_of m (Bind k) es d fits le = front_opened m OpenBinding es (length (names es)) d (long es)
+front_of m Unbind es d fits le = front_closed m es d fits le
+front_of m (Read k) es d fits le = sym (add-zero _)
+front_of m (Bound k) es d fits le = sym (add-zero _)
+front_of m (OrElse k) es d fits le = sym (add-zero _)
+front_of m Interrupted es d fits le = sym (add-zero _)
+front_of m Ret es d fits le = sym (add-zero _)
+front_of m Fail es d fits le = sym (add-zero _)
+
+low_dropped : (ns : Names) (d : ℕ) → d ≤ length (drop 1 ns) → d ≤ length ns
+low_dropped [] d le = le
+low_dropped (n ∷ ns) d le = omega arith
+
+-- it looks back on no more entries than are open
+pub source_low : (m : Measure) (i : Instr) (ns : Names) (d : ℕ) → d ≤ length (names_after i ns) → source_of (measured m i ns) (length ns) d ≤ length ns
+source_low m (Push k) ns d le = le
+source_low m Pop ns d le = le
+source_low m Dup ns d le = le
+source_low m Swap ns d le = le
+source_low m (Load x) ns d le = le
+source_low m (Store x) ns d le = le
+source_low m Add ns d le = le
+source_low m Sub ns d le = le
+source_low m Mul ns d le = le
+source_low m Lt ns d le = le
+source_low m Eq ns d le = le
+source_low m (Div to) ns d le = le
+source_low m (Jmp to) ns d le = le
+source_low m (Jz to) ns d le = le
+source_low m (Times n) ns d le = le
+source_low m Next ns d le = le
+source_low m (Open x j timed) ns d le = omega arith
+source_low m (Fork x g h) ns d le = le
+source_low m (Join x a b c) ns d le = le
+source_low m (Close x) ns d le = low_dropped ns d le
+source_low m (Cancelled x) ns d le = le
+source_low m (Case h a b) ns d le = le
+source_low m (Get h) ns d le = le
+source_low m (Except h) ns d le = le
+source_low m (Tally x k) ns d le = le
+source_low m (Total x) ns d le = le
+source_low m (Forget h) ns d le = le
+source_low m (Bind k) ns d le = omega arith
+source_low m Unbind ns d le = low_dropped ns d le
+source_low m (Read k) ns d le = le
+source_low m (Bound k) ns d le = le
+source_low m (OrElse k) ns d le = le
+source_low m Interrupted ns d le = le
+source_low m Ret ns d le = le
+source_low m Fail ns d le = le
+
+-- and on the same ones among the first x
+pub source_kept : (m : Measure) (i : Instr) (ns : Names) (d x : ℕ) → x ≤ length ns → min (source_of (measured m i ns) (length ns) d) x ≡ min d x
+source_kept m (Push k) ns d u le = refl
+source_kept m Pop ns d u le = refl
+source_kept m Dup ns d u le = refl
+source_kept m Swap ns d u le = refl
+source_kept m (Load x) ns d u le = refl
+source_kept m (Store x) ns d u le = refl
+source_kept m Add ns d u le = refl
+source_kept m Sub ns d u le = refl
+source_kept m Mul ns d u le = refl
+source_kept m Lt ns d u le = refl
+source_kept m Eq ns d u le = refl
+source_kept m (Div to) ns d u le = refl
+source_kept m (Jmp to) ns d u le = refl
+source_kept m (Jz to) ns d u le = refl
+source_kept m (Times n) ns d u le = refl
+source_kept m Next ns d u le = refl
+source_kept m (Open x j timed) ns d u le = omega arith
+source_kept m (Fork x g h) ns d u le = refl
+source_kept m (Join x a b c) ns d u le = refl
+source_kept m (Close x) ns d u le = refl
+source_kept m (Cancelled x) ns d u le = refl
+source_kept m (Case h a b) ns d u le = refl
+source_kept m (Get h) ns d u le = refl
+source_kept m (Except h) ns d u le = refl
+source_kept m (Tally x k) ns d u le = refl
+source_kept m (Total x) ns d u le = refl
+source_kept m (Forget h) ns d u le = refl
+source_kept m (Bind k) ns d u le = omega arith
+source_kept m Unbind ns d u le = refl
+source_kept m (Read k) ns d u le = refl
+source_kept m (Bound k) ns d u le = refl
+source_kept m (OrElse k) ns d u le = refl
+source_kept m Interrupted ns d u le = refl
+source_kept m Ret ns d u le = refl
+source_kept m Fail ns d u le = refl

@@ -1,0 +1,277 @@
+-- What the code hands on at a place is what the pass hands on.
+use Rattle.std.proofs.Common.{◌≡◌, ◌≢◌, ℕ, zero, suc, ◌+◌, ◌*◌, ◌<◌, ◌≤◌, ◌⊎◌, max, min, inl, inr, List, [], ◌∷◌, ◌++◌, length, get_or, replicate, Bool, true, false, Option, Some, None, unwrap_or, refl, sym, ap, ◌∙◌, subst, arith}
+use Rattle.std.proofs.lemmas.List.{length-replicate, get_or-replicate}
+use Rattle.sts_code.specs.Program.{Program}
+use Rattle.sts_code.specs.declared.profile.Profile.TheVariants.{One}
+use Rattle.sts_code.specs.declared.instr.Instr.{Instr}
+use Rattle.sts_code.specs.declared.instr.Instr.TheVariants.{Push, Pop, Dup, Swap, Load, Store, Add, Sub, Mul, Lt, Eq, Div, Jmp, Jz, Times, Next, Open, Fork, Join, Close, Cancelled, Case, Get, Except, Tally, Total, Forget, Bind, Unbind, Read, Bound, OrElse, Interrupted, Ret, Fail}
+use Rattle.sts_model.specs.Around.{instr_at, named, next_place, around}
+use Rattle.sts_model.specs.declared.budget.Budgets.{Budgets}
+use Rattle.sts_model.specs.Budget.{skeleton, shape_of}
+use Rattle.sts_model.specs.ControlPaths.{Shape, GoesTo, Repeats, EndsTurn, EndsPath, Skeleton, Among}
+use Rattle.sts_budget.specs.declared.effect.Kind.{Kind}
+use Rattle.sts_budget.specs.declared.effect.Kind.TheVariants.{Steps, Tasks, Scopes, Binds}
+use Rattle.sts_budget.specs.declared.layout.Layout.{Layout}
+use Rattle.sts_budget.specs.Effect.{source_of, added_of, effect_of, depth_of, own_step}
+use Rattle.sts_budget.specs.Handing.{is_quiet, turns_of, value_by, handed_value}
+use Rattle.sts_budget.specs.Laid.{first_of}
+use Rattle.sts_budget.specs.Ready.{IsReady, names_in, head_in, flows_in}
+use Rattle.sts_budget.specs.Structured.{IsStructured, bound_of, Led}
+use Rattle.sts_budget.specs.Sums.{Flows, FitsEntries, Stands}
+use Rattle.sts_budget.specs.Table.{read, New, Handed, over_go, over_loop, IsSpread, IsPartial, IsSent, IsStopped, HandsTooMuch, Passes}
+use Rattle.sts_budget.proofs.Sorts.{Sort, sort, is_times, is_next, is_end, goes_on, GoesOn}
+use Rattle.sts_budget.proofs.Typed.{goes_of, next_of}
+use Rattle.sts_budget.proofs.Sums.{IsSourced, go_stands, loop_stands}
+use Rattle.sts_budget.proofs.Forward.{among_cases, partial_more, sourced}
+use Rattle.sts_budget.proofs.FourKinds.{fits}
+
+-- a program is asked for where none matters
+abbrev any_program : Program
+any_program = record { profile = One; routines = [] }
+
+-- a `times` and a `next` count the same
+pub times_counts : (k : Kind) (earlier : List Budgets) (n : ℕ) (ns : List (Option ℕ)) (d : ℕ) → added_of (effect_of k earlier (Times n) ns) (depth_of k ns) d ≡ own_step k
+times_counts Steps earlier n ns d = refl
+times_counts Tasks earlier n ns d = refl
+times_counts Scopes earlier n ns d = refl
+times_counts Binds earlier n ns d = refl
+
+pub next_counts : (k : Kind) (earlier : List Budgets) (ns : List (Option ℕ)) (d : ℕ) → added_of (effect_of k earlier Next ns) (depth_of k ns) d ≡ own_step k
+next_counts Steps earlier ns d = refl
+next_counts Tasks earlier ns d = refl
+next_counts Scopes earlier ns d = refl
+next_counts Binds earlier ns d = refl
+
+-- an instruction that goes on hands on the sums after it
+value_goes : (k : Kind) (earlier : List Budgets) (code : List Instr) (l : Layout) (best : ℕ → ℕ → ℕ) (pc : ℕ) (i : Instr) (d : ℕ) → GoesOn any_program code pc i → value_by k earlier code l best pc i d ≡ best pc (source_of (effect_of k earlier i (names_in l pc)) (depth_of k (names_in l pc)) d) + added_of (effect_of k earlier i (names_in l pc)) (depth_of k (names_in l pc)) d
+value_goes k earlier code l best pc (Push v) d goes = refl
+value_goes k earlier code l best pc Pop d goes = refl
+value_goes k earlier code l best pc Dup d goes = refl
+value_goes k earlier code l best pc Swap d goes = refl
+value_goes k earlier code l best pc (Load x) d goes = refl
+value_goes k earlier code l best pc (Store x) d goes = refl
+value_goes k earlier code l best pc Add d goes = refl
+value_goes k earlier code l best pc Sub d goes = refl
+value_goes k earlier code l best pc Mul d goes = refl
+value_goes k earlier code l best pc Lt d goes = refl
+value_goes k earlier code l best pc Eq d goes = refl
+value_goes k earlier code l best pc (Div to) d goes = refl
+value_goes k earlier code l best pc (Jmp to) d goes = refl
+value_goes k earlier code l best pc (Jz to) d goes = refl
+value_goes k earlier code l best pc (Times n) d goes = refl
+value_goes k earlier code l best pc Next d goes = (let z : EndsTurn ≡ GoesTo (named Next ++ next_place pc Next) = goes.shape in absurd (cc))
+value_goes k earlier code l best pc (Open x j timed) d goes = refl
+value_goes k earlier code l best pc (Fork x g h) d goes = refl
+value_goes k earlier code l best pc (Join x a b c) d goes = refl
+value_goes k earlier code l best pc (Close x) d goes = refl
+value_goes k earlier code l best pc (Cancelled x) d goes = refl
+value_goes k earlier code l best pc (Case h a b) d goes = refl
+value_goes k earlier code l best pc (Get h) d goes = refl
+value_goes k earlier code l best pc (Except h) d goes = refl
+value_goes k earlier code l best pc (Tally x w) d goes = refl
+value_goes k earlier code l best pc (Total x) d goes = refl
+value_goes k earlier code l best pc (Forget h) d goes = refl
+value_goes k earlier code l best pc (Bind v) d goes = refl
+value_goes k earlier code l best pc Unbind d goes = refl
+value_goes k earlier code l best pc (Read v) d goes = refl
+value_goes k earlier code l best pc (Bound v) d goes = refl
+value_goes k earlier code l best pc (OrElse v) d goes = refl
+value_goes k earlier code l best pc Interrupted d goes = refl
+value_goes k earlier code l best pc Ret d goes = refl
+value_goes k earlier code l best pc Fail d goes = refl
+
+-- nothing new comes from a quiet instruction
+quiet_none : (c : Skeleton) (f : Flows) (head : ℕ → ℕ) (best : ℕ → ℕ → ℕ) (pc : ℕ) (i : Instr) → is_quiet i ≡ true → (q d m : ℕ) → New c f head best pc (shape_of pc i) q d m → ⊥
+quiet_none skel fl head best pc (Push k) e q d m w = absurd (cc)
+quiet_none skel fl head best pc Pop e q d m w = absurd (cc)
+quiet_none skel fl head best pc Dup e q d m w = absurd (cc)
+quiet_none skel fl head best pc Swap e q d m w = absurd (cc)
+quiet_none skel fl head best pc (Load x) e q d m w = absurd (cc)
+quiet_none skel fl head best pc (Store x) e q d m w = absurd (cc)
+quiet_none skel fl head best pc Add e q d m w = absurd (cc)
+quiet_none skel fl head best pc Sub e q d m w = absurd (cc)
+quiet_none skel fl head best pc Mul e q d m w = absurd (cc)
+quiet_none skel fl head best pc Lt e q d m w = absurd (cc)
+quiet_none skel fl head best pc Eq e q d m w = absurd (cc)
+quiet_none skel fl head best pc (Div to) e q d m w = absurd (cc)
+quiet_none skel fl head best pc (Jmp to) e q d m w = absurd (cc)
+quiet_none skel fl head best pc (Jz to) e q d m w = absurd (cc)
+quiet_none skel fl head best pc (Times n) e q d m w = w
+quiet_none skel fl head best pc Next e q d m w = absurd (cc)
+quiet_none skel fl head best pc (Open x j timed) e q d m w = absurd (cc)
+quiet_none skel fl head best pc (Fork x g h) e q d m w = absurd (cc)
+quiet_none skel fl head best pc (Join x a b c) e q d m w = absurd (cc)
+quiet_none skel fl head best pc (Close x) e q d m w = absurd (cc)
+quiet_none skel fl head best pc (Cancelled x) e q d m w = absurd (cc)
+quiet_none skel fl head best pc (Case h a b) e q d m w = absurd (cc)
+quiet_none skel fl head best pc (Get h) e q d m w = absurd (cc)
+quiet_none skel fl head best pc (Except h) e q d m w = absurd (cc)
+quiet_none skel fl head best pc (Tally x k) e q d m w = absurd (cc)
+quiet_none skel fl head best pc (Total x) e q d m w = absurd (cc)
+quiet_none skel fl head best pc (Forget h) e q d m w = absurd (cc)
+quiet_none skel fl head best pc (Bind k) e q d m w = absurd (cc)
+quiet_none skel fl head best pc Unbind e q d m w = absurd (cc)
+quiet_none skel fl head best pc (Read k) e q d m w = absurd (cc)
+quiet_none skel fl head best pc (Bound k) e q d m w = absurd (cc)
+quiet_none skel fl head best pc (OrElse k) e q d m w = absurd (cc)
+quiet_none skel fl head best pc Interrupted e q d m w = absurd (cc)
+quiet_none skel fl head best pc Ret e q d m w = w
+quiet_none skel fl head best pc Fail e q d m w = w
+
+module _ (k : Kind) (earlier : List Budgets) (code : List Instr) (l : Layout) (ready : IsReady earlier code l) where
+  abbrev c : Skeleton
+  c = skeleton earlier code
+
+  abbrev f : Flows
+  f = flows_in k earlier code l
+
+  pub fits_here : FitsEntries c (around code) f
+  fits_here = fits earlier code (around code) ready.good (names_in l) ready.known k
+
+  shaped_end : (pc : ℕ) → c.shape pc ≡ EndsTurn → instr_at code pc ≡ Next
+  shaped_end pc e = next_of any_program code pc (instr_at code pc) (sort any_program code pc (instr_at code pc)) e
+
+  -- the head of the loop that a place ends
+  pub heads_right : (pc : ℕ) → c.shape pc ≡ EndsTurn → ((n : ℕ) × (c.shape (head_in l pc) ≡ Repeats n)) × (c.mate (head_in l pc) ≡ pc)
+  heads_right pc e =
+      let q = ready.good.end pc e in
+      let lp = ready.good.loop q.0 q.1.0 q.1.1.0 in
+      let within : pc < length code = omega (arith, q.1.1.1, lp.2) in
+      let round : around code pc ≡ q.0 ∷ around code q.0 = ap (around code) (sym q.1.1.1) ∙ lp.5 in
+      let head : head_in l pc ≡ q.0 = ap (λ o. unwrap_or o 0) (ready.heads pc within ∙ ap first_of round) in
+      ((q.1.0, ap c.shape head ∙ q.1.1.0), ap c.mate head ∙ q.1.1.1)
+
+  head_times : (pc n : ℕ) → c.shape (head_in l pc) ≡ Repeats n → instr_at code (head_in l pc) ≡ Times n
+  head_times pc n e = ready.known.times (head_in l pc) n e
+
+  pub counts_times : (pc n d : ℕ) → instr_at code pc ≡ Times n → f.added pc d ≡ own_step k
+  counts_times pc n d t = ap (λ j. added_of (effect_of k earlier j (names_in l pc)) (depth_of k (names_in l pc)) d) t ∙ times_counts k earlier n (names_in l pc) d
+
+  pub counts_next : (pc d : ℕ) → instr_at code pc ≡ Next → f.added pc d ≡ own_step k
+  counts_next pc d t = ap (λ j. added_of (effect_of k earlier j (names_in l pc)) (depth_of k (names_in l pc)) d) t ∙ next_counts k earlier (names_in l pc) d
+
+  -- what is new is handed over to the places that the instruction names
+  new_is : (best : ℕ → ℕ → ℕ) (pc : ℕ) (i : Instr) → instr_at code pc ≡ i → Sort any_program code pc i → is_quiet i ≡ false → (q d m : ℕ) → New c f (head_in l) best pc (shape_of pc i) q d m → Among (named i ++ next_place pc i) q × (value_by k earlier code l best pc i d ≡ m)
+  new_is best pc i at (is_times n) quiet q d m w = absurd (cc)
+  new_is best pc i at is_next quiet q d m w =
+      let h = heads_right pc (ap (shape_of pc) at) in
+      let t = head_times pc h.0.0 h.0.1 in
+      let head_counts : f.added (head_in l pc) d ≡ own_step k = ap (λ j. added_of (effect_of k earlier j (names_in l (head_in l pc))) (depth_of k (names_in l (head_in l pc))) d) t ∙ times_counts k earlier h.0.0 (names_in l (head_in l pc)) d in
+      let here_counts : f.added pc d ≡ own_step k = ap (λ j. added_of (effect_of k earlier j (names_in l pc)) (depth_of k (names_in l pc)) d) at ∙ next_counts k earlier (names_in l pc) d in
+      let turns : bound_of (c.shape (head_in l pc)) ≡ turns_of (instr_at code (head_in l pc)) = ap bound_of h.0.1 ∙ sym (ap turns_of t) in
+      (inl w.0, sym (ap (λ x. best (head_in l pc) d + x + bound_of (c.shape (head_in l pc)) * (best pc d + f.added pc d)) head_counts
+        ∙ ap (λ x. best (head_in l pc) d + own_step k + bound_of (c.shape (head_in l pc)) * (best pc d + x)) here_counts
+        ∙ ap (λ x. best (head_in l pc) d + own_step k + x * (best pc d + own_step k)) turns) ∙ w.1)
+  new_is best pc i at (is_end shape none nowhere) quiet q d m w = absurd (subst (λ s. New c f (head_in l) best pc s q d m) shape w)
+  new_is best pc i at (goes_on g) quiet q d m w =
+      let w' : Among (named i ++ next_place pc i) q × (best pc (f.source pc d) + f.added pc d ≡ m) = subst (λ s. New c f (head_in l) best pc s q d m) g.shape w in
+      (w'.0, value_goes k earlier code l best pc i d g ∙ ap (λ j. best pc (source_of (effect_of k earlier j (names_in l pc)) (depth_of k (names_in l pc)) d) + added_of (effect_of k earlier j (names_in l pc)) (depth_of k (names_in l pc)) d) (sym at) ∙ w'.1)
+
+  -- and the other way round
+  new_of : (best : ℕ → ℕ → ℕ) (pc : ℕ) (i : Instr) → instr_at code pc ≡ i → Sort any_program code pc i → is_quiet i ≡ false → (q d : ℕ) → Among (named i ++ next_place pc i) q → New c f (head_in l) best pc (shape_of pc i) q d (value_by k earlier code l best pc i d)
+  new_of best pc i at (is_times n) quiet q d among = absurd (cc)
+  new_of best pc i at is_next quiet q d (inl same) =
+      let h = heads_right pc (ap (shape_of pc) at) in
+      let t = head_times pc h.0.0 h.0.1 in
+      let head_counts : f.added (head_in l pc) d ≡ own_step k = ap (λ j. added_of (effect_of k earlier j (names_in l (head_in l pc))) (depth_of k (names_in l (head_in l pc))) d) t ∙ times_counts k earlier h.0.0 (names_in l (head_in l pc)) d in
+      let here_counts : f.added pc d ≡ own_step k = ap (λ j. added_of (effect_of k earlier j (names_in l pc)) (depth_of k (names_in l pc)) d) at ∙ next_counts k earlier (names_in l pc) d in
+      let turns : bound_of (c.shape (head_in l pc)) ≡ turns_of (instr_at code (head_in l pc)) = ap bound_of h.0.1 ∙ sym (ap turns_of t) in
+      (same, ap (λ x. best (head_in l pc) d + x + bound_of (c.shape (head_in l pc)) * (best pc d + f.added pc d)) head_counts
+        ∙ ap (λ x. best (head_in l pc) d + own_step k + bound_of (c.shape (head_in l pc)) * (best pc d + x)) here_counts
+        ∙ ap (λ x. best (head_in l pc) d + own_step k + x * (best pc d + own_step k)) turns)
+  new_of best pc i at is_next quiet q d (inr out_of) = absurd out_of
+  new_of best pc i at (is_end shape none nowhere) quiet q d among = absurd (subst (λ ps. Among ps q) nowhere among)
+  new_of best pc i at (goes_on g) quiet q d among =
+      let v = value_goes k earlier code l best pc i d g ∙ ap (λ j. best pc (source_of (effect_of k earlier j (names_in l pc)) (depth_of k (names_in l pc)) d) + added_of (effect_of k earlier j (names_in l pc)) (depth_of k (names_in l pc)) d) (sym at) in
+      subst (λ s. New c f (head_in l) best pc s q d (value_by k earlier code l best pc i d)) (sym g.shape) (among, sym v)
+
+  pub quiet_spread : (pc : ℕ) (rows : List (List ℕ)) → is_quiet (instr_at code pc) ≡ true → IsSpread c f (head_in l) pc rows rows
+  quiet_spread pc rows e = record { long = refl; raised = λ q d m lt low w. absurd (quiet_none c f (head_in l) (read rows) pc (instr_at code pc) e q d m w); same = λ q d lt low out. refl }
+
+  capped : (v x most : ℕ) → v ≡ min x 18446744073709551615 → v ≤ most → most < 4294967296 → v ≡ x
+  capped v x most e le small = omega arith
+
+  pub sent_spread : (pc most : ℕ) (values : List ℕ) (before after : List (List ℕ)) → is_quiet (instr_at code pc) ≡ false → most < 4294967296 → ((d : ℕ) → d < 17 → get_or values d 0 ≡ min (handed_value k earlier code l (read before) pc d) 18446744073709551615)
+    → IsSent values (λ q. depth_of k (names_in l q)) most (named (instr_at code pc) ++ next_place pc (instr_at code pc)) before after → IsSpread c f (head_in l) pc before after
+  sent_spread pc most values before after quiet small is sent = record {
+      long = sent.long;
+      raised = λ q d m lt low w. (
+        let n = new_is (read before) pc (instr_at code pc) refl (sort any_program code pc (instr_at code pc)) quiet q d m w in
+        let few = sent.few q n.0 in
+        let le = sent.small q d n.0 low in
+        let v = capped (get_or values d 0) (handed_value k earlier code l (read before) pc d) most (is d (omega arith)) le small in
+        sent.raised q d n.0 low ∙ ap (max (read before q d)) (v ∙ n.1));
+      same = λ q d lt low out. elim (among_cases (named (instr_at code pc) ++ next_place pc (instr_at code pc)) q) [
+          inl a ↦ absurd (out _ (new_of (read before) pc (instr_at code pc) refl (sort any_program code pc (instr_at code pc)) quiet q d a))
+        | inr no_way ↦ sent.same q d no_way ] }
+
+  pub stopped_over : (pc most : ℕ) (values : List ℕ) (before : List (List ℕ)) → pc < length code → is_quiet (instr_at code pc) ≡ false → ((d : ℕ) → d < 17 → get_or values d 0 ≡ min (handed_value k earlier code l (read before) pc d) 18446744073709551615)
+    → IsStopped values (λ q. depth_of k (names_in l q)) most (named (instr_at code pc) ++ next_place pc (instr_at code pc)) → HandsTooMuch c f (head_in l) pc (read before) most
+  stopped_over pc most values before within quiet is (q, (d, h)) =
+      let v = is d (omega (arith, h.2)) in
+      let w = new_of (read before) pc (instr_at code pc) refl (sort any_program code pc (instr_at code pc)) quiet q d h.0 in
+      (q, (d, (_, (inside pc (c.shape pc) refl q d _ (read before) w, h.1, w, omega (arith, v, h.3)))))
+    where
+      inside : (pc : ℕ) (s : Shape) → c.shape pc ≡ s → (q d m : ℕ) (best : ℕ → ℕ → ℕ) → New c f (head_in l) best pc s q d m → q < c.size
+      inside pc (GoesTo places) e q d m best w = (ready.good.forward pc q places e w.0).1
+      inside pc (Repeats n) e q d m best w = absurd w
+      inside pc EndsTurn e q d m best w =
+          let h = heads_right pc e in
+          let lp = ready.good.loop (head_in l pc) h.0.0 h.0.1 in
+          omega (arith, lp.2, h.1, w.0)
+      inside pc EndsPath e q d m best w = absurd w
+
+  -- where the instruction leads to lies in the code
+  pub leads_in : (pc q : ℕ) → is_quiet (instr_at code pc) ≡ false → Among (named (instr_at code pc) ++ next_place pc (instr_at code pc)) q → q < length code
+  leads_in pc q quiet among = by (c.shape pc) refl (new_of (λ x y. 0) pc (instr_at code pc) refl (sort any_program code pc (instr_at code pc)) quiet q 0 among)
+    where
+      by : (s : Shape) → c.shape pc ≡ s → New c f (head_in l) (λ x y. 0) pc s q 0 (value_by k earlier code l (λ x y. 0) pc (instr_at code pc) 0) → q < length code
+      by (GoesTo places) e w = (ready.good.forward pc q places e w.0).1
+      by (Repeats n) e w = absurd w
+      by EndsTurn e w =
+          let h = heads_right pc e in
+          let lp = ready.good.loop (head_in l pc) h.0.0 h.0.1 in
+          omega (arith, lp.2, h.1, w.0)
+      by EndsPath e w = absurd w
+
+  -- ---- the pass
+
+  pub partial_none : (rows : List (List ℕ)) → rows ≡ replicate (length code) (replicate 17 0) → IsPartial c f 0 rows
+  partial_none rows e = record {
+      long = ap length e ∙ length-replicate (length code) (replicate 17 0);
+      greatest = λ pc d lt low. ((λ m h. absurd (nothing pc d m h)), inr (zero_at pc d lt, nothing pc d)) }
+    where
+      nothing : (pc d m : ℕ) → Handed c f (read rows) 0 pc d m → ⊥
+      nothing pc d m (over_go from to x places lt e among low) = omega arith
+      nothing pc d m (over_loop p n x lt e low) = omega arith
+      zeros : (n d : ℕ) → get_or {A = ℕ} (replicate n 0) d 0 ≡ 0
+      zeros zero d = refl
+      zeros (suc n) zero = refl
+      zeros (suc n) (suc d) = zeros n d
+      zero_at : (pc d : ℕ) → pc < length code → read rows pc d ≡ 0
+      zero_at pc d lt = ap (λ (xs : List (List ℕ)). get_or (get_or xs pc []) d 0) e ∙ ap (λ (x : List ℕ). get_or x d 0) (get_or-replicate (length code) pc (replicate 17 0) [] lt) ∙ zeros 17 d
+
+  pub partial_next : (pc : ℕ) (before after : List (List ℕ)) → IsPartial c f pc before → IsSpread c f (head_in l) pc before after → IsPartial c f (pc + 1) after
+  partial_next pc before after h sp = partial_more c (around code) ready.good f fits_here (head_in l) heads_right pc before after h sp
+
+  -- where a place hands on too much, so much stands at some point
+  pub too_much : (pc most : ℕ) (rows : List (List ℕ)) → pc < length code → IsPartial c f pc rows → HandsTooMuch c f (head_in l) pc (read rows) most → Passes c f most
+  too_much pc most rows within h (q, (d, (m, t))) = by (c.shape pc) refl t.2
+    where
+      s : IsSourced c f (read rows) (pc + 1)
+      s = sourced c (around code) ready.good f fits_here (head_in l) heads_right pc (pc + 1) rows (omega arith) (omega arith) h ready.led
+      by : (sh : Shape) → c.shape pc ≡ sh → New c f (head_in l) (read rows) pc sh q d m → Passes c f most
+      by (GoesTo places) e w = (m, (subst (Stands c f) w.1 (go_stands c (around code) ready.good f fits_here (read rows) (pc + 1) s pc q d places (omega arith) e w.0 t.1), t.3))
+      by (Repeats n) e w = absurd w
+      by EndsTurn e w =
+          let hd = heads_right pc e in
+          let same = fits_here.same (head_in l pc) hd.0.0 hd.0.1 in
+          let place : c.mate (head_in l pc) + 1 ≡ q = ap (λ x. x + 1) hd.1 ∙ w.0 in
+          let low : d ≤ f.depth (head_in l pc) = omega (arith, same.2, ap f.depth place, t.1) in
+          let st = loop_stands c (around code) ready.good f fits_here (read rows) (pc + 1) s (head_in l pc) hd.0.0 d (omega (arith, hd.1)) hd.0.1 low in
+          let turns : hd.0.0 ≡ bound_of (c.shape (head_in l pc)) = ap bound_of (sym hd.0.1) in
+          let v : read rows (head_in l pc) d + f.added (head_in l pc) d + hd.0.0 * (read rows (c.mate (head_in l pc)) d + f.added (c.mate (head_in l pc)) d) ≡ m =
+                ap (λ x. read rows (head_in l pc) d + f.added (head_in l pc) d + x * (read rows (c.mate (head_in l pc)) d + f.added (c.mate (head_in l pc)) d)) turns
+                ∙ ap (λ x. read rows (head_in l pc) d + f.added (head_in l pc) d + bound_of (c.shape (head_in l pc)) * (read rows x d + f.added x d)) hd.1 ∙ w.1 in
+          (m, (subst (Stands c f) v st, t.3))
+      by EndsPath e w = absurd w

@@ -1,0 +1,80 @@
+-- A layout of a well-typed function is right of its code.
+use Rattle.std.proofs.Common.{◌≡◌, ℕ, ◌<◌, List, [], Option, None, length, get_or, take, refl, sym, ap, ◌∙◌, subst, arith}
+use Rattle.sts_code.specs.Checks.{program_fault}
+use Rattle.sts_code.specs.Program.{Program, routine}
+use Rattle.sts_code.specs.declared.instr.Instr.{Instr}
+use Rattle.sts_code.specs.declared.instr.Instr.TheVariants.{Push, Pop, Dup, Swap, Load, Store, Add, Sub, Mul, Lt, Eq, Div, Jmp, Jz, Times, Next, Open, Fork, Join, Close, Cancelled, Case, Get, Except, Tally, Total, Forget, Bind, Unbind, Read, Bound, OrElse, Interrupted, Ret, Fail}
+use Rattle.sts_model.specs.Around.{instr_at}
+use Rattle.sts_model.specs.Flow.{IsClear, IsAlone}
+use Rattle.sts_model.specs.Refusal.{IsWellTyped}
+use Rattle.sts_model.specs.declared.budget.Budgets.{Budgets}
+use Rattle.sts_budget.specs.declared.layout.Layout.{Layout}
+use Rattle.sts_budget.specs.Effect.{ForksEarlier}
+use Rattle.sts_budget.specs.Known.{NamesRight}
+use Rattle.sts_budget.specs.Laid.{IsLaid, IsLaidOut, IsRight}
+use Rattle.sts_budget.specs.Ready.{IsReady, names_in}
+use Rattle.sts_budget.proofs.Checked.{IsChecked, is_checked}
+use Rattle.sts_budget.proofs.Laid.{is_written}
+use Rattle.sts_budget.proofs.Named.{led, knows_names}
+use Rattle.sts_budget.proofs.Typed.{fits, structured, opened, Opened}
+
+-- each fork is of an earlier function
+forks : (f pc : ℕ) (i : Instr) → ((x g : ℕ) (h : Option ℕ) → i ≡ Fork x g h → g < f) → ForksEarlier f i
+forks f pc (Push v) e = tt
+forks f pc Pop e = tt
+forks f pc Dup e = tt
+forks f pc Swap e = tt
+forks f pc (Load x) e = tt
+forks f pc (Store x) e = tt
+forks f pc Add e = tt
+forks f pc Sub e = tt
+forks f pc Mul e = tt
+forks f pc Lt e = tt
+forks f pc Eq e = tt
+forks f pc (Div to) e = tt
+forks f pc (Jmp to) e = tt
+forks f pc (Jz to) e = tt
+forks f pc (Times n) e = tt
+forks f pc Next e = tt
+forks f pc (Open x j timed) e = tt
+forks f pc (Fork x g h) e = e x g h refl
+forks f pc (Join x a b c) e = tt
+forks f pc (Close x) e = tt
+forks f pc (Cancelled x) e = tt
+forks f pc (Case h a b) e = tt
+forks f pc (Get h) e = tt
+forks f pc (Except h) e = tt
+forks f pc (Tally x v) e = tt
+forks f pc (Total x) e = tt
+forks f pc (Forget h) e = tt
+forks f pc (Bind v) e = tt
+forks f pc Unbind e = tt
+forks f pc (Read v) e = tt
+forks f pc (Bound v) e = tt
+forks f pc (OrElse v) e = tt
+forks f pc Interrupted e = tt
+forks f pc Ret e = tt
+forks f pc Fail e = tt
+
+pub is_ready : (p : Program) (f : ℕ) (earlier : List Budgets) (code : List Instr) (l : Layout) → program_fault p.routines ≡ None → f < length p.routines → IsWellTyped p f → length earlier ≡ f → code ≡ (routine p f).code → IsLaidOut p f l → IsReady earlier code l
+is_ready p f earlier code l fine in_program typed long is laid = subst (λ xs. IsReady earlier xs l) (sym is) ready
+  where
+    c : IsChecked p f
+    c = is_checked p f fine in_program
+    right : (pc : ℕ) → pc < length (routine p f).code → IsRight p f l.heads.items l.names.items pc
+    right pc lt = laid.right pc lt (is_written p f typed c.some_code c.bounds (length (routine p f).code) pc (omega arith) lt)
+    names_right : NamesRight p f (names_in l)
+    names_right pc s r = (right pc (fits p f typed c.some_code c.bounds earlier pc s r).1).name s r
+    ready : IsReady earlier (routine p f).code l
+    ready = record {
+      good = structured p f typed c.some_code c.bounds earlier;
+      known = knows_names p f typed c.some_code c.bounds earlier (names_in l) names_right;
+      led = led p f typed c.some_code c.bounds earlier;
+      heads = λ pc lt. (right pc lt).head;
+      mates = λ h n t. (let o = opened p f typed c.some_code c.bounds earlier h n t in laid.mated h n t o.end o.ends (omega (arith, o.within)) ∙ sym o.mate);
+      heads_long = laid.heads_long;
+      mates_long = laid.mates_long;
+      names_long = laid.names_long;
+      forks = λ pc. subst (λ n. ForksEarlier n (instr_at (routine p f).code pc)) (sym long) (forks f pc (instr_at (routine p f).code pc) (c.earlier pc));
+      turns = c.few;
+      short = c.short }

@@ -1,0 +1,215 @@
+-- What the typing of each instruction says of the control flow and of the open entries.
+use Rattle.std.proofs.Common.{◌≡◌, ◌≢◌, ℕ, zero, suc, ◌+◌, ◌-◌, ◌<◌, ◌≤◌, ◌⊎◌, inl, inr, List, [], ◌∷◌, ◌++◌, length, drop, map, Bool, true, false, cond, not, ◌&&◌, ◌||◌, ◌==◌, Option, Some, None, Result, Ok, Err, find, refl, sym, ap, ◌∙◌, subst, arith, slice_set, slice_get}
+use Rattle.sts_code.specs.Program.{Program, routine}
+use Rattle.sts_code.specs.declared.instr.Instr.{Instr}
+use Rattle.sts_code.specs.declared.instr.Instr.TheVariants.{Push, Pop, Dup, Swap, Load, Store, Add, Sub, Mul, Lt, Eq, Div, Jmp, Jz, Times, Next, Open, Fork, Join, Close, Cancelled, Case, Get, Except, Tally, Total, Forget, Bind, Unbind, Read, Bound, OrElse, Interrupted, Ret, Fail}
+use Rattle.sts_model.specs.declared.typing.TypedEntry.{TypedEntry}
+use Rattle.sts_model.specs.declared.typing.TypedEntry.TheVariants.{Scope, Binding}
+use Rattle.sts_model.specs.declared.typing.TypedPhase.{TypedPhase}
+use Rattle.sts_model.specs.declared.typing.TypedPhase.TheVariants.{Opened, Attempted, Joined, Late}
+use Rattle.sts_model.specs.declared.typing.Known.TheVariants.{Unknown, Success, Failed}
+use Rattle.sts_model.specs.declared.typing.SlotKind.{SlotKind}
+use Rattle.sts_model.specs.declared.typing.SlotKind.TheVariants.{Empty, Own, Sub}
+use Rattle.sts_model.specs.TypeState.{TypeState, kind, scope_in}
+use Rattle.sts_model.specs.Flow.{Leads}
+use Rattle.sts_model.specs.Around.{named, falls_through, next_place, skipped_to, open_after}
+use Rattle.sts_model.specs.Edges.{follows, moved, with_slot, with_known, with_phase, phase_set, raised, after_ok, joiner_of, cleared, to_optional, join_follows}
+use Rattle.sts_model.specs.ControlPaths.{Shape, GoesTo, Repeats, EndsTurn, EndsPath, Among}
+use Rattle.sts_model.specs.Budget.{shape_of}
+use Rattle.sts_budget.specs.Layout.{Names, names_after}
+use Rattle.sts_budget.specs.TypedNames.{name_of, names}
+
+name_kept : (x : ℕ) (phase : TypedPhase) (e : TypedEntry) → name_of (phase_set x phase e) ≡ name_of e
+name_kept x phase (Binding k) = refl
+name_kept x phase (Scope r) = elim (r.slot == x) as (λ b. name_of (cond b (Scope (record r { phase = phase })) (Scope r)) ≡ Some r.slot) [ true ↦ refl | false ↦ refl ]
+
+names_kept : (x : ℕ) (phase : TypedPhase) (es : List TypedEntry) → names (map (phase_set x phase) es) ≡ names es
+names_kept x phase [] = refl
+names_kept x phase (e ∷ es) = ap (λ n. n ∷ names (map (phase_set x phase) es)) (name_kept x phase e) ∙ ap (λ ns. name_of e ∷ ns) (names_kept x phase es)
+
+names_dropped : (es : List TypedEntry) → names (drop 1 es) ≡ drop 1 (names es)
+names_dropped [] = refl
+names_dropped (e ∷ es) = refl
+
+-- an instruction that goes on at the places that it names and at the next one, as its typing does
+pub record GoesOn (p : Program) (code : List Instr) (pc : ℕ) (i : Instr) : Type 0 where
+  pub shape : shape_of pc i ≡ GoesTo (named i ++ next_place pc i)
+  pub no_skip : skipped_to code pc i ≡ []
+  pub keeps_loops : (hs : List ℕ) → open_after pc i hs ≡ hs
+  pub from : (s : TypeState) (to : ℕ) (x : TypeState) → Leads (follows p code pc i s) to x → Among (named i ++ next_place pc i) to × (x.loops ≡ s.loops) × (names x.entries ≡ names_after i (names s.entries))
+  pub into : (s : TypeState) (to : ℕ) → Among (named i ++ next_place pc i) to → (x : TypeState) × Leads (follows p code pc i s) to x
+  pub some : (to : ℕ) × Among (named i ++ next_place pc i) to
+
+pub data Sort (p : Program) (code : List Instr) (pc : ℕ) : Instr → Type 0 where
+  is_times : (n : ℕ) → Sort p code pc (Times n)
+  is_next : Sort p code pc Next
+  is_end : {i : Instr} → shape_of pc i ≡ EndsPath → ((s : TypeState) → follows p code pc i s ≡ []) → (named i ++ next_place pc i ≡ []) → Sort p code pc i
+  goes_on : {i : Instr} → GoesOn p code pc i → Sort p code pc i
+
+-- an instruction that goes on at the next place alone
+single : (p : Program) (code : List Instr) (pc : ℕ) (i : Instr) (out : TypeState → TypeState) → shape_of pc i ≡ GoesTo (named i ++ next_place pc i) → (named i ++ next_place pc i ≡ (pc + 1) ∷ []) → skipped_to code pc i ≡ [] → ((hs : List ℕ) → open_after pc i hs ≡ hs)
+    → ((s : TypeState) → follows p code pc i s ≡ (pc + 1, out s) ∷ []) → ((s : TypeState) → (out s).loops ≡ s.loops) → ((s : TypeState) → names (out s).entries ≡ names_after i (names s.entries)) → GoesOn p code pc i
+single p code pc i out shape places no_skip keeps is loops entries = record {
+    shape = shape; no_skip = no_skip; keeps_loops = keeps;
+    from = λ s to x l. at s to x (subst (λ o. Leads o to x) (is s) l);
+    into = λ s to a. (out s, subst (λ o. Leads o to (out s)) (sym (is s)) (elim (subst (λ ps. Among ps to) places a) [ inl e ↦ inl (e, refl) | inr out_of ↦ absurd out_of ]));
+    some = (pc + 1, subst (λ ps. Among ps (pc + 1)) (sym places) (inl refl)) }
+  where
+    at : (s : TypeState) (to : ℕ) (x : TypeState) → Leads ((pc + 1, out s) ∷ []) to x → Among (named i ++ next_place pc i) to × (x.loops ≡ s.loops) × (names x.entries ≡ names_after i (names s.entries))
+    at s to x (inl e) = (subst (λ ps. Among ps to) (sym places) (inl e.0), ap (λ (y : TypeState). y.loops) (sym e.1) ∙ loops s, ap (λ (y : TypeState). names y.entries) (sym e.1) ∙ entries s)
+    at s to x (inr out_of) = absurd out_of
+
+-- one of two lists
+pub among_of : (xs ys : List ℕ) (to : ℕ) → Among (xs ++ ys) to → Among xs to ⊎ Among ys to
+among_of [] ys to a = inr a
+among_of (x ∷ xs) ys to (inl e) = inl (inl e)
+among_of (x ∷ xs) ys to (inr a) = elim (among_of xs ys to a) [ inl b ↦ inl (inr b) | inr b ↦ inr b ]
+
+pub among_left : (xs ys : List ℕ) (to : ℕ) → Among xs to → Among (xs ++ ys) to
+among_left [] ys to a = absurd a
+among_left (x ∷ xs) ys to (inl e) = inl e
+among_left (x ∷ xs) ys to (inr a) = inr (among_left xs ys to a)
+
+pub among_right : (xs ys : List ℕ) (to : ℕ) → Among ys to → Among (xs ++ ys) to
+among_right [] ys to a = a
+among_right (x ∷ xs) ys to a = inr (among_right xs ys to a)
+
+slot_loops : (h : Option ℕ) (k : SlotKind) (s : TypeState) → (with_slot h k s).loops ≡ s.loops
+slot_loops None k s = refl
+slot_loops (Some x) k s = refl
+
+slot_names : (h : Option ℕ) (k : SlotKind) (s : TypeState) → names (with_slot h k s).entries ≡ names s.entries
+slot_names None k s = refl
+slot_names (Some x) k s = refl
+
+jump : (p : Program) (code : List Instr) (pc to : ℕ) → GoesOn p code pc (Jmp to)
+jump p code pc to = record {
+    shape = refl; no_skip = refl; keeps_loops = λ hs. refl;
+    from = λ s q x. elim [ inl e ↦ (inl e.0, ap (λ (y : TypeState). y.loops) (sym e.1), ap (λ (y : TypeState). names y.entries) (sym e.1)) | inr out_of ↦ absurd out_of ];
+    into = λ s q. elim [ inl e ↦ (s, inl (e, refl)) | inr out_of ↦ absurd out_of ];
+    some = (to, inl refl) }
+
+-- to the next place, or to the one named
+branch : (p : Program) (code : List Instr) (pc to : ℕ) (i : Instr) (here there : TypeState → TypeState) → shape_of pc i ≡ GoesTo (named i ++ next_place pc i) → (named i ++ next_place pc i ≡ to ∷ (pc + 1) ∷ []) → skipped_to code pc i ≡ [] → ((hs : List ℕ) → open_after pc i hs ≡ hs)
+    → ((s : TypeState) → follows p code pc i s ≡ (pc + 1, here s) ∷ (to, there s) ∷ []) → ((s : TypeState) → ((here s).loops ≡ s.loops) × ((there s).loops ≡ s.loops)) → ((s : TypeState) → (names (here s).entries ≡ names_after i (names s.entries)) × (names (there s).entries ≡ names_after i (names s.entries))) → GoesOn p code pc i
+branch p code pc to i here there shape places no_skip keeps is loops entries = record {
+    shape = shape; no_skip = no_skip; keeps_loops = keeps;
+    from = λ s q x l. at s q x (subst (λ o. Leads o q x) (is s) l);
+    into = λ s q a. back s q (subst (λ ps. Among ps q) places a);
+    some = (pc + 1, subst (λ ps. Among ps (pc + 1)) (sym places) (inr (inl refl))) }
+  where
+    at : (s : TypeState) (q : ℕ) (x : TypeState) → Leads ((pc + 1, here s) ∷ (to, there s) ∷ []) q x → Among (named i ++ next_place pc i) q × (x.loops ≡ s.loops) × (names x.entries ≡ names_after i (names s.entries))
+    at s q x (inl e) = (subst (λ ps. Among ps q) (sym places) (inr (inl e.0)), ap (λ (y : TypeState). y.loops) (sym e.1) ∙ (loops s).0, ap (λ (y : TypeState). names y.entries) (sym e.1) ∙ (entries s).0)
+    at s q x (inr (inl e)) = (subst (λ ps. Among ps q) (sym places) (inl e.0), ap (λ (y : TypeState). y.loops) (sym e.1) ∙ (loops s).1, ap (λ (y : TypeState). names y.entries) (sym e.1) ∙ (entries s).1)
+    at s q x (inr (inr out_of)) = absurd out_of
+    back : (s : TypeState) (q : ℕ) → Among (to ∷ (pc + 1) ∷ []) q → (x : TypeState) × Leads (follows p code pc i s) q x
+    back s q (inl e) = (there s, subst (λ o. Leads o q (there s)) (sym (is s)) (inr (inl (e, refl))))
+    back s q (inr (inl e)) = (here s, subst (λ o. Leads o q (here s)) (sym (is s)) (inl (e, refl)))
+    back s q (inr (inr out_of)) = absurd out_of
+
+cases_of : (p : Program) (code : List Instr) (pc h success failed : ℕ) → GoesOn p code pc (Case h success failed)
+cases_of p code pc h success failed = record {
+    shape = refl; no_skip = refl; keeps_loops = λ hs. refl;
+    from = at; into = back; some = (pc + 1, inr (inr (inl refl))) }
+  where
+    at : (s : TypeState) (q : ℕ) (x : TypeState) → Leads (follows p code pc (Case h success failed) s) q x → Among (success ∷ failed ∷ (pc + 1) ∷ []) q × (x.loops ≡ s.loops) × (names x.entries ≡ names s.entries)
+    at s q x (inl e) = (inr (inr (inl e.0)), ap (λ (y : TypeState). y.loops) (sym e.1), ap (λ (y : TypeState). names y.entries) (sym e.1))
+    at s q x (inr (inl e)) = (inl e.0, ap (λ (y : TypeState). y.loops) (sym e.1), ap (λ (y : TypeState). names y.entries) (sym e.1))
+    at s q x (inr (inr (inl e))) = (inr (inl e.0), ap (λ (y : TypeState). y.loops) (sym e.1), ap (λ (y : TypeState). names y.entries) (sym e.1))
+    at s q x (inr (inr (inr out_of))) = absurd out_of
+    back : (s : TypeState) (q : ℕ) → Among (success ∷ failed ∷ (pc + 1) ∷ []) q → (x : TypeState) × Leads (follows p code pc (Case h success failed) s) q x
+    back s q (inl e) = (with_known h Success s, inr (inl (e, refl)))
+    back s q (inr (inl e)) = (with_known h Failed s, inr (inr (inl (e, refl))))
+    back s q (inr (inr (inl e))) = (with_known h Unknown s, inl (e, refl))
+    back s q (inr (inr (inr out_of))) = absurd out_of
+
+join_of : (p : Program) (code : List Instr) (pc x : ℕ) (failed timeout : Option ℕ) (interrupted : ℕ) → GoesOn p code pc (Join x failed timeout interrupted)
+join_of p code pc x failed timeout interrupted = record {
+    shape = refl; no_skip = refl; keeps_loops = λ hs. refl;
+    from = at failed timeout; into = back failed timeout; some = (interrupted, among_left (named (Join x failed timeout interrupted)) ((pc + 1) ∷ []) interrupted (last failed timeout)) }
+  where
+    last : (failed timeout : Option ℕ) → Among (named (Join x failed timeout interrupted)) interrupted
+    last None None = inl refl
+    last None (Some t) = inr (inl refl)
+    last (Some f) None = inr (inl refl)
+    last (Some f) (Some t) = inr (inr (inl refl))
+    phased : (s y : TypeState) (phase : TypedPhase) → names y.entries ≡ names (map (phase_set x phase) s.entries) → names y.entries ≡ names s.entries
+    phased s y phase e = e ∙ names_kept x phase s.entries
+    joined : (s y : TypeState) → after_ok x (joiner_of (scope_in s.entries x)) s ≡ y → (y.loops ≡ s.loops) × (names y.entries ≡ names s.entries)
+    joined s y e = (ap (λ (z : TypeState). z.loops) (sym e), phased s y Joined (ap (λ (z : TypeState). names z.entries) (sym e)))
+    failing : (s y : TypeState) → raised 1 (with_phase x Joined s) ≡ y → (y.loops ≡ s.loops) × (names y.entries ≡ names s.entries)
+    failing s y e = (ap (λ (z : TypeState). z.loops) (sym e), phased s y Joined (ap (λ (z : TypeState). names z.entries) (sym e)))
+    moving : (s y : TypeState) (phase : TypedPhase) → with_phase x phase s ≡ y → (y.loops ≡ s.loops) × (names y.entries ≡ names s.entries)
+    moving s y phase e = (ap (λ (z : TypeState). z.loops) (sym e), phased s y phase (ap (λ (z : TypeState). names z.entries) (sym e)))
+    at : (failed timeout : Option ℕ) (s : TypeState) (q : ℕ) (y : TypeState) → Leads (join_follows pc x failed timeout interrupted s) q y → Among (named (Join x failed timeout interrupted) ++ next_place pc (Join x failed timeout interrupted)) q × (y.loops ≡ s.loops) × (names y.entries ≡ names s.entries)
+    at None None s q y (inl e) = (inr (inl e.0), (joined s y e.1).0, (joined s y e.1).1)
+    at None None s q y (inr (inl e)) = (inl e.0, (moving s y Attempted e.1).0, (moving s y Attempted e.1).1)
+    at None None s q y (inr (inr out_of)) = absurd out_of
+    at None (Some t) s q y (inl e) = (inr (inr (inl e.0)), (joined s y e.1).0, (joined s y e.1).1)
+    at None (Some t) s q y (inr (inl e)) = (inl e.0, (moving s y Late e.1).0, (moving s y Late e.1).1)
+    at None (Some t) s q y (inr (inr (inl e))) = (inr (inl e.0), (moving s y Attempted e.1).0, (moving s y Attempted e.1).1)
+    at None (Some t) s q y (inr (inr (inr out_of))) = absurd out_of
+    at (Some f) None s q y (inl e) = (inr (inr (inl e.0)), (joined s y e.1).0, (joined s y e.1).1)
+    at (Some f) None s q y (inr (inl e)) = (inl e.0, (failing s y e.1).0, (failing s y e.1).1)
+    at (Some f) None s q y (inr (inr (inl e))) = (inr (inl e.0), (moving s y Attempted e.1).0, (moving s y Attempted e.1).1)
+    at (Some f) None s q y (inr (inr (inr out_of))) = absurd out_of
+    at (Some f) (Some t) s q y (inl e) = (inr (inr (inr (inl e.0))), (joined s y e.1).0, (joined s y e.1).1)
+    at (Some f) (Some t) s q y (inr (inl e)) = (inl e.0, (failing s y e.1).0, (failing s y e.1).1)
+    at (Some f) (Some t) s q y (inr (inr (inl e))) = (inr (inl e.0), (moving s y Late e.1).0, (moving s y Late e.1).1)
+    at (Some f) (Some t) s q y (inr (inr (inr (inl e)))) = (inr (inr (inl e.0)), (moving s y Attempted e.1).0, (moving s y Attempted e.1).1)
+    at (Some f) (Some t) s q y (inr (inr (inr (inr out_of)))) = absurd out_of
+    back : (failed timeout : Option ℕ) (s : TypeState) (q : ℕ) → Among (named (Join x failed timeout interrupted) ++ next_place pc (Join x failed timeout interrupted)) q → (y : TypeState) × Leads (join_follows pc x failed timeout interrupted s) q y
+    back None None s q (inl e) = (with_phase x Attempted s, inr (inl (e, refl)))
+    back None None s q (inr (inl e)) = (after_ok x (joiner_of (scope_in s.entries x)) s, inl (e, refl))
+    back None None s q (inr (inr out_of)) = absurd out_of
+    back None (Some t) s q (inl e) = (with_phase x Late s, inr (inl (e, refl)))
+    back None (Some t) s q (inr (inl e)) = (with_phase x Attempted s, inr (inr (inl (e, refl))))
+    back None (Some t) s q (inr (inr (inl e))) = (after_ok x (joiner_of (scope_in s.entries x)) s, inl (e, refl))
+    back None (Some t) s q (inr (inr (inr out_of))) = absurd out_of
+    back (Some f) None s q (inl e) = (raised 1 (with_phase x Joined s), inr (inl (e, refl)))
+    back (Some f) None s q (inr (inl e)) = (with_phase x Attempted s, inr (inr (inl (e, refl))))
+    back (Some f) None s q (inr (inr (inl e))) = (after_ok x (joiner_of (scope_in s.entries x)) s, inl (e, refl))
+    back (Some f) None s q (inr (inr (inr out_of))) = absurd out_of
+    back (Some f) (Some t) s q (inl e) = (raised 1 (with_phase x Joined s), inr (inl (e, refl)))
+    back (Some f) (Some t) s q (inr (inl e)) = (with_phase x Late s, inr (inr (inl (e, refl))))
+    back (Some f) (Some t) s q (inr (inr (inl e))) = (with_phase x Attempted s, inr (inr (inr (inl (e, refl)))))
+    back (Some f) (Some t) s q (inr (inr (inr (inl e)))) = (after_ok x (joiner_of (scope_in s.entries x)) s, inl (e, refl))
+    back (Some f) (Some t) s q (inr (inr (inr (inr out_of)))) = absurd out_of
+
+-- which sort of instruction it is
+pub sort : (p : Program) (code : List Instr) (pc : ℕ) (i : Instr) → Sort p code pc i
+sort p code pc (Times n) = is_times n
+sort p code pc Next = is_next
+sort p code pc Ret = is_end refl (λ s. refl) refl
+sort p code pc Fail = is_end refl (λ s. refl) refl
+sort p code pc (Jmp to) = goes_on (jump p code pc to)
+sort p code pc (Div to) = goes_on (branch p code pc to (Div to) (λ s. record s { height = s.height - 1 }) (λ s. record s { height = s.height - 2 }) refl refl refl (λ hs. refl) (λ s. refl) (λ s. (refl, refl)) (λ s. (refl, refl)))
+sort p code pc (Jz to) = goes_on (branch p code pc to (Jz to) (λ s. moved p (Jz to) s) (λ s. moved p (Jz to) s) refl refl refl (λ hs. refl) (λ s. refl) (λ s. (refl, refl)) (λ s. (refl, refl)))
+sort p code pc (Case h success failed) = goes_on (cases_of p code pc h success failed)
+sort p code pc (Join x failed timeout interrupted) = goes_on (join_of p code pc x failed timeout interrupted)
+sort p code pc (Push k) = goes_on (single p code pc (Push k) (λ s. moved p (Push k) s) refl refl refl (λ hs. refl) (λ s. refl) (λ s. refl) (λ s. refl))
+sort p code pc Pop = goes_on (single p code pc Pop (λ s. moved p Pop s) refl refl refl (λ hs. refl) (λ s. refl) (λ s. refl) (λ s. refl))
+sort p code pc Dup = goes_on (single p code pc Dup (λ s. moved p Dup s) refl refl refl (λ hs. refl) (λ s. refl) (λ s. refl) (λ s. refl))
+sort p code pc Swap = goes_on (single p code pc Swap (λ s. moved p Swap s) refl refl refl (λ hs. refl) (λ s. refl) (λ s. refl) (λ s. refl))
+sort p code pc (Load x) = goes_on (single p code pc (Load x) (λ s. moved p (Load x) s) refl refl refl (λ hs. refl) (λ s. refl) (λ s. refl) (λ s. refl))
+sort p code pc (Store x) = goes_on (single p code pc (Store x) (λ s. moved p (Store x) s) refl refl refl (λ hs. refl) (λ s. refl) (λ s. refl) (λ s. refl))
+sort p code pc Add = goes_on (single p code pc Add (λ s. moved p Add s) refl refl refl (λ hs. refl) (λ s. refl) (λ s. refl) (λ s. refl))
+sort p code pc Sub = goes_on (single p code pc Sub (λ s. moved p Sub s) refl refl refl (λ hs. refl) (λ s. refl) (λ s. refl) (λ s. refl))
+sort p code pc Mul = goes_on (single p code pc Mul (λ s. moved p Mul s) refl refl refl (λ hs. refl) (λ s. refl) (λ s. refl) (λ s. refl))
+sort p code pc Lt = goes_on (single p code pc Lt (λ s. moved p Lt s) refl refl refl (λ hs. refl) (λ s. refl) (λ s. refl) (λ s. refl))
+sort p code pc Eq = goes_on (single p code pc Eq (λ s. moved p Eq s) refl refl refl (λ hs. refl) (λ s. refl) (λ s. refl) (λ s. refl))
+sort p code pc (Cancelled x) = goes_on (single p code pc (Cancelled x) (λ s. moved p (Cancelled x) s) refl refl refl (λ hs. refl) (λ s. refl) (λ s. refl) (λ s. refl))
+sort p code pc (Get x) = goes_on (single p code pc (Get x) (λ s. moved p (Get x) s) refl refl refl (λ hs. refl) (λ s. refl) (λ s. refl) (λ s. refl))
+sort p code pc (Except x) = goes_on (single p code pc (Except x) (λ s. moved p (Except x) s) refl refl refl (λ hs. refl) (λ s. refl) (λ s. refl) (λ s. refl))
+sort p code pc (Tally x k) = goes_on (single p code pc (Tally x k) (λ s. moved p (Tally x k) s) refl refl refl (λ hs. refl) (λ s. refl) (λ s. refl) (λ s. refl))
+sort p code pc (Total x) = goes_on (single p code pc (Total x) (λ s. moved p (Total x) s) refl refl refl (λ hs. refl) (λ s. refl) (λ s. refl) (λ s. refl))
+sort p code pc (Read x) = goes_on (single p code pc (Read x) (λ s. moved p (Read x) s) refl refl refl (λ hs. refl) (λ s. refl) (λ s. refl) (λ s. refl))
+sort p code pc (Bound x) = goes_on (single p code pc (Bound x) (λ s. moved p (Bound x) s) refl refl refl (λ hs. refl) (λ s. refl) (λ s. refl) (λ s. refl))
+sort p code pc (OrElse x) = goes_on (single p code pc (OrElse x) (λ s. moved p (OrElse x) s) refl refl refl (λ hs. refl) (λ s. refl) (λ s. refl) (λ s. refl))
+sort p code pc Interrupted = goes_on (single p code pc Interrupted (λ s. moved p Interrupted s) refl refl refl (λ hs. refl) (λ s. refl) (λ s. refl) (λ s. refl))
+sort p code pc (Open x j timed) = goes_on (single p code pc (Open x j timed) (λ s. record s { entries = Scope (record { slot = x; joiner = j; timed = timed; phase = Opened }) ∷ s.entries; slots = slice_set s.slots x Own }) refl refl refl (λ hs. refl) (λ s. refl) (λ s. refl) (λ s. refl))
+sort p code pc (Close x) = goes_on (single p code pc (Close x) (λ s. record s { entries = drop 1 s.entries; slots = cleared x s.slots }) refl refl refl (λ hs. refl) (λ s. refl) (λ s. refl) (λ s. names_dropped s.entries))
+sort p code pc (Forget h) = goes_on (single p code pc (Forget h) (λ s. with_slot (Some h) Empty s) refl refl refl (λ hs. refl) (λ s. refl) (λ s. refl) (λ s. refl))
+sort p code pc (Bind k) = goes_on (single p code pc (Bind k) (λ s. record (moved p (Bind k) s) { entries = Binding k ∷ s.entries }) refl refl refl (λ hs. refl) (λ s. refl) (λ s. refl) (λ s. refl))
+sort p code pc Unbind = goes_on (single p code pc Unbind (λ s. record s { entries = drop 1 s.entries }) refl refl refl (λ hs. refl) (λ s. refl) (λ s. refl) (λ s. names_dropped s.entries))
+sort p code pc (Fork x g h) = goes_on (single p code pc (Fork x g h) (λ s. with_slot h (Sub x Unknown) (moved p (Fork x g h) s)) refl refl refl (λ hs. refl) (λ s. refl) (λ s. slot_loops h (Sub x Unknown) (moved p (Fork x g h) s)) (λ s. slot_names h (Sub x Unknown) (moved p (Fork x g h) s)))

@@ -1,0 +1,28 @@
+use Rattle.std.proofs.Common.{◌≡◌, ◌<◌, ◌≤◌, ℕ, List, [], length, get_or, set, refl, sym, ap, ◌∙◌, subst, arith}
+use Rattle.sts_budget.specs.Effect.{depth_of}
+use Rattle.sts_budget.specs.Row.{IsRaised, IsOver}
+use Rattle.sts_budget.specs.Table.{IsSent, IsStopped}
+use Rattle.sts_budget.proofs.LaidStep.{any_default}
+use Rattle.sts_budget.proofs.Rows.{sent_more, stopped_at}
+use Rattle.sts_budget.proofs.pass.send.Goals as goal
+
+pub loop-i-preserved : goal.loop-i-preserved
+loop-i-preserved c =
+    let to = get_or c.args.places.now c.loop-i.i 0 in
+    let within : to < length c.args.best.now.items = c.requires.inside c.loop-i.i 0 c.loop-i-test.true in
+    let name : c.index-names-to.result ≡ get_or c.args.names.now to [] = c.index-names-to.is ∙ any_default c.args.names.now to _ [] (omega (arith, c.requires.named)) in
+    let low_is : c.depth_of-low.result ≡ depth_of c.args.kind (get_or c.args.names.now to []) = c.depth_of-low.ensures.value ∙ ap (depth_of c.args.kind) name in
+    let fits : depth_of c.args.kind (get_or c.args.names.now to []) ≤ 16 = subst (λ n. n ≤ 16) low_is c.depth_of-low.ensures.bound in
+    let old : c.index.result.now ≡ get_or c.loop-i.best.items to [] = c.index.ensures ∙ any_default c.loop-i.best.items to _ [] (omega (arith, c.loop-i.invariant.long)) in
+    let r = subst (λ x. IsRaised c.args.values.now (depth_of c.args.kind (get_or c.args.names.now to [])) c.args.most x c.in-Some.row) old (subst (λ n. IsRaised c.args.values.now n c.args.most c.index.result.now c.in-Some.row) low_is c.in-Some.ensures) in
+    sent_more c.args.values.now (λ pc. depth_of c.args.kind (get_or c.args.names.now pc [])) c.args.most c.args.places.now c.loop-i.i to c.args.best.now.items c.loop-i.best.items c.in-Some.row c.loop-i-test.true refl within fits c.loop-i.invariant r
+
+pub returns-in-None-clause-over : goal.returns-in-None-clause-over
+returns-in-None-clause-over c = λ e.
+   (let to = get_or c.args.places.now c.loop-i.i 0 in
+    let within : to < length c.args.best.now.items = c.requires.inside c.loop-i.i 0 c.loop-i-test.true in
+    let name : c.index-names-to.result ≡ get_or c.args.names.now to [] = c.index-names-to.is ∙ any_default c.args.names.now to _ [] (omega (arith, c.requires.named)) in
+    let low_is : c.depth_of-low.result ≡ depth_of c.args.kind (get_or c.args.names.now to []) = c.depth_of-low.ensures.value ∙ ap (depth_of c.args.kind) name in
+    let fits : depth_of c.args.kind (get_or c.args.names.now to []) ≤ 16 = subst (λ n. n ≤ 16) low_is c.depth_of-low.ensures.bound in
+    let over = subst (λ n. IsOver c.args.values.now n c.args.most) low_is c.in-None.ensures in
+    stopped_at c.args.values.now (λ pc. depth_of c.args.kind (get_or c.args.names.now pc [])) c.args.most c.args.places.now c.loop-i.i to c.loop-i-test.true refl fits over)

@@ -1,0 +1,13 @@
+use Rattle.std.proofs.Common.{◌≡◌, ℕ, ◌<◌, ◌≤◌, ◌⊎◌, length, get_or}
+use Rattle.sts_code.specs.declared.instr.Instr.TheVariants.{Times}
+use Rattle.sts_model.specs.Around.{instr_at, around}
+use Rattle.sts_model.specs.Budget.{skeleton}
+use Rattle.sts_budget.specs.Ready.{flows_in}
+use Rattle.sts_budget.specs.Sums.{full, turn_base}
+use Rattle.sts_budget.specs.Table.{read}
+use Rattle.sts_budget.specs.Last.{HasBases, IsTop}
+use Rattle.sts_budget.proofs.top.top.Given as goal
+
+-- the greatest of the places so far, which is within the limit
+abbrev pub invariant-loop-pc : goal.invariant-loop-pc
+invariant-loop-pc l = HasBases l.kind l.earlier l.code l.layout l.best.items l.pc l.bases.items × IsTop l.kind l.earlier l.code l.layout l.best.items l.pc l.greatest × (l.greatest ≤ l.most)

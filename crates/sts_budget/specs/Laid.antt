@@ -1,0 +1,65 @@
+-- What is known to be open at each place of a function (this project's own).
+use Rattle.std.proofs.Common.{◌≡◌, ◌≢◌, ℕ, zero, suc, ◌+◌, ◌-◌, ◌<◌, ◌≤◌, ◌⊎◌, inl, inr, List, [], ◌∷◌, ◌++◌, length, take, drop, set, get_or, Bool, true, false, Option, Some, None, refl, sym, ap, ◌∙◌, subst, arith, length-set, get_or-set_same, get_or-set_other, unwrap_or, slice_set}
+use Rattle.std.proofs.Math.Seq.{take-suc}
+use Rattle.std.proofs.lemmas.Bool.{cases_eq, cases_lt, leb-false}
+use Rattle.sts_code.specs.Program.{Program, routine}
+use Rattle.sts_code.specs.declared.instr.Instr.{Instr}
+use Rattle.sts_code.specs.declared.instr.Instr.TheVariants.{Push, Pop, Dup, Swap, Load, Store, Add, Sub, Mul, Lt, Eq, Div, Jmp, Jz, Times, Next, Open, Fork, Join, Close, Cancelled, Case, Get, Except, Tally, Total, Forget, Bind, Unbind, Read, Bound, OrElse, Interrupted, Ret, Fail}
+use Rattle.sts_model.specs.Flow.{Reaches, first, IsClear, IsAlone}
+use Rattle.sts_model.specs.Local.{match_of}
+use Rattle.sts_model.specs.declared.typing.TypedEntry.{TypedEntry}
+use Rattle.sts_model.specs.TypeState.{TypeState}
+use Rattle.sts_model.specs.Around.{instr_at, named, next_place, around}
+use Rattle.sts_model.specs.Causes.{is_nested}
+use Rattle.sts_model.specs.Edges.{typing}
+use Rattle.sts_model.specs.Refusal.{IsWellTyped}
+use Rattle.sts_model.specs.ControlPaths.{Shape, GoesTo, Repeats, EndsTurn, EndsPath, Skeleton, Among}
+use Rattle.sts_model.specs.declared.budget.Budgets.{Budgets}
+use Rattle.sts_model.specs.Budget.{skeleton, shape_of}
+use Rattle.sts_budget.specs.declared.layout.Layout.{Layout}
+use Rattle.sts_budget.specs.Layout.{Names, names_after, HasRoom}
+use Rattle.sts_budget.specs.Known.{KnowsNames, NamesRight}
+use Rattle.sts_budget.specs.Structured.{Led, from_go, from_head, from_end}
+use Rattle.sts_budget.specs.TypedNames.{names}
+
+-- one value is written at these places
+pub record Writes {A : Type 0} (places : List ℕ) (value d : A) (old new : List A) : Type 0 where
+  pub long : length new ≡ length old
+  pub at : (pc : ℕ) → Among places pc → pc < length old → get_or new pc d ≡ value
+  pub other : (pc : ℕ) → (Among places pc → ⊥) → get_or new pc d ≡ get_or old pc d
+
+abbrev pub first_of : List ℕ → Option ℕ
+first_of [] = None
+first_of (x ∷ xs) = Some x
+
+-- the `times` of the innermost loop at the places to which an instruction leads
+abbrev pub head_after : Instr → ℕ → List (Option ℕ) → Option ℕ
+head_after (Times n) pc heads = Some pc
+head_after Next pc heads = get_or heads (unwrap_or (get_or heads pc None) 0) None
+head_after _ pc heads = get_or heads pc None
+
+-- what the tables say of a place
+pub record IsRight (p : Program) (f : ℕ) (heads : List (Option ℕ)) (table : List Names) (pc : ℕ) : Type 0 where
+  pub head : get_or heads pc None ≡ first_of (around (routine p f).code pc)
+  pub name : (s : TypeState) → Reaches (typing p f) pc s → names s.entries ≡ get_or table pc []
+
+-- a place to which one below k leads, or the first
+abbrev pub IsWritten : List Instr → ℕ → ℕ → Type 0
+IsWritten code k pc = (pc ≡ 0) ⊎ ((from : ℕ) × ((from < k) × Among (named (instr_at code from) ++ next_place from (instr_at code from)) pc))
+
+-- the tables after the places below k
+pub record IsLaid (p : Program) (f k : ℕ) (heads : List (Option ℕ)) (mates : List ℕ) (table : List Names) : Type 0 where
+  pub heads_long : length heads ≡ length (routine p f).code
+  pub mates_long : length mates ≡ length (routine p f).code
+  pub names_long : length table ≡ length (routine p f).code
+  pub right : (pc : ℕ) → pc < length (routine p f).code → IsWritten (routine p f).code k pc → IsRight p f heads table pc
+  pub mated : (h n : ℕ) → instr_at (routine p f).code h ≡ Times n → (q : ℕ) → match_of (routine p f).code h ≡ Some q → q < k → get_or mates h 0 ≡ q
+
+-- the `next` at pc ends the loop of this head
+abbrev pub mates_after : Instr → ℕ → Option ℕ → List ℕ → List ℕ
+mates_after Next pc (Some h) mates = slice_set mates h pc
+mates_after _ pc head mates = mates
+
+-- the tables of the whole function
+abbrev pub IsLaidOut : Program → ℕ → Layout → Type 0
+IsLaidOut p f l = IsLaid p f (length (routine p f).code) l.heads.items l.mates.items l.names.items

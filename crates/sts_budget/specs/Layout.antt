@@ -1,0 +1,34 @@
+-- The open entries by their names alone (this project's own).
+use Rattle.std.specs.Prelude.{◌≡◌, ℕ, ◌<◌, ◌⊎◌, List, [], ◌∷◌, length, drop, Option, Some, None}
+use Rattle.sts_code.specs.declared.instr.Instr.{Instr}
+use Rattle.sts_code.specs.declared.instr.Instr.TheVariants.{Open, Fork, Close, Bind, Unbind}
+
+-- the names of the open entries, the innermost first: a scope's slot, or none for a binding
+abbrev pub Names : Type 0
+Names = List (Option ℕ)
+
+-- the names after an instruction
+abbrev pub names_after : Instr → Names → Names
+names_after (Open slot joiner timed) ns = Some slot ∷ ns
+names_after (Bind key) ns = None ∷ ns
+names_after (Close slot) ns = drop 1 ns
+names_after Unbind ns = drop 1 ns
+names_after _ ns = ns
+
+-- is there a scope in this slot among them?
+abbrev pub HasScope : ℕ → Names → Type 0
+HasScope slot [] = ⊥
+HasScope slot (n ∷ ns) = (n ≡ Some slot) ⊎ HasScope slot ns
+
+-- a close has an entry to close, and a fork an open scope in its slot
+abbrev pub FitsNames : Instr → Names → Type 0
+FitsNames (Close slot) ns = 0 < length ns
+FitsNames Unbind ns = 0 < length ns
+FitsNames (Fork slot function handle) ns = HasScope slot ns
+FitsNames _ ns = Unit {0}
+
+-- there is room for the entry that an instruction opens
+abbrev pub HasRoom : Instr → Names → Type 0
+HasRoom (Open slot joiner timed) ns = length ns < 16
+HasRoom (Bind key) ns = length ns < 16
+HasRoom _ ns = Unit {0}

@@ -1,0 +1,15 @@
+pub mod Effect
+pub mod Flowing
+pub mod Known
+pub mod Laid
+pub mod Layout
+pub mod Structured
+pub mod Sums
+pub mod Table
+pub mod TypedNames
+pub mod Row
+pub mod Ready
+pub mod Handing
+pub mod Last
+pub mod Outcome
+pub mod Laws

@@ -1,0 +1,228 @@
+//! What is open at each place of a function's code.
+
+ghost use Rattle.std.specs.Prelude.{ℕ, List, [], All, IfOk, IfSome, Some, None, get_or, replicate, unwrap_or, vec_len, ◌≡◌, ◌<◌, ◌≤◌, ◌+◌, ◌++◌, length, option_to_list};
+ghost use Rattle.sts_code.specs.Checks.{program_fault};
+ghost use Rattle.sts_code.specs.Program.{routine};
+ghost use Rattle.sts_model.specs.Around as around;
+ghost use Rattle.sts_model.specs.Refusal.{IsWellTyped};
+ghost use Rattle.sts_budget.specs.Layout as def;
+ghost use Rattle.sts_budget.specs.Laid.{Writes, head_after, mates_after, IsLaidOut};
+
+use arrayvec::ArrayVec;
+use std::alloc::{AllocError, Global};
+
+use sts_code::instr::Instr;
+use sts_code::program::Program;
+use sts_model::stack::Stack;
+
+/// The names of the open entries at a place, the innermost on top: a scope's slot, or none for a binding.
+pub type Names = Stack<Option<u8>, 16>;
+
+/// What is open at each place of a function.
+#[derive(Drop)]
+pub struct Layout {
+    /// The `times` of the innermost loop around a place.
+    pub heads: Vec<Option<u32>>,
+    /// The `next` that ends the loop of a `times`.
+    pub mates: Vec<u32>,
+    pub names: Vec<Names>,
+}
+
+/// A copy, which takes no memory.
+fn copy_of(names: &Names) -> Names
+    ensures { result ≡ names.now }
+{
+    let mut copy = Stack::new();
+    let len = names.len();
+    for i in 0..len {
+        copy.push(names.get_or(len - 1 - i, None));
+    }
+    copy
+}
+
+/// The names after an instruction.
+fn names_after(instr: Instr, names: &Names) -> Names
+    requires { def.HasRoom instr names.now }
+    ensures { result ≡ def.names_after instr names.now }
+{
+    let mut after = copy_of(names);
+    match instr {
+        Instr::Open { slot, .. } => after.push(Some(slot)),
+        Instr::Bind(_) => after.push(None),
+        Instr::Close(_) | Instr::Unbind => after.drop_top(1),
+        _ => {}
+    }
+    after
+}
+
+/// The places where an instruction that is no loop's goes on.
+pub fn targets(instr: Instr, pc: u32) -> ArrayVec<u32, 4>
+    requires { pc < 4096 }
+    ensures { result.items ≡ around.named instr ++ around.next_place pc instr }
+{
+    let mut places = ArrayVec::new();
+    match instr {
+        Instr::Div(to) | Instr::Jmp(to) | Instr::Jz(to) => places.push(to),
+        Instr::Join {
+            failed,
+            timeout,
+            interrupted,
+            ..
+        } => {
+            push_given(&mut places, failed);
+            push_given(&mut places, timeout);
+            places.push(interrupted);
+        }
+        Instr::Case {
+            success,
+            failed,
+            ..
+        } => {
+            places.push(success);
+            places.push(failed);
+        }
+        _ => {}
+    }
+    if falls_through(instr) {
+        places.push(pc + 1);
+    }
+    places
+}
+
+fn push_given(places: &mut ArrayVec<u32, 4>, target: Option<u32>)
+    requires { length places.old.items < 4 }
+    ensures { places.new.items ≡ places.old.items ++ option_to_list target }
+{
+    if let Some(to) = target {
+        places.push(to);
+    }
+}
+
+fn falls_through(instr: Instr) -> bool
+    ensures { result ≡ around.falls_through instr }
+{
+    !matches!(instr, Instr::Jmp(_) | Instr::Ret | Instr::Fail)
+}
+
+/// Writes a value at these places.
+fn write_heads(heads: &mut Vec<Option<u32>>, places: &[u32], head: Option<u32>)
+    requires { All (λ to. to < vec_len heads.old) places.now }
+    ensures { Writes places.now head None heads.old.items heads.new.items }
+{
+    for i in 0..places.len() {
+        heads[places[i] as usize] = head;
+    }
+}
+
+/// Writes copies of a value at these places.
+fn write_names(table: &mut Vec<Names>, places: &[u32], names: &Names)
+    requires { All (λ to. to < vec_len table.old) places.now }
+    ensures { Writes places.now names.now [] table.old.items table.new.items }
+{
+    for i in 0..places.len() {
+        table[places[i] as usize] = copy_of(names);
+    }
+}
+
+/// The `times` of the innermost loop at the places to which the instruction at `pc` leads.
+fn head_after(instr: Instr, pc: u32, heads: &[Option<u32>]) -> Option<u32>
+    requires in_code { pc < length heads.now }
+    requires head { (h : ℕ) → get_or heads.now pc None ≡ Some h → h < length heads.now }
+    ensures { result ≡ head_after instr pc heads.now }
+{
+    match instr {
+        Instr::Times(_) => Some(pc),
+        Instr::Next => outer(heads, heads[pc as usize]),
+        _ => heads[pc as usize],
+    }
+}
+
+/// The `times` of the innermost loop at a place of the code, if there is one.
+fn outer(heads: &[Option<u32>], place: Option<u32>) -> Option<u32>
+    requires some { 0 < length heads.now }
+    requires inside { IfSome place (λ h. h < length heads.now) }
+    ensures { result ≡ get_or heads.now (unwrap_or place 0) None }
+{
+    match place {
+        Some(at) => heads[at as usize],
+        None => heads[0],
+    }
+}
+
+fn empty_heads(alloc: Global, count: usize) -> Result<Vec<Option<u32>>, AllocError>
+    ensures { IfOk result (λ t. t.items ≡ replicate count None) }
+{
+    let mut heads = Vec::with_capacity(alloc, count)?;
+    for _place in 0..count {
+        heads.push(None)?;
+    }
+    Ok(heads)
+}
+
+fn empty_mates(alloc: Global, count: usize) -> Result<Vec<u32>, AllocError>
+    ensures { IfOk result (λ t. t.items ≡ replicate count 0) }
+{
+    let mut mates = Vec::with_capacity(alloc, count)?;
+    for _place in 0..count {
+        mates.push(0)?;
+    }
+    Ok(mates)
+}
+
+fn empty_names(alloc: Global, count: usize) -> Result<Vec<Names>, AllocError>
+    ensures { IfOk result (λ t. t.items ≡ replicate count []) }
+{
+    let mut names = Vec::with_capacity(alloc, count)?;
+    for _place in 0..count {
+        names.push(Stack::new())?;
+    }
+    Ok(names)
+}
+
+/// The `next` at `pc` ends the loop of this head.
+fn write_mate(mates: &mut Vec<u32>, instr: Instr, pc: u32, head: Option<u32>)
+    requires { IfSome head (λ h. h < length mates.old.items) }
+    ensures { mates.new.items ≡ mates_after instr pc head mates.old.items }
+{
+    if let (Instr::Next, Some(at)) = (instr, head) {
+        mates[at as usize] = pc;
+    }
+}
+
+/// The instructions of a function.
+pub fn code_of(program: &Program, function: usize) -> &[Instr]
+    requires { function < length program.now.routines }
+    ensures value { result.now ≡ (routine program.now function).code }
+    ensures checked { program_fault program.now.routines ≡ None }
+{
+    let functions = program.functions();
+    let routine = &functions[function];
+    routine.code.as_slice()
+}
+
+/// What is open at each place of a well-typed function.
+pub fn lay_out(alloc: Global, program: &Program, function: usize) -> Result<Layout, AllocError>
+    requires in_program { function < length program.now.routines }
+    requires typed { IsWellTyped program.now function }
+    ensures { IfOk result (λ l. IsLaidOut program.now function l) }
+{
+    let code = code_of(program, function);
+    let mut heads = empty_heads(alloc, code.len())?;
+    let mut mates = empty_mates(alloc, code.len())?;
+    let mut names = empty_names(alloc, code.len())?;
+    for pc in 0..code.len() {
+        let instr = code[pc];
+        let places = targets(instr, pc as u32);
+        let after = names_after(instr, &names[pc]);
+        let innermost = heads[pc];
+        let head = head_after(instr, pc as u32, heads.as_slice());
+        write_mate(&mut mates, instr, pc as u32, innermost);
+        write_heads(&mut heads, places.as_slice(), head);
+        write_names(&mut names, places.as_slice(), &after);
+    }
+    Ok(Layout {
+        heads,
+        mates,
+        names,
+    })
+}

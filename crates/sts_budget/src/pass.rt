@@ -1,0 +1,135 @@
+//! One forward pass makes the table of greatest sums.
+
+ghost use Rattle.std.specs.Prelude.{◌≡◌, ◌<◌, ◌≤◌, ◌+◌, ◌*◌, ℕ, List, [], All, IsTrue, IsFalse, IfOk, MatchOption, length, min, replicate, get_or};
+ghost use Rattle.sts_model.specs.Around.{instr_at};
+ghost use Rattle.sts_model.specs.Budget.{skeleton};
+ghost use Rattle.sts_budget.specs.Effect.{depth_of as depth, own_step};
+ghost use Rattle.sts_budget.specs.Ready.{IsReady, flows_in, head_in};
+ghost use Rattle.sts_budget.specs.Table.{IsSent, IsStopped, IsSpread, IsPartial, HandsTooMuch, Passes, read};
+ghost use Rattle.sts_budget.specs.Handing.{handed_value, is_quiet, turns_of};
+
+use crate::effect::{Kind, depth_of, effect_of};
+use crate::layout::{Layout, Names, targets};
+use crate::row::{Row, Values, raised, values_after, values_of_loop};
+use std::alloc::{AllocError, Global};
+use sts_code::instr::Instr;
+use sts_model::budget::Budgets;
+
+/// Raises the rows at these places to the values, as far as entries are open there: false where one of these values
+/// passes the limit.
+fn send(best: &mut Vec<Row>, places: &[u32], values: &Values, kind: Kind, names: &[Names], most: u32) -> bool
+    requires inside { All (λ to. to < length best.old.items) places.now }
+    requires named { length names.now ≡ length best.old.items }
+    ensures sent { IsTrue result → IsSent values.now (λ pc. depth kind (get_or names.now pc [])) most places.now best.old.items best.new.items }
+    ensures over { IsFalse result → IsStopped values.now (λ pc. depth kind (get_or names.now pc [])) most places.now }
+{
+    for i in 0..places.len() {
+        let to = places[i] as usize;
+        let low = depth_of(kind, &names[to]);
+        match raised(&best[to], values, low, most) {
+            None => return false,
+            Some(row) => best[to] = row,
+        }
+    }
+    true
+}
+
+/// Does the instruction hand on nothing: is it the end of a path, or a `times`, behind which sums begin again?
+fn is_quiet(instr: Instr) -> bool
+    ensures { result ≡ is_quiet instr }
+{
+    matches!(instr, Instr::Times(_) | Instr::Ret | Instr::Fail)
+}
+
+/// The most turns of a loop.
+fn turns_of(instr: Instr) -> u16
+    ensures { result ≡ turns_of instr }
+{
+    match instr {
+        Instr::Times(turns) => turns,
+        _ => 0,
+    }
+}
+
+/// What a `times` or a `next` counts itself.
+pub(crate) fn own_step(kind: Kind) -> u32
+    ensures { result ≡ own_step kind }
+{
+    match kind {
+        Kind::Steps => 1,
+        _ => 0,
+    }
+}
+
+/// The sums that the end of a loop hands on.
+fn loop_values(kind: Kind, code: &[Instr], layout: &Layout, best: &[Row], pc: usize) -> Values
+    requires in_code { pc < length code.now }
+    requires head { head_in layout.now pc < length code.now }
+    requires heads { length layout.now.heads.items ≡ length code.now }
+    requires rows { length best.now ≡ length code.now }
+    ensures { (d : ℕ) → d < 17 → get_or result d 0 ≡ min (read best.now (head_in layout.now pc) d + own_step kind + turns_of (instr_at code.now (head_in layout.now pc)) * (read best.now pc d + own_step kind)) 18446744073709551615 }
+{
+    let head = match layout.heads[pc] {
+        Some(at) => at as usize,
+        None => 0,
+    };
+    values_of_loop(turns_of(code[head]), own_step(kind), &best[head], &best[pc])
+}
+
+/// The sums that an instruction hands on.
+fn values_of(kind: Kind, earlier: &[Budgets], code: &[Instr], layout: &Layout, best: &[Row], pc: usize) -> Values
+    requires ready { IsReady earlier.now code.now layout.now }
+    requires in_code { pc < length code.now }
+    requires rows { length best.now ≡ length code.now }
+    ensures { (d : ℕ) → d < 17 → get_or result d 0 ≡ min (handed_value kind earlier.now code.now layout.now (read best.now) pc d) 18446744073709551615 }
+{
+    match code[pc] {
+        Instr::Next => loop_values(kind, code, layout, best, pc),
+        instr => {
+            let names = &layout.names[pc];
+            let effect = effect_of(kind, earlier, instr, names);
+            values_after(effect, depth_of(kind, names), &best[pc])
+        }
+    }
+}
+
+/// The place hands on its sums: false where one of them passes the limit.
+fn hand_on(kind: Kind, earlier: &[Budgets], code: &[Instr], layout: &Layout, best: &mut Vec<Row>, pc: usize, most: u32) -> bool
+    requires ready { IsReady earlier.now code.now layout.now }
+    requires in_code { pc < length code.now }
+    requires rows { length best.old.items ≡ length code.now }
+    ensures spread { IsTrue result → IsSpread (skeleton earlier.now code.now) (flows_in kind earlier.now code.now layout.now) (head_in layout.now) pc best.old.items best.new.items }
+    ensures over { IsFalse result → HandsTooMuch (skeleton earlier.now code.now) (flows_in kind earlier.now code.now layout.now) (head_in layout.now) pc (read best.old.items) most }
+{
+    let instr = code[pc];
+    if is_quiet(instr) {
+        return true;
+    }
+    let values = values_of(kind, earlier, code, layout, best.as_slice(), pc);
+    let places = targets(instr, pc as u32);
+    send(best, places.as_slice(), &values, kind, layout.names.as_slice(), most)
+}
+
+fn empty_rows(alloc: Global, count: usize) -> Result<Vec<Row>, AllocError>
+    ensures { IfOk result (λ t. t.items ≡ replicate count (replicate 17 0)) }
+{
+    let mut rows = Vec::with_capacity(alloc, count)?;
+    for _place in 0..count {
+        rows.push([0; 17])?;
+    }
+    Ok(rows)
+}
+
+/// The table of the greatest sums, or none where one passes the limit.
+pub(crate) fn table(alloc: Global, kind: Kind, earlier: &[Budgets], code: &[Instr], layout: &Layout, most: u32) -> Result<Option<Vec<Row>>, AllocError>
+    requires ready { IsReady earlier.now code.now layout.now }
+    ensures { IfOk result (λ o. MatchOption o (Passes (skeleton earlier.now code.now) (flows_in kind earlier.now code.now layout.now) most) (λ t. IsPartial (skeleton earlier.now code.now) (flows_in kind earlier.now code.now layout.now) (length code.now) t.items)) }
+{
+    let mut best = empty_rows(alloc, code.len())?;
+    for pc in 0..code.len() {
+        if !hand_on(kind, earlier, code, layout, &mut best, pc, most) {
+            return Ok(None);
+        }
+    }
+    Ok(Some(best))
+}

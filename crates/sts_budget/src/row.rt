@@ -1,0 +1,51 @@
+//! Rows of the greatest sums over the first open entries.
+
+ghost use Rattle.std.specs.Prelude.{◌≡◌, ◌<◌, ◌≤◌, ◌+◌, ◌*◌, ℕ, min, get_or, MatchOption};
+ghost use Rattle.sts_budget.specs.Effect.{source_of, added_of};
+ghost use Rattle.sts_budget.specs.Row.{IsRaised, IsOver};
+
+use crate::effect::{Effect, added_of, source_of};
+
+/// For each d up to 16 the greatest sum over the first d entries.
+pub(crate) type Row = [u32; 17];
+
+/// Sums that are handed on, before they are held to a limit.
+pub(crate) type Values = [u64; 17];
+
+/// The sums after an instruction, over as many entries as can be open then.
+pub(crate) fn values_after(effect: Effect, depth: usize, row: &Row) -> Values
+    requires { depth ≤ 16 }
+    ensures { (d : ℕ) → d < 17 → get_or result d 0 ≡ min (get_or row.now (source_of effect depth d) 0 + added_of effect depth d) 18446744073709551615 }
+{
+    let mut values = [0; 17];
+    for d in 0..17 {
+        values[d] = (row[source_of(effect, depth, d)] as u64).saturating_add(added_of(effect, depth, d));
+    }
+    values
+}
+
+/// The sums after a loop: those at its head, and so many times those of a turn.
+pub(crate) fn values_of_loop(turns: u16, own: u32, head: &Row, end: &Row) -> Values
+    ensures { (d : ℕ) → d < 17 → get_or result d 0 ≡ min (get_or head.now d 0 + own + turns * (get_or end.now d 0 + own)) 18446744073709551615 }
+{
+    let mut values = [0; 17];
+    for d in 0..17 {
+        values[d] = (head[d] as u64 + own as u64).saturating_add(turns as u64 * (end[d] as u64 + own as u64));
+    }
+    values
+}
+
+/// The row with the sums over the first `low` entries raised, or none where one of them passes the limit.
+pub(crate) fn raised(row: &Row, values: &Values, low: usize, most: u32) -> Option<Row>
+    requires { low ≤ 16 }
+    ensures { MatchOption result (IsOver values.now low most) (IsRaised values.now low most row.now) }
+{
+    let mut after = *row;
+    for d in 0..low + 1 {
+        if values[d] > most as u64 {
+            return None;
+        }
+        after[d] = after[d].max(values[d] as u32);
+    }
+    Some(after)
+}

@@ -1,0 +1,109 @@
+//! The budget of one kind: the greatest sum of all places, each loop being in its last turn.
+
+ghost use Rattle.std.specs.Prelude.{◌≡◌, ◌<◌, ◌≤◌, ◌+◌, ◌-◌, ◌*◌, ◌^◌, ℕ, IfOk, IfSome, MatchOption, length, replicate, get_or};
+ghost use Rattle.sts_model.specs.Around.{instr_at};
+ghost use Rattle.sts_model.specs.Budget.{Exceeds};
+ghost use Rattle.sts_budget.specs.Effect.{own_of, limit_of, cause_of, IsMost};
+ghost use Rattle.sts_budget.specs.Ready.{IsReady};
+ghost use Rattle.sts_budget.specs.Handing.{base_of, bases_after};
+ghost use Rattle.sts_budget.specs.Table.{read};
+
+use crate::effect::{Kind, depth_of};
+use crate::layout::Layout;
+use crate::pass::{own_step, table};
+use crate::row::Row;
+use std::alloc::{AllocError, Global};
+use sts_code::instr::Instr;
+use sts_model::budget::Budgets;
+
+/// What the function counts beside the sums: the last step of a path, the task itself.
+fn own_of(kind: Kind) -> u32
+    ensures { result ≡ own_of kind }
+{
+    match kind {
+        Kind::Steps | Kind::Tasks => 1,
+        Kind::Scopes | Kind::Binds => 0,
+    }
+}
+
+/// The limit of a budget.
+fn limit_of(kind: Kind) -> u32
+    ensures { result ≡ limit_of kind }
+{
+    match kind {
+        Kind::Steps => 1_000_000,
+        _ => 65_536,
+    }
+}
+
+fn empty_bases(alloc: Global, count: usize) -> Result<Vec<u64>, AllocError>
+    ensures { IfOk result (λ t. t.items ≡ replicate count 0) }
+{
+    let mut bases = Vec::with_capacity(alloc, count)?;
+    for _place in 0..count {
+        bases.push(0)?;
+    }
+    Ok(bases)
+}
+
+/// The greatest sum before the last turn of the innermost loop around a place.
+fn base_at(bases: &[u64], head: Option<u32>) -> u64
+    requires { IfSome head (λ h. h < length bases.now) }
+    ensures { result ≡ base_of bases.now head }
+{
+    match head {
+        Some(at) => bases[at as usize],
+        None => 0,
+    }
+}
+
+/// A `times` at `pc` opens a loop, where the greatest sum before it is `full`, and one turn's is `end`.
+fn open_loop(bases: &mut Vec<u64>, instr: Instr, pc: usize, own: u32, full: u64, end: u32)
+    requires in_code { pc < length bases.old.items }
+    requires small { full < 2 ^ 32 }
+    ensures { bases.new.items ≡ bases_after instr pc own full end bases.old.items }
+{
+    if let Instr::Times(turns) = instr {
+        bases[pc] = full + own as u64 + (turns as u64).saturating_sub(1) * (end as u64 + own as u64);
+    }
+}
+
+/// The sum at the end of a turn of the loop that a `times` opens.
+fn turn_end(code: &[Instr], layout: &Layout, best: &[Row], pc: usize, depth: usize) -> u32
+    requires in_code { pc < length code.now }
+    requires mates { pc < length layout.now.mates.items }
+    requires inside { (n : ℕ) → instr_at code.now pc ≡ Instr.Times n → get_or layout.now.mates.items pc 0 < length best.now }
+    requires few { depth ≤ 16 }
+    ensures { (n : ℕ) → instr_at code.now pc ≡ Instr.Times n → result ≡ read best.now (get_or layout.now.mates.items pc 0) depth }
+{
+    match code[pc] {
+        Instr::Times(_) => best[layout.mates[pc] as usize][depth],
+        _ => 0,
+    }
+}
+
+/// The budget of this kind, or none where it passes its limit.
+pub(crate) fn top(alloc: Global, kind: Kind, earlier: &[Budgets], code: &[Instr], layout: &Layout) -> Result<Option<u32>, AllocError>
+    requires ready { IsReady earlier.now code.now layout.now }
+    ensures { IfOk result (λ o. MatchOption o (Exceeds earlier.now code.now (cause_of kind)) (λ m. IsMost kind earlier.now code.now m × (m ≤ limit_of kind))) }
+{
+    let own = own_of(kind);
+    let most = limit_of(kind) - own;
+    let best = match table(alloc, kind, earlier, code, layout, most)? {
+        Some(best) => best,
+        None => return Ok(None),
+    };
+    let mut bases = empty_bases(alloc, code.len())?;
+    let mut greatest = 0;
+    for pc in 0..code.len() {
+        let depth = depth_of(kind, &layout.names[pc]);
+        let full = base_at(bases.as_slice(), layout.heads[pc]) + best[pc][depth] as u64;
+        if full > most as u64 {
+            return Ok(None);
+        }
+        greatest = full.max(greatest);
+        let end = turn_end(code, layout, best.as_slice(), pc, depth);
+        open_loop(&mut bases, code[pc], pc, own_step(kind), full, end);
+    }
+    Ok(Some(own + greatest as u32))
+}

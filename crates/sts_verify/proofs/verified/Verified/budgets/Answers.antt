@@ -1,0 +1,13 @@
+use Rattle.std.proofs.Common.{◌≡◌, ◌<◌, length, get_or, sym, ap, ◌∙◌, subst, arith}
+use Rattle.sts_code.specs.Program.{Program}
+use Rattle.sts_model.specs.Budget.{no_budget}
+use Rattle.sts_model.specs.Refusal.{IsBudgetOf}
+use Rattle.sts_budget.proofs.LaidStep.{any_default}
+use Rattle.sts_verify.proofs.Verifying.{budget_is}
+use Rattle.sts_verify.proofs.verified.Verified.budgets.Goals as goal
+
+pub returns : goal.returns
+returns c =
+    let lt : c.args.function < length c.self.inside.budgets.items = omega (arith, c.self.invariant.1, ap (λ (q : Program). length q.routines) c.self.view_is, c.requires) in
+    subst (λ q. IsBudgetOf q c.args.function c.index.result.now) c.self.view_is
+      (budget_is c.self.inside.program c.self.inside.budgets.items c.args.function lt c.self.invariant.2 c.index.result.now (c.index.ensures ∙ any_default c.self.inside.budgets.items c.args.function _ no_budget lt))

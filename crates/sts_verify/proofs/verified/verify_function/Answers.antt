@@ -1,0 +1,35 @@
+use Rattle.std.proofs.Common.{◌≡◌, ◌<◌, ◌≤◌, ◌+◌, ℕ, List, [], ◌∷◌, ◌++◌, length, Ok, Err, sym, ap, ◌∙◌, subst, arith}
+use Rattle.sts_code.specs.Program.{routine}
+use Rattle.sts_model.specs.declared.budget.Budgets.{Budgets}
+use Rattle.sts_model.specs.Budget.{AreBudgets, IsBudget}
+use Rattle.sts_model.specs.Refusal.{IsSound}
+use Rattle.sts_budget.specs.Outcome.{IsFound}
+use Rattle.sts_budget.proofs.Checked.{is_checked}
+use Rattle.sts_verify.specs.Verifying.{TellsOf}
+use Rattle.sts_verify.proofs.Verifying.{typing_tells, budgets_more, budget_tells}
+use Rattle.sts_verify.proofs.verified.verify_function.Goals as goal
+
+pub returns-in-Err : goal.returns-in-Err
+returns-in-Err c = typing_tells c.args.program.now c.args.function c.in-Err.error c.in-Err.ensures
+
+pub budget-requires-clause-earlier : goal.budget-requires-clause-earlier
+budget-requires-clause-earlier c = subst (AreBudgets c.args.program.now) (sym c.as_slice.ensures.value) c.requires.right
+
+pub at_end-requires : goal.at_end-requires
+at_end-requires c =
+    let k = is_checked c.args.program.now c.args.function c.code_of-count.ensures.checked c.requires.in_program in
+    omega (arith, k.short, ap length c.code_of-count.ensures.value)
+
+pub returns-in-Ok-push : goal.returns-in-Ok-push
+returns-in-Ok-push c =
+    let found = subst (λ bs. IsFound bs (routine c.args.program.now c.args.function).code (Ok c.in-Ok.found)) c.as_slice.ensures.value c.in-Ok.ensures in
+    let more = budgets_more c.args.program.now c.args.budgets.now.items c.in-Ok.found c.args.function c.requires.long c.requires.right found.0 in
+    let sound : IsSound c.args.program.now c.args.function = record { typed = c.in_default.ensures; earlier = c.args.budgets.now.items; long = c.requires.long; right = c.requires.right; within = found.1 } in
+    let items : c.push.new.self.items ≡ c.args.budgets.now.items ++ c.in-Ok.found ∷ [] = c.in-Ok-push.ensures.items in
+    (sound, ap length items ∙ more.0, subst (AreBudgets c.args.program.now) (sym items) more.1)
+
+pub returns-in-Err-budget : goal.returns-in-Err-budget
+returns-in-Err-budget c =
+    subst (TellsOf c.args.program.now c.args.function) (sym c.at_end.ensures)
+      (budget_tells c.args.program.now c.args.function c.args.budgets.now.items c.in-Err-budget.error (length c.code_of-count.result.now) c.in_default.ensures c.requires.long c.requires.right (ap length c.code_of-count.ensures.value)
+        (subst (λ bs. IsFound bs (routine c.args.program.now c.args.function).code (Err c.in-Err-budget.error)) c.as_slice.ensures.value c.in-Err-budget.ensures))
