@@ -1,11 +1,13 @@
 -- What the program prints and the status that it ends with, for each mode (this project's own).
-use Rattle.std.specs.Prelude.{◌≡◌, ◌⊎◌, ⊤, ℕ, List, ◌++◌, Result, Ok, Err, codes}
+use Rattle.std.specs.Prelude.{◌≡◌, ◌⊎◌, ℕ, List, ◌++◌, ◌<◌, length, Result, Ok, Err}
 use Rattle.sts_code.specs.Program.{Program}
 use Rattle.sts_model.specs.declared.event.Event.{Event}
 use Rattle.sts_model.specs.declared.event.End.{End}
 use Rattle.sts_model.specs.declared.event.End.TheVariants.{Success, Failed}
-use Rattle.sts_model.specs.Refusal.{IsAccepted, IsRefusal}
+use Rattle.sts_model.specs.Budget.{budget_at}
+use Rattle.sts_model.specs.Refusal.{IsAccepted, IsRefusal, IsBudgetOf}
 use Rattle.sts_model.specs.Run.{after, taken}
+use Rattle.sts_model.specs.declared.budget.Budgets.{Budgets}
 use Rattle.sts_model.specs.declared.typing.Cause.{Cause}
 use Rattle.sts_asm.specs.Fault.{code_error}
 use Rattle.sts_asm.specs.Text.{judged}
@@ -18,7 +20,7 @@ use Rattle.sts_trace.specs.Reading.{trace_read}
 use Rattle.sts_trace.specs.declared.error.TraceError.{TraceError}
 use Rattle.sts_cli.specs.declared.mode.Mode.{Mode}
 use Rattle.sts_cli.specs.declared.mode.Mode.TheVariants as mode
-use Rattle.sts_cli.specs.Printed.{text_fault_line, trace_fault_line, state_line, steps_line, memory_line, refused_line}
+use Rattle.sts_cli.specs.Printed.{text_fault_line, trace_fault_line, state_line, steps_line, memory_line, refused_line, accepted_lines}
 
 -- what is printed, and the status
 pub record Output : Type 0 where
@@ -71,9 +73,17 @@ list_output (Err e) = text_fault_output e
 abbrev pub refused_output : Program → ℕ → ℕ → Cause → Output
 refused_output p f pc c = record { bytes = refused_line p f pc c; status = 4 }
 
+abbrev pub accepted_output : Program → List Budgets → Output
+accepted_output p budgets = record { bytes = accepted_lines p.routines budgets; status = 0 }
+
+-- the budgets of the functions, one for each, in order
+pub record AreTold (p : Program) (budgets : List Budgets) : Type 0 where
+  pub count : length budgets ≡ length p.routines
+  pub each : (f : ℕ) → f < length budgets → IsBudgetOf p f (budget_at budgets f)
+
 -- what is printed of a program that is accepted, or refused at its least place with a cause, for the least cause there
 pub data IsVerdict (p : Program) (output : Output) : Type 0 where
-  accepted : IsAccepted p → output ≡ record { bytes = codes "accepted\n"; status = 0 } → IsVerdict p output
+  accepted : IsAccepted p → (budgets : List Budgets) → AreTold p budgets → output ≡ accepted_output p budgets → IsVerdict p output
   refused : (f pc : ℕ) (c : Cause) → IsRefusal p f pc c → output ≡ refused_output p f pc c → IsVerdict p output
 
 abbrev pub VerifyShows : Result Program AsmError → Output → Type 0

@@ -2,7 +2,7 @@
 use Rattle.std.specs.Prelude.{ℕ, List, ◌∷◌, [], ◌++◌, Option, Some, None, codes, slice_get}
 use Rattle.std.specs.Fmt.{decimal, signed_decimal}
 use Rattle.sts_code.specs.Checks.{cause_number}
-use Rattle.sts_code.specs.Program.{Program, routine}
+use Rattle.sts_code.specs.Program.{Program, Routine, routine}
 use Rattle.sts_code.specs.declared.instr.Instr.{Instr}
 use Rattle.sts_code.specs.declared.checking.CodeError.{CodeError}
 use Rattle.sts_model.specs.declared.event.End.{End}
@@ -13,6 +13,7 @@ use Rattle.sts_asm.specs.Fault.{kind_number}
 use Rattle.sts_asm.specs.declared.fault.AsmError.{AsmError}
 use Rattle.sts_list.specs.Spelling.{spelled}
 use Rattle.sts_model.specs.Causes.{cause_number as refusal_number}
+use Rattle.sts_model.specs.declared.budget.Budgets.{Budgets}
 use Rattle.sts_model.specs.declared.typing.Cause.{Cause}
 use Rattle.sts_plain.specs.declared.misstep.PlainState.{PlainState}
 use Rattle.sts_plain.specs.declared.misstep.PlainState.TheVariants as plain
@@ -84,3 +85,18 @@ place_words p (Some i) = spelled p i
 abbrev pub refused_line : Program → ℕ → ℕ → Cause → List ℕ
 refused_line p f pc c =
     ended (codes "refused V" ++ decimal (refusal_number c) ++ codes " in " ++ (routine p f).name ++ codes " at " ++ decimal pc ++ codes ": " ++ place_words p (slice_get (routine p f).code pc))
+
+-- `NAME steps N`
+abbrev pub budget_line : List ℕ → List ℕ → ℕ → List ℕ
+budget_line name word n = ended (name ++ word ++ decimal n)
+
+-- the four lines of a function
+abbrev pub budget_lines : List ℕ → Budgets → List ℕ
+budget_lines name b =
+    budget_line name (codes " steps ") b.steps ++ (budget_line name (codes " tasks ") b.tasks ++ (budget_line name (codes " scopes ") b.scopes ++ budget_line name (codes " binds ") b.binds))
+
+-- the lines of these functions, which have these budgets
+abbrev pub accepted_lines : List Routine → List Budgets → List ℕ
+accepted_lines [] budgets = []
+accepted_lines (r ∷ rs) [] = []
+accepted_lines (r ∷ rs) (b ∷ bs) = budget_lines r.name b ++ accepted_lines rs bs

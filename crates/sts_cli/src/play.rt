@@ -5,11 +5,10 @@ ghost use Rattle.std.specs.Io.KnownBytes.{Appends};
 ghost use Rattle.sts_cli.specs.Joined.{Halves, halves_of};
 ghost use Rattle.sts_cli.specs.Output as def;
 
-use crate::answer;
 use crate::answer::Answer;
 use crate::joined::split;
 use crate::mode::Mode;
-use crate::verdict;
+use crate::{answer, verdict};
 use std::alloc::{AllocError, Global};
 use std::io::Write;
 

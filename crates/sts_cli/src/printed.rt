@@ -1,6 +1,6 @@
 //! The lines that are printed.
 
-ghost use Rattle.std.specs.Prelude.{◌≡◌, ◌++◌, OnOk, codes, slice_get};
+ghost use Rattle.std.specs.Prelude.{◌≡◌, ◌++◌, OnOk, codes, slice_get, length};
 ghost use Rattle.std.specs.String.{string_bytes};
 ghost use Rattle.sts_code.specs.Program.{routine};
 ghost use Rattle.sts_asm.specs.Fault.{code_error};
@@ -11,8 +11,9 @@ use std::fmt::Write;
 use sts_asm::AsmError;
 use sts_code::checking::CodeError;
 use sts_code::instr::Instr;
-use sts_code::program::Program;
+use sts_code::program::{Function, Program};
 use sts_list::spell;
+use sts_model::budget::Budgets;
 use sts_model::event::{End, Fault};
 use sts_model::typing::Cause;
 use sts_plain::misstep::PlainState;
@@ -167,5 +168,35 @@ pub fn refused_line(
     write!(out, "refused V{number} in {name} at {pc}: ")?;
     place_words(alloc, out, program, instr_at(program, function, pc))?;
     out.push('\n')?;
+    Ok(())
+}
+
+/// The four lines of a function's budgets.
+fn budget_lines(out: &mut String, name: &str, budgets: Budgets) -> Result<(), AllocError>
+    ensures { OnOk result (string_bytes out.new ≡ string_bytes out.old ++ def.budget_lines name.now budgets) }
+{
+    let steps = budgets.steps;
+    let tasks = budgets.tasks;
+    let scopes = budgets.scopes;
+    let binds = budgets.binds;
+    writeln!(out, "{name} steps {steps}")?;
+    writeln!(out, "{name} tasks {tasks}")?;
+    writeln!(out, "{name} scopes {scopes}")?;
+    writeln!(out, "{name} binds {binds}")
+}
+
+/// The lines of the budgets of all functions.
+pub fn accepted_lines(
+    out: &mut String,
+    functions: &[Function],
+    budgets: &[Budgets],
+) -> Result<(), AllocError>
+    requires { length budgets.now ≡ length functions.now }
+    ensures { OnOk result (string_bytes out.new ≡ string_bytes out.old ++ def.accepted_lines functions.now budgets.now) }
+{
+    for i in 0..functions.len() {
+        let function = &functions[i];
+        budget_lines(out, function.name.as_str(), budgets[i])?;
+    }
     Ok(())
 }

@@ -9,9 +9,10 @@ use crate::printed;
 use std::alloc::{AllocError, Global};
 use sts_asm::assemble;
 use sts_code::program::Program;
+use sts_model::budget::Budgets;
 use sts_model::typing::Cause;
 use sts_verify::error::VerifyError;
-use sts_verify::verified::verify;
+use sts_verify::verified::{Verified, verify};
 
 fn refused(
     alloc: Global,
@@ -27,22 +28,45 @@ fn refused(
     Ok(Answer { text, status: 4 })
 }
 
+/// The budgets of the functions, in order.
+fn all_budgets(alloc: Global, verified: &Verified) -> Result<Vec<Budgets>, AllocError>
+    ensures { IfOk result (λ budgets. def.AreTold verified.now budgets.items) }
+{
+    let mut budgets = Vec::new(alloc);
+    for function in 0..verified.program().functions().len() {
+        budgets.push(verified.budgets(function))?;
+    }
+    Ok(budgets)
+}
+
+fn accepted(alloc: Global, verified: &Verified) -> Result<Answer, AllocError>
+    ensures { IfOk result (λ a. def.IsVerdict verified.now a) }
+{
+    let budgets = all_budgets(alloc, verified)?;
+    let mut text = String::new(alloc);
+    printed::accepted_lines(
+        &mut text,
+        verified.program().functions(),
+        budgets.as_slice(),
+    )?;
+    Ok(Answer { text, status: 0 })
+}
+
 /// Verifies a program.
 fn verdict(alloc: Global, program: Program) -> Result<Answer, AllocError>
     ensures { IfOk result (λ a. def.IsVerdict program a) }
 {
     match verify(alloc, program) {
-        Ok(_) => Ok(Answer {
-            text: "accepted\n".to_string(alloc)?,
-            status: 0,
-        }),
+        Ok(verified) => accepted(alloc, &verified),
         Err(VerifyError::Memory(_)) => Err(AllocError),
-        Err(VerifyError::Refused {
-            program,
-            function,
-            pc,
-            cause,
-        }) => refused(alloc, &program, function, pc, cause),
+        Err(
+            VerifyError::Refused {
+                program,
+                function,
+                pc,
+                cause,
+            },
+        ) => refused(alloc, &program, function, pc, cause),
     }
 }
 
