@@ -60,7 +60,8 @@ skeleton earlier code = record {
   shape = λ pc. shape_of pc (instr_at code pc);
   mate = λ pc. unwrap_or (match_of code pc) 0;
   weight = λ pc. steps_of earlier (instr_at code pc);
-  entries = λ pc es. entries_of (instr_at code pc) es }
+  entries = λ pc es. entries_of (instr_at code pc) es;
+}
 
 -- ---- what stands at a point
 

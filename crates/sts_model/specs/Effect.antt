@@ -64,7 +64,7 @@ unfoldable pub fork_task : Program → World → ℕ → Frame → ℕ → ℕ �
 fork_task p w t f s g h =
     with_frame (record w { tasks = w.tasks ++ subtask_of p w f s g ∷ [] }) t (forked f (routine p g).args h (length w.tasks))
 
--- after an outcome of `join`
+-- after an outcome of `join` other than interrupted
 abbrev pub joined : World → ℕ → ℕ → Frame → World
 joined w t s f = with_frame (with_phase w s Joined) t f
 
@@ -73,6 +73,7 @@ join_verdict (verdict.Ok None) w t s f failed = joined w t s (steps f 0 [])
 join_verdict (verdict.Ok (Some v)) w t s f failed = joined w t s (steps f 0 (v ∷ []))
 join_verdict (verdict.Failed c) w t s f failed = joined w t s (goes f failed 0 (c ∷ []))
 
+-- the outcome of a `join`: a timeout, the joiner's result, or else interrupted, as a task whose flag isn't set waits here
 unfoldable pub join_scope : World → ℕ → Frame → ℕ → ℕ → ℕ → ℕ → World
 join_scope w t f s failed timeout interrupted =
     let scope = scope_at w s in
@@ -128,7 +129,7 @@ end_task w t f end = tell (ended w t f end) t (task_at w t).scope end
 
 -- ---- readings
 
--- the number of subtasks in a state
+-- the number of subtasks in a state; unavailable are those that did not complete
 abbrev pub tally : World → ℕ → Kind → ℕ
 tally w s S = count_by is_success (ends (scope_at w s))
 tally w s F = count_by is_failure (ends (scope_at w s))

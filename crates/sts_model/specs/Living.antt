@@ -50,7 +50,7 @@ ends scope = ends_of scope.completions
 abbrev pub completion_of : List Completion → ℕ → Option End
 completion_of completions t = option_map (λ (c : Completion). c.end) (find (λ (c : Completion). c.task == t) completions)
 
--- the scope that a task is a subtask of
+-- the scope that a task is a subtask of; for the root, which has none, a scope without bindings
 abbrev pub parent : World → Option ℕ → Scope
 parent w None = no_scope
 parent w (Some s) = scope_at w s

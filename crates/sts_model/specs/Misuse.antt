@@ -1,7 +1,7 @@
 -- Misuse: what is wrong with the instruction that a task is at, and which fault that is.
 -- Restates the exceptions of `fork`, `join`, `close` and `Subtask.get` in the API documentation (`IllegalStateException`, `WrongThreadException`,
--- `StructureViolationException`) and of `ScopedValue.get` (`NoSuchElementException`). The fault Operand, the limits and the order of
--- the kinds are this project's own.
+-- `StructureViolationException`) and of `ScopedValue.get` (`NoSuchElementException`). The fault Operand, the limits, the order of
+-- the kinds, WrongThread and IllegalState of `tally` and `total`, Structure of `ret` and `fail`, and not reading after a timeout are own.
 use Rattle.std.specs.Prelude.{◌≡◌, ℕ, ◌+◌, ◌-◌, List, [], ◌∷◌, length, Bool, true, false, Option, Some, None, is_some, is_none, nat_lt, nat_le, ◌==◌, ◌&&◌, ◌||◌, not, if◌then◌else◌, slice_index_or}
 use Rattle.sts_code.specs.Program.{Program, routine}
 use Rattle.sts_code.specs.declared.instr.Instr.{Instr}

@@ -1,4 +1,4 @@
-//! Events, ends, faults and phases.
+//! Events, ends, faults, phases, results of joiners, and where a task stands.
 
 /// What happens next.
 #[derive(Clone, Copy, Debug, PartialEq, Eq)]
@@ -15,7 +15,7 @@ pub enum End {
     Failed(i64),
 }
 
-/// What was misused.
+/// The kind of a misuse.
 #[derive(Clone, Copy, Debug, PartialEq, Eq)]
 pub enum Fault {
     IllegalState,
@@ -35,14 +35,14 @@ pub enum Phase {
     Closed,
 }
 
-/// The answer of `join`.
+/// The result of a joiner.
 #[derive(Clone, Copy, Debug, PartialEq, Eq)]
 pub enum Verdict {
     Ok(Option<i64>),
     Failed(i64),
 }
 
-/// Where a task stands: at the `join` of a scope, at a `close` that has begun, or at neither.
+/// Where a task stands: at a `join` of a scope that is no misuse, at a `close` that has begun, or at neither.
 #[derive(Clone, Copy, Debug, PartialEq, Eq)]
 pub enum Stand {
     Free,
