@@ -1,9 +1,8 @@
 //! The program `sts`: `sts_cli` does all of it.
 #![tactic(auto)]
 
-use std::env;
-use std::io;
 use std::process::ExitCode;
+use std::{env, io};
 use sts_cli::program::run;
 
 /// The status where the command line itself could not be had.

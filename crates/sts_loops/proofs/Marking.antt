@@ -68,8 +68,8 @@ heads_more code heads now k at long marks = record { long = long ∙ at.long; he
         let yes : ltb k q ≡ true = grind (arith, nat_tests) in
         let old : get_or heads q None ≡ slice_get (below code q k) 0 = at.heads_are q h ∙ ap (λ x. slice_get (below code q x) 0) two in
         marks q ∙ ap (λ b. cond (b && reaches_to q (end_at code k)) (Some k) (get_or heads q None)) yes
-          ∙ ap (λ x. cond (reaches_to q (end_at code k)) (Some k) x) old ∙ ap (λ b. cond b (Some k) (slice_get (below code q k) 0)) (sym (inside_end code q k))
-          ∙ pick (is_inside code q k) ∙ ap (λ xs. slice_get xs 0) (sym (below_more code q k)) ∙ ap (λ x. slice_get (below code q x) 0) (sym one)
+        ∙ ap (λ x. cond (reaches_to q (end_at code k)) (Some k) x) old ∙ ap (λ b. cond b (Some k) (slice_get (below code q k) 0)) (sym (inside_end code q k))
+        ∙ pick (is_inside code q k) ∙ ap (λ xs. slice_get xs 0) (sym (below_more code q k)) ∙ ap (λ x. slice_get (below code q x) 0) (sym one)
       where
         pick : (b : Bool) → cond b (Some k) (slice_get (below code q k) 0) ≡ slice_get (cond b (k ∷ below code q k) (below code q k)) 0
         pick true = refl

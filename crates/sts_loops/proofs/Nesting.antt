@@ -69,6 +69,7 @@ inside_same code q p r lt w less = by (is_times (instr_at code r)) refl (match_o
         let n = nested code r p m w.end (ends code r m e) t (ends code p w.end w.match) w.times less after in
         let far : q ≤ m = omega (arith, n, w.reach) in
         grind (arith, nat_tests)
+
     by : (b : Bool) → is_times (instr_at code r) ≡ b → (o : Option ℕ) → match_of code r ≡ o → b && reaches_to q o ≡ b && reaches_to p o
     by false t o e = refl
     by true t None e = refl
@@ -124,6 +125,7 @@ differs_at code place at rest differs = by (around code place) refl
     first_differs : (x : ℕ) (xs : List ℕ) (b : Bool) → eqb x at ≡ b → (x ≡ at → ⊥) → b && bytes_eq xs rest ≡ false
     first_differs x xs true e h = absurd (h (eqb-true x at e))
     first_differs x xs false e h = refl
+
     by : (xs : List ℕ) → around code place ≡ xs → bytes_eq xs (at ∷ rest) ≡ false
     by [] e = refl
     by (x ∷ xs) e = first_differs x xs (eqb x at) refl (λ same. differs (ap (λ l. slice_get l 0) e ∙ ap Some same))

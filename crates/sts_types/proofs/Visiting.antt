@@ -39,7 +39,7 @@ starts p f code table s is some empty first =
     let size_is : length code ≡ size p f = ap length is in
     let positive : 0 < size p f = omega arith in
     begin (typing p f) (size p f) (laws p f) (set table 0 (One s)) positive (length-set table 0 (One s) ∙ long ∙ size_is) (get_or-set_same table 0 (One s) Nothing inside ∙ ap One first)
-      (λ pc pos within. (let ne : pc ≢ 0 = omega arith in let short : pc < length code = omega arith in get_or-set_other table 0 pc (One s) Nothing ne ∙ ap (λ ys. get_or ys pc Nothing) empty ∙ get_or-replicate (length code) pc Nothing Nothing short))
+    (λ pc pos within. (let ne : pc ≢ 0 = omega arith in let short : pc < length code = omega arith in get_or-set_other table 0 pc (One s) Nothing ne ∙ ap (λ ys. get_or ys pc Nothing) empty ∙ get_or-replicate (length code) pc Nothing Nothing short))
 
 module _ (p : Program) (f : ℕ) (code : List Instr) (is : code ≡ (routine p f).code) (table : List (Arrival TypeState)) (k : ℕ) (within : k < length code) (at : Passed (typing p f) (size p f) table k) (r : Arrival TypeState) (reads : r ≡ get_or table k r) where
   here : k < size p f

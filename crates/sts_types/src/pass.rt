@@ -13,12 +13,12 @@ use crate::edges::code_of;
 use crate::follow::edge;
 use crate::leads::skip;
 use crate::least::least_cause;
-use sts_loops::loops::{CodeLoops, Tables};
-use sts_states::state::{TypeState, entry};
+use std::alloc::{AllocError, Global};
 use sts_code::instr::Instr;
 use sts_code::program::Program;
+use sts_loops::loops::{CodeLoops, Tables};
 use sts_model::typing::Cause;
-use std::alloc::{AllocError, Global};
+use sts_states::state::{TypeState, entry};
 
 /// Why a function is refused.
 #[derive(Clone, Copy, Debug, PartialEq, Eq)]

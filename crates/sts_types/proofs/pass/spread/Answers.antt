@@ -19,9 +19,10 @@ pub loop-number-preserved : goal.loop-number-preserved
 loop-number-preserved c =
     let out = follows c.args.program.now c.args.loops.now c.args.pc c.args.instr c.args.state.now in
     let old = c.args.table.now.items in
-    let now = c.loop-number.table.items in
-    (ap length c.arrive.ensures.1.1 ∙ length-set now c.in-Some.to _ ∙ c.loop-number.invariant.0,
-     arrive_next out old now c.arrive.new.table.items c.loop-number.number c.in-Some.to c.in-Some.after c.arrive.ensures.0 c.loop-number.invariant.1 (sym c.edge.ensures ∙ c.in-Some.is) c.arrive.ensures.1.0 c.arrive.ensures.1.1)
+    let now = c.loop-number.table.items in (
+      ap length c.arrive.ensures.1.1 ∙ length-set now c.in-Some.to _ ∙ c.loop-number.invariant.0,
+      arrive_next out old now c.arrive.new.table.items c.loop-number.number c.in-Some.to c.in-Some.after c.arrive.ensures.0 c.loop-number.invariant.1 (sym c.edge.ensures ∙ c.in-Some.is) c.arrive.ensures.1.0 c.arrive.ensures.1.1,
+    )
 
 pub returns : goal.returns
 returns c =

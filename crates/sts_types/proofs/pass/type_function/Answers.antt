@@ -55,7 +55,7 @@ pub loop-pc-preserved : goal.loop-pc-preserved
 loop-pc-preserved c =
     let within : c.loop-pc.pc < length c.code_of-code.result.now = within_code c.with_tables-loops.result c.code_of-code.result.now c.len-pc-end.result c.loop-pc.pc c.len-pc-end.ensures.value c.with_tables-loops.ensures c.loop-pc-test.true in
     let keeps : TurnKeeps (typing c.args.program.now c.args.function) c.loop-pc.pc c.copy-state.result = elim c.match-back_to.branch [
-      in-Some-back_to+else-not-is_one w ↦ keeps_here c.args.program.now c.args.function c.code_of-code.result.now c.code_of-code.ensures.value c.loop-pc.table.items c.loop-pc.pc within c.loop-pc.invariant c.index.result.now c.index.ensures c.copy-state.result (c.in-One.is ∙ ap One (sym c.copy-state.ensures)) _ _ refl (sym c.least_cause.ensures ∙ c.in_default.is) w.in-Some-back_to.start (sym c.back_to.ensures ∙ w.in-Some-back_to.is) w.index-in-Some-back_to.result.now w.index-in-Some-back_to.ensures w.is_one.result w.is_one.ensures w.if-not-is_one.false
-    | in_default-back_to w ↦ no_turn_here c.args.program.now c.args.function c.code_of-code.result.now c.code_of-code.ensures.value c.loop-pc.table.items c.loop-pc.pc within c.loop-pc.invariant c.index.result.now c.index.ensures c.copy-state.result (c.in-One.is ∙ ap One (sym c.copy-state.ensures)) _ _ refl (sym c.least_cause.ensures ∙ c.in_default.is) (sym c.back_to.ensures ∙ w.in_default-back_to.is)
+      | in-Some-back_to+else-not-is_one w ↦ keeps_here c.args.program.now c.args.function c.code_of-code.result.now c.code_of-code.ensures.value c.loop-pc.table.items c.loop-pc.pc within c.loop-pc.invariant c.index.result.now c.index.ensures c.copy-state.result (c.in-One.is ∙ ap One (sym c.copy-state.ensures)) _ _ refl (sym c.least_cause.ensures ∙ c.in_default.is) w.in-Some-back_to.start (sym c.back_to.ensures ∙ w.in-Some-back_to.is) w.index-in-Some-back_to.result.now w.index-in-Some-back_to.ensures w.is_one.result w.is_one.ensures w.if-not-is_one.false
+      | in_default-back_to w ↦ no_turn_here c.args.program.now c.args.function c.code_of-code.result.now c.code_of-code.ensures.value c.loop-pc.table.items c.loop-pc.pc within c.loop-pc.invariant c.index.result.now c.index.ensures c.copy-state.result (c.in-One.is ∙ ap One (sym c.copy-state.ensures)) _ _ refl (sym c.least_cause.ensures ∙ c.in_default.is) (sym c.back_to.ensures ∙ w.in_default-back_to.is)
     ] in
     goes_on_here c.args.program.now c.args.function c.code_of-code.result.now c.code_of-code.ensures.value c.loop-pc.table.items c.loop-pc.pc within c.loop-pc.invariant c.index.result.now c.index.ensures c.copy-state.result (c.in-One.is ∙ ap One (sym c.copy-state.ensures)) _ _ refl (sym c.least_cause.ensures ∙ c.in_default.is) c.with_tables-loops.result c.spread.new.table.items c.with_tables-loops.ensures keeps c.spread.ensures
