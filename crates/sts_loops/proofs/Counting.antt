@@ -38,7 +38,7 @@ find_here test q n h e =
     let one : n - q ≡ suc (n - (q + 1)) = omega arith in
     ap (λ m. find test (range_with_len q m)) one ∙ ap (λ b. cond b (Some q) (find test (range_with_len (q + 1) (n - (q + 1))))) e
 
-byte_is : (b : Bool) → bool_byte b ≡ one_if b
+pub byte_is : (b : Bool) → bool_byte b ≡ one_if b
 byte_is true = refl
 byte_is false = refl
 

@@ -53,7 +53,7 @@ head_more code pc k p true is e rest =
     (omega arith, subst (λ x. is_inside code pc x ≡ true) same is, ap (λ x. x ∷ below code pc x) same)
 head_more code pc k p false is e rest = let h = rest e in (omega (arith, h.0), h.1, h.2)
 
-below_head : (code : List Instr) (pc k p : ℕ) → slice_get (below code pc k) 0 ≡ Some p → (p < k) × (is_inside code pc p ≡ true) × (below code pc k ≡ p ∷ below code pc p)
+pub below_head : (code : List Instr) (pc k p : ℕ) → slice_get (below code pc k) 0 ≡ Some p → (p < k) × (is_inside code pc p ≡ true) × (below code pc k ≡ p ∷ below code pc p)
 below_head code pc zero p e = cc
 below_head code pc (suc k) p e =
     let h = head_more code pc k p (is_inside code pc k) refl (ap (λ xs. slice_get xs 0) (sym (below_more code pc k)) ∙ e) (λ r. below_head code pc k p r) in
