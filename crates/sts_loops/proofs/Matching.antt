@@ -1,7 +1,7 @@
 -- The match of a `times`: where it lies, and how loops nest.
-use Rattle.std.proofs.Common.{◌≡◌, ◌≢◌, ℕ, zero, suc, ◌+◌, ◌-◌, ◌<◌, ◌≤◌, ◌⊎◌, inl, inr, List, [], ◌∷◌, length, take, drop, Bool, true, false, Option, Some, None, find, count_by, ◌==◌, if◌then◌else◌, cond, refl, sym, ap, ◌∙◌, subst, arith, get_or, slice_range, eqb-true, eq-eqb}
+use Rattle.std.proofs.Common.{◌≡◌, ℕ, zero, suc, ◌+◌, ◌-◌, ◌<◌, ◌≤◌, ◌⊎◌, inl, inr, List, length, take, drop, Bool, true, false, Some, find, count_by, if◌then◌else◌, cond, refl, sym, ap, ◌∙◌, subst, arith, slice_range, eqb-true, eq-eqb}
 use Rattle.std.specs.List.{range_with_len}
-use Rattle.std.proofs.lemmas.Bool.{cases_Bool, cases_lt}
+use Rattle.std.proofs.lemmas.Bool.{cases_lt}
 use Rattle.std.proofs.lemmas.List.{get_or-drop, length-drop}
 use Rattle.std.proofs.lemmas.List.Sums.{count_by_more_yes, count_by_more_no}
 use Rattle.sts_code.specs.declared.instr.Instr.{Instr}
@@ -145,10 +145,10 @@ more_times code p m e is (suc d) h =
     rw z (by (cases_lt (nexts_before code (p + d + 1 + 1) + times_before code p) (times_before code (p + d + 1 + 1) + nexts_before code p)) less s uneven)
   where
     by : (nexts_before code (p + d + 1 + 1) + times_before code p < times_before code (p + d + 1 + 1) + nexts_before code p) ⊎ (times_before code (p + d + 1 + 1) + nexts_before code p ≤ nexts_before code (p + d + 1 + 1) + times_before code p)
-      → nexts_before code (p + d + 1) + times_before code p < times_before code (p + d + 1) + nexts_before code p
-      → Steps code (p + d + 1)
-      → (IsEven code p (p + d + 1) → ⊥)
-      → nexts_before code (p + d + 1 + 1) + times_before code p < times_before code (p + d + 1 + 1) + nexts_before code p
+        → nexts_before code (p + d + 1) + times_before code p < times_before code (p + d + 1) + nexts_before code p
+        → Steps code (p + d + 1)
+        → (IsEven code p (p + d + 1) → ⊥)
+        → nexts_before code (p + d + 1 + 1) + times_before code p < times_before code (p + d + 1 + 1) + nexts_before code p
     by (inl lt) less s uneven = lt
     by (inr ge) less s uneven =
         let even : IsEven code p (p + d + 1) = omega (arith, s.at_most, s.more_times, s.more_nexts, less, ge) in
@@ -203,10 +203,10 @@ ends_at_next code p m e is =
     by (is_next (instr_at code m)) refl three t n
   where
     by : (b : Bool) → is_next (instr_at code m) ≡ b
-      → nexts_before code m + times_before code p < times_before code m + nexts_before code p
-      → times_before code (m + 1) ≡ times_before code m + one_if (is_times (instr_at code m))
-      → nexts_before code (m + 1) ≡ nexts_before code m + one_if (is_next (instr_at code m))
-      → is_next (instr_at code m) ≡ true
+        → nexts_before code m + times_before code p < times_before code m + nexts_before code p
+        → times_before code (m + 1) ≡ times_before code m + one_if (is_times (instr_at code m))
+        → nexts_before code (m + 1) ≡ nexts_before code m + one_if (is_next (instr_at code m))
+        → is_next (instr_at code m) ≡ true
     by true is less t n = is
     by false is less t n =
         let none : one_if (is_next (instr_at code m)) ≡ 0 = rw is refl in

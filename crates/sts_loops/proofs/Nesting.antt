@@ -1,5 +1,5 @@
 -- The loops around a place: the innermost one, and those around it.
-use Rattle.std.proofs.Common.{◌≡◌, ◌≢◌, ℕ, zero, suc, ◌+◌, ◌-◌, ◌<◌, ◌≤◌, ◌⊎◌, inl, inr, List, [], ◌∷◌, ◌++◌, length, Bool, true, false, Option, Some, None, ◌&&◌, cond, refl, sym, ap, ◌∙◌, subst, arith, reverse, filter, slice_get, leb, leb-true, bytes_eq, eqb, eqb-true, eq-eqb, is_none, is_some, not, drop, get_or}
+use Rattle.std.proofs.Common.{◌≡◌, ℕ, zero, suc, ◌+◌, ◌-◌, ◌<◌, ◌≤◌, ◌⊎◌, inl, inr, List, [], ◌∷◌, ◌++◌, length, Bool, true, false, Option, Some, None, ◌&&◌, cond, refl, sym, ap, ◌∙◌, subst, arith, reverse, filter, slice_get, leb, leb-true, bytes_eq, eqb, eqb-true, eq-eqb, is_none, is_some, not, drop, get_or}
 use Rattle.std.specs.Option.{option_eq}
 use Rattle.std.specs.List.{range_with_len}
 use Rattle.std.proofs.lemmas.List.{reverse-append, get_or-map, length-map, drop_more, drop_all}
@@ -11,7 +11,7 @@ use Rattle.sts_model.specs.Around.{instr_at, is_inside, reaches_to, around}
 use Rattle.sts_model.specs.declared.typing.TypedLoop.{TypedLoop}
 use Rattle.sts_model.specs.TypeState.{heads}
 use Rattle.sts_loops.specs.Tables.{head}
-use Rattle.sts_loops.proofs.Matching.{Ends, ends, nested}
+use Rattle.sts_loops.proofs.Matching.{ends, nested}
 
 -- the loops around a place that begin before k
 abbrev pub below : List Instr → ℕ → ℕ → List ℕ
@@ -69,6 +69,7 @@ inside_same code q p r lt w less = by (is_times (instr_at code r)) refl (match_o
         let n = nested code r p m w.end (ends code r m e) t (ends code p w.end w.match) w.times less after in
         let far : q ≤ m = omega (arith, n, w.reach) in
         grind (arith, nat_tests)
+
     by : (b : Bool) → is_times (instr_at code r) ≡ b → (o : Option ℕ) → match_of code r ≡ o → b && reaches_to q o ≡ b && reaches_to p o
     by false t o e = refl
     by true t None e = refl
@@ -124,6 +125,7 @@ differs_at code place at rest differs = by (around code place) refl
     first_differs : (x : ℕ) (xs : List ℕ) (b : Bool) → eqb x at ≡ b → (x ≡ at → ⊥) → b && bytes_eq xs rest ≡ false
     first_differs x xs true e h = absurd (h (eqb-true x at e))
     first_differs x xs false e h = refl
+
     by : (xs : List ℕ) → around code place ≡ xs → bytes_eq xs (at ∷ rest) ≡ false
     by [] e = refl
     by (x ∷ xs) e = first_differs x xs (eqb x at) refl (λ same. differs (ap (λ l. slice_get l 0) e ∙ ap Some same))

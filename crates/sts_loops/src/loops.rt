@@ -8,10 +8,10 @@ ghost use Rattle.sts_model.specs.Local as local;
 ghost use Rattle.sts_loops.specs.Tables.{head, is_head, AreTablesOf};
 
 use crate::ends::{is_times, match_of};
+use std::marker::Model;
 use sts_code::instr::Instr;
 use sts_model::stack::Stack;
 use sts_model::typing::TypedLoop;
-use std::marker::Model;
 
 /// For each place of a function's code, the match of a `times` there, and the innermost loop around it.
 #[derive(Drop)]

@@ -6,8 +6,8 @@ ghost use Rattle.sts_loops.specs.Tables as table;
 
 use crate::ends::{is_times, match_of};
 use crate::loops::Tables;
-use sts_code::instr::Instr;
 use std::alloc::{AllocError, Global};
+use sts_code::instr::Instr;
 
 /// The match of a `times` at `at`, if there is one.
 fn end_at(code: &[Instr], at: usize) -> Option<u32>

@@ -1,13 +1,13 @@
 -- A pass that changes the typestate of its place in one variable, beside a table of those that jumped ahead.
-use Rattle.std.proofs.Common.{◌≡◌, ◌≢◌, ℕ, zero, suc, ◌+◌, ◌-◌, ◌<◌, ◌≤◌, ◌⊎◌, inl, inr, Bool, true, false, List, [], ◌∷◌, length, drop, cond, Ok, Option, Some, None, get_or, set, slice_get, refl, sym, ap, ◌∙◌, subst, arith, get_or-set_same, get_or-set_other, length-set}
-use Rattle.std.proofs.lemmas.Bool.{cases_eq, cases_lt}
+use Rattle.std.proofs.Common.{◌≡◌, ◌≢◌, ℕ, ◌+◌, ◌<◌, ◌≤◌, ◌⊎◌, inl, inr, Bool, true, false, List, [], ◌∷◌, length, cond, Ok, get_or, set, refl, sym, ap, ◌∙◌, subst, arith, get_or-set_same, get_or-set_other, length-set}
+use Rattle.std.proofs.lemmas.Bool.{cases_eq}
 use Rattle.sts_code.specs.declared.instr.Instr.{Instr}
 use Rattle.sts_model.specs.Flow.{Flow, Leads, TurnKeeps}
 use Rattle.sts_loops.specs.Tables.{is_head}
 use Rattle.sts_types.specs.declared.arrival.Arrival.{Arrival}
-use Rattle.sts_types.specs.declared.arrival.Arrival.TheVariants.{Nothing, One, Several}
-use Rattle.sts_types.specs.Arrivals.{Merged, Arrive, Settles}
-use Rattle.sts_types.proofs.Passing.{IsForward, Passed, Below, Describes, arrive_describes, set_describes, describes_same, goes_on_by}
+use Rattle.sts_types.specs.declared.arrival.Arrival.TheVariants.{Nothing, One}
+use Rattle.sts_types.specs.Arrivals.{Merged, Arrive}
+use Rattle.sts_types.proofs.Passing.{IsForward, Passed, Below, arrive_describes, set_describes, describes_same, goes_on_by}
 
 -- the places after k, and the beginnings of loops before it
 abbrev pub Ahead : List Instr → ℕ → ℕ → Type 0
@@ -57,15 +57,15 @@ module _ {S : Type 0} where
 
   -- what arrives in the one arrives in the other
   pub arrive_both : (code : List Instr) (k : ℕ) (es : List (ℕ × S)) (whole table after : List (Arrival S)) → ((to : ℕ) (x : S) → Leads es to x → (k < to) × (to < length table)) → length whole ≡ length table → Agree (Kept code k) whole table → Arrive table es after
-    → (whole' : List (Arrival S)) × (Arrive whole es whole' × Agree (Kept code k) whole' after × (length whole' ≡ length whole) × (length after ≡ length table))
+      → (whole' : List (Arrival S)) × (Arrive whole es whole' × Agree (Kept code k) whole' after × (length whole' ≡ length whole) × (length after ≡ length table))
   arrive_both code k [] whole table after up long same is = (whole, (refl, subst (Agree (Kept code k) whole) (sym is) same, refl, ap length is))
   arrive_both code k (e ∷ es) whole table after up long same is =
       let here = up e.0 e.1 (inl (refl, refl)) in
       let merged : Merged (get_or whole e.0 Nothing) e.1 is.0 = subst (λ a. Merged a e.1 is.0) (sym (same e.0 (inl here.0))) is.1.0 in
       let rest = arrive_both code k es (set whole e.0 is.0) (set table e.0 is.0) after
-                   (λ to x l. (let u = up to x (inr l) in (u.0, omega (arith, u.1, length-set table e.0 is.0))))
-                   (length-set whole e.0 is.0 ∙ long ∙ sym (length-set table e.0 is.0))
-                   (set_agrees (Kept code k) whole table e.0 is.0 long here.1 same) is.1.1 in
+      (λ to x l. (let u = up to x (inr l) in (u.0, omega (arith, u.1, length-set table e.0 is.0))))
+      (length-set whole e.0 is.0 ∙ long ∙ sym (length-set table e.0 is.0))
+      (set_agrees (Kept code k) whole table e.0 is.0 long here.1 same) is.1.1 in
       (rest.0, ((is.0, (merged, rest.1.0)), rest.1.1, rest.1.2 ∙ length-set whole e.0 is.0, rest.1.3 ∙ length-set table e.0 is.0))
 
 -- how far the pass has come: the table, with what stands at this place, is a part of one that stands for all that arrives
@@ -77,8 +77,7 @@ pub record Following {S C : Type 0} (f : Flow S C) (n : ℕ) (code : List Instr)
   pub long : length table ≡ n
 
 module _ {S C : Type 0} (f : Flow S C) (n : ℕ) (laws : IsForward f n) (code : List Instr) (whole : List (Arrival S)) (k : ℕ) (within : k < n) (at : Passed f n whole k) (s : S) (one : get_or whole k Nothing ≡ One s) (out : List (ℕ × S)) (fine : f.edges k s ≡ Ok out) (keeps : TurnKeeps f k s)
-  (table after : List (Arrival S)) (long : length table ≡ n) (same : Agree (Kept code k) whole table) where
-
+    (table after : List (Arrival S)) (long : length table ≡ n) (same : Agree (Kept code k) whole table) where
   both_long : length whole ≡ length table
   both_long = at.holds.0 ∙ sym long
 
@@ -109,8 +108,8 @@ module _ {S C : Type 0} (f : Flow S C) (n : ℕ) (laws : IsForward f n) (code : 
       let inside : k + 1 < length v.0 = omega (arith, next, v.1.2, at.holds.0) in
       let some = set_describes (λ pc y. Below f k pc y ⊎ Leads rest pc y) v.0 n (k + 1) x here merged (arrive_describes rest (Below f k) whole v.0 n at.holds v.1.0) in
       let all = describes_same (λ pc y. (Below f k pc y ⊎ Leads rest pc y) ⊎ ((k + 1 ≡ pc) × (x ≡ y))) (λ pc y. Below f k pc y ⊎ Leads out pc y) _ n
-                  (λ pc y. elim [ inl h ↦ elim h [ inl b ↦ inl b | inr l ↦ inr (subst (λ es. Leads es pc y) (sym split_out) (inr l)) ] | inr e ↦ inr (subst (λ es. Leads es pc y) (sym split_out) (inl e)) ])
-                  (λ pc y. elim [ inl b ↦ inl (inl b) | inr l ↦ elim (subst (λ es. Leads es pc y) split_out l) [ inl e ↦ inr e | inr m ↦ inl (inr m) ] ]) some in
+      (λ pc y. elim [ inl h ↦ elim h [ inl b ↦ inl b | inr l ↦ inr (subst (λ es. Leads es pc y) (sym split_out) (inr l)) ] | inr e ↦ inr (subst (λ es. Leads es pc y) (sym split_out) (inl e)) ])
+      (λ pc y. elim [ inl b ↦ inl (inl b) | inr l ↦ elim (subst (λ es. Leads es pc y) split_out l) [ inl e ↦ inr e | inr m ↦ inl (inr m) ] ]) some in
       record {
         whole = set v.0 (k + 1) here;
         passed = goes_on_by f n laws whole k within at s one out (set v.0 (k + 1) here) fine keeps all;

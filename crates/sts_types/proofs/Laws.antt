@@ -1,20 +1,19 @@
 -- The edges of instructions go forward and stay inside the function.
-use Rattle.std.proofs.Common.{◌≡◌, ◌≢◌, ℕ, ◌+◌, ◌-◌, ◌<◌, ◌≤◌, ◌⊎◌, inl, inr, Bool, true, false, ◌||◌, not, List, [], ◌∷◌, ◌++◌, length, map, Option, Some, None, option_map, option_to_list, slice_get, Result, Ok, Err, leb, cond, eqb-true, leb-false, refl, sym, ap, ◌∙◌, subst, arith}
+use Rattle.std.proofs.Common.{◌≡◌, ℕ, ◌+◌, ◌<◌, ◌≤◌, ◌⊎◌, inl, inr, Bool, true, false, ◌||◌, not, List, [], ◌∷◌, ◌++◌, map, Option, Some, None, option_map, option_to_list, slice_get, Ok, leb, cond, eqb-true, leb-false, refl, sym, ap, subst, arith}
 use Rattle.std.specs.List.{list_any}
-use Rattle.std.proofs.lemmas.List.Folds.{list_any-append}
 use Rattle.sts_code.specs.Program.{Program, routine}
 use Rattle.sts_code.specs.declared.instr.Instr.{Instr}
-use Rattle.sts_code.specs.declared.instr.Instr.TheVariants.{Div, Jmp, Jz, Times, Next, Open, Fork, Join, Close, Case, Forget, Bind, Unbind, Ret, Fail}
+use Rattle.sts_code.specs.declared.instr.Instr.TheVariants.{Div, Jmp, Jz, Times, Next, Join, Case, Ret, Fail}
 use Rattle.sts_model.specs.declared.typing.Cause.{Cause}
 use Rattle.sts_model.specs.declared.typing.TypedLoop.{TypedLoop}
 use Rattle.sts_model.specs.Local.{match_of}
 use Rattle.sts_model.specs.Misuse.{is_at}
 use Rattle.sts_model.specs.TypeState.{TypeState}
 use Rattle.sts_model.specs.Around.{instr_at, named, next_place, skipped_to, falls_through}
-use Rattle.sts_model.specs.Causes.{least_cause, closes_loop}
-use Rattle.sts_model.specs.Edges.{edges, edges_of, follows, to_optional, moved, or_cause, back_of, typing}
+use Rattle.sts_model.specs.Causes.{closes_loop}
+use Rattle.sts_model.specs.Edges.{follows, to_optional, moved, or_cause, back_of, typing}
 use Rattle.sts_model.specs.Fits.{Fits}
-use Rattle.sts_model.specs.Flow.{Flow, Leads}
+use Rattle.sts_model.specs.Flow.{Leads}
 use Rattle.sts_model.specs.Refusal.{size}
 use Rattle.sts_types.proofs.Fitting.{fits}
 use Rattle.sts_types.proofs.FollowLemmas.{at_place}
@@ -126,6 +125,7 @@ leads_up p f pc i s to fit m = (after m, leb-false (size p f) to (none_passes (l
     after (inl m) = past_pc pc to (none_passes (λ t. leb t pc) (named i) to fit.forward m)
     after (inr (inl h)) = omega (arith, h.0)
     after (inr (inr m)) = skip_after (routine p f).code pc i to m
+
     all : LeadsTo (routine p f).code pc i to → Among (named i ++ next_place pc i ++ skipped_to (routine p f).code pc i) to
     all (inl m) = among_left (named i ++ next_place pc i) (skipped_to (routine p f).code pc i) to (among_left (named i) (next_place pc i) to m)
     all (inr (inl h)) = among_left (named i ++ next_place pc i) (skipped_to (routine p f).code pc i) to (among_right (named i) (next_place pc i) to (next_among pc i to h))
@@ -166,6 +166,6 @@ pub laws : (p : Program) (f : ℕ) → IsForward (typing p f) (size p f)
 laws p f =
     record {
       up = λ pc s out to x e l. (let o = or_cause_ok _ _ out e in
-        leads_up p f pc (instr_at (routine p f).code pc) s to (fits p f pc _ s o.0) (follow_leads p (routine p f).code pc _ s to x (subst (λ es. Leads es to x) (sym o.1) l)));
+          leads_up p f pc (instr_at (routine p f).code pc) s to (fits p f pc _ s o.0) (follow_leads p (routine p f).code pc _ s to x (subst (λ es. Leads es to x) (sym o.1) l)));
       down = λ pc s out q e b. (let o = or_cause_ok _ _ out e in back_down p f pc (instr_at (routine p f).code pc) s q (fits p f pc _ s o.0) b);
     }

@@ -1,5 +1,5 @@
 -- Where no cause holds, there is room for what the instruction adds.
-use Rattle.std.proofs.Common.{◌≡◌, ℕ, ◌+◌, ◌-◌, ◌<◌, ◌≤◌, Bool, true, false, ◌&&◌, ◌||◌, not, Option, Some, None, IfSome, is_some, leb, ltb, refl, sym, ap, ◌∙◌, subst, arith, leb-false, ltb-false, List, [], ◌∷◌, length}
+use Rattle.std.proofs.Common.{◌≡◌, ℕ, ◌+◌, ◌-◌, ◌<◌, ◌≤◌, Bool, true, false, ◌&&◌, ◌||◌, not, Option, Some, None, IfSome, is_some, leb, ltb, refl, arith, leb-false, ltb-false}
 use Rattle.sts_code.specs.Program.{Program}
 use Rattle.sts_code.specs.declared.instr.Instr.{Instr}
 use Rattle.sts_code.specs.declared.instr.Instr.TheVariants.{Join}
@@ -10,7 +10,7 @@ use Rattle.sts_model.specs.declared.typing.SlotKind.TheVariants.{Empty, Own, Len
 use Rattle.sts_model.specs.declared.typing.TypedScope.{TypedScope}
 use Rattle.sts_model.specs.Misuse.{pops, pushes, can_fail, is_await_all, same}
 use Rattle.sts_model.specs.TypeState.{TypeState, kind, scope_in}
-use Rattle.sts_model.specs.Causes.{is_own, is_lent, passes, can_join, overflows, join_overflows}
+use Rattle.sts_model.specs.Causes.{is_own, is_lent, passes, can_join, join_overflows}
 use Rattle.sts_model.specs.Edges.{joiner_of, ok_pushes}
 use Rattle.sts_model.specs.Fits.{Fits}
 use Rattle.sts_states.specs.Room.{HasRoom, JoinHasRoom}
@@ -61,8 +61,8 @@ not_not true e = refl
 not_not false e = cc
 
 joins : (h : ℕ) (failed timeout : Option ℕ) (o : Option TypedScope) → h ≤ 32 → leb 32 h && passes (λ scope. not (is_await_all scope.joiner)) o ≡ false → passes can_join o ≡ true
-  → passes (λ scope. not (same (is_some failed) (can_fail scope.joiner)) || not (same (is_some timeout) scope.timed)) o ≡ false
-  → (h + ok_pushes (joiner_of o) ≤ 32) × IfSome failed (λ _. h < 32)
+    → passes (λ scope. not (same (is_some failed) (can_fail scope.joiner)) || not (same (is_some timeout) scope.timed)) o ≡ false
+    → (h + ok_pushes (joiner_of o) ≤ 32) × IfSome failed (λ _. h < 32)
 joins h failed timeout None le room legal fit = cc
 joins h failed timeout (Some r) le room legal fit =
     (room_for h r.joiner le room, room_failed h failed r.joiner room (not_not _ (neither (not (same (is_some failed) (can_fail r.joiner))) _ fit).0))

@@ -1,5 +1,5 @@
 -- One place of the pass over a function: each exit of the body, and how the pass goes on.
-use Rattle.std.proofs.Common.{◌≡◌, ◌≢◌, ℕ, ◌+◌, ◌<◌, ◌≤◌, ◌↔◌, IsTrue, IfSome, Bool, true, false, List, length, Option, Some, None, option_map, slice_get, drop, cond, ltb, ◌&&◌, [], ◌∷◌, ◌⊎◌, inl, inr, ◌-◌, Result, Ok, Err, get_or, set, replicate, refl, sym, ap, ◌∙◌, subst, arith, get_or-set_same, get_or-set_other, length-set}
+use Rattle.std.proofs.Common.{◌≡◌, ◌≢◌, ℕ, ◌+◌, ◌<◌, ◌≤◌, ◌↔◌, IsTrue, IfSome, Bool, true, false, List, length, Option, Some, None, option_map, slice_get, drop, cond, ltb, ◌&&◌, [], ◌∷◌, inl, inr, ◌-◌, Ok, Err, get_or, set, replicate, refl, sym, ap, ◌∙◌, subst, arith, get_or-set_same, get_or-set_other, length-set}
 use Rattle.std.specs.List.{All}
 use Rattle.std.proofs.lemmas.Bool.Decides.{nat_tests}
 use Rattle.std.proofs.lemmas.List.{get_or_read, get_or_default, length-replicate, get_or-replicate}
@@ -14,8 +14,7 @@ use Rattle.sts_model.specs.TypeState.{TypeState, entry, heads}
 use Rattle.sts_model.specs.Around.{instr_at, around, falls_through}
 use Rattle.sts_model.specs.Causes.{least_cause}
 use Rattle.sts_model.specs.Edges.{edges, follows, or_cause, back_of, typing}
-use Rattle.sts_model.specs.Fits.{Fits}
-use Rattle.sts_model.specs.Flow.{Leads, Reaches, TurnKeeps}
+use Rattle.sts_model.specs.Flow.{Reaches, TurnKeeps}
 use Rattle.sts_model.specs.Refusal.{size, IsTypeRefusal}
 use Rattle.sts_types.specs.declared.arrival.Arrival.{Arrival}
 use Rattle.sts_types.specs.declared.arrival.Arrival.TheVariants.{Nothing, One, Several}
@@ -50,7 +49,7 @@ starts_whole p f code table s is some empty first =
     let size_is : length code ≡ size p f = ap length is in
     let positive : 0 < size p f = omega arith in
     begin (typing p f) (size p f) (laws p f) (set table 0 (One s)) positive (length-set table 0 (One s) ∙ long ∙ size_is) (get_or-set_same table 0 (One s) Nothing inside ∙ ap One first)
-      (λ pc pos within. (let ne : pc ≢ 0 = omega arith in let short : pc < length code = omega arith in get_or-set_other table 0 pc (One s) Nothing ne ∙ ap (λ ys. get_or ys pc Nothing) empty ∙ get_or-replicate (length code) pc Nothing Nothing short))
+    (λ pc pos within. (let ne : pc ≢ 0 = omega arith in let short : pc < length code = omega arith in get_or-set_other table 0 pc (One s) Nothing ne ∙ ap (λ ys. get_or ys pc Nothing) empty ∙ get_or-replicate (length code) pc Nothing Nothing short))
 
 pub starts : (p : Program) (f : ℕ) (code : List Instr) (table : List (Arrival TypeState)) (s : TypeState) → code ≡ (routine p f).code → 0 < length code → table ≡ replicate (length code) Nothing → s ≡ entry p f → Following (typing p f) (size p f) code table (One s) 0
 starts p f code table s is some empty first =
@@ -163,19 +162,19 @@ module _ (p : Program) (f : ℕ) (code : List Instr) (is : code ≡ (routine p f
 
       -- the pass goes on to the next place
       pub follows_here : (loops : List Instr) (kept after : List (Arrival TypeState)) (first : ℕ) (next : Arrival TypeState) → loops ≡ code → TurnKeeps (typing p f) k s → length kept ≡ size p f → Agree (Kept code k) table kept → first ≡ one_if (falls_through i) → Arrive kept (drop first (follows p loops k i s)) after
-        → (k + 1 < length loops → Settles (cond (falls_through i) (slice_get (follows p loops k i s) 0) None) (get_or after (k + 1) Nothing) next) → Following (typing p f) (size p f) code after next (k + 1)
+          → (k + 1 < length loops → Settles (cond (falls_through i) (slice_get (follows p loops k i s) 0) None) (get_or after (k + 1) Nothing) next) → Following (typing p f) (size p f) code after next (k + 1)
       unfolding out
       follows_here loops kept after first next same keeps count agree from arrives settles =
           by (falls_through i) refl (subst (λ c. Arrive kept (drop first (follows p c k i s)) after) (same ∙ is) arrives)
-            (λ lt. subst (λ c. Settles (cond (falls_through i) (slice_get (follows p c k i s) 0) None) (get_or after (k + 1) Nothing) next) (same ∙ is) (settles (omega (arith, lt, ap length is, ap length same))))
+          (λ lt. subst (λ c. Settles (cond (falls_through i) (slice_get (follows p c k i s) 0) None) (get_or after (k + 1) Nothing) next) (same ∙ is) (settles (omega (arith, lt, ap length is, ap length same))))
         where
           by : (b : Bool) → falls_through i ≡ b → Arrive kept (drop first out) after → (k + 1 < size p f → Settles (cond (falls_through i) (slice_get out 0) None) (get_or after (k + 1) Nothing) next) → Following (typing p f) (size p f) code after next (k + 1)
           by false e arr set_next =
               let zero_first : first ≡ 0 = from ∙ ap one_if e in
               jumps_on (typing p f) (size p f) (laws p f) code table k here at s one_here out fine keeps kept after count agree next (subst (λ x. Arrive kept (drop x out) after) zero_first arr)
-                (λ lt. subst (λ b. Settles (cond b (slice_get out 0) None) (get_or after (k + 1) Nothing) next) e (set_next lt))
+              (λ lt. subst (λ b. Settles (cond b (slice_get out 0) None) (get_or after (k + 1) Nothing) next) e (set_next lt))
           by true e arr set_next =
               let one_first : first ≡ 1 = from ∙ ap one_if e in
               let split = first_falls p (routine p f).code k i s e in
               falls_on (typing p f) (size p f) (laws p f) code table k here at s one_here out fine keeps kept after count agree next split.0 (drop 1 out) split.1 (subst (λ x. Arrive kept (drop x out) after) one_first arr)
-                (λ lt. subst (λ o. Settles o (get_or after (k + 1) Nothing) next) (ap (λ es. slice_get es 0) split.1) (subst (λ b. Settles (cond b (slice_get out 0) None) (get_or after (k + 1) Nothing) next) e (set_next lt)))
+              (λ lt. subst (λ o. Settles o (get_or after (k + 1) Nothing) next) (ap (λ es. slice_get es 0) split.1) (subst (λ b. Settles (cond b (slice_get out 0) None) (get_or after (k + 1) Nothing) next) e (set_next lt)))

@@ -14,13 +14,13 @@ use crate::edges::code_of;
 use crate::follow::edge;
 use crate::leads::skip;
 use crate::least::least_cause;
-use sts_loops::loops::{CodeLoops, Tables};
-use sts_states::operands::falls_through;
-use sts_states::state::{TypeState, entry};
+use std::alloc::{AllocError, Global};
 use sts_code::instr::Instr;
 use sts_code::program::Program;
+use sts_loops::loops::{CodeLoops, Tables};
 use sts_model::typing::Cause;
-use std::alloc::{AllocError, Global};
+use sts_states::operands::falls_through;
+use sts_states::state::{TypeState, entry};
 
 /// Why a function is refused.
 #[derive(Clone, Copy, Debug, PartialEq, Eq)]
@@ -140,12 +140,7 @@ fn meet(table: &Vec<Arrival<TypeState>>, place: u32, falls: bool, state: &mut Ty
 }
 
 /// Keeps the typestate with which a loop begins.
-fn keep_head(
-    loops: &CodeLoops<'_>,
-    pc: u32,
-    state: &TypeState,
-    table: &mut Vec<Arrival<TypeState>>,
-)
+fn keep_head(loops: &CodeLoops<'_>, pc: u32, state: &TypeState, table: &mut Vec<Arrival<TypeState>>)
     requires { pc < vec_len table.old }
     ensures { table.new.items ≡ (if is_head loops.now pc then slice_set table.old.items pc (Arrival.One state.now) else table.old.items) }
 {

@@ -5,10 +5,10 @@ ghost use Rattle.sts_model.specs.Refusal.{IsAccepted};
 ghost use Rattle.sts_verify.specs.Verifying as def;
 
 use crate::error::VerifyError;
-use sts_code::program::Program;
-use sts_types::pass::{TypeError, type_function};
 use std::alloc::Global;
 use std::marker::Model;
+use sts_code::program::Program;
+use sts_types::pass::{TypeError, type_function};
 
 /// A program that was accepted: contracts see the program.
 #[derive(Drop)]

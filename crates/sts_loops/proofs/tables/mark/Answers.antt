@@ -1,4 +1,4 @@
-use Rattle.std.proofs.Common.{◌≡◌, ◌≤◌, ◌+◌, ◌<◌, ◌∙◌, length, arith, subst, refl, length-set}
+use Rattle.std.proofs.Common.{◌≡◌, ◌+◌, ◌∙◌, arith, subst, refl, length-set}
 use Rattle.sts_loops.proofs.Marking.{Marks, marks_none, marks_more, marks_all}
 use Rattle.sts_loops.proofs.tables.mark.Goals as goal
 
@@ -6,9 +6,10 @@ pub loop-place-init : goal.loop-place-init
 loop-place-init c = (refl, marks_none c.args.heads.now.items c.args.at)
 
 pub loop-place-preserved : goal.loop-place-preserved
-loop-place-preserved c =
-    (length-set c.loop-place.heads.items c.loop-place.place _ ∙ c.loop-place.invariant.0,
-     marks_more c.args.heads.now.items c.loop-place.heads.items c.args.at c.loop-place.place (omega arith) (omega (arith, c.loop-place.invariant.0)) c.loop-place.invariant.1)
+loop-place-preserved c = (
+  length-set c.loop-place.heads.items c.loop-place.place _ ∙ c.loop-place.invariant.0,
+  marks_more c.args.heads.now.items c.loop-place.heads.items c.args.at c.loop-place.place (omega arith) (omega (arith, c.loop-place.invariant.0)) c.loop-place.invariant.1,
+)
 
 pub returns-clause-marked : goal.returns-clause-marked
 returns-clause-marked c =

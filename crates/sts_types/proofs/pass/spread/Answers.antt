@@ -1,4 +1,4 @@
-use Rattle.std.proofs.Common.{◌≡◌, ◌+◌, ◌<◌, ◌≤◌, ◌∙◌, length, take, drop, sym, ap, refl, arith, subst, Vec, Global, length-set, List, ℕ}
+use Rattle.std.proofs.Common.{◌≡◌, ◌+◌, ◌∙◌, length, take, drop, sym, ap, refl, arith, subst, Vec, Global, length-set}
 use Rattle.std.proofs.lemmas.List.{take_all}
 use Rattle.sts_model.specs.TypeState.{TypeState}
 use Rattle.sts_model.specs.Edges.{follows}
@@ -25,11 +25,12 @@ loop-number-preserved c =
     let k = c.loop-number.number in
     let now = c.loop-number.table.items in
     elim c.match-edge.branch [
-      in-Some w ↦ subst (λ (v : Vec (Arrival TypeState) Global). (length v.items ≡ length old) × Arrive old (drop c.args.first (take (k + 1) out)) v.items) (sym w.table-is)
-        (ap length w.arrive.ensures.1.1 ∙ length-set now w.in-Some.to _ ∙ c.loop-number.invariant.0,
-         arrive_next out old now w.arrive.new.table.items k c.args.first w.in-Some.to w.in-Some.after w.arrive.ensures.0 c.loop-number.invariant.1 (omega arith) (sym c.edge.ensures ∙ w.in-Some.is) w.arrive.ensures.1.0 w.arrive.ensures.1.1)
-    | in_default w ↦ subst (λ (v : Vec (Arrival TypeState) Global). (length v.items ≡ length old) × Arrive old (drop c.args.first (take (k + 1) out)) v.items) (sym w.table-is)
-        (c.loop-number.invariant.0, subst (λ es. Arrive old (drop c.args.first es) now) (sym (take_missing out k (sym c.edge.ensures ∙ w.in_default.is))) c.loop-number.invariant.1)
+      | in-Some w ↦ subst (λ (v : Vec (Arrival TypeState) Global). (length v.items ≡ length old) × Arrive old (drop c.args.first (take (k + 1) out)) v.items) (sym w.table-is) (
+        ap length w.arrive.ensures.1.1 ∙ length-set now w.in-Some.to _ ∙ c.loop-number.invariant.0,
+        arrive_next out old now w.arrive.new.table.items k c.args.first w.in-Some.to w.in-Some.after w.arrive.ensures.0 c.loop-number.invariant.1 (omega arith) (sym c.edge.ensures ∙ w.in-Some.is) w.arrive.ensures.1.0 w.arrive.ensures.1.1,
+      )
+      | in_default w ↦ subst (λ (v : Vec (Arrival TypeState) Global). (length v.items ≡ length old) × Arrive old (drop c.args.first (take (k + 1) out)) v.items) (sym w.table-is)
+          (c.loop-number.invariant.0, subst (λ es. Arrive old (drop c.args.first es) now) (sym (take_missing out k (sym c.edge.ensures ∙ w.in_default.is))) c.loop-number.invariant.1)
     ]
 
 pub returns-clause-arrive : goal.returns-clause-arrive

@@ -1,11 +1,11 @@
-use Rattle.std.proofs.Common.{◌≡◌, ◌+◌, ◌<◌, ◌∙◌, length, sym, ap, refl, arith, subst, vec_len, set, cond, replicate}
+use Rattle.std.proofs.Common.{◌≡◌, ◌<◌, ◌∙◌, length, sym, ap, refl, arith, subst, vec_len, set, cond, replicate}
 use Rattle.sts_code.specs.Program.{routine}
 use Rattle.sts_model.specs.Edges.{typing}
 use Rattle.sts_model.specs.Flow.{TurnKeeps}
 use Rattle.sts_loops.specs.Tables.{is_head}
 use Rattle.sts_loops.proofs.Counting.{byte_is}
 use Rattle.sts_loops.proofs.Matching.{one_if}
-use Rattle.sts_types.specs.declared.arrival.Arrival.TheVariants.{Nothing, One, Several}
+use Rattle.sts_types.specs.declared.arrival.Arrival.TheVariants.{Nothing, One}
 use Rattle.sts_types.specs.Arrivals.{arrival_of}
 use Rattle.sts_types.specs.Typing.{Tells}
 use Rattle.sts_types.proofs.Following.{kept_by}
@@ -104,7 +104,7 @@ loop-pc-preserved c =
     let one : arrival_of c.loop-pc.count c.loop-pc.state ≡ One c.loop-pc.state = ap (λ n. arrival_of n c.loop-pc.state) c.in-Single.is in
     let kept = kept_by code k follow.whole table c.keep_head.new.table.items c.loop-pc.state (omega (arith, within, follow.long)) (stands ∙ one) follow.agrees (c.keep_head.ensures ∙ ap (λ xs. cond (is_head xs k) (set table k (One c.loop-pc.state)) table) (c.with_tables-loops.ensures ∙ c.code_of-code.ensures.value)) in
     let keeps : TurnKeeps (typing p f) k c.loop-pc.state = elim c.match-back_to.branch [
-      in-Some-back_to+else-not-is_one w ↦ keeps_here p f code refl follow.whole k within follow.passed (arrival_of c.loop-pc.count c.loop-pc.state) stands c.loop-pc.state one _ _ c.code_of-code.result.now c.code_of-code.ensures.value refl (sym c.least_cause.ensures ∙ c.in_default.is) c.keep_head.new.table.items kept.0 w.in-Some-back_to.start (sym c.back_to.ensures ∙ w.in-Some-back_to.is) w.index.result.now w.index.ensures (kept.1 ∙ follow.long) w.is_one.result w.is_one.ensures w.if-not-is_one.false
-    | in_default-back_to w ↦ no_turn_here p f code refl follow.whole k within follow.passed (arrival_of c.loop-pc.count c.loop-pc.state) stands c.loop-pc.state one _ _ c.code_of-code.result.now c.code_of-code.ensures.value refl (sym c.least_cause.ensures ∙ c.in_default.is) (sym c.back_to.ensures ∙ w.in_default-back_to.is)
+      | in-Some-back_to+else-not-is_one w ↦ keeps_here p f code refl follow.whole k within follow.passed (arrival_of c.loop-pc.count c.loop-pc.state) stands c.loop-pc.state one _ _ c.code_of-code.result.now c.code_of-code.ensures.value refl (sym c.least_cause.ensures ∙ c.in_default.is) c.keep_head.new.table.items kept.0 w.in-Some-back_to.start (sym c.back_to.ensures ∙ w.in-Some-back_to.is) w.index.result.now w.index.ensures (kept.1 ∙ follow.long) w.is_one.result w.is_one.ensures w.if-not-is_one.false
+      | in_default-back_to w ↦ no_turn_here p f code refl follow.whole k within follow.passed (arrival_of c.loop-pc.count c.loop-pc.state) stands c.loop-pc.state one _ _ c.code_of-code.result.now c.code_of-code.ensures.value refl (sym c.least_cause.ensures ∙ c.in_default.is) (sym c.back_to.ensures ∙ w.in_default-back_to.is)
     ] in
     follows_here p f code refl follow.whole k within follow.passed (arrival_of c.loop-pc.count c.loop-pc.state) stands c.loop-pc.state one _ _ c.code_of-code.result.now c.code_of-code.ensures.value refl (sym c.least_cause.ensures ∙ c.in_default.is) c.with_tables-loops.result c.keep_head.new.table.items c.spread.new.table.items c.from-first.result _ (c.with_tables-loops.ensures ∙ c.code_of-code.ensures.value) keeps (kept.1 ∙ follow.long) kept.0 (c.from-first.ensures ∙ byte_is c.falls_through.result ∙ ap one_if c.falls_through.ensures) c.spread.ensures.arrive c.settle-count.ensures

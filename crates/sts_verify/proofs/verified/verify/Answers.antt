@@ -1,4 +1,4 @@
-use Rattle.std.proofs.Common.{◌≡◌, ◌+◌, ◌<◌, ◌≤◌, length, refl, sym, ap, arith, subst}
+use Rattle.std.proofs.Common.{length, refl, sym, ap, arith, subst}
 use Rattle.sts_model.specs.Refusal.{IsSound}
 use Rattle.sts_verify.specs.Verifying.{Tells}
 use Rattle.sts_verify.proofs.Verifying.{sound_more, accepts, tells}
@@ -7,7 +7,7 @@ use Rattle.sts_verify.proofs.verified.verify.Goals as goal
 pub returns-in-Err : goal.returns-in-Err
 returns-in-Err c =
     subst (Tells c.args.program) (sym c.told.ensures)
-      (tells c.args.program c.loop-function.function c.in-Err.error (omega (arith, c.loop-function-test.true, ap length c.functions.ensures.value)) c.loop-function.invariant c.in-Err.ensures)
+    (tells c.args.program c.loop-function.function c.in-Err.error (omega (arith, c.loop-function-test.true, ap length c.functions.ensures.value)) c.loop-function.invariant c.in-Err.ensures)
 
 pub loop-function-preserved : goal.loop-function-preserved
 loop-function-preserved c =
