@@ -1,5 +1,5 @@
 -- The causes of a refusal that are read off one instruction and one typestate, each a test (this project's own).
-use Rattle.std.specs.Prelude.{ℕ, ◌+◌, ◌-◌, List, [], ◌∷◌, ◌++◌, length, Bool, true, false, Option, Some, None, is_some, is_none, nat_lt, nat_le, ◌==◌, ◌&&◌, ◌||◌, not, if◌then◌else◌, slice_index_or, slice_get, find, bytes_eq}
+use Rattle.std.specs.Prelude.{ℕ, ◌+◌, ◌-◌, List, [], ◌∷◌, ◌++◌, length, Bool, true, false, Option, Some, None, is_some, is_none, nat_lt, nat_le, ◌==◌, ◌&&◌, ◌||◌, not, if◌then◌else◌, slice_index_or, find, bytes_eq}
 use Rattle.std.specs.List.{list_any, range_with_len}
 use Rattle.sts_code.specs.Program.{Program, routine}
 use Rattle.sts_code.specs.declared.instr.Instr.{Instr}
@@ -20,7 +20,7 @@ use Rattle.sts_model.specs.declared.typing.TypedLoop.{TypedLoop}
 use Rattle.sts_model.specs.Local.{match_of}
 use Rattle.sts_model.specs.Misuse.{pops, pushes, is_at, owners_slot, subtask_slot, filled_slot, can_fail, is_await_all, same, is_two}
 use Rattle.sts_model.specs.TypeState.{TypeState, kind, scope_in, heads}
-use Rattle.sts_model.specs.Around.{named, falls_through, next_place, skipped_to, around, open_after}
+use Rattle.sts_model.specs.Around.{named, next_place, skipped_to, around, open_after}
 
 -- ---- slots and scopes
 

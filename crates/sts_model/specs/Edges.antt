@@ -1,5 +1,5 @@
 -- Where an instruction leads to, and with which typestates, or the least cause that holds there (this project's own).
-use Rattle.std.specs.Prelude.{ℕ, ◌+◌, ◌-◌, List, [], ◌∷◌, ◌++◌, length, drop, map, Bool, true, false, Option, Some, None, Result, Ok, Err, ◌==◌, ◌||◌, if◌then◌else◌, option_map, option_to_list, slice_set, slice_get}
+use Rattle.std.specs.Prelude.{ℕ, ◌+◌, ◌-◌, List, [], ◌∷◌, ◌++◌, length, drop, map, Bool, true, false, Option, Some, None, Result, Ok, Err, ◌==◌, if◌then◌else◌, option_map, slice_set, slice_get}
 use Rattle.sts_code.specs.Program.{Program, routine}
 use Rattle.sts_code.specs.declared.instr.Instr.{Instr}
 use Rattle.sts_code.specs.declared.instr.Instr.TheVariants.{Div, Jmp, Jz, Times, Next, Open, Fork, Join, Close, Case, Forget, Bind, Unbind, Ret, Fail}
@@ -10,13 +10,12 @@ use Rattle.sts_model.specs.declared.typing.Cause.TheVariants.{StatesDiffer, Dead
 use Rattle.sts_model.specs.declared.typing.Known.{Known}
 use Rattle.sts_model.specs.declared.typing.Known.TheVariants.{Unknown, Success, Failed}
 use Rattle.sts_model.specs.declared.typing.SlotKind.{SlotKind}
-use Rattle.sts_model.specs.declared.typing.SlotKind.TheVariants.{Empty, Own, Lent, Sub}
+use Rattle.sts_model.specs.declared.typing.SlotKind.TheVariants.{Empty, Own, Sub}
 use Rattle.sts_model.specs.declared.typing.TypedPhase.{TypedPhase}
 use Rattle.sts_model.specs.declared.typing.TypedPhase.TheVariants.{Opened, Attempted, Joined, Late}
 use Rattle.sts_model.specs.declared.typing.TypedScope.{TypedScope}
 use Rattle.sts_model.specs.declared.typing.TypedEntry.{TypedEntry}
 use Rattle.sts_model.specs.declared.typing.TypedEntry.TheVariants.{Scope, Binding}
-use Rattle.sts_model.specs.declared.typing.TypedLoop.{TypedLoop}
 use Rattle.sts_model.specs.Misuse.{pops, pushes}
 use Rattle.sts_model.specs.TypeState.{TypeState, entry, kind, scope_in}
 use Rattle.sts_model.specs.Around.{instr_at, skipped_to}

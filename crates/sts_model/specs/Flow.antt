@@ -1,5 +1,5 @@
 -- A forward flow of states over the places 0, 1, ..: which states reach which place, and the verdict on each place (this project's own).
-use Rattle.std.specs.Prelude.{◌≡◌, ◌≢◌, ℕ, ◌+◌, ◌<◌, ◌≤◌, ◌⊎◌, List, [], ◌∷◌, Option, Some, None, Result, Ok, Err, IsOk, length}
+use Rattle.std.specs.Prelude.{◌≡◌, ◌≢◌, ℕ, ◌<◌, ◌⊎◌, List, [], ◌∷◌, Option, Some, Result, Ok, Err}
 
 -- S: the states, C: the causes of a refusal
 pub record Flow (S C : Type 0) : Type 0 where

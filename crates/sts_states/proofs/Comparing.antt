@@ -1,18 +1,16 @@
 -- Comparing typestates decides whether they are the same.
-use Rattle.std.proofs.Common.{◌≡◌, ℕ, ℤ, List, [], ◌∷◌, Bool, true, false, ◌&&◌, ◌↔◌, IsTrue, arith, refl, sym, ap, ◌∙◌, subst, reverse, eqb, eqb-true, eq-eqb}
+use Rattle.std.proofs.Common.{◌≡◌, ℕ, List, [], ◌∷◌, Bool, true, false, ◌&&◌, ◌↔◌, IsTrue, arith, refl, sym, ap, ◌∙◌, subst, reverse, eqb, eqb-true, eq-eqb}
 use Rattle.std.proofs.lemmas.Bool.Decides.{Decides-int_eq}
 use Rattle.std.proofs.lemmas.List.{reverse-reverse}
 use lib.Pointwise.{pointwise}
 use Rattle.sts_code.specs.declared.instr.Pred.{Pred}
 use Rattle.sts_code.specs.declared.instr.Pred.TheVariants as pred
 use Rattle.sts_code.specs.declared.instr.Joiner.{Joiner}
-use Rattle.sts_code.specs.declared.instr.Joiner.TheVariants.{AllSucceed, AnySucceeds, AwaitOk, AwaitAll, Until}
+use Rattle.sts_code.specs.declared.instr.Joiner.TheVariants.{Until}
 use Rattle.std.specs.contracts.prelude.BoolPartialEq.TheImpl as bool_eq
 use Rattle.sts_code.specs.contracts.instr.PredPartialEq.TheImpl as pred_eq
 use Rattle.sts_code.specs.contracts.instr.JoinerPartialEq.TheImpl as joiner_eq
-use Rattle.sts_model.specs.declared.typing.Known.{Known}
 use Rattle.sts_model.specs.declared.typing.SlotKind.{SlotKind}
-use Rattle.sts_model.specs.declared.typing.SlotKind.TheVariants.{Empty, Own, Lent, Sub}
 use Rattle.sts_model.specs.declared.typing.TypedPhase.{TypedPhase}
 use Rattle.sts_model.specs.declared.typing.TypedScope.{TypedScope}
 use Rattle.sts_model.specs.declared.typing.TypedEntry.{TypedEntry}

@@ -1,6 +1,7 @@
 pub mod Arriving
 pub mod Fitting
 pub mod FollowLemmas
+pub mod Following
 pub mod Laws
 pub mod Passing
 pub mod Promising

@@ -7,3 +7,11 @@ pub(crate) enum Arrival<S> {
     One(S),
     Several,
 }
+
+/// How many different states have arrived at the place that a pass is at.
+#[derive(Clone, Copy, Debug, PartialEq, Eq)]
+pub(crate) enum Count {
+    Zero,
+    Single,
+    Many,
+}
