@@ -19,7 +19,9 @@ pub(crate) fn values_after(effect: Effect, depth: usize, row: &Row) -> Values
 {
     let mut values = [0; 17];
     for d in 0..17 {
-        values[d] = (row[source_of(effect, depth, d)] as u64).saturating_add(added_of(effect, depth, d));
+        values[d] = (row[source_of(effect, depth, d)] as u64).saturating_add(added_of(
+            effect, depth, d,
+        ));
     }
     values
 }
@@ -30,7 +32,9 @@ pub(crate) fn values_of_loop(turns: u16, own: u32, head: &Row, end: &Row) -> Val
 {
     let mut values = [0; 17];
     for d in 0..17 {
-        values[d] = (head[d] as u64 + own as u64).saturating_add(turns as u64 * (end[d] as u64 + own as u64));
+        values[d] = (head[d] as u64 + own as u64).saturating_add(
+            turns as u64 * (end[d] as u64 + own as u64),
+        );
     }
     values
 }

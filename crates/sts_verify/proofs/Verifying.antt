@@ -81,6 +81,7 @@ budgets_more p bs b f long right here = (more, λ g lt. by g lt (cases_lt g f))
   where
     more : length (bs ++ b ∷ []) ≡ f + 1
     more = omega (arith, length-append bs (b ∷ []))
+
     by : (g : ℕ) → g < length (bs ++ b ∷ []) → (g < f) ⊎ (f ≤ g) → IsBudget (take g (bs ++ b ∷ [])) (routine p g).code (budget_at (bs ++ b ∷ []) g)
     by g lt (inl less) =
         let within : g < length bs = omega arith in
@@ -95,11 +96,15 @@ budgets_more p bs b f long right here = (more, λ g lt. by g lt (cases_lt g f))
 
 -- one of the budgets of a program
 pub budget_is : (p : Program) (bs : List Budgets) (f : ℕ) → f < length bs → AreBudgets p bs → (b : Budgets) → b ≡ budget_at bs f → IsBudgetOf p f b
-budget_is p bs f lt right b is =
-    (take f bs, (length-take-le f bs (omega arith),
-      (λ g less. (let below : g < f = omega (arith, length-take-le f bs (omega arith)) in
+budget_is p bs f lt right b is = (
+  take f bs,
+  (
+    length-take-le f bs (omega arith),
+    (λ g less. (let below : g < f = omega (arith, length-take-le f bs (omega arith)) in
         subst (λ xs. IsBudget xs (routine p g).code (budget_at (take f bs) g)) (sym (take_twice bs g f (omega arith))) (subst (IsBudget (take g bs) (routine p g).code) (sym (read_taken bs g f no_budget below)) (right g (omega arith))))),
-      subst (IsBudget (take f bs) (routine p f).code) (sym is) (right f lt)))
+    subst (IsBudget (take f bs) (routine p f).code) (sym is) (right f lt),
+  ),
+)
 
 -- a function that the search for budgets refuses
 pub budget_tells : (p : Program) (f : ℕ) (bs : List Budgets) (e : BudgetError) (count : ℕ) → IsWellTyped p f → length bs ≡ f → AreBudgets p bs → count ≡ size p f → IsFound bs (routine p f).code (Err e) → TellsOf p f (at_end count e)

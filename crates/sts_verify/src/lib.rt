@@ -3,7 +3,6 @@
 
 pub mod error;
 pub mod laws;
-pub mod verified;
-
 #[cfg(test)]
 mod tests;
+pub mod verified;

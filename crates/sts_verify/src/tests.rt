@@ -30,12 +30,14 @@ fn program_of(alloc: Global, code: &[Instr]) -> Result<Program, Fail> {
 fn refusal(alloc: Global, code: &[Instr]) -> Result<Option<(u32, u32, u8)>, Fail> {
     match verify(alloc, program_of(alloc, code)?) {
         Ok(_) | Err(VerifyError::Memory(_)) => Ok(None),
-        Err(VerifyError::Refused {
-            function,
-            pc,
-            cause,
-            ..
-        }) => Ok(Some((function, pc, cause.number()))),
+        Err(
+            VerifyError::Refused {
+                function,
+                pc,
+                cause,
+                ..
+            },
+        ) => Ok(Some((function, pc, cause.number()))),
     }
 }
 
@@ -89,7 +91,10 @@ fn the_least_place_and_cause_are_told(rt: HostRuntime) -> Result<(), Fail> {
     let open_at_end = [OPEN, Instr::Push(1), Instr::Ret];
     assert_eq!(rt; refusal(alloc, open_at_end.as_slice())?, Some((1, 2, 13)));
     let closed_too_early = [OPEN, Instr::Close(0), Instr::Push(1), Instr::Ret];
-    assert_eq!(rt; refusal(alloc, closed_too_early.as_slice())?, Some((1, 1, 12)));
+    assert_eq!(rt;
+        refusal(alloc, closed_too_early.as_slice())?,
+        Some((1, 1, 12))
+    );
     let dead = [Instr::Jmp(2), Instr::Push(1), Instr::Push(2), Instr::Ret];
     assert_eq!(rt; refusal(alloc, dead.as_slice())?, Some((1, 1, 8)));
     let two_heights = [
@@ -100,8 +105,14 @@ fn the_least_place_and_cause_are_told(rt: HostRuntime) -> Result<(), Fail> {
         Instr::Ret,
     ];
     assert_eq!(rt; refusal(alloc, two_heights.as_slice())?, Some((1, 3, 7)));
-    assert_eq!(rt; refusal(alloc, [Instr::Push(1)].as_slice())?, Some((1, 0, 3)));
-    assert_eq!(rt; refusal(alloc, [Instr::Jmp(0)].as_slice())?, Some((1, 0, 4)));
+    assert_eq!(rt;
+        refusal(alloc, [Instr::Push(1)].as_slice())?,
+        Some((1, 0, 3))
+    );
+    assert_eq!(rt;
+        refusal(alloc, [Instr::Jmp(0)].as_slice())?,
+        Some((1, 0, 4))
+    );
     Ok(())
 }
 
@@ -184,14 +195,20 @@ fn budgets_are_the_most_at_a_time(rt: HostRuntime) -> Result<(), Fail> {
         scopes: 1,
         binds: 0,
     };
-    assert_eq!(rt; budgets(alloc, SCOPE_IN_A_LOOP.as_slice())?, Some(scope_in_a_loop));
+    assert_eq!(rt;
+        budgets(alloc, SCOPE_IN_A_LOOP.as_slice())?,
+        Some(scope_in_a_loop)
+    );
     let binding_in_loops = Budgets {
         steps: 400_034,
         tasks: 1,
         scopes: 0,
         binds: 1,
     };
-    assert_eq!(rt; budgets(alloc, BINDING_IN_LOOPS.as_slice())?, Some(binding_in_loops));
+    assert_eq!(rt;
+        budgets(alloc, BINDING_IN_LOOPS.as_slice())?,
+        Some(binding_in_loops)
+    );
     Ok(())
 }
 

@@ -6,13 +6,13 @@ ghost use Rattle.sts_model.specs.Refusal.{IsAccepted, IsSound, IsBudgetOf};
 ghost use Rattle.sts_verify.specs.Verifying as def;
 
 use crate::error::VerifyError;
+use std::alloc::Global;
+use std::marker::Model;
 use sts_budget::budget::{BudgetError, budget};
 use sts_budget::layout::code_of;
 use sts_code::program::Program;
 use sts_model::budget::Budgets;
 use sts_types::pass::{TypeError, type_function};
-use std::alloc::Global;
-use std::marker::Model;
 
 /// A program that was accepted: contracts see the program.
 #[derive(Drop)]
@@ -88,7 +88,12 @@ fn at_end(count: usize, error: BudgetError) -> TypeError
 }
 
 /// Verifies a function, where these are the budgets of those before it: its own are added.
-fn verify_function(alloc: Global, program: &Program, function: u32, budgets: &mut Vec<Budgets>) -> Result<(), TypeError>
+fn verify_function(
+    alloc: Global,
+    program: &Program,
+    function: u32,
+    budgets: &mut Vec<Budgets>,
+) -> Result<(), TypeError>
     requires in_program { function < length program.now.routines }
     requires long { length budgets.old.items ≡ function }
     requires right { AreBudgets program.now budgets.old.items }

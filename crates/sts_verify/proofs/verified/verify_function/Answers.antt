@@ -30,5 +30,5 @@ returns-in-Ok-push c =
 pub returns-in-Err-budget : goal.returns-in-Err-budget
 returns-in-Err-budget c =
     subst (TellsOf c.args.program.now c.args.function) (sym c.at_end.ensures)
-      (budget_tells c.args.program.now c.args.function c.args.budgets.now.items c.in-Err-budget.error (length c.code_of-count.result.now) c.in_default.ensures c.requires.long c.requires.right (ap length c.code_of-count.ensures.value)
-        (subst (λ bs. IsFound bs (routine c.args.program.now c.args.function).code (Err c.in-Err-budget.error)) c.as_slice.ensures.value c.in-Err-budget.ensures))
+    (budget_tells c.args.program.now c.args.function c.args.budgets.now.items c.in-Err-budget.error (length c.code_of-count.result.now) c.in_default.ensures c.requires.long c.requires.right (ap length c.code_of-count.ensures.value)
+    (subst (λ bs. IsFound bs (routine c.args.program.now c.args.function).code (Err c.in-Err-budget.error)) c.as_slice.ensures.value c.in-Err-budget.ensures))
