@@ -5,6 +5,7 @@ use Rattle.sts_model.specs.declared.event.End.{End}
 use Rattle.sts_model.specs.Told as kept
 use Rattle.sts_model.specs.Told.{Told}
 
+-- a joiner, and what is kept of the ends
 pub record Tallied : Type 0 where
   pub joiner : Joiner
   pub told : Told

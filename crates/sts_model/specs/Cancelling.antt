@@ -1,5 +1,5 @@
 -- Cancelling a scope.
--- Restates "Cancellation" of `StructuredTaskScope` and "Failure in a subtask" of JEP 505: no new thread starts in the scope, and the
+-- Restates `StructuredTaskScope.isCancelled` and `join`, and "Description" of JEP 505: no new thread starts in a cancelled scope, and the
 -- threads of its unfinished subtasks are interrupted. The scopes that those subtasks own are not cancelled.
 use Rattle.std.specs.Prelude.{ℕ, List, map, true, if◌then◌else◌}
 use Rattle.sts_model.specs.declared.record.Task.{Task}

@@ -58,13 +58,7 @@ forked f args handle child = record (steps f args []) { slots = with_slot f.slot
 -- a new subtask, which never runs if the scope is cancelled
 abbrev pub subtask_of : Program → World → Frame → ℕ → ℕ → Task
 subtask_of p w f s g =
-    record {
-      frame = entry_frame g (reverse (take (routine p g).args f.operands)) (Lent s);
-      started = not (scope_at w s).cancelled;
-      flag = false;
-      scope = Some s;
-      outcome = None;
-    }
+    record { frame = entry_frame g (reverse (take (routine p g).args f.operands)) (Lent s); started = not (scope_at w s).cancelled; flag = false; scope = Some s; outcome = None }
 
 unfoldable pub fork_task : Program → World → ℕ → Frame → ℕ → ℕ → Option ℕ → World
 fork_task p w t f s g h =

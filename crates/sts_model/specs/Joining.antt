@@ -1,7 +1,7 @@
 -- The joiners: when the ends of its subtasks cancel a scope, and what `join` answers, read off the whole list of ends in order of
 -- completion.
 -- Restates `StructuredTaskScope.Joiner` (`allSuccessfulOrThrow`, `anySuccessfulResultOrThrow`, `awaitAllSuccessfulOrThrow`, `awaitAll`,
--- `allUntil`). That the first failure is the one reported, the numbers pushed and the three predicates of `until` are this project's own.
+-- `allUntil`). Which failure `any` reports, the numbers pushed and the three predicates of `until` are this project's own.
 use Rattle.std.specs.Prelude.{ℕ, ℤ, pos, negsuc, int_le, ◌+ℤ◌, List, Bool, true, false, Option, Some, None, nat_le, find, count_by, fold}
 use Rattle.std.specs.List.{list_any}
 use Rattle.std.specs.Int.{int_wrap, w64}

@@ -56,27 +56,14 @@ live_task w t =
 
 abbrev pub shown_scope : Scope → LiveScope
 shown_scope scope =
-    record {
-      owner = scope.owner;
-      joiner = scope.joiner;
-      timed = scope.timed;
-      phase = scope.phase;
-      cancelled = scope.cancelled;
-      expired = scope.expired;
-      environment = scope.environment;
-      told = told scope.joiner (ends scope);
-    }
+    record { owner = scope.owner; joiner = scope.joiner; timed = scope.timed; phase = scope.phase; cancelled = scope.cancelled; expired = scope.expired; environment = scope.environment; told = told scope.joiner (ends scope) }
 
 abbrev pub live_scope : World → ℕ → Option LiveScope
 live_scope w s = let scope = scope_at w s in if is_standing_scope scope then Some (shown_scope scope) else None
 
 abbrev pub live : World → Live
 live w =
-    record {
-      tasks = map (live_task w) (range_with_len 0 (length w.tasks));
-      scopes = map (live_scope w) (range_with_len 0 (length w.scopes));
-      root_end = (task_at w 0).outcome;
-    }
+    record { tasks = map (live_task w) (range_with_len 0 (length w.tasks)); scopes = map (live_scope w) (range_with_len 0 (length w.scopes)); root_end = (task_at w 0).outcome }
 
 -- ---- what is asked of the view
 

@@ -171,7 +171,7 @@ abbrev pub at_sub : World → Slot → (ℕ → Scope → Bool) → Bool
 at_sub w (Sub t) test = test t (scope_of w t)
 at_sub w _ test = false
 
--- does the joiner's answer push or fail?
+-- can the joiner's answer be a failure?
 abbrev pub can_fail : Joiner → Bool
 can_fail AllSucceed = true
 can_fail AwaitOk = true

@@ -1,5 +1,5 @@
 -- What comes from outside: interrupts and expiries.
--- Restates `Thread.interrupt` as "Cancellation" of `StructuredTaskScope` speaks of it, and the timeout of `Configuration.withTimeout`. That an expiry is
+-- Restates `Thread.interrupt` and the timeout of `StructuredTaskScope.Configuration.withTimeout`. That an expiry is
 -- an event handed in, and that it marks a scope which is cancelled already, is this project's own.
 use Rattle.std.specs.Prelude.{ℕ, Bool, true, ◌&&◌, not, if◌then◌else◌}
 use Rattle.sts_model.specs.declared.record.Scope.{Scope}

@@ -27,26 +27,12 @@ reaches _ e = false
 -- what is kept of these ends
 abbrev pub told : Joiner → List End → Told
 told j ends =
-    record {
-      successes = count_by is_success ends;
-      failures = count_by is_failure ends;
-      success = find is_success ends;
-      failure = find is_failure ends;
-      reached = list_any (reaches j) ends;
-      total = total_of ends;
-    }
+    record { successes = count_by is_success ends; failures = count_by is_failure ends; success = find is_success ends; failure = find is_failure ends; reached = list_any (reaches j) ends; total = total_of ends }
 
 -- what is kept after one end more
 abbrev pub tell : Joiner → Told → End → Told
 tell j t e =
-    record {
-      successes = t.successes + (if is_success e then 1 else 0);
-      failures = t.failures + (if is_failure e then 1 else 0);
-      success = option_or t.success (find is_success (e ∷ []));
-      failure = option_or t.failure (find is_failure (e ∷ []));
-      reached = t.reached || list_any (reaches j) (e ∷ []);
-      total = plus_value t.total e;
-    }
+    record { successes = t.successes + (if is_success e then 1 else 0); failures = t.failures + (if is_failure e then 1 else 0); success = option_or t.success (find is_success (e ∷ [])); failure = option_or t.failure (find is_failure (e ∷ [])); reached = t.reached || list_any (reaches j) (e ∷ []); total = plus_value t.total e }
 
 -- the answer of `join` read off what is kept
 abbrev pub result_told : Joiner → Told → ℕ → Verdict

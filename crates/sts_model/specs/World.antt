@@ -9,7 +9,7 @@ use Rattle.sts_model.specs.declared.record.Slot.TheVariants.{Empty}
 use Rattle.sts_model.specs.declared.record.Frame.{Frame}
 use Rattle.sts_model.specs.declared.record.Task.{Task}
 use Rattle.sts_model.specs.declared.record.Scope.{Scope}
-use Rattle.sts_model.specs.declared.event.Phase.TheVariants.{Opened}
+use Rattle.sts_model.specs.declared.event.Phase.TheVariants.{Closed}
 use Rattle.sts_model.specs.declared.event.Fault.{Fault}
 
 pub record World : Type 0 where
@@ -40,33 +40,16 @@ entry_locals args = args ++ replicate (16 - length args) (pos 0)
 -- the frame at the beginning of a function, with these arguments, and this in slot 0
 abbrev pub entry_frame : ℕ → List ℤ → Slot → Frame
 entry_frame function args slot =
-    record {
-      function = function;
-      pc = 0;
-      operands = [];
-      locals = entry_locals args;
-      loops = [];
-      entries = [];
-      slots = slot ∷ replicate 15 Empty;
-    }
+    record { function = function; pc = 0; operands = []; locals = entry_locals args; loops = []; entries = []; slots = slot ∷ replicate 15 Empty }
 
 -- what is read where no task was born
 abbrev pub no_task : Task
 no_task = record { frame = entry_frame 0 [] Empty; started = false; flag = false; scope = None; outcome = None }
 
--- what is read where no scope was born
+-- what is read where no scope was born: nothing can be done with it
 abbrev pub no_scope : Scope
 no_scope =
-    record {
-      owner = 0;
-      joiner = AwaitAll;
-      timed = false;
-      phase = Opened;
-      cancelled = false;
-      expired = false;
-      completions = [];
-      environment = [];
-    }
+    record { owner = 0; joiner = AwaitAll; timed = false; phase = Closed; cancelled = false; expired = false; completions = []; environment = [] }
 
 -- the task, the scope of this birth number
 abbrev pub task_at : World → ℕ → Task

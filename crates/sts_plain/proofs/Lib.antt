@@ -1,3 +1,1 @@
-pub mod Reading
-pub mod Short
-pub mod Verdicts
+pub mod Forks

@@ -1,5 +1,5 @@
--- What contracts see of the plain machine.
-use Rattle.std.specs.Prelude.{ℕ, ◌+◌, ◌-◌, ◌^◌, List, Bool, Option, Some, None, min, if◌then◌else◌, ◌&&◌}
+-- What contracts see of the plain machine: its program, its state and the steps that it took (this project's own).
+use Rattle.std.specs.Prelude.{ℕ, ◌+◌, ◌-◌, ◌^◌, Bool, Option, Some, None, min, if◌then◌else◌, ◌&&◌}
 use Rattle.sts_code.specs.Program.{Program}
 use Rattle.sts_model.specs.declared.event.Event.{Event}
 use Rattle.sts_model.specs.World.{World, State, Running, Faulted}

@@ -1,12 +1,12 @@
-//! The plain machine.
+//! The plain machine: it keeps every task and scope for ever, and tests every misuse.
 #![tactic(auto)]
 
-pub mod code;
-pub mod decide;
-pub mod effect;
+pub mod frame_tests;
 pub mod misstep;
 pub mod misuse;
+pub mod operands;
 pub mod perform;
 pub mod plain;
-pub mod read;
-pub mod world;
+pub mod stand;
+#[cfg(test)]
+mod tests;

@@ -97,16 +97,16 @@ no_zero_before : (n : ℕ) → n < 2 ^ 32 → has_leading_zero (decimal n) ≡ f
 no_zero_before zero h = rw (decimal_digit 0 (omega arith)) refl
 no_zero_before (suc n) h = let first = first_decimal (suc n) (omega arith) (omega arith) in grind (arith, nat_tests, first)
 
-decimal_is_digits : (n : ℕ) → n < 2 ^ 32 → is_digits (decimal n) ≡ true
+pub decimal_is_digits : (n : ℕ) → n < 2 ^ 64 → is_digits (decimal n) ≡ true
 decimal_is_digits n h =
-    let filled = decimal_nonempty n (omega arith) in
+    let filled = decimal_nonempty n h in
     let t : not (length (decimal n) == 0) ≡ true = grind (arith, nat_tests, filled) in
-    rw (t, digits_decimal own n (omega arith)) refl
+    rw (t, digits_decimal own n h) refl
 
 decimal_read : (n : ℕ) → n < 2 ^ 32 → numeral (decimal n) ≡ Some n
 decimal_read n h =
     let small : nat_le n (2 ^ 32 - 1) ≡ true = grind (arith, nat_tests) in
-    rw (no_zero_before n h, decimal_is_digits n h, digits_value-decimal own n (omega arith), small) refl
+    rw (no_zero_before n h, decimal_is_digits n (omega arith), digits_value-decimal own n (omega arith), small) refl
 
 -- what is read as `numeral` says is a number exactly where the word is the number's decimal spelling
 pub numeral_spelled : (word : List ℕ) (read : Option ℕ) → read ≡ numeral word → (n : ℕ) → (read ≡ Some n) ↔ ((n < 2 ^ 32) × (word ≡ decimal n))

@@ -1,7 +1,7 @@
 -- What is read is what the text spells.
-use Rattle.std.proofs.Common.{◌≡◌, ℕ, ◌+◌, ◌<◌, ◌≤◌, ◌^◌, Bool, true, false, cond, List, [], ◌∷◌, ◌++◌, length, arith, refl, sym, ◌∙◌, ap, rules, append_assoc, append-nil, ◌⊎◌, inl, inr}
+use Rattle.std.proofs.Common.{◌≡◌, ℕ, ◌+◌, ◌<◌, ◌≤◌, ◌^◌, Bool, true, false, cond, List, [], ◌∷◌, ◌++◌, length, arith, refl, sym, ◌∙◌, ap, append_assoc, ◌⊎◌, inl, inr}
 use Rattle.std.proofs.lemmas.Bool.Decides.{nat_tests}
-use Rattle.std.specs.Prelude.{◌==◌, ◌&&◌, ◌||◌, not, Result, Ok, Err, Option, Some, None, nat_lt, codes, IsTrue, IfOk}
+use Rattle.std.specs.Prelude.{◌&&◌, Result, Ok, Err, Option, Some, None, nat_lt, codes, IfOk}
 use Rattle.std.specs.List.{join_with_byte, flat_map, All}
 use Rattle.std.specs.Fmt.{decimal}
 use Rattle.std.specs.Str.{bytes_eq}
@@ -15,7 +15,7 @@ use Rattle.sts_model.specs.declared.event.Event.{Event}
 use Rattle.sts_model.specs.declared.event.Event.TheVariants.{Step, Interrupt, Expire}
 use Rattle.sts_trace.specs.declared.outside.Due.{Due}
 use Rattle.sts_trace.specs.declared.error.TraceError.{TraceError}
-use Rattle.sts_trace.specs.declared.error.TraceError.TheVariants.{BadLine, BadNumber, NoNewline}
+use Rattle.sts_trace.specs.declared.error.TraceError.TheVariants.{BadLine, NoNewline}
 use Rattle.sts_trace.specs.Reading.{◌>>=◌, Gives, spelled_at, numeral_at, event_of, event_said, event_line, is_outside_word, due_said, due_line, lines_read, trace_read, outside_read}
 use Rattle.sts_trace.specs.Spelling.{event_text, trace_text, due_text, outside_text, number_of, is_outside, IsEvent, IsDue, AreDues}
 use Rattle.sts_trace.proofs.Spelled.{word_of, event_parts, due_parts, outside_word}
@@ -59,23 +59,23 @@ made at word number make e counts names h =
 
 event_found : (at : ℕ) (word number : List ℕ) (e : Event) → event_of at word number ≡ Ok e → SaysEvent word number e
 event_found at word number e h = elim (chosen (bytes_eq word (codes "step")) (numeral_at at number >>= λ n. Ok (Step n)) (cond (bytes_eq word (codes "interrupt")) (numeral_at at number >>= λ n. Ok (Interrupt n)) (cond (bytes_eq word (codes "expire")) (numeral_at at number >>= λ n. Ok (Expire n)) (Err (BadLine at)))) (Ok e) h) [
-    inl p ↦ let is = (bytes_eq-Decides word (codes "step")).0 p.0 in made at word number (λ n. Step n) e (λ n. refl) (λ n. is) p.1
+  | inl p ↦ let is = (bytes_eq-Decides word (codes "step")).0 p.0 in made at word number (λ n. Step n) e (λ n. refl) (λ n. is) p.1
   | inr p ↦ elim (chosen (bytes_eq word (codes "interrupt")) (numeral_at at number >>= λ n. Ok (Interrupt n)) (cond (bytes_eq word (codes "expire")) (numeral_at at number >>= λ n. Ok (Expire n)) (Err (BadLine at))) (Ok e) p.1) [
-        inl q ↦ let is = (bytes_eq-Decides word (codes "interrupt")).0 q.0 in made at word number (λ n. Interrupt n) e (λ n. refl) (λ n. is) q.1
-      | inr q ↦ elim (chosen (bytes_eq word (codes "expire")) (numeral_at at number >>= λ n. Ok (Expire n)) (Err (BadLine at)) (Ok e) q.1) [
-            inl r ↦ let is = (bytes_eq-Decides word (codes "expire")).0 r.0 in made at word number (λ n. Expire n) e (λ n. refl) (λ n. is) r.1
-          | inr r ↦ cc
-          ]
-      ]
+    | inl q ↦ let is = (bytes_eq-Decides word (codes "interrupt")).0 q.0 in made at word number (λ n. Interrupt n) e (λ n. refl) (λ n. is) q.1
+    | inr q ↦ elim (chosen (bytes_eq word (codes "expire")) (numeral_at at number >>= λ n. Ok (Expire n)) (Err (BadLine at)) (Ok e) q.1) [
+      | inl r ↦ let is = (bytes_eq-Decides word (codes "expire")).0 r.0 in made at word number (λ n. Expire n) e (λ n. refl) (λ n. is) r.1
+      | inr r ↦ cc
+    ]
   ]
+]
 
 event_said_found : (at : ℕ) (ps : List (List ℕ)) (e : Event) → event_said at ps ≡ Ok e → (join_with_byte 32 ps ≡ event_text e) × IsEvent e
 event_said_found at [] e h = cc
 event_said_found at (a ∷ []) e h = cc
 event_said_found at (a ∷ b ∷ []) e h = elim (chosen (is_filled b) (event_of at a b) (Err (BadLine at)) (Ok e) h) [
-    inl p ↦ let s = event_found at a b e p.1 in (rw (s.word_is, s.number_is) (sym (event_parts e)), s.small)
+  | inl p ↦ let s = event_found at a b e p.1 in (rw (s.word_is, s.number_is) (sym (event_parts e)), s.small)
   | inr p ↦ cc
-  ]
+]
 event_said_found at (a ∷ b ∷ c ∷ ps) e h = cc
 
 event_line_found : (at : ℕ) (line : List ℕ) (e : Event) → event_line at line ≡ Ok e → (line ≡ event_text e) × IsEvent e
@@ -92,7 +92,7 @@ due_said_found at (a ∷ []) due h = cc
 due_said_found at (a ∷ b ∷ []) due h = cc
 due_said_found at (a ∷ b ∷ c ∷ []) due h = cc
 due_said_found at (a ∷ b ∷ c ∷ d ∷ []) due h = elim (chosen (bytes_eq a (codes "at") && (is_filled b && (is_outside_word c && is_filled d))) (numeral_at at b >>= λ n. event_of at c d >>= λ e. Ok (record { at = n; event = e })) (Err (BadLine at)) (Ok due) h) [
-    inl p ↦
+  | inl p ↦
       let t = both (bytes_eq a (codes "at")) (is_filled b && (is_outside_word c && is_filled d)) p.0 in
       let u = both (is_filled b) (is_outside_word c && is_filled d) t.1 in
       let v = both (is_outside_word c) (is_filled d) u.1 in
@@ -106,14 +106,14 @@ due_said_found at (a ∷ b ∷ c ∷ d ∷ []) due h = elim (chosen (bytes_eq a 
       let inside : is_outside r.0 ≡ true = sym (outside_word r.0) ∙ sym (ap is_outside_word s.word_is) ∙ v.0 in
       rw (← same) (rejoined a b c d made_of is n.1 s.word_is s.number_is, (n.0, s.small, inside))
   | inr p ↦ cc
-  ]
+]
 due_said_found at (a ∷ b ∷ c ∷ d ∷ e ∷ ps) due h = cc
 
 in_time : (at : ℕ) (r : Result Due TraceError) (due : Due) → cond (nat_lt 4096 at) (Err (BadLine at)) r ≡ Ok due → (at ≤ 4096) × (r ≡ Ok due)
 in_time at r due h = elim (chosen (nat_lt 4096 at) (Err (BadLine at)) r (Ok due) h) [
-    inl p ↦ cc
+  | inl p ↦ cc
   | inr p ↦ (grind (arith, nat_tests, p.0), p.1)
-  ]
+]
 
 due_line_found : (at : ℕ) (line : List ℕ) (due : Due) → due_line at line ≡ Ok due → (line ≡ due_text due) × IsDue due
 due_line_found at line due h =
@@ -129,9 +129,9 @@ lines_found : {A : Type 0} (said : ℕ → List ℕ → Result A TraceError) (sp
 unfolding lines_read
 lines_found {A} said spelling Is one at [] xs h = rw (← ok_same {A = List A} [] xs (Ok []) refl h) (refl, All-nil Is)
 lines_found {A} said spelling Is one at (rest ∷ []) xs h = elim (chosen (is_filled rest) (Err NoNewline) (Ok []) (Ok xs) h) [
-    inl p ↦ cc
+  | inl p ↦ cc
   | inr p ↦ rw (← ok_same {A = List A} [] xs (Ok []) refl p.1, nothing rest p.0) (refl, All-nil Is)
-  ]
+]
 lines_found {A} said spelling Is one at (line ∷ next ∷ more) xs h =
     let a = bind_ok (said at line) (λ x. lines_read said (at + 1) (next ∷ more) >>= λ ys. Ok (x ∷ ys)) xs h in
     let b = bind_ok (lines_read said (at + 1) (next ∷ more)) (λ ys. Ok (a.0 ∷ ys)) xs a.2 in
@@ -144,9 +144,9 @@ dues_counted : (at : ℕ) (ps : List (List ℕ)) (dues : List Due) → lines_rea
 unfolding lines_read
 dues_counted at [] dues h k = rw (← ok_same {A = List Due} [] dues (Ok []) refl h) (omega arith)
 dues_counted at (rest ∷ []) dues h k = elim (chosen (is_filled rest) (Err NoNewline) (Ok []) (Ok dues) h) [
-    inl p ↦ cc
+  | inl p ↦ cc
   | inr p ↦ rw (← ok_same {A = List Due} [] dues (Ok []) refl p.1) (omega arith)
-  ]
+]
 dues_counted at (line ∷ next ∷ more) dues h k =
     let a = bind_ok (due_line at line) (λ x. lines_read due_line (at + 1) (next ∷ more) >>= λ ys. Ok (x ∷ ys)) dues h in
     let b = bind_ok (lines_read due_line (at + 1) (next ∷ more)) (λ ys. Ok (a.0 ∷ ys)) dues a.2 in

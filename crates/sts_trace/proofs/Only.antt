@@ -1,7 +1,7 @@
 -- Whatever a text spells is read.
-use Rattle.std.proofs.Common.{◌≡◌, ℕ, ◌+◌, ◌<◌, ◌≤◌, ◌^◌, Bool, true, false, cond, List, [], ◌∷◌, ◌++◌, length, arith, refl, sym, ◌∙◌, ap, rules, append_assoc}
+use Rattle.std.proofs.Common.{◌≡◌, ℕ, ◌+◌, ◌<◌, ◌≤◌, ◌^◌, Bool, true, false, cond, List, [], ◌∷◌, ◌++◌, length, arith, refl, ◌∙◌, ap, append_assoc}
 use Rattle.std.proofs.lemmas.Bool.Decides.{nat_tests}
-use Rattle.std.specs.Prelude.{Result, Ok, Err, Some, nat_lt, not, ◌&&◌, codes, IsTrue}
+use Rattle.std.specs.Prelude.{Result, Ok, Err, nat_lt, not, ◌&&◌, codes}
 use Rattle.std.specs.List.{flat_map, All, list_all}
 use Rattle.std.specs.Fmt.{decimal}
 use Rattle.std.specs.Str.{bytes_eq}
@@ -15,10 +15,10 @@ use Rattle.sts_model.specs.declared.event.Event.TheVariants.{Step, Interrupt, Ex
 use Rattle.sts_trace.specs.declared.outside.Due.{Due}
 use Rattle.sts_trace.specs.declared.error.TraceError.{TraceError}
 use Rattle.sts_trace.specs.declared.error.TraceError.TheVariants.{BadLine}
-use Rattle.sts_trace.specs.Reading.{◌>>=◌, Gives, spelled_at, numeral_at, event_of, event_said, event_line, is_outside_word, due_said, due_line, lines_read, trace_read, outside_read}
-use Rattle.sts_trace.specs.Spelling.{event_text, trace_text, due_text, outside_text, number_of, is_outside, IsEvent, IsDue, AreDues}
+use Rattle.sts_trace.specs.Reading.{◌>>=◌, Gives, numeral_at, event_of, event_said, event_line, is_outside_word, due_said, due_line, lines_read, trace_read, outside_read}
+use Rattle.sts_trace.specs.Spelling.{event_text, trace_text, due_text, outside_text, number_of, IsEvent, IsDue, AreDues}
 use Rattle.sts_trace.proofs.Lines.{cut}
-use Rattle.sts_trace.proofs.Spelled.{word_of, event_parts, event_fields, due_parts, due_fields, outside_word, number_no_newline, number_filled}
+use Rattle.sts_trace.proofs.Spelled.{word_of, event_fields, due_parts, due_fields, outside_word, number_no_newline, number_filled}
 
 number_read : (at n : ℕ) → n < 2 ^ 32 → numeral_at at (decimal n) ≡ Ok n
 number_read at n h = rw ((numeral_spelled (decimal n) (numeral (decimal n)) refl n).1 (h, refl)) refl

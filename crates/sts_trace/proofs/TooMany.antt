@@ -1,11 +1,8 @@
 -- Lines with too many fields.
-use Rattle.std.proofs.Common.{◌≡◌, ℕ, List, [], ◌∷◌, refl, rules}
-use Rattle.std.specs.Prelude.{Result, Ok, Err}
+use Rattle.std.proofs.Common.{◌≡◌, ℕ, List, [], ◌∷◌, refl}
+use Rattle.std.specs.Prelude.{Err}
 use Rattle.sts_text.specs.Words.{is_space, fields}
 use Rattle.sts_text.proofs.WordLemmas.{HasPart, has_part}
-use Rattle.sts_model.specs.declared.event.Event.{Event}
-use Rattle.sts_trace.specs.declared.outside.Due.{Due}
-use Rattle.sts_trace.specs.declared.error.TraceError.{TraceError}
 use Rattle.sts_trace.specs.declared.error.TraceError.TheVariants.{BadLine}
 use Rattle.sts_trace.specs.Reading.{event_said, due_said}
 

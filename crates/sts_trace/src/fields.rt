@@ -1,7 +1,6 @@
 //! What the fields of a line say.
 
-ghost use Rattle.std.specs.Prelude.{◌≡◌, ◌∷◌, [], Bool, IfSome};
-ghost use Rattle.sts_text.specs.Words.{fields};
+ghost use Rattle.std.specs.Prelude.{◌≡◌};
 ghost use Rattle.sts_trace.specs.Reading.{Gives, numeral_at, event_of};
 
 use crate::error::TraceError;

@@ -4,6 +4,8 @@
 mod error;
 mod fields;
 mod outside;
+#[cfg(test)]
+mod tests;
 mod trace;
 mod writing;
 

@@ -1,7 +1,6 @@
 //! Events from outside, and reading them.
 
 ghost use Rattle.std.specs.Prelude.{◌≡◌, ◌∷◌, [], List, IfOk, Ok};
-ghost use Rattle.sts_text.specs.Words.{fields};
 ghost use Rattle.sts_trace.specs.declared.outside.Due.{Due};
 ghost use Rattle.sts_trace.specs.Spelling.{AreDues, outside_text};
 ghost use Rattle.sts_trace.specs.Reading.{Gives, due_line, due_said, outside_read, is_outside_word};
@@ -12,15 +11,16 @@ use std::alloc::Global;
 use sts_model::event::Event;
 use sts_text::{cut_at_newline, cut_at_space};
 
-/// An event from outside.
+/// An event from outside, and when it is due.
 #[derive(Clone, Copy, Debug, PartialEq, Eq)]
 pub struct Due {
     /// How many entries the journal holds when the event is due.
     pub at: u32,
+    /// An interrupt or an expiry.
     pub event: Event,
 }
 
-/// The lines that an outside text may have.
+// The lines that an outside text may have.
 const MOST_LINES: u64 = 4096;
 
 fn is_outside_word(word: &[u8]) -> bool
@@ -29,6 +29,7 @@ fn is_outside_word(word: &[u8]) -> bool
     word == b"interrupt".as_slice() || word == b"expire".as_slice()
 }
 
+// What line `at` says.
 #[tactic(auto, using(crate::proofs::TooMany::too_many))]
 fn due_line(at: u64, line: &[u8]) -> Result<Due, TraceError>
     ensures { Gives (λ due. due) result (due_line at line.now) }
@@ -51,7 +52,14 @@ fn due_line(at: u64, line: &[u8]) -> Result<Due, TraceError>
     due_said(at, first, time, word, number)
 }
 
-fn due_said(at: u64, first: &[u8], time: &[u8], word: &[u8], number: &[u8]) -> Result<Due, TraceError>
+// What a line of four fields says.
+fn due_said(
+    at: u64,
+    first: &[u8],
+    time: &[u8],
+    word: &[u8],
+    number: &[u8],
+) -> Result<Due, TraceError>
     ensures { Gives (λ due. due) result (due_said at (first.now ∷ time.now ∷ word.now ∷ number.now ∷ [])) }
 {
     if first != b"at".as_slice() || time.is_empty() || !is_outside_word(word) || number.is_empty() {
@@ -62,6 +70,7 @@ fn due_said(at: u64, first: &[u8], time: &[u8], word: &[u8], number: &[u8]) -> R
     Ok(Due { at: time, event })
 }
 
+// Apart from `read_outside`, whose further clauses are laws about what this one gives.
 #[tactic(auto, using(crate::proofs::Lines::reads))]
 fn read_dues(alloc: Global, text: &[u8]) -> Result<Vec<Due>, TraceError>
     ensures { Gives (λ dues. dues.items) result (outside_read text.now) }
@@ -86,9 +95,10 @@ fn read_dues(alloc: Global, text: &[u8]) -> Result<Vec<Due>, TraceError>
 ///
 /// # Errors
 ///
-/// Lines are judged in order. A line that isn't `at`, a number's place, `interrupt` or `expire` and a number's place,
-/// with one space between them, is `BadLine`, and so is a line 4,097; else a bad number is `BadNumber`; bytes after
-/// the last newline are `NoNewline`. `Memory` may come in place of any answer.
+/// Lines are judged in order. `BadLine`: a line that isn't `at`, a word, `interrupt` or `expire`, and a word, with
+/// one space between them, or that is line 4,097. `BadNumber`: one where one of those two words isn't `0` or digits
+/// without a leading zero, at most 4294967295. `NoNewline`: bytes after the last newline. `Memory` may come in place
+/// of any answer.
 #[tactic(auto, using(crate::proofs::Found::dues_found, crate::proofs::Only::outside_only))]
 pub fn read_outside(alloc: Global, text: &[u8]) -> Result<Vec<Due>, TraceError>
     // What is read is what the text spells.

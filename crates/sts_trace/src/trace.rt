@@ -12,6 +12,7 @@ use std::alloc::Global;
 use sts_model::event::Event;
 use sts_text::{cut_at_newline, cut_at_space};
 
+// What a line of two fields says.
 fn event_said(at: u64, word: &[u8], number: &[u8]) -> Result<Event, TraceError>
     ensures { Gives (λ e. e) result (event_said at (word.now ∷ number.now ∷ [])) }
 {
@@ -21,6 +22,7 @@ fn event_said(at: u64, word: &[u8], number: &[u8]) -> Result<Event, TraceError>
     event_of(at, word, number)
 }
 
+// What line `at` says.
 #[tactic(auto, using(crate::proofs::TooMany::too_many))]
 fn event_line(at: u64, line: &[u8]) -> Result<Event, TraceError>
     ensures { Gives (λ e. e) result (event_line at line.now) }
@@ -34,6 +36,7 @@ fn event_line(at: u64, line: &[u8]) -> Result<Event, TraceError>
     event_said(at, word, number)
 }
 
+// Apart from `read_trace`, whose further clauses are laws about what this one gives.
 #[tactic(auto, using(crate::proofs::Lines::reads))]
 fn read_events(alloc: Global, text: &[u8]) -> Result<Vec<Event>, TraceError>
     ensures { Gives (λ events. events.items) result (trace_read text.now) }
@@ -58,9 +61,9 @@ fn read_events(alloc: Global, text: &[u8]) -> Result<Vec<Event>, TraceError>
 ///
 /// # Errors
 ///
-/// Lines are judged in order. A line that isn't `step`, `interrupt` or `expire`, one space and a number's place
-/// is `BadLine`, else a bad number is `BadNumber`; bytes after the last newline are `NoNewline`. `Memory` may come
-/// in place of any answer.
+/// Lines are judged in order. `BadLine`: a line that isn't `step`, `interrupt` or `expire`, one space, and one or
+/// more bytes without a space. `BadNumber`: one whose last word isn't `0` or digits without a leading zero, at most
+/// 4294967295. `NoNewline`: bytes after the last newline. `Memory` may come in place of any answer.
 #[tactic(auto, using(crate::proofs::Found::events_found, crate::proofs::Only::trace_only))]
 pub fn read_trace(alloc: Global, text: &[u8]) -> Result<Vec<Event>, TraceError>
     // What is read is what the text spells.

@@ -105,8 +105,9 @@ fn spread(
     ensures { Arrive table.old.items (def.follows program.now loops.now pc instr state.now) table.new.items }
 {
     for number in 0..4 {
-        if let Some((to, after)) = edge(program, loops, pc, instr, state, skip, number) {
-            arrive(table, to, after);
+        match edge(program, loops, pc, instr, state, skip, number) {
+            Some((to, after)) => arrive(table, to, after),
+            None => return,
         }
     }
 }

@@ -1,4 +1,4 @@
-use Rattle.std.proofs.Common.{◌≡◌, take}
+use Rattle.std.proofs.Common.{take}
 use Rattle.std.specs.Io.KnownBytes.{Appends}
 use Rattle.sts_trace.specs.Spelling.{trace_text}
 use Rattle.sts_trace.proofs.writing.write_trace.Given as goal

@@ -1,13 +1,10 @@
-use Rattle.std.proofs.Common.{◌≡◌, ◌+◌, ◌<◌, ◌≤◌, ◌∙◌, length, take, sym, ap, refl, arith, subst, Vec, Global, length-set, List, ℕ}
+use Rattle.std.proofs.Common.{◌≡◌, ◌+◌, ◌<◌, ◌≤◌, ◌∙◌, length, take, sym, ap, refl, arith, subst, length-set}
 use Rattle.std.proofs.lemmas.List.{take_all}
-use Rattle.sts_model.specs.TypeState.{TypeState}
 use Rattle.sts_model.specs.Edges.{follows}
-use Rattle.sts_types.specs.declared.arrival.Arrival.{Arrival}
 use Rattle.sts_types.specs.Arrivals.{Arrive}
 use Rattle.sts_types.proofs.Arriving.{arrive_next, place_within}
-use Rattle.sts_types.proofs.FollowLemmas.{take_missing, few_follow}
+use Rattle.sts_types.proofs.FollowLemmas.{take_none, few_follow}
 use Rattle.sts_types.proofs.pass.spread.Goals as goal
-use Rattle.sts_types.proofs.pass.spread.Goals.{in-Some, in_default}
 
 pub arrive-requires : goal.arrive-requires
 arrive-requires c =
@@ -22,15 +19,9 @@ pub loop-number-preserved : goal.loop-number-preserved
 loop-number-preserved c =
     let out = follows c.args.program.now c.args.loops.now c.args.pc c.args.instr c.args.state.now in
     let old = c.args.table.now.items in
-    let k = c.loop-number.number in
     let now = c.loop-number.table.items in
-    elim c.match-edge.branch [
-      in-Some w ↦ subst (λ (v : Vec (Arrival TypeState) Global). (length v.items ≡ length old) × Arrive old (take (k + 1) out) v.items) (sym w.table-is)
-        (ap length w.arrive.ensures.1.1 ∙ length-set now w.in-Some.to _ ∙ c.loop-number.invariant.0,
-         arrive_next out old now w.arrive.new.table.items k w.in-Some.to w.in-Some.after w.arrive.ensures.0 c.loop-number.invariant.1 (sym c.edge.ensures ∙ w.in-Some.is) w.arrive.ensures.1.0 w.arrive.ensures.1.1)
-    | in_default w ↦ subst (λ (v : Vec (Arrival TypeState) Global). (length v.items ≡ length old) × Arrive old (take (k + 1) out) v.items) (sym w.table-is)
-        (c.loop-number.invariant.0, subst (λ es. Arrive old es now) (sym (take_missing out k (sym c.edge.ensures ∙ w.in_default.is))) c.loop-number.invariant.1)
-    ]
+    (ap length c.arrive.ensures.1.1 ∙ length-set now c.in-Some.to _ ∙ c.loop-number.invariant.0,
+     arrive_next out old now c.arrive.new.table.items c.loop-number.number c.in-Some.to c.in-Some.after c.arrive.ensures.0 c.loop-number.invariant.1 (sym c.edge.ensures ∙ c.in-Some.is) c.arrive.ensures.1.0 c.arrive.ensures.1.1)
 
 pub returns : goal.returns
 returns c =

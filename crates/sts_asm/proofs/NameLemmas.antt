@@ -1,0 +1,30 @@
+use Rattle.std.proofs.Common.{◌≡◌, ℕ, ◌<◌, Bool, true, false, List, [], ◌∷◌, arith, refl}
+use Rattle.std.specs.Prelude.{◌&&◌}
+use Rattle.std.specs.List.{list_all}
+use Rattle.std.specs.Str.{IsUtf8, IsAscii}
+use Rattle.std.proofs.lemmas.Str.Ascii.{IsAscii-nil, IsAscii-cons}
+use Rattle.std.proofs.lemmas.Str.{IsUtf8-from_ascii}
+use Rattle.std.proofs.lemmas.Bool.Decides.{nat_tests}
+use Rattle.sts_code.specs.Name.{is_name_byte, is_name}
+
+pub both : (a b : Bool) → (a && b) ≡ true → (a ≡ true) × (b ≡ true)
+both true true e = (refl, refl)
+both true false e = cc
+both false b e = cc
+
+name_byte_small : (c : ℕ) → is_name_byte c ≡ true → c < 128
+name_byte_small c e = grind (arith, nat_tests)
+
+name_ascii : (bs : List ℕ) → list_all is_name_byte bs ≡ true → IsAscii bs
+name_ascii [] e = IsAscii-nil
+name_ascii (c ∷ cs) e =
+    let h = both (is_name_byte c) (list_all is_name_byte cs) e in
+    IsAscii-cons c cs (name_byte_small c h.0) (name_ascii cs h.1)
+
+-- the bytes of a name are name bytes
+pub name_bytes : (bs : List ℕ) → is_name bs ≡ true → list_all is_name_byte bs ≡ true
+name_bytes bs e = grind (arith, nat_tests)
+
+-- a name is text
+pub name_is_text : (bs : List ℕ) → is_name bs ≡ true → IsUtf8 bs
+name_is_text bs e = IsUtf8-from_ascii bs (name_ascii bs (name_bytes bs e))

@@ -1,0 +1,7 @@
+pub mod Fault
+pub mod Marks
+pub mod Operand
+pub mod Line
+pub mod Table
+pub mod Outline
+pub mod Text

@@ -1,0 +1,110 @@
+//! What is wrong with a text.
+
+ghost use Rattle.std.specs.Prelude.{◌≡◌};
+ghost use Rattle.sts_asm.specs.declared.fault.AsmKind.TheVariants.{Memory};
+ghost use Rattle.sts_asm.specs.Fault.{kind_number, code_error, out_of_memory};
+
+use std::alloc::{AllocError, AllocFailed};
+use sts_code::checking::CodeError;
+use thiserror::Error;
+
+/// What is wrong, or that memory ran out.
+#[derive(Clone, Copy, Debug, PartialEq, Eq)]
+pub enum AsmKind {
+    /// A1: a byte that isn't allowed.
+    NotAscii,
+    /// A2: a first word that is none, or that may not stand there.
+    UnknownWord,
+    /// A3: a word in a number's place that isn't a number of its range.
+    BadNumber,
+    /// A4: an operand that is missing, of another kind, left over or badly spelled.
+    BadOperands,
+    /// A5: a label that isn't in the function, or a function that isn't in the text.
+    UnknownLabel,
+    /// A6: a label that stands already in this function.
+    DuplicateLabel,
+    /// A7: a function that isn't ended.
+    Unclosed,
+    /// A8: more than 1,048,576 bytes.
+    TextTooLong,
+    /// A9: what the program checks refuse.
+    Code(CodeError),
+    /// A10: memory ran out.
+    Memory,
+}
+
+impl AsmKind {
+    /// The number of the kind in what is printed: 1 for A1.
+    pub fn number(self) -> u8
+        ensures { result ≡ kind_number self }
+    {
+        match self {
+            AsmKind::NotAscii => 1,
+            AsmKind::UnknownWord => 2,
+            AsmKind::BadNumber => 3,
+            AsmKind::BadOperands => 4,
+            AsmKind::UnknownLabel => 5,
+            AsmKind::DuplicateLabel => 6,
+            AsmKind::Unclosed => 7,
+            AsmKind::TextTooLong => 8,
+            AsmKind::Code(_) => 9,
+            AsmKind::Memory => 10,
+        }
+    }
+
+    /// What the program checks refuse, for A9.
+    pub fn code_error(self) -> Option<CodeError>
+        ensures { result ≡ code_error self }
+    {
+        match self {
+            AsmKind::Code(error) => Some(error),
+            _ => None,
+        }
+    }
+}
+
+/// The first fault of a text and its line; the line is 0 where no line is meant (A8, A9 and A10).
+#[derive(Clone, Copy, Debug, PartialEq, Eq, Error)]
+#[error("line {line}: {kind:?}")]
+pub struct AsmError {
+    pub line: u32,
+    pub kind: AsmKind,
+}
+
+impl From<AllocError> for AsmKind {
+    ghost from_gives = { λ _ e. e ≡ Memory };
+
+    fn from(_error: AllocError) -> AsmKind {
+        AsmKind::Memory
+    }
+}
+
+impl<T: Drop> From<AllocFailed<T>> for AsmKind {
+    ghost from_gives = { λ _ e. e ≡ Memory };
+
+    fn from(_error: AllocFailed<T>) -> AsmKind {
+        AsmKind::Memory
+    }
+}
+
+impl From<AllocError> for AsmError {
+    ghost from_gives = { λ _ e. e ≡ out_of_memory };
+
+    fn from(_error: AllocError) -> AsmError {
+        AsmError {
+            line: 0,
+            kind: AsmKind::Memory,
+        }
+    }
+}
+
+impl<T: Drop> From<AllocFailed<T>> for AsmError {
+    ghost from_gives = { λ _ e. e ≡ out_of_memory };
+
+    fn from(_error: AllocFailed<T>) -> AsmError {
+        AsmError {
+            line: 0,
+            kind: AsmKind::Memory,
+        }
+    }
+}

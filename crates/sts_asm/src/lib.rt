@@ -1,0 +1,19 @@
+//! Programs as text: the assembler and the listing.
+#![tactic(auto)]
+
+mod fault;
+mod laws;
+mod line;
+mod marks;
+mod mnemonic;
+mod operand;
+mod outline;
+mod resolving;
+mod text;
+
+pub use fault::{AsmError, AsmKind};
+pub use laws::instructions_are_read_by_the_table;
+pub use text::assemble;
+
+#[cfg(test)]
+mod tests;

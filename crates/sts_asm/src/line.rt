@@ -1,0 +1,173 @@
+//! Instructions from their words.
+
+ghost use Rattle.std.specs.Prelude.{◌≡◌, ◌∷◌};
+ghost use Rattle.std.specs.Option.{option_copied};
+ghost use Rattle.sts_asm.specs.Line.{open_at, fork_at, join_at, case_at, tally_at, operated, instr_of};
+ghost use Rattle.sts_asm.specs.declared.mnemonic.Mnemonic.TheVariants.{WithNumber, WithSlot, WithTarget, Push, Times};
+
+use crate::fault::AsmKind;
+use crate::marks::Names;
+use crate::mnemonic::{Mnemonic, Numbered, Slotted, Targeted, mnemonic_of};
+use crate::operand::{
+    byte_at, finished, function_at, handle_at, joiner_at, kind_at, maybe_target_at, number_at,
+    slot_at, target_at, timed_at, value_at,
+};
+use sts_code::instr::Instr;
+use sts_text::Words;
+
+fn numbered_at(
+    words: &mut Words<'_>,
+    names: Option<&Names<'_, '_>>,
+    form: Numbered,
+) -> Result<Instr, AsmKind>
+    ensures { result ≡ operated (option_copied names.entry) (WithNumber form) words.old }
+{
+    let x = byte_at(words)?;
+    finished(words, form.with(x))
+}
+
+fn slotted_at(
+    words: &mut Words<'_>,
+    names: Option<&Names<'_, '_>>,
+    form: Slotted,
+) -> Result<Instr, AsmKind>
+    ensures { result ≡ operated (option_copied names.entry) (WithSlot form) words.old }
+{
+    let slot = slot_at(words)?;
+    finished(words, form.with(slot))
+}
+
+fn targeted_at(
+    words: &mut Words<'_>,
+    names: Option<&Names<'_, '_>>,
+    form: Targeted,
+) -> Result<Instr, AsmKind>
+    ensures { result ≡ operated (option_copied names.entry) (WithTarget form) words.old }
+{
+    let to = target_at(words, names)?;
+    finished(words, form.with(to))
+}
+
+fn push_at(words: &mut Words<'_>, names: Option<&Names<'_, '_>>) -> Result<Instr, AsmKind>
+    ensures { result ≡ operated (option_copied names.entry) Push words.old }
+{
+    let value = value_at(words)?;
+    finished(words, Instr::Push(value))
+}
+
+fn times_at(words: &mut Words<'_>, names: Option<&Names<'_, '_>>) -> Result<Instr, AsmKind>
+    ensures { result ≡ operated (option_copied names.entry) Times words.old }
+{
+    let bound = number_at(words, 65535)?;
+    finished(words, Instr::Times(bound as u16))
+}
+
+fn open_at(words: &mut Words<'_>) -> Result<Instr, AsmKind>
+    ensures { result ≡ open_at words.old }
+{
+    let slot = slot_at(words)?;
+    let joiner = joiner_at(words)?;
+    let timed = timed_at(words)?;
+    finished(
+        words,
+        Instr::Open {
+            slot,
+            joiner,
+            timed,
+        },
+    )
+}
+
+fn fork_at(words: &mut Words<'_>, names: Option<&Names<'_, '_>>) -> Result<Instr, AsmKind>
+    ensures { result ≡ fork_at (option_copied names.entry) words.old }
+{
+    let slot = slot_at(words)?;
+    let function = function_at(words, names)?;
+    let handle = handle_at(words)?;
+    finished(
+        words,
+        Instr::Fork {
+            slot,
+            function,
+            handle,
+        },
+    )
+}
+
+fn join_at(words: &mut Words<'_>, names: Option<&Names<'_, '_>>) -> Result<Instr, AsmKind>
+    ensures { result ≡ join_at (option_copied names.entry) words.old }
+{
+    let slot = slot_at(words)?;
+    let failed = maybe_target_at(words, names)?;
+    let timeout = maybe_target_at(words, names)?;
+    let interrupted = target_at(words, names)?;
+    finished(
+        words,
+        Instr::Join {
+            slot,
+            failed,
+            timeout,
+            interrupted,
+        },
+    )
+}
+
+fn case_at(words: &mut Words<'_>, names: Option<&Names<'_, '_>>) -> Result<Instr, AsmKind>
+    ensures { result ≡ case_at (option_copied names.entry) words.old }
+{
+    let handle = slot_at(words)?;
+    let success = target_at(words, names)?;
+    let failed = target_at(words, names)?;
+    finished(
+        words,
+        Instr::Case {
+            handle,
+            success,
+            failed,
+        },
+    )
+}
+
+fn tally_at(words: &mut Words<'_>) -> Result<Instr, AsmKind>
+    ensures { result ≡ tally_at words.old }
+{
+    let slot = slot_at(words)?;
+    let kind = kind_at(words)?;
+    finished(words, Instr::Tally(slot, kind))
+}
+
+fn operated(
+    words: &mut Words<'_>,
+    names: Option<&Names<'_, '_>>,
+    mnemonic: Mnemonic,
+) -> Result<Instr, AsmKind>
+    ensures { result ≡ operated (option_copied names.entry) mnemonic words.old }
+{
+    match mnemonic {
+        Mnemonic::Plain(instr) => finished(words, instr),
+        Mnemonic::WithNumber(form) => numbered_at(words, names, form),
+        Mnemonic::WithSlot(form) => slotted_at(words, names, form),
+        Mnemonic::WithTarget(form) => targeted_at(words, names, form),
+        Mnemonic::Push => push_at(words, names),
+        Mnemonic::Times => times_at(words, names),
+        Mnemonic::Open => open_at(words),
+        Mnemonic::Fork => fork_at(words, names),
+        Mnemonic::Join => join_at(words, names),
+        Mnemonic::Case => case_at(words, names),
+        Mnemonic::Tally => tally_at(words),
+    }
+}
+
+/// The instruction that a first word and the words after it spell, or the first place that is wrong.
+pub fn instr_of(
+    word: &[u8],
+    words: &mut Words<'_>,
+    names: Option<&Names<'_, '_>>,
+) -> Result<Instr, AsmKind>
+    ensures { result ≡ instr_of (option_copied names.entry) (word.now ∷ words.old) }
+{
+    match mnemonic_of(word) {
+        None => Err(AsmKind::UnknownWord),
+        Some(mnemonic) => operated(words, names, mnemonic),
+    }
+}

@@ -1,0 +1,271 @@
+//! The operands of a line, one reader for each kind.
+
+ghost use Rattle.std.specs.Prelude.{◌≡◌, ◌^◌, ◌-◌, ◌≤◌, option_map, IfOk, true};
+ghost use Rattle.std.specs.Option.{option_copied};
+ghost use Rattle.sts_asm.specs.Fault.{Reads};
+ghost use Rattle.sts_asm.specs.Operand.{number_at, value_at, slot, slot_at, handle, handle_at, name_at, target_at, function_at, maybe_target_at, looked_up, joiners, until_count_at, until_value_at, until_at, joiner_at, timed_at, kinds_counted, kind_at, finished};
+ghost use Rattle.sts_code.specs.Name as def_name;
+ghost use Rattle.sts_code.specs.declared.instr.Pred.TheVariants as pred;
+
+use crate::fault::AsmKind;
+use crate::marks::{Names, function_in, label_in};
+use std::str;
+use sts_code::instr::{Instr, Joiner, Kind, Pred};
+use sts_code::naming::is_name;
+use sts_text::{Words, digits_up_to, number, number_up_to};
+
+/// A number from 0 to `most`.
+pub fn number_at(words: &mut Words<'_>, most: u32) -> Result<u32, AsmKind>
+    ensures read { Reads (λ n. n) result words.new (number_at most words.old) }
+    ensures at_most { IfOk result (λ n. n ≤ most) }
+{
+    let Some(word) = words.word() else {
+        return Err(AsmKind::BadOperands);
+    };
+    match number_up_to(word, most) {
+        Some(n) => Ok(n),
+        None => Err(AsmKind::BadNumber),
+    }
+}
+
+/// A number of a byte's range.
+pub fn byte_at(words: &mut Words<'_>) -> Result<u8, AsmKind>
+    ensures { Reads (λ n. n) result words.new (number_at 255 words.old) }
+{
+    let n = number_at(words, 255)?;
+    Ok(n as u8)
+}
+
+/// A value.
+pub fn value_at(words: &mut Words<'_>) -> Result<i64, AsmKind>
+    ensures { Reads (λ v. v) result words.new (value_at words.old) }
+{
+    let Some(word) = words.word() else {
+        return Err(AsmKind::BadOperands);
+    };
+    number(word).ok_or(AsmKind::BadNumber)
+}
+
+fn slot(word: &[u8]) -> Option<u8>
+    ensures { result ≡ slot word.now }
+{
+    match word {
+        [b's', digits @ ..] => match digits_up_to(digits, 255) {
+            Some(n) => Some(n as u8),
+            None => None,
+        },
+        _ => None,
+    }
+}
+
+/// `s` and digits.
+pub fn slot_at(words: &mut Words<'_>) -> Result<u8, AsmKind>
+    ensures { Reads (λ s. s) result words.new (slot_at words.old) }
+{
+    let Some(word) = words.word() else {
+        return Err(AsmKind::BadOperands);
+    };
+    slot(word).ok_or(AsmKind::BadOperands)
+}
+
+fn handle(word: &[u8]) -> Option<Option<u8>>
+    ensures { result ≡ handle word.now }
+{
+    if word == b"_".as_slice() {
+        return Some(None);
+    }
+    match slot(word) {
+        Some(slot) => Some(Some(slot)),
+        None => None,
+    }
+}
+
+/// The slot of a subtask, or `_` for none.
+pub fn handle_at(words: &mut Words<'_>) -> Result<Option<u8>, AsmKind>
+    ensures { Reads (λ h. h) result words.new (handle_at words.old) }
+{
+    let Some(word) = words.word() else {
+        return Err(AsmKind::BadOperands);
+    };
+    handle(word).ok_or(AsmKind::BadOperands)
+}
+
+/// A name.
+pub fn name_at<'a>(words: &mut Words<'a>) -> Result<&'a [u8], AsmKind>
+    ensures read { Reads (λ name. name.now) result words.new (name_at words.old) }
+    ensures name { IfOk result (λ name. def_name.is_name name.now ≡ true) }
+{
+    let Some(word) = words.word() else {
+        return Err(AsmKind::BadOperands);
+    };
+    if is_name(word) {
+        Ok(word)
+    } else {
+        Err(AsmKind::BadOperands)
+    }
+}
+
+/// A name as text, since it is ASCII.
+#[tactic(auto, using(crate::proofs::NameLemmas::name_is_text))]
+pub fn name_text(name: &[u8]) -> &str
+    requires { def_name.is_name name.now ≡ true }
+    ensures { result.now ≡ name.now }
+{
+    match str::from_utf8(name) {
+        Ok(text) => text,
+        Err(_) => "",
+    }
+}
+
+/// The instruction that a label names.
+pub fn target_at(words: &mut Words<'_>, names: Option<&Names<'_, '_>>) -> Result<u32, AsmKind>
+    ensures { Reads (λ to. to) result words.new (target_at (option_copied names.entry) words.old) }
+{
+    let name = name_at(words)?;
+    label_in(names, name).ok_or(AsmKind::UnknownLabel)
+}
+
+/// The index of the function that a name names.
+pub fn function_at(words: &mut Words<'_>, names: Option<&Names<'_, '_>>) -> Result<u32, AsmKind>
+    ensures { Reads (λ f. f) result words.new (function_at (option_copied names.entry) words.old) }
+{
+    let name = name_at(words)?;
+    function_in(names, name).ok_or(AsmKind::UnknownLabel)
+}
+
+/// A label, or `-` for none.
+pub fn maybe_target_at(
+    words: &mut Words<'_>,
+    names: Option<&Names<'_, '_>>,
+) -> Result<Option<u32>, AsmKind>
+    ensures { Reads (λ to. to) result words.new (maybe_target_at (option_copied names.entry) words.old) }
+{
+    let Some(word) = words.word() else {
+        return Err(AsmKind::BadOperands);
+    };
+    if word == b"-".as_slice() {
+        return Ok(None);
+    }
+    if !is_name(word) {
+        return Err(AsmKind::BadOperands);
+    }
+    match label_in(names, word) {
+        Some(to) => Ok(Some(to)),
+        None => Err(AsmKind::UnknownLabel),
+    }
+}
+
+fn until_failed_at(words: &mut Words<'_>) -> Result<Joiner, AsmKind>
+    ensures { Reads (λ j. j) result words.new (until_count_at (λ n. pred.Failed n) words.old) }
+{
+    let n = number_at(words, u32::MAX)?;
+    Ok(Joiner::Until(Pred::Failed(n)))
+}
+
+fn until_success_at(words: &mut Words<'_>) -> Result<Joiner, AsmKind>
+    ensures { Reads (λ j. j) result words.new (until_count_at (λ n. pred.Success n) words.old) }
+{
+    let n = number_at(words, u32::MAX)?;
+    Ok(Joiner::Until(Pred::Success(n)))
+}
+
+fn until_value_at(words: &mut Words<'_>) -> Result<Joiner, AsmKind>
+    ensures { Reads (λ j. j) result words.new (until_value_at words.old) }
+{
+    let value = value_at(words)?;
+    Ok(Joiner::Until(Pred::AtLeast(value)))
+}
+
+fn until_at(words: &mut Words<'_>) -> Result<Joiner, AsmKind>
+    ensures { Reads (λ j. j) result words.new (until_at words.old) }
+{
+    let Some(word) = words.word() else {
+        return Err(AsmKind::BadOperands);
+    };
+    if word == b"failed".as_slice() {
+        until_failed_at(words)
+    } else if word == b"success".as_slice() {
+        until_success_at(words)
+    } else if word == b"atleast".as_slice() {
+        until_value_at(words)
+    } else {
+        Err(AsmKind::BadOperands)
+    }
+}
+
+fn one_word_joiner(word: &[u8]) -> Option<Joiner>
+    ensures { result ≡ looked_up joiners word.now }
+{
+    if word == b"all".as_slice() {
+        Some(Joiner::AllSucceed)
+    } else if word == b"any".as_slice() {
+        Some(Joiner::AnySucceeds)
+    } else if word == b"awaitok".as_slice() {
+        Some(Joiner::AwaitOk)
+    } else if word == b"awaitall".as_slice() {
+        Some(Joiner::AwaitAll)
+    } else {
+        None
+    }
+}
+
+/// The joiner of a scope.
+pub fn joiner_at(words: &mut Words<'_>) -> Result<Joiner, AsmKind>
+    ensures { Reads (λ j. j) result words.new (joiner_at words.old) }
+{
+    let Some(word) = words.word() else {
+        return Err(AsmKind::BadOperands);
+    };
+    if word == b"until".as_slice() {
+        return until_at(words);
+    }
+    one_word_joiner(word).ok_or(AsmKind::BadOperands)
+}
+
+/// `timed`, or nothing.
+pub fn timed_at(words: &mut Words<'_>) -> Result<bool, AsmKind>
+    ensures { Reads (λ t. t) result words.new (timed_at words.old) }
+{
+    let Some(word) = words.word() else {
+        return Ok(false);
+    };
+    if word == b"timed".as_slice() {
+        Ok(true)
+    } else {
+        Err(AsmKind::BadOperands)
+    }
+}
+
+fn kind_counted(word: &[u8]) -> Option<Kind>
+    ensures { result ≡ looked_up kinds_counted word.now }
+{
+    if word == b"S".as_slice() {
+        Some(Kind::S)
+    } else if word == b"F".as_slice() {
+        Some(Kind::F)
+    } else if word == b"U".as_slice() {
+        Some(Kind::U)
+    } else {
+        None
+    }
+}
+
+/// The state that `tally` counts.
+pub fn kind_at(words: &mut Words<'_>) -> Result<Kind, AsmKind>
+    ensures { Reads (λ k. k) result words.new (kind_at words.old) }
+{
+    let Some(word) = words.word() else {
+        return Err(AsmKind::BadOperands);
+    };
+    kind_counted(word).ok_or(AsmKind::BadOperands)
+}
+
+/// The instruction, where no word is left over.
+pub fn finished(words: &mut Words<'_>, instr: Instr) -> Result<Instr, AsmKind>
+    ensures { result ≡ finished instr words.old }
+{
+    match words.word() {
+        None => Ok(instr),
+        Some(_) => Err(AsmKind::BadOperands),
+    }
+}

@@ -1,0 +1,333 @@
+//! The functions of a text with their labels and lines, while no name is looked up.
+
+ghost use Rattle.std.specs.Prelude.{◌≡◌, ◌∷◌, ◌+◌, ◌<◌, ◌≤◌, ◌^◌, [], length, option_map, is_some, OnOk, Ok};
+ghost use Rattle.std.specs.List.{list_all, position, before_first};
+ghost use Rattle.sts_text.specs.Words.{words as words_in};
+ghost use Rattle.sts_asm.specs.Fault.{Steps};
+ghost use Rattle.sts_asm.specs.Operand.{finished};
+ghost use Rattle.sts_asm.specs.Outline as def;
+ghost use Rattle.sts_asm.specs.Outline.{no_needs, profile_at, with_keys, keys_at, needs_at, label_of, is_allowed, is_semicolon, size_of, instructions};
+
+use crate::fault::AsmKind;
+use crate::line::instr_of;
+use crate::marks::Marks;
+use crate::operand::{byte_at, name_at, name_text};
+use std::alloc::Global;
+use std::marker::Model;
+use sts_code::naming::is_name;
+use sts_code::profile::Profile;
+use sts_text::{Words, number_up_to};
+
+/// A line of an instruction, without its comment.
+#[derive(Drop)]
+pub struct Sentence<'a> {
+    pub(crate) line: u32,
+    pub(crate) text: &'a [u8],
+}
+
+impl<'a> Model for Sentence<'a> {
+    ghost use Rattle.sts_text.specs.Words.{words};
+    ghost use Rattle.sts_asm.specs.Outline.{Sentence};
+
+    ghost Value = { Sentence };
+
+    ghost view = { λ s. record { line = s.line; words = words s.text.now } };
+}
+
+/// A function as far as it was read.
+#[derive(Drop)]
+pub struct Draft<'a> {
+    pub(crate) name: &'a str,
+    pub(crate) args: u8,
+    pub(crate) needs: [bool; 16],
+    pub(crate) labels: Marks<'a>,
+    pub(crate) code: Vec<Sentence<'a>>,
+}
+
+impl<'a> Model for Draft<'a> {
+    ghost use Rattle.sts_asm.specs.Outline.{Draft};
+
+    ghost Value = { Draft };
+
+    ghost view = { λ d. record { name = d.name.now; args = d.args; needs = d.needs; labels = d.labels; code = d.code.items } };
+}
+
+fn no_more(rest: &mut Words<'_>) -> Result<(), AsmKind>
+    ensures { result ≡ finished tt rest.old }
+{
+    match rest.word() {
+        None => Ok(()),
+        Some(_) => Err(AsmKind::BadOperands),
+    }
+}
+
+fn profile_at(rest: &mut Words<'_>) -> Result<Profile, AsmKind>
+    ensures { result ≡ profile_at rest.old }
+{
+    let Some(word) = rest.word() else {
+        return Err(AsmKind::BadOperands);
+    };
+    let profile = match number_up_to(word, 2) {
+        Some(1) => Profile::One,
+        Some(2) => Profile::Two,
+        _ => return Err(AsmKind::BadNumber),
+    };
+    no_more(rest)?;
+    Ok(profile)
+}
+
+/// The keys that are left, beside those that were named before.
+fn with_keys(needs: [bool; 16], rest: &mut Words<'_>) -> Result<[bool; 16], AsmKind>
+    ensures { result ≡ with_keys needs rest.old }
+{
+    let mut needs = needs;
+    while let Some(word) = rest.word() {
+        match number_up_to(word, 15) {
+            Some(key) => needs[key as usize] = true,
+            None => return Err(AsmKind::BadNumber),
+        }
+    }
+    Ok(needs)
+}
+
+fn keys_at(rest: &mut Words<'_>) -> Result<[bool; 16], AsmKind>
+    ensures { result ≡ keys_at rest.old }
+{
+    let Some(word) = rest.word() else {
+        return Err(AsmKind::BadOperands);
+    };
+    let mut needs = [false; 16];
+    match number_up_to(word, 15) {
+        Some(key) => needs[key as usize] = true,
+        None => return Err(AsmKind::BadNumber),
+    }
+    with_keys(needs, rest)
+}
+
+fn needs_at(rest: &mut Words<'_>) -> Result<[bool; 16], AsmKind>
+    ensures { result ≡ needs_at rest.old }
+{
+    let Some(word) = rest.word() else {
+        return Ok([false; 16]);
+    };
+    if word == b"needs".as_slice() {
+        keys_at(rest)
+    } else {
+        Err(AsmKind::BadOperands)
+    }
+}
+
+fn header_at<'a>(alloc: Global, rest: &mut Words<'a>) -> Result<Draft<'a>, AsmKind>
+    ensures { result ≡ def.header_at rest.old }
+{
+    let name = name_text(name_at(rest)?);
+    let args = byte_at(rest)?;
+    let needs = needs_at(rest)?;
+    Ok(Draft {
+        name,
+        args,
+        needs,
+        labels: Marks::new(alloc),
+        code: Vec::new(alloc),
+    })
+}
+
+/// The name of a label, where the word is a name and a colon.
+fn label_of(word: &[u8]) -> Option<&[u8]>
+    ensures { option_map (λ name. name.now) result ≡ label_of word.now }
+{
+    match word {
+        [name @ .., b':'] => { if is_name(name) { Some(name) } else { None } }
+        _ => None,
+    }
+}
+
+impl<'a> Draft<'a> {
+    fn label(&mut self, name: &'a [u8]) -> Result<(), AsmKind>
+        requires { length self.old.code < 2 ^ 32 }
+        ensures steps { Steps result self.new (def.labelled self.old name.now) }
+        ensures same { OnOk result (length self.new.code ≡ length self.old.code) }
+    {
+        if self.labels.find(name).is_some() {
+            return Err(AsmKind::DuplicateLabel);
+        }
+        let at = self.code.len() as u32;
+        self.labels.push(name, at)?;
+        Ok(())
+    }
+
+    fn sentence(&mut self, at: u32, text: &'a [u8]) -> Result<(), AsmKind>
+        ensures { Steps result self.new (Ok (def.with_sentence at self.old (words_in text.now))) }
+    {
+        self.code.push(Sentence { line: at, text })?;
+        Ok(())
+    }
+
+    /// A line of a function: a label, or an instruction. `word` and `rest` are the words of `text`.
+    fn inner(
+        &mut self,
+        at: u32,
+        text: &'a [u8],
+        word: &'a [u8],
+        rest: &mut Words<'a>,
+    ) -> Result<(), AsmKind>
+        requires size { length self.old.code < 2 ^ 32 }
+        requires words { words_in text.now ≡ word.now ∷ rest.old }
+        ensures steps { Steps result self.new (def.inner at self.old (label_of word.now) word.now rest.old) }
+        ensures grows { OnOk result (length self.new.code ≤ length self.old.code + 1) }
+    {
+        if let Some(name) = label_of(word) {
+            no_more(rest)?;
+            return self.label(name);
+        }
+        instr_of(word, rest, None)?;
+        self.sentence(at, text)
+    }
+}
+
+/// A text as far as it was read.
+#[derive(Drop)]
+pub struct Outline<'a> {
+    pub(crate) profile: Profile,
+    pub(crate) functions: Marks<'a>,
+    pub(crate) done: Vec<Draft<'a>>,
+    current: Option<Draft<'a>>,
+    alloc: Global,
+}
+
+impl<'a> Model for Outline<'a> {
+    ghost use Rattle.sts_asm.specs.Outline.{Outline};
+
+    ghost Value = { Outline };
+
+    ghost view = { λ o. record { profile = o.profile; functions = o.functions; done = o.done.items; current = o.current } };
+}
+
+fn all_allowed(line: &[u8]) -> bool
+    ensures { result ≡ list_all is_allowed line.now }
+{
+    line.iter()
+        .all(|b| matches!(*b, b'\t' | b'\r' | b' '..=b'~'))
+}
+
+fn semicolon_in(line: &[u8]) -> Option<usize>
+    ensures { result ≡ position is_semicolon line.now }
+{
+    line.iter().position(|b| *b == b';')
+}
+
+#[tactic(auto, using(sts_text::proofs::WordLemmas::positions))]
+fn uncommented(line: &[u8]) -> &[u8]
+    ensures { result.now ≡ before_first is_semicolon line.now }
+{
+    match semicolon_in(line) {
+        Some(end) => &line[..end],
+        None => line,
+    }
+}
+
+impl<'a> Outline<'a> {
+    pub fn new(alloc: Global) -> Outline<'a>
+        ensures { result ≡ def.empty }
+    {
+        Outline {
+            profile: Profile::One,
+            functions: Marks::new(alloc),
+            done: Vec::new(alloc),
+            current: None,
+            alloc,
+        }
+    }
+
+    /// Is a function open?
+    pub fn is_open(&self) -> bool
+        ensures { result ≡ is_some self.now.current }
+    {
+        self.current.is_some()
+    }
+
+    fn profile(&mut self, rest: &mut Words<'a>) -> Result<(), AsmKind>
+        ensures steps { Steps result self.new (def.profiled self.old rest.old) }
+        ensures same { OnOk result (size_of self.new ≡ size_of self.old) }
+    {
+        self.profile = profile_at(rest)?;
+        Ok(())
+    }
+
+    fn begin(&mut self, rest: &mut Words<'a>) -> Result<(), AsmKind>
+        requires { size_of self.old < 2 ^ 32 }
+        ensures steps { Steps result self.new (def.begun self.old rest.old) }
+        ensures same { OnOk result (size_of self.new ≡ size_of self.old) }
+    {
+        if self.current.is_some() {
+            return Err(AsmKind::Unclosed);
+        }
+        let draft = header_at(self.alloc, rest)?;
+        let at = self.done.len() as u32;
+        self.functions.push(draft.name.as_bytes(), at)?;
+        self.current = Some(draft);
+        Ok(())
+    }
+
+    fn end(&mut self, rest: &mut Words<'a>) -> Result<(), AsmKind>
+        ensures steps { Steps result self.new (def.ended self.old self.old.current rest.old) }
+        ensures grows { OnOk result (size_of self.new ≤ size_of self.old + 1) }
+    {
+        let Some(draft) = self.current.take() else {
+            return Err(AsmKind::UnknownWord);
+        };
+        no_more(rest)?;
+        self.done.push(draft)?;
+        Ok(())
+    }
+
+    fn inside(
+        &mut self,
+        at: u32,
+        text: &'a [u8],
+        word: &'a [u8],
+        rest: &mut Words<'a>,
+    ) -> Result<(), AsmKind>
+        requires size { size_of self.old < 2 ^ 32 }
+        requires words { words_in text.now ≡ word.now ∷ rest.old }
+        ensures steps { Steps result self.new (def.inside at self.old self.old.current word.now rest.old) }
+        ensures grows { OnOk result (size_of self.new ≤ size_of self.old + 1) }
+    {
+        match &mut self.current {
+            None => Err(AsmKind::UnknownWord),
+            Some(draft) => draft.inner(at, text, word, rest),
+        }
+    }
+
+    fn say(&mut self, at: u32, text: &'a [u8]) -> Result<(), AsmKind>
+        requires { size_of self.old < 2 ^ 32 }
+        ensures steps { Steps result self.new (def.said at self.old (words_in text.now)) }
+        ensures grows { OnOk result (size_of self.new ≤ size_of self.old + 1) }
+    {
+        let mut rest = Words::new(text);
+        let Some(word) = rest.word() else {
+            return Ok(());
+        };
+        if word == b"func".as_slice() {
+            self.begin(&mut rest)
+        } else if word == b"end".as_slice() {
+            self.end(&mut rest)
+        } else if at == 1 && word == b"profile".as_slice() {
+            self.profile(&mut rest)
+        } else {
+            self.inside(at, text, word, &mut rest)
+        }
+    }
+
+    /// Reads the line of this number.
+    pub fn line(&mut self, at: u32, line: &'a [u8]) -> Result<(), AsmKind>
+        requires { size_of self.old < 2 ^ 32 }
+        ensures steps { Steps result self.new (def.line_read at self.old line.now) }
+        ensures grows { OnOk result (size_of self.new ≤ size_of self.old + 1) }
+    {
+        if !all_allowed(line) {
+            return Err(AsmKind::NotAscii);
+        }
+        self.say(at, uncommented(line))
+    }
+}

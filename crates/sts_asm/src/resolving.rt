@@ -1,0 +1,100 @@
+//! The names in a text are looked up, and its functions become a program.
+
+ghost use Rattle.std.specs.Prelude.{◌≡◌, Some};
+ghost use Rattle.sts_text.specs.Words.{words as words_in};
+ghost use Rattle.sts_asm.specs.Fault.{Judges};
+ghost use Rattle.sts_asm.specs.Line.{instr_of};
+ghost use Rattle.sts_asm.specs.Text.{each, instr_at, routine_of, program_of};
+
+use crate::fault::{AsmError, AsmKind};
+use crate::line::instr_of;
+use crate::marks::{Marks, Names};
+use crate::outline::{Draft, Outline, Sentence};
+use std::alloc::Global;
+use sts_code::instr::Instr;
+use sts_code::program::{Function, Program};
+use sts_text::Words;
+
+fn instr_in(text: &[u8], names: &Names<'_, '_>) -> Result<Instr, AsmKind>
+    ensures { result ≡ instr_of (Some names.now) (words_in text.now) }
+{
+    let mut rest = Words::new(text);
+    let Some(word) = rest.word() else {
+        return Err(AsmKind::UnknownWord);
+    };
+    instr_of(word, &mut rest, Some(names))
+}
+
+fn instr_at(names: &Names<'_, '_>, sentence: &Sentence<'_>) -> Result<Instr, AsmError>
+    ensures { Judges (λ i. i) result (instr_at names.now sentence.now) }
+{
+    match instr_in(sentence.text, names) {
+        Ok(instr) => Ok(instr),
+        Err(AsmKind::Memory) => Err(AsmError {
+            line: 0,
+            kind: AsmKind::Memory,
+        }),
+        Err(kind) => Err(AsmError {
+            line: sentence.line,
+            kind,
+        }),
+    }
+}
+
+fn code_of(
+    alloc: Global,
+    names: &Names<'_, '_>,
+    sentences: &[Sentence<'_>],
+) -> Result<Vec<Instr>, AsmError>
+    ensures { Judges (λ code. code.items) result (each (instr_at names.now) sentences.now) }
+{
+    let mut code = Vec::new(alloc);
+    for sentence in sentences {
+        let instr = instr_at(names, sentence)?;
+        code.push(instr)?;
+    }
+    Ok(code)
+}
+
+fn routine_of(alloc: Global, functions: &Marks<'_>, draft: &Draft<'_>) -> Result<Function, AsmError>
+    ensures { Judges (λ f. f) result (routine_of functions.now draft.now) }
+{
+    let names = Names::new(&draft.labels, functions);
+    let code = code_of(alloc, &names, draft.code.as_slice())?;
+    let name = String::from_str(alloc, draft.name)?;
+    Ok(Function {
+        name,
+        args: draft.args,
+        needs: draft.needs,
+        code,
+    })
+}
+
+fn routines_of(
+    alloc: Global,
+    functions: &Marks<'_>,
+    drafts: &[Draft<'_>],
+) -> Result<Vec<Function>, AsmError>
+    ensures { Judges (λ fs. fs.items) result (each (routine_of functions.now) drafts.now) }
+{
+    let mut routines = Vec::new(alloc);
+    for draft in drafts {
+        let routine = routine_of(alloc, functions, draft)?;
+        routines.push(routine)?;
+    }
+    Ok(routines)
+}
+
+/// The program of these functions, or the first name that there isn't, or the program check that they fail.
+pub fn program_of(alloc: Global, outline: &Outline<'_>) -> Result<Program, AsmError>
+    ensures { Judges (λ p. p) result (program_of outline.now) }
+{
+    let routines = routines_of(alloc, &outline.functions, outline.done.as_slice())?;
+    match Program::new_in(outline.profile, routines) {
+        Ok(program) => Ok(program),
+        Err(error) => Err(AsmError {
+            line: 0,
+            kind: AsmKind::Code(error),
+        }),
+    }
+}

@@ -1,0 +1,4 @@
+pub mod Joined
+pub mod Output
+pub mod Printed
+pub mod Taking

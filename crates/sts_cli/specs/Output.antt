@@ -1,0 +1,93 @@
+-- What the program prints and the status that it ends with, for each mode (this project's own).
+use Rattle.std.specs.Prelude.{◌≡◌, ◌⊎◌, ⊤, ℕ, List, ◌++◌, Result, Ok, Err, codes}
+use Rattle.sts_code.specs.Program.{Program}
+use Rattle.sts_model.specs.declared.event.Event.{Event}
+use Rattle.sts_model.specs.declared.event.End.{End}
+use Rattle.sts_model.specs.declared.event.End.TheVariants.{Success, Failed}
+use Rattle.sts_model.specs.Refusal.{IsAccepted, IsRefusal}
+use Rattle.sts_model.specs.Run.{after, taken}
+use Rattle.sts_model.specs.declared.typing.Cause.{Cause}
+use Rattle.sts_asm.specs.Fault.{code_error}
+use Rattle.sts_asm.specs.Text.{judged}
+use Rattle.sts_asm.specs.declared.fault.AsmError.{AsmError}
+use Rattle.sts_list.specs.Listing.{listing}
+use Rattle.sts_plain.specs.Seen.{shown}
+use Rattle.sts_plain.specs.declared.misstep.PlainState.{PlainState}
+use Rattle.sts_plain.specs.declared.misstep.PlainState.TheVariants as plain
+use Rattle.sts_trace.specs.Reading.{trace_read}
+use Rattle.sts_trace.specs.declared.error.TraceError.{TraceError}
+use Rattle.sts_cli.specs.declared.mode.Mode.{Mode}
+use Rattle.sts_cli.specs.declared.mode.Mode.TheVariants as mode
+use Rattle.sts_cli.specs.Printed.{text_fault_line, trace_fault_line, state_line, steps_line, memory_line, refused_line}
+
+-- what is printed, and the status
+pub record Output : Type 0 where
+  pub bytes : List ℕ
+  pub status : ℕ
+
+-- 0 where the root succeeded, 1 where it failed, 5 where it runs or the machine stands at a fault
+abbrev pub end_status : End → ℕ
+end_status (Success v) = 0
+end_status (Failed c) = 1
+
+abbrev pub state_status : PlainState → ℕ
+state_status (plain.Ended end) = end_status end
+state_status _ = 5
+
+abbrev pub state_output : Program → PlainState → ℕ → Output
+state_output p state steps = record { bytes = state_line p state ++ steps_line steps; status = state_status state }
+
+-- how the machine stands after the events, and the steps that it took
+abbrev pub run_output : Program → List Event → Output
+run_output p events = state_output p (shown (after p events)) (taken p events)
+
+abbrev pub text_fault_output : AsmError → Output
+text_fault_output e = record { bytes = text_fault_line e (code_error e.kind); status = 3 }
+
+abbrev pub trace_fault_output : TraceError → Output
+trace_fault_output e = record { bytes = trace_fault_line e; status = 3 }
+
+abbrev pub memory_output : Output
+memory_output = record { bytes = memory_line; status = 6 }
+
+-- ---- mode plain
+
+abbrev pub traced_output : Program → Result (List Event) TraceError → Output
+traced_output p (Ok events) = run_output p events
+traced_output p (Err e) = trace_fault_output e
+
+abbrev pub plain_output : Result Program AsmError → List ℕ → Output
+plain_output (Ok p) trace = traced_output p (trace_read trace)
+plain_output (Err e) trace = text_fault_output e
+
+-- ---- mode list
+
+abbrev pub list_output : Result Program AsmError → Output
+list_output (Ok p) = record { bytes = listing p; status = 0 }
+list_output (Err e) = text_fault_output e
+
+-- ---- mode verify
+
+abbrev pub refused_output : Program → ℕ → ℕ → Cause → Output
+refused_output p f pc c = record { bytes = refused_line p f pc c; status = 4 }
+
+-- what is printed of a program that is accepted, or refused at its least place with a cause, for the least cause there
+pub data IsVerdict (p : Program) (output : Output) : Type 0 where
+  accepted : IsAccepted p → output ≡ record { bytes = codes "accepted\n"; status = 0 } → IsVerdict p output
+  refused : (f pc : ℕ) (c : Cause) → IsRefusal p f pc c → output ≡ refused_output p f pc c → IsVerdict p output
+
+abbrev pub VerifyShows : Result Program AsmError → Output → Type 0
+VerifyShows (Ok p) output = IsVerdict p output
+VerifyShows (Err e) output = output ≡ text_fault_output e
+
+-- ---- all modes
+
+-- what is printed in a mode
+abbrev pub Shows : Mode → List ℕ → List ℕ → Output → Type 0
+Shows mode.Plain text trace output = output ≡ plain_output (judged text) trace
+Shows mode.List text trace output = output ≡ list_output (judged text)
+Shows mode.Verify text trace output = VerifyShows (judged text) output
+
+-- the output of the mode, or that memory was refused
+abbrev pub IsAnswer : Mode → List ℕ → List ℕ → Output → Type 0
+IsAnswer mode text trace output = Shows mode text trace output ⊎ (output ≡ memory_output)

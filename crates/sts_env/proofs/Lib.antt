@@ -1,0 +1,4 @@
+pub mod Changes
+pub mod Room
+pub mod Unshared
+pub mod Walks

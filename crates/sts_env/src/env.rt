@@ -1,0 +1,41 @@
+//! What an environment is made of.
+
+/// A scoped value's key, and the value that it is bound to.
+#[derive(Clone, Copy, Debug, PartialEq, Eq)]
+pub struct Binding {
+    pub key: u8,
+    pub value: i64,
+}
+
+/// An environment: a list of bindings, innermost first, whose records stand in a `Chains`.
+#[derive(Clone, Copy, Debug, PartialEq, Eq)]
+pub struct Env {
+    /// The key of the innermost binding's record; none where nothing is bound.
+    pub front: Option<usize>,
+    /// How many bindings there are.
+    pub length: u32,
+}
+
+/// The record of a binding.
+#[derive(Clone, Copy, Debug, PartialEq, Eq)]
+pub struct Record {
+    pub binding: Binding,
+    /// The environment in which it was bound.
+    pub rest: Env,
+}
+
+impl Env {
+    ghost use Rattle.std.specs.Prelude.{◌≡◌, None, []};
+    ghost use Rattle.sts_env.specs.Environments.{Records, IsWhole, list_of};
+
+    /// The environment in which nothing is bound.
+    pub fn empty() -> Env
+        ensures value { result ≡ record { front = None; length = 0 } }
+        ensures list { (records : Records) → IsWhole records result × (list_of records result ≡ []) }
+    {
+        Env {
+            front: None,
+            length: 0,
+        }
+    }
+}

@@ -1,0 +1,11 @@
+//! Environments of scoped values: lists of bindings that share their tails, under recycled keys.
+//!
+//! A task that is forked in a scope takes that scope's environment over, and puts bindings of its own
+//! in front of it. So environments are never copied: each is a key into one table of records.
+#![tactic(auto)]
+
+pub mod chains;
+pub mod env;
+pub mod sharing;
+#[cfg(test)]
+mod tests;

@@ -1,0 +1,5 @@
+use Rattle.sts_laws.proofs.Laws as laws
+use Rattle.sts_laws.proofs.closed_is_empty.Goals as goal
+
+pub returns : goal.returns
+returns c = laws.closed_is_empty

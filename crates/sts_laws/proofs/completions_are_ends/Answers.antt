@@ -1,0 +1,5 @@
+use Rattle.sts_laws.proofs.Laws as laws
+use Rattle.sts_laws.proofs.completions_are_ends.Goals as goal
+
+pub returns : goal.returns
+returns c = laws.completions_are_ends

@@ -1,0 +1,5 @@
+use Rattle.sts_laws.proofs.Laws as laws
+use Rattle.sts_laws.proofs.owners_hold.Goals as goal
+
+pub returns : goal.returns
+returns c = laws.owners_hold

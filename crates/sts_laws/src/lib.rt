@@ -1,0 +1,85 @@
+//! Laws over all event lists of every program.
+#![tactic(auto)]
+
+ghost use Rattle.sts_laws.specs.Stays.{FaultsStay, StepsAreCounted, NothingIsLost, EndsStay, ClosedStays, PhasesGoForward, CompletionsGrow, StatesStay, CancelledStartsNothing};
+ghost use Rattle.sts_laws.specs.Runs.{CompletionsAreEnds, ClosedIsEmpty, RootEndsLast, SomeTaskSteps, OwnersHold};
+
+/// A fault stays.
+#[tactic(auto, using(crate::proofs::Runs::faults_stay))]
+pub fn faults_stay()
+    ensures { FaultsStay }
+{}
+
+/// Tasks and scopes are never lost: they are never fewer, and each keeps what it was born with.
+#[tactic(auto, using(crate::proofs::Laws::nothing_is_lost))]
+pub fn nothing_is_lost()
+    ensures { NothingIsLost }
+{}
+
+/// A task that has ended keeps its end, and never steps again.
+#[tactic(auto, using(crate::proofs::Laws::ends_stay))]
+pub fn ends_stay()
+    ensures { EndsStay }
+{}
+
+/// A closed scope stays closed, a cancelled one cancelled, an expired one expired.
+#[tactic(auto, using(crate::proofs::Laws::closed_stays))]
+pub fn closed_stays()
+    ensures { ClosedStays }
+{}
+
+/// A scope never goes back to an earlier phase, and where `join` had an outcome or the close has begun it doesn't expire any more.
+#[tactic(auto, using(crate::proofs::Laws::phases_go_forward))]
+pub fn phases_go_forward()
+    ensures { PhasesGoForward }
+{}
+
+/// Completions only grow, and no more once their scope is cancelled.
+#[tactic(auto, using(crate::proofs::Laws::completions_grow))]
+pub fn completions_grow()
+    ensures { CompletionsGrow }
+{}
+
+/// The completions of a scope are those of subtasks that have ended, each once with its end; while the scope isn't cancelled, of all of
+/// them.
+pub fn completions_are_ends()
+    ensures { CompletionsAreEnds }
+{}
+
+/// The state of a subtask never changes once it is a success or failed.
+#[tactic(auto, using(crate::proofs::Laws::states_stay))]
+pub fn states_stay()
+    ensures { StatesStay }
+{}
+
+/// An event takes at most one step, and exactly one where it is a step that counts.
+#[tactic(auto, using(crate::proofs::Runs::steps_are_counted))]
+pub fn steps_are_counted()
+    ensures { StepsAreCounted }
+{}
+
+/// No subtask of a closed scope lives.
+pub fn closed_is_empty()
+    ensures { ClosedIsEmpty }
+{}
+
+/// Where the root has ended no task lives.
+pub fn root_ends_last()
+    ensures { RootEndsLast }
+{}
+
+/// While the root lives some task can step: the living task that was born last never waits.
+pub fn some_task_steps()
+    ensures { SomeTaskSteps }
+{}
+
+/// No task that is born into a cancelled scope is ever started.
+#[tactic(auto, using(crate::proofs::Laws::cancelled_starts_nothing))]
+pub fn cancelled_starts_nothing()
+    ensures { CancelledStartsNothing }
+{}
+
+/// A scope that isn't closed is held by its owner, which lives.
+pub fn owners_hold()
+    ensures { OwnersHold }
+{}

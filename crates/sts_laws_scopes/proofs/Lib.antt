@@ -1,0 +1,5 @@
+pub mod Causes
+pub mod Entered
+pub mod Entries
+pub mod Laws
+pub mod Settled

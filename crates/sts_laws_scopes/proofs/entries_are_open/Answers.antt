@@ -1,0 +1,5 @@
+use Rattle.sts_laws_scopes.proofs.Laws as laws
+use Rattle.sts_laws_scopes.proofs.entries_are_open.Goals as goal
+
+pub returns : goal.returns
+returns c = laws.entries_are_open

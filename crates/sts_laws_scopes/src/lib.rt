@@ -1,0 +1,24 @@
+//! Laws over all event lists of every program: why scopes are cancelled, what is settled in them, where they are entered.
+#![tactic(auto)]
+
+ghost use Rattle.sts_laws_scopes.specs.Scopes.{CancelledHasCause, LeftOutIsCancelled, JoinedIsSettled, EntriesAreOpen};
+
+/// A scope is cancelled by an end after which its joiner asks for it, by its expiry or by its close, and by nothing else.
+pub fn cancelled_has_cause()
+    ensures { CancelledHasCause }
+{}
+
+/// A subtask that doesn't live and is unavailable is of a cancelled scope.
+pub fn left_out_is_cancelled()
+    ensures { LeftOutIsCancelled }
+{}
+
+/// Where `join` had an outcome, the scope is cancelled or no subtask of it lives.
+pub fn joined_is_settled()
+    ensures { JoinedIsSettled }
+{}
+
+/// A scope in the structure list of a living task is its own, isn't closed, and stands there once.
+pub fn entries_are_open()
+    ensures { EntriesAreOpen }
+{}

@@ -1,0 +1,11 @@
+pub mod TargetLemmas
+pub mod ByteLemmas
+pub mod DecimalLemmas
+pub mod SpellingLemmas
+pub mod LineLemmas
+pub mod HeaderLemmas
+pub mod CodeLemmas
+pub mod FunctionLemmas
+pub mod CheckLemmas
+pub mod RoundTrip
+pub mod FitLemmas

@@ -1,0 +1,68 @@
+//! The instructions that others name, found in one pass.
+
+ghost use Rattle.std.specs.Prelude.{◌≡◌, ◌∷◌, [], ◌++◌, ◌<◌, length, slice_index_or, IfOk, true, false, replicate, ℕ};
+ghost use Rattle.std.specs.List.{flat_map};
+ghost use Rattle.sts_list.specs.Listing.{maybe, targets, is_target, with_marks};
+
+use std::alloc::{AllocError, Global};
+use sts_code::instr::Instr;
+
+fn mark(marks: &mut Vec<bool>, to: u32)
+    ensures { marks.new.items ≡ with_marks marks.old.items (to ∷ []) }
+{
+    let to = to as usize;
+    if to < marks.len() {
+        marks[to] = true;
+    }
+}
+
+fn mark_maybe(marks: &mut Vec<bool>, to: Option<u32>)
+    ensures { marks.new.items ≡ with_marks marks.old.items (maybe to) }
+{
+    if let Some(to) = to {
+        mark(marks, to);
+    }
+}
+
+fn mark_join(marks: &mut Vec<bool>, failed: Option<u32>, timeout: Option<u32>, interrupted: u32)
+    ensures { marks.new.items ≡ with_marks marks.old.items (maybe failed ++ maybe timeout ++ interrupted ∷ []) }
+{
+    mark_maybe(marks, failed);
+    mark_maybe(marks, timeout);
+    mark(marks, interrupted);
+}
+
+fn mark_targets(marks: &mut Vec<bool>, instr: Instr)
+    ensures { marks.new.items ≡ with_marks marks.old.items (targets instr) }
+{
+    match instr {
+        Instr::Div(to) | Instr::Jmp(to) | Instr::Jz(to) => mark(marks, to),
+        Instr::Join {
+            failed,
+            timeout,
+            interrupted,
+            ..
+        } => mark_join(marks, failed, timeout, interrupted),
+        Instr::Case {
+            success,
+            failed,
+            ..
+        } => {
+            mark(marks, success);
+            mark(marks, failed);
+        }
+        _ => {}
+    }
+}
+
+/// For each instruction, is it named by one of these?
+pub fn target_marks(alloc: Global, code: &[Instr]) -> Result<Vec<bool>, AllocError>
+    ensures length { IfOk result (λ marks. length marks.items ≡ length code.now) }
+    ensures named { IfOk result (λ marks. (pc : ℕ) → pc < length code.now → slice_index_or marks.items pc false ≡ is_target code.now pc) }
+{
+    let mut marks = vec![in alloc; false; code.len()]?;
+    for instr in code {
+        mark_targets(&mut marks, *instr);
+    }
+    Ok(marks)
+}

@@ -1,0 +1,209 @@
+//! Tests for misuse that read the frame alone.
+
+ghost use Rattle.std.specs.Prelude.{◌≡◌};
+ghost use Rattle.sts_model.specs.Local as loops;
+ghost use Rattle.sts_model.specs.Misuse as misuse;
+ghost use Rattle.sts_model.specs.World as def;
+
+use crate::operands::{pops, pushes};
+use sts_code::instr::Instr;
+use sts_code::program::Program;
+use sts_model::loops::match_of;
+use sts_model::record::{Entry, Frame, Slot};
+use sts_world::code::code;
+
+pub fn lacks_operands(program: &Program, frame: &Frame, instr: Instr) -> bool
+    ensures { result ≡ misuse.lacks_operands program.now frame.now instr }
+{
+    frame.operands.len() < pops(program, instr)
+}
+
+pub fn overflows(program: &Program, frame: &Frame, instr: Instr) -> bool
+    ensures { result ≡ misuse.overflows program.now frame.now instr }
+{
+    frame.operands.len().saturating_sub(pops(program, instr)) + pushes(instr) > 32
+}
+
+/// Is the innermost open loop the one whose match is at `pc`?
+fn closes_loop(code: &[Instr], frame: &Frame) -> bool
+    ensures { result ≡ misuse.closes_loop code.now frame.now.pc frame.now.loops }
+{
+    match frame.loops.get(0) {
+        None => false,
+        Some(innermost) => match match_at(code, innermost.at) {
+            None => false,
+            Some(q) => q == frame.pc as usize,
+        },
+    }
+}
+
+/// The match of the `times` at `at`, if that is in the code.
+fn match_at(code: &[Instr], at: u32) -> Option<usize>
+    ensures { result ≡ loops.match_of code.now at }
+{
+    let at = at as usize;
+    if at < code.len() {
+        match_of(code, at)
+    } else {
+        None
+    }
+}
+
+pub fn breaks_loop(program: &Program, frame: &Frame, instr: Instr) -> bool
+    ensures { result ≡ misuse.breaks_loop program.now frame.now instr }
+{
+    match instr {
+        Instr::Times(_) => {
+            match_at(code(program, frame), frame.pc).is_none() || frame.loops.len() >= 8
+        }
+        Instr::Next => !closes_loop(code(program, frame), frame),
+        _ => false,
+    }
+}
+
+/// What a slot holds.
+pub fn slot(frame: &Frame, x: u8) -> Slot
+    ensures { result ≡ misuse.slot frame.now x }
+{
+    frame.slots.get(x as usize).copied().unwrap_or(Slot::Empty)
+}
+
+fn is_scope(slot: Slot) -> bool
+    ensures { result ≡ misuse.is_scope slot }
+{
+    matches!(slot, Slot::Own(_) | Slot::Lent(_))
+}
+
+fn is_sub(slot: Slot) -> bool
+    ensures { result ≡ misuse.is_sub slot }
+{
+    matches!(slot, Slot::Sub(_))
+}
+
+fn is_empty(slot: Slot) -> bool
+    ensures { result ≡ misuse.is_empty slot }
+{
+    matches!(slot, Slot::Empty)
+}
+
+fn owners_slot(instr: Instr) -> Option<u8>
+    ensures { result ≡ misuse.owners_slot instr }
+{
+    match instr {
+        Instr::Fork { slot, .. } | Instr::Join { slot, .. } => Some(slot),
+        Instr::Close(slot) | Instr::Tally(slot, _) | Instr::Total(slot) => Some(slot),
+        _ => None,
+    }
+}
+
+fn subtask_slot(instr: Instr) -> Option<u8>
+    ensures { result ≡ misuse.subtask_slot instr }
+{
+    match instr {
+        Instr::Case { handle, .. } => Some(handle),
+        Instr::Get(handle) | Instr::Except(handle) | Instr::Forget(handle) => Some(handle),
+        _ => None,
+    }
+}
+
+fn filled_slot(instr: Instr) -> Option<u8>
+    ensures { result ≡ misuse.filled_slot instr }
+{
+    match instr {
+        Instr::Open { slot, .. } => Some(slot),
+        Instr::Fork { handle, .. } => handle,
+        _ => None,
+    }
+}
+
+pub fn has_wrong_slot(frame: &Frame, instr: Instr) -> bool
+    ensures { result ≡ misuse.has_wrong_slot frame.now instr }
+{
+    if let Instr::Cancelled(x) = instr {
+        return !is_scope(slot(frame, x));
+    }
+    let owners = match owners_slot(instr) {
+        Some(x) => !is_scope(slot(frame, x)),
+        None => false,
+    };
+    let subtasks = match subtask_slot(instr) {
+        Some(x) => !is_sub(slot(frame, x)),
+        None => false,
+    };
+    let filled = match filled_slot(instr) {
+        Some(x) => !is_empty(slot(frame, x)),
+        None => false,
+    };
+    owners || subtasks || filled
+}
+
+pub fn is_strangers(frame: &Frame, instr: Instr) -> bool
+    ensures { result ≡ misuse.is_strangers frame.now instr }
+{
+    match owners_slot(instr) {
+        Some(x) => matches!(slot(frame, x), Slot::Lent(_)),
+        None => false,
+    }
+}
+
+fn is_binding(entry: &Entry) -> bool
+    ensures { result ≡ misuse.is_binding entry.now }
+{
+    matches!(entry, Entry::Binding(_, _))
+}
+
+fn is_entry_of(s: u32, entry: &Entry) -> bool
+    ensures { result ≡ misuse.is_entry_of s entry.now }
+{
+    match entry {
+        Entry::Scope(r) => *r == s,
+        Entry::Binding(_, _) => false,
+    }
+}
+
+/// Is there a binding after the entry of this scope?
+fn has_later_binding(frame: &Frame, s: u32) -> bool
+    ensures { result ≡ misuse.binds_after s frame.now.entries }
+{
+    for i in 0..frame.entries.len() {
+        let entry = frame.entries.get_or(i, Entry::Scope(0));
+        if is_entry_of(s, &entry) {
+            return false;
+        }
+        if is_binding(&entry) {
+            return true;
+        }
+    }
+    false
+}
+
+/// Is the innermost entry that of the scope?
+fn is_innermost(frame: &Frame, s: u32) -> bool
+    ensures { result ≡ misuse.innermost (misuse.is_entry_of s) frame.now.entries }
+{
+    match frame.entries.get(0) {
+        Some(entry) => is_entry_of(s, &entry),
+        None => false,
+    }
+}
+
+pub fn breaks_structure(frame: &Frame, instr: Instr) -> bool
+    ensures { (w : def.World) → result ≡ misuse.breaks_structure w frame.now instr }
+{
+    match instr {
+        Instr::Fork { slot: x, .. } => match slot(frame, x) {
+            Slot::Own(s) => has_later_binding(frame, s),
+            _ => false,
+        },
+        Instr::Close(x) => match slot(frame, x) {
+            Slot::Own(s) => !is_innermost(frame, s),
+            _ => false,
+        },
+        Instr::Unbind => match frame.entries.get(0) {
+            Some(entry) => !is_binding(&entry),
+            None => true,
+        },
+        Instr::Ret | Instr::Fail => frame.entries.len() > 0,
+        _ => false,
+    }
+}

@@ -1,0 +1,69 @@
+//! Where a task stands, and whether it can step.
+
+ghost use Rattle.std.specs.Prelude.{◌≡◌, ◌<◌, length};
+ghost use Rattle.sts_model.specs.Waiting as waiting;
+ghost use Rattle.sts_model.specs.World as def;
+ghost use Rattle.sts_model.specs.declared.record.Slot.TheVariants.{Own};
+
+use crate::frame_tests::slot;
+use crate::misuse::misuse;
+use sts_code::instr::Instr;
+use sts_code::program::Program;
+use sts_model::event::{Phase, Stand};
+use sts_model::record::Slot;
+use sts_world::code::instr_at;
+use sts_world::world::World;
+
+/// Where the task stands.
+fn stand_at(world: &World, program: &Program, t: u32) -> Stand
+    requires { t < length world.now.tasks }
+    ensures { result ≡ waiting.stand_at program.now world.now t }
+{
+    let frame = world.records().frame(t);
+    match instr_at(program, frame) {
+        Some(Instr::Join { slot: x, .. }) => match (misuse(world, program, t), slot(frame, x)) {
+            (None, Slot::Own(s)) => Stand::AtJoin(s),
+            _ => Stand::Free,
+        },
+        Some(Instr::Close(x)) => match slot(frame, x) {
+            Slot::Own(s) => stand_at_close(world, s),
+            _ => Stand::Free,
+        },
+        _ => Stand::Free,
+    }
+}
+
+/// Where a task stands at the `close` of a scope of its own.
+fn stand_at_close(world: &World, s: u32) -> Stand
+    ensures { result ≡ waiting.stands_at_close world.now (Own s) }
+{
+    if matches!(world.records().phase(s), Phase::Closing) {
+        Stand::AtClose(s)
+    } else {
+        Stand::Free
+    }
+}
+
+/// May the task go on from where it stands?
+fn can_go(world: &World, t: u32, stand: Stand) -> bool
+    ensures { result ≡ waiting.can_go world.now (def.task_at world.now t) stand }
+{
+    let records = world.records();
+    match stand {
+        Stand::Free => true,
+        Stand::AtJoin(s) => {
+            records.is_expired(s)
+                || records.is_cancelled(s)
+                || !world.any_lives(s)
+                || records.flag(t)
+        }
+        Stand::AtClose(s) => !world.any_lives(s),
+    }
+}
+
+/// Can the task step?
+pub fn can_step(world: &World, program: &Program, t: u32) -> bool
+    ensures { result ≡ waiting.can_step program.now world.now t }
+{
+    world.records().lives(t) && can_go(world, t, stand_at(world, program, t))
+}

@@ -1,0 +1,118 @@
+//! A worked row, its short notation, and how a table of rows is walked.
+
+use std::alloc::{AllocError, Global};
+use std::process::Abort;
+use std::str;
+use std::test::Fail;
+use sts_cli::mode::Mode;
+use sts_cli::play::play;
+
+/// What is printed for a text and a trace in a mode, and the status.
+///
+/// In the text and the output ` / ` stands between two lines, and each line is ended by a newline. In the trace `0*5`
+/// stands for `step 0` five times, `i0` for `interrupt 0` and `x0` for `expire 0`.
+pub struct Row {
+    pub name: &'static str,
+    pub mode: Mode,
+    pub text: &'static str,
+    pub trace: &'static str,
+    pub output: &'static str,
+    pub status: u8,
+}
+
+/// The lines of a text or an output.
+pub fn lines(alloc: Global, short: &str) -> Result<String, AllocError> {
+    let mut text = String::new(alloc);
+    if short.is_empty() {
+        return Ok(text);
+    }
+    for line in short.split(" / ") {
+        text.push_str(line)?;
+        text.push('\n')?;
+    }
+    Ok(text)
+}
+
+/// As many lines as the second number says, each a step of the task that the first number says.
+fn push_steps(trace: &mut String, steps: &str) -> Result<(), Fail> {
+    let (task, count) = steps.split_once("*").ok_or("no steps")?;
+    for _ in 0..count.parse::<u16>()? {
+        writeln!(trace, "step {task}")?;
+    }
+    Ok(())
+}
+
+fn push_events(trace: &mut String, word: &str) -> Result<(), Fail> {
+    if let Some(task) = word.strip_prefix("i") {
+        writeln!(trace, "interrupt {task}")?;
+        return Ok(());
+    }
+    if let Some(scope) = word.strip_prefix("x") {
+        writeln!(trace, "expire {scope}")?;
+        return Ok(());
+    }
+    push_steps(trace, word)
+}
+
+/// The lines of a trace.
+pub fn events(alloc: Global, short: &str) -> Result<String, Fail> {
+    let mut trace = String::new(alloc);
+    for word in short.split_ascii_whitespace() {
+        push_events(&mut trace, word)?;
+    }
+    Ok(trace)
+}
+
+/// Plays a text and a trace, and compares what is printed and the status.
+pub fn plays<R: Abort>(
+    rt: &R,
+    alloc: Global,
+    name: &str,
+    mode: Mode,
+    input: (&[u8], &[u8]),
+    want: (&str, u8),
+) -> Result<(), Fail> {
+    let (text, trace) = input;
+    let (output, status) = want;
+    let mut printed = Vec::new(alloc);
+    let ended = play(alloc, mode, text, trace, &mut printed)?;
+    assert_eq!(rt;
+        str::from_utf8(printed.as_slice())?,
+        output,
+        "printed at {name:?}"
+    );
+    assert_eq!(rt; ended, status, "the status at {name:?}");
+    Ok(())
+}
+
+/// Plays each row.
+pub fn walk<R: Abort>(rt: &R, alloc: Global, rows: &[Row]) -> Result<(), Fail> {
+    for row in rows {
+        let text = lines(alloc, row.text)?;
+        let trace = events(alloc, row.trace)?;
+        let output = lines(alloc, row.output)?;
+        plays(
+            rt,
+            alloc,
+            row.name,
+            row.mode,
+            (text.as_bytes(), trace.as_bytes()),
+            (output.as_str(), row.status),
+        )?;
+    }
+    Ok(())
+}
+
+#[test]
+fn short_forms_stand_for_their_lines(rt: HostRuntime) -> Result<(), Fail> {
+    let alloc = rt.alloc();
+    assert_eq!(rt; lines(alloc, "a 1 /   b / c:")?.as_str(), "a 1\n  b\nc:\n");
+    assert_eq!(rt; lines(alloc, "")?.as_str(), "");
+    assert_eq!(rt; lines(alloc, " / a")?.as_str(), "\na\n");
+    let trace = events(alloc, "0*2 i12 x3 1*1")?;
+    assert_eq!(rt;
+        trace.as_str(),
+        "step 0\nstep 0\ninterrupt 12\nexpire 3\nstep 1\n"
+    );
+    Ok(())
+}

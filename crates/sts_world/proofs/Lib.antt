@@ -1,0 +1,9 @@
+pub mod Counting
+pub mod Environments
+pub mod Finds
+pub mod Keeping
+pub mod Raising
+pub mod Same
+pub mod Short
+pub mod Verdicts
+pub mod Worlds

@@ -1,0 +1,5 @@
+use Rattle.sts_world.proofs.Worlds.{kept_frame}
+use Rattle.sts_world.proofs.world.World.bind.Goals as goal
+
+pub invariant_of-self : goal.invariant_of-self
+invariant_of-self c = kept_frame _ _ _ _ _ _ _ _ c.bind.ensures c.self.invariant

@@ -1,0 +1,41 @@
+//! What a program says at a frame.
+
+ghost use Rattle.std.specs.Prelude.{◌≡◌, ◌<◌, length};
+ghost use Rattle.sts_model.specs.World as def;
+ghost use Rattle.sts_code.specs.Program.{routine};
+ghost use Rattle.std.specs.Prelude.{◌≤◌, IfSome};
+
+use sts_code::instr::Instr;
+use sts_code::program::Program;
+use sts_model::record::Frame;
+
+/// The number of arguments of a function.
+pub fn args(program: &Program, function: u32) -> u8
+    ensures value { result ≡ (routine program.now function).args }
+    ensures few { result ≤ 8 }
+{
+    match program.functions().get(function as usize) {
+        Some(f) => f.args,
+        None => 0,
+    }
+}
+
+/// The instructions of the frame's function.
+pub fn code<'a>(program: &'a Program, frame: &Frame) -> &'a [Instr]
+    ensures value { result.now ≡ def.code program.now frame.now }
+    ensures short { length result.now ≤ 4096 }
+{
+    match program.functions().get(frame.function as usize) {
+        Some(f) => f.code.as_slice(),
+        None => &[],
+    }
+}
+
+/// The instruction that is next, or none at the end.
+pub fn instr_at(program: &Program, frame: &Frame) -> Option<Instr>
+    ensures value { result ≡ def.instr_at program.now frame.now }
+    ensures within { IfSome result (λ _. frame.now.pc < length (def.code program.now frame.now)) }
+    ensures short { length (def.code program.now frame.now) ≤ 4096 }
+{
+    code(program, frame).get(frame.pc as usize).copied()
+}

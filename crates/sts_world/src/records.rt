@@ -1,0 +1,219 @@
+//! All tasks and all scopes, by birth number, and what is read of them.
+
+ghost use Rattle.std.specs.Prelude.{◌≡◌, ◌<◌, ◌≤◌, length, true};
+ghost use Rattle.sts_model.specs.Environment as scoped;
+ghost use Rattle.sts_model.specs.Living as living;
+ghost use Rattle.sts_model.specs.Misuse as misuse;
+ghost use Rattle.sts_model.specs.Outside as outside;
+ghost use Rattle.sts_model.specs.World as def;
+
+use crate::reading::{kept_value, own_value};
+use std::marker::Model;
+use sts_code::instr::Joiner;
+use sts_model::event::{End, Phase};
+use sts_model::record::{Completion, Frame, Scope, Task};
+
+/// The tasks and the scopes by birth number: contracts see the two lists.
+#[derive(Drop)]
+pub struct Records {
+    pub(crate) tasks: Vec<Task>,
+    pub(crate) scopes: Vec<Scope>,
+}
+
+impl Model for Records {
+    ghost use Rattle.sts_model.specs.World.{World};
+
+    ghost Value = { World };
+
+    ghost view = { λ w. record { tasks = w.tasks.items; scopes = w.scopes.items } };
+
+    ghost use Rattle.std.specs.Prelude.{length, ◌≤◌};
+
+    ghost invariant = { λ w. (length w.tasks.items ≤ 1000000) × (length w.scopes.items ≤ 1000000) };
+}
+
+pub fn lives(task: &Task) -> bool
+    ensures { result ≡ living.lives task.now }
+{
+    task.started && task.outcome.is_none()
+}
+
+/// May `join` be done in this phase?
+pub fn can_join(phase: Phase) -> bool
+    ensures { result ≡ misuse.can_join phase }
+{
+    matches!(phase, Phase::Opened | Phase::Attempted)
+}
+
+/// The end of a subtask, as these completions have it.
+fn completion_of(completions: &[Completion], t: u32) -> Option<End>
+    ensures { result ≡ living.completion_of completions.now t }
+{
+    completions.iter().find(|c| c.task == t).map(|c| c.end)
+}
+
+impl Records {
+    /// How many tasks were born.
+    pub fn tasks_born(&self) -> usize
+        ensures value { result ≡ length self.now.tasks }
+        ensures few { result ≤ 1000000 }
+    {
+        self.tasks.len()
+    }
+
+    /// How many scopes were born.
+    pub fn scopes_born(&self) -> usize
+        ensures value { result ≡ length self.now.scopes }
+        ensures few { result ≤ 1000000 }
+    {
+        self.scopes.len()
+    }
+
+    pub fn lives(&self, t: u32) -> bool
+        ensures value { result ≡ living.lives (def.task_at self.now t) }
+        ensures born { result ≡ true → t < length self.now.tasks }
+    {
+        match self.tasks.get(t as usize) {
+            Some(task) => lives(task),
+            None => false,
+        }
+    }
+
+    pub fn frame(&self, t: u32) -> &Frame
+        requires { t < length self.now.tasks }
+        ensures { result.now ≡ (def.task_at self.now t).frame }
+    {
+        &self.tasks[t as usize].frame
+    }
+
+    pub fn flag(&self, t: u32) -> bool
+        ensures { result ≡ (def.task_at self.now t).flag }
+    {
+        match self.tasks.get(t as usize) {
+            Some(task) => task.flag,
+            None => false,
+        }
+    }
+
+    /// The scope that a task is a subtask of.
+    pub fn parent(&self, t: u32) -> Option<u32>
+        ensures { result ≡ (def.task_at self.now t).scope }
+    {
+        match self.tasks.get(t as usize) {
+            Some(task) => task.scope,
+            None => None,
+        }
+    }
+
+    /// The root's end.
+    pub fn root_end(&self) -> Option<End>
+        ensures { result ≡ (def.task_at self.now 0).outcome }
+    {
+        match self.tasks.get(0) {
+            Some(task) => task.outcome,
+            None => None,
+        }
+    }
+
+    pub fn phase(&self, s: u32) -> Phase
+        ensures { result ≡ (def.scope_at self.now s).phase }
+    {
+        match self.scopes.get(s as usize) {
+            Some(scope) => scope.phase,
+            None => Phase::Closed,
+        }
+    }
+
+    pub fn joiner(&self, s: u32) -> Joiner
+        ensures { result ≡ (def.scope_at self.now s).joiner }
+    {
+        match self.scopes.get(s as usize) {
+            Some(scope) => scope.joiner,
+            None => Joiner::AwaitAll,
+        }
+    }
+
+    pub fn is_timed(&self, s: u32) -> bool
+        ensures { result ≡ (def.scope_at self.now s).timed }
+    {
+        match self.scopes.get(s as usize) {
+            Some(scope) => scope.timed,
+            None => false,
+        }
+    }
+
+    pub fn is_cancelled(&self, s: u32) -> bool
+        ensures { result ≡ (def.scope_at self.now s).cancelled }
+    {
+        match self.scopes.get(s as usize) {
+            Some(scope) => scope.cancelled,
+            None => false,
+        }
+    }
+
+    pub fn is_expired(&self, s: u32) -> bool
+        ensures { result ≡ (def.scope_at self.now s).expired }
+    {
+        match self.scopes.get(s as usize) {
+            Some(scope) => scope.expired,
+            None => false,
+        }
+    }
+
+    /// May a scope expire now?
+    pub fn can_expire(&self, s: u32) -> bool
+        ensures { result ≡ outside.can_expire (def.scope_at self.now s) }
+    {
+        self.is_timed(s) && !self.is_expired(s) && can_join(self.phase(s))
+    }
+
+    /// The completions of a scope, in their order.
+    fn completions(&self, s: u32) -> &[Completion]
+        ensures { result.now ≡ (def.scope_at self.now s).completions }
+    {
+        match self.scopes.get(s as usize) {
+            Some(scope) => scope.completions.as_slice(),
+            None => &[],
+        }
+    }
+
+    /// The end of a subtask, where its scope was told of it.
+    pub fn sub_state(&self, t: u32) -> Option<End>
+        ensures { result ≡ living.sub_state self.now t }
+    {
+        match self.parent(t) {
+            Some(s) => completion_of(self.completions(s), t),
+            None => None,
+        }
+    }
+
+    fn value_kept(&self, scope: Option<u32>, k: u8) -> Option<i64>
+        ensures { result ≡ scoped.read (living.parent self.now scope).environment k }
+    {
+        match scope {
+            None => None,
+            Some(s) => match self.scopes.get(s as usize) {
+                None => None,
+                Some(scope) => kept_value(scope.environment.as_slice(), k),
+            },
+        }
+    }
+
+    /// The innermost value of a key for a task.
+    #[tactic(auto, using(crate::proofs::Environments::read_own, crate::proofs::Environments::read_kept))]
+    pub fn read(&self, t: u32, k: u8) -> Option<i64>
+        ensures { result ≡ scoped.read (scoped.environment_of (def.task_at self.now t) self.now) k }
+    {
+        match self.tasks.get(t as usize) {
+            None => None,
+            Some(task) => {
+                let own = own_value(&task.frame, k);
+                if own.is_some() {
+                    own
+                } else {
+                    self.value_kept(task.scope, k)
+                }
+            }
+        }
+    }
+}

@@ -1,0 +1,549 @@
+//! The tasks and scopes with what is kept of them.
+
+ghost use Rattle.std.specs.Prelude.{◌≡◌, ◌<◌, ◌≤◌, ◌+◌, ◌-◌, ◌^◌, length, [], ◌∷◌, OnOk, OnErr, IfOk, Some, None, true, false, drop, if◌then◌else◌, slice_index_or, nat_lt, nat_le, ◌&&◌, not, pos, count_by};
+ghost use Rattle.sts_code.specs.Program.{routine};
+ghost use Rattle.sts_model.specs.Cancelling as cancelling;
+ghost use Rattle.sts_model.specs.Effect as effect;
+ghost use Rattle.sts_model.specs.Joining as joining;
+ghost use Rattle.sts_model.specs.Living as living;
+ghost use Rattle.sts_model.specs.Local as frames;
+ghost use Rattle.sts_model.specs.Misuse as misuse;
+ghost use Rattle.sts_model.specs.Outside as outside;
+ghost use Rattle.sts_model.specs.Standing as standing;
+ghost use Rattle.sts_model.specs.World as def;
+ghost use Rattle.sts_model.specs.declared.event.Phase.TheVariants.{Attempted};
+ghost use Rattle.sts_world.specs.Kept as kept;
+ghost use Rattle.sts_world.specs.Lines.{lines};
+
+use crate::family::Family;
+use crate::records::Records;
+use std::alloc::{AllocError, Global};
+use std::marker::Model;
+use sts_code::instr::{Instr, Joiner, Kind};
+use sts_code::program::Program;
+use sts_joiners::tally::Tally;
+use sts_model::event::{End, Phase, Verdict};
+use sts_model::record::Slot;
+
+/// The tasks and scopes: contracts see the two lists of all that were ever born.
+///
+/// Beside them it keeps of each scope its subtasks, how many of them live and its joiner's tally, and how many tasks and
+/// scopes stand, so that no call walks over all tasks.
+#[derive(Drop)]
+pub struct World {
+    records: Records,
+    families: Vec<Family>,
+    tallies: Vec<Tally>,
+    standing_tasks: usize,
+    standing_scopes: usize,
+}
+
+impl Model for World {
+    ghost use Rattle.sts_model.specs.World.{World};
+
+    ghost Value = { World };
+
+    ghost view = { λ w. w.records };
+
+    ghost use Rattle.sts_world.specs.Kept.{IsKept};
+    ghost use Rattle.sts_world.specs.Lines.{lines};
+
+    ghost invariant = { λ w. IsKept (lines w.records) w.families.items w.tallies.items w.standing_tasks w.standing_scopes };
+}
+
+/// The number, or 0 where the scope is closed.
+fn unless(closed: bool, n: usize) -> usize
+    ensures { result ≡ (if closed then 0 else n) }
+{
+    if closed { 0 } else { n }
+}
+
+fn is_closed(phase: Phase) -> bool
+    ensures { result ≡ living.is_closed phase }
+{
+    matches!(phase, Phase::Closed)
+}
+
+/// The birth numbers of a scope's subtasks.
+fn births(families: &[Family], s: u32) -> &[u32]
+    ensures { result.now ≡ (slice_index_or families.now s kept.no_family).births }
+{
+    match families.get(s as usize) {
+        Some(family) => family.births(),
+        None => &[],
+    }
+}
+
+/// Does a subtask of the scope live?
+fn any_lives(families: &[Family], s: u32) -> bool
+    ensures { result ≡ nat_lt 0 (slice_index_or families.now s kept.no_family).living }
+{
+    match families.get(s as usize) {
+        Some(family) => family.any_lives(),
+        None => false,
+    }
+}
+
+// ---- what is read
+
+impl World {
+    /// The tasks and scopes themselves.
+    pub fn records(&self) -> &Records
+        ensures { result.now ≡ self.now }
+    {
+        &self.records
+    }
+
+    /// How many tasks stand.
+    #[tactic(auto, using(crate::proofs::Finds::finds_tasks))]
+    pub fn standing_tasks(&self) -> usize
+        ensures value { result ≡ standing.standing_tasks self.now }
+        ensures few { result ≤ 1000000 }
+    {
+        let records = &self.records;
+        // At most so many tasks are ever born.
+        let _ = &records.tasks;
+        self.standing_tasks
+    }
+
+    /// How many scopes stand.
+    #[tactic(auto, using(crate::proofs::Finds::finds_scopes))]
+    pub fn standing_scopes(&self) -> usize
+        ensures value { result ≡ standing.standing_scopes self.now }
+        ensures few { result ≤ 1000000 }
+    {
+        let records = &self.records;
+        // At most so many scopes are ever born.
+        let _ = &records.scopes;
+        self.standing_scopes
+    }
+
+    /// How many subtasks a scope has.
+    pub fn subtask_count(&self, s: u32) -> usize
+        ensures value { result ≡ living.subtask_count self.now s }
+        ensures few { result ≤ 1000000 }
+    {
+        let records = &self.records;
+        // At most so many tasks are ever born.
+        let _ = &records.tasks;
+        births(&self.families, s).len()
+    }
+
+    /// Does a subtask of the scope live?
+    pub fn any_lives(&self, s: u32) -> bool
+        ensures { result ≡ living.any_lives self.now s }
+    {
+        any_lives(&self.families, s)
+    }
+
+    /// How many subtasks completed as successes, and how many as failures.
+    fn completed(&self, s: u32) -> (u32, u32)
+        ensures { result ≡ (count_by joining.is_success (living.ends (def.scope_at self.now s)), count_by joining.is_failure (living.ends (def.scope_at self.now s))) }
+    {
+        match self.tallies.get(s as usize) {
+            Some(tally) => (tally.successes(), tally.failures()),
+            None => (0, 0),
+        }
+    }
+
+    /// How many ends a scope was told of.
+    fn told(&self, s: u32) -> usize
+        ensures { result ≡ length (def.scope_at self.now s).completions }
+    {
+        let (successes, failures) = self.completed(s);
+        successes as usize + failures as usize
+    }
+
+    /// How many subtasks are in a state.
+    pub fn tally(&self, s: u32, kind: Kind) -> i64
+        ensures { result ≡ pos (effect.tally self.now s kind) }
+    {
+        match kind {
+            Kind::S => i64::from(self.completed(s).0),
+            Kind::F => i64::from(self.completed(s).1),
+            Kind::U => self.subtask_count(s).saturating_sub(self.told(s)) as i64,
+        }
+    }
+
+    /// The sum of the values of the subtasks that succeeded.
+    pub fn total(&self, s: u32) -> i64
+        ensures { result ≡ effect.total self.now s }
+    {
+        match self.tallies.get(s as usize) {
+            Some(tally) => tally.total(),
+            None => 0,
+        }
+    }
+
+    /// The joiner's answer.
+    fn verdict(&self, s: u32) -> Verdict
+        ensures { result ≡ joining.result_of (def.scope_at self.now s).joiner (living.ends (def.scope_at self.now s)) (living.subtask_count self.now s) }
+    {
+        let count = self.subtask_count(s) as u32;
+        match self.tallies.get(s as usize) {
+            Some(tally) => tally.result(count),
+            None => Verdict::Ok(None),
+        }
+    }
+}
+
+// ---- what is written into the frame of one task
+
+impl World {
+    /// Pops `n` operands and goes to `to`.
+    pub fn goes(&mut self, t: u32, to: u32, n: usize)
+        requires born { t < length self.old.tasks }
+        ensures { self.new ≡ def.with_frame self.old t (frames.goes (def.task_at self.old t).frame to n []) }
+    {
+        self.records.goes(t, to, n);
+    }
+
+    /// Pops `n` operands, pushes a value and goes to `to`.
+    pub fn goes_with(&mut self, t: u32, to: u32, n: usize, value: i64)
+        requires born { t < length self.old.tasks }
+        requires room { length (def.task_at self.old t).frame.operands - n < 32 }
+        ensures { self.new ≡ def.with_frame self.old t (frames.goes (def.task_at self.old t).frame to n (value ∷ [])) }
+    {
+        self.records.goes_with(t, to, n, value);
+    }
+
+    /// Does a local instruction.
+    pub fn local(&mut self, program: &Program, t: u32, instr: Instr)
+        requires born { t < length self.old.tasks }
+        requires at { def.instr_at program.now (def.task_at self.old t).frame ≡ Some instr }
+        requires more { (def.task_at self.old t).frame.pc + 1 < 2 ^ 32 }
+        requires short { length (def.code program.now (def.task_at self.old t).frame) < 2 ^ 32 }
+        requires is_local { frames.is_local instr ≡ true }
+        requires room { misuse.overflows program.now (def.task_at self.old t).frame instr ≡ false }
+        requires loops { misuse.breaks_loop program.now (def.task_at self.old t).frame instr ≡ false }
+        ensures { self.new ≡ def.with_frame self.old t (frames.local (def.code program.now (def.task_at self.old t).frame) instr (def.task_at self.old t).frame) }
+    {
+        self.records.local(program, t, instr);
+    }
+
+    /// Empties a slot.
+    pub fn forget(&mut self, t: u32, x: u8)
+        requires born { t < length self.old.tasks }
+        requires more { (def.task_at self.old t).frame.pc + 1 < 2 ^ 32 }
+        ensures { self.new ≡ effect.forget self.old t (def.task_at self.old t).frame x }
+    {
+        self.records.forget(t, x);
+    }
+
+    /// Binds a key to the popped operand.
+    pub fn bind(&mut self, t: u32, k: u8)
+        requires born { t < length self.old.tasks }
+        requires more { (def.task_at self.old t).frame.pc + 1 < 2 ^ 32 }
+        requires entries { length (def.task_at self.old t).frame.entries < 16 }
+        ensures { self.new ≡ effect.bind self.old t (def.task_at self.old t).frame k }
+    {
+        self.records.bind(t, k);
+    }
+
+    /// Ends the innermost binding.
+    pub fn unbind(&mut self, t: u32)
+        requires born { t < length self.old.tasks }
+        requires more { (def.task_at self.old t).frame.pc + 1 < 2 ^ 32 }
+        ensures { self.new ≡ effect.unbind self.old t (def.task_at self.old t).frame }
+    {
+        self.records.unbind(t);
+    }
+
+    /// Pushes the flag and clears it.
+    pub fn take_flag(&mut self, t: u32)
+        requires born { t < length self.old.tasks }
+        requires more { (def.task_at self.old t).frame.pc + 1 < 2 ^ 32 }
+        requires room { length (def.task_at self.old t).frame.operands < 32 }
+        ensures { self.new ≡ effect.take_flag self.old t (def.task_at self.old t).frame }
+    {
+        self.records.take_flag(t);
+    }
+
+    /// Sets the flag of a living task.
+    pub fn interrupt(&mut self, t: u32)
+        ensures { self.new ≡ outside.interrupt self.old t }
+    {
+        self.records.interrupt(t);
+    }
+}
+
+// ---- cancelling
+
+impl World {
+    /// Cancels a scope, if it is not cancelled: the flags of its living subtasks are set.
+    pub fn cancel(&mut self, s: u32)
+        ensures { self.new ≡ cancelling.cancel self.old s }
+    {
+        self.records.cancel(s, births(&self.families, s));
+    }
+
+    /// Marks a timed scope as expired and cancels it, if it may expire now.
+    pub fn expire(&mut self, s: u32)
+        ensures { self.new ≡ outside.expire self.old s }
+    {
+        if self.records.can_expire(s) {
+            self.set_expired(s);
+            self.cancel(s);
+        }
+    }
+
+    fn set_expired(&mut self, s: u32)
+        ensures { self.new ≡ def.with_scope self.old s (record (def.scope_at self.old s) { expired = true }) }
+    {
+        self.records.set_expired(s);
+    }
+}
+
+// ---- phases
+
+impl World {
+    /// Sets the phase of a scope. Where it is closed, its subtasks and the scope no longer stand.
+    fn set_phase(&mut self, s: u32, phase: Phase)
+        ensures { self.new ≡ effect.with_phase self.old s phase }
+    {
+        if (s as usize) < self.records.scopes_born() {
+            let subtasks = self.subtask_count(s);
+            let tasks = self.standing_tasks();
+            let scopes = self.standing_scopes();
+            let was_closed = is_closed(self.records.phase(s));
+            let closed = is_closed(phase);
+            self.records.set_phase(s, phase);
+            self.standing_tasks = tasks + unless(closed, subtasks) - unless(was_closed, subtasks);
+            self.standing_scopes = scopes + unless(closed, 1) - unless(was_closed, 1);
+        }
+    }
+}
+
+// ---- the end of a task
+
+impl World {
+    /// Sets the end of a living task, and tells nobody.
+    fn set_end(&mut self, t: u32, end: End)
+        requires born { t < length self.old.tasks }
+        requires lives { living.lives (def.task_at self.old t) ≡ true }
+        requires more { (def.task_at self.old t).frame.pc + 1 < 2 ^ 32 }
+        ensures { self.new ≡ effect.ended self.old t (def.task_at self.old t).frame end }
+    {
+        let parent = self.records.parent(t);
+        self.records.set_end(t, end);
+        match parent {
+            None => {}
+            Some(s) => self.families[s as usize].lose(),
+        }
+    }
+
+    /// Ends a living subtask of a scope that is told of it, and answers whether the scope's joiner now asks to cancel it.
+    fn complete(&mut self, t: u32, s: u32, end: End) -> Result<bool, AllocError>
+        requires born { t < length self.old.tasks }
+        requires lives { living.lives (def.task_at self.old t) ≡ true }
+        requires in_scope { (def.task_at self.old t).scope ≡ Some s }
+        requires more { (def.task_at self.old t).frame.pc + 1 < 2 ^ 32 }
+        ensures ok { OnOk result (self.new ≡ effect.ended (def.with_scope self.old s (effect.told (def.scope_at self.old s) t end)) t (def.task_at self.old t).frame end) }
+        ensures asks { IfOk result (λ asks. asks ≡ joining.cancels (def.scope_at self.new s).joiner (living.ends (def.scope_at self.new s))) }
+        ensures err { OnErr result (self.new ≡ self.old) }
+    {
+        self.records.tell(s, t, end)?;
+        self.records.set_end(t, end);
+        self.families[s as usize].lose();
+        Ok(self.tallies[s as usize].on_complete(end))
+    }
+
+    /// Ends a living task.
+    #[tactic(auto, unfolding(sts_model::specs::Effect::end_task))]
+    pub fn end_task(&mut self, t: u32, end: End) -> Result<(), AllocError>
+        requires born { t < length self.old.tasks }
+        requires lives { living.lives (def.task_at self.old t) ≡ true }
+        requires more { (def.task_at self.old t).frame.pc + 1 < 2 ^ 32 }
+        ensures ok { OnOk result (self.new ≡ effect.end_task self.old t (def.task_at self.old t).frame end) }
+        ensures err { OnErr result (self.new ≡ self.old) }
+    {
+        match self.records.parent(t) {
+            None => {
+                self.set_end(t, end);
+            }
+            Some(s) => {
+                if self.records.is_cancelled(s) {
+                    self.set_end(t, end);
+                } else {
+                    if self.complete(t, s, end)? {
+                        self.cancel(s);
+                    }
+                }
+            }
+        }
+        Ok(())
+    }
+}
+
+// ---- join and close
+
+impl World {
+    /// An outcome of `join` that pushes nothing.
+    fn joined(&mut self, t: u32, s: u32, to: u32)
+        requires born { t < length self.old.tasks }
+        ensures { self.new ≡ effect.joined self.old t s (frames.goes (def.task_at self.old t).frame to 0 []) }
+    {
+        self.set_phase(s, Phase::Joined);
+        self.goes(t, to, 0);
+    }
+
+    /// An outcome of `join` that pushes a value.
+    fn joined_with(&mut self, t: u32, s: u32, to: u32, value: i64)
+        requires born { t < length self.old.tasks }
+        requires room { length (def.task_at self.old t).frame.operands < 32 }
+        ensures { self.new ≡ effect.joined self.old t s (frames.goes (def.task_at self.old t).frame to 0 (value ∷ [])) }
+    {
+        self.set_phase(s, Phase::Joined);
+        self.goes_with(t, to, 0, value);
+    }
+
+    /// `join` is interrupted.
+    fn attempted(&mut self, t: u32, s: u32, to: u32)
+        requires born { t < length self.old.tasks }
+        ensures { self.new ≡ def.with_task (effect.with_phase self.old s Attempted) t (record (def.task_at self.old t) { frame = frames.goes (def.task_at self.old t).frame to 0 []; flag = false }) }
+    {
+        self.set_phase(s, Phase::Attempted);
+        self.leave_join(t, to);
+    }
+
+    fn leave_join(&mut self, t: u32, to: u32)
+        requires born { t < length self.old.tasks }
+        ensures { self.new ≡ def.with_task self.old t (record (def.task_at self.old t) { frame = frames.goes (def.task_at self.old t).frame to 0 []; flag = false }) }
+    {
+        self.records.leave_join(t, to);
+    }
+
+    /// The answer of `join` once there is one.
+    #[tactic(auto, using(crate::proofs::Verdicts::ok_pushes, crate::proofs::Verdicts::failed_pushes), unfolding(sts_model::specs::Effect::join_scope))]
+    pub fn join(&mut self, t: u32, s: u32, failed: u32, timeout: u32, interrupted: u32)
+        requires born { t < length self.old.tasks }
+        requires more { (def.task_at self.old t).frame.pc + 1 < 2 ^ 32 }
+        requires room { (nat_le 32 (length (def.task_at self.old t).frame.operands) && not (misuse.is_await_all (def.scope_at self.old s).joiner)) ≡ false }
+        ensures { self.new ≡ effect.join_scope self.old t (def.task_at self.old t).frame s failed timeout interrupted }
+    {
+        if self.records.is_expired(s) {
+            self.joined(t, s, timeout);
+        } else if self.records.is_cancelled(s) || !self.any_lives(s) {
+            match self.verdict(s) {
+                Verdict::Ok(None) => {
+                    let next = self.records.frame(t).pc + 1;
+                    self.joined(t, s, next);
+                }
+                Verdict::Ok(Some(value)) => {
+                    let next = self.records.frame(t).pc + 1;
+                    self.joined_with(t, s, next, value);
+                }
+                Verdict::Failed(code) => self.joined_with(t, s, failed, code),
+            }
+        } else {
+            self.attempted(t, s, interrupted);
+        }
+    }
+
+    /// A step of `close`.
+    #[tactic(auto, unfolding(sts_model::specs::Effect::close_scope))]
+    pub fn close(&mut self, t: u32, s: u32)
+        requires born { t < length self.old.tasks }
+        requires more { (def.task_at self.old t).frame.pc + 1 < 2 ^ 32 }
+        ensures { self.new ≡ effect.close_scope self.old t (def.task_at self.old t).frame s }
+    {
+        self.cancel(s);
+        if self.any_lives(s) {
+            self.set_phase(s, Phase::Closing);
+        } else {
+            self.end_close(t, s);
+        }
+    }
+
+    fn end_close(&mut self, t: u32, s: u32)
+        requires born { t < length self.old.tasks }
+        requires more { (def.task_at self.old t).frame.pc + 1 < 2 ^ 32 }
+        ensures { self.new ≡ effect.closed self.old t (def.task_at self.old t).frame s }
+    {
+        let slots = self.records.cleared(t, s);
+        self.set_phase(s, Phase::Closed);
+        self.leave_close(t, slots);
+    }
+
+    fn leave_close(&mut self, t: u32, slots: [Slot; 16])
+        requires born { t < length self.old.tasks }
+        requires more { (def.task_at self.old t).frame.pc + 1 < 2 ^ 32 }
+        ensures { self.new ≡ def.with_frame self.old t (record (frames.steps (def.task_at self.old t).frame 0 []) { entries = drop 1 (def.task_at self.old t).frame.entries; slots = slots }) }
+    {
+        self.records.leave_close(t, slots);
+    }
+}
+
+// ---- births
+
+impl World {
+    /// The root task alone.
+    pub fn opening(alloc: Global, program: &Program) -> Result<World, AllocError>
+        ensures { IfOk result (λ w. def.opening program.now ≡ def.Running w) }
+    {
+        let records = Records::opening(alloc, program)?;
+        Ok(World {
+            records,
+            families: Vec::new(alloc),
+            tallies: Vec::new(alloc),
+            standing_tasks: 1,
+            standing_scopes: 0,
+        })
+    }
+
+    /// Opens a scope.
+    pub fn open_scope(
+        &mut self,
+        alloc: Global,
+        t: u32,
+        slot: u8,
+        joiner: Joiner,
+        timed: bool,
+    ) -> Result<(), AllocError>
+        requires born { t < length self.old.tasks }
+        requires more { (def.task_at self.old t).frame.pc + 1 < 2 ^ 32 }
+        requires room { length self.old.scopes < 1000000 }
+        requires entries { length (def.task_at self.old t).frame.entries < 16 }
+        ensures ok { OnOk result (self.new ≡ effect.open_scope self.old t (def.task_at self.old t).frame slot joiner timed) }
+        ensures err { OnErr result (self.new ≡ self.old) }
+    {
+        self.families.reserve(1)?;
+        self.tallies.reserve(1)?;
+        let scopes = self.standing_scopes();
+        self.records.open_scope(alloc, t, slot, joiner, timed)?;
+        self.families.push(Family::new(alloc))?;
+        self.tallies.push(Tally::new(joiner))?;
+        self.standing_scopes = scopes + 1;
+        Ok(())
+    }
+
+    /// Makes a subtask of a scope that is open.
+    pub fn fork_task(
+        &mut self,
+        program: &Program,
+        t: u32,
+        s: u32,
+        function: u32,
+        handle: Option<u8>,
+    ) -> Result<(), AllocError>
+        requires born { t < length self.old.tasks }
+        requires more { (def.task_at self.old t).frame.pc + 1 < 2 ^ 32 }
+        requires room { length self.old.tasks < 1000000 }
+        requires enough { (routine program.now function).args ≤ length (def.task_at self.old t).frame.operands }
+        requires opened { living.is_closed (def.scope_at self.old s).phase ≡ false }
+        requires few { standing.standing_tasks self.old < 65536 }
+        ensures ok { OnOk result (self.new ≡ effect.fork_task program.now self.old t (def.task_at self.old t).frame s function handle) }
+        ensures err { OnErr result (self.new ≡ self.old) }
+    {
+        let child = self.records.tasks_born() as u32;
+        let started = !self.records.is_cancelled(s);
+        let tasks = self.standing_tasks();
+        self.families[s as usize].add(child, started)?;
+        if let Err(error) = self.records.fork_task(program, t, s, function, handle) {
+            self.families[s as usize].take_back(started);
+            return Err(error);
+        }
+        self.standing_tasks = tasks + 1;
+        Ok(())
+    }
+}
