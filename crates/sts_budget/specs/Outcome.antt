@@ -1,4 +1,4 @@
--- What the search for the budgets of a function answers (this project's own).
+-- What is answered where the budgets of a function are asked for (this project's own).
 use Rattle.std.specs.Prelude.{◌≡◌, ◌≤◌, ℕ, List, Result, Ok, Err}
 use Rattle.sts_code.specs.declared.instr.Instr.{Instr}
 use Rattle.sts_model.specs.declared.typing.Cause.{Cause}

@@ -1,5 +1,5 @@
 -- Function by function.
-use Rattle.std.proofs.Common.{◌≡◌, ℕ, zero, suc, ◌+◌, ◌<◌, ◌≤◌, ◌⊎◌, inl, inr, List, [], ◌∷◌, ◌++◌, length, take, get_or, Result, Err, arith, subst, sym, ap, refl, length-append, length-take-le}
+use Rattle.std.proofs.Common.{◌≡◌, ℕ, zero, suc, ◌+◌, ◌<◌, ◌≤◌, ◌⊎◌, inl, inr, List, [], ◌∷◌, ◌++◌, length, take, get_or, Err, arith, subst, sym, ap, refl, length-append, length-take-le}
 use Rattle.std.proofs.lemmas.Bool.{cases_lt}
 use Rattle.sts_code.specs.Program.{Program, routine}
 use Rattle.sts_budget.specs.declared.budget.BudgetError.{BudgetError}

@@ -6,6 +6,7 @@ use std::alloc::Global;
 use std::test::Fail;
 use sts_code::instr::{Instr, Joiner};
 use sts_code::program::{Function, Program};
+use sts_model::budget::Budgets;
 use sts_types::pass::type_function;
 
 fn function(alloc: Global, name: &str, code: &[Instr]) -> Result<Function, Fail> {
@@ -112,5 +113,108 @@ fn the_least_place_and_cause_are_told(rt: HostRuntime) -> Result<(), Fail> {
         refusal(alloc, [Instr::Jmp(0)].as_slice())?,
         Some((1, 0, 4))
     );
+    Ok(())
+}
+
+/// The budgets of `main`; none where it is refused or memory was.
+fn budgets(alloc: Global, code: &[Instr]) -> Result<Option<Budgets>, Fail> {
+    match verify(alloc, program_of(alloc, code)?) {
+        Ok(verified) => {
+            if verified.program().functions().len() == 2 {
+                Ok(Some(verified.budgets(1)))
+            } else {
+                Ok(None)
+            }
+        }
+        Err(_) => Ok(None),
+    }
+}
+
+static SCOPE_IN_A_LOOP: [Instr; 11] = [
+    Instr::Push(1000),
+    Instr::Times(1000),
+    OPEN,
+    FORK,
+    Instr::Join {
+        slot: 0,
+        failed: None,
+        timeout: None,
+        interrupted: 7,
+    },
+    Instr::Close(0),
+    Instr::Jmp(8),
+    Instr::Close(0),
+    Instr::Next,
+    Instr::Push(5),
+    Instr::Ret,
+];
+
+static BINDING_IN_LOOPS: [Instr; 11] = [
+    Instr::Push(10),
+    Instr::Times(10),
+    Instr::Push(10000),
+    Instr::Times(10000),
+    Instr::Push(1),
+    Instr::Bind(0),
+    Instr::Unbind,
+    Instr::Next,
+    Instr::Next,
+    Instr::Push(0),
+    Instr::Ret,
+];
+
+static CROWD: [Instr; 15] = [
+    OPEN,
+    Instr::Push(7),
+    Instr::Times(7),
+    Instr::Push(10000),
+    Instr::Times(10000),
+    FORK,
+    Instr::Next,
+    Instr::Next,
+    Instr::Join {
+        slot: 0,
+        failed: None,
+        timeout: None,
+        interrupted: 12,
+    },
+    Instr::Close(0),
+    Instr::Push(1),
+    Instr::Ret,
+    Instr::Push(0),
+    Instr::Close(0),
+    Instr::Fail,
+];
+
+#[test]
+fn budgets_are_the_most_at_a_time(rt: HostRuntime) -> Result<(), Fail> {
+    let alloc = rt.alloc();
+    let scope_in_a_loop = Budgets {
+        steps: 9004,
+        tasks: 2,
+        scopes: 1,
+        binds: 0,
+    };
+    assert_eq!(rt;
+        budgets(alloc, SCOPE_IN_A_LOOP.as_slice())?,
+        Some(scope_in_a_loop)
+    );
+    let binding_in_loops = Budgets {
+        steps: 400_034,
+        tasks: 1,
+        scopes: 0,
+        binds: 1,
+    };
+    assert_eq!(rt;
+        budgets(alloc, BINDING_IN_LOOPS.as_slice())?,
+        Some(binding_in_loops)
+    );
+    Ok(())
+}
+
+#[test]
+fn too_much_is_told_behind_the_last_instruction(rt: HostRuntime) -> Result<(), Fail> {
+    let alloc = rt.alloc();
+    assert_eq!(rt; refusal(alloc, CROWD.as_slice())?, Some((1, 15, 18)));
     Ok(())
 }

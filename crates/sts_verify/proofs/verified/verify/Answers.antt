@@ -1,6 +1,6 @@
-use Rattle.std.proofs.Common.{◌≡◌, ◌+◌, ◌<◌, ◌≤◌, length, refl, sym, ap, arith, subst}
+use Rattle.std.proofs.Common.{length, sym, ap, arith, subst}
 use Rattle.sts_verify.specs.Verifying.{Tells}
-use Rattle.sts_verify.proofs.Verifying.{sound_more, accepts, tells}
+use Rattle.sts_verify.proofs.Verifying.{tells}
 use Rattle.sts_verify.proofs.verified.verify.Goals as goal
 
 pub returns-in-Err : goal.returns-in-Err

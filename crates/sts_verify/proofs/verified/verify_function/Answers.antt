@@ -1,7 +1,6 @@
-use Rattle.std.proofs.Common.{◌≡◌, ◌<◌, ◌≤◌, ◌+◌, ℕ, List, [], ◌∷◌, ◌++◌, length, Ok, Err, sym, ap, ◌∙◌, subst, arith}
+use Rattle.std.proofs.Common.{◌≡◌, [], ◌∷◌, ◌++◌, length, Ok, Err, sym, ap, ◌∙◌, subst, arith}
 use Rattle.sts_code.specs.Program.{routine}
-use Rattle.sts_model.specs.declared.budget.Budgets.{Budgets}
-use Rattle.sts_model.specs.Budget.{AreBudgets, IsBudget}
+use Rattle.sts_model.specs.Budget.{AreBudgets}
 use Rattle.sts_model.specs.Refusal.{IsSound}
 use Rattle.sts_budget.specs.Outcome.{IsFound}
 use Rattle.sts_budget.proofs.Checked.{is_checked}

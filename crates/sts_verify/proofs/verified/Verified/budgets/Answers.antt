@@ -1,4 +1,4 @@
-use Rattle.std.proofs.Common.{◌≡◌, ◌<◌, length, get_or, sym, ap, ◌∙◌, subst, arith}
+use Rattle.std.proofs.Common.{◌<◌, length, ap, ◌∙◌, subst, arith}
 use Rattle.sts_code.specs.Program.{Program}
 use Rattle.sts_model.specs.Budget.{no_budget}
 use Rattle.sts_model.specs.Refusal.{IsBudgetOf}
