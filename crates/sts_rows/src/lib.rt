@@ -2,6 +2,8 @@
 #![tactic(auto)]
 
 #[cfg(test)]
+mod causes;
+#[cfg(test)]
 mod environments;
 #[cfg(test)]
 mod first_path;
@@ -27,5 +29,7 @@ mod texts;
 mod timeouts;
 #[cfg(test)]
 mod traces;
+#[cfg(test)]
+mod verdicts;
 #[cfg(test)]
 mod writing;

@@ -33,6 +33,27 @@ pub fn lines(alloc: Global, short: &str) -> Result<String, AllocError> {
     Ok(text)
 }
 
+/// Lines, and how many times they stand one after the other.
+#[derive(Clone, Copy)]
+pub struct Part(pub u16, pub &'static str);
+
+fn push_part(text: &mut String, alloc: Global, part: &Part) -> Result<(), AllocError> {
+    let once = lines(alloc, part.1)?;
+    for _ in 0..part.0 {
+        text.push_str(once.as_str())?;
+    }
+    Ok(())
+}
+
+/// The text of parts.
+pub fn assembled(alloc: Global, parts: &[Part]) -> Result<String, AllocError> {
+    let mut text = String::new(alloc);
+    for part in parts {
+        push_part(&mut text, alloc, part)?;
+    }
+    Ok(text)
+}
+
 /// As many lines as the second number says, each a step of the task that the first number says.
 fn push_steps(trace: &mut String, steps: &str) -> Result<(), Fail> {
     let (task, count) = steps.split_once("*").ok_or("no steps")?;
@@ -85,6 +106,26 @@ pub fn plays<R: Abort>(
     Ok(())
 }
 
+/// Verifies a text of parts, and compares what is printed and the status.
+pub fn verifies<R: Abort>(
+    rt: &R,
+    alloc: Global,
+    name: &str,
+    parts: &[Part],
+    want: (&str, u8),
+) -> Result<(), Fail> {
+    let text = assembled(alloc, parts)?;
+    let output = lines(alloc, want.0)?;
+    plays(
+        rt,
+        alloc,
+        name,
+        Mode::Verify,
+        (text.as_bytes(), b""),
+        (output.as_str(), want.1),
+    )
+}
+
 /// Plays each row.
 pub fn walk<R: Abort>(rt: &R, alloc: Global, rows: &[Row]) -> Result<(), Fail> {
     for row in rows {
@@ -109,6 +150,8 @@ fn short_forms_stand_for_their_lines(rt: HostRuntime) -> Result<(), Fail> {
     assert_eq!(rt; lines(alloc, "a 1 /   b / c:")?.as_str(), "a 1\n  b\nc:\n");
     assert_eq!(rt; lines(alloc, "")?.as_str(), "");
     assert_eq!(rt; lines(alloc, " / a")?.as_str(), "\na\n");
+    let parts = [Part(1, "a 1"), Part(2, "b / c:"), Part(0, "d")];
+    assert_eq!(rt; assembled(alloc, &parts)?.as_str(), "a 1\nb\nc:\nb\nc:\n");
     let trace = events(alloc, "0*2 i12 x3 1*1")?;
     assert_eq!(rt;
         trace.as_str(),

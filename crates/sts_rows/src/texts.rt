@@ -128,26 +128,28 @@ fn rows_hold(rt: HostRuntime) -> Result<(), Fail> {
     walk(&rt, rt.alloc(), &ROWS)
 }
 
-#[test]
-fn a_listing_tells_the_same_faults(rt: HostRuntime) -> Result<(), Fail> {
-    let alloc = rt.alloc();
+/// Plays each row in another mode, and expects the same.
+fn same_faults<R: Abort>(rt: &R, alloc: Global, mode: Mode) -> Result<(), Fail> {
     for row in &ROWS {
         let text = lines(alloc, row.text)?;
         let output = lines(alloc, row.output)?;
         let want = (output.as_str(), row.status);
-        plays(
-            &rt,
-            alloc,
-            row.name,
-            Mode::List,
-            (text.as_bytes(), b""),
-            want,
-        )?;
+        plays(rt, alloc, row.name, mode, (text.as_bytes(), b""), want)?;
     }
     Ok(())
 }
 
-/// Plays a text without a trace, and expects a fault of the text.
+#[test]
+fn a_listing_tells_the_same_faults(rt: HostRuntime) -> Result<(), Fail> {
+    same_faults(&rt, rt.alloc(), Mode::List)
+}
+
+#[test]
+fn a_verification_tells_the_same_faults(rt: HostRuntime) -> Result<(), Fail> {
+    same_faults(&rt, rt.alloc(), Mode::Verify)
+}
+
+/// Plays and verifies a text without a trace, and expects the same fault of the text.
 fn refused<R: Abort>(
     rt: &R,
     alloc: Global,
@@ -155,7 +157,10 @@ fn refused<R: Abort>(
     text: &[u8],
     output: &str,
 ) -> Result<(), Fail> {
-    plays(rt, alloc, name, Mode::Plain, (text, b""), (output, 3))
+    for mode in [Mode::Plain, Mode::Verify] {
+        plays(rt, alloc, name, mode, (text, b""), (output, 3))?;
+    }
+    Ok(())
 }
 
 #[test]
@@ -228,17 +233,21 @@ fn an_instruction_more_than_a_function_may_have(rt: HostRuntime) -> Result<(), F
     )
 }
 
-/// Every beginning is refused but the one that lacks only the last newline.
-#[test]
-fn a_text_that_is_cut_off(rt: HostRuntime) -> Result<(), Fail> {
-    let alloc = rt.alloc();
-    let whole = lines(alloc, TWO_SUBTASKS)?;
-    let text = whole.as_bytes();
+/// Every beginning is refused but the one that lacks only the last newline; that one's status is given.
+fn cut_off<R: Abort>(rt: &R, alloc: Global, mode: Mode, whole: u8) -> Result<(), Fail> {
+    let text = lines(alloc, TWO_SUBTASKS)?;
+    let text = text.as_bytes();
     for end in 0..text.len() {
         let mut printed = Vec::new(alloc);
-        let status = play(alloc, Mode::Plain, &text[..end], b"", &mut printed)?;
-        let want = if end + 1 == text.len() { 5 } else { 3 };
+        let status = play(alloc, mode, &text[..end], b"", &mut printed)?;
+        let want = if end + 1 == text.len() { whole } else { 3 };
         assert_eq!(rt; status, want, "the first {end} bytes");
     }
     Ok(())
+}
+
+#[test]
+fn a_text_that_is_cut_off(rt: HostRuntime) -> Result<(), Fail> {
+    cut_off(&rt, rt.alloc(), Mode::Plain, 5)?;
+    cut_off(&rt, rt.alloc(), Mode::Verify, 0)
 }
