@@ -1,6 +1,6 @@
 //! What an instruction makes of a typestate, where no cause holds.
 
-ghost use Rattle.std.specs.Prelude.{◌≡◌, ◌<◌, ◌≤◌, ◌-◌, ◌+◌, ◌∷◌, length, drop, map, true, slice_set, slice_get, if◌then◌else◌, List, Some};
+ghost use Rattle.std.specs.Prelude.{◌≡◌, ◌<◌, ◌≤◌, ◌-◌, ◌+◌, ◌∷◌, length, drop, map, true, slice_set, slice_get, if◌then◌else◌, List, [], Some, IfSome};
 ghost use Rattle.sts_states.specs.Room.{HasRoom};
 ghost use Rattle.sts_model.specs.Around as around;
 ghost use Rattle.sts_model.specs.Edges as def;
@@ -287,6 +287,37 @@ impl TypeState {
         let mut after = self.copy();
         after.entries.drop_top(1);
         after
+    }
+
+    /// Where an instruction leads that has one edge and changes no more than the number of operands: the place, and the
+    /// number there.
+    pub fn moves_to(&self, program: &Program, pc: u32, instr: Instr) -> Option<(u32, u8)>
+        requires pc { pc < 4096 }
+        requires room { HasRoom program.now instr self.now }
+        ensures edge { (code : List Instr) → IfSome result (λ e. def.follows program.now code pc instr self.now ≡ (e.0, record self.now { height = e.1 }) ∷ []) }
+        ensures few { IfSome result (λ e. e.1 ≤ 32) }
+    {
+        match instr {
+            Instr::Jmp(to) => Some((to, self.height)),
+            Instr::Div(_)
+            | Instr::Jz(_)
+            | Instr::Times(_)
+            | Instr::Next
+            | Instr::Open { .. }
+            | Instr::Fork { .. }
+            | Instr::Join { .. }
+            | Instr::Close(_)
+            | Instr::Case { .. }
+            | Instr::Forget(_)
+            | Instr::Bind(_)
+            | Instr::Unbind
+            | Instr::Ret
+            | Instr::Fail => None,
+            _ => Some((
+                pc + 1,
+                self.height.saturating_sub(pops(program, instr)) + pushes(instr),
+            )),
+        }
     }
 
     /// The typestate at the next instruction, where that may follow.
