@@ -1,18 +1,16 @@
 -- Comparing typestates decides whether they are the same.
-use Rattle.std.proofs.Common.{◌≡◌, ℕ, ℤ, List, [], ◌∷◌, Bool, true, false, ◌&&◌, ◌↔◌, IsTrue, arith, refl, sym, ap, ◌∙◌, subst, reverse, eqb, eqb-true, eq-eqb}
+use Rattle.std.proofs.Common.{◌≡◌, ℕ, List, [], ◌∷◌, Bool, true, false, ◌&&◌, ◌↔◌, IsTrue, arith, refl, sym, ap, ◌∙◌, subst, reverse, eqb, eqb-true, eq-eqb}
 use Rattle.std.proofs.lemmas.Bool.Decides.{Decides-int_eq}
 use Rattle.std.proofs.lemmas.List.{reverse-reverse}
 use lib.Pointwise.{pointwise}
 use Rattle.sts_code.specs.declared.instr.Pred.{Pred}
 use Rattle.sts_code.specs.declared.instr.Pred.TheVariants as pred
 use Rattle.sts_code.specs.declared.instr.Joiner.{Joiner}
-use Rattle.sts_code.specs.declared.instr.Joiner.TheVariants.{AllSucceed, AnySucceeds, AwaitOk, AwaitAll, Until}
+use Rattle.sts_code.specs.declared.instr.Joiner.TheVariants.{Until}
 use Rattle.std.specs.contracts.prelude.BoolPartialEq.TheImpl as bool_eq
 use Rattle.sts_code.specs.contracts.instr.PredPartialEq.TheImpl as pred_eq
 use Rattle.sts_code.specs.contracts.instr.JoinerPartialEq.TheImpl as joiner_eq
-use Rattle.sts_model.specs.declared.typing.Known.{Known}
 use Rattle.sts_model.specs.declared.typing.SlotKind.{SlotKind}
-use Rattle.sts_model.specs.declared.typing.SlotKind.TheVariants.{Empty, Own, Lent, Sub}
 use Rattle.sts_model.specs.declared.typing.TypedPhase.{TypedPhase}
 use Rattle.sts_model.specs.declared.typing.TypedScope.{TypedScope}
 use Rattle.sts_model.specs.declared.typing.TypedEntry.{TypedEntry}
@@ -40,6 +38,7 @@ lists_same {X} E h = (to, from)
     to [] (y ∷ ys) e = cc
     to (x ∷ xs) [] e = cc
     to (x ∷ xs) (y ∷ ys) e = let p = both (E x y) (pointwise E xs ys) e in let a = h.0 x y p.0 in let b = to xs ys p.1 in cc
+
     from : (xs : List X) → pointwise E xs xs ≡ true
     from [] = refl
     from (x ∷ xs) = let a = h.1 x in let b = from xs in ap (λ t. t && pointwise E xs xs) a ∙ b
@@ -56,6 +55,7 @@ preds_same = (to, from)
     to : (a b : Pred) → pred_eq.eq-value.it a b ≡ true → a ≡ b
     to (pred.AtLeast x) (pred.AtLeast y) e = let h = (Decides-int_eq x y).0 e in cc
     to a b e = grind arith
+
     from : (a : Pred) → pred_eq.eq-value.it a a ≡ true
     from (pred.AtLeast x) = (Decides-int_eq x x).1 refl
     from a = grind arith
@@ -66,6 +66,7 @@ joiners_same = (to, from)
     to : (a b : Joiner) → joiner_eq.eq-value.it a b ≡ true → a ≡ b
     to (Until x) (Until y) e = let h = preds_same.0 x y e in cc
     to a b e = grind arith
+
     from : (a : Joiner) → joiner_eq.eq-value.it a a ≡ true
     from (Until x) = preds_same.1 x
     from a = grind arith
@@ -81,6 +82,7 @@ bools_same = (to, from)
     to false false e = refl
     to true false e = cc
     to false true e = cc
+
     from : (a : Bool) → bool_eq.ghosts.eq a a ≡ true
     from true = refl
     from false = refl
@@ -100,6 +102,7 @@ scopes_same = (to, from)
         let q = both (joiner_eq.eq-value.it a.joiner b.joiner) _ p.1 in
         let r = both _ (phase_eq.eq-value.it a.phase b.phase) q.1 in
         same_scope a.slot b.slot a.joiner b.joiner a.timed b.timed a.phase b.phase (eqb-true a.slot b.slot p.0) (joiners_same.0 a.joiner b.joiner q.0) (bools_same.0 a.timed b.timed r.0) (phases_same.0 a.phase b.phase r.1)
+
     from : (a : TypedScope) → scope_eq.eq-value.it a a ≡ true
     from a =
         all_true (eqb a.slot a.slot) (joiner_eq.eq-value.it a.joiner a.joiner) (bool_eq.ghosts.eq a.timed a.timed) (phase_eq.eq-value.it a.phase a.phase)
@@ -112,6 +115,7 @@ entries_same = (to, from)
     to (Scope x) (Scope y) e = let h = scopes_same.0 x y e in cc
     to (Binding x) (Binding y) e = grind arith
     to _ _ e = cc
+
     from : (a : TypedEntry) → entry_eq.eq-value.it a a ≡ true
     from (Scope x) = scopes_same.1 x
     from (Binding x) = grind arith
@@ -119,9 +123,10 @@ entries_same = (to, from)
 -- two stacks that are seen in reverse are the same if what is seen is
 module _ {X : Type 0} (E : X → X → Bool) (same : IsSame E) where
   pub stacks_same : (xs ys a b : List X) (r : Bool) → reverse xs ≡ a → reverse ys ≡ b → r ≡ pointwise E xs ys → IsTrue r ↔ (a ≡ b)
-  stacks_same xs ys a b r p q e =
-      (λ t. sym p ∙ ap reverse ((lists_same E same).0 xs ys (sym e ∙ t)) ∙ q,
-       λ h. e ∙ (let k : xs ≡ ys = sym (reverse-reverse xs) ∙ ap reverse (p ∙ h ∙ sym q) ∙ reverse-reverse ys in subst (λ l. pointwise E xs l ≡ true) k ((lists_same E same).1 xs)))
+  stacks_same xs ys a b r p q e = (
+    λ t. sym p ∙ ap reverse ((lists_same E same).0 xs ys (sym e ∙ t)) ∙ q,
+    λ h. e ∙ (let k : xs ≡ ys = sym (reverse-reverse xs) ∙ ap reverse (p ∙ h ∙ sym q) ∙ reverse-reverse ys in subst (λ l. pointwise E xs l ≡ true) k ((lists_same E same).1 xs)),
+  )
 
 pub are_same_loops : (xs ys a b : List TypedLoop) (r : Bool) → reverse xs ≡ a → reverse ys ≡ b → r ≡ pointwise loop_eq.eq-value.it xs ys → IsTrue r ↔ (a ≡ b)
 are_same_loops = stacks_same _ loops_same

@@ -226,13 +226,7 @@ impl TypeState {
     }
 
     /// A copy after a fork.
-    fn forked(
-        &self,
-        program: &Program,
-        instr: Instr,
-        slot: u8,
-        handle: Option<u8>,
-    ) -> TypeState
+    fn forked(&self, program: &Program, instr: Instr, slot: u8, handle: Option<u8>) -> TypeState
         requires { self.now.height - misuse.pops program.now instr + misuse.pushes instr ≤ 32 }
         ensures { result ≡ def.with_slot handle (SlotKind.Sub slot Known.Unknown) (def.moved program.now instr self.now) }
     {

@@ -3,11 +3,13 @@
 ghost use Rattle.std.specs.Prelude.{◌≡◌, ◌↔◌, ◌<◌, ◌≤◌, ◌+◌, ◌∷◌, IsTrue, length, drop, slice_set};
 ghost use Rattle.sts_model.specs.TypeState as def;
 
-use crate::same::{are_same_entries, are_same_loops, are_same_slots, copy_of_entries, copy_of_loops};
+use crate::same::{
+    are_same_entries, are_same_loops, are_same_slots, copy_of_entries, copy_of_loops,
+};
+use std::marker::Model;
 use sts_code::program::Program;
 use sts_model::stack::Stack;
 use sts_model::typing::{SlotKind, TypedEntry, TypedLoop};
-use std::marker::Model;
 
 /// What the verifier knows of a task at an instruction: contracts see the number of operands, the open loops and the
 /// structure list, the innermost first, and what each slot holds.

@@ -126,6 +126,7 @@ leads_up p f pc i s to fit m = (after m, leb-false (size p f) to (none_passes (l
     after (inl m) = past_pc pc to (none_passes (λ t. leb t pc) (named i) to fit.forward m)
     after (inr (inl h)) = omega (arith, h.0)
     after (inr (inr m)) = skip_after (routine p f).code pc i to m
+
     all : LeadsTo (routine p f).code pc i to → Among (named i ++ next_place pc i ++ skipped_to (routine p f).code pc i) to
     all (inl m) = among_left (named i ++ next_place pc i) (skipped_to (routine p f).code pc i) to (among_left (named i) (next_place pc i) to m)
     all (inr (inl h)) = among_left (named i ++ next_place pc i) (skipped_to (routine p f).code pc i) to (among_right (named i) (next_place pc i) to (next_among pc i to h))
@@ -166,6 +167,6 @@ pub laws : (p : Program) (f : ℕ) → IsForward (typing p f) (size p f)
 laws p f =
     record {
       up = λ pc s out to x e l. (let o = or_cause_ok _ _ out e in
-        leads_up p f pc (instr_at (routine p f).code pc) s to (fits p f pc _ s o.0) (follow_leads p (routine p f).code pc _ s to x (subst (λ es. Leads es to x) (sym o.1) l)));
+          leads_up p f pc (instr_at (routine p f).code pc) s to (fits p f pc _ s o.0) (follow_leads p (routine p f).code pc _ s to x (subst (λ es. Leads es to x) (sym o.1) l)));
       down = λ pc s out q e b. (let o = or_cause_ok _ _ out e in back_down p f pc (instr_at (routine p f).code pc) s q (fits p f pc _ s o.0) b);
     }

@@ -2,6 +2,7 @@ pub mod Arriving
 pub mod Fitting
 pub mod FollowLemmas
 pub mod Laws
+pub mod Marking
 pub mod Passing
 pub mod Promising
 pub mod RoomLemmas

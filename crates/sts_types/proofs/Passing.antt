@@ -39,7 +39,7 @@ module _ {S : Type 0} where
           let w' = merge_stands (P q) (get_or table q Nothing) b s (h.1 q in') m in
           let w = stands_same (λ x. P q x ⊎ (s ≡ x)) (λ x. P q x ⊎ ((q ≡ q) × (s ≡ x))) _ (λ x. elim [ inl p ↦ inl p | inr r ↦ inr (refl, r) ]) (λ x. elim [ inl p ↦ inl p | inr r ↦ inr r.1 ]) w' in
           subst (λ p. Stands (λ x. P p x ⊎ ((q ≡ p) × (s ≡ x))) (get_or (set table q b) p Nothing)) e
-            (subst (λ t. Stands (λ x. P q x ⊎ ((q ≡ q) × (s ≡ x))) t) (sym a) w)
+          (subst (λ t. Stands (λ x. P q x ⊎ ((q ≡ q) × (s ≡ x))) t) (sym a) w)
       at pc within (inr ne) =
           let ne' : pc ≢ q = λ e. ne (sym e) in
           let a = get_or-set_other table q pc b Nothing ne' in
@@ -56,9 +56,9 @@ module _ {S : Type 0} where
       let Q : ℕ → S → Type 0 = λ pc x. P pc x ⊎ ((e.0 ≡ pc) × (e.1 ≡ x)) in
       let one = set_describes P table n e.0 e.1 is.0 is.1.0 h in
       describes_same (λ pc x. Q pc x ⊎ Leads es pc x) _ _ n
-        (λ pc x. elim [ inl q ↦ elim q [ inl p ↦ inl p | inr r ↦ inr (inl r) ] | inr l ↦ inr (inr l) ])
-        (λ pc x. elim [ inl p ↦ inl (inl p) | inr l ↦ elim l [ inl r ↦ inl (inr r) | inr m ↦ inr m ] ])
-        (arrive_describes es Q _ after n one is.1.1)
+      (λ pc x. elim [ inl q ↦ elim q [ inl p ↦ inl p | inr r ↦ inr (inl r) ] | inr l ↦ inr (inr l) ])
+      (λ pc x. elim [ inl p ↦ inl (inl p) | inr l ↦ elim l [ inl r ↦ inl (inr r) | inr m ↦ inr m ] ])
+      (arrive_describes es Q _ after n one is.1.1)
 
 -- the laws of a flow of n places: edges go forward and stay inside, a loop goes back to no later place
 pub record IsForward {S C : Type 0} (f : Flow S C) (n : ℕ) : Type 0 where
@@ -183,7 +183,8 @@ module _ {S C : Type 0} (f : Flow S C) (n : ℕ) (laws : IsForward f n) where
           let h = arrive_describes out (Below f k) table after n at.holds arrives in
           record {
             holds = describes_same (λ pc x. Below f k pc x ⊎ Leads out pc x) (Below f (k + 1)) _ n (join k s out alone e) (split k s out alone e) h;
-            clear = λ pc lt. by pc (cases_lt pc k) lt }
+            clear = λ pc lt. by pc (cases_lt pc k) lt;
+          }
         where
           by : (pc : ℕ) → (pc < k) ⊎ (k ≤ pc) → pc < k + 1 → IsClear f pc
           by pc (inl b) lt = at.clear pc b
@@ -206,6 +207,7 @@ module _ {S C : Type 0} (f : Flow S C) (n : ℕ) (laws : IsForward f n) where
       only : (pc : ℕ) (x : S) → Below f 0 pc x → (pc ≡ 0) × (x ≡ f.entry)
       only pc x at_entry = (refl, refl)
       only pc x (out_of from before out lt r e l) = absurd (omega arith)
+
       at : (pc : ℕ) → pc < n → (pc ≡ 0) ⊎ (pc ≢ 0) → Stands (Below f 0 pc) (get_or table pc Nothing)
       at pc within (inl z) =
           let h : Stands (Below f 0 0) (One f.entry) = (at_entry, λ x b. (only 0 x b).1) in

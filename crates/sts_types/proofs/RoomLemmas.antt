@@ -61,8 +61,8 @@ not_not true e = refl
 not_not false e = cc
 
 joins : (h : ℕ) (failed timeout : Option ℕ) (o : Option TypedScope) → h ≤ 32 → leb 32 h && passes (λ scope. not (is_await_all scope.joiner)) o ≡ false → passes can_join o ≡ true
-  → passes (λ scope. not (same (is_some failed) (can_fail scope.joiner)) || not (same (is_some timeout) scope.timed)) o ≡ false
-  → (h + ok_pushes (joiner_of o) ≤ 32) × IfSome failed (λ _. h < 32)
+    → passes (λ scope. not (same (is_some failed) (can_fail scope.joiner)) || not (same (is_some timeout) scope.timed)) o ≡ false
+    → (h + ok_pushes (joiner_of o) ≤ 32) × IfSome failed (λ _. h < 32)
 joins h failed timeout None le room legal fit = cc
 joins h failed timeout (Some r) le room legal fit =
     (room_for h r.joiner le room, room_failed h failed r.joiner room (not_not _ (neither (not (same (is_some failed) (can_fail r.joiner))) _ fit).0))

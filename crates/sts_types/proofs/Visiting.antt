@@ -16,7 +16,7 @@ use Rattle.sts_model.specs.Flow.{Leads, TurnKeeps}
 use Rattle.sts_model.specs.Refusal.{size, IsTypeRefusal}
 use Rattle.sts_types.specs.declared.arrival.Arrival.{Arrival}
 use Rattle.sts_types.specs.declared.arrival.Arrival.TheVariants.{Nothing, One, Several}
-use Rattle.sts_types.specs.Arrivals.{Arrive}
+use Rattle.sts_types.specs.Arrivals.{Arrive, filled}
 use Rattle.sts_states.specs.Room.{HasRoom}
 use Rattle.sts_types.proofs.Arriving.{all_places}
 use Rattle.sts_types.proofs.Fitting.{fits}
@@ -24,40 +24,49 @@ use Rattle.sts_types.proofs.Laws.{laws, back_down}
 use Rattle.sts_types.proofs.Passing.{Passed, begin, is_dead, has_two, has_edge_cause, has_turn_cause, turn_differs, turn_same, no_turn, goes_on}
 use Rattle.sts_types.proofs.RoomLemmas.{has_room}
 
--- what a read of the table says of it
-read : (xs : List (Arrival TypeState)) (i : ℕ) (r a : Arrival TypeState) → i < length xs → r ≡ get_or xs i r → r ≡ a → get_or xs i Nothing ≡ a
-read xs i r a within e is = sym (get_or_read xs i r within e Nothing) ∙ is
-
 pub within_code : (loops code : List Instr) (count pc : ℕ) → count ≡ length loops → loops ≡ code → pc < count → pc < length code
 within_code loops code count pc e same h = omega (arith, e, ap length same)
 
--- the table at the start
-pub starts : (p : Program) (f : ℕ) (code : List Instr) (table : List (Arrival TypeState)) (s : TypeState) → code ≡ (routine p f).code → 0 < length code → table ≡ replicate (length code) Nothing → s ≡ entry p f → Passed (typing p f) (size p f) (set table 0 (One s)) 0
-starts p f code table s is some empty first =
+-- what stands in a table that is the same
+pub loaded_is : {X : Type 0} (table new : List (Arrival TypeState)) (k : ℕ) (s : TypeState) (r a : Arrival X) → new ≡ table → get_or table k Nothing ≡ filled s r → r ≡ a → get_or new k Nothing ≡ filled s a
+loaded_is table new k s r a e l is = ap (λ t. get_or t k Nothing) e ∙ l ∙ ap (filled s) is
+
+pub least_is : (p : Program) (f k : ℕ) (i : Instr) (s s' : TypeState) (r o : Option Cause) → s' ≡ s → r ≡ least_cause p f k i s' → r ≡ o → least_cause p f k i s ≡ o
+least_is p f k i s s' r o e m is = ap (λ x. least_cause p f k i x) (sym e) ∙ sym m ∙ is
+
+pub back_is : (i : Instr) (s s' : TypeState) (r o : Option ℕ) → s' ≡ s → r ≡ back_of i s' → r ≡ o → back_of i s ≡ o
+back_is i s s' r o e m is = ap (λ x. back_of i x) (sym e) ∙ sym m ∙ is
+
+pub back_fits_same : (i : Instr) (s s' : TypeState) → s' ≡ s → IfSome (back_of i s) (λ q. q < 4294967296) → IfSome (back_of i s') (λ q. q < 4294967296)
+back_fits_same i s s' e h = subst (λ x. IfSome (back_of i x) (λ q. q < 4294967296)) (sym e) h
+
+begins : (p : Program) (f : ℕ) (code : List Instr) (table : List (Arrival TypeState)) (s : TypeState) → code ≡ (routine p f).code → 0 < length code → table ≡ replicate (length code) Nothing → s ≡ entry p f → Passed (typing p f) (size p f) (set table 0 (One s)) 0
+begins p f code table s is some empty first =
     let long : length table ≡ length code = ap length empty ∙ length-replicate (length code) Nothing in
     let inside : 0 < length table = omega arith in
     let size_is : length code ≡ size p f = ap length is in
     let positive : 0 < size p f = omega arith in
     begin (typing p f) (size p f) (laws p f) (set table 0 (One s)) positive (length-set table 0 (One s) ∙ long ∙ size_is) (get_or-set_same table 0 (One s) Nothing inside ∙ ap One first)
-      (λ pc pos within. (let ne : pc ≢ 0 = omega arith in let short : pc < length code = omega arith in get_or-set_other table 0 pc (One s) Nothing ne ∙ ap (λ ys. get_or ys pc Nothing) empty ∙ get_or-replicate (length code) pc Nothing Nothing short))
+    (λ pc pos within. (let ne : pc ≢ 0 = omega arith in let short : pc < length code = omega arith in get_or-set_other table 0 pc (One s) Nothing ne ∙ ap (λ ys. get_or ys pc Nothing) empty ∙ get_or-replicate (length code) pc Nothing Nothing short))
 
-module _ (p : Program) (f : ℕ) (code : List Instr) (is : code ≡ (routine p f).code) (table : List (Arrival TypeState)) (k : ℕ) (within : k < length code) (at : Passed (typing p f) (size p f) table k) (r : Arrival TypeState) (reads : r ≡ get_or table k r) where
+-- the table at the start
+pub starts : (p : Program) (f : ℕ) (code : List Instr) (table : List (Arrival TypeState)) (s : TypeState) → code ≡ (routine p f).code → 0 < length code → table ≡ set (replicate (length code) Nothing) 0 (One s) → s ≡ entry p f → Passed (typing p f) (size p f) table 0
+starts p f code table s is some begun first = subst (λ t. Passed (typing p f) (size p f) t 0) (sym begun) (begins p f code (replicate (length code) Nothing) s is some refl first)
+
+module _ (p : Program) (f : ℕ) (code : List Instr) (is : code ≡ (routine p f).code) (table : List (Arrival TypeState)) (k : ℕ) (within : k < length code) (at : Passed (typing p f) (size p f) table k) where
   here : k < size p f
   here = omega (arith, ap length is)
 
   long : k < length table
   long = omega (arith, here, at.holds.0)
 
-  pub dead_here : r ≡ Nothing → IsTypeRefusal p f k DeadCode
-  dead_here e = (here, is_dead (typing p f) (size p f) (laws p f) table k here at (read table k r Nothing long reads e), at.clear)
+  pub dead_here : get_or table k Nothing ≡ Nothing → IsTypeRefusal p f k DeadCode
+  dead_here e = (here, is_dead (typing p f) (size p f) (laws p f) table k here at e, at.clear)
 
-  pub several_here : r ≡ Several → IsTypeRefusal p f k StatesDiffer
-  several_here e = (here, has_two (typing p f) (size p f) (laws p f) table k here at (read table k r Several long reads e), at.clear)
+  pub several_here : get_or table k Nothing ≡ Several → IsTypeRefusal p f k StatesDiffer
+  several_here e = (here, has_two (typing p f) (size p f) (laws p f) table k here at e, at.clear)
 
-  module _ (s : TypeState) (one : r ≡ One s) (i d : Instr) (instr : i ≡ get_or code k d) where
-    one_here : get_or table k Nothing ≡ One s
-    one_here = read table k r (One s) long reads one
-
+  module _ (s : TypeState) (one_here : get_or table k Nothing ≡ One s) (i d : Instr) (instr : i ≡ get_or code k d) where
     at_instr : i ≡ instr_at (routine p f).code k
     at_instr = instr ∙ get_or_default code k d Ret within ∙ ap (λ c. instr_at c k) is
 
@@ -91,24 +100,21 @@ module _ (p : Program) (f : ℕ) (code : List Instr) (is : code ≡ (routine p f
           by None e = tt
           by (Some q) e = let le = back_here q e in omega arith
 
-      back_is : (o : Option ℕ) → back_of i s ≡ o → back_of (instr_at (routine p f).code k) s ≡ o
-      back_is o b = ap (λ j. back_of j s) (sym at_instr) ∙ b
+      back_there : (o : Option ℕ) → back_of i s ≡ o → back_of (instr_at (routine p f).code k) s ≡ o
+      back_there o b = ap (λ j. back_of j s) (sym at_instr) ∙ b
 
-      module _ (q : ℕ) (back : back_of i s ≡ Some q) (r' : Arrival TypeState) (reads' : r' ≡ get_or table q r') (b : Bool) (tests : IsTrue b ↔ (r' ≡ One s)) where
-        there : q < length table
-        there = let le = back_here q back in omega (arith, long)
-
+      module _ (q : ℕ) (back : back_of i s ≡ Some q) (b : Bool) (tests : IsTrue b ↔ (get_or table q Nothing ≡ One s)) where
         pub turn_here : b ≡ false → IsTypeRefusal p f k StatesDiffer
         turn_here differs =
-            let other : get_or table q Nothing ≢ One s = λ e. (let t = tests.1 (get_or_read table q r' there reads' Nothing ∙ e) in cc) in
-            let d' = turn_differs (typing p f) (size p f) (laws p f) table k here at s one_here _ q fine (back_is (Some q) back) other in
+            let other : get_or table q Nothing ≢ One s = λ e. (let t = tests.1 e in cc) in
+            let d' = turn_differs (typing p f) (size p f) (laws p f) table k here at s one_here _ q fine (back_there (Some q) back) other in
             (here, has_turn_cause (typing p f) (size p f) (laws p f) table k here at s one_here _ fine d', at.clear)
 
         pub keeps_here : b ≡ true → TurnKeeps (typing p f) k s
-        keeps_here kept = turn_same (typing p f) (size p f) (laws p f) table k here at s one_here _ q fine (back_is (Some q) back) (read table q r' (One s) there reads' (tests.0 kept))
+        keeps_here kept = turn_same (typing p f) (size p f) (laws p f) table k here at s one_here _ q fine (back_there (Some q) back) (tests.0 kept)
 
       pub no_turn_here : back_of i s ≡ None → TurnKeeps (typing p f) k s
-      no_turn_here e = no_turn (typing p f) (size p f) (laws p f) table k here at s one_here (back_is None e)
+      no_turn_here e = no_turn (typing p f) (size p f) (laws p f) table k here at s one_here (back_there None e)
 
       pub goes_on_here : (loops : List Instr) (after : List (Arrival TypeState)) → loops ≡ code → TurnKeeps (typing p f) k s → Arrive table (follows p loops k i s) after → Passed (typing p f) (size p f) after (k + 1)
       goes_on_here loops after same keeps arrives = goes_on (typing p f) (size p f) (laws p f) table k here at s one_here _ after fine keeps (subst (λ c. Arrive table (follows p c k i s) after) (same ∙ is) arrives)

@@ -1,7 +1,7 @@
 //! What has arrived at a place.
 
 /// No state, one, or two that differ.
-#[derive(Drop)]
+#[derive(Clone, Copy)]
 pub(crate) enum Arrival<S> {
     Nothing,
     One(S),

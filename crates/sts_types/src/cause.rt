@@ -5,16 +5,16 @@ ghost use Rattle.std.specs.List.{list_any, range_with_len};
 ghost use Rattle.sts_model.specs.Causes as def;
 ghost use Rattle.sts_model.specs.Misuse as misuse;
 
+use sts_code::instr::Instr;
+use sts_code::profile::Profile;
+use sts_code::program::Program;
+use sts_model::typing::{SlotKind, TypedEntry, TypedScope};
 use sts_states::operands::{pops, pushes};
 use sts_states::slots::{
     can_fail, can_join, filled_slot, is_await_all, is_binding, is_empty, is_failed, is_lent,
     is_opened, is_own, is_readable, is_scope_in, is_sub, is_success, owners_slot, subtask_slot,
 };
 use sts_states::state::TypeState;
-use sts_code::instr::Instr;
-use sts_code::profile::Profile;
-use sts_code::program::Program;
-use sts_model::typing::{SlotKind, TypedEntry, TypedScope};
 
 // ---- V1, V2 and V6
 
@@ -261,7 +261,8 @@ pub(crate) fn is_unbound(program: &Program, function: u32, instr: Instr, state: 
     match instr {
         Instr::Read(key) => !is_bound(program, function, state, key),
         Instr::Fork {
-            function: child, ..
+            function: child,
+            ..
         } => lacks_key(program, function, child, state),
         _ => false,
     }

@@ -8,11 +8,11 @@ ghost use Rattle.sts_model.specs.Refusal.{size};
 use crate::follow::{Edges, all_edges};
 use crate::leads::skip;
 use crate::least::least_cause;
-use sts_loops::loops::CodeLoops;
-use sts_states::state::TypeState;
 use sts_code::instr::Instr;
 use sts_code::program::Program;
+use sts_loops::loops::CodeLoops;
 use sts_model::typing::Cause;
+use sts_states::state::TypeState;
 
 /// The instructions of a function.
 pub(crate) fn code_of(program: &Program, function: u32) -> &[Instr]

@@ -5,14 +5,14 @@ ghost use Rattle.sts_model.specs.Around as around;
 ghost use Rattle.sts_model.specs.Edges as def;
 ghost use Rattle.sts_states.specs.Room.{HasRoom};
 
-use sts_loops::loops::CodeLoops;
-use sts_states::operands::falls_through;
-use sts_states::state::TypeState;
 use arrayvec::ArrayVec;
+use std::marker::Model;
 use sts_code::instr::Instr;
 use sts_code::program::Program;
+use sts_loops::loops::CodeLoops;
 use sts_model::typing::{Known, TypedPhase};
-use std::marker::Model;
+use sts_states::operands::falls_through;
+use sts_states::state::TypeState;
 
 /// The places that follow an instruction, each with its typestate, at most four: contracts see the list of them.
 #[derive(Drop)]
@@ -187,4 +187,3 @@ pub(crate) fn all_edges(
     }
     Edges { edges }
 }
-

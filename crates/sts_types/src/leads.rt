@@ -6,12 +6,12 @@ ghost use Rattle.sts_model.specs.Around as around;
 ghost use Rattle.sts_model.specs.Causes as def;
 ghost use Rattle.sts_model.specs.TypeState.{heads};
 
-use sts_loops::loops::CodeLoops;
-use sts_states::operands::falls_through;
-use sts_states::state::TypeState;
 use sts_code::instr::Instr;
+use sts_loops::loops::CodeLoops;
 use sts_model::stack::Stack;
 use sts_model::typing::TypedLoop;
+use sts_states::operands::falls_through;
+use sts_states::state::TypeState;
 
 /// Where a `times` goes that makes no turn.
 pub(crate) fn skip(loops: &CodeLoops<'_>, pc: u32, instr: Instr) -> Option<u32>
@@ -55,7 +55,9 @@ pub(crate) fn falls_off(
     ensures { result ≡ def.falls_off loops.now pc instr }
 {
     let count = loops.len();
-    any_past(count, named) || (falls_through(instr) && count <= loops.after(pc)) || is_past(count, skip)
+    any_past(count, named)
+        || (falls_through(instr) && count <= loops.after(pc))
+        || is_past(count, skip)
 }
 
 pub(crate) fn jumps_back(pc: u32, instr: Instr, named: &[u32]) -> bool

@@ -10,12 +10,12 @@ use crate::cause::{
     is_too_deep, is_unbound, lacks_operands, misjoins, overflows,
 };
 use crate::leads::{falls_off, jumps_back, mismatches};
-use sts_loops::loops::CodeLoops;
-use sts_states::operands::named;
-use sts_states::state::TypeState;
 use sts_code::instr::Instr;
 use sts_code::program::Program;
+use sts_loops::loops::CodeLoops;
 use sts_model::typing::Cause;
+use sts_states::operands::named;
+use sts_states::state::TypeState;
 
 /// The least cause from V3 to V5.
 fn lead_cause(
@@ -58,12 +58,7 @@ fn slot_cause(instr: Instr, state: &TypeState) -> Option<Cause>
 }
 
 /// The least cause from V14 to V16.
-fn late_cause(
-    program: &Program,
-    function: u32,
-    instr: Instr,
-    state: &TypeState,
-) -> Option<Cause>
+fn late_cause(program: &Program, function: u32, instr: Instr, state: &TypeState) -> Option<Cause>
     ensures { result ≡ (if def.is_nested instr state.now then Some Cause.Nesting else (if def.is_unbound program.now function instr state.now then Some Cause.Unbound else (if def.misjoins instr state.now then Some Cause.JoinEdges else None))) }
 {
     if is_nested(instr, state) {

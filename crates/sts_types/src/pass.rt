@@ -1,6 +1,6 @@
 //! One forward pass over a function, which finds its least place with a cause.
 
-ghost use Rattle.std.specs.Prelude.{◌≡◌, ◌≤◌, ◌<◌, ◌^◌, ◌↔◌, length, replicate, slice_index_or, slice_set, vec_len, IsTrue, IfOk, IfSome, MatchResult, All, Some, ℕ, option_to_list};
+ghost use Rattle.std.specs.Prelude.{◌≡◌, ◌≤◌, ◌<◌, ◌^◌, ◌↔◌, length, replicate, slice_index_or, slice_set, vec_len, IsTrue, OnOk, IfSome, MatchResult, All, Some, ℕ, option_to_list};
 ghost use Rattle.sts_model.specs.Around as around;
 ghost use Rattle.sts_model.specs.Edges as def;
 ghost use Rattle.sts_model.specs.Refusal.{IsWellTyped};
@@ -9,16 +9,17 @@ ghost use Rattle.sts_states.specs.Room.{HasRoom};
 ghost use Rattle.sts_types.specs.Typing.{Tells};
 
 use crate::arrival::Arrival;
+use crate::arrivals::Arrivals;
 use crate::edges::code_of;
 use crate::follow::edge;
 use crate::leads::skip;
 use crate::least::least_cause;
-use sts_loops::loops::{CodeLoops, Tables};
-use sts_states::state::{TypeState, entry};
+use std::alloc::{AllocError, Global};
 use sts_code::instr::Instr;
 use sts_code::program::Program;
+use sts_loops::loops::{CodeLoops, Tables};
 use sts_model::typing::Cause;
-use std::alloc::{AllocError, Global};
+use sts_states::state::{TypeState, entry};
 
 /// Why a function is refused.
 #[derive(Clone, Copy, Debug, PartialEq, Eq)]
@@ -36,41 +37,6 @@ impl From<AllocError> for TypeError {
 
     fn from(_: AllocError) -> Self {
         TypeError::Memory
-    }
-}
-
-/// One more typestate arrives at a place.
-fn arrive(table: &mut Vec<Arrival<TypeState>>, place: u32, state: TypeState)
-    requires { place < vec_len table.old }
-    ensures { (b : Arrival TypeState) × (Merged (slice_index_or table.old.items place Arrival.Nothing) state b × (table.new.items ≡ slice_set table.old.items place b)) }
-{
-    let place = place as usize;
-    let after = match &table[place] {
-        Arrival::Nothing => Arrival::One(state),
-        Arrival::One(only) if only.is_same(&state) => Arrival::One(state),
-        _ => Arrival::Several,
-    };
-    table[place] = after;
-}
-
-/// A table of so many places to which nothing has come.
-fn empty_table(alloc: Global, places: usize) -> Result<Vec<Arrival<TypeState>>, AllocError>
-    ensures { IfOk result (λ table. table.items ≡ replicate places Arrival.Nothing) }
-{
-    let mut table = Vec::with_capacity(alloc, places)?;
-    for _ in 0..places {
-        table.push(Arrival::Nothing)?;
-    }
-    Ok(table)
-}
-
-/// Is this the only typestate that arrived?
-fn is_one(arrival: &Arrival<TypeState>, state: &TypeState) -> bool
-    ensures { IsTrue result ↔ (arrival.now ≡ Arrival.One state.now) }
-{
-    match arrival {
-        Arrival::One(only) => only.is_same(state),
-        _ => false,
     }
 }
 
@@ -94,21 +60,47 @@ fn spread(
     loops: &CodeLoops<'_>,
     pc: u32,
     instr: Instr,
-    state: &TypeState,
     skip: Option<u32>,
-    table: &mut Vec<Arrival<TypeState>>,
-)
+    arrivals: &mut Arrivals,
+) -> Result<(), AllocError>
     requires inside { pc < length loops.now }
     requires skip { option_to_list skip ≡ around.skipped_to loops.now pc instr }
-    requires room { HasRoom program.now instr state.now }
-    requires places { All (λ e. e.0 < vec_len table.old) (def.follows program.now loops.now pc instr state.now) }
-    ensures { Arrive table.old.items (def.follows program.now loops.now pc instr state.now) table.new.items }
+    requires room { HasRoom program.now instr arrivals.old.state }
+    requires places { All (λ e. e.0 < length arrivals.old.table) (def.follows program.now loops.now pc instr arrivals.old.state) }
+    ensures { OnOk result (Arrive arrivals.old.table (def.follows program.now loops.now pc instr arrivals.old.state) arrivals.new.table) }
 {
     for number in 0..4 {
-        match edge(program, loops, pc, instr, state, skip, number) {
-            Some((to, after)) => arrive(table, to, after),
-            None => return,
+        match edge(program, loops, pc, instr, arrivals.state(), skip, number) {
+            Some((to, after)) => arrivals.arrive(to, &after)?,
+            None => return Ok(()),
         }
+    }
+    Ok(())
+}
+
+/// The typestates after an instruction arrive at their places: a short way for those that change no more than the
+/// number of operands.
+fn follow(
+    program: &Program,
+    loops: &CodeLoops<'_>,
+    pc: u32,
+    instr: Instr,
+    skip: Option<u32>,
+    arrivals: &mut Arrivals,
+) -> Result<(), AllocError>
+    requires inside { pc < length loops.now }
+    requires small { pc < 4096 }
+    requires skip { option_to_list skip ≡ around.skipped_to loops.now pc instr }
+    requires room { HasRoom program.now instr arrivals.old.state }
+    requires places { All (λ e. e.0 < length arrivals.old.table) (def.follows program.now loops.now pc instr arrivals.old.state) }
+    ensures { OnOk result (Arrive arrivals.old.table (def.follows program.now loops.now pc instr arrivals.old.state) arrivals.new.table) }
+{
+    match arrivals.state().moves_to(program, pc, instr) {
+        Some((to, height)) => {
+            arrivals.arrive_moved(to, height);
+            Ok(())
+        }
+        None => spread(program, loops, pc, instr, skip, arrivals),
     }
 }
 
@@ -121,25 +113,32 @@ pub fn type_function(alloc: Global, program: &Program, function: u32) -> Result<
     let code = code_of(program, function);
     let tables = Tables::new(alloc, code)?;
     let loops = CodeLoops::with_tables(code, &tables);
-    let mut table = empty_table(alloc, code.len())?;
-    table[0] = Arrival::One(entry(program, function));
+    let mut arrivals = Arrivals::new(alloc, code.len(), entry(program, function))?;
     for pc in 0..loops.len() {
-        let state = match &table[pc as usize] {
+        match arrivals.load(pc) {
             Arrival::Nothing => return Err(refused(pc, Cause::DeadCode)),
             Arrival::Several => return Err(refused(pc, Cause::StatesDiffer)),
-            Arrival::One(state) => state.copy(),
-        };
+            Arrival::One(()) => {}
+        }
         let instr = code[pc as usize];
         let skip = skip(&loops, pc, instr);
-        if let Some(cause) = least_cause(program, function, &loops, pc, instr, &state, skip) {
+        if let Some(cause) = least_cause(
+            program,
+            function,
+            &loops,
+            pc,
+            instr,
+            arrivals.state(),
+            skip,
+        ) {
             return Err(refused(pc, cause));
         }
-        if let Some(start) = back_to(instr, &state) {
-            if !is_one(&table[start as usize], &state) {
+        if let Some(start) = back_to(instr, arrivals.state()) {
+            if !arrivals.is_one(start) {
                 return Err(refused(pc, Cause::StatesDiffer));
             }
         }
-        spread(program, &loops, pc, instr, &state, skip, &mut table);
+        follow(program, &loops, pc, instr, skip, &mut arrivals)?;
     }
     Ok(())
 }

@@ -14,8 +14,8 @@ pub loop-number-preserved : goal.loop-number-preserved
 loop-number-preserved c =
     let out = follows c.args.program.now c.args.loops.now c.args.pc c.args.instr c.args.state.now in
     elim c.match-edge.branch [
-      in-Some w ↦ (let t = take_there out c.loop-number.number w.in-Some.next (sym c.edge.ensures ∙ w.in-Some.is) in cc (t, w.edges-is, w.push.ensures.items, c.loop-number.invariant))
-    | in_default w ↦ (let t = take_missing out c.loop-number.number (sym c.edge.ensures ∙ w.in_default.is) in cc (t, w.edges-is, c.loop-number.invariant))
+      | in-Some w ↦ (let t = take_there out c.loop-number.number w.in-Some.next (sym c.edge.ensures ∙ w.in-Some.is) in cc (t, w.edges-is, w.push.ensures.items, c.loop-number.invariant))
+      | in_default w ↦ (let t = take_missing out c.loop-number.number (sym c.edge.ensures ∙ w.in_default.is) in cc (t, w.edges-is, c.loop-number.invariant))
     ]
 
 pub returns : goal.returns

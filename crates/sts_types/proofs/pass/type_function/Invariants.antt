@@ -5,4 +5,4 @@ use Rattle.sts_types.proofs.pass.type_function.Given as goal
 
 -- what has arrived is in the table, and the places so far have no cause
 abbrev pub invariant-loop-pc : goal.invariant-loop-pc
-invariant-loop-pc l = Passed (typing l.program l.function) (size l.program l.function) l.table.items l.pc
+invariant-loop-pc l = Passed (typing l.program l.function) (size l.program l.function) l.arrivals.table l.pc
