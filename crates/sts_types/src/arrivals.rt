@@ -64,15 +64,15 @@ fn merged(kept: &[TypeState], before: Arrival<Mark>, mark: Mark) -> Arrival<Mark
 }
 
 /// A typestate is kept, if the last that was kept isn't like it: answers which is like it.
-fn keep(kept: &mut Vec<TypeState>, state: &TypeState) -> Result<usize, AllocError>
-    ensures like { IfOk result (λ at. (at < length kept.new.items) × (state_of kept.new.items (record { height = state.now.height; like = at }) ≡ state.now)) }
+fn keep(kept: &mut Vec<TypeState>, state: TypeState) -> Result<usize, AllocError>
+    ensures like { IfOk result (λ at. (at < length kept.new.items) × (state_of kept.new.items (record { height = state.height; like = at }) ≡ state)) }
     ensures more { (added : List TypeState) × (kept.new.items ≡ kept.old.items ++ added) }
 {
     let count = kept.len();
-    if 0 < count && kept[count - 1].is_like(state) {
+    if 0 < count && kept[count - 1].is_like(&state) {
         return Ok(count - 1);
     }
-    kept.push(state.copy())?;
+    kept.push(state)?;
     Ok(count)
 }
 
@@ -98,7 +98,7 @@ impl Arrivals {
         ensures { IfOk result (λ a. (a.table ≡ slice_set (replicate places Arrival.Nothing) 0 (Arrival.One first)) × (a.state ≡ first)) }
     {
         let mut kept = Vec::new(alloc);
-        let like = keep(&mut kept, &first)?;
+        let like = keep(&mut kept, first.copy())?;
         let height = first.height();
         let mut marks = no_marks(alloc, places)?;
         marks[0] = Arrival::One(Mark { height, like });
@@ -154,17 +154,15 @@ impl Arrivals {
     }
 
     /// A typestate arrives at a place.
-    pub(crate) fn arrive(&mut self, place: u32, state: &TypeState) -> Result<(), AllocError>
+    pub(crate) fn arrive(&mut self, place: u32, state: TypeState) -> Result<(), AllocError>
         requires { place < length self.old.table }
-        ensures table { OnOk result ((b : Arrival TypeState) × (Merged (slice_index_or self.old.table place Arrival.Nothing) state.now b × (self.new.table ≡ slice_set self.old.table place b))) }
+        ensures table { OnOk result ((b : Arrival TypeState) × (Merged (slice_index_or self.old.table place Arrival.Nothing) state b × (self.new.table ≡ slice_set self.old.table place b))) }
         ensures state { self.new.state ≡ self.old.state }
     {
         let place = place as usize;
+        let height = state.height();
         let like = keep(&mut self.kept, state)?;
-        let mark = Mark {
-            height: state.height(),
-            like,
-        };
+        let mark = Mark { height, like };
         self.marks[place] = merged(self.kept.as_slice(), self.marks[place], mark);
         Ok(())
     }

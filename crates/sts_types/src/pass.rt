@@ -71,7 +71,7 @@ fn spread(
 {
     for number in 0..4 {
         match edge(program, loops, pc, instr, arrivals.state(), skip, number) {
-            Some((to, after)) => arrivals.arrive(to, &after)?,
+            Some((to, after)) => arrivals.arrive(to, after)?,
             None => return Ok(()),
         }
     }

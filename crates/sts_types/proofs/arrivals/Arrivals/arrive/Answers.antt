@@ -9,5 +9,5 @@ invariant_of-self-2 c = holds_more c.self.inside.kept.items c.keep.ensures.more.
 pub returns-clause-table : goal.returns-clause-table
 returns-clause-table c =
     let view : map (arrival_of c.keep.new.kept.items) c.self.inside.marks.items ≡ c.args.self.now.table = ap (λ l. map (arrival_of l) c.self.inside.marks.items) c.keep.ensures.more.1 ∙ more_kept c.self.inside.kept.items c.keep.ensures.more.0 c.self.inside.marks.items c.self.invariant.0 ∙ ap (λ a. a.table) c.self.view_is in
-    let same = ap (λ h. state_of c.keep.new.kept.items (record { height = h; like = c.in_ok-like.like })) c.height.ensures.value ∙ c.in_ok-like.ensures.like.1 in
-    arrived c.keep.new.kept.items c.as_slice.result.now c.self.inside.marks.items c.args.self.now.table c.args.place c.index.result.now c.merged.result _ c.args.state.now c.as_slice.ensures.value view c.requires c.index.ensures same c.merged.ensures.merged
+    let same = ap (λ h. state_of c.keep.new.kept.items (record { height = h; like = c.in_ok-like.like })) c.height-height.ensures.value ∙ c.in_ok-like.ensures.like.1 in
+    arrived c.keep.new.kept.items c.as_slice.result.now c.self.inside.marks.items c.args.self.now.table c.args.place c.index.result.now c.merged.result _ c.args.state c.as_slice.ensures.value view c.requires c.index.ensures same c.merged.ensures.merged
