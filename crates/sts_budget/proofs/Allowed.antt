@@ -97,4 +97,5 @@ allowed p f pc i s out e =
       nested = c14;
       legal = c12;
       right_slot = c9;
-      own_thread = c11 }
+      own_thread = c11;
+    }

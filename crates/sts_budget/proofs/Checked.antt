@@ -69,26 +69,27 @@ is_checked p f e lt =
       some_code = some (length (routine p f).code) empty;
       short = (code_is_short p f e).0;
       bounds = λ pc n is. (
-        let within = in_code (routine p f).code pc (Times n) is (λ z. (cc)) in
-        let c : def.instr_cause (length (take f p.routines)) (length (routine p f).code) (Times n) ≡ None = ap (def.instr_cause (length (take f p.routines)) (length (routine p f).code)) (sym is) ∙ each pc within in
-        let t = no_test (def.has_bad_target (length (routine p f).code) (Times n)) BadTarget _ c in
-        let l = no_test (def.forks_later (length (take f p.routines)) (Times n)) LaterFunction _ t.1 in
-        let r = no_test (def.has_bad_range (Times n)) BadRange None l.1 in
-        some_turn n r.0);
+          let within = in_code (routine p f).code pc (Times n) is (λ z. (cc)) in
+          let c : def.instr_cause (length (take f p.routines)) (length (routine p f).code) (Times n) ≡ None = ap (def.instr_cause (length (take f p.routines)) (length (routine p f).code)) (sym is) ∙ each pc within in
+          let t = no_test (def.has_bad_target (length (routine p f).code) (Times n)) BadTarget _ c in
+          let l = no_test (def.forks_later (length (take f p.routines)) (Times n)) LaterFunction _ t.1 in
+          let r = no_test (def.has_bad_range (Times n)) BadRange None l.1 in
+          some_turn n r.0);
       few = λ pc n is. (
-        let within = in_code (routine p f).code pc (Times n) is (λ z. (cc)) in
-        let c : def.instr_cause (length (take f p.routines)) (length (routine p f).code) (Times n) ≡ None = ap (def.instr_cause (length (take f p.routines)) (length (routine p f).code)) (sym is) ∙ each pc within in
-        let t = no_test (def.has_bad_target (length (routine p f).code) (Times n)) BadTarget _ c in
-        let l = no_test (def.forks_later (length (take f p.routines)) (Times n)) LaterFunction _ t.1 in
-        let r = no_test (def.has_bad_range (Times n)) BadRange None l.1 in
-        few_turns n r.0);
+          let within = in_code (routine p f).code pc (Times n) is (λ z. (cc)) in
+          let c : def.instr_cause (length (take f p.routines)) (length (routine p f).code) (Times n) ≡ None = ap (def.instr_cause (length (take f p.routines)) (length (routine p f).code)) (sym is) ∙ each pc within in
+          let t = no_test (def.has_bad_target (length (routine p f).code) (Times n)) BadTarget _ c in
+          let l = no_test (def.forks_later (length (take f p.routines)) (Times n)) LaterFunction _ t.1 in
+          let r = no_test (def.has_bad_range (Times n)) BadRange None l.1 in
+          few_turns n r.0);
       earlier = λ pc x g h is. (
-        let within = in_code (routine p f).code pc (Fork x g h) is (λ z. (cc)) in
-        let c : def.instr_cause (length (take f p.routines)) (length (routine p f).code) (Fork x g h) ≡ None = ap (def.instr_cause (length (take f p.routines)) (length (routine p f).code)) (sym is) ∙ each pc within in
-        let t = no_test (def.has_bad_target (length (routine p f).code) (Fork x g h)) BadTarget _ c in
-        let l = no_test (def.forks_later (length (take f p.routines)) (Fork x g h)) LaterFunction _ t.1 in
-        let lt = leb-false (length (take f p.routines)) g l.0 in
-        omega arith) }
+          let within = in_code (routine p f).code pc (Fork x g h) is (λ z. (cc)) in
+          let c : def.instr_cause (length (take f p.routines)) (length (routine p f).code) (Fork x g h) ≡ None = ap (def.instr_cause (length (take f p.routines)) (length (routine p f).code)) (sym is) ∙ each pc within in
+          let t = no_test (def.has_bad_target (length (routine p f).code) (Fork x g h)) BadTarget _ c in
+          let l = no_test (def.forks_later (length (take f p.routines)) (Fork x g h)) LaterFunction _ t.1 in
+          let lt = leb-false (length (take f p.routines)) g l.0 in
+          omega arith);
+    }
   where
     some : (n : ℕ) → (n == 0) ≡ false → 0 < n
     some zero e = absurd (cc)

@@ -75,15 +75,20 @@ front_forked m x g (OpenScope s subtasks ∷ es) d h = by (s == x) refl (λ h'. 
   where
     own : ℕ
     own = m.scope + sum_by m.subtask subtasks
+
     more : m.scope + sum_by m.subtask (g ∷ subtasks) ≡ own + m.subtask g
     more = let e = sum_by-cons m.subtask g subtasks in omega arith
+
     split : (b : Bool) (k : ℕ) → cond b (m.scope + sum_by m.subtask (g ∷ subtasks)) 0 + k ≡ cond b own 0 + k + cond b (m.subtask g) 0
     split true k = omega (arith, more)
     split false k = omega arith
+
     outside : (b : Bool) → s == x ≡ b → b ≡ false → HasScope x (names es)
     outside b e f = elim h [ inl same ↦ (let k : s ≡ x = cc in absurd (eqb-false s x (e ∙ f) k)) | inr r ↦ r ]
+
     Goal : Bool → Type 0
     Goal b = front m (cond b (OpenScope s (g ∷ subtasks) ∷ es) (OpenScope s subtasks ∷ forked x g es)) d ≡ front m (OpenScope s subtasks ∷ es) d + cond (ltb (cond b (length (names es)) (position_of x (names es))) d) (m.subtask g) 0
+
     by : (b : Bool) → s == x ≡ b → (HasScope x (names es) → front m (forked x g es) d ≡ front m es d + cond (ltb (position_of x (names es)) d) (m.subtask g) 0) → Goal b
     by true e ih = split (ltb (length es) d) (front m es d) ∙ ap (λ k. cond (ltb (length es) d) own 0 + front m es d + cond (ltb k d) (m.subtask g) 0) (sym (long es))
     by false e ih =

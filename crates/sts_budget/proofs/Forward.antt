@@ -52,7 +52,7 @@ module _ (c : Skeleton) (around : ℕ → List ℕ) (good : IsStructured c aroun
   new_loop a k d s p n e e' is =
       let o = one_head k p n e' is in
       let value : a (head k) d + f.added (head k) d + bound_of (c.shape (head k)) * (a k d + f.added k d) ≡ a p d + f.added p d + n * gain c f a p d =
-            ap (λ x. a x d + f.added x d + bound_of (c.shape (head k)) * (a k d + f.added k d)) (sym o.0) ∙ ap (λ x. a p d + f.added p d + x * (a k d + f.added k d)) (sym o.1) ∙ ap (λ x. a p d + f.added p d + n * (a x d + f.added x d)) (sym is) in
+      ap (λ x. a x d + f.added x d + bound_of (c.shape (head k)) * (a k d + f.added k d)) (sym o.0) ∙ ap (λ x. a p d + f.added p d + x * (a k d + f.added k d)) (sym o.1) ∙ ap (λ x. a p d + f.added p d + n * (a x d + f.added x d)) (sym is) in
       let shape_is : EndsTurn ≡ s = sym o.2 ∙ e in
       let place : k + 1 ≡ c.mate p + 1 = ap (λ x. x + 1) (sym is) in
       subst (λ t. New c f head a k t (c.mate p + 1) d (a p d + f.added p d + n * gain c f a p d)) shape_is (place, value)
@@ -82,7 +82,7 @@ module _ (c : Skeleton) (around : ℕ → List ℕ) (good : IsStructured c aroun
       let v : Handed c f a (k + 1) (c.mate (head k) + 1) d (a (head k) d + f.added (head k) d + h.0.0 * gain c f a (head k) d) = over_loop (head k) h.0.0 d lt h.0.1 low' in
       let turns : h.0.0 ≡ bound_of (c.shape (head k)) = ap bound_of (sym h.0.1) in
       let value : a (head k) d + f.added (head k) d + h.0.0 * gain c f a (head k) d ≡ m =
-            ap (λ x. a (head k) d + f.added (head k) d + x * gain c f a (head k) d) turns ∙ ap (λ x. a (head k) d + f.added (head k) d + bound_of (c.shape (head k)) * (a x d + f.added x d)) h.1 ∙ w.1 in
+      ap (λ x. a (head k) d + f.added (head k) d + x * gain c f a (head k) d) turns ∙ ap (λ x. a (head k) d + f.added (head k) d + bound_of (c.shape (head k)) * (a x d + f.added x d)) h.1 ∙ w.1 in
       subst (λ q. Handed c f a (k + 1) q d m) place (subst (Handed c f a (k + 1) (c.mate (head k) + 1) d) value v)
   together a k EndsPath e pc d m low (inr w) = absurd w
 
@@ -106,10 +106,13 @@ module _ (c : Skeleton) (around : ℕ → List ℕ) (good : IsStructured c aroun
     where
       a : ℕ → ℕ → ℕ
       a = read before
+
       b : ℕ → ℕ → ℕ
       b = read after
+
       earlier : (pc d : ℕ) → pc < k + 1 → pc < c.size → d ≤ f.depth pc → b pc d ≡ a pc d
       earlier pc d lt within low = sp.same pc d within low (λ m w. (let l = new_later a k (c.shape k) refl pc d m w in omega arith))
+
       -- what is handed on comes from places of the code
       both : (x y : ℕ → ℕ → ℕ) → ((pc d : ℕ) → pc < k + 1 → pc < c.size → d ≤ f.depth pc → x pc d ≡ y pc d) → (pc d m : ℕ) → Handed c f x (k + 1) pc d m → Handed c f y (k + 1) pc d m
       both x y same pc d m (over_go from to e places lt is among low) =
@@ -127,20 +130,24 @@ module _ (c : Skeleton) (around : ℕ → List ℕ) (good : IsStructured c aroun
           let g : gain c f y p d ≡ gain c f x p d = ap (λ z. z + f.added (c.mate p) d) (sym (same (c.mate p) d lt q_in low_q)) in
           let v : y p d + f.added p d + n * gain c f y p d ≡ x p d + f.added p d + n * gain c f x p d = ap (λ z. z + f.added p d + n * gain c f y p d) (sym (same p d p_lt p_in low)) ∙ ap (λ z. x p d + f.added p d + n * z) g in
           subst (Handed c f y (k + 1) (c.mate p + 1) d) v (over_loop p n d lt is low)
+
       P : ℕ → ℕ → ℕ → Type 0
       P pc d m = Handed c f a k pc d m ⊎ New c f head a k (c.shape k) pc d m
+
       with_new : (pc d : ℕ) → pc < c.size → d ≤ f.depth pc → MaxOf (P pc d) (b pc d)
       with_new pc d within low = elim (new_cases a k (c.shape k) pc d) [
-          inl v ↦ (let w = max_more (Handed c f a k pc d) (a pc d) v.0 (h.greatest pc d within low) in
-                   let w' = max_same (λ m. Handed c f a k pc d m ⊎ (v.0 ≡ m)) (P pc d) _ (λ m. elim [ inl p ↦ inl p | inr e ↦ inr (subst (λ z. New c f head a k (c.shape k) pc d z) e v.1.0) ]) (λ m. elim [ inl p ↦ inl p | inr n ↦ inr (v.1.1 m n) ]) w in
-                   subst (MaxOf (P pc d)) (sym (sp.raised pc d v.0 within low v.1.0)) w')
-        | inr out ↦ subst (MaxOf (P pc d)) (sym (sp.same pc d within low out)) (max_same (Handed c f a k pc d) (P pc d) _ (λ m p. inl p) (λ m. elim [ inl p ↦ p | inr n ↦ absurd (out m n) ]) (h.greatest pc d within low)) ]
+        | inl v ↦ (let w = max_more (Handed c f a k pc d) (a pc d) v.0 (h.greatest pc d within low) in
+            let w' = max_same (λ m. Handed c f a k pc d m ⊎ (v.0 ≡ m)) (P pc d) _ (λ m. elim [ inl p ↦ inl p | inr e ↦ inr (subst (λ z. New c f head a k (c.shape k) pc d z) e v.1.0) ]) (λ m. elim [ inl p ↦ inl p | inr n ↦ inr (v.1.1 m n) ]) w in
+            subst (MaxOf (P pc d)) (sym (sp.raised pc d v.0 within low v.1.0)) w')
+        | inr out ↦ subst (MaxOf (P pc d)) (sym (sp.same pc d within low out)) (max_same (Handed c f a k pc d) (P pc d) _ (λ m p. inl p) (λ m. elim [ inl p ↦ p | inr n ↦ absurd (out m n) ]) (h.greatest pc d within low))
+      ]
+
       greatest : (pc d : ℕ) → pc < c.size → d ≤ f.depth pc → MaxOf (Handed c f b (k + 1) pc d) (b pc d)
       greatest pc d within low =
           max_same (P pc d) (Handed c f b (k + 1) pc d) _
-            (λ m p. both a b (λ q e lt i lo. sym (earlier q e lt i lo)) pc d m (together a k (c.shape k) refl pc d m low p))
-            (λ m p. apart a k (c.shape k) refl pc d m (both b a earlier pc d m p))
-            (with_new pc d within low)
+          (λ m p. both a b (λ q e lt i lo. sym (earlier q e lt i lo)) pc d m (together a k (c.shape k) refl pc d m low p))
+          (λ m p. apart a k (c.shape k) refl pc d m (both b a earlier pc d m p))
+          (with_new pc d within low)
 
   -- nothing is handed on to the first place, nor to the first place of a loop's turn
   none_to_first : (a : ℕ → ℕ → ℕ) (k pc d m : ℕ) → pc ≡ 0 → Handed c f a k pc d m → ⊥
@@ -164,17 +171,21 @@ module _ (c : Skeleton) (around : ℕ → List ℕ) (good : IsStructured c aroun
   pub sourced : (k bound : ℕ) (rows : List (List ℕ)) → bound ≤ c.size → bound ≤ k + 1 → IsPartial c f k rows → ((pc : ℕ) → 0 < pc → pc < c.size → Led c pc) → IsSourced c f (read rows) bound
   sourced k bound rows within near h led = record {
     first = elim (h.greatest 0 0 good.some_code (omega arith)).1 [ inl p ↦ absurd (none_to_first b k 0 0 _ refl p) | inr z ↦ z.0 ];
-    source = λ pc d pos lt low. from_max pc d (omega arith) low (led pc pos (omega arith)) (b pc d) refl (h.greatest pc d (omega arith) low).1 }
+    source = λ pc d pos lt low. from_max pc d (omega arith) low (led pc pos (omega arith)) (b pc d) refl (h.greatest pc d (omega arith) low).1;
+  }
     where
       b : ℕ → ℕ → ℕ
       b = read rows
+
       from_handed : (pc d m : ℕ) → m ≡ b pc d → Handed c f b k pc d m → Source c f b d pc
       from_handed pc d m is (over_go from to x places lt e among low) = by_go from to places e among is
       from_handed pc d m is (over_loop p n x lt e low) = by_loop p n e is
+
       from_led : (pc d : ℕ) → pc < k + 1 → d ≤ f.depth pc → Led c pc → b pc d ≡ 0 → ((m : ℕ) → Handed c f b k pc d m → ⊥) → Source c f b d pc
       from_led pc d lt low (from_go from to places e among) z out = absurd (out _ (over_go from to d places (let g = good.forward from to places e among in omega (arith, g.0)) e among low))
       from_led pc d lt low (from_head p n e) z out = by_turn p n e z
       from_led pc d lt low (from_end p n e) z out = let s = fits.same p n e in absurd (out _ (over_loop p n d (omega arith) e (omega (arith, s.2))))
+
       from_max : (pc d : ℕ) → pc < k + 1 → d ≤ f.depth pc → Led c pc → (x : ℕ) → x ≡ b pc d → Handed c f b k pc d x ⊎ ((x ≡ 0) × ((m : ℕ) → Handed c f b k pc d m → ⊥)) → Source c f b d pc
       from_max pc d lt low led x is (inl p) = from_handed pc d x is p
       from_max pc d lt low led x is (inr z) = from_led pc d lt low led (sym is ∙ z.0) z.1
@@ -183,10 +194,11 @@ module _ (c : Skeleton) (around : ℕ → List ℕ) (good : IsStructured c aroun
   pub is_table : (rows : List (List ℕ)) → IsPartial c f c.size rows → ((pc : ℕ) → 0 < pc → pc < c.size → Led c pc) → IsTable c f (read rows)
   is_table rows h led = record {
     turn = λ p n d e low. (let l = good.loop p n e in let s = fits.same p n e in let within : p + 1 < c.size = omega (arith, l.1, l.2) in let low' : d ≤ f.depth (p + 1) = omega (arith, s.0) in
-       elim (h.greatest (p + 1) d within low').1 [ inl x ↦ absurd (none_to_turn b c.size p n d e (p + 1) _ refl x) | inr z ↦ z.0 ]);
+        elim (h.greatest (p + 1) d within low').1 [ inl x ↦ absurd (none_to_turn b c.size p n d e (p + 1) _ refl x) | inr z ↦ z.0 ]);
     over_go = λ pc to d places e among low. (let g = good.forward pc to places e among in (h.greatest to d g.1 low).0 _ (over_go pc to d places (omega (arith, g.0, g.1)) e among low));
     over_loop = λ p n d e low. (let l = good.loop p n e in let s = fits.same p n e in (h.greatest (c.mate p + 1) d l.2 (omega (arith, s.2))).0 _ (over_loop p n d (omega (arith, l.2)) e low));
-    sourced = sourced c.size c.size rows (omega arith) (omega arith) h led }
+    sourced = sourced c.size c.size rows (omega arith) (omega arith) h led;
+  }
     where
       b : ℕ → ℕ → ℕ
       b = read rows

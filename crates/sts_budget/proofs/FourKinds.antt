@@ -108,7 +108,8 @@ module _ (earlier : List Budgets) (code : List Instr) (round : ℕ → List ℕ)
     times = λ pc n d e. ap (λ i. source_of (measured m i (names_at pc)) (length (names_at pc)) d) (known.times pc n e);
     next = λ pc d e. ap (λ i. source_of (measured m i (names_at pc)) (length (names_at pc)) d) (known.next pc e);
     same = λ pc n e. (let s = known.same pc n e in (ap length s.0, ap length s.1, ap length s.2));
-    deeper = known.deeper }
+    deeper = known.deeper;
+  }
 
   fits_steps : FitsEntries c round (flows Steps earlier code names_at)
   fits_steps = record {
@@ -118,7 +119,8 @@ module _ (earlier : List Budgets) (code : List Instr) (round : ℕ → List ℕ)
     times = λ pc n d e. refl;
     next = λ pc d e. refl;
     same = λ pc n e. (refl, refl, refl);
-    deeper = λ pc h hs e. omega arith }
+    deeper = λ pc h hs e. omega arith;
+  }
 
   pub fits : (k : Kind) → FitsEntries c round (flows k earlier code names_at)
   fits Steps = fits_steps
@@ -163,7 +165,7 @@ module _ (earlier : List Budgets) (code : List Instr) (round : ℕ → List ℕ)
       let low' : d ≤ length (names_after (instr_at code from) (names entries)) = subst (λ ns. d ≤ length (names_after (instr_at code from) ns)) (sym n) low in
       let f = front_of m (instr_at code from) entries d fit low' in
       let f' : front m (entries_of (instr_at code from) entries) d ≡ front m entries (source_of (measured m (instr_at code from) (names_at from)) (length (names_at from)) d) + added_of (measured m (instr_at code from) (names_at from)) (length (names_at from)) d =
-            subst (λ ns. front m (entries_of (instr_at code from) entries) d ≡ front m entries (source_of (measured m (instr_at code from) ns) (length ns) d) + added_of (measured m (instr_at code from) ns) (length ns) d) n f in
+      subst (λ ns. front m (entries_of (instr_at code from) entries) d ≡ front m entries (source_of (measured m (instr_at code from) ns) (length ns) d) + added_of (measured m (instr_at code from) ns) (length ns) d) n f in
       let back = source_low m (instr_at code from) (names_at from) d low in
       subst (λ x. Sums c (flows_by m code names_at) d pc loops x) (sym f') (more le (to_sums m from ls b entries r (source_of (measured m (instr_at code from) (names_at from)) (length (names_at from)) d) back) s)
 
@@ -181,7 +183,7 @@ module _ (earlier : List Budgets) (code : List Instr) (round : ℕ → List ℕ)
       let low' : d ≤ length (names_after (instr_at code from) (names entries)) = subst (λ ns. d ≤ length (names_after (instr_at code from) ns)) (sym n) low in
       let f = front_of m (instr_at code from) entries d fit low' in
       let f' : front m (entries_of (instr_at code from) entries) d ≡ front m entries (source_of (measured m (instr_at code from) (names_at from)) (length (names_at from)) d) + added_of (measured m (instr_at code from) (names_at from)) (length (names_at from)) d =
-            subst (λ ns. front m (entries_of (instr_at code from) entries) d ≡ front m entries (source_of (measured m (instr_at code from) ns) (length ns) d) + added_of (measured m (instr_at code from) ns) (length ns) d) n f in
+      subst (λ ns. front m (entries_of (instr_at code from) entries) d ≡ front m entries (source_of (measured m (instr_at code from) ns) (length ns) d) + added_of (measured m (instr_at code from) ns) (length ns) d) n f in
       (w.0 + c.weight from, (entries_of (instr_at code from) entries, (step w.1.1.0 s, f' ∙ ap (λ x. x + added_of (measured m (instr_at code from) (names_at from)) (length (names_at from)) d) w.1.1.1)))
 
   to_steps : (pc : ℕ) (loops : Loops) (before : ℕ) (es : List OpenEntry) → Comes c pc loops before es → Sums c (flows Steps earlier code names_at) 0 pc loops before
@@ -250,9 +252,10 @@ module _ (earlier : List Budgets) (code : List Instr) (round : ℕ → List ℕ)
           omega (arith, h.1)
 
   one_more : (k : Measure) (r : ℕ) → IsPeak c (entries_sum k) r → IsPeak c (λ es. 1 + entries_sum k es) (1 + r)
-  one_more k r h =
-      ((h.0.0, (h.0.1.0, (h.0.1.1.0, (h.0.1.1.1.0, (h.0.1.1.1.1.0, ap (λ n. 1 + n) h.0.1.1.1.1.1))))),
-       λ other p. (let le = h.1 (entries_sum k p.1.1.1.0) (p.0, (p.1.0, (p.1.1.0, (p.1.1.1.0, (p.1.1.1.1.0, refl))))) in omega (arith, p.1.1.1.1.1)))
+  one_more k r h = (
+    (h.0.0, (h.0.1.0, (h.0.1.1.0, (h.0.1.1.1.0, (h.0.1.1.1.1.0, ap (λ n. 1 + n) h.0.1.1.1.1.1))))),
+    λ other p. (let le = h.1 (entries_sum k p.1.1.1.0) (p.0, (p.1.0, (p.1.1.0, (p.1.1.1.0, (p.1.1.1.1.0, refl))))) in omega (arith, p.1.1.1.1.1)),
+  )
 
   pub top_is_most : (k : Kind) (best : ℕ → ℕ → ℕ) (table : IsTable c (flows k earlier code names_at) best) (r : ℕ) → ((pc : ℕ) → pc < c.size → full c (flows k earlier code names_at) round best pc ≤ r) → (pc : ℕ) → pc < c.size → full c (flows k earlier code names_at) round best pc ≡ r → IsMost k earlier code (own_of k + r)
   top_is_most Steps best table r most pc within is = steps_most best table r most pc within is

@@ -158,10 +158,12 @@ module _ (k : Kind) (earlier : List Budgets) (code : List Instr) (l : Layout) (r
       let t = head_times pc h.0.0 h.0.1 in
       let head_counts : f.added (head_in l pc) d ≡ own_step k = ap (λ j. added_of (effect_of k earlier j (names_in l (head_in l pc))) (depth_of k (names_in l (head_in l pc))) d) t ∙ times_counts k earlier h.0.0 (names_in l (head_in l pc)) d in
       let here_counts : f.added pc d ≡ own_step k = ap (λ j. added_of (effect_of k earlier j (names_in l pc)) (depth_of k (names_in l pc)) d) at ∙ next_counts k earlier (names_in l pc) d in
-      let turns : bound_of (c.shape (head_in l pc)) ≡ turns_of (instr_at code (head_in l pc)) = ap bound_of h.0.1 ∙ sym (ap turns_of t) in
-      (inl w.0, sym (ap (λ x. best (head_in l pc) d + x + bound_of (c.shape (head_in l pc)) * (best pc d + f.added pc d)) head_counts
-        ∙ ap (λ x. best (head_in l pc) d + own_step k + bound_of (c.shape (head_in l pc)) * (best pc d + x)) here_counts
-        ∙ ap (λ x. best (head_in l pc) d + own_step k + x * (best pc d + own_step k)) turns) ∙ w.1)
+      let turns : bound_of (c.shape (head_in l pc)) ≡ turns_of (instr_at code (head_in l pc)) = ap bound_of h.0.1 ∙ sym (ap turns_of t) in (
+        inl w.0,
+        sym (ap (λ x. best (head_in l pc) d + x + bound_of (c.shape (head_in l pc)) * (best pc d + f.added pc d)) head_counts
+            ∙ ap (λ x. best (head_in l pc) d + own_step k + bound_of (c.shape (head_in l pc)) * (best pc d + x)) here_counts
+            ∙ ap (λ x. best (head_in l pc) d + own_step k + x * (best pc d + own_step k)) turns) ∙ w.1,
+      )
   new_is best pc i at (is_end shape none nowhere) quiet q d m w = absurd (subst (λ s. New c f (head_in l) best pc s q d m) shape w)
   new_is best pc i at (goes_on g) quiet q d m w =
       let w' : Among (named i ++ next_place pc i) q × (best pc (f.source pc d) + f.added pc d ≡ m) = subst (λ s. New c f (head_in l) best pc s q d m) g.shape w in
@@ -175,10 +177,12 @@ module _ (k : Kind) (earlier : List Budgets) (code : List Instr) (l : Layout) (r
       let t = head_times pc h.0.0 h.0.1 in
       let head_counts : f.added (head_in l pc) d ≡ own_step k = ap (λ j. added_of (effect_of k earlier j (names_in l (head_in l pc))) (depth_of k (names_in l (head_in l pc))) d) t ∙ times_counts k earlier h.0.0 (names_in l (head_in l pc)) d in
       let here_counts : f.added pc d ≡ own_step k = ap (λ j. added_of (effect_of k earlier j (names_in l pc)) (depth_of k (names_in l pc)) d) at ∙ next_counts k earlier (names_in l pc) d in
-      let turns : bound_of (c.shape (head_in l pc)) ≡ turns_of (instr_at code (head_in l pc)) = ap bound_of h.0.1 ∙ sym (ap turns_of t) in
-      (same, ap (λ x. best (head_in l pc) d + x + bound_of (c.shape (head_in l pc)) * (best pc d + f.added pc d)) head_counts
-        ∙ ap (λ x. best (head_in l pc) d + own_step k + bound_of (c.shape (head_in l pc)) * (best pc d + x)) here_counts
-        ∙ ap (λ x. best (head_in l pc) d + own_step k + x * (best pc d + own_step k)) turns)
+      let turns : bound_of (c.shape (head_in l pc)) ≡ turns_of (instr_at code (head_in l pc)) = ap bound_of h.0.1 ∙ sym (ap turns_of t) in (
+        same,
+        ap (λ x. best (head_in l pc) d + x + bound_of (c.shape (head_in l pc)) * (best pc d + f.added pc d)) head_counts
+            ∙ ap (λ x. best (head_in l pc) d + own_step k + bound_of (c.shape (head_in l pc)) * (best pc d + x)) here_counts
+            ∙ ap (λ x. best (head_in l pc) d + own_step k + x * (best pc d + own_step k)) turns,
+      )
   new_of best pc i at is_next quiet q d (inr out_of) = absurd out_of
   new_of best pc i at (is_end shape none nowhere) quiet q d among = absurd (subst (λ ps. Among ps q) nowhere among)
   new_of best pc i at (goes_on g) quiet q d among =
@@ -192,21 +196,23 @@ module _ (k : Kind) (earlier : List Budgets) (code : List Instr) (l : Layout) (r
   capped v x most e le small = omega arith
 
   pub sent_spread : (pc most : ℕ) (values : List ℕ) (before after : List (List ℕ)) → is_quiet (instr_at code pc) ≡ false → most < 4294967296 → ((d : ℕ) → d < 17 → get_or values d 0 ≡ min (handed_value k earlier code l (read before) pc d) 18446744073709551615)
-    → IsSent values (λ q. depth_of k (names_in l q)) most (named (instr_at code pc) ++ next_place pc (instr_at code pc)) before after → IsSpread c f (head_in l) pc before after
+      → IsSent values (λ q. depth_of k (names_in l q)) most (named (instr_at code pc) ++ next_place pc (instr_at code pc)) before after → IsSpread c f (head_in l) pc before after
   sent_spread pc most values before after quiet small is sent = record {
-      long = sent.long;
-      raised = λ q d m lt low w. (
+    long = sent.long;
+    raised = λ q d m lt low w. (
         let n = new_is (read before) pc (instr_at code pc) refl (sort any_program code pc (instr_at code pc)) quiet q d m w in
         let few = sent.few q n.0 in
         let le = sent.small q d n.0 low in
         let v = capped (get_or values d 0) (handed_value k earlier code l (read before) pc d) most (is d (omega arith)) le small in
         sent.raised q d n.0 low ∙ ap (max (read before q d)) (v ∙ n.1));
-      same = λ q d lt low out. elim (among_cases (named (instr_at code pc) ++ next_place pc (instr_at code pc)) q) [
-          inl a ↦ absurd (out _ (new_of (read before) pc (instr_at code pc) refl (sort any_program code pc (instr_at code pc)) quiet q d a))
-        | inr no_way ↦ sent.same q d no_way ] }
+    same = λ q d lt low out. elim (among_cases (named (instr_at code pc) ++ next_place pc (instr_at code pc)) q) [
+      | inl a ↦ absurd (out _ (new_of (read before) pc (instr_at code pc) refl (sort any_program code pc (instr_at code pc)) quiet q d a))
+      | inr no_way ↦ sent.same q d no_way
+    ];
+  }
 
   pub stopped_over : (pc most : ℕ) (values : List ℕ) (before : List (List ℕ)) → pc < length code → is_quiet (instr_at code pc) ≡ false → ((d : ℕ) → d < 17 → get_or values d 0 ≡ min (handed_value k earlier code l (read before) pc d) 18446744073709551615)
-    → IsStopped values (λ q. depth_of k (names_in l q)) most (named (instr_at code pc) ++ next_place pc (instr_at code pc)) → HandsTooMuch c f (head_in l) pc (read before) most
+      → IsStopped values (λ q. depth_of k (names_in l q)) most (named (instr_at code pc) ++ next_place pc (instr_at code pc)) → HandsTooMuch c f (head_in l) pc (read before) most
   stopped_over pc most values before within quiet is (q, (d, h)) =
       let v = is d (omega (arith, h.2)) in
       let w = new_of (read before) pc (instr_at code pc) refl (sort any_program code pc (instr_at code pc)) quiet q d h.0 in
@@ -238,16 +244,19 @@ module _ (k : Kind) (earlier : List Budgets) (code : List Instr) (l : Layout) (r
 
   pub partial_none : (rows : List (List ℕ)) → rows ≡ replicate (length code) (replicate 17 0) → IsPartial c f 0 rows
   partial_none rows e = record {
-      long = ap length e ∙ length-replicate (length code) (replicate 17 0);
-      greatest = λ pc d lt low. ((λ m h. absurd (nothing pc d m h)), inr (zero_at pc d lt, nothing pc d)) }
+    long = ap length e ∙ length-replicate (length code) (replicate 17 0);
+    greatest = λ pc d lt low. ((λ m h. absurd (nothing pc d m h)), inr (zero_at pc d lt, nothing pc d));
+  }
     where
       nothing : (pc d m : ℕ) → Handed c f (read rows) 0 pc d m → ⊥
       nothing pc d m (over_go from to x places lt e among low) = omega arith
       nothing pc d m (over_loop p n x lt e low) = omega arith
+
       zeros : (n d : ℕ) → get_or {A = ℕ} (replicate n 0) d 0 ≡ 0
       zeros zero d = refl
       zeros (suc n) zero = refl
       zeros (suc n) (suc d) = zeros n d
+
       zero_at : (pc d : ℕ) → pc < length code → read rows pc d ≡ 0
       zero_at pc d lt = ap (λ (xs : List (List ℕ)). get_or (get_or xs pc []) d 0) e ∙ ap (λ (x : List ℕ). get_or x d 0) (get_or-replicate (length code) pc (replicate 17 0) [] lt) ∙ zeros 17 d
 
@@ -260,6 +269,7 @@ module _ (k : Kind) (earlier : List Budgets) (code : List Instr) (l : Layout) (r
     where
       s : IsSourced c f (read rows) (pc + 1)
       s = sourced c (around code) ready.good f fits_here (head_in l) heads_right pc (pc + 1) rows (omega arith) (omega arith) h ready.led
+
       by : (sh : Shape) → c.shape pc ≡ sh → New c f (head_in l) (read rows) pc sh q d m → Passes c f most
       by (GoesTo places) e w = (m, (subst (Stands c f) w.1 (go_stands c (around code) ready.good f fits_here (read rows) (pc + 1) s pc q d places (omega arith) e w.0 t.1), t.3))
       by (Repeats n) e w = absurd w
@@ -271,7 +281,7 @@ module _ (k : Kind) (earlier : List Budgets) (code : List Instr) (l : Layout) (r
           let st = loop_stands c (around code) ready.good f fits_here (read rows) (pc + 1) s (head_in l pc) hd.0.0 d (omega (arith, hd.1)) hd.0.1 low in
           let turns : hd.0.0 ≡ bound_of (c.shape (head_in l pc)) = ap bound_of (sym hd.0.1) in
           let v : read rows (head_in l pc) d + f.added (head_in l pc) d + hd.0.0 * (read rows (c.mate (head_in l pc)) d + f.added (c.mate (head_in l pc)) d) ≡ m =
-                ap (λ x. read rows (head_in l pc) d + f.added (head_in l pc) d + x * (read rows (c.mate (head_in l pc)) d + f.added (c.mate (head_in l pc)) d)) turns
-                ∙ ap (λ x. read rows (head_in l pc) d + f.added (head_in l pc) d + bound_of (c.shape (head_in l pc)) * (read rows x d + f.added x d)) hd.1 ∙ w.1 in
+          ap (λ x. read rows (head_in l pc) d + f.added (head_in l pc) d + x * (read rows (c.mate (head_in l pc)) d + f.added (c.mate (head_in l pc)) d)) turns
+          ∙ ap (λ x. read rows (head_in l pc) d + f.added (head_in l pc) d + bound_of (c.shape (head_in l pc)) * (read rows x d + f.added x d)) hd.1 ∙ w.1 in
           (m, (subst (Stands c f) v st, t.3))
       by EndsPath e w = absurd w

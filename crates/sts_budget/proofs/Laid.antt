@@ -35,17 +35,20 @@ writes_none places value d old = record { long = refl; at = λ pc a lt. absurd a
 
 pub writes_more : {A : Type 0} (places : List ℕ) (i to : ℕ) (value d : A) (old mid : List A) → i < length places → get_or places i 0 ≡ to → Writes (take i places) value d old mid → Writes (take (i + 1) places) value d old (set mid to value)
 writes_more places i to value d old mid lt is w = record {
-    long = length-set mid to value ∙ w.long;
-    at = λ pc a within. by_at pc within (among_of (take i places) (to ∷ []) pc (subst (λ ps. Among ps pc) more a));
-    other = λ pc out. (let ne : pc ≢ to = λ e. out (subst (λ ps. Among ps pc) (sym more) (among_right (take i places) (to ∷ []) pc (inl (sym e)))) in
-        get_or-set_other mid to pc value d ne ∙ w.other pc (λ a. out (subst (λ ps. Among ps pc) (sym more) (among_left (take i places) (to ∷ []) pc a)))) }
+  long = length-set mid to value ∙ w.long;
+  at = λ pc a within. by_at pc within (among_of (take i places) (to ∷ []) pc (subst (λ ps. Among ps pc) more a));
+  other = λ pc out. (let ne : pc ≢ to = λ e. out (subst (λ ps. Among ps pc) (sym more) (among_right (take i places) (to ∷ []) pc (inl (sym e)))) in
+      get_or-set_other mid to pc value d ne ∙ w.other pc (λ a. out (subst (λ ps. Among ps pc) (sym more) (among_left (take i places) (to ∷ []) pc a))));
+}
   where
     more : take (i + 1) places ≡ take i places ++ to ∷ []
     more = let n : i + 1 ≡ suc i = omega arith in ap (λ k. take k places) n ∙ take-suc places i 0 lt ∙ ap (λ x. take i places ++ x ∷ []) is
+
     by_at : (pc : ℕ) → pc < length old → Among (take i places) pc ⊎ Among (to ∷ []) pc → get_or (set mid to value) pc d ≡ value
     by_at pc within a = elim (cases_eq pc to) [
-        inl e ↦ (let within' : pc < length mid = omega (arith, w.long) in subst (λ q. get_or (set mid q value) pc d ≡ value) e (get_or-set_same mid pc value d within'))
-      | inr ne ↦ (get_or-set_other mid to pc value d ne ∙ elim a [ inl b ↦ w.at pc b within | inr b ↦ elim b [ inl e ↦ absurd (ne (sym e)) | inr out_of ↦ absurd out_of ] ]) ]
+      | inl e ↦ (let within' : pc < length mid = omega (arith, w.long) in subst (λ q. get_or (set mid q value) pc d ≡ value) e (get_or-set_same mid pc value d within'))
+      | inr ne ↦ (get_or-set_other mid to pc value d ne ∙ elim a [ inl b ↦ w.at pc b within | inr b ↦ elim b [ inl e ↦ absurd (ne (sym e)) | inr out_of ↦ absurd out_of ] ])
+    ]
 
 -- ---- one instruction
 
@@ -252,6 +255,7 @@ module _ (p : Program) (f : ℕ) (accepted : IsWellTyped p f) (some_code : 0 < l
     where
       within : pc < length (routine p f).code
       within = (fits p f accepted some_code bounds [] pc s r).1
+
       by : (o : (pc < length (routine p f).code) ⊎ (length (routine p f).code ≤ pc)) → names s.entries ≡ elim o [ inl lt ↦ names (accepted pc lt).state.entries | inr ge ↦ [] ]
       by (inl lt) = ap (λ (x : TypeState). names x.entries) ((accepted pc lt).alone.1 s r)
       by (inr ge) = absurd (omega (arith, within))
@@ -290,21 +294,25 @@ module _ (p : Program) (f : ℕ) (accepted : IsWellTyped p f) (some_code : 0 < l
   -- where an instruction leads to lies in the code
   pub leads_inside : (k to : ℕ) → k < length (routine p f).code → Among (named (instr_at (routine p f).code k) ++ next_place k (instr_at (routine p f).code k)) to → (k < to) × (to < length (routine p f).code)
   leads_inside k to lt a =
-      let h = here p f accepted some_code bounds [] k lt in
-      (elim (among_of (named (instr_at (routine p f).code k)) (next_place k (instr_at (routine p f).code k)) to a) [ inl m ↦ h.rules.later to m | inr m ↦ (let e = among_next k (instr_at (routine p f).code k) to m in omega arith) ],
-       h.rules.inside to (among_left (named (instr_at (routine p f).code k) ++ next_place k (instr_at (routine p f).code k)) _ to a))
+      let h = here p f accepted some_code bounds [] k lt in (
+        elim (among_of (named (instr_at (routine p f).code k)) (next_place k (instr_at (routine p f).code k)) to a) [ inl m ↦ h.rules.later to m | inr m ↦ (let e = among_next k (instr_at (routine p f).code k) to m in omega arith) ],
+        h.rules.inside to (among_left (named (instr_at (routine p f).code k) ++ next_place k (instr_at (routine p f).code k)) _ to a),
+      )
 
   -- the values that are written at the places to which an instruction leads
   pub right_value : (k to : ℕ) (heads : List (Option ℕ)) (mates : List ℕ) (table : List Names) → k < length (routine p f).code → IsLaid p f k heads mates table → Among (named (instr_at (routine p f).code k) ++ next_place k (instr_at (routine p f).code k)) to
-    → (head_after (instr_at (routine p f).code k) k heads ≡ first_of (around (routine p f).code to)) × ((s : TypeState) → Reaches (typing p f) to s → names s.entries ≡ names_after (instr_at (routine p f).code k) (get_or table k []))
+      → (head_after (instr_at (routine p f).code k) k heads ≡ first_of (around (routine p f).code to)) × ((s : TypeState) → Reaches (typing p f) to s → names s.entries ≡ names_after (instr_at (routine p f).code k) (get_or table k []))
   right_value k to heads mates table lt laid a = by (instr_at (routine p f).code k) refl (sort p (routine p f).code k (instr_at (routine p f).code k)) a
     where
       now : IsRight p f heads table k
       now = laid.right k lt (is_written k k (omega arith) lt)
+
       table_is : get_or table k [] ≡ names_here k
       table_is = let h = accepted k lt in sym (now.name h.state h.alone.0) ∙ names_right k h.state h.alone.0
+
       named_by : (i : Instr) → names_here to ≡ names_after i (names_here k) → (s : TypeState) → Reaches (typing p f) to s → names s.entries ≡ names_after i (get_or table k [])
       named_by i e s r = names_right to s r ∙ e ∙ ap (names_after i) (sym table_is)
+
       by : (i : Instr) → instr_at (routine p f).code k ≡ i → Sort p (routine p f).code k i → Among (named i ++ next_place k i) to → (head_after i k heads ≡ first_of (around (routine p f).code to)) × ((s : TypeState) → Reaches (typing p f) to s → names s.entries ≡ names_after i (get_or table k []))
       by i e (is_times n) (inl same) =
           let o = opened p f accepted some_code bounds [] k n e in
@@ -321,9 +329,10 @@ module _ (p : Program) (f : ℕ) (accepted : IsWellTyped p f) (some_code : 0 < l
           let outer = laid.right d.head head_in (is_written k d.head (omega arith) head_in) in
           let head_is : get_or heads k None ≡ Some d.head = now.head ∙ ap first_of d.here_is in
           let after : around (routine p f).code to ≡ around (routine p f).code d.head = ap (around (routine p f).code) (sym same ∙ ap (λ q. q + 1) (sym end_is)) ∙ o.around_after in
-          let mate_is : (skeleton [] (routine p f).code).mate d.head ≡ k = o.mate ∙ end_is in
-          (ap (λ h. get_or heads (unwrap_or h 0) None) head_is ∙ outer.head ∙ sym (ap first_of after),
-           named_by Next (ap names_here (sym same ∙ ap (λ q. q + 1) (sym mate_is)) ∙ s.2 ∙ sym s.1 ∙ ap names_here mate_is))
+          let mate_is : (skeleton [] (routine p f).code).mate d.head ≡ k = o.mate ∙ end_is in (
+            ap (λ h. get_or heads (unwrap_or h 0) None) head_is ∙ outer.head ∙ sym (ap first_of after),
+            named_by Next (ap names_here (sym same ∙ ap (λ q. q + 1) (sym mate_is)) ∙ s.2 ∙ sym s.1 ∙ ap names_here mate_is),
+          )
       by i e is_next (inr out_of) = absurd out_of
       by i e (is_end shape none nowhere) among = absurd (subst (λ ps. Among ps to) nowhere among)
       by i e (goes_on g) among =
@@ -331,23 +340,26 @@ module _ (p : Program) (f : ℕ) (accepted : IsWellTyped p f) (some_code : 0 < l
           let g' = subst (λ j. GoesOn p (routine p f).code k j) (sym e) g in
           let among' = subst (λ j. Among (named j ++ next_place k j) to) (sym e) among in
           let u = leading_go p f accepted some_code bounds [] k (instr_at (routine p f).code k) h.clear.state h.clear.out to h.clear.state h.rules g' among' refl in
-          let around_is : around (routine p f).code to ≡ around (routine p f).code k = u.loops ∙ h.fit.loops in
-          (head_kept p (routine p f).code k i heads g ∙ now.head ∙ sym (ap first_of around_is),
-           named_by i (known.over_go k to (named i ++ next_place k i) (ap (shape_of k) e ∙ g.shape) among ∙ ap (λ j. names_after j (names_here k)) e))
+          let around_is : around (routine p f).code to ≡ around (routine p f).code k = u.loops ∙ h.fit.loops in (
+            head_kept p (routine p f).code k i heads g ∙ now.head ∙ sym (ap first_of around_is),
+            named_by i (known.over_go k to (named i ++ next_place k i) (ap (shape_of k) e ∙ g.shape) among ∙ ap (λ j. names_after j (names_here k)) e),
+          )
 
   -- before the first place
   pub laid_none : (heads : List (Option ℕ)) (mates : List ℕ) (table : List Names) → heads ≡ replicate (length (routine p f).code) None → mates ≡ replicate (length (routine p f).code) 0 → table ≡ replicate (length (routine p f).code) [] → IsLaid p f 0 heads mates table
   laid_none heads mates table hs ms ns = record {
-      heads_long = ap length hs ∙ length-replicate (length (routine p f).code) None;
-      mates_long = ap length ms ∙ length-replicate (length (routine p f).code) 0;
-      names_long = ap length ns ∙ length-replicate (length (routine p f).code) [];
-      right = λ pc lt w. elim w [ inl z ↦ subst (IsRight p f heads table) (sym z) at_first | inr x ↦ absurd (omega (arith, x.1.0)) ];
-      mated = λ h n i q m less. absurd (omega arith) }
+    heads_long = ap length hs ∙ length-replicate (length (routine p f).code) None;
+    mates_long = ap length ms ∙ length-replicate (length (routine p f).code) 0;
+    names_long = ap length ns ∙ length-replicate (length (routine p f).code) [];
+    right = λ pc lt w. elim w [ inl z ↦ subst (IsRight p f heads table) (sym z) at_first | inr x ↦ absurd (omega (arith, x.1.0)) ];
+    mated = λ h n i q m less. absurd (omega arith);
+  }
     where
       at_first : IsRight p f heads table 0
       at_first = record {
         head = ap (λ xs. get_or xs 0 None) hs ∙ get_or-replicate (length (routine p f).code) 0 None None some_code;
-        name = λ s r. (names_right 0 s r ∙ known.empty ∙ sym (ap (λ xs. get_or xs 0 []) ns ∙ get_or-replicate (length (routine p f).code) 0 [] [] some_code)) }
+        name = λ s r. (names_right 0 s r ∙ known.empty ∙ sym (ap (λ xs. get_or xs 0 []) ns ∙ get_or-replicate (length (routine p f).code) 0 [] [] some_code));
+      }
 
   -- the loop round a place is open before it
   pub head_before : (k : ℕ) (heads : List (Option ℕ)) (mates : List ℕ) (table : List Names) → k < length (routine p f).code → IsLaid p f k heads mates table → (h : ℕ) → get_or heads k None ≡ Some h → h < length heads
@@ -357,6 +369,7 @@ module _ (p : Program) (f : ℕ) (accepted : IsWellTyped p f) (some_code : 0 < l
     where
       good : IsStructured (skeleton [] (routine p f).code) (around (routine p f).code)
       good = structured p f accepted some_code bounds []
+
       by : (hs : List ℕ) → around (routine p f).code k ≡ hs → first_of hs ≡ Some h → h < length heads
       by [] is z = absurd (cc)
       by (x ∷ xs) is z = let same : x ≡ h = cc in let less = good.lesser k x xs is in omega (arith, laid.heads_long)
@@ -367,12 +380,15 @@ module _ (p : Program) (f : ℕ) (accepted : IsWellTyped p f) (some_code : 0 < l
     where
       o : Opened p f accepted some_code bounds [] h n
       o = opened p f accepted some_code bounds [] h n i
+
       q_is : o.end ≡ q
       q_is = let twice : Some o.end ≡ Some q = sym o.ends ∙ m in cc
+
       at_other : (instr_at (routine p f).code k ≡ Next → ⊥) → get_or (mates_after (instr_at (routine p f).code k) k (get_or heads k None) mates) h 0 ≡ q
       at_other ne =
           let other : q ≢ k = λ e. ne (subst (λ x. instr_at (routine p f).code x ≡ Next) (q_is ∙ e) o.is_end) in
           ap (λ ms. get_or ms h 0) (mates_kept p (routine p f).code k (instr_at (routine p f).code k) (get_or heads k None) mates ne) ∙ laid.mated h n i q m (omega arith)
+
       at_next : instr_at (routine p f).code k ≡ Next → get_or (mates_after (instr_at (routine p f).code k) k (get_or heads k None) mates) h 0 ≡ q
       at_next e =
           let d = ended p f accepted some_code bounds [] k e in
@@ -380,37 +396,41 @@ module _ (p : Program) (f : ℕ) (accepted : IsWellTyped p f) (some_code : 0 < l
           let head_is : get_or heads k None ≡ Some d.head = r.head ∙ ap first_of d.here_is in
           let after : mates_after (instr_at (routine p f).code k) k (get_or heads k None) mates ≡ set mates d.head k = ap (λ j. mates_after j k (get_or heads k None) mates) e ∙ ap (λ x. mates_after Next k x mates) head_is in
           ap (λ ms. get_or ms h 0) after ∙ elim (cases_eq h d.head) [
-              inl same ↦ (let twice : Some q ≡ Some k = sym m ∙ ap (match_of (routine p f).code) same ∙ d.ends in
-                          let q_k : q ≡ k = cc in
-                          let within : d.head < length mates = omega (arith, laid.mates_long, o.later, o.within) in
-                          ap (λ x. get_or (set mates d.head k) x 0) same ∙ get_or-set_same mates d.head k 0 within ∙ sym q_k)
+            | inl same ↦ (let twice : Some q ≡ Some k = sym m ∙ ap (match_of (routine p f).code) same ∙ d.ends in
+                let q_k : q ≡ k = cc in
+                let within : d.head < length mates = omega (arith, laid.mates_long, o.later, o.within) in
+                ap (λ x. get_or (set mates d.head k) x 0) same ∙ get_or-set_same mates d.head k 0 within ∙ sym q_k)
             | inr ne ↦ (let other : q ≢ k = λ z. (let o' = opened p f accepted some_code bounds [] d.head d.turns d.times in
-                            let twice : Some o'.end ≡ Some k = sym o'.ends ∙ d.ends in
-                            let k_is : o'.end ≡ k = cc in
-                            let both : h ∷ around (routine p f).code h ≡ d.head ∷ around (routine p f).code d.head = sym o.around_end ∙ ap (around (routine p f).code) (q_is ∙ z) ∙ d.here_is in
-                            let same : h ≡ d.head = cc in
-                            ne same) in
-                        get_or-set_other mates d.head h k 0 ne ∙ laid.mated h n i q m (omega arith)) ]
+                let twice : Some o'.end ≡ Some k = sym o'.ends ∙ d.ends in
+                let k_is : o'.end ≡ k = cc in
+                let both : h ∷ around (routine p f).code h ≡ d.head ∷ around (routine p f).code d.head = sym o.around_end ∙ ap (around (routine p f).code) (q_is ∙ z) ∙ d.here_is in
+                let same : h ≡ d.head = cc in
+                ne same) in
+                get_or-set_other mates d.head h k 0 ne ∙ laid.mated h n i q m (omega arith))
+          ]
 
   -- one more place
   pub laid_more : (k : ℕ) (heads heads' : List (Option ℕ)) (mates mates' : List ℕ) (table table' : List Names) → k < length (routine p f).code → IsLaid p f k heads mates table
-    → Writes (named (instr_at (routine p f).code k) ++ next_place k (instr_at (routine p f).code k)) (head_after (instr_at (routine p f).code k) k heads) None heads heads'
-    → Writes (named (instr_at (routine p f).code k) ++ next_place k (instr_at (routine p f).code k)) (names_after (instr_at (routine p f).code k) (get_or table k [])) [] table table'
-    → mates' ≡ mates_after (instr_at (routine p f).code k) k (get_or heads k None) mates
-    → IsLaid p f (k + 1) heads' mates' table'
+      → Writes (named (instr_at (routine p f).code k) ++ next_place k (instr_at (routine p f).code k)) (head_after (instr_at (routine p f).code k) k heads) None heads heads'
+      → Writes (named (instr_at (routine p f).code k) ++ next_place k (instr_at (routine p f).code k)) (names_after (instr_at (routine p f).code k) (get_or table k [])) [] table table'
+      → mates' ≡ mates_after (instr_at (routine p f).code k) k (get_or heads k None) mates
+      → IsLaid p f (k + 1) heads' mates' table'
   laid_more k heads heads' mates mates' table table' lt laid wh wn ml = record {
-      heads_long = wh.long ∙ laid.heads_long;
-      mates_long = ap length ml ∙ long_after (instr_at (routine p f).code k) k (get_or heads k None) mates ∙ laid.mates_long;
-      names_long = wn.long ∙ laid.names_long;
-      right = right;
-      mated = λ h n i q m less. subst (λ ms. get_or ms h 0 ≡ q) (sym ml) (mated_more k heads mates table lt laid h n i q m less) }
+    heads_long = wh.long ∙ laid.heads_long;
+    mates_long = ap length ml ∙ long_after (instr_at (routine p f).code k) k (get_or heads k None) mates ∙ laid.mates_long;
+    names_long = wn.long ∙ laid.names_long;
+    right = right;
+    mated = λ h n i q m less. subst (λ ms. get_or ms h 0 ≡ q) (sym ml) (mated_more k heads mates table lt laid h n i q m less);
+  }
     where
       outs : List ℕ
       outs = named (instr_at (routine p f).code k) ++ next_place k (instr_at (routine p f).code k)
+
       right : (pc : ℕ) → pc < length (routine p f).code → IsWritten (routine p f).code (k + 1) pc → IsRight p f heads' table' pc
       right pc within w = elim (among_cases outs pc) [
-          inl a ↦ (let v = right_value k pc heads mates table lt laid a in record { head = wh.at pc a (omega (arith, laid.heads_long)) ∙ v.0; name = λ s r. (v.1 s r ∙ sym (wn.at pc a (omega (arith, laid.names_long)))) })
-        | inr out ↦ (let old : IsRight p f heads table pc = laid.right pc within (elim w [ inl z ↦ inl z | inr x ↦ inr (earlier out x) ]) in record { head = wh.other pc out ∙ old.head; name = λ s r. (old.name s r ∙ sym (wn.other pc out)) }) ]
+        | inl a ↦ (let v = right_value k pc heads mates table lt laid a in record { head = wh.at pc a (omega (arith, laid.heads_long)) ∙ v.0; name = λ s r. (v.1 s r ∙ sym (wn.at pc a (omega (arith, laid.names_long)))) })
+        | inr out ↦ (let old : IsRight p f heads table pc = laid.right pc within (elim w [ inl z ↦ inl z | inr x ↦ inr (earlier out x) ]) in record { head = wh.other pc out ∙ old.head; name = λ s r. (old.name s r ∙ sym (wn.other pc out)) })
+      ]
         where
           earlier : (Among outs pc → ⊥) → ((from : ℕ) × ((from < k + 1) × Among (named (instr_at (routine p f).code from) ++ next_place from (instr_at (routine p f).code from)) pc)) → (from : ℕ) × ((from < k) × Among (named (instr_at (routine p f).code from) ++ next_place from (instr_at (routine p f).code from)) pc)
           earlier out (from, x) = elim (cases_eq from k) [ inl e ↦ absurd (out (subst (λ q. Among (named (instr_at (routine p f).code q) ++ next_place q (instr_at (routine p f).code q)) pc) e x.1)) | inr ne ↦ (from, (omega (arith, x.0), x.1)) ]

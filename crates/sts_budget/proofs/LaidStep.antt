@@ -80,9 +80,9 @@ next_place_laid {p = p} {f = f} {k = k} {heads = heads} {mates = mates} {table =
     let names_at = after_is ∙ ap (λ j. names_after j before) i ∙ ap (names_after (instr_at (routine p f).code k)) names_is in
     let mates_at = mates_is ∙ ap (λ j. mates_after j k end mates) i ∙ ap (λ o. mates_after (instr_at (routine p f).code k) k o mates) end_is in
     laid_more p f s.typed c.some_code c.bounds k heads heads' mates mates' table table' (inside_of s) s.laid
-      (subst (λ v. Writes (named (instr_at (routine p f).code k) ++ next_place k (instr_at (routine p f).code k)) v None heads heads') head_at (subst (λ ps. Writes ps head None heads heads') places_are wh))
-      (subst (λ v. Writes (named (instr_at (routine p f).code k) ++ next_place k (instr_at (routine p f).code k)) v [] table table') names_at (subst (λ ps. Writes ps after [] table table') places_are wn))
-      mates_at
+    (subst (λ v. Writes (named (instr_at (routine p f).code k) ++ next_place k (instr_at (routine p f).code k)) v None heads heads') head_at (subst (λ ps. Writes ps head None heads heads') places_are wh))
+    (subst (λ v. Writes (named (instr_at (routine p f).code k) ++ next_place k (instr_at (routine p f).code k)) v [] table table') names_at (subst (λ ps. Writes ps after [] table table') places_are wn))
+    mates_at
 
 -- before the first place
 pub begin : (p : Program) (f : ℕ) → program_fault p.routines ≡ None → f < length p.routines → IsWellTyped p f → (code : List Instr) → code ≡ (routine p f).code → (heads : List (Option ℕ)) (mates : List ℕ) (table : List Names) → heads ≡ replicate (length code) None → mates ≡ replicate (length code) 0 → table ≡ replicate (length code) [] → IsLaid p f 0 heads mates table

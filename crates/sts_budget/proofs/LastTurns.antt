@@ -96,6 +96,7 @@ module _ (k : Kind) (earlier : List Budgets) (code : List Instr) (l : Layout) (r
     where
       head : Some h ≡ first_of (around code pc)
       head = e ∙ any_default l.heads.items pc d None (omega (arith, ready.heads_long)) ∙ ready.heads pc lt
+
       by : (hs : List ℕ) → around code pc ≡ hs → h < length bases
       by [] is = let z : Some h ≡ None = head ∙ ap first_of is in absurd (cc)
       by (x ∷ xs) is = let z : Some h ≡ Some x = head ∙ ap first_of is in let same : h ≡ x = cc in let less = ready.good.lesser pc x xs is in omega (arith, b.long)
@@ -106,6 +107,7 @@ module _ (k : Kind) (earlier : List Budgets) (code : List Instr) (l : Layout) (r
     where
       head : o ≡ first_of (around code pc)
       head = e ∙ any_default l.heads.items pc d None (omega (arith, ready.heads_long)) ∙ ready.heads pc lt
+
       by : (hs : List ℕ) → around code pc ≡ hs → base_of bases o + read rows pc (depth_of k (names_in l pc)) ≡ here pc
       by [] is =
           let z : base_of bases o ≡ 0 = ap (base_of bases) (head ∙ ap first_of is) in
@@ -133,15 +135,16 @@ module _ (k : Kind) (earlier : List Budgets) (code : List Instr) (l : Layout) (r
       let g : f.added (c.mate pc) d ≡ own_step k = counts_next k earlier code l ready (c.mate pc) d m in
       let bound : bound_of (c.shape pc) ≡ n = ap (λ i. bound_of (shape_of pc i)) t in
       sym (ap (λ x. here pc + x + (bound_of (c.shape pc) - 1) * gain c f (read rows) pc d) a
-        ∙ ap (λ x. here pc + own_step k + (x - 1) * gain c f (read rows) pc d) bound
-        ∙ ap (λ x. here pc + own_step k + (n - 1) * (read rows (c.mate pc) d + x)) g
-        ∙ ap (λ x. here pc + own_step k + (n - 1) * (x + own_step k)) (sym e))
+      ∙ ap (λ x. here pc + own_step k + (x - 1) * gain c f (read rows) pc d) bound
+      ∙ ap (λ x. here pc + own_step k + (n - 1) * (read rows (c.mate pc) d + x)) g
+      ∙ ap (λ x. here pc + own_step k + (n - 1) * (x + own_step k)) (sym e))
 
   pub bases_none : (bases : List ℕ) → bases ≡ replicate (length code) 0 → HasBases k earlier code l rows 0 bases
   bases_none bases e = record {
-      long = ap length e ∙ length-replicate (length code) 0;
-      right = λ h n lt t. absurd (omega arith);
-      small = λ i. (let z : get_or bases i 0 ≡ 0 = ap (λ (xs : List ℕ). get_or xs i 0) e ∙ zeros (length code) i in omega arith) }
+    long = ap length e ∙ length-replicate (length code) 0;
+    right = λ h n lt t. absurd (omega arith);
+    small = λ i. (let z : get_or bases i 0 ≡ 0 = ap (λ (xs : List ℕ). get_or xs i 0) e ∙ zeros (length code) i in omega arith);
+  }
     where
       zeros : (n i : ℕ) → get_or {A = ℕ} (replicate n 0) i 0 ≡ 0
       zeros zero i = refl
@@ -155,9 +158,12 @@ module _ (k : Kind) (earlier : List Budgets) (code : List Instr) (l : Layout) (r
       same no_times = record {
         long = b.long;
         right = λ h n less t. (let ne : h ≢ pc = λ z. no_times n (subst (λ q. instr_at code q ≡ Times n) z t) in b.right h n (omega arith) t);
-        small = b.small }
+        small = b.small;
+      }
+
       value : ℕ → ℕ
       value n = full' + own_step k + (n - 1) * (end + own_step k)
+
       opens : (n : ℕ) → instr_at code pc ≡ Times n → HasBases k earlier code l rows (pc + 1) (set bases pc (value n))
       opens n t =
           let a = at n t in
@@ -169,31 +175,37 @@ module _ (k : Kind) (earlier : List Budgets) (code : List Instr) (l : Layout) (r
           record {
             long = length-set bases pc (value n) ∙ b.long;
             right = λ h m less th. elim (cases_eq h pc) [
-                inl z ↦ (let is : value n ≡ turn_base c f (around code) (read rows) pc = ap (λ x. x + own_step k + (n - 1) * (end + own_step k)) full_here ∙ turn_is pc n end t a.1 in
-                         ap (λ q. get_or (set bases pc (value n)) q 0) z ∙ get_or-set_same bases pc (value n) 0 (omega (arith, b.long)) ∙ is ∙ sym (ap (turn_base c f (around code) (read rows)) z))
-              | inr ne ↦ (get_or-set_other bases pc h (value n) 0 ne ∙ b.right h m (omega arith) th) ];
+              | inl z ↦ (let is : value n ≡ turn_base c f (around code) (read rows) pc = ap (λ x. x + own_step k + (n - 1) * (end + own_step k)) full_here ∙ turn_is pc n end t a.1 in
+                  ap (λ q. get_or (set bases pc (value n)) q 0) z ∙ get_or-set_same bases pc (value n) 0 (omega (arith, b.long)) ∙ is ∙ sym (ap (turn_base c f (around code) (read rows)) z))
+              | inr ne ↦ (get_or-set_other bases pc h (value n) 0 ne ∙ b.right h m (omega arith) th)
+            ];
             small = λ i. elim (cases_eq i pc) [
-                inl z ↦ subst (λ q. get_or (set bases pc (value n)) q 0 < 1125899906842624) (sym z) (subst (λ x. x < 1125899906842624) (sym (get_or-set_same bases pc (value n) 0 (omega (arith, b.long)))) v)
-              | inr ne ↦ subst (λ x. x < 1125899906842624) (sym (get_or-set_other bases pc i (value n) 0 ne)) (b.small i) ] }
+              | inl z ↦ subst (λ q. get_or (set bases pc (value n)) q 0 < 1125899906842624) (sym z) (subst (λ x. x < 1125899906842624) (sym (get_or-set_same bases pc (value n) 0 (omega (arith, b.long)))) v)
+              | inr ne ↦ subst (λ x. x < 1125899906842624) (sym (get_or-set_other bases pc i (value n) 0 ne)) (b.small i)
+            ];
+          }
 
   pub top_none : IsTop k earlier code l rows 0 0
   top_none = record { most = λ q lt. absurd (omega arith); attained = inl refl; none_yet = λ e. refl }
 
   pub top_next : (pc top v : ℕ) → IsTop k earlier code l rows pc top → v ≡ here pc → IsTop k earlier code l rows (pc + 1) (max v top)
   top_next pc top v t is = record {
-      most = λ q lt. elim (cases_eq q pc) [ inl e ↦ (let s : here q ≡ here pc = ap (λ x. here x) e in omega arith) | inr ne ↦ (let h = t.most q (omega arith) in omega arith) ];
-      attained = inr (elim (cases_lt v top) [ inl lt ↦ old lt | inr ge ↦ (pc, (omega arith, (let m : max v top ≡ v = omega arith in sym is ∙ sym m))) ]);
-      none_yet = λ e. absurd (omega arith) }
+    most = λ q lt. elim (cases_eq q pc) [ inl e ↦ (let s : here q ≡ here pc = ap (λ x. here x) e in omega arith) | inr ne ↦ (let h = t.most q (omega arith) in omega arith) ];
+    attained = inr (elim (cases_lt v top) [ inl lt ↦ old lt | inr ge ↦ (pc, (omega arith, (let m : max v top ≡ v = omega arith in sym is ∙ sym m))) ]);
+    none_yet = λ e. absurd (omega arith);
+  }
     where
       old : v < top → (q : ℕ) × ((q < pc + 1) × (here q ≡ max v top))
       old lt = elim t.attained [
-          inl e ↦ absurd (omega (arith, t.none_yet e))
-        | inr a ↦ (a.0, (omega (arith, a.1.0), (let m : top ≡ max v top = omega arith in a.1.1 ∙ m))) ]
+        | inl e ↦ absurd (omega (arith, t.none_yet e))
+        | inr a ↦ (a.0, (omega (arith, a.1.0), (let m : top ≡ max v top = omega arith in a.1.1 ∙ m)))
+      ]
 
   pub finished : (top : ℕ) → IsTop k earlier code l rows (length code) top → IsMost k earlier code (own_of k + top)
   finished top t = elim t.attained [
-      inl e ↦ absurd (omega (arith, ready.good.some_code))
-    | inr a ↦ top_is_most earlier code (around code) ready.good (names_in l) ready.known k (read rows) table top t.most a.0 a.1.0 a.1.1 ]
+    | inl e ↦ absurd (omega (arith, ready.good.some_code))
+    | inr a ↦ top_is_most earlier code (around code) ready.good (names_in l) ready.known k (read rows) table top t.most a.0 a.1.0 a.1.1
+  ]
 
 -- the limit is passed
 pub exceeds : (k : Kind) (earlier : List Budgets) (code : List Instr) (l : Layout) → IsReady earlier code l → (most : ℕ) → most ≡ limit_of k - own_of k → Passes (skeleton earlier code) (flows_in k earlier code l) most → Exceeds earlier code (cause_of k)

@@ -111,17 +111,23 @@ scan code p (suc m) j q le far lt e = by (λ lt' rest. scan code p m (j + 1) q (
   where
     Found : ℕ → Type 0
     Found k = (is_next (instr_at code q) ≡ true) × (k < q) × (q < length code)
+
     Rest : Type 0
     Rest = find (λ k. is_balanced (slice_range code p (k + 1))) (range_with_len (j + 1 + 1) m) ≡ Some q
+
     here : j + 1 < length code
     here = omega arith
+
     a : counted is_next code p (j + 1) ≡ counted is_next code p j + cond (is_next (instr_at code (j + 1))) 1 0
     a = counted_more is_next code p j le here
+
     b : counted is_times code p (j + 1) ≡ counted is_times code p j + cond (is_times (instr_at code (j + 1))) 1 0
     b = counted_more is_times code p j le here
+
     more : (w : Bool) → is_next (instr_at code (j + 1)) ≡ w → counted is_next code p (j + 1) ≢ counted is_times code p (j + 1) → counted is_next code p (j + 1) < counted is_times code p (j + 1)
     more true n ne = let a' : counted is_next code p (j + 1) ≡ counted is_next code p j + 1 = a ∙ ap (λ v. counted is_next code p j + cond v 1 0) n in omega (arith, b)
     more false n ne = let a' : counted is_next code p (j + 1) ≡ counted is_next code p j + 0 = a ∙ ap (λ v. counted is_next code p j + cond v 1 0) n in omega (arith, b)
+
     by : (counted is_next code p (j + 1) < counted is_times code p (j + 1) → Rest → Found (j + 1)) → (v : Bool) → is_balanced (slice_range code p (j + 1 + 1)) ≡ v → (w : Bool) → is_next (instr_at code (j + 1)) ≡ w → (is_next (instr_at code q) ≡ true) × (j < q) × (q < length code)
     by ih true h true n =
         let s : Some (j + 1) ≡ Some q = sym (ap (λ v. cond v (Some (j + 1)) (find (λ k. is_balanced (slice_range code p (k + 1))) (range_with_len (j + 1 + 1) m))) h) ∙ e in

@@ -180,6 +180,7 @@ module _ (p : Program) (f : ℕ) (accepted : IsWellTyped p f) (some_code : 0 < l
           let same : Some o.end ≡ Some from = sym o.ends ∙ d.ends in
           let end_is : o.end ≡ from = cc in
           subst (λ k. Led (skeleton earlier (routine p f).code) (k + 1)) (o.mate ∙ end_is) (from_end d.head d.turns (ap (shape_of d.head) d.times))
+
       by : (pc : ℕ) (s : TypeState) → 0 < pc → Reaches (typing p f) pc s → Led (skeleton earlier (routine p f).code) pc
       by pc s pos first = absurd (omega arith)
       by pc s pos (then from before out r e l) = at from pc before s (edge_at p f accepted some_code bounds earlier from before out pc s e l)
@@ -218,10 +219,11 @@ module _ (p : Program) (f : ℕ) (accepted : IsWellTyped p f) (some_code : 0 < l
         let d = here p f accepted some_code bounds earlier o.end (omega (arith, o.within)) in
         let back_is : back_of (instr_at (routine p f).code o.end) d.clear.state ≡ Some (pc + 1) = ap (λ j. back_of j d.clear.state) o.is_end ∙ back_to d.clear.state.loops (d.fit.loops ∙ o.around_end) in
         let turn : inner ≡ d.clear.state = d.clear.same (pc + 1) inner back_is reach_in in
-        let end_names : names d.clear.state.entries ≡ names_at o.end = right o.end d.clear.state d.clear.alone.0 in
-        (sym (right (pc + 1) inner reach_in) ∙ here_names,
-         ap names_at o.mate ∙ sym end_names ∙ sym (ap (λ (y : TypeState). names y.entries) turn) ∙ here_names,
-         ap (λ q. names_at (q + 1)) o.mate ∙ sym (right (o.end + 1) (moved p (Times n) s) reach_out) ∙ here_names)
+        let end_names : names d.clear.state.entries ≡ names_at o.end = right o.end d.clear.state d.clear.alone.0 in (
+          sym (right (pc + 1) inner reach_in) ∙ here_names,
+          ap names_at o.mate ∙ sym end_names ∙ sym (ap (λ (y : TypeState). names y.entries) turn) ∙ here_names,
+          ap (λ q. names_at (q + 1)) o.mate ∙ sym (right (o.end + 1) (moved p (Times n) s) reach_out) ∙ here_names,
+        )
       where
         back_to : (ls : List TypedLoop) → heads ls ≡ pc ∷ around (routine p f).code pc → option_map (λ (l : TypedLoop). l.at + 1) (slice_get ls 0) ≡ Some (pc + 1)
         back_to [] e = absurd (cc)
@@ -250,8 +252,9 @@ module _ (p : Program) (f : ℕ) (accepted : IsWellTyped p f) (some_code : 0 < l
     held_step : (from : ℕ) (s : TypeState) (to : ℕ) (x : TypeState) → (i : Instr) → names s.entries ≡ names_at from → Held s.loops (length (names s.entries)) → breaks_structure i s ≡ false → has_wrong_slot i s ≡ false → is_strangers i s ≡ false → IsEdge p (routine p f).code from i s to x → Held x.loops (length (names x.entries))
     held_step from s to x i here_names h ordered right_slot own (over_go g among same entries) =
         let after : Held s.loops (length (names_after i (names s.entries))) = elim (keeps_depth i s ordered right_slot own) [
-              inl le ↦ held_more s.loops (length (names s.entries)) (length (names_after i (names s.entries))) le h
-            | inr r ↦ held_less s.loops (length (names s.entries)) (length (names_after i (names s.entries))) r.1 (subst (λ n. list_any (λ (l : TypedLoop). nat_le n l.entries) s.loops ≡ false) (sym (long s.entries)) r.0) h ] in
+          | inl le ↦ held_more s.loops (length (names s.entries)) (length (names_after i (names s.entries))) le h
+          | inr r ↦ held_less s.loops (length (names s.entries)) (length (names_after i (names s.entries))) r.1 (subst (λ n. list_any (λ (l : TypedLoop). nat_le n l.entries) s.loops ≡ false) (sym (long s.entries)) r.0) h
+        ] in
         subst (λ ls. Held ls (length (names x.entries))) (sym same) (subst (λ ns. Held s.loops (length ns)) (sym entries) after)
     held_step from s to x i here_names h ordered right_slot own (into_loop n is loops entries) =
         let n_is : length s.entries ≡ length (names_at from) = sym (long s.entries) ∙ ap length here_names in
@@ -270,15 +273,17 @@ module _ (p : Program) (f : ℕ) (accepted : IsWellTyped p f) (some_code : 0 < l
 
     deeper : (pc h : ℕ) (hs : List ℕ) → around (routine p f).code pc ≡ h ∷ hs → length (names_at h) ≤ length (names_at pc)
     deeper pc h hs e = elim (cases_lt pc (length (routine p f).code)) [
-        inl lt ↦ (let k = here p f accepted some_code bounds earlier pc lt in
-                  let d = held pc k.clear.state k.clear.alone.0 in
-                  let n = right pc k.clear.state k.clear.alone.0 in
-                  first_held k.clear.state.loops (length (names k.clear.state.entries)) (k.fit.loops ∙ e) (ap length n) d)
-      | inr ge ↦ absurd (past ge) ]
+      | inl lt ↦ (let k = here p f accepted some_code bounds earlier pc lt in
+          let d = held pc k.clear.state k.clear.alone.0 in
+          let n = right pc k.clear.state k.clear.alone.0 in
+          first_held k.clear.state.loops (length (names k.clear.state.entries)) (k.fit.loops ∙ e) (ap length n) d)
+      | inr ge ↦ absurd (past ge)
+    ]
       where
         first_held : (ls : List TypedLoop) (n : ℕ) → heads ls ≡ h ∷ hs → n ≡ length (names_at pc) → Held ls n → length (names_at h) ≤ length (names_at pc)
         first_held [] n is m d = absurd (cc)
         first_held (l ∷ ls) n is m d = let same : l.at ≡ h = cc in let at : length (names_at l.at) ≡ length (names_at h) = ap (λ q. length (names_at q)) same in omega (arith, d.0, d.1)
+
         past : length (routine p f).code ≤ pc → ⊥
         past ge = let z = none_past (routine p f).code pc (h ∷ hs) e ge in (cc)
 
@@ -290,5 +295,6 @@ module _ (p : Program) (f : ℕ) (accepted : IsWellTyped p f) (some_code : 0 < l
       times = times_at p f accepted some_code bounds earlier;
       next = next_at p f accepted some_code bounds earlier;
       fit = λ pc lt. (let k = here p f accepted some_code bounds earlier pc lt in
-        subst (FitsNames (instr_at (routine p f).code pc)) (right pc k.clear.state k.clear.alone.0) (fits_names p (instr_at (routine p f).code pc) k.clear.state k.rules.ordered k.rules.legal k.rules.right_slot k.rules.own_thread));
-      deeper = deeper }
+          subst (FitsNames (instr_at (routine p f).code pc)) (right pc k.clear.state k.clear.alone.0) (fits_names p (instr_at (routine p f).code pc) k.clear.state k.rules.ordered k.rules.legal k.rules.right_slot k.rules.own_thread));
+      deeper = deeper;
+    }

@@ -40,11 +40,12 @@ lie_on_paths p f earlier fine within typed = λ pc loops before es r.
 pub are_within : (p : Program) (f : ℕ) (earlier : List Budgets) (b : Budgets) → program_fault p.routines ≡ None → f < length p.routines → IsWellTyped p f → IsBudget earlier (routine p f).code b → PointsAreWithin earlier (routine p f).code b
 are_within p f earlier b fine within typed is = λ pc loops before es r.
     (let w = lie_on_paths p f earlier fine within typed pc loops before es r in
-     let top = is.steps.1 w.0 w.1.0 in
-     (omega (arith, w.1.1),
+    let top = is.steps.1 w.0 w.1.0 in (
+      omega (arith, w.1.1),
       is.tasks.1 _ (pc, (loops, (before, (es, (r, refl))))),
       is.scopes.1 _ (pc, (loops, (before, (es, (r, refl))))),
-      is.binds.1 _ (pc, (loops, (before, (es, (r, refl)))))))
+      is.binds.1 _ (pc, (loops, (before, (es, (r, refl))))),
+    ))
 
 -- a fork adds what the subtask counts
 sum_forked : (m : Measure) (x g : ℕ) (es : List OpenEntry) → HasScope x (names es) → entries_sum m (forked x g es) ≡ entries_sum m es + m.subtask g
@@ -59,19 +60,19 @@ sum_forked m x g es h =
 pub children_part : (p : Program) (f : ℕ) (earlier : List Budgets) (b : Budgets) → program_fault p.routines ≡ None → f < length p.routines → IsWellTyped p f → IsBudget earlier (routine p f).code b → ChildrenArePart earlier (routine p f).code b
 children_part p f earlier b fine within typed is = λ pc loops before es r slot child handle e.
     (let c = is_checked p f fine within in
-     let code = (routine p f).code in
-     let good = structured p f typed c.some_code c.bounds earlier in
-     let known = knows_names p f typed c.some_code c.bounds earlier (names_here p f typed c.some_code c.bounds) (names_right p f typed c.some_code c.bounds) in
-     let i = comes_inside (skeleton earlier code) (around code) good pc loops before es r in
-     let ns = comes_names earlier code (around code) good (names_here p f typed c.some_code c.bounds) known pc loops before es r in
-     let fit : HasScope slot (names es) = subst (HasScope slot) (sym ns) (subst (λ j. FitsNames j (names_here p f typed c.some_code c.bounds pc)) e (known.fit pc i.within)) in
-     let shape : (skeleton earlier code).shape pc ≡ GoesTo ((pc + 1) ∷ []) = ap (shape_of pc) e in
-     let after = step r (go ((pc + 1) ∷ []) shape (inl refl)) in
-     let es' : entries_of (instr_at code pc) es ≡ forked slot child es = ap (λ j. entries_of j es) e in
-     let w = are_within p f earlier b fine within typed is (pc + 1) loops _ _ after in
-     let here = are_within p f earlier b fine within typed is pc loops before es r in
-     let weight : steps_of earlier (instr_at code pc) ≡ 1 + (budget_at earlier child).steps = ap (steps_of earlier) e in
-     let t = ap (entries_sum (tasks_measure earlier)) es' ∙ sum_forked (tasks_measure earlier) slot child es fit in
-     let s = ap (entries_sum (scopes_measure earlier)) es' ∙ sum_forked (scopes_measure earlier) slot child es fit in
-     let d = ap (entries_sum (binds_measure earlier)) es' ∙ sum_forked (binds_measure earlier) slot child es fit in
-     (omega (arith, here.0, weight), omega (arith, w.1, t), omega (arith, w.2, s), omega (arith, w.3, d)))
+    let code = (routine p f).code in
+    let good = structured p f typed c.some_code c.bounds earlier in
+    let known = knows_names p f typed c.some_code c.bounds earlier (names_here p f typed c.some_code c.bounds) (names_right p f typed c.some_code c.bounds) in
+    let i = comes_inside (skeleton earlier code) (around code) good pc loops before es r in
+    let ns = comes_names earlier code (around code) good (names_here p f typed c.some_code c.bounds) known pc loops before es r in
+    let fit : HasScope slot (names es) = subst (HasScope slot) (sym ns) (subst (λ j. FitsNames j (names_here p f typed c.some_code c.bounds pc)) e (known.fit pc i.within)) in
+    let shape : (skeleton earlier code).shape pc ≡ GoesTo ((pc + 1) ∷ []) = ap (shape_of pc) e in
+    let after = step r (go ((pc + 1) ∷ []) shape (inl refl)) in
+    let es' : entries_of (instr_at code pc) es ≡ forked slot child es = ap (λ j. entries_of j es) e in
+    let w = are_within p f earlier b fine within typed is (pc + 1) loops _ _ after in
+    let here = are_within p f earlier b fine within typed is pc loops before es r in
+    let weight : steps_of earlier (instr_at code pc) ≡ 1 + (budget_at earlier child).steps = ap (steps_of earlier) e in
+    let t = ap (entries_sum (tasks_measure earlier)) es' ∙ sum_forked (tasks_measure earlier) slot child es fit in
+    let s = ap (entries_sum (scopes_measure earlier)) es' ∙ sum_forked (scopes_measure earlier) slot child es fit in
+    let d = ap (entries_sum (binds_measure earlier)) es' ∙ sum_forked (binds_measure earlier) slot child es fit in
+    (omega (arith, here.0, weight), omega (arith, w.1, t), omega (arith, w.2, s), omega (arith, w.3, d)))

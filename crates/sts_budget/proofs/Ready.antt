@@ -61,10 +61,13 @@ is_ready p f earlier code l fine in_program typed long is laid = subst (λ xs. I
   where
     c : IsChecked p f
     c = is_checked p f fine in_program
+
     right : (pc : ℕ) → pc < length (routine p f).code → IsRight p f l.heads.items l.names.items pc
     right pc lt = laid.right pc lt (is_written p f typed c.some_code c.bounds (length (routine p f).code) pc (omega arith) lt)
+
     names_right : NamesRight p f (names_in l)
     names_right pc s r = (right pc (fits p f typed c.some_code c.bounds earlier pc s r).1).name s r
+
     ready : IsReady earlier (routine p f).code l
     ready = record {
       good = structured p f typed c.some_code c.bounds earlier;
@@ -77,4 +80,5 @@ is_ready p f earlier code l fine in_program typed long is laid = subst (λ xs. I
       names_long = laid.names_long;
       forks = λ pc. subst (λ n. ForksEarlier n (instr_at (routine p f).code pc)) (sym long) (forks f pc (instr_at (routine p f).code pc) (c.earlier pc));
       turns = c.few;
-      short = c.short }
+      short = c.short;
+    }

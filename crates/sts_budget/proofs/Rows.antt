@@ -12,8 +12,9 @@ use Rattle.sts_budget.proofs.LaidStep.{among_at}
 -- one more of the values below i + 1
 pub set_below : (P : ℕ → ℕ → Type 0) (xs : List ℕ) (i v : ℕ) → i < length xs → ((d : ℕ) → d < i → P d (get_or xs d 0)) → P i v → (d : ℕ) → d < i + 1 → P d (get_or (set xs i v) d 0)
 set_below P xs i v within below here d lt = elim (cases_eq d i) [
-    inl e ↦ subst (λ q. P q (get_or (set xs i v) q 0)) (sym e) (subst (P i) (sym (get_or-set_same xs i v 0 within)) here)
-  | inr ne ↦ subst (P d) (sym (get_or-set_other xs i d v 0 ne)) (below d (omega arith)) ]
+  | inl e ↦ subst (λ q. P q (get_or (set xs i v) q 0)) (sym e) (subst (P i) (sym (get_or-set_same xs i v 0 within)) here)
+  | inr ne ↦ subst (P d) (sym (get_or-set_other xs i d v 0 ne)) (below d (omega arith))
+]
 
 pub set_above : (xs : List ℕ) (i v d : ℕ) → i < d → get_or (set xs i v) d 0 ≡ get_or xs d 0
 set_above xs i v d lt = let ne : d ≢ i = omega arith in get_or-set_other xs i d v 0 ne
@@ -24,23 +25,28 @@ sent_none values low most places rows = record { long = refl; raised = λ pc d a
 -- the row of one more place is raised
 pub sent_more : (values : List ℕ) (low : ℕ → ℕ) (most : ℕ) (places : List ℕ) (i to : ℕ) (before mid : List (List ℕ)) (row : List ℕ) → i < length places → get_or places i 0 ≡ to → to < length before → low to ≤ 16 → IsSent values low most (take i places) before mid → IsRaised values (low to) most (get_or mid to []) row → IsSent values low most (take (i + 1) places) before (set mid to row)
 sent_more values low most places i to before mid row lt is within fits h r = record {
-    long = length-set mid to row ∙ h.long;
-    raised = λ pc d a le. higher pc d le (among_of (take i places) (to ∷ []) pc (subst (λ ps. Among ps pc) more a)) (cases_eq pc to);
-    same = λ pc d out. (
+  long = length-set mid to row ∙ h.long;
+  raised = λ pc d a le. higher pc d le (among_of (take i places) (to ∷ []) pc (subst (λ ps. Among ps pc) more a)) (cases_eq pc to);
+  same = λ pc d out. (
       let ne : pc ≢ to = λ e. out (subst (λ ps. Among ps pc) (sym more) (among_right (take i places) (to ∷ []) pc (inl (sym e)))) in
       other pc d ne ∙ h.same pc d (λ a. out (subst (λ ps. Among ps pc) (sym more) (among_left (take i places) (to ∷ []) pc a))));
-    small = λ pc d a le. elim (among_of (take i places) (to ∷ []) pc (subst (λ ps. Among ps pc) more a)) [ inl b ↦ h.small pc d b le | inr b ↦ elim b [ inl e ↦ r.small d (subst (λ q. d ≤ low q) (sym e) le) | inr out_of ↦ absurd out_of ] ];
-    few = λ pc a. elim (among_of (take i places) (to ∷ []) pc (subst (λ ps. Among ps pc) more a)) [ inl b ↦ h.few pc b | inr b ↦ elim b [ inl e ↦ subst (λ q. low q ≤ 16) e fits | inr out_of ↦ absurd out_of ] ] }
+  small = λ pc d a le. elim (among_of (take i places) (to ∷ []) pc (subst (λ ps. Among ps pc) more a)) [ inl b ↦ h.small pc d b le | inr b ↦ elim b [ inl e ↦ r.small d (subst (λ q. d ≤ low q) (sym e) le) | inr out_of ↦ absurd out_of ] ];
+  few = λ pc a. elim (among_of (take i places) (to ∷ []) pc (subst (λ ps. Among ps pc) more a)) [ inl b ↦ h.few pc b | inr b ↦ elim b [ inl e ↦ subst (λ q. low q ≤ 16) e fits | inr out_of ↦ absurd out_of ] ];
+}
   where
     more : take (i + 1) places ≡ take i places ++ to ∷ []
     more = let n : i + 1 ≡ suc i = omega arith in ap (λ k. take k places) n ∙ take-suc places i 0 lt ∙ ap (λ x. take i places ++ x ∷ []) is
+
     other : (pc d : ℕ) → pc ≢ to → read (set mid to row) pc d ≡ read mid pc d
     other pc d ne = ap (λ (x : List ℕ). get_or x d 0) (get_or-set_other mid to pc row [] ne)
+
     here : (d : ℕ) → read (set mid to row) to d ≡ get_or row d 0
     here d = let w : to < length mid = omega (arith, h.long) in ap (λ (x : List ℕ). get_or x d 0) (get_or-set_same mid to row [] w)
+
     by_old : (d : ℕ) → Among (take i places) to ⊎ (Among (take i places) to → ⊥) → d ≤ low to → get_or row d 0 ≡ max (read before to d) (get_or values d 0)
     by_old d (inl a) le = let x = r.higher d le in let y = h.raised to d a le in omega arith
     by_old d (inr out) le = let x = r.higher d le in let y = h.same to d out in omega arith
+
     higher : (pc d : ℕ) → d ≤ low pc → Among (take i places) pc ⊎ Among (to ∷ []) pc → (pc ≡ to) ⊎ (pc ≢ to) → read (set mid to row) pc d ≡ max (read before pc d) (get_or values d 0)
     higher pc d le a (inl e) = subst (λ q. read (set mid to row) q d ≡ max (read before q d) (get_or values d 0)) (sym e) (here d ∙ by_old d (among_cases (take i places) to) (subst (λ q. d ≤ low q) e le))
     higher pc d le (inl a) (inr ne) = other pc d ne ∙ h.raised pc d a le

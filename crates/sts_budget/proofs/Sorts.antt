@@ -50,10 +50,13 @@ pub data Sort (p : Program) (code : List Instr) (pc : ℕ) : Instr → Type 0 wh
 single : (p : Program) (code : List Instr) (pc : ℕ) (i : Instr) (out : TypeState → TypeState) → shape_of pc i ≡ GoesTo (named i ++ next_place pc i) → (named i ++ next_place pc i ≡ (pc + 1) ∷ []) → skipped_to code pc i ≡ [] → ((hs : List ℕ) → open_after pc i hs ≡ hs)
     → ((s : TypeState) → follows p code pc i s ≡ (pc + 1, out s) ∷ []) → ((s : TypeState) → (out s).loops ≡ s.loops) → ((s : TypeState) → names (out s).entries ≡ names_after i (names s.entries)) → GoesOn p code pc i
 single p code pc i out shape places no_skip keeps is loops entries = record {
-    shape = shape; no_skip = no_skip; keeps_loops = keeps;
-    from = λ s to x l. at s to x (subst (λ o. Leads o to x) (is s) l);
-    into = λ s to a. (out s, subst (λ o. Leads o to (out s)) (sym (is s)) (elim (subst (λ ps. Among ps to) places a) [ inl e ↦ inl (e, refl) | inr out_of ↦ absurd out_of ]));
-    some = (pc + 1, subst (λ ps. Among ps (pc + 1)) (sym places) (inl refl)) }
+  shape = shape;
+  no_skip = no_skip;
+  keeps_loops = keeps;
+  from = λ s to x l. at s to x (subst (λ o. Leads o to x) (is s) l);
+  into = λ s to a. (out s, subst (λ o. Leads o to (out s)) (sym (is s)) (elim (subst (λ ps. Among ps to) places a) [ inl e ↦ inl (e, refl) | inr out_of ↦ absurd out_of ]));
+  some = (pc + 1, subst (λ ps. Among ps (pc + 1)) (sym places) (inl refl));
+}
   where
     at : (s : TypeState) (to : ℕ) (x : TypeState) → Leads ((pc + 1, out s) ∷ []) to x → Among (named i ++ next_place pc i) to × (x.loops ≡ s.loops) × (names x.entries ≡ names_after i (names s.entries))
     at s to x (inl e) = (subst (λ ps. Among ps to) (sym places) (inl e.0), ap (λ (y : TypeState). y.loops) (sym e.1) ∙ loops s, ap (λ (y : TypeState). names y.entries) (sym e.1) ∙ entries s)
@@ -84,24 +87,31 @@ slot_names (Some x) k s = refl
 
 jump : (p : Program) (code : List Instr) (pc to : ℕ) → GoesOn p code pc (Jmp to)
 jump p code pc to = record {
-    shape = refl; no_skip = refl; keeps_loops = λ hs. refl;
-    from = λ s q x. elim [ inl e ↦ (inl e.0, ap (λ (y : TypeState). y.loops) (sym e.1), ap (λ (y : TypeState). names y.entries) (sym e.1)) | inr out_of ↦ absurd out_of ];
-    into = λ s q. elim [ inl e ↦ (s, inl (e, refl)) | inr out_of ↦ absurd out_of ];
-    some = (to, inl refl) }
+  shape = refl;
+  no_skip = refl;
+  keeps_loops = λ hs. refl;
+  from = λ s q x. elim [ inl e ↦ (inl e.0, ap (λ (y : TypeState). y.loops) (sym e.1), ap (λ (y : TypeState). names y.entries) (sym e.1)) | inr out_of ↦ absurd out_of ];
+  into = λ s q. elim [ inl e ↦ (s, inl (e, refl)) | inr out_of ↦ absurd out_of ];
+  some = (to, inl refl);
+}
 
 -- to the next place, or to the one named
 branch : (p : Program) (code : List Instr) (pc to : ℕ) (i : Instr) (here there : TypeState → TypeState) → shape_of pc i ≡ GoesTo (named i ++ next_place pc i) → (named i ++ next_place pc i ≡ to ∷ (pc + 1) ∷ []) → skipped_to code pc i ≡ [] → ((hs : List ℕ) → open_after pc i hs ≡ hs)
     → ((s : TypeState) → follows p code pc i s ≡ (pc + 1, here s) ∷ (to, there s) ∷ []) → ((s : TypeState) → ((here s).loops ≡ s.loops) × ((there s).loops ≡ s.loops)) → ((s : TypeState) → (names (here s).entries ≡ names_after i (names s.entries)) × (names (there s).entries ≡ names_after i (names s.entries))) → GoesOn p code pc i
 branch p code pc to i here there shape places no_skip keeps is loops entries = record {
-    shape = shape; no_skip = no_skip; keeps_loops = keeps;
-    from = λ s q x l. at s q x (subst (λ o. Leads o q x) (is s) l);
-    into = λ s q a. back s q (subst (λ ps. Among ps q) places a);
-    some = (pc + 1, subst (λ ps. Among ps (pc + 1)) (sym places) (inr (inl refl))) }
+  shape = shape;
+  no_skip = no_skip;
+  keeps_loops = keeps;
+  from = λ s q x l. at s q x (subst (λ o. Leads o q x) (is s) l);
+  into = λ s q a. back s q (subst (λ ps. Among ps q) places a);
+  some = (pc + 1, subst (λ ps. Among ps (pc + 1)) (sym places) (inr (inl refl)));
+}
   where
     at : (s : TypeState) (q : ℕ) (x : TypeState) → Leads ((pc + 1, here s) ∷ (to, there s) ∷ []) q x → Among (named i ++ next_place pc i) q × (x.loops ≡ s.loops) × (names x.entries ≡ names_after i (names s.entries))
     at s q x (inl e) = (subst (λ ps. Among ps q) (sym places) (inr (inl e.0)), ap (λ (y : TypeState). y.loops) (sym e.1) ∙ (loops s).0, ap (λ (y : TypeState). names y.entries) (sym e.1) ∙ (entries s).0)
     at s q x (inr (inl e)) = (subst (λ ps. Among ps q) (sym places) (inl e.0), ap (λ (y : TypeState). y.loops) (sym e.1) ∙ (loops s).1, ap (λ (y : TypeState). names y.entries) (sym e.1) ∙ (entries s).1)
     at s q x (inr (inr out_of)) = absurd out_of
+
     back : (s : TypeState) (q : ℕ) → Among (to ∷ (pc + 1) ∷ []) q → (x : TypeState) × Leads (follows p code pc i s) q x
     back s q (inl e) = (there s, subst (λ o. Leads o q (there s)) (sym (is s)) (inr (inl (e, refl))))
     back s q (inr (inl e)) = (here s, subst (λ o. Leads o q (here s)) (sym (is s)) (inl (e, refl)))
@@ -109,14 +119,20 @@ branch p code pc to i here there shape places no_skip keeps is loops entries = r
 
 cases_of : (p : Program) (code : List Instr) (pc h success failed : ℕ) → GoesOn p code pc (Case h success failed)
 cases_of p code pc h success failed = record {
-    shape = refl; no_skip = refl; keeps_loops = λ hs. refl;
-    from = at; into = back; some = (pc + 1, inr (inr (inl refl))) }
+  shape = refl;
+  no_skip = refl;
+  keeps_loops = λ hs. refl;
+  from = at;
+  into = back;
+  some = (pc + 1, inr (inr (inl refl)));
+}
   where
     at : (s : TypeState) (q : ℕ) (x : TypeState) → Leads (follows p code pc (Case h success failed) s) q x → Among (success ∷ failed ∷ (pc + 1) ∷ []) q × (x.loops ≡ s.loops) × (names x.entries ≡ names s.entries)
     at s q x (inl e) = (inr (inr (inl e.0)), ap (λ (y : TypeState). y.loops) (sym e.1), ap (λ (y : TypeState). names y.entries) (sym e.1))
     at s q x (inr (inl e)) = (inl e.0, ap (λ (y : TypeState). y.loops) (sym e.1), ap (λ (y : TypeState). names y.entries) (sym e.1))
     at s q x (inr (inr (inl e))) = (inr (inl e.0), ap (λ (y : TypeState). y.loops) (sym e.1), ap (λ (y : TypeState). names y.entries) (sym e.1))
     at s q x (inr (inr (inr out_of))) = absurd out_of
+
     back : (s : TypeState) (q : ℕ) → Among (success ∷ failed ∷ (pc + 1) ∷ []) q → (x : TypeState) × Leads (follows p code pc (Case h success failed) s) q x
     back s q (inl e) = (with_known h Success s, inr (inl (e, refl)))
     back s q (inr (inl e)) = (with_known h Failed s, inr (inr (inl (e, refl))))
@@ -125,22 +141,32 @@ cases_of p code pc h success failed = record {
 
 join_of : (p : Program) (code : List Instr) (pc x : ℕ) (failed timeout : Option ℕ) (interrupted : ℕ) → GoesOn p code pc (Join x failed timeout interrupted)
 join_of p code pc x failed timeout interrupted = record {
-    shape = refl; no_skip = refl; keeps_loops = λ hs. refl;
-    from = at failed timeout; into = back failed timeout; some = (interrupted, among_left (named (Join x failed timeout interrupted)) ((pc + 1) ∷ []) interrupted (last failed timeout)) }
+  shape = refl;
+  no_skip = refl;
+  keeps_loops = λ hs. refl;
+  from = at failed timeout;
+  into = back failed timeout;
+  some = (interrupted, among_left (named (Join x failed timeout interrupted)) ((pc + 1) ∷ []) interrupted (last failed timeout));
+}
   where
     last : (failed timeout : Option ℕ) → Among (named (Join x failed timeout interrupted)) interrupted
     last None None = inl refl
     last None (Some t) = inr (inl refl)
     last (Some f) None = inr (inl refl)
     last (Some f) (Some t) = inr (inr (inl refl))
+
     phased : (s y : TypeState) (phase : TypedPhase) → names y.entries ≡ names (map (phase_set x phase) s.entries) → names y.entries ≡ names s.entries
     phased s y phase e = e ∙ names_kept x phase s.entries
+
     joined : (s y : TypeState) → after_ok x (joiner_of (scope_in s.entries x)) s ≡ y → (y.loops ≡ s.loops) × (names y.entries ≡ names s.entries)
     joined s y e = (ap (λ (z : TypeState). z.loops) (sym e), phased s y Joined (ap (λ (z : TypeState). names z.entries) (sym e)))
+
     failing : (s y : TypeState) → raised 1 (with_phase x Joined s) ≡ y → (y.loops ≡ s.loops) × (names y.entries ≡ names s.entries)
     failing s y e = (ap (λ (z : TypeState). z.loops) (sym e), phased s y Joined (ap (λ (z : TypeState). names z.entries) (sym e)))
+
     moving : (s y : TypeState) (phase : TypedPhase) → with_phase x phase s ≡ y → (y.loops ≡ s.loops) × (names y.entries ≡ names s.entries)
     moving s y phase e = (ap (λ (z : TypeState). z.loops) (sym e), phased s y phase (ap (λ (z : TypeState). names z.entries) (sym e)))
+
     at : (failed timeout : Option ℕ) (s : TypeState) (q : ℕ) (y : TypeState) → Leads (join_follows pc x failed timeout interrupted s) q y → Among (named (Join x failed timeout interrupted) ++ next_place pc (Join x failed timeout interrupted)) q × (y.loops ≡ s.loops) × (names y.entries ≡ names s.entries)
     at None None s q y (inl e) = (inr (inl e.0), (joined s y e.1).0, (joined s y e.1).1)
     at None None s q y (inr (inl e)) = (inl e.0, (moving s y Attempted e.1).0, (moving s y Attempted e.1).1)
@@ -158,6 +184,7 @@ join_of p code pc x failed timeout interrupted = record {
     at (Some f) (Some t) s q y (inr (inr (inl e))) = (inr (inl e.0), (moving s y Late e.1).0, (moving s y Late e.1).1)
     at (Some f) (Some t) s q y (inr (inr (inr (inl e)))) = (inr (inr (inl e.0)), (moving s y Attempted e.1).0, (moving s y Attempted e.1).1)
     at (Some f) (Some t) s q y (inr (inr (inr (inr out_of)))) = absurd out_of
+
     back : (failed timeout : Option ℕ) (s : TypeState) (q : ℕ) → Among (named (Join x failed timeout interrupted) ++ next_place pc (Join x failed timeout interrupted)) q → (y : TypeState) × Leads (join_follows pc x failed timeout interrupted s) q y
     back None None s q (inl e) = (with_phase x Attempted s, inr (inl (e, refl)))
     back None None s q (inr (inl e)) = (after_ok x (joiner_of (scope_in s.entries x)) s, inl (e, refl))

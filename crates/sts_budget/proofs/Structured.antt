@@ -132,6 +132,7 @@ module _ (c : Skeleton) (around : ℕ → List ℕ) (good : IsStructured c aroun
     where
       none : (b : ℕ) → bound_of (c.shape l.0) ≡ b → b ≡ 0 → IsMadeWhole (l ∷ ls)
       none b e z = let no : ⊥ = omega (arith, fit.0, fit.1) in absurd no
+
       by : (s : Shape) → c.shape l.0 ≡ s → IsMadeWhole ls → IsMadeWhole (l ∷ ls)
       by (Repeats n) e rest =
           let left_is : suc (l.1 - 1) ≡ l.1 = omega (arith, fit.0) in

@@ -45,7 +45,7 @@ module _ (c : Skeleton) (around : ℕ → List ℕ) (good : IsStructured c aroun
   plain d pc ls m to after low same r s = more low (subst (λ x. Sums c f x pc ls m) (sym same) r) s
 
   turns_done : (p n d : ℕ) (e : c.shape p ≡ Repeats n) (low : d ≤ f.depth p) (ls : Loops) → ((left m : ℕ) → Sums c f d (p + 1) ((p, left) ∷ ls) m → Sums c f d (c.mate p) ((p, left) ∷ ls) (m + best (c.mate p) d))
-    → (left m : ℕ) → Sums c f d (p + 1) ((p, suc left) ∷ ls) m → Sums c f d (c.mate p + 1) ls (m + suc left * gain c f best p d)
+      → (left m : ℕ) → Sums c f d (p + 1) ((p, suc left) ∷ ls) m → Sums c f d (c.mate p + 1) ls (m + suc left * gain c f best p d)
   turns_done p n d e low ls one zero m r =
       let l = good.loop p n e in
       let s = fits.same p n e in
@@ -95,7 +95,7 @@ module _ (c : Skeleton) (around : ℕ → List ℕ) (good : IsStructured c aroun
       let last : c.mate p < c.mate p + 1 = omega arith in
       let same_d = min_low d (f.depth p) low_p in
       let one : (left m' : ℕ) → Sums c f d (p + 1) ((p, left) ∷ ls) m' → Sums c f d (c.mate p) ((p, left) ∷ ls) (m' + best (c.mate p) d) =
-            λ left m' r'. ih (c.mate p) last d low_q ((p, left) ∷ ls) m' (ap (λ (hs : List ℕ). p ∷ hs) inside ∙ sym l.5) (subst (λ x. Sums c f x (p + 1) ((p, left) ∷ ls) m') (sym same_d) r') in
+      λ left m' r'. ih (c.mate p) last d low_q ((p, left) ∷ ls) m' (ap (λ (hs : List ℕ). p ∷ hs) inside ∙ sym l.5) (subst (λ x. Sums c f x (p + 1) ((p, left) ∷ ls) m') (sym same_d) r') in
       let done = turns_done p n d e low_p ls one (n - 1) (m + best p d + f.added p d) opened' in
       let g = gain c f best p d in
       let times_is : suc (n - 1) * g ≡ n * g = ap (λ x. x * g) (sym n_is) in
@@ -336,7 +336,7 @@ module _ (c : Skeleton) (around : ℕ → List ℕ) (good : IsStructured c aroun
       let m : min (f.depth pc) (f.depth p) ≡ f.depth p = omega arith in
       let a : base c f best (last_turns (around pc)) (f.depth pc) ≡ base c f best (last_turns (p ∷ ps)) (f.depth pc) = ap (λ hs. base c f best (last_turns hs) (f.depth pc)) is in
       let b : base c f best (last_turns (p ∷ ps)) (f.depth pc) ≡ base c f best (last_turns ps) (f.depth p) + best p (f.depth p) + f.added p (f.depth p) + (bound_of (c.shape p) - 1) * gain c f best p (f.depth p) =
-            ap (λ x. base c f best (last_turns ps) x + best p x + f.added p x + (bound_of (c.shape p) - 1) * gain c f best p x) m in
+      ap (λ x. base c f best (last_turns ps) x + best p x + f.added p x + (bound_of (c.shape p) - 1) * gain c f best p x) m in
       let o : base c f best (last_turns (around p)) (f.depth p) ≡ base c f best (last_turns ps) (f.depth p) = ap (λ hs. base c f best (last_turns hs) (f.depth p)) q.1 in
       omega arith
 

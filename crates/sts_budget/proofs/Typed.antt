@@ -209,11 +209,13 @@ module _ (p : Program) (f : ℕ) (accepted : IsWellTyped p f) (some_code : 0 < l
 
   pub leading_go : (pc : ℕ) (i : Instr) (s : TypeState) (out : List (ℕ × TypeState)) (to : ℕ) (x : TypeState) → Allowed p f pc i s out → GoesOn p (routine p f).code pc i → Among (named i ++ next_place pc i) to → x.loops ≡ s.loops → Leading pc s to x
   leading_go pc i s out to x a g among same = record {
-      later = elim (among_of (named i) (next_place pc i) to among) [ inl m ↦ a.later to m | inr m ↦ (let e = among_next pc i to m in omega arith) ];
-      within = a.inside to (among_left (named i ++ next_place pc i) (skipped_to (routine p f).code pc i) to among);
-      loops = elim (among_of (named i) (next_place pc i) to among) [
-          inl m ↦ a.around_named to (among_left (named i) (skipped_to (routine p f).code pc i) to m) ∙ ap heads (sym same)
-        | inr m ↦ a.around_next to m ∙ g.keeps_loops (heads s.loops) ∙ ap heads (sym same) ] }
+    later = elim (among_of (named i) (next_place pc i) to among) [ inl m ↦ a.later to m | inr m ↦ (let e = among_next pc i to m in omega arith) ];
+    within = a.inside to (among_left (named i ++ next_place pc i) (skipped_to (routine p f).code pc i) to among);
+    loops = elim (among_of (named i) (next_place pc i) to among) [
+      | inl m ↦ a.around_named to (among_left (named i) (skipped_to (routine p f).code pc i) to m) ∙ ap heads (sym same)
+      | inr m ↦ a.around_next to m ∙ g.keeps_loops (heads s.loops) ∙ ap heads (sym same)
+    ];
+  }
 
   leading_enter : (pc n : ℕ) (s : TypeState) (out : List (ℕ × TypeState)) → Allowed p f pc (Times n) s out → (pc + 1 < length (routine p f).code) × (around (routine p f).code (pc + 1) ≡ pc ∷ heads s.loops)
   leading_enter pc n s out a = (a.inside (pc + 1) (inl refl), a.around_next (pc + 1) (inl refl))
@@ -281,8 +283,9 @@ module _ (p : Program) (f : ℕ) (accepted : IsWellTyped p f) (some_code : 0 < l
 
   pub stack_at : (pc h : ℕ) (hs : List ℕ) → around (routine p f).code pc ≡ h ∷ hs → Stacked (h ∷ hs) pc
   stack_at pc h hs e = elim (cases_lt pc (length (routine p f).code)) [
-      inl lt ↦ (let k = here pc lt in subst (λ l. Stacked l pc) e k.fit.stack)
-    | inr ge ↦ (let z = none_past (routine p f).code pc (h ∷ hs) e ge in absurd (cc)) ]
+    | inl lt ↦ (let k = here pc lt in subst (λ l. Stacked l pc) e k.fit.stack)
+    | inr ge ↦ (let z = none_past (routine p f).code pc (h ∷ hs) e ge in absurd (cc))
+  ]
 
   sort_at : (pc : ℕ) → Sort p (routine p f).code pc (instr_at (routine p f).code pc)
   sort_at pc = sort p (routine p f).code pc (instr_at (routine p f).code pc)
@@ -329,12 +332,13 @@ module _ (p : Program) (f : ℕ) (accepted : IsWellTyped p f) (some_code : 0 < l
       let l = leading_next pc k.clear.state k.clear.out rules in
       let after : around (routine p f).code (pc + 1) ≡ around (routine p f).code e.head = l.1 ∙ ap (drop 1) k.fit.loops ∙ ap (drop 1) e.here_is in
       elim a' [
-        inl same ↦ sym same
-      | inr outer ↦ (
-          let r = is_round (routine p f).code (pc + 1) q (subst (λ hs. Among hs q) (sym after) outer) in
-          let twice : Some pc ≡ Some r.1.0 = sym m ∙ r.1.1.0 in
-          let same : pc ≡ r.1.0 = cc in
-          absurd (omega (arith, r.1.1.1))) ]
+        | inl same ↦ sym same
+        | inr outer ↦ (
+            let r = is_round (routine p f).code (pc + 1) q (subst (λ hs. Among hs q) (sym after) outer) in
+            let twice : Some pc ≡ Some r.1.0 = sym m ∙ r.1.1.0 in
+            let same : pc ≡ r.1.0 = cc in
+            absurd (omega (arith, r.1.1.1)))
+      ]
 
   -- the loop that a `times` opens
   pub record Opened (pc n : ℕ) : Type 0 where
@@ -361,30 +365,43 @@ module _ (p : Program) (f : ℕ) (accepted : IsWellTyped p f) (some_code : 0 < l
       let d = ended q next.0 in
       let same : pc ≡ d.head = one_head q pc pc next.0 d (ap is_times e) m.1 next.1 d in
       record {
-        end = q; ends = m.1; mate = ap (λ o. unwrap_or o 0) m.1; is_end = next.0; later = next.1; within = skip.0;
+        end = q;
+        ends = m.1;
+        mate = ap (λ o. unwrap_or o 0) m.1;
+        is_end = next.0;
+        later = next.1;
+        within = skip.0;
         around_turn = enter.1 ∙ ap (λ hs. pc ∷ hs) k.fit.loops;
         around_end = d.here_is ∙ ap (λ h. h ∷ around (routine p f).code h) (sym same);
-        around_after = skip.1 ∙ k.fit.loops }
+        around_after = skip.1 ∙ k.fit.loops;
+      }
 
   pub structured : IsStructured c (around (routine p f).code)
   structured = record {
     outside = refl;
     some = λ pc places e. (let g = goes_at pc places e in (g.0.some.0, subst (λ ps. Among ps g.0.some.0) (sym g.1) g.0.some.1));
     forward = λ pc to places e among.
-      (let g = goes_at pc places e in
-       let k = here pc (within_code pc (λ z. (let w : EndsPath ≡ GoesTo places = sym z ∙ e in (cc)))) in
-       let a' = subst (λ ps. Among ps to) g.1 among in
-       let u = leading_go pc (instr_at (routine p f).code pc) k.clear.state k.clear.out to k.clear.state k.rules g.0 a' refl in
-       (u.later, u.within, u.loops ∙ k.fit.loops));
+        (let g = goes_at pc places e in
+        let k = here pc (within_code pc (λ z. (let w : EndsPath ≡ GoesTo places = sym z ∙ e in (cc)))) in
+        let a' = subst (λ ps. Among ps to) g.1 among in
+        let u = leading_go pc (instr_at (routine p f).code pc) k.clear.state k.clear.out to k.clear.state k.rules g.0 a' refl in
+        (u.later, u.within, u.loops ∙ k.fit.loops));
     loop = λ pc n e.
-      (let i = times_at pc n e in
-       let o = opened pc n i in
-       let at : (P : ℕ → Type 0) → P o.end → P (c.mate pc) = λ P x. subst P (sym o.mate) x in
-       (bounds pc n i, at (λ q. pc < q) o.later, at (λ q. q + 1 < length (routine p f).code) o.within, at (λ q. c.shape q ≡ EndsTurn) (ap (shape_of o.end) o.is_end),
-        o.around_turn, at (λ q. around (routine p f).code q ≡ pc ∷ around (routine p f).code pc) o.around_end, at (λ q. around (routine p f).code (q + 1) ≡ around (routine p f).code pc) o.around_after));
+        (let i = times_at pc n e in
+        let o = opened pc n i in
+        let at : (P : ℕ → Type 0) → P o.end → P (c.mate pc) = λ P x. subst P (sym o.mate) x in (
+          bounds pc n i,
+          at (λ q. pc < q) o.later,
+          at (λ q. q + 1 < length (routine p f).code) o.within,
+          at (λ q. c.shape q ≡ EndsTurn) (ap (shape_of o.end) o.is_end),
+          o.around_turn,
+          at (λ q. around (routine p f).code q ≡ pc ∷ around (routine p f).code pc) o.around_end,
+          at (λ q. around (routine p f).code (q + 1) ≡ around (routine p f).code pc) o.around_after,
+        ));
     nested = λ pc h hs e. (let s = stack_at pc h hs e in (shape_times (routine p f).code h s.0, s.1));
     lesser = λ pc h hs e. (stack_at pc h hs e).2;
     some_code = some_code;
     end = λ pc e.
-      (let d = ended pc (next_at pc e) in
-       (d.head, (d.turns, (ap (shape_of d.head) d.times, ap (λ o. unwrap_or o 0) d.ends)))) }
+        (let d = ended pc (next_at pc e) in
+        (d.head, (d.turns, (ap (shape_of d.head) d.times, ap (λ o. unwrap_or o 0) d.ends))));
+  }

@@ -19,10 +19,12 @@ abbrev pub flows : Kind → List Budgets → List Instr → (ℕ → Names) → 
 flows k earlier code names_at = record {
   depth = λ pc. depth_of k (names_at pc);
   source = λ pc d. source_of (effect_of k earlier (instr_at code pc) (names_at pc)) (depth_of k (names_at pc)) d;
-  added = λ pc d. added_of (effect_of k earlier (instr_at code pc) (names_at pc)) (depth_of k (names_at pc)) d }
+  added = λ pc d. added_of (effect_of k earlier (instr_at code pc) (names_at pc)) (depth_of k (names_at pc)) d;
+}
 
 abbrev pub flows_by : Measure → List Instr → (ℕ → Names) → Flows
 flows_by m code names_at = record {
   depth = λ pc. length (names_at pc);
   source = λ pc d. source_of (measured m (instr_at code pc) (names_at pc)) (length (names_at pc)) d;
-  added = λ pc d. added_of (measured m (instr_at code pc) (names_at pc)) (length (names_at pc)) d }
+  added = λ pc d. added_of (measured m (instr_at code pc) (names_at pc)) (length (names_at pc)) d;
+}

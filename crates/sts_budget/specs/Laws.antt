@@ -25,6 +25,6 @@ ChildrenArePart earlier code b =
     (pc : ℕ) (loops : Loops) (before : ℕ) (es : List OpenEntry) → Comes (skeleton earlier code) pc loops before es
     → (slot child : ℕ) (handle : Option ℕ) → instr_at code pc ≡ Fork slot child handle
     → (before + 1 + (budget_at earlier child).steps ≤ b.steps)
-      × (tasks_sum earlier es + (budget_at earlier child).tasks ≤ b.tasks)
-      × (scopes_sum earlier es + (budget_at earlier child).scopes ≤ b.scopes)
-      × (binds_sum earlier es + (budget_at earlier child).binds ≤ b.binds)
+    × (tasks_sum earlier es + (budget_at earlier child).tasks ≤ b.tasks)
+    × (scopes_sum earlier es + (budget_at earlier child).scopes ≤ b.scopes)
+    × (binds_sum earlier es + (budget_at earlier child).binds ≤ b.binds)

@@ -37,7 +37,12 @@ impl From<AllocError> for BudgetError {
 }
 
 /// The budgets of a well-typed function, where the functions before it have these budgets.
-pub fn budget(alloc: Global, program: &Program, function: usize, earlier: &[Budgets]) -> Result<Budgets, BudgetError>
+pub fn budget(
+    alloc: Global,
+    program: &Program,
+    function: usize,
+    earlier: &[Budgets],
+) -> Result<Budgets, BudgetError>
     requires in_program { function < length program.now.routines }
     requires typed { IsWellTyped program.now function }
     requires long { length earlier.now ≡ function }
@@ -71,7 +76,13 @@ fn cause_of(kind: Kind) -> Cause
 }
 
 /// The budget of one kind.
-fn number(alloc: Global, kind: Kind, earlier: &[Budgets], code: &[Instr], layout: &Layout) -> Result<u32, BudgetError>
+fn number(
+    alloc: Global,
+    kind: Kind,
+    earlier: &[Budgets],
+    code: &[Instr],
+    layout: &Layout,
+) -> Result<u32, BudgetError>
     requires ready { IsReady earlier.now code.now layout.now }
     ensures { IsNumber kind earlier.now code.now result }
 {

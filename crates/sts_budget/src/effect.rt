@@ -44,20 +44,8 @@ pub(crate) fn added_of(effect: Effect, depth: usize, d: usize) -> u64
 {
     match effect {
         Effect::Rises(amount) => amount,
-        Effect::Opens(own) => {
-            if depth < d {
-                own
-            } else {
-                0
-            }
-        }
-        Effect::Adds { position, amount } => {
-            if position < d {
-                amount
-            } else {
-                0
-            }
-        }
+        Effect::Opens(own) => { if depth < d { own } else { 0 } }
+        Effect::Adds { position, amount } => { if position < d { amount } else { 0 } }
     }
 }
 
@@ -127,11 +115,7 @@ fn measured(kind: Kind, earlier: &[Budgets], instr: Instr, names: &Names) -> Eff
     match instr {
         Instr::Open { .. } => Effect::Opens(scope_of(kind, earlier)),
         Instr::Bind(_) => Effect::Opens(binding_of(kind, earlier)),
-        Instr::Fork {
-            slot,
-            function,
-            ..
-        } => Effect::Adds {
+        Instr::Fork { slot, function, .. } => Effect::Adds {
             position: position_of(slot, names),
             amount: subtask_of(kind, earlier, function),
         },

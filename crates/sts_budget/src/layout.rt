@@ -10,7 +10,6 @@ ghost use Rattle.sts_budget.specs.Laid.{Writes, head_after, mates_after, IsLaidO
 
 use arrayvec::ArrayVec;
 use std::alloc::{AllocError, Global};
-
 use sts_code::instr::Instr;
 use sts_code::program::Program;
 use sts_model::stack::Stack;

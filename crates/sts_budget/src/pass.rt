@@ -17,7 +17,14 @@ use sts_model::budget::Budgets;
 
 /// Raises the rows at these places to the values, as far as entries are open there: false where one of these values
 /// passes the limit.
-fn send(best: &mut Vec<Row>, places: &[u32], values: &Values, kind: Kind, names: &[Names], most: u32) -> bool
+fn send(
+    best: &mut Vec<Row>,
+    places: &[u32],
+    values: &Values,
+    kind: Kind,
+    names: &[Names],
+    most: u32,
+) -> bool
     requires inside { All (λ to. to < length best.old.items) places.now }
     requires named { length names.now ≡ length best.old.items }
     ensures sent { IsTrue result → IsSent values.now (λ pc. depth kind (get_or names.now pc [])) most places.now best.old.items best.new.items }
@@ -77,7 +84,14 @@ fn loop_values(kind: Kind, code: &[Instr], layout: &Layout, best: &[Row], pc: us
 }
 
 /// The sums that an instruction hands on.
-fn values_of(kind: Kind, earlier: &[Budgets], code: &[Instr], layout: &Layout, best: &[Row], pc: usize) -> Values
+fn values_of(
+    kind: Kind,
+    earlier: &[Budgets],
+    code: &[Instr],
+    layout: &Layout,
+    best: &[Row],
+    pc: usize,
+) -> Values
     requires ready { IsReady earlier.now code.now layout.now }
     requires in_code { pc < length code.now }
     requires rows { length best.now ≡ length code.now }
@@ -94,7 +108,15 @@ fn values_of(kind: Kind, earlier: &[Budgets], code: &[Instr], layout: &Layout, b
 }
 
 /// The place hands on its sums: false where one of them passes the limit.
-fn hand_on(kind: Kind, earlier: &[Budgets], code: &[Instr], layout: &Layout, best: &mut Vec<Row>, pc: usize, most: u32) -> bool
+fn hand_on(
+    kind: Kind,
+    earlier: &[Budgets],
+    code: &[Instr],
+    layout: &Layout,
+    best: &mut Vec<Row>,
+    pc: usize,
+    most: u32,
+) -> bool
     requires ready { IsReady earlier.now code.now layout.now }
     requires in_code { pc < length code.now }
     requires rows { length best.old.items ≡ length code.now }
@@ -107,7 +129,14 @@ fn hand_on(kind: Kind, earlier: &[Budgets], code: &[Instr], layout: &Layout, bes
     }
     let values = values_of(kind, earlier, code, layout, best.as_slice(), pc);
     let places = targets(instr, pc as u32);
-    send(best, places.as_slice(), &values, kind, layout.names.as_slice(), most)
+    send(
+        best,
+        places.as_slice(),
+        &values,
+        kind,
+        layout.names.as_slice(),
+        most,
+    )
 }
 
 fn empty_rows(alloc: Global, count: usize) -> Result<Vec<Row>, AllocError>
@@ -121,7 +150,14 @@ fn empty_rows(alloc: Global, count: usize) -> Result<Vec<Row>, AllocError>
 }
 
 /// The table of the greatest sums, or none where one passes the limit.
-pub(crate) fn table(alloc: Global, kind: Kind, earlier: &[Budgets], code: &[Instr], layout: &Layout, most: u32) -> Result<Option<Vec<Row>>, AllocError>
+pub(crate) fn table(
+    alloc: Global,
+    kind: Kind,
+    earlier: &[Budgets],
+    code: &[Instr],
+    layout: &Layout,
+    most: u32,
+) -> Result<Option<Vec<Row>>, AllocError>
     requires ready { IsReady earlier.now code.now layout.now }
     ensures { IfOk result (λ o. MatchOption o (Passes (skeleton earlier.now code.now) (flows_in kind earlier.now code.now layout.now) most) (λ t. IsPartial (skeleton earlier.now code.now) (flows_in kind earlier.now code.now layout.now) (length code.now) t.items)) }
 {

@@ -64,7 +64,9 @@ fn open_loop(bases: &mut Vec<u64>, instr: Instr, pc: usize, own: u32, full: u64,
     ensures { bases.new.items ≡ bases_after instr pc own full end bases.old.items }
 {
     if let Instr::Times(turns) = instr {
-        bases[pc] = full + own as u64 + (turns as u64).saturating_sub(1) * (end as u64 + own as u64);
+        bases[pc] = full
+            + own as u64
+            + (turns as u64).saturating_sub(1) * (end as u64 + own as u64);
     }
 }
 
@@ -83,7 +85,13 @@ fn turn_end(code: &[Instr], layout: &Layout, best: &[Row], pc: usize, depth: usi
 }
 
 /// The budget of this kind, or none where it passes its limit.
-pub(crate) fn top(alloc: Global, kind: Kind, earlier: &[Budgets], code: &[Instr], layout: &Layout) -> Result<Option<u32>, AllocError>
+pub(crate) fn top(
+    alloc: Global,
+    kind: Kind,
+    earlier: &[Budgets],
+    code: &[Instr],
+    layout: &Layout,
+) -> Result<Option<u32>, AllocError>
     requires ready { IsReady earlier.now code.now layout.now }
     ensures { IfOk result (λ o. MatchOption o (Exceeds earlier.now code.now (cause_of kind)) (λ m. IsMost kind earlier.now code.now m × (m ≤ limit_of kind))) }
 {

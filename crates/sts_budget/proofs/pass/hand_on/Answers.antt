@@ -12,7 +12,7 @@ use Rattle.sts_budget.proofs.pass.hand_on.Goals as goal
 
 pub send-requires-clause-inside : goal.send-requires-clause-inside
 send-requires-clause-inside c = λ k d lt.
-   (let at : get_or c.args.code.now c.args.pc (Push (pos 0)) ≡ instr_at c.args.code.now c.args.pc = any_default c.args.code.now c.args.pc _ Ret c.requires.in_code in
+    (let at : get_or c.args.code.now c.args.pc (Push (pos 0)) ≡ instr_at c.args.code.now c.args.pc = any_default c.args.code.now c.args.pc _ Ret c.requires.in_code in
     let quiet : is_quiet (instr_at c.args.code.now c.args.pc) ≡ false = sym (ap is_quiet at) ∙ sym c.is_quiet.ensures ∙ c.if-is_quiet.false in
     let places : c.as_slice-2.result.now ≡ named (instr_at c.args.code.now c.args.pc) ++ next_place c.args.pc (instr_at c.args.code.now c.args.pc) = c.as_slice-2.ensures.value ∙ c.targets-places.ensures ∙ ap (λ j. named j ++ next_place c.args.pc j) at in
     let h = leads_in c.args.kind c.args.earlier.now c.args.code.now c.args.layout.now c.requires.ready c.args.pc (get_or c.as_slice-2.result.now k d) quiet (subst (λ ps. Among ps (get_or c.as_slice-2.result.now k d)) places (among_at c.as_slice-2.result.now k d lt)) in
@@ -20,20 +20,20 @@ send-requires-clause-inside c = λ k d lt.
 
 pub returns-clause-spread : goal.returns-clause-spread
 returns-clause-spread c = λ t.
-   (let at : get_or c.args.code.now c.args.pc (Push (pos 0)) ≡ instr_at c.args.code.now c.args.pc = any_default c.args.code.now c.args.pc _ Ret c.requires.in_code in
+    (let at : get_or c.args.code.now c.args.pc (Push (pos 0)) ≡ instr_at c.args.code.now c.args.pc = any_default c.args.code.now c.args.pc _ Ret c.requires.in_code in
     let quiet : is_quiet (instr_at c.args.code.now c.args.pc) ≡ false = sym (ap is_quiet at) ∙ sym c.is_quiet.ensures ∙ c.if-is_quiet.false in
     let places : c.as_slice-2.result.now ≡ named (instr_at c.args.code.now c.args.pc) ++ next_place c.args.pc (instr_at c.args.code.now c.args.pc) = c.as_slice-2.ensures.value ∙ c.targets-places.ensures ∙ ap (λ j. named j ++ next_place c.args.pc j) at in
     let values : (d : ℕ) → d < 17 → get_or c.values_of-values.result d 0 ≡ min (handed_value c.args.kind c.args.earlier.now c.args.code.now c.args.layout.now (read c.args.best.now.items) c.args.pc d) 18446744073709551615 = subst (λ rows. (d : ℕ) → d < 17 → get_or c.values_of-values.result d 0 ≡ min (handed_value c.args.kind c.args.earlier.now c.args.code.now c.args.layout.now (read rows) c.args.pc d) 18446744073709551615) c.as_slice.ensures.value c.values_of-values.ensures in
     let sent = subst (λ ps. IsSent c.values_of-values.result (λ q. depth_of c.args.kind (get_or c.args.layout.now.names.items q [])) c.args.most ps c.args.best.now.items c.send.new.best.items) places
-          (subst (λ (ns : List Names). IsSent c.values_of-values.result (λ q. depth_of c.args.kind (get_or ns q [])) c.args.most c.as_slice-2.result.now c.args.best.now.items c.send.new.best.items) c.as_slice-3.ensures.value (c.send.ensures.sent t)) in
+    (subst (λ (ns : List Names). IsSent c.values_of-values.result (λ q. depth_of c.args.kind (get_or ns q [])) c.args.most c.as_slice-2.result.now c.args.best.now.items c.send.new.best.items) c.as_slice-3.ensures.value (c.send.ensures.sent t)) in
     sent_spread c.args.kind c.args.earlier.now c.args.code.now c.args.layout.now c.requires.ready c.args.pc c.args.most c.values_of-values.result c.args.best.now.items c.send.new.best.items quiet c.ranges.most.fits values sent)
 
 pub returns-clause-over : goal.returns-clause-over
 returns-clause-over c = λ t.
-   (let at : get_or c.args.code.now c.args.pc (Push (pos 0)) ≡ instr_at c.args.code.now c.args.pc = any_default c.args.code.now c.args.pc _ Ret c.requires.in_code in
+    (let at : get_or c.args.code.now c.args.pc (Push (pos 0)) ≡ instr_at c.args.code.now c.args.pc = any_default c.args.code.now c.args.pc _ Ret c.requires.in_code in
     let quiet : is_quiet (instr_at c.args.code.now c.args.pc) ≡ false = sym (ap is_quiet at) ∙ sym c.is_quiet.ensures ∙ c.if-is_quiet.false in
     let places : c.as_slice-2.result.now ≡ named (instr_at c.args.code.now c.args.pc) ++ next_place c.args.pc (instr_at c.args.code.now c.args.pc) = c.as_slice-2.ensures.value ∙ c.targets-places.ensures ∙ ap (λ j. named j ++ next_place c.args.pc j) at in
     let values : (d : ℕ) → d < 17 → get_or c.values_of-values.result d 0 ≡ min (handed_value c.args.kind c.args.earlier.now c.args.code.now c.args.layout.now (read c.args.best.now.items) c.args.pc d) 18446744073709551615 = subst (λ rows. (d : ℕ) → d < 17 → get_or c.values_of-values.result d 0 ≡ min (handed_value c.args.kind c.args.earlier.now c.args.code.now c.args.layout.now (read rows) c.args.pc d) 18446744073709551615) c.as_slice.ensures.value c.values_of-values.ensures in
     let stopped = subst (λ ps. IsStopped c.values_of-values.result (λ q. depth_of c.args.kind (get_or c.args.layout.now.names.items q [])) c.args.most ps) places
-          (subst (λ (ns : List Names). IsStopped c.values_of-values.result (λ q. depth_of c.args.kind (get_or ns q [])) c.args.most c.as_slice-2.result.now) c.as_slice-3.ensures.value (c.send.ensures.over t)) in
+    (subst (λ (ns : List Names). IsStopped c.values_of-values.result (λ q. depth_of c.args.kind (get_or ns q [])) c.args.most c.as_slice-2.result.now) c.as_slice-3.ensures.value (c.send.ensures.over t)) in
     stopped_over c.args.kind c.args.earlier.now c.args.code.now c.args.layout.now c.requires.ready c.args.pc c.args.most c.values_of-values.result c.args.best.now.items c.requires.in_code quiet values stopped)

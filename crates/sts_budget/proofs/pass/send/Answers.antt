@@ -19,7 +19,7 @@ loop-i-preserved c =
 
 pub returns-in-None-clause-over : goal.returns-in-None-clause-over
 returns-in-None-clause-over c = λ e.
-   (let to = get_or c.args.places.now c.loop-i.i 0 in
+    (let to = get_or c.args.places.now c.loop-i.i 0 in
     let within : to < length c.args.best.now.items = c.requires.inside c.loop-i.i 0 c.loop-i-test.true in
     let name : c.index-names-to.result ≡ get_or c.args.names.now to [] = c.index-names-to.is ∙ any_default c.args.names.now to _ [] (omega (arith, c.requires.named)) in
     let low_is : c.depth_of-low.result ≡ depth_of c.args.kind (get_or c.args.names.now to []) = c.depth_of-low.ensures.value ∙ ap (depth_of c.args.kind) name in

@@ -59,11 +59,14 @@ loop-pc-preserved c =
     let v : c.base_at.result + get_or c.index-in-loop-pc-2.result.now c.depth_of-depth.result 0 ≡ sum_at c.args.kind c.args.earlier.now c.args.code.now c.args.layout.now c.in-Some.best.items c.loop-pc.pc = omega arith in
     let low : c.base_at.result + get_or c.index-in-loop-pc-2.result.now c.depth_of-depth.result 0 < 4294967296 = omega (arith, c.if-full-most.false, c.limit_of.type_inv) in
     let at : (n : ℕ) → instr_at c.args.code.now c.loop-pc.pc ≡ Times n → (n < 65536) × (c.turn_end-end.result ≡ read c.in-Some.best.items ((skeleton c.args.earlier.now c.args.code.now).mate c.loop-pc.pc) (depth_of c.args.kind (names_in c.args.layout.now c.loop-pc.pc))) =
-          λ n t. (c.requires.ready.turns c.loop-pc.pc n t,
-            c.turn_end-end.ensures n t ∙ ap (λ rows. read rows (get_or c.args.layout.now.mates.items c.loop-pc.pc 0) c.depth_of-depth.result) c.as_slice-in-loop-pc.ensures.value ∙ ap (λ q. read c.in-Some.best.items q c.depth_of-depth.result) (c.requires.ready.mates c.loop-pc.pc n t) ∙ ap (λ d. read c.in-Some.best.items ((skeleton c.args.earlier.now c.args.code.now).mate c.loop-pc.pc) d) depth) in
+    λ n t. (
+      c.requires.ready.turns c.loop-pc.pc n t,
+      c.turn_end-end.ensures n t ∙ ap (λ rows. read rows (get_or c.args.layout.now.mates.items c.loop-pc.pc 0) c.depth_of-depth.result) c.as_slice-in-loop-pc.ensures.value ∙ ap (λ q. read c.in-Some.best.items q c.depth_of-depth.result) (c.requires.ready.mates c.loop-pc.pc n t) ∙ ap (λ d. read c.in-Some.best.items ((skeleton c.args.earlier.now c.args.code.now).mate c.loop-pc.pc) d) depth,
+    ) in
     let after : c.open_loop.new.bases.items ≡ bases_after (instr_at c.args.code.now c.loop-pc.pc) c.loop-pc.pc (own_step c.args.kind) (c.base_at.result + get_or c.index-in-loop-pc-2.result.now c.depth_of-depth.result 0) c.turn_end-end.result c.loop-pc.bases.items =
-          c.open_loop.ensures ∙ ap (λ i. bases_after i c.loop-pc.pc c.own_step.result (c.base_at.result + get_or c.index-in-loop-pc-2.result.now c.depth_of-depth.result 0) c.turn_end-end.result c.loop-pc.bases.items) instr ∙ ap (λ o. bases_after (instr_at c.args.code.now c.loop-pc.pc) c.loop-pc.pc o (c.base_at.result + get_or c.index-in-loop-pc-2.result.now c.depth_of-depth.result 0) c.turn_end-end.result c.loop-pc.bases.items) c.own_step.ensures in
-    let t = top_next c.args.kind c.args.earlier.now c.args.code.now c.args.layout.now c.requires.ready c.in-Some.best.items whole c.loop-pc.pc c.loop-pc.greatest _ c.loop-pc.invariant.1 v in
-    (bases_next c.args.kind c.args.earlier.now c.args.code.now c.args.layout.now c.requires.ready c.in-Some.best.items whole c.loop-pc.pc _ c.turn_end-end.result c.loop-pc.bases.items c.open_loop.new.bases.items c.loop-pc-test.true c.loop-pc.invariant.0 v low c.turn_end-end.type_inv at after,
-     subst (IsTop c.args.kind c.args.earlier.now c.args.code.now c.args.layout.now c.in-Some.best.items (c.loop-pc.pc + 1)) (sym c.max-greatest.ensures) t,
-     omega (arith, c.max-greatest.ensures, c.loop-pc.invariant.2, c.if-full-most.false))
+    c.open_loop.ensures ∙ ap (λ i. bases_after i c.loop-pc.pc c.own_step.result (c.base_at.result + get_or c.index-in-loop-pc-2.result.now c.depth_of-depth.result 0) c.turn_end-end.result c.loop-pc.bases.items) instr ∙ ap (λ o. bases_after (instr_at c.args.code.now c.loop-pc.pc) c.loop-pc.pc o (c.base_at.result + get_or c.index-in-loop-pc-2.result.now c.depth_of-depth.result 0) c.turn_end-end.result c.loop-pc.bases.items) c.own_step.ensures in
+    let t = top_next c.args.kind c.args.earlier.now c.args.code.now c.args.layout.now c.requires.ready c.in-Some.best.items whole c.loop-pc.pc c.loop-pc.greatest _ c.loop-pc.invariant.1 v in (
+      bases_next c.args.kind c.args.earlier.now c.args.code.now c.args.layout.now c.requires.ready c.in-Some.best.items whole c.loop-pc.pc _ c.turn_end-end.result c.loop-pc.bases.items c.open_loop.new.bases.items c.loop-pc-test.true c.loop-pc.invariant.0 v low c.turn_end-end.type_inv at after,
+      subst (IsTop c.args.kind c.args.earlier.now c.args.code.now c.args.layout.now c.in-Some.best.items (c.loop-pc.pc + 1)) (sym c.max-greatest.ensures) t,
+      omega (arith, c.max-greatest.ensures, c.loop-pc.invariant.2, c.if-full-most.false),
+    )
