@@ -12,11 +12,25 @@ pub(crate) type Row = [u32; 17];
 /// Sums that are handed on, before they are held to a limit.
 pub(crate) type Values = [u64; 17];
 
+/// The sums of a row, each risen by so much.
+fn risen(amount: u64, row: &Row) -> Values
+    ensures { (d : ℕ) → d < 17 → get_or result d 0 ≡ min (get_or row.now d 0 + amount) 18446744073709551615 }
+{
+    let mut values = [0; 17];
+    for d in 0..17 {
+        values[d] = (row[d] as u64).saturating_add(amount);
+    }
+    values
+}
+
 /// The sums after an instruction, over as many entries as can be open then.
 pub(crate) fn values_after(effect: Effect, depth: usize, row: &Row) -> Values
     requires { depth ≤ 16 }
     ensures { (d : ℕ) → d < 17 → get_or result d 0 ≡ min (get_or row.now (source_of effect depth d) 0 + added_of effect depth d) 18446744073709551615 }
 {
+    if let Effect::Rises(amount) = effect {
+        return risen(amount, row);
+    }
     let mut values = [0; 17];
     for d in 0..17 {
         values[d] = (row[source_of(effect, depth, d)] as u64).saturating_add(added_of(

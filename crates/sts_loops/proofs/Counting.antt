@@ -1,9 +1,9 @@
 -- Finding the match of a `times` by counting.
-use Rattle.std.proofs.Common.{◌≡◌, ℕ, suc, ◌+◌, ◌-◌, ◌<◌, ◌≤◌, List, length, take, drop, Bool, true, false, Some, find, count_by, cond, ◌||◌, refl, sym, ap, ◌∙◌, arith, slice_range, get_or, eqb-true, eq-eqb}
+use Rattle.std.proofs.Common.{◌≡◌, ℕ, suc, ◌+◌, ◌-◌, ◌<◌, ◌≤◌, List, length, take, drop, Bool, true, false, Option, Some, None, find, count_by, ◌==◌, cond, ◌||◌, refl, sym, ap, ◌∙◌, subst, arith, slice_range, get_or, eqb-true, eq-eqb}
 use mir.Val.{bool_byte}
 use Rattle.std.specs.List.{range_with_len, list_any}
 use Rattle.std.proofs.lemmas.List.{get_or-drop, get_or_default, length-drop}
-use Rattle.std.proofs.lemmas.List.Sums.{count_by_more_yes, count_by_more_no}
+use Rattle.std.proofs.lemmas.List.Sums.{count_by_more_yes, count_by_more_no, count_by-le-length}
 use Rattle.sts_code.specs.declared.instr.Instr.{Instr}
 use Rattle.sts_code.specs.declared.instr.Instr.TheVariants.{Ret}
 use Rattle.sts_model.specs.Local.{match_of, is_times, is_next, is_balanced}
@@ -38,7 +38,7 @@ find_here test q n h e =
     let one : n - q ≡ suc (n - (q + 1)) = omega arith in
     ap (λ m. find test (range_with_len q m)) one ∙ ap (λ b. cond b (Some q) (find test (range_with_len (q + 1) (n - (q + 1))))) e
 
-pub byte_is : (b : Bool) → bool_byte b ≡ one_if b
+byte_is : (b : Bool) → bool_byte b ≡ one_if b
 byte_is true = refl
 byte_is false = refl
 

@@ -1,5 +1,5 @@
 -- The loops around a place: the innermost one, and those around it.
-use Rattle.std.proofs.Common.{◌≡◌, ℕ, zero, suc, ◌+◌, ◌-◌, ◌<◌, ◌≤◌, ◌⊎◌, inl, inr, List, [], ◌∷◌, ◌++◌, length, Bool, true, false, Option, Some, None, ◌&&◌, cond, refl, sym, ap, ◌∙◌, subst, arith, reverse, filter, slice_get, leb, leb-true, bytes_eq, eqb, eqb-true, eq-eqb, is_none, is_some, not, drop, get_or}
+use Rattle.std.proofs.Common.{◌≡◌, ◌≢◌, ℕ, zero, suc, ◌+◌, ◌-◌, ◌<◌, ◌≤◌, ◌⊎◌, inl, inr, List, [], ◌∷◌, ◌++◌, length, Bool, true, false, Option, Some, None, ◌&&◌, cond, refl, sym, ap, ◌∙◌, subst, arith, reverse, filter, slice_get, leb, leb-true, bytes_eq, eqb, eqb-true, eq-eqb, is_none, is_some, not, drop, get_or}
 use Rattle.std.specs.Option.{option_eq}
 use Rattle.std.specs.List.{range_with_len}
 use Rattle.std.proofs.lemmas.List.{reverse-append, get_or-map, length-map, drop_more, drop_all}
@@ -11,7 +11,7 @@ use Rattle.sts_model.specs.Around.{instr_at, is_inside, reaches_to, around}
 use Rattle.sts_model.specs.declared.typing.TypedLoop.{TypedLoop}
 use Rattle.sts_model.specs.TypeState.{heads}
 use Rattle.sts_loops.specs.Tables.{head}
-use Rattle.sts_loops.proofs.Matching.{ends, nested}
+use Rattle.sts_loops.proofs.Matching.{Ends, ends, nested}
 
 -- the loops around a place that begin before k
 abbrev pub below : List Instr → ℕ → ℕ → List ℕ
@@ -53,7 +53,7 @@ head_more code pc k p true is e rest =
     (omega arith, subst (λ x. is_inside code pc x ≡ true) same is, ap (λ x. x ∷ below code pc x) same)
 head_more code pc k p false is e rest = let h = rest e in (omega (arith, h.0), h.1, h.2)
 
-pub below_head : (code : List Instr) (pc k p : ℕ) → slice_get (below code pc k) 0 ≡ Some p → (p < k) × (is_inside code pc p ≡ true) × (below code pc k ≡ p ∷ below code pc p)
+below_head : (code : List Instr) (pc k p : ℕ) → slice_get (below code pc k) 0 ≡ Some p → (p < k) × (is_inside code pc p ≡ true) × (below code pc k ≡ p ∷ below code pc p)
 below_head code pc zero p e = cc
 below_head code pc (suc k) p e =
     let h = head_more code pc k p (is_inside code pc k) refl (ap (λ xs. slice_get xs 0) (sym (below_more code pc k)) ∙ e) (λ r. below_head code pc k p r) in

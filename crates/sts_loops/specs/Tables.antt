@@ -1,5 +1,5 @@
 -- Tables of the loops of a function's code (this project's own).
-use Rattle.std.specs.Prelude.{◌≡◌, ℕ, ◌-◌, Bool, nat_lt, ◌&&◌, ◌<◌, List, length, true, if◌then◌else◌, Option, None, slice_get, slice_index_or}
+use Rattle.std.specs.Prelude.{◌≡◌, ℕ, ◌<◌, List, length, true, if◌then◌else◌, Option, None, slice_get, slice_index_or}
 use Rattle.sts_code.specs.declared.instr.Instr.{Instr}
 use Rattle.sts_model.specs.Local.{match_of, is_times}
 use Rattle.sts_model.specs.Around.{instr_at, around}
@@ -23,7 +23,3 @@ pub record AreTablesOf (code : List Instr) (t : Tables) : Type 0 where
   pub heads_long : length t.heads ≡ length code
   pub ends : (p : ℕ) → p < length code → is_times (instr_at code p) ≡ true → slice_index_or t.ends p None ≡ match_of code p
   pub heads : (q : ℕ) → q < length code → slice_index_or t.heads q None ≡ head code q
-
--- is it the place after a `times`?
-abbrev pub is_head : List Instr → ℕ → Bool
-is_head code q = nat_lt 0 q && is_times (instr_at code (q - 1))

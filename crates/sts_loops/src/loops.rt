@@ -5,7 +5,7 @@ ghost use Rattle.sts_model.specs.Around as def;
 ghost use Rattle.sts_model.specs.Causes.{closes_loop};
 ghost use Rattle.sts_model.specs.TypeState.{heads};
 ghost use Rattle.sts_model.specs.Local as local;
-ghost use Rattle.sts_loops.specs.Tables.{head, is_head, AreTablesOf};
+ghost use Rattle.sts_loops.specs.Tables.{head, AreTablesOf};
 
 use crate::ends::{is_times, match_of};
 use std::marker::Model;
@@ -90,13 +90,6 @@ impl<'c> CodeLoops<'c> {
             Some(instr) => is_times(*instr),
             None => false,
         }
-    }
-
-    /// Is it the place after a `times`?
-    pub fn is_head(&self, place: u32) -> bool
-        ensures { result ≡ is_head self.now place }
-    {
-        0 < place && self.has_times(place - 1)
     }
 
     /// The match of a `times` at `at`.

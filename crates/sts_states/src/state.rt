@@ -83,10 +83,24 @@ impl TypeState {
     pub fn is_same(&self, other: &TypeState) -> bool
         ensures { IsTrue result ↔ (self.now ≡ other.now) }
     {
-        self.height == other.height
-            && are_same_loops(&self.loops, &other.loops)
+        self.height == other.height && self.is_like(other)
+    }
+
+    /// Are all parts of the two the same but for the number of operands?
+    pub fn is_like(&self, other: &TypeState) -> bool
+        ensures { IsTrue result ↔ (record self.now { height = 0 } ≡ record other.now { height = 0 }) }
+    {
+        are_same_loops(&self.loops, &other.loops)
             && are_same_entries(&self.entries, &other.entries)
             && are_same_slots(&self.slots, &other.slots)
+    }
+
+    /// So many operands are there from now on.
+    pub fn set_height(&mut self, height: u8)
+        requires { height ≤ 32 }
+        ensures { self.new ≡ record self.old { height = height } }
+    {
+        self.height = height;
     }
 }
 

@@ -1,11 +1,10 @@
 -- Typestates arrive one after the other.
-use Rattle.std.proofs.Common.{◌≡◌, ℕ, zero, suc, ◌+◌, ◌<◌, List, [], ◌∷◌, ◌++◌, length, take, drop, ◌≤◌, get_or, set, Some, slice_get, inl, inr, refl, sym, ap, ◌∙◌, subst, arith}
+use Rattle.std.proofs.Common.{◌≡◌, ℕ, zero, suc, ◌+◌, ◌<◌, List, [], ◌∷◌, ◌++◌, length, take, get_or, set, Option, Some, slice_get, inl, inr, refl, sym, ap, ◌∙◌, subst, arith}
 use Rattle.std.specs.List.{All}
-use Rattle.std.proofs.lemmas.List.{length-take, drop_all, drop-append-le}
 use Rattle.std.proofs.lemmas.Option.{slice_get_within, get_or_from_slice_get}
 use Rattle.sts_model.specs.Flow.{Leads}
 use Rattle.sts_types.specs.declared.arrival.Arrival.{Arrival}
-use Rattle.sts_types.specs.declared.arrival.Arrival.TheVariants.{Nothing}
+use Rattle.sts_types.specs.declared.arrival.Arrival.TheVariants.{Nothing, One, Several}
 use Rattle.sts_types.specs.Arrivals.{Merged, Arrive}
 use Rattle.sts_types.proofs.FollowLemmas.{take_there}
 
@@ -14,17 +13,10 @@ module _ {S : Type 0} where
   arrive_push [] table now e b h m = (b, (subst (λ t. Merged (get_or t e.0 Nothing) e.1 b) h m, ap (λ t. set t e.0 b) h))
   arrive_push (x ∷ es) table now e b h m = (h.0, (h.1.0, arrive_push es _ now e b h.1.1 m))
 
-  -- before the first
-  pub begin_late : (first : ℕ) (out : List (ℕ × S)) (table : List (Arrival S)) → Arrive table (drop first (take first out)) table
-  begin_late first out table = subst (λ es. Arrive table es table) (sym (drop_all first (take first out) (omega (arith, length-take first out)))) refl
-
   -- one more has arrived
-  pub arrive_next : (out : List (ℕ × S)) (table now after : List (Arrival S)) (k first to : ℕ) (s : S) (b : Arrival S) → Arrive table (drop first (take k out)) now → first ≤ k → slice_get out k ≡ Some (to, s) → Merged (get_or now to Nothing) s b → after ≡ set now to b → Arrive table (drop first (take (k + 1) out)) after
-  arrive_next out table now after k first to s b h le there m is =
-      let within = slice_get_within out k (to, s) there in
-      let long : first ≤ length (take k out) = omega (arith, length-take k out, within) in
-      let e : drop first (take (k + 1) out) ≡ drop first (take k out) ++ (to, s) ∷ [] = ap (drop first) (take_there out k (to, s) there) ∙ drop-append-le first (take k out) ((to, s) ∷ []) long in
-      subst (λ t. Arrive table (drop first (take (k + 1) out)) t) (sym is) (subst (λ es. Arrive table es (set now to b)) (sym e) (arrive_push (drop first (take k out)) table now (to, s) b h m))
+  pub arrive_next : (out : List (ℕ × S)) (table now after : List (Arrival S)) (k to : ℕ) (s : S) (b : Arrival S) → Arrive table (take k out) now → slice_get out k ≡ Some (to, s) → Merged (get_or now to Nothing) s b → after ≡ set now to b → Arrive table (take (k + 1) out) after
+  arrive_next out table now after k to s b h there m is =
+      subst (λ t. Arrive table (take (k + 1) out) t) (sym is) (subst (λ es. Arrive table es (set now to b)) (sym (take_there out k (to, s) there)) (arrive_push (take k out) table now (to, s) b h m))
 
   -- the place of an edge
   pub place_within : (out : List (ℕ × S)) (k to n : ℕ) (s : S) → slice_get out k ≡ Some (to, s) → All (λ e. e.0 < n) out → to < n

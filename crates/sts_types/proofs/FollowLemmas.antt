@@ -1,10 +1,10 @@
 -- The edges of an instruction, one after the other.
-use Rattle.std.proofs.Common.{◌≡◌, ℕ, suc, ◌+◌, ◌<◌, ◌≤◌, List, [], ◌∷◌, ◌++◌, length, take, map, Option, Some, None, option_map, option_to_list, get_or, ◌⊎◌, inl, inr, slice_get, sym, ap, ◌∙◌, arith}
+use Rattle.std.proofs.Common.{◌≡◌, ℕ, suc, ◌+◌, ◌<◌, ◌≤◌, List, [], ◌∷◌, ◌++◌, length, take, map, Option, Some, None, option_map, option_to_list, get_or, ◌⊎◌, inl, inr, slice_get, refl, sym, ap, ◌∙◌, arith}
 use Rattle.std.proofs.lemmas.List.{take_more, take_all}
 use Rattle.std.proofs.lemmas.Option.{slice_get_within, slice_get_cases, get_or_from_slice_get}
 use Rattle.sts_code.specs.Program.{Program}
 use Rattle.sts_code.specs.declared.instr.Instr.{Instr}
-use Rattle.sts_code.specs.declared.instr.Instr.TheVariants.{Times, Join}
+use Rattle.sts_code.specs.declared.instr.Instr.TheVariants.{Div, Jmp, Jz, Times, Join, Case}
 use Rattle.sts_model.specs.Local.{match_of}
 use Rattle.sts_model.specs.TypeState.{TypeState}
 use Rattle.sts_model.specs.Edges.{follows, moved}
@@ -19,6 +19,10 @@ none_past {X} xs n e = by (slice_get_cases xs n).1
     by : ((x : X) × (n < length xs) × (slice_get xs n ≡ Some x) × (get_or xs n x ≡ x)) ⊎ ((length xs ≤ n) × (slice_get xs n ≡ None)) → length xs ≤ n
     by (inl h) = let no : None ≡ Some h.0 = sym e ∙ h.2 in cc
     by (inr h) = h.0
+
+-- where there is none, all come before
+pub take_none : {X : Type 0} (xs : List X) (n : ℕ) → slice_get xs n ≡ None → take n xs ≡ xs
+take_none xs n e = take_all n xs (none_past xs n e)
 
 -- there is none
 pub take_missing : {X : Type 0} (xs : List X) (n : ℕ) → slice_get xs n ≡ None → take (n + 1) xs ≡ take n xs

@@ -1,8 +1,8 @@
 pub mod Arriving
 pub mod Fitting
 pub mod FollowLemmas
-pub mod Following
 pub mod Laws
+pub mod Marking
 pub mod Passing
 pub mod Promising
 pub mod RoomLemmas

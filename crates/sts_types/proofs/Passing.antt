@@ -1,10 +1,10 @@
 -- One forward pass that keeps at most one state a place finds the verdict.
-use Rattle.std.proofs.Common.{◌≡◌, ◌≢◌, ℕ, ◌+◌, ◌<◌, ◌≤◌, ◌⊎◌, inl, inr, List, [], ◌∷◌, Some, None, Ok, Err, length, get_or, set, refl, sym, ap, ◌∙◌, subst, arith, get_or-set_same, get_or-set_other, length-set}
+use Rattle.std.proofs.Common.{◌≡◌, ◌≢◌, ℕ, ◌+◌, ◌<◌, ◌≤◌, ◌⊎◌, inl, inr, Bool, true, false, cond, List, [], ◌∷◌, Option, Some, None, Result, Ok, Err, length, get_or, set, refl, sym, ap, ◌∙◌, subst, arith, get_or-set_same, get_or-set_other, length-set}
 use Rattle.std.proofs.lemmas.Bool.{cases_eq, cases_lt}
 use Rattle.sts_types.specs.declared.arrival.Arrival.{Arrival}
 use Rattle.sts_types.specs.declared.arrival.Arrival.TheVariants.{Nothing, One, Several}
 use Rattle.sts_types.specs.Arrivals.{Merged, Arrive}
-use Rattle.sts_model.specs.Flow.{Flow, Leads, Reaches, first, then, IsAlone, TurnDiffers, TurnKeeps, IsClear, HasCause, dead, two, edge, turn}
+use Rattle.sts_model.specs.Flow.{Flow, Leads, Reaches, first, then, IsAlone, IsDead, HasTwo, TurnDiffers, TurnKeeps, IsClear, HasCause, dead, two, edge, turn, IsRefusal, IsAccepted}
 
 -- what stands for the states P
 abbrev pub Stands : {S : Type 0} → (S → Type 0) → Arrival S → Type 0
@@ -28,7 +28,7 @@ module _ {S : Type 0} where
   abbrev pub Describes : (ℕ → S → Type 0) → List (Arrival S) → ℕ → Type 0
   Describes P table n = (length table ≡ n) × ((pc : ℕ) → pc < n → Stands (P pc) (get_or table pc Nothing))
 
-  pub set_describes : (P : ℕ → S → Type 0) (table : List (Arrival S)) (n q : ℕ) (s : S) (b : Arrival S) → Merged (get_or table q Nothing) s b → Describes P table n → Describes (λ pc x. P pc x ⊎ ((q ≡ pc) × (s ≡ x))) (set table q b) n
+  set_describes : (P : ℕ → S → Type 0) (table : List (Arrival S)) (n q : ℕ) (s : S) (b : Arrival S) → Merged (get_or table q Nothing) s b → Describes P table n → Describes (λ pc x. P pc x ⊎ ((q ≡ pc) × (s ≡ x))) (set table q b) n
   set_describes P table n q s b m h = (length-set table q _ ∙ h.0, λ pc within. at pc within (cases_eq q pc))
     where
       at : (pc : ℕ) → pc < n → (q ≡ pc) ⊎ (q ≢ pc) → Stands (λ x. P pc x ⊎ ((q ≡ pc) × (s ≡ x))) (get_or (set table q b) pc Nothing)
@@ -46,7 +46,7 @@ module _ {S : Type 0} where
           let w = stands_same (P pc) (λ x. P pc x ⊎ ((q ≡ pc) × (s ≡ x))) _ (λ x p. inl p) (λ x. elim [ inl p ↦ p | inr r ↦ absurd (ne r.0) ]) (h.1 pc within) in
           subst (λ t. Stands (λ x. P pc x ⊎ ((q ≡ pc) × (s ≡ x))) t) (sym a) w
 
-  pub describes_same : (P Q : ℕ → S → Type 0) (table : List (Arrival S)) (n : ℕ) → ((pc : ℕ) (x : S) → P pc x → Q pc x) → ((pc : ℕ) (x : S) → Q pc x → P pc x) → Describes P table n → Describes Q table n
+  describes_same : (P Q : ℕ → S → Type 0) (table : List (Arrival S)) (n : ℕ) → ((pc : ℕ) (x : S) → P pc x → Q pc x) → ((pc : ℕ) (x : S) → Q pc x → P pc x) → Describes P table n → Describes Q table n
   describes_same P Q table n to from h = (h.0, λ pc within. stands_same (P pc) (Q pc) _ (to pc) (from pc) (h.1 pc within))
 
   -- after an edge list has arrived, the table stands for what it stood for and the list
@@ -76,7 +76,7 @@ pub record Passed {S C : Type 0} (f : Flow S C) (n : ℕ) (table : List (Arrival
   pub clear : (pc : ℕ) → pc < k → IsClear f pc
 
 module _ {S C : Type 0} (f : Flow S C) (n : ℕ) (laws : IsForward f n) where
-  pub reaches : (k pc : ℕ) (s : S) → Below f k pc s → Reaches f pc s
+  reaches : (k pc : ℕ) (s : S) → Below f k pc s → Reaches f pc s
   reaches k pc s at_entry = first
   reaches k pc s (out_of from before out lt r e l) = then from before out r e l
 
@@ -178,9 +178,9 @@ module _ {S C : Type 0} (f : Flow S C) (n : ℕ) (laws : IsForward f n) where
       pub is_clear : (out : List (ℕ × S)) → f.edges k s ≡ Ok out → TurnKeeps f k s → IsClear f k
       is_clear out e d = record { state = s; out = out; alone = alone; fine = e; same = d }
 
-      -- the pass goes on with any table that stands for what it stood for and the edges
-      pub goes_on_by : (out : List (ℕ × S)) (after : List (Arrival S)) → f.edges k s ≡ Ok out → TurnKeeps f k s → Describes (λ pc x. Below f k pc x ⊎ Leads out pc x) after n → Passed f n after (k + 1)
-      goes_on_by out after e d h =
+      pub goes_on : (out : List (ℕ × S)) (after : List (Arrival S)) → f.edges k s ≡ Ok out → TurnKeeps f k s → Arrive table out after → Passed f n after (k + 1)
+      goes_on out after e d arrives =
+          let h = arrive_describes out (Below f k) table after n at.holds arrives in
           record {
             holds = describes_same (λ pc x. Below f k pc x ⊎ Leads out pc x) (Below f (k + 1)) _ n (join k s out alone e) (split k s out alone e) h;
             clear = λ pc lt. by pc (cases_lt pc k) lt;
@@ -189,9 +189,6 @@ module _ {S C : Type 0} (f : Flow S C) (n : ℕ) (laws : IsForward f n) where
           by : (pc : ℕ) → (pc < k) ⊎ (k ≤ pc) → pc < k + 1 → IsClear f pc
           by pc (inl b) lt = at.clear pc b
           by pc (inr b) lt = let e' : k ≡ pc = omega arith in subst (IsClear f) e' (is_clear out e d)
-
-      pub goes_on : (out : List (ℕ × S)) (after : List (Arrival S)) → f.edges k s ≡ Ok out → TurnKeeps f k s → Arrive table out after → Passed f n after (k + 1)
-      goes_on out after e d arrives = goes_on_by out after e d (arrive_describes out (Below f k) table after n at.holds arrives)
 
   -- the two verdicts exclude each other, and a refusal names one place
   pub clear_or_cause : (pc : ℕ) (c : C) → IsClear f pc → HasCause f pc c → ⊥

@@ -1,9 +1,9 @@
 -- What a table keeps of the states that arrive at its places: at most one state a place (this project's own).
-use Rattle.std.specs.Prelude.{◌≡◌, ◌≢◌, ℕ, ◌⊎◌, List, [], ◌∷◌, Option, Some, None, slice_index_or, slice_set}
-use Rattle.sts_types.specs.declared.arrival.Count.{Count}
-use Rattle.sts_types.specs.declared.arrival.Count.TheVariants.{Zero, Single, Many}
+use Rattle.std.specs.Prelude.{◌≡◌, ◌≢◌, ◌<◌, ◌≤◌, ℕ, ◌⊎◌, List, [], ◌∷◌, slice_index_or, slice_set}
+use Rattle.sts_model.specs.TypeState.{TypeState}
 use Rattle.sts_types.specs.declared.arrival.Arrival.{Arrival}
 use Rattle.sts_types.specs.declared.arrival.Arrival.TheVariants.{Nothing, One, Several}
+use Rattle.sts_types.specs.declared.arrivals.Mark.{Mark}
 
 -- after s has arrived too
 abbrev pub Merged : {S : Type 0} → Arrival S → S → Arrival S → Type 0
@@ -16,13 +16,35 @@ abbrev pub Arrive : {S : Type 0} → List (Arrival S) → List (ℕ × S) → Li
 Arrive table [] after = after ≡ table
 Arrive {S} table (e ∷ es) after = (b : Arrival S) × (Merged (slice_index_or table e.0 Nothing) e.1 b × Arrive (slice_set table e.0 b) es after)
 
--- so many states arrive, and if it is one, this
-abbrev pub arrival_of : {S : Type 0} → Count → S → Arrival S
-arrival_of Zero s = Nothing
-arrival_of Single s = One s
-arrival_of Many s = Several
+-- what has arrived at each place, and the typestate at hand
+pub record Arrived : Type 0 where
+  pub table : List (Arrival TypeState)
+  pub state : TypeState
 
--- what stands at a place once the state of this edge, if there is one, has arrived too
-abbrev pub Settles : {S : Type 0} → Option (ℕ × S) → Arrival S → Arrival S → Type 0
-Settles None before after = after ≡ before
-Settles (Some e) before after = Merged before e.1 after
+-- with this number of operands
+abbrev pub at_height : ℕ → TypeState → TypeState
+at_height h s = record s { height = h }
+
+abbrev pub none : TypeState
+none = record { height = 0; loops = []; entries = []; slots = [] }
+
+-- the typestate that a mark stands for
+abbrev pub state_of : List TypeState → Mark → TypeState
+state_of kept m = at_height m.height (slice_index_or kept m.like none)
+
+-- what the marks at a place stand for
+abbrev pub arrival_of : List TypeState → Arrival Mark → Arrival TypeState
+arrival_of kept Nothing = Nothing
+arrival_of kept (One m) = One (state_of kept m)
+arrival_of kept Several = Several
+
+-- a mark stands for one of so many, with no more than 32 operands
+abbrev pub IsMarked : ℕ → Arrival Mark → Type 0
+IsMarked n (One m) = (m.like < n) × (m.height ≤ 32)
+IsMarked n _ = Unit {0}
+
+-- the one that arrived is this
+abbrev pub filled : {S X : Type 0} → S → Arrival X → Arrival S
+filled s Nothing = Nothing
+filled s (One x) = One s
+filled s Several = Several

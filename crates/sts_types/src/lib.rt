@@ -2,6 +2,7 @@
 #![tactic(auto)]
 
 mod arrival;
+mod arrivals;
 mod cause;
 pub mod edges;
 pub mod follow;

@@ -1,4 +1,4 @@
-use Rattle.std.proofs.Common.{arith}
+use Rattle.std.proofs.Common.{◌≡◌, ◌+◌, ◌≤◌, ◌∙◌, arith, count_by, slice_range}
 use Rattle.sts_model.specs.Local.{is_times, is_next}
 use Rattle.sts_loops.proofs.Counting.{counted_step, is_match, is_no_match}
 use Rattle.sts_loops.proofs.ends.match_of.Goals as goal

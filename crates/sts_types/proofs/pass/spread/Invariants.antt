@@ -1,8 +1,8 @@
-use Rattle.std.proofs.Common.{◌≡◌, length, take, drop}
+use Rattle.std.proofs.Common.{◌≡◌, length, take}
 use Rattle.sts_model.specs.Edges.{follows}
 use Rattle.sts_types.specs.Arrivals.{Arrive}
 use Rattle.sts_types.proofs.pass.spread.Given as goal
 
--- those so far have arrived
+-- the first ones have arrived
 abbrev pub invariant-loop-number : goal.invariant-loop-number
-invariant-loop-number l = (length l.table.items ≡ length l.initial.table.items) × Arrive l.initial.table.items (drop l.first (take l.number (follows l.program l.loops l.pc l.instr l.state))) l.table.items
+invariant-loop-number l = (l.arrivals.state ≡ l.initial.arrivals.state) × (length l.arrivals.table ≡ length l.initial.arrivals.table) × Arrive l.initial.arrivals.table (take l.number (follows l.program l.loops l.pc l.instr l.initial.arrivals.state)) l.arrivals.table

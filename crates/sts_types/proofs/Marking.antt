@@ -1,0 +1,83 @@
+-- Marks, and the typestates that they stand for.
+use Rattle.std.proofs.Common.{◌≡◌, ◌≢◌, ℕ, zero, suc, ◌+◌, ◌<◌, ◌≤◌, ◌⊎◌, inl, inr, List, [], ◌∷◌, ◌++◌, length, map, get_or, set, replicate, refl, sym, ap, ◌∙◌, subst, arith, get_or-set_same, get_or-set_other, length-set}
+use Rattle.std.specs.List.{All}
+use Rattle.std.proofs.lemmas.Bool.{cases_eq}
+use Rattle.std.proofs.lemmas.List.{map-set, get_or-map, get_or_append_left, length-replicate, get_or-replicate, length-map, length-append}
+use Rattle.sts_model.specs.TypeState.{TypeState}
+use Rattle.sts_types.specs.declared.arrival.Arrival.{Arrival}
+use Rattle.sts_types.specs.declared.arrival.Arrival.TheVariants.{Nothing, One, Several}
+use Rattle.sts_types.specs.declared.arrivals.Mark.{Mark}
+use Rattle.sts_types.specs.Arrivals.{Merged, IsMarked, arrival_of, at_height, none, state_of}
+
+one_kept : (kept added : List TypeState) (m : Arrival Mark) → IsMarked (length kept) m → arrival_of (kept ++ added) m ≡ arrival_of kept m
+one_kept kept added Nothing h = refl
+one_kept kept added (One m) h = ap (λ s. One (at_height m.height s)) (get_or_append_left kept added none m.like h.0)
+one_kept kept added Several h = refl
+
+-- what is kept besides changes nothing
+pub more_kept : (kept added : List TypeState) (marks : List (Arrival Mark)) → All (IsMarked (length kept)) marks → map (arrival_of (kept ++ added)) marks ≡ map (arrival_of kept) marks
+more_kept kept added [] all = refl
+more_kept kept added (m ∷ ms) all =
+    let a = one_kept kept added m (all 0 Nothing (omega arith)) in
+    let b = more_kept kept added ms (λ k d lt. all (suc k) d (omega arith)) in
+    cc
+
+longer : (a b : ℕ) (m : Arrival Mark) → a ≤ b → IsMarked a m → IsMarked b m
+longer a b Nothing le h = tt
+longer a b (One m) le h = (omega (arith, h.0), h.1)
+longer a b Several le h = tt
+
+set_marked : (n : ℕ) (marks : List (Arrival Mark)) (place : ℕ) (after : Arrival Mark) → All (IsMarked n) marks → IsMarked n after → All (IsMarked n) (set marks place after)
+set_marked n marks place after all h k d lt = by (cases_eq place k)
+  where
+    within : k < length marks
+    within = omega (arith, length-set marks place after)
+
+    by : (place ≡ k) ⊎ (place ≢ k) → IsMarked n (get_or (set marks place after) k d)
+    by (inl e) = let here : place < length marks = omega (arith, within) in subst (λ q. IsMarked n (get_or (set marks place after) q d)) e (subst (IsMarked n) (sym (get_or-set_same marks place after d here)) h)
+    by (inr ne) = subst (IsMarked n) (sym (get_or-set_other marks place k after d (λ e. ne (sym e)))) (all k d within)
+
+-- where more is kept, the marks stand for one of these, and so does the one at hand
+pub holds_more : (kept added now : List TypeState) (marks : List (Arrival Mark)) (place : ℕ) (after : Arrival Mark) (s : TypeState) (m : Mark) → now ≡ kept ++ added → All (IsMarked (length kept)) marks × (m.like < length kept) × (s ≡ state_of kept m) → IsMarked (length now) after → All (IsMarked (length now)) (set marks place after) × (m.like < length now) × (s ≡ state_of now m)
+holds_more kept added now marks place after s m is held h =
+    let long : length now ≡ length kept + length added = ap length is ∙ length-append kept added in
+    let le : length kept ≤ length now = omega (arith, long) in (
+      set_marked (length now) marks place after (λ k d lt. longer (length kept) (length now) (get_or marks k d) le (held.0 k d lt)) h,
+      omega (arith, held.1, le),
+      held.2 ∙ sym (ap (at_height m.height) (ap (λ l. get_or l m.like none) is ∙ get_or_append_left kept added none m.like held.1)),
+    )
+
+-- one more has arrived
+pub arrived : (kept shown : List TypeState) (marks : List (Arrival Mark)) (table : List (Arrival TypeState)) (place : ℕ) (before after : Arrival Mark) (m : Mark) (s : TypeState) → shown ≡ kept → map (arrival_of kept) marks ≡ table → place < length table → before ≡ get_or marks place before → state_of kept m ≡ s → Merged (arrival_of shown before) (state_of shown m) (arrival_of shown after) → (x : Arrival TypeState) × (Merged (get_or table place Nothing) s x × (map (arrival_of kept) (set marks place after) ≡ set table place x))
+arrived kept shown marks table place before after m s is view lt reads same merged =
+    let within : place < length marks = omega (arith, lt, ap length view, length-map marks (arrival_of kept)) in
+    let was : arrival_of kept before ≡ get_or table place Nothing = ap (arrival_of kept) reads ∙ sym (get_or-map (arrival_of kept) marks place before Nothing within) ∙ ap (λ l. get_or l place Nothing) view in
+    let here : Merged (arrival_of kept before) (state_of kept m) (arrival_of kept after) = subst (λ l. Merged (arrival_of l before) (state_of l m) (arrival_of l after)) is merged in (
+      arrival_of kept after,
+      (
+        subst (λ a. Merged a s (arrival_of kept after)) was (subst (λ u. Merged (arrival_of kept before) u (arrival_of kept after)) same here),
+        map-set (arrival_of kept) marks place after ∙ ap (λ l. set l place (arrival_of kept after)) view,
+      ),
+    )
+
+nothing_yet : (kept : List TypeState) (places : ℕ) → map (arrival_of kept) (replicate places Nothing) ≡ replicate places Nothing
+nothing_yet kept zero = refl
+nothing_yet kept (suc n) = ap (λ l. Nothing ∷ l) (nothing_yet kept n)
+
+-- the first has arrived
+pub first_arrived : (kept : List TypeState) (marks : List (Arrival Mark)) (places : ℕ) (m : Mark) (first : TypeState) → marks ≡ replicate places Nothing → state_of kept m ≡ first → map (arrival_of kept) (set marks 0 (One m)) ≡ set (replicate places Nothing) 0 (One first)
+first_arrived kept marks places m first empty is =
+    map-set (arrival_of kept) marks 0 (One m)
+    ∙ ap (λ l. set (map (arrival_of kept) l) 0 (One (state_of kept m))) empty
+    ∙ ap (λ l. set l 0 (One (state_of kept m))) (nothing_yet kept places)
+    ∙ ap (λ s. set (replicate places Nothing) 0 (One s)) is
+
+long : (marks : List (Arrival Mark)) (places : ℕ) → marks ≡ replicate places Nothing → length marks ≡ places
+long marks places empty = ap length empty ∙ length-replicate places Nothing
+
+-- the first mark alone stands for one of these
+pub first_marked : (n : ℕ) (marks : List (Arrival Mark)) (places : ℕ) (after : Arrival Mark) → marks ≡ replicate places Nothing → IsMarked n after → All (IsMarked n) (set marks 0 after)
+first_marked n marks places after empty h = set_marked n marks 0 after (λ k d lt. subst (λ l. IsMarked n (get_or l k d)) (sym empty) (at k d lt)) h
+  where
+    at : (k : ℕ) (d : Arrival Mark) → k < length marks → IsMarked n (get_or (replicate places Nothing) k d)
+    at k d lt = let within : k < places = omega (arith, lt, long marks places empty) in subst (IsMarked n) (sym (get_or-replicate places k Nothing d within)) tt
