@@ -1,25 +1,17 @@
 -- What it says of an instruction that no cause holds at it.
-use Rattle.std.proofs.Common.{◌≡◌, ◌≢◌, ℕ, zero, suc, ◌+◌, ◌-◌, ◌<◌, ◌≤◌, ◌⊎◌, inl, inr, List, [], ◌∷◌, ◌++◌, length, drop, map, Bool, true, false, cond, not, ◌&&◌, ◌||◌, Option, Some, None, Result, Ok, Err, find, refl, sym, ap, ◌∙◌, subst, arith}
+use Rattle.std.proofs.Common.{◌≡◌, ℕ, ◌<◌, ◌⊎◌, inl, inr, List, [], ◌∷◌, ◌++◌, length, Bool, true, false, cond, not, ◌||◌, Option, Some, None, Ok, find, refl, sym, ap, ◌∙◌}
 use Rattle.std.specs.List.{list_any}
-use Rattle.std.specs.Bool.{Decides}
-use Rattle.std.specs.Str.{bytes_eq}
 use Rattle.std.proofs.lemmas.Bool.{leb-false}
-use Rattle.std.proofs.lemmas.List.Folds.{list_any-append}
 use Rattle.std.proofs.lemmas.Slice.Eq.{bytes_eq-Decides}
 use Rattle.sts_code.specs.Program.{Program, routine}
 use Rattle.sts_code.specs.declared.instr.Instr.{Instr}
-use Rattle.sts_code.specs.declared.instr.Instr.TheVariants.{Fork}
 use Rattle.sts_model.specs.declared.typing.Cause.{Cause}
 use Rattle.sts_model.specs.declared.typing.Cause.TheVariants as cause
-use Rattle.sts_model.specs.declared.typing.SlotKind.{SlotKind}
-use Rattle.sts_model.specs.declared.typing.SlotKind.TheVariants.{Empty, Own, Lent, Sub}
-use Rattle.sts_model.specs.declared.typing.TypedScope.{TypedScope}
-use Rattle.sts_model.specs.TypeState.{TypeState, kind, scope_in, heads}
+use Rattle.sts_model.specs.TypeState.{TypeState, heads}
 use Rattle.sts_model.specs.Around.{named, next_place, skipped_to, open_after, around}
-use Rattle.sts_model.specs.Causes.{holds, causes, least_cause, is_unmatched, mismatches, falls_off, jumps_back, breaks_structure, is_nested, is_illegal, has_wrong_slot, is_strangers, is_other_loop, is_own, is_lent, passes, is_opened}
+use Rattle.sts_model.specs.Causes.{holds, causes, least_cause, is_unmatched, breaks_structure, is_nested, is_illegal, has_wrong_slot, is_strangers, is_other_loop}
 use Rattle.sts_model.specs.Edges.{follows, or_cause, edges_of}
 use Rattle.sts_model.specs.ControlPaths.{Among}
-use Rattle.sts_budget.proofs.Sorts.{among_of}
 
 -- no cause was found, and these are the edges
 fine : (o : Option Cause) (es out : List (ℕ × TypeState)) → or_cause o es ≡ Ok out → (o ≡ None) × (out ≡ es)

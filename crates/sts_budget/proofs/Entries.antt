@@ -1,17 +1,13 @@
 -- The open entries at a point of a path, and the sums over the first d of them.
-use Rattle.std.proofs.Common.{◌≡◌, ◌≢◌, ℕ, zero, suc, ◌+◌, ◌-◌, ◌<◌, ◌≤◌, ◌⊎◌, min, inl, inr, List, [], ◌∷◌, ◌++◌, length, drop, map, Bool, true, false, cond, ltb, ◌==◌, Option, Some, None, refl, sym, ap, ◌∙◌, subst, arith, add-zero}
+use Rattle.std.proofs.Common.{◌≡◌, ℕ, suc, ◌+◌, ◌<◌, ◌≤◌, ◌⊎◌, min, inl, inr, List, [], ◌∷◌, length, drop, map, Bool, true, false, cond, ltb, ◌==◌, Option, Some, None, refl, sym, ap, ◌∙◌, arith, add-zero}
 use Rattle.std.specs.List.{sum_by}
-use Rattle.std.proofs.lemmas.Bool.{cases_eq, cases_lt, ltb-true, ltb-false, lt-ltb, le-ltb, eqb-true, eqb-false}
+use Rattle.std.proofs.lemmas.Bool.{cases_lt, lt-ltb, le-ltb, eqb-false}
 use Rattle.std.proofs.lemmas.List.Sums.{sum_by-cons}
 use Rattle.sts_code.specs.declared.instr.Instr.{Instr}
 use Rattle.sts_code.specs.declared.instr.Instr.TheVariants.{Push, Pop, Dup, Swap, Load, Store, Add, Sub, Mul, Lt, Eq, Div, Jmp, Jz, Times, Next, Open, Fork, Join, Close, Cancelled, Case, Get, Except, Tally, Total, Forget, Bind, Unbind, Read, Bound, OrElse, Interrupted, Ret, Fail}
-use Rattle.sts_model.specs.Around.{instr_at}
-use Rattle.sts_model.specs.ControlPaths.{Shape, GoesTo, Repeats, EndsTurn, EndsPath, OpenEntry, OpenScope, OpenBinding, Skeleton, Among, Loops, Follows, go, skip, enter, again, leave, Comes, start, step}
-use Rattle.sts_model.specs.declared.budget.Budgets.{Budgets}
-use Rattle.sts_model.specs.Budget.{Measure, entry_sum, entries_sum, forked, entries_of, skeleton}
+use Rattle.sts_model.specs.ControlPaths.{OpenEntry, OpenScope, OpenBinding}
+use Rattle.sts_model.specs.Budget.{Measure, entry_sum, entries_sum, forked, entries_of}
 use Rattle.sts_budget.specs.Layout.{Names, names_after, HasScope, FitsNames}
-use Rattle.sts_budget.specs.declared.effect.Effect.{Effect}
-use Rattle.sts_budget.specs.declared.effect.Effect.TheVariants.{Rises, Opens, Adds}
 use Rattle.sts_budget.specs.Effect.{source_of, added_of, position_of, measured}
 
 abbrev pub name_of : OpenEntry → Option ℕ

@@ -1,5 +1,5 @@
 -- From the four numbers to the answer.
-use Rattle.std.proofs.Common.{◌≡◌, ℕ, ◌<◌, ◌≤◌, List, Result, Ok, Err, refl, sym, ap, ◌∙◌, subst, arith}
+use Rattle.std.proofs.Common.{◌≡◌, ℕ, ◌<◌, ◌≤◌, List, Result, Ok, Err, sym, subst, arith}
 use Rattle.std.specs.Result.{IsErrAnd}
 use Rattle.sts_code.specs.declared.instr.Instr.{Instr}
 use Rattle.sts_model.specs.declared.budget.Budgets.{Budgets}

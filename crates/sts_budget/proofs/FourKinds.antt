@@ -1,22 +1,22 @@
 -- The four kinds of budgets: what the pass sums is what control paths count and hold.
-use Rattle.std.proofs.Common.{◌≡◌, ◌≢◌, ℕ, zero, suc, ◌+◌, ◌-◌, ◌<◌, ◌≤◌, ◌⊎◌, min, inl, inr, List, [], ◌∷◌, ◌++◌, length, refl, sym, ap, ◌∙◌, subst, arith, add-zero}
+use Rattle.std.proofs.Common.{◌≡◌, ℕ, suc, ◌+◌, ◌<◌, ◌≤◌, List, [], length, refl, sym, ap, ◌∙◌, subst, arith}
 use Rattle.sts_code.specs.declared.instr.Instr.{Instr}
 use Rattle.sts_code.specs.declared.instr.Instr.TheVariants.{Push, Pop, Dup, Swap, Load, Store, Add, Sub, Mul, Lt, Eq, Div, Jmp, Jz, Times, Next, Open, Fork, Join, Close, Cancelled, Case, Get, Except, Tally, Total, Forget, Bind, Unbind, Read, Bound, OrElse, Interrupted, Ret, Fail}
 use Rattle.sts_model.specs.Around.{instr_at}
-use Rattle.sts_model.specs.ControlPaths.{Shape, GoesTo, Repeats, EndsTurn, EndsPath, OpenEntry, OpenScope, OpenBinding, Skeleton, Among, Loops, Follows, go, skip, enter, again, leave, Comes, start, step, PathCounts, IsGreatest, PointHolds, IsPeak}
+use Rattle.sts_model.specs.ControlPaths.{EndsPath, OpenEntry, Skeleton, Loops, Follows, go, skip, enter, again, leave, Comes, start, step, PathCounts, IsGreatest, PointHolds, IsPeak}
 use Rattle.sts_model.specs.declared.budget.Budgets.{Budgets}
-use Rattle.sts_model.specs.Budget.{Measure, entries_sum, entries_of, skeleton, shape_of, steps_of, tasks_measure, scopes_measure, binds_measure, tasks_sum, scopes_sum, binds_sum, Exceeds, PathExceeds, PointExceeds}
+use Rattle.sts_model.specs.Budget.{Measure, entries_sum, entries_of, skeleton, shape_of, steps_of, tasks_measure, scopes_measure, binds_measure, scopes_sum, binds_sum, Exceeds, PathExceeds}
 use Rattle.sts_budget.specs.Layout.{Names, names_after, FitsNames}
 use Rattle.sts_budget.specs.declared.effect.Kind.{Kind}
 use Rattle.sts_budget.specs.declared.effect.Kind.TheVariants.{Steps, Tasks, Scopes, Binds}
-use Rattle.sts_budget.specs.Effect.{source_of, added_of, measured, effect_of, depth_of, own_of, limit_of, cause_of, IsMost}
-use Rattle.sts_budget.proofs.Structured.{own_loop, IsInside, inside_step, comes_inside, at_points, Counts}
+use Rattle.sts_budget.specs.Effect.{source_of, added_of, measured, own_of, limit_of, cause_of, IsMost}
+use Rattle.sts_budget.proofs.Structured.{own_loop, IsInside, comes_inside, at_points}
 use Rattle.sts_budget.proofs.Sums.{IsTable, point_most, point_attained}
 use Rattle.sts_budget.proofs.Entries.{names, front, front_all, front_le, names_of, front_of, source_low, source_kept, long}
 use Rattle.sts_budget.specs.Flowing.{flows, flows_by}
 use Rattle.sts_budget.specs.Known.{KnowsNames}
-use Rattle.sts_budget.specs.Structured.{IsStructured, heads}
-use Rattle.sts_budget.specs.Sums.{Flows, Sums, none, more, FitsEntries, Stands, full, last_turns}
+use Rattle.sts_budget.specs.Structured.{IsStructured}
+use Rattle.sts_budget.specs.Sums.{Sums, none, more, FitsEntries, Stands, full}
 
 -- each instruction counts a step
 counts_one : (earlier : List Budgets) (i : Instr) → 1 ≤ steps_of earlier i

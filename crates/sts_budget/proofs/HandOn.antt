@@ -1,5 +1,5 @@
 -- What the code hands on at a place is what the pass hands on.
-use Rattle.std.proofs.Common.{◌≡◌, ◌≢◌, ℕ, zero, suc, ◌+◌, ◌*◌, ◌<◌, ◌≤◌, ◌⊎◌, max, min, inl, inr, List, [], ◌∷◌, ◌++◌, length, get_or, replicate, Bool, true, false, Option, Some, None, unwrap_or, refl, sym, ap, ◌∙◌, subst, arith}
+use Rattle.std.proofs.Common.{◌≡◌, ℕ, zero, suc, ◌+◌, ◌*◌, ◌<◌, ◌≤◌, max, min, inl, inr, List, [], ◌∷◌, ◌++◌, length, get_or, replicate, true, false, Option, unwrap_or, refl, sym, ap, ◌∙◌, subst, arith}
 use Rattle.std.proofs.lemmas.List.{length-replicate, get_or-replicate}
 use Rattle.sts_code.specs.Program.{Program}
 use Rattle.sts_code.specs.declared.profile.Profile.TheVariants.{One}
@@ -16,11 +16,11 @@ use Rattle.sts_budget.specs.Effect.{source_of, added_of, effect_of, depth_of, ow
 use Rattle.sts_budget.specs.Handing.{is_quiet, turns_of, value_by, handed_value}
 use Rattle.sts_budget.specs.Laid.{first_of}
 use Rattle.sts_budget.specs.Ready.{IsReady, names_in, head_in, flows_in}
-use Rattle.sts_budget.specs.Structured.{IsStructured, bound_of, Led}
+use Rattle.sts_budget.specs.Structured.{bound_of}
 use Rattle.sts_budget.specs.Sums.{Flows, FitsEntries, Stands}
 use Rattle.sts_budget.specs.Table.{read, New, Handed, over_go, over_loop, IsSpread, IsPartial, IsSent, IsStopped, HandsTooMuch, Passes}
 use Rattle.sts_budget.proofs.Sorts.{Sort, sort, is_times, is_next, is_end, goes_on, GoesOn}
-use Rattle.sts_budget.proofs.Typed.{goes_of, next_of}
+use Rattle.sts_budget.proofs.Typed.{next_of}
 use Rattle.sts_budget.proofs.Sums.{IsSourced, go_stands, loop_stands}
 use Rattle.sts_budget.proofs.Forward.{among_cases, partial_more, sourced}
 use Rattle.sts_budget.proofs.FourKinds.{fits}

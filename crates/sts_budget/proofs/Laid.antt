@@ -1,12 +1,12 @@
 -- The pass that finds what is open at each place.
-use Rattle.std.proofs.Common.{◌≡◌, ◌≢◌, ℕ, zero, suc, ◌+◌, ◌-◌, ◌<◌, ◌≤◌, ◌⊎◌, inl, inr, List, [], ◌∷◌, ◌++◌, length, take, drop, set, get_or, Bool, true, false, Option, Some, None, refl, sym, ap, ◌∙◌, subst, arith, length-set, get_or-set_same, get_or-set_other, unwrap_or, replicate}
+use Rattle.std.proofs.Common.{◌≡◌, ◌≢◌, ℕ, suc, ◌+◌, ◌<◌, ◌≤◌, ◌⊎◌, inl, inr, List, [], ◌∷◌, ◌++◌, length, take, set, get_or, false, Option, Some, None, refl, sym, ap, ◌∙◌, subst, arith, length-set, get_or-set_same, get_or-set_other, unwrap_or, replicate}
 use Rattle.std.proofs.Math.Seq.{take-suc}
 use Rattle.std.proofs.lemmas.List.{length-replicate, get_or-replicate}
 use Rattle.std.proofs.lemmas.Bool.{cases_eq, cases_lt, leb-false}
 use Rattle.sts_code.specs.Program.{Program, routine}
 use Rattle.sts_code.specs.declared.instr.Instr.{Instr}
 use Rattle.sts_code.specs.declared.instr.Instr.TheVariants.{Push, Pop, Dup, Swap, Load, Store, Add, Sub, Mul, Lt, Eq, Div, Jmp, Jz, Times, Next, Open, Fork, Join, Close, Cancelled, Case, Get, Except, Tally, Total, Forget, Bind, Unbind, Read, Bound, OrElse, Interrupted, Ret, Fail}
-use Rattle.sts_model.specs.Flow.{Reaches, first, IsClear, IsAlone}
+use Rattle.sts_model.specs.Flow.{Reaches}
 use Rattle.sts_model.specs.Local.{match_of}
 use Rattle.sts_model.specs.declared.typing.TypedEntry.{TypedEntry}
 use Rattle.sts_model.specs.TypeState.{TypeState}
@@ -14,13 +14,12 @@ use Rattle.sts_model.specs.Around.{instr_at, named, next_place, around}
 use Rattle.sts_model.specs.Causes.{is_nested}
 use Rattle.sts_model.specs.Edges.{typing}
 use Rattle.sts_model.specs.Refusal.{IsWellTyped}
-use Rattle.sts_model.specs.ControlPaths.{Shape, GoesTo, Repeats, EndsTurn, EndsPath, Skeleton, Among}
-use Rattle.sts_model.specs.declared.budget.Budgets.{Budgets}
+use Rattle.sts_model.specs.ControlPaths.{GoesTo, Repeats, EndsTurn, EndsPath, Among}
 use Rattle.sts_model.specs.Budget.{skeleton, shape_of}
 use Rattle.sts_budget.specs.Layout.{Names, names_after, HasRoom}
 use Rattle.sts_budget.proofs.Sorts.{Sort, sort, is_times, is_next, is_end, goes_on, GoesOn, among_of, among_left, among_right}
 use Rattle.sts_budget.proofs.Forward.{among_cases}
-use Rattle.sts_budget.proofs.Typed.{among_next, goes_at, here, Here, fits, opened, Opened, ended, Ended, inside, structured, leading_go, next_of, times_of}
+use Rattle.sts_budget.proofs.Typed.{among_next, goes_at, here, fits, opened, Opened, ended, inside, structured, leading_go, times_of}
 use Rattle.sts_budget.proofs.Named.{led, knows_names}
 use Rattle.sts_budget.specs.Structured.{IsStructured}
 use Rattle.sts_budget.specs.Known.{KnowsNames, NamesRight}

@@ -1,16 +1,15 @@
 -- One step of the pass that finds what is open, as the code makes it.
-use Rattle.std.proofs.Common.{◌≡◌, ◌≢◌, ℕ, zero, suc, ◌+◌, ◌<◌, ◌≤◌, ◌⊎◌, pos, inl, inr, List, [], ◌∷◌, ◌++◌, length, get_or, replicate, Option, Some, None, IfSome, rules, refl, sym, ap, ◌∙◌, subst, arith}
-use Rattle.std.proofs.lemmas.List.{length-replicate, get_or-replicate}
+use Rattle.std.proofs.Common.{◌≡◌, ℕ, zero, suc, ◌+◌, ◌<◌, pos, inl, inr, List, [], ◌∷◌, ◌++◌, length, get_or, replicate, Option, Some, None, IfSome, rules, refl, sym, ap, ◌∙◌, subst, arith}
 use Rattle.sts_code.specs.Checks.{program_fault}
 use Rattle.sts_code.specs.Program.{Program, routine}
 use Rattle.sts_code.specs.declared.instr.Instr.{Instr}
 use Rattle.sts_code.specs.declared.instr.Instr.TheVariants.{Push, Ret}
-use Rattle.sts_model.specs.Around.{instr_at, named, next_place, around}
+use Rattle.sts_model.specs.Around.{instr_at, named, next_place}
 use Rattle.sts_model.specs.Refusal.{IsWellTyped}
 use Rattle.sts_model.specs.ControlPaths.{Among}
 use Rattle.sts_budget.specs.Layout.{Names, names_after, HasRoom}
 use Rattle.sts_budget.specs.Laid.{Writes, IsLaid, head_after, mates_after}
-use Rattle.sts_budget.proofs.Checked.{IsChecked, is_checked}
+use Rattle.sts_budget.proofs.Checked.{is_checked}
 use Rattle.sts_budget.proofs.Laid.{is_written, fits_room, leads_inside, head_before, laid_more, laid_none}
 
 pub any_default : {A : Type 0} (xs : List A) (i : ℕ) (d e : A) → i < length xs → get_or xs i d ≡ get_or xs i e

@@ -10,7 +10,7 @@ use Rattle.sts_model.specs.declared.typing.Cause.{Cause}
 use Rattle.sts_model.specs.declared.typing.Cause.TheVariants as cause
 use Rattle.sts_model.specs.Causes.{cause_number}
 use Rattle.sts_model.specs.Budget.{skeleton, shape_of, Exceeds, IsLeastExcess}
-use Rattle.sts_model.specs.ControlPaths.{Shape, Repeats, Skeleton}
+use Rattle.sts_model.specs.ControlPaths.{Skeleton}
 use Rattle.sts_budget.specs.declared.effect.Kind.{Kind}
 use Rattle.sts_budget.specs.declared.layout.Layout.{Layout}
 use Rattle.sts_budget.specs.Effect.{own_step, own_of, limit_of, cause_of, depth_of, IsMost}
@@ -18,8 +18,8 @@ use Rattle.sts_budget.specs.Handing.{base_of, bases_after}
 use Rattle.sts_budget.specs.Laid.{first_of}
 use Rattle.sts_budget.specs.Last.{HasBases, IsTop}
 use Rattle.sts_budget.specs.Ready.{IsReady, names_in, head_in, flows_in}
-use Rattle.sts_budget.specs.Structured.{IsStructured, bound_of}
-use Rattle.sts_budget.specs.Sums.{Flows, Stands, full, turn_base, gain}
+use Rattle.sts_budget.specs.Structured.{bound_of}
+use Rattle.sts_budget.specs.Sums.{Flows, full, turn_base, gain}
 use Rattle.sts_budget.specs.Table.{read, IsPartial, Passes}
 use Rattle.sts_budget.specs.declared.effect.Kind.TheVariants.{Steps, Tasks, Scopes, Binds}
 use Rattle.sts_budget.proofs.LaidStep.{any_default}

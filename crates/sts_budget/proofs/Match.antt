@@ -1,5 +1,5 @@
 -- The match of a `times` is a `next`, and comes after it.
-use Rattle.std.proofs.Common.{◌≡◌, ◌≢◌, ℕ, zero, suc, ◌+◌, ◌-◌, ◌<◌, ◌≤◌, ◌⊎◌, inl, inr, List, [], ◌∷◌, ◌++◌, length, take, drop, get_or, add-zero, Bool, true, false, cond, Option, Some, None, find, eqb, refl, sym, ap, ◌∙◌, subst, arith, length-drop, slice_range}
+use Rattle.std.proofs.Common.{◌≡◌, ◌≢◌, ℕ, zero, suc, ◌+◌, ◌-◌, ◌<◌, ◌≤◌, List, [], ◌∷◌, length, take, drop, get_or, add-zero, Bool, true, false, cond, Some, find, refl, sym, ap, ◌∙◌, arith, length-drop, slice_range}
 use Rattle.std.specs.List.{range_with_len, count_by, sum_by}
 use Rattle.std.proofs.Math.Seq.{take-suc}
 use Rattle.std.proofs.lemmas.Bool.{eqb-true, eqb-false}

@@ -1,32 +1,30 @@
 -- The names of the open entries are known by their place in a well-typed function, and a loop closes nothing that stood before it.
-use Rattle.std.proofs.Common.{◌≡◌, ◌≢◌, ℕ, zero, suc, ◌+◌, ◌-◌, ◌<◌, ◌≤◌, ◌⊎◌, inl, inr, List, [], ◌∷◌, ◌++◌, length, drop, map, Bool, true, false, cond, not, ◌&&◌, ◌||◌, ◌==◌, Option, Some, None, Result, Ok, Err, refl, sym, ap, ◌∙◌, subst, arith, option_map, option_to_list, slice_get, nat_le}
+use Rattle.std.proofs.Common.{◌≡◌, ℕ, suc, ◌+◌, ◌<◌, ◌≤◌, ◌⊎◌, inl, inr, List, [], ◌∷◌, ◌++◌, length, drop, map, Bool, true, false, cond, not, ◌&&◌, ◌||◌, ◌==◌, Option, Some, None, refl, sym, ap, ◌∙◌, subst, arith, option_map, option_to_list, slice_get, nat_le}
 use Rattle.std.specs.List.{list_any}
-use Rattle.std.proofs.lemmas.Bool.{cases_eq, cases_lt, leb-false, eqb-true}
+use Rattle.std.proofs.lemmas.Bool.{cases_lt, leb-false, eqb-true}
 use Rattle.std.proofs.lemmas.List.{length-map}
 use Rattle.sts_code.specs.Program.{Program, routine}
 use Rattle.sts_code.specs.declared.instr.Instr.{Instr}
 use Rattle.sts_code.specs.declared.instr.Instr.TheVariants.{Push, Pop, Dup, Swap, Load, Store, Add, Sub, Mul, Lt, Eq, Div, Jmp, Jz, Times, Next, Open, Fork, Join, Close, Cancelled, Case, Get, Except, Tally, Total, Forget, Bind, Unbind, Read, Bound, OrElse, Interrupted, Ret, Fail}
 use Rattle.sts_model.specs.declared.typing.TypedLoop.{TypedLoop}
-use Rattle.sts_model.specs.declared.typing.TypedScope.{TypedScope}
 use Rattle.sts_model.specs.declared.typing.TypedEntry.{TypedEntry}
 use Rattle.sts_model.specs.declared.typing.TypedEntry.TheVariants.{Scope, Binding}
 use Rattle.sts_model.specs.declared.typing.SlotKind.{SlotKind}
 use Rattle.sts_model.specs.declared.typing.SlotKind.TheVariants as slot
-use Rattle.sts_model.specs.Flow.{Flow, Leads, Reaches, first, then, IsAlone, IsClear}
+use Rattle.sts_model.specs.Flow.{Leads, Reaches, first, then}
 use Rattle.sts_model.specs.TypeState.{TypeState, heads, kind, scope_in}
-use Rattle.sts_model.specs.Around.{instr_at, named, next_place, around, skipped_to}
+use Rattle.sts_model.specs.Around.{instr_at, named, next_place, around}
 use Rattle.sts_model.specs.Causes.{breaks_structure, is_illegal, has_wrong_slot, is_strangers, is_held, is_own, is_lent, passes, is_opened, innermost, is_scope_in, is_binding}
-use Rattle.sts_model.specs.Edges.{follows, moved, typing, edges_of, back_of}
+use Rattle.sts_model.specs.Edges.{follows, moved, typing, back_of}
 use Rattle.sts_model.specs.Refusal.{IsWellTyped}
-use Rattle.sts_model.specs.ControlPaths.{Shape, GoesTo, Repeats, EndsTurn, EndsPath, Skeleton, Among}
+use Rattle.sts_model.specs.ControlPaths.{GoesTo, Repeats, EndsPath, Skeleton, Among}
 use Rattle.sts_model.specs.declared.budget.Budgets.{Budgets}
 use Rattle.sts_model.specs.Budget.{skeleton, shape_of}
 use Rattle.sts_budget.specs.Layout.{Names, names_after, HasScope, FitsNames}
-use Rattle.sts_budget.proofs.Sorts.{GoesOn}
-use Rattle.sts_budget.proofs.Allowed.{Allowed, allowed, not_false, neither}
-use Rattle.sts_budget.proofs.Typed.{IsEdge, over_go, into_loop, past_loop, over_next, edge_at, here, Here, fits, times_at, next_at, goes_at, within_code, opened, Opened, ended, stack_at, inside, none_past}
+use Rattle.sts_budget.proofs.Allowed.{allowed, not_false, neither}
+use Rattle.sts_budget.proofs.Typed.{IsEdge, over_go, into_loop, past_loop, over_next, edge_at, here, times_at, next_at, goes_at, within_code, opened, ended, none_past}
 use Rattle.sts_budget.specs.Known.{KnowsNames, NamesRight}
-use Rattle.sts_budget.specs.Structured.{IsStructured, Led, from_go, from_head, from_end}
+use Rattle.sts_budget.specs.Structured.{Led, from_go, from_head, from_end}
 use Rattle.sts_budget.specs.TypedNames.{names}
 
 -- ---- one instruction

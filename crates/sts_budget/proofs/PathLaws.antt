@@ -1,19 +1,15 @@
 -- The laws of the budgets, from structured code.
-use Rattle.std.proofs.Common.{◌≡◌, ℕ, ◌+◌, ◌<◌, ◌≤◌, List, [], ◌∷◌, length, Option, Some, None, Bool, true, false, ◌==◌, cond, ltb, refl, sym, ap, ◌∙◌, subst, arith, inl, inr}
+use Rattle.std.proofs.Common.{◌≡◌, ℕ, ◌+◌, ◌<◌, List, [], ◌∷◌, length, Some, None, Bool, true, false, ◌==◌, cond, ltb, refl, sym, ap, ◌∙◌, subst, arith, inl, inr}
 use Rattle.std.proofs.lemmas.Bool.{lt-ltb, eqb-false}
 use Rattle.sts_code.specs.Program.{Program, routine}
 use Rattle.sts_code.specs.Checks.{program_fault}
-use Rattle.sts_code.specs.declared.instr.Instr.{Instr}
-use Rattle.sts_code.specs.declared.instr.Instr.TheVariants.{Fork}
 use Rattle.sts_model.specs.Around.{instr_at, around}
 use Rattle.sts_model.specs.Refusal.{IsWellTyped}
 use Rattle.sts_model.specs.declared.budget.Budgets.{Budgets}
-use Rattle.sts_model.specs.ControlPaths.{Shape, GoesTo, Skeleton, OpenEntry, Loops, Comes, step, go, PathCounts, PointHolds}
-use Rattle.sts_model.specs.Budget.{IsBudget, skeleton, shape_of, steps_of, budget_at, Measure, entries_sum, entries_of, forked, tasks_measure, scopes_measure, binds_measure, tasks_sum, scopes_sum, binds_sum}
+use Rattle.sts_model.specs.ControlPaths.{GoesTo, OpenEntry, step, go}
+use Rattle.sts_model.specs.Budget.{IsBudget, skeleton, shape_of, steps_of, budget_at, Measure, entries_sum, entries_of, forked, tasks_measure, scopes_measure, binds_measure}
 use Rattle.sts_budget.specs.Laws.{PointsLieOnPaths, PointsAreWithin, ChildrenArePart}
 use Rattle.sts_budget.specs.Layout.{Names, HasScope, FitsNames}
-use Rattle.sts_budget.specs.Known.{KnowsNames}
-use Rattle.sts_budget.specs.Structured.{IsStructured}
 use Rattle.sts_budget.specs.Effect.{position_of}
 use Rattle.sts_budget.proofs.Structured.{at_points, comes_inside}
 use Rattle.sts_budget.proofs.Entries.{names, front, front_all, front_forked, length_forked, long}
@@ -21,7 +17,7 @@ use Rattle.sts_budget.proofs.FourKinds.{comes_names}
 use Rattle.sts_budget.proofs.Typed.{structured}
 use Rattle.sts_budget.proofs.Named.{knows_names}
 use Rattle.sts_budget.proofs.Laid.{names_here, names_right}
-use Rattle.sts_budget.proofs.Checked.{IsChecked, is_checked}
+use Rattle.sts_budget.proofs.Checked.{is_checked}
 
 position_low : (x : ℕ) (ns : Names) → HasScope x ns → position_of x ns < length ns
 position_low x [] h = absurd h

@@ -1,22 +1,21 @@
 -- A layout of a well-typed function is right of its code.
-use Rattle.std.proofs.Common.{◌≡◌, ℕ, ◌<◌, List, [], Option, None, length, get_or, take, refl, sym, ap, ◌∙◌, subst, arith}
+use Rattle.std.proofs.Common.{◌≡◌, ℕ, ◌<◌, List, Option, None, length, refl, sym, ◌∙◌, subst, arith}
 use Rattle.sts_code.specs.Checks.{program_fault}
 use Rattle.sts_code.specs.Program.{Program, routine}
 use Rattle.sts_code.specs.declared.instr.Instr.{Instr}
 use Rattle.sts_code.specs.declared.instr.Instr.TheVariants.{Push, Pop, Dup, Swap, Load, Store, Add, Sub, Mul, Lt, Eq, Div, Jmp, Jz, Times, Next, Open, Fork, Join, Close, Cancelled, Case, Get, Except, Tally, Total, Forget, Bind, Unbind, Read, Bound, OrElse, Interrupted, Ret, Fail}
 use Rattle.sts_model.specs.Around.{instr_at}
-use Rattle.sts_model.specs.Flow.{IsClear, IsAlone}
 use Rattle.sts_model.specs.Refusal.{IsWellTyped}
 use Rattle.sts_model.specs.declared.budget.Budgets.{Budgets}
 use Rattle.sts_budget.specs.declared.layout.Layout.{Layout}
 use Rattle.sts_budget.specs.Effect.{ForksEarlier}
 use Rattle.sts_budget.specs.Known.{NamesRight}
-use Rattle.sts_budget.specs.Laid.{IsLaid, IsLaidOut, IsRight}
+use Rattle.sts_budget.specs.Laid.{IsLaidOut, IsRight}
 use Rattle.sts_budget.specs.Ready.{IsReady, names_in}
 use Rattle.sts_budget.proofs.Checked.{IsChecked, is_checked}
 use Rattle.sts_budget.proofs.Laid.{is_written}
 use Rattle.sts_budget.proofs.Named.{led, knows_names}
-use Rattle.sts_budget.proofs.Typed.{fits, structured, opened, Opened}
+use Rattle.sts_budget.proofs.Typed.{fits, structured, opened}
 
 -- each fork is of an earlier function
 forks : (f pc : ℕ) (i : Instr) → ((x g : ℕ) (h : Option ℕ) → i ≡ Fork x g h → g < f) → ForksEarlier f i

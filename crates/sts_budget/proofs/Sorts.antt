@@ -1,6 +1,6 @@
 -- What the typing of each instruction says of the control flow and of the open entries.
-use Rattle.std.proofs.Common.{◌≡◌, ◌≢◌, ℕ, zero, suc, ◌+◌, ◌-◌, ◌<◌, ◌≤◌, ◌⊎◌, inl, inr, List, [], ◌∷◌, ◌++◌, length, drop, map, Bool, true, false, cond, not, ◌&&◌, ◌||◌, ◌==◌, Option, Some, None, Result, Ok, Err, find, refl, sym, ap, ◌∙◌, subst, arith, slice_set, slice_get}
-use Rattle.sts_code.specs.Program.{Program, routine}
+use Rattle.std.proofs.Common.{◌≡◌, ℕ, ◌+◌, ◌-◌, ◌⊎◌, inl, inr, List, [], ◌∷◌, ◌++◌, drop, map, true, false, cond, ◌==◌, Option, Some, None, refl, sym, ap, ◌∙◌, subst, slice_set}
+use Rattle.sts_code.specs.Program.{Program}
 use Rattle.sts_code.specs.declared.instr.Instr.{Instr}
 use Rattle.sts_code.specs.declared.instr.Instr.TheVariants.{Push, Pop, Dup, Swap, Load, Store, Add, Sub, Mul, Lt, Eq, Div, Jmp, Jz, Times, Next, Open, Fork, Join, Close, Cancelled, Case, Get, Except, Tally, Total, Forget, Bind, Unbind, Read, Bound, OrElse, Interrupted, Ret, Fail}
 use Rattle.sts_model.specs.declared.typing.TypedEntry.{TypedEntry}
@@ -10,13 +10,13 @@ use Rattle.sts_model.specs.declared.typing.TypedPhase.TheVariants.{Opened, Attem
 use Rattle.sts_model.specs.declared.typing.Known.TheVariants.{Unknown, Success, Failed}
 use Rattle.sts_model.specs.declared.typing.SlotKind.{SlotKind}
 use Rattle.sts_model.specs.declared.typing.SlotKind.TheVariants.{Empty, Own, Sub}
-use Rattle.sts_model.specs.TypeState.{TypeState, kind, scope_in}
+use Rattle.sts_model.specs.TypeState.{TypeState, scope_in}
 use Rattle.sts_model.specs.Flow.{Leads}
-use Rattle.sts_model.specs.Around.{named, falls_through, next_place, skipped_to, open_after}
-use Rattle.sts_model.specs.Edges.{follows, moved, with_slot, with_known, with_phase, phase_set, raised, after_ok, joiner_of, cleared, to_optional, join_follows}
-use Rattle.sts_model.specs.ControlPaths.{Shape, GoesTo, Repeats, EndsTurn, EndsPath, Among}
+use Rattle.sts_model.specs.Around.{named, next_place, skipped_to, open_after}
+use Rattle.sts_model.specs.Edges.{follows, moved, with_slot, with_known, with_phase, phase_set, raised, after_ok, joiner_of, cleared, join_follows}
+use Rattle.sts_model.specs.ControlPaths.{GoesTo, EndsPath, Among}
 use Rattle.sts_model.specs.Budget.{shape_of}
-use Rattle.sts_budget.specs.Layout.{Names, names_after}
+use Rattle.sts_budget.specs.Layout.{names_after}
 use Rattle.sts_budget.specs.TypedNames.{name_of, names}
 
 name_kept : (x : ℕ) (phase : TypedPhase) (e : TypedEntry) → name_of (phase_set x phase e) ≡ name_of e

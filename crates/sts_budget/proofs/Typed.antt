@@ -1,29 +1,27 @@
 -- The code of a well-typed function is structured, and its open entries are known by their place: where the typing enters the budgets.
-use Rattle.std.proofs.Common.{◌≡◌, ◌≢◌, ℕ, zero, suc, ◌+◌, ◌-◌, ◌<◌, ◌≤◌, ◌⊎◌, inl, inr, List, [], ◌∷◌, ◌++◌, length, drop, map, reverse, Bool, true, false, cond, not, ◌&&◌, Option, Some, None, Result, Ok, Err, find, refl, sym, ap, ◌∙◌, subst, arith, is_none, is_some, option_map, option_to_list, slice_get, unwrap_or}
-use Rattle.std.specs.List.{list_any, filter, range_with_len}
-use Rattle.std.proofs.lemmas.Bool.{cases_eq, cases_lt, leb-true, leb-false, lt-leb, le-leb, eqb-true}
-use Rattle.std.proofs.lemmas.List.{get_or_past, reverse-append, length-map}
+use Rattle.std.proofs.Common.{◌≡◌, ℕ, zero, suc, ◌+◌, ◌<◌, ◌≤◌, inl, inr, List, [], ◌∷◌, ◌++◌, length, drop, map, reverse, Bool, true, false, cond, ◌&&◌, Option, Some, None, Ok, refl, sym, ap, ◌∙◌, subst, arith, is_none, option_map, option_to_list, unwrap_or}
+use Rattle.std.specs.List.{filter, range_with_len}
+use Rattle.std.proofs.lemmas.Bool.{cases_eq, cases_lt, leb-true, le-leb, eqb-true}
+use Rattle.std.proofs.lemmas.List.{get_or_past, reverse-append}
 use Rattle.sts_code.specs.Program.{Program, routine}
 use Rattle.sts_code.specs.declared.instr.Instr.{Instr}
-use Rattle.sts_code.specs.declared.instr.Instr.TheVariants.{Times, Next, Open, Fork, Close, Bind, Unbind, Ret, Fail}
+use Rattle.sts_code.specs.declared.instr.Instr.TheVariants.{Times, Next, Ret}
 use Rattle.sts_model.specs.declared.typing.TypedLoop.{TypedLoop}
-use Rattle.sts_model.specs.declared.typing.TypedEntry.{TypedEntry}
-use Rattle.sts_model.specs.declared.typing.Cause.{Cause}
-use Rattle.sts_model.specs.Flow.{Flow, Leads, Reaches, first, then, IsAlone, IsClear}
+use Rattle.sts_model.specs.Flow.{Leads, Reaches, first, then, IsClear}
 use Rattle.sts_model.specs.Local.{match_of, is_times}
 use Rattle.sts_model.specs.Misuse.{is_at}
-use Rattle.sts_model.specs.TypeState.{TypeState, heads, entry}
-use Rattle.sts_model.specs.Around.{instr_at, named, falls_through, next_place, skipped_to, open_after, around, is_inside, reaches_to}
-use Rattle.sts_model.specs.Causes.{is_unmatched, closes_loop}
-use Rattle.sts_model.specs.Edges.{follows, moved, typing, edges_of, back_of}
+use Rattle.sts_model.specs.TypeState.{TypeState, heads}
+use Rattle.sts_model.specs.Around.{instr_at, named, falls_through, next_place, skipped_to, around, is_inside, reaches_to}
+use Rattle.sts_model.specs.Causes.{closes_loop}
+use Rattle.sts_model.specs.Edges.{follows, moved, typing, edges_of}
 use Rattle.sts_model.specs.Refusal.{IsWellTyped}
-use Rattle.sts_model.specs.ControlPaths.{Shape, GoesTo, Repeats, EndsTurn, EndsPath, Skeleton, Among}
+use Rattle.sts_model.specs.ControlPaths.{GoesTo, Repeats, EndsTurn, EndsPath, Skeleton, Among}
 use Rattle.sts_model.specs.declared.budget.Budgets.{Budgets}
 use Rattle.sts_model.specs.Budget.{skeleton, shape_of}
-use Rattle.sts_budget.specs.Layout.{Names, names_after}
+use Rattle.sts_budget.specs.Layout.{names_after}
 use Rattle.sts_budget.proofs.Sorts.{Sort, is_times as times_sort, is_next as next_sort, is_end as end_sort, goes_on, GoesOn, sort, among_of, among_left, among_right}
 use Rattle.sts_budget.proofs.Allowed.{Allowed, allowed, not_false}
-use Rattle.sts_budget.proofs.Match.{match_is_next, next_is, times_is}
+use Rattle.sts_budget.proofs.Match.{match_is_next, times_is}
 use Rattle.sts_budget.specs.Structured.{IsStructured}
 use Rattle.sts_budget.specs.TypedNames.{names}
 

@@ -1,12 +1,12 @@
 -- What instructions do to the sums over the open entries, the outermost first, by which the budgets are found (this project's own).
-use Rattle.std.specs.Prelude.{ℕ, ◌+◌, ◌-◌, ◌<◌, List, [], ◌∷◌, length, min, cond, nat_lt, ◌==◌, if◌then◌else◌, Option, Some, None}
+use Rattle.std.specs.Prelude.{ℕ, ◌<◌, List, [], ◌∷◌, length, min, nat_lt, ◌==◌, if◌then◌else◌, Some, None}
 use Rattle.sts_code.specs.declared.instr.Instr.{Instr}
 use Rattle.sts_code.specs.declared.instr.Instr.TheVariants.{Open, Fork, Bind}
 use Rattle.sts_model.specs.declared.typing.Cause.{Cause}
 use Rattle.sts_model.specs.declared.typing.Cause.TheVariants.{TooManySteps, TooManyTasks, TooManyScopes, TooManyBinds}
-use Rattle.sts_model.specs.ControlPaths.{OpenEntry, IsGreatest, IsPeak}
+use Rattle.sts_model.specs.ControlPaths.{IsGreatest, IsPeak}
 use Rattle.sts_model.specs.declared.budget.Budgets.{Budgets}
-use Rattle.sts_model.specs.Budget.{budget_at, Measure, entries_sum, steps_of, skeleton, tasks_sum, scopes_sum, binds_sum, tasks_measure, scopes_measure, binds_measure}
+use Rattle.sts_model.specs.Budget.{Measure, steps_of, skeleton, tasks_sum, scopes_sum, binds_sum, tasks_measure, scopes_measure, binds_measure}
 use Rattle.sts_budget.specs.declared.effect.Kind.{Kind}
 use Rattle.sts_budget.specs.declared.effect.Kind.TheVariants.{Steps, Tasks, Scopes, Binds}
 use Rattle.sts_budget.specs.declared.effect.Effect.{Effect}

@@ -1,25 +1,16 @@
 -- What is known to be open at each place of a function (this project's own).
-use Rattle.std.proofs.Common.{◌≡◌, ◌≢◌, ℕ, zero, suc, ◌+◌, ◌-◌, ◌<◌, ◌≤◌, ◌⊎◌, inl, inr, List, [], ◌∷◌, ◌++◌, length, take, drop, set, get_or, Bool, true, false, Option, Some, None, refl, sym, ap, ◌∙◌, subst, arith, length-set, get_or-set_same, get_or-set_other, unwrap_or, slice_set}
-use Rattle.std.proofs.Math.Seq.{take-suc}
-use Rattle.std.proofs.lemmas.Bool.{cases_eq, cases_lt, leb-false}
+use Rattle.std.proofs.Common.{◌≡◌, ℕ, ◌<◌, ◌⊎◌, List, [], ◌∷◌, ◌++◌, length, get_or, Option, Some, None, unwrap_or, slice_set}
 use Rattle.sts_code.specs.Program.{Program, routine}
 use Rattle.sts_code.specs.declared.instr.Instr.{Instr}
-use Rattle.sts_code.specs.declared.instr.Instr.TheVariants.{Push, Pop, Dup, Swap, Load, Store, Add, Sub, Mul, Lt, Eq, Div, Jmp, Jz, Times, Next, Open, Fork, Join, Close, Cancelled, Case, Get, Except, Tally, Total, Forget, Bind, Unbind, Read, Bound, OrElse, Interrupted, Ret, Fail}
-use Rattle.sts_model.specs.Flow.{Reaches, first, IsClear, IsAlone}
+use Rattle.sts_code.specs.declared.instr.Instr.TheVariants.{Times, Next}
+use Rattle.sts_model.specs.Flow.{Reaches}
 use Rattle.sts_model.specs.Local.{match_of}
-use Rattle.sts_model.specs.declared.typing.TypedEntry.{TypedEntry}
 use Rattle.sts_model.specs.TypeState.{TypeState}
 use Rattle.sts_model.specs.Around.{instr_at, named, next_place, around}
-use Rattle.sts_model.specs.Causes.{is_nested}
 use Rattle.sts_model.specs.Edges.{typing}
-use Rattle.sts_model.specs.Refusal.{IsWellTyped}
-use Rattle.sts_model.specs.ControlPaths.{Shape, GoesTo, Repeats, EndsTurn, EndsPath, Skeleton, Among}
-use Rattle.sts_model.specs.declared.budget.Budgets.{Budgets}
-use Rattle.sts_model.specs.Budget.{skeleton, shape_of}
+use Rattle.sts_model.specs.ControlPaths.{Among}
 use Rattle.sts_budget.specs.declared.layout.Layout.{Layout}
-use Rattle.sts_budget.specs.Layout.{Names, names_after, HasRoom}
-use Rattle.sts_budget.specs.Known.{KnowsNames, NamesRight}
-use Rattle.sts_budget.specs.Structured.{Led, from_go, from_head, from_end}
+use Rattle.sts_budget.specs.Layout.{Names}
 use Rattle.sts_budget.specs.TypedNames.{names}
 
 -- one value is written at these places

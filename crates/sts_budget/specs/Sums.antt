@@ -1,8 +1,7 @@
 -- Sums over the first open entries along control paths, and the greatest of them (this project's own).
-use Rattle.std.proofs.Common.{◌≡◌, ◌≢◌, ℕ, zero, suc, ◌+◌, ◌-◌, ◌*◌, ◌<◌, ◌≤◌, ◌⊎◌, min, inl, inr, List, [], ◌∷◌, refl, sym, ap, ◌∙◌, subst, arith, suc-mul, zero-mul, mul-le-mul_right}
-use Rattle.std.proofs.lemmas.Bool.{cases_eq, cases_lt}
-use Rattle.sts_model.specs.ControlPaths.{Shape, GoesTo, Repeats, EndsTurn, EndsPath, Skeleton, Among, Loops, Follows, go, skip, enter, again, leave}
-use Rattle.sts_budget.specs.Structured.{IsStructured, heads, bound_of}
+use Rattle.std.proofs.Common.{◌≡◌, ℕ, ◌+◌, ◌-◌, ◌*◌, ◌≤◌, min, List, [], ◌∷◌}
+use Rattle.sts_model.specs.ControlPaths.{GoesTo, Repeats, EndsTurn, Skeleton, Among, Loops, Follows}
+use Rattle.sts_budget.specs.Structured.{bound_of}
 
 -- how the sum over the first d entries at a place comes from a sum over the first entries at the place before it
 pub record Flows : Type 0 where

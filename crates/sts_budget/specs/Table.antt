@@ -1,9 +1,8 @@
 -- The table of greatest sums that one pass makes (this project's own).
-use Rattle.std.proofs.Common.{◌≡◌, ◌≢◌, ℕ, zero, suc, ◌+◌, ◌-◌, ◌*◌, ◌<◌, ◌≤◌, ◌⊎◌, max, inl, inr, List, [], ◌∷◌, length, get_or, refl, sym, ap, ◌∙◌, subst, arith, add-one}
-use Rattle.std.proofs.lemmas.Bool.{cases_eq, cases_lt}
-use Rattle.sts_model.specs.ControlPaths.{Shape, GoesTo, Repeats, EndsTurn, EndsPath, Skeleton, Among, Loops}
-use Rattle.sts_budget.specs.Structured.{IsStructured, bound_of, Led, from_go, from_head, from_end}
-use Rattle.sts_budget.specs.Sums.{Flows, FitsEntries, gain, Stands}
+use Rattle.std.proofs.Common.{◌≡◌, ℕ, ◌+◌, ◌*◌, ◌<◌, ◌≤◌, ◌⊎◌, max, List, [], length, get_or}
+use Rattle.sts_model.specs.ControlPaths.{Shape, GoesTo, Repeats, EndsTurn, Skeleton, Among}
+use Rattle.sts_budget.specs.Structured.{bound_of}
+use Rattle.sts_budget.specs.Sums.{Flows, gain, Stands}
 
 -- x is the greatest of the numbers P, or 0 where there is none
 abbrev pub MaxOf : (ℕ → Type 0) → ℕ → Type 0

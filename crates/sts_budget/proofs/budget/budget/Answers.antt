@@ -1,4 +1,3 @@
-use Rattle.std.proofs.Common.{◌≡◌}
 use Rattle.sts_code.specs.Program.{routine}
 use Rattle.sts_budget.specs.declared.effect.Kind.TheVariants.{Steps, Tasks, Scopes, Binds}
 use Rattle.sts_budget.proofs.Ready.{is_ready}

@@ -1,4 +1,4 @@
-use Rattle.std.proofs.Common.{◌≡◌, replicate, List, [], None}
+use Rattle.std.proofs.Common.{◌≡◌, replicate, []}
 use Rattle.sts_budget.proofs.layout.empty_names.Given as goal
 
 -- so many are there

@@ -1,8 +1,6 @@
-use Rattle.std.proofs.Common.{◌≡◌, ◌<◌, ℕ, List, [], Option, Some, None, pos, get_or, length, refl, sym, ap, ◌∙◌, subst, arith}
-use Rattle.sts_code.specs.declared.instr.Instr.{Instr}
+use Rattle.std.proofs.Common.{◌≡◌, ◌<◌, [], None, pos, get_or, length, sym, ap, ◌∙◌, subst, arith}
 use Rattle.sts_code.specs.declared.instr.Instr.TheVariants.{Push}
 use Rattle.sts_code.specs.Program.{routine}
-use Rattle.sts_budget.specs.Layout.{Names}
 use Rattle.sts_budget.specs.Laid.{IsLaid, Writes, head_after}
 use Rattle.sts_budget.proofs.LaidStep.{Stage, begin, short, room, head_fits, mate_fits, any_default, inside_of, places_fit, next_place_laid}
 use Rattle.sts_budget.proofs.layout.lay_out.Goals as goal

@@ -1,4 +1,4 @@
-use Rattle.std.proofs.Common.{◌≡◌, ◌<◌, ℕ, pos, List, [], length, get_or, min, false, refl, sym, ap, ◌∙◌, subst, arith, ◌++◌}
+use Rattle.std.proofs.Common.{◌≡◌, ◌<◌, ℕ, pos, List, [], get_or, min, false, sym, ap, ◌∙◌, subst, arith, ◌++◌}
 use Rattle.sts_code.specs.declared.instr.Instr.TheVariants.{Push, Ret}
 use Rattle.sts_model.specs.Around.{instr_at, named, next_place}
 use Rattle.sts_budget.specs.Effect.{depth_of}
@@ -6,7 +6,7 @@ use Rattle.sts_budget.specs.Handing.{is_quiet, handed_value}
 use Rattle.sts_budget.specs.Layout.{Names}
 use Rattle.sts_budget.specs.Table.{read, IsSent, IsStopped}
 use Rattle.sts_budget.proofs.LaidStep.{any_default, among_at}
-use Rattle.sts_budget.proofs.HandOn.{quiet_spread, sent_spread, stopped_over, leads_in}
+use Rattle.sts_budget.proofs.HandOn.{sent_spread, stopped_over, leads_in}
 use Rattle.sts_model.specs.ControlPaths.{Among}
 use Rattle.sts_budget.proofs.pass.hand_on.Goals as goal
 

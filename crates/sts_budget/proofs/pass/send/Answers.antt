@@ -1,7 +1,6 @@
-use Rattle.std.proofs.Common.{◌≡◌, ◌<◌, ◌≤◌, ℕ, List, [], length, get_or, set, refl, sym, ap, ◌∙◌, subst, arith}
+use Rattle.std.proofs.Common.{◌≡◌, ◌<◌, ◌≤◌, [], length, get_or, refl, ap, ◌∙◌, subst, arith}
 use Rattle.sts_budget.specs.Effect.{depth_of}
 use Rattle.sts_budget.specs.Row.{IsRaised, IsOver}
-use Rattle.sts_budget.specs.Table.{IsSent, IsStopped}
 use Rattle.sts_budget.proofs.LaidStep.{any_default}
 use Rattle.sts_budget.proofs.Rows.{sent_more, stopped_at}
 use Rattle.sts_budget.proofs.pass.send.Goals as goal

@@ -1,4 +1,4 @@
-use Rattle.std.proofs.Common.{rules, ◌≡◌, ◌<◌, ℕ, length, refl, sym, ap, ◌∙◌, subst, arith}
+use Rattle.std.proofs.Common.{rules}
 use Rattle.sts_budget.proofs.HandOn.{partial_none, partial_next, too_much}
 use Rattle.sts_budget.proofs.pass.table.Goals as goal
 

@@ -1,7 +1,6 @@
-use Rattle.std.proofs.Common.{◌≡◌, ℕ, ◌<◌, ◌≤◌, ◌+◌, ◌*◌, min, max, get_or, length, ap, ◌∙◌, sym, subst, inl, inr, arith, length-set}
+use Rattle.std.proofs.Common.{◌≡◌, ℕ, ◌<◌, ◌≤◌, ◌+◌, max, get_or, length, ap, ◌∙◌, sym, subst, inl, inr, arith, length-set}
 use Rattle.std.proofs.lemmas.Bool.{cases_eq}
 use Rattle.sts_budget.proofs.Rows.{set_below, set_above}
-use Rattle.sts_budget.specs.Effect.{source_of, added_of}
 use Rattle.sts_budget.proofs.row.raise.Goals as goal
 
 pub loop-d-preserved : goal.loop-d-preserved

@@ -1,5 +1,5 @@
-use Rattle.std.proofs.Common.{◌≡◌, ℕ, ◌<◌, ◌≤◌, ◌+◌, ◌*◌, min, max, get_or, length, ap, ◌∙◌, sym, arith, length-set}
-use Rattle.sts_budget.proofs.Rows.{set_below, set_above}
+use Rattle.std.proofs.Common.{◌≡◌, ◌<◌, ◌+◌, min, get_or, length, ap, ◌∙◌, arith, length-set}
+use Rattle.sts_budget.proofs.Rows.{set_below}
 use Rattle.sts_budget.specs.Effect.{source_of, added_of}
 use Rattle.sts_budget.proofs.row.values_after.Goals as goal
 

@@ -1,6 +1,5 @@
-use Rattle.std.proofs.Common.{◌≡◌, ℕ, ◌<◌, ◌≤◌, ◌+◌, ◌*◌, min, max, get_or, length, ap, ◌∙◌, sym, refl, arith, length-set}
-use Rattle.sts_budget.proofs.Rows.{set_below, set_above}
-use Rattle.sts_budget.specs.Effect.{source_of, added_of}
+use Rattle.std.proofs.Common.{◌≡◌, ◌<◌, ◌+◌, ◌*◌, min, get_or, length, ◌∙◌, arith, length-set}
+use Rattle.sts_budget.proofs.Rows.{set_below}
 use Rattle.sts_budget.proofs.row.values_of_loop.Goals as goal
 
 pub loop-d-preserved : goal.loop-d-preserved

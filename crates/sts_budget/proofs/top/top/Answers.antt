@@ -1,10 +1,10 @@
-use Rattle.std.proofs.Common.{rules, ◌≡◌, ◌<◌, ◌≤◌, ◌+◌, ◌-◌, max, pos, ℕ, List, [], length, get_or, refl, sym, ap, ◌∙◌, subst, arith}
+use Rattle.std.proofs.Common.{◌≡◌, ◌<◌, ◌≤◌, ◌+◌, ◌-◌, pos, ℕ, List, [], length, get_or, sym, ap, ◌∙◌, subst, arith}
 use Rattle.sts_code.specs.declared.instr.Instr.TheVariants.{Push, Ret, Times}
 use Rattle.sts_model.specs.Around.{instr_at}
 use Rattle.sts_model.specs.Budget.{skeleton}
 use Rattle.sts_budget.specs.Effect.{own_of, limit_of, depth_of, own_step}
 use Rattle.sts_budget.specs.Handing.{base_of, bases_after}
-use Rattle.sts_budget.specs.Last.{HasBases, IsTop, sum_at}
+use Rattle.sts_budget.specs.Last.{IsTop, sum_at}
 use Rattle.sts_budget.specs.Ready.{flows_in, names_in}
 use Rattle.sts_budget.specs.Table.{read, IsPartial}
 use Rattle.sts_budget.proofs.LaidStep.{any_default}

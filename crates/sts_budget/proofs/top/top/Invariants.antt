@@ -1,10 +1,4 @@
-use Rattle.std.proofs.Common.{◌≡◌, ℕ, ◌<◌, ◌≤◌, ◌⊎◌, length, get_or}
-use Rattle.sts_code.specs.declared.instr.Instr.TheVariants.{Times}
-use Rattle.sts_model.specs.Around.{instr_at, around}
-use Rattle.sts_model.specs.Budget.{skeleton}
-use Rattle.sts_budget.specs.Ready.{flows_in}
-use Rattle.sts_budget.specs.Sums.{full, turn_base}
-use Rattle.sts_budget.specs.Table.{read}
+use Rattle.std.proofs.Common.{◌≤◌}
 use Rattle.sts_budget.specs.Last.{HasBases, IsTop}
 use Rattle.sts_budget.proofs.top.top.Given as goal
 
