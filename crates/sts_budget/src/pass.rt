@@ -10,7 +10,7 @@ ghost use Rattle.sts_budget.specs.Handing.{handed_value, is_quiet, turns_of};
 
 use crate::effect::{Kind, depth_of, effect_of};
 use crate::layout::{Layout, Names, targets};
-use crate::row::{Row, Values, raised, values_after, values_of_loop};
+use crate::row::{Row, Values, raise, values_after, values_of_loop};
 use std::alloc::{AllocError, Global};
 use sts_code::instr::Instr;
 use sts_model::budget::Budgets;
@@ -33,9 +33,8 @@ fn send(
     for i in 0..places.len() {
         let to = places[i] as usize;
         let low = depth_of(kind, &names[to]);
-        match raised(&best[to], values, low, most) {
-            None => return false,
-            Some(row) => best[to] = row,
+        if !raise(&mut best[to], values, low, most) {
+            return false;
         }
     }
     true

@@ -1,6 +1,6 @@
 //! Rows of the greatest sums over the first open entries.
 
-ghost use Rattle.std.specs.Prelude.{◌≡◌, ◌<◌, ◌≤◌, ◌+◌, ◌*◌, ℕ, min, get_or, MatchOption};
+ghost use Rattle.std.specs.Prelude.{◌≡◌, ◌<◌, ◌≤◌, ◌+◌, ◌*◌, ℕ, min, get_or, IsTrue, IsFalse};
 ghost use Rattle.sts_budget.specs.Effect.{source_of, added_of};
 ghost use Rattle.sts_budget.specs.Row.{IsRaised, IsOver};
 
@@ -53,17 +53,17 @@ pub(crate) fn values_of_loop(turns: u16, own: u32, head: &Row, end: &Row) -> Val
     values
 }
 
-/// The row with the sums over the first `low` entries raised, or none where one of them passes the limit.
-pub(crate) fn raised(row: &Row, values: &Values, low: usize, most: u32) -> Option<Row>
+/// Raises the sums over the first `low` entries to the values: false where one of these passes the limit.
+pub(crate) fn raise(row: &mut Row, values: &Values, low: usize, most: u32) -> bool
     requires { low ≤ 16 }
-    ensures { MatchOption result (IsOver values.now low most) (IsRaised values.now low most row.now) }
+    ensures raised { IsTrue result → IsRaised values.now low most row.old row.new }
+    ensures over { IsFalse result → IsOver values.now low most }
 {
-    let mut after = *row;
     for d in 0..low + 1 {
         if values[d] > most as u64 {
-            return None;
+            return false;
         }
-        after[d] = after[d].max(values[d] as u32);
+        row[d] = row[d].max(values[d] as u32);
     }
-    Some(after)
+    true
 }

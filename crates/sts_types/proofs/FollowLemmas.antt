@@ -1,10 +1,10 @@
 -- The edges of an instruction, one after the other.
-use Rattle.std.proofs.Common.{◌≡◌, ℕ, suc, ◌+◌, ◌<◌, ◌≤◌, List, [], ◌∷◌, ◌++◌, length, take, map, Option, Some, None, option_map, option_to_list, get_or, ◌⊎◌, inl, inr, slice_get, refl, sym, ap, ◌∙◌, arith}
+use Rattle.std.proofs.Common.{◌≡◌, ℕ, suc, ◌+◌, ◌<◌, ◌≤◌, List, [], ◌∷◌, ◌++◌, length, take, map, Option, Some, None, option_map, option_to_list, get_or, ◌⊎◌, inl, inr, slice_get, sym, ap, ◌∙◌, arith}
 use Rattle.std.proofs.lemmas.List.{take_more, take_all}
 use Rattle.std.proofs.lemmas.Option.{slice_get_within, slice_get_cases, get_or_from_slice_get}
 use Rattle.sts_code.specs.Program.{Program}
 use Rattle.sts_code.specs.declared.instr.Instr.{Instr}
-use Rattle.sts_code.specs.declared.instr.Instr.TheVariants.{Div, Jmp, Jz, Times, Join, Case}
+use Rattle.sts_code.specs.declared.instr.Instr.TheVariants.{Times, Join}
 use Rattle.sts_model.specs.Local.{match_of}
 use Rattle.sts_model.specs.TypeState.{TypeState}
 use Rattle.sts_model.specs.Edges.{follows, moved}

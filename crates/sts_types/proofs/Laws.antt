@@ -1,20 +1,19 @@
 -- The edges of instructions go forward and stay inside the function.
-use Rattle.std.proofs.Common.{◌≡◌, ◌≢◌, ℕ, ◌+◌, ◌-◌, ◌<◌, ◌≤◌, ◌⊎◌, inl, inr, Bool, true, false, ◌||◌, not, List, [], ◌∷◌, ◌++◌, length, map, Option, Some, None, option_map, option_to_list, slice_get, Result, Ok, Err, leb, cond, eqb-true, leb-false, refl, sym, ap, ◌∙◌, subst, arith}
+use Rattle.std.proofs.Common.{◌≡◌, ℕ, ◌+◌, ◌<◌, ◌≤◌, ◌⊎◌, inl, inr, Bool, true, false, ◌||◌, not, List, [], ◌∷◌, ◌++◌, map, Option, Some, None, option_map, option_to_list, slice_get, Ok, leb, cond, eqb-true, leb-false, refl, sym, ap, subst, arith}
 use Rattle.std.specs.List.{list_any}
-use Rattle.std.proofs.lemmas.List.Folds.{list_any-append}
 use Rattle.sts_code.specs.Program.{Program, routine}
 use Rattle.sts_code.specs.declared.instr.Instr.{Instr}
-use Rattle.sts_code.specs.declared.instr.Instr.TheVariants.{Div, Jmp, Jz, Times, Next, Open, Fork, Join, Close, Case, Forget, Bind, Unbind, Ret, Fail}
+use Rattle.sts_code.specs.declared.instr.Instr.TheVariants.{Div, Jmp, Jz, Times, Next, Join, Case, Ret, Fail}
 use Rattle.sts_model.specs.declared.typing.Cause.{Cause}
 use Rattle.sts_model.specs.declared.typing.TypedLoop.{TypedLoop}
 use Rattle.sts_model.specs.Local.{match_of}
 use Rattle.sts_model.specs.Misuse.{is_at}
 use Rattle.sts_model.specs.TypeState.{TypeState}
 use Rattle.sts_model.specs.Around.{instr_at, named, next_place, skipped_to, falls_through}
-use Rattle.sts_model.specs.Causes.{least_cause, closes_loop}
-use Rattle.sts_model.specs.Edges.{edges, edges_of, follows, to_optional, moved, or_cause, back_of, typing}
+use Rattle.sts_model.specs.Causes.{closes_loop}
+use Rattle.sts_model.specs.Edges.{follows, to_optional, moved, or_cause, back_of, typing}
 use Rattle.sts_model.specs.Fits.{Fits}
-use Rattle.sts_model.specs.Flow.{Flow, Leads}
+use Rattle.sts_model.specs.Flow.{Leads}
 use Rattle.sts_model.specs.Refusal.{size}
 use Rattle.sts_types.proofs.Fitting.{fits}
 use Rattle.sts_types.proofs.FollowLemmas.{at_place}

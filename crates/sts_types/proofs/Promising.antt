@@ -1,20 +1,20 @@
 -- The promises of typing: the open loops of a typestate that is reached are those around its place.
-use Rattle.std.proofs.Common.{◌≡◌, ℕ, ◌+◌, ◌<◌, ◌≤◌, ◌⊎◌, inl, inr, Bool, true, false, ◌||◌, not, List, [], ◌∷◌, ◌++◌, length, map, drop, Option, Some, None, Result, Ok, Err, bytes_eq, refl, sym, ap, ◌∙◌, subst, arith}
+use Rattle.std.proofs.Common.{◌≡◌, ℕ, ◌<◌, ◌⊎◌, inl, inr, Bool, true, false, ◌||◌, not, List, [], ◌∷◌, ◌++◌, map, drop, Option, Some, None, Ok, bytes_eq, refl, sym, ap, ◌∙◌, subst}
 use Rattle.std.specs.List.{list_any}
 use lib.Pointwise.{bytes_decides}
 use Rattle.sts_code.specs.Program.{Program, routine}
 use Rattle.sts_code.specs.Checks.{program_fault}
 use Rattle.sts_code.specs.declared.instr.Instr.{Instr}
-use Rattle.sts_code.specs.declared.instr.Instr.TheVariants.{Div, Jmp, Jz, Times, Next, Fork, Join, Case, Ret, Fail}
+use Rattle.sts_code.specs.declared.instr.Instr.TheVariants.{Div, Jz, Times, Next, Fork, Join, Case, Ret, Fail}
 use Rattle.sts_model.specs.declared.typing.TypedLoop.{TypedLoop}
-use Rattle.sts_model.specs.TypeState.{TypeState, heads, entry}
+use Rattle.sts_model.specs.TypeState.{TypeState, heads}
 use Rattle.sts_model.specs.Around.{instr_at, named, next_place, skipped_to, around, open_after}
-use Rattle.sts_model.specs.Causes.{is_unmatched, is_other_loop, least_cause}
+use Rattle.sts_model.specs.Causes.{is_unmatched, is_other_loop}
 use Rattle.sts_model.specs.Edges.{follows, moved, typing, to_optional}
 use Rattle.sts_model.specs.Fits.{Fits}
 use Rattle.sts_model.specs.Flow.{Leads, Reaches, first, then}
-use Rattle.sts_model.specs.Promises.{IsReady, TypingPromises}
-use Rattle.sts_model.specs.Refusal.{size, IsSound, IsAccepted}
+use Rattle.sts_model.specs.Promises.{TypingPromises}
+use Rattle.sts_model.specs.Refusal.{size, IsAccepted}
 use Rattle.sts_states.proofs.Short.{has_code}
 use Rattle.sts_types.proofs.Fitting.{fits}
 use Rattle.sts_types.proofs.FollowLemmas.{at_place}

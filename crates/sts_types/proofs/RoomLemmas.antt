@@ -1,5 +1,5 @@
 -- Where no cause holds, there is room for what the instruction adds.
-use Rattle.std.proofs.Common.{◌≡◌, ℕ, ◌+◌, ◌-◌, ◌<◌, ◌≤◌, Bool, true, false, ◌&&◌, ◌||◌, not, Option, Some, None, IfSome, is_some, leb, ltb, refl, sym, ap, ◌∙◌, subst, arith, leb-false, ltb-false, List, [], ◌∷◌, length}
+use Rattle.std.proofs.Common.{◌≡◌, ℕ, ◌+◌, ◌-◌, ◌<◌, ◌≤◌, Bool, true, false, ◌&&◌, ◌||◌, not, Option, Some, None, IfSome, is_some, leb, ltb, refl, arith, leb-false, ltb-false}
 use Rattle.sts_code.specs.Program.{Program}
 use Rattle.sts_code.specs.declared.instr.Instr.{Instr}
 use Rattle.sts_code.specs.declared.instr.Instr.TheVariants.{Join}
@@ -10,7 +10,7 @@ use Rattle.sts_model.specs.declared.typing.SlotKind.TheVariants.{Empty, Own, Len
 use Rattle.sts_model.specs.declared.typing.TypedScope.{TypedScope}
 use Rattle.sts_model.specs.Misuse.{pops, pushes, can_fail, is_await_all, same}
 use Rattle.sts_model.specs.TypeState.{TypeState, kind, scope_in}
-use Rattle.sts_model.specs.Causes.{is_own, is_lent, passes, can_join, overflows, join_overflows}
+use Rattle.sts_model.specs.Causes.{is_own, is_lent, passes, can_join, join_overflows}
 use Rattle.sts_model.specs.Edges.{joiner_of, ok_pushes}
 use Rattle.sts_model.specs.Fits.{Fits}
 use Rattle.sts_states.specs.Room.{HasRoom, JoinHasRoom}

@@ -1,4 +1,4 @@
-use Rattle.std.proofs.Common.{◌≡◌, ℕ, ◌<◌, ◌+◌, min, get_or, length, ◌∙◌, arith, length-set}
+use Rattle.std.proofs.Common.{◌≡◌, ◌<◌, ◌+◌, min, get_or, length, ◌∙◌, arith, length-set}
 use Rattle.sts_budget.proofs.Rows.{set_below}
 use Rattle.sts_budget.proofs.row.risen.Goals as goal
 

@@ -1,4 +1,4 @@
-use Rattle.std.proofs.Common.{◌≡◌, ◌∙◌, ◌&&◌, ◌≤◌, not, ℕ, Bool, arith}
+use Rattle.std.proofs.Common.{◌∙◌, ◌&&◌, not, ℕ}
 use Rattle.sts_model.specs.Causes.{needs, is_bound}
 use Rattle.sts_loops.proofs.Counting.{any_next, any_here, any_end, any_all}
 use Rattle.sts_types.proofs.cause.lacks_key.Goals as goal

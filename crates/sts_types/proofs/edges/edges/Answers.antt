@@ -1,4 +1,4 @@
-use Rattle.std.proofs.Common.{◌≡◌, ◌∙◌, sym}
+use Rattle.std.proofs.Common.{◌∙◌, sym}
 use Rattle.sts_types.proofs.Fitting.{fits}
 use Rattle.sts_types.proofs.RoomLemmas.{has_room}
 use Rattle.sts_types.proofs.edges.edges.Goals as goal

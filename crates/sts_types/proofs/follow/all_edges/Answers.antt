@@ -1,4 +1,4 @@
-use Rattle.std.proofs.Common.{◌≡◌, ◌+◌, ◌<◌, ◌≤◌, ◌∙◌, length, take, sym, ap, refl, arith, rules}
+use Rattle.std.proofs.Common.{◌∙◌, length, sym, ap, arith}
 use Rattle.std.proofs.lemmas.List.{length-take, take_all}
 use Rattle.sts_model.specs.Edges.{follows}
 use Rattle.sts_types.proofs.FollowLemmas.{take_there, take_missing, few_follow}

@@ -1,4 +1,4 @@
-use Rattle.std.proofs.Common.{◌≡◌, ◌∙◌, sym}
+use Rattle.std.proofs.Common.{◌∙◌, sym}
 use Rattle.sts_loops.proofs.Matching.{ends}
 use Rattle.sts_types.proofs.leads.skip.Goals as goal
 

@@ -1,4 +1,4 @@
-use Rattle.std.proofs.Common.{◌≡◌, ◌∙◌, sym, ap}
+use Rattle.std.proofs.Common.{◌∙◌, sym, ap}
 use Rattle.sts_model.specs.Causes.{is_illegal}
 use Rattle.sts_types.proofs.Fitting.{lead_found, slot_found, slot_missed}
 use Rattle.sts_types.proofs.least.least_cause.Goals as goal

@@ -1,4 +1,4 @@
-use Rattle.std.proofs.Common.{◌≡◌, ◌∙◌, length, slice_get, Some, sym, ap}
+use Rattle.std.proofs.Common.{◌∙◌, length, slice_get, sym, ap}
 use Rattle.sts_model.specs.Edges.{follows}
 use Rattle.sts_types.proofs.Arriving.{place_within}
 use Rattle.sts_types.proofs.pass.follow.Goals as goal

@@ -1,4 +1,4 @@
-use Rattle.std.proofs.Common.{◌≡◌, ◌<◌, length, get_or, pos, sym, ap, refl, arith, subst}
+use Rattle.std.proofs.Common.{◌<◌, length, get_or, pos, sym, ap, refl, arith, subst}
 use Rattle.sts_code.specs.declared.instr.Instr.TheVariants.{Push}
 use Rattle.sts_model.specs.Edges.{typing}
 use Rattle.sts_model.specs.Flow.{TurnKeeps}

@@ -1,7 +1,0 @@
-use Rattle.std.proofs.Common.{◌≡◌, ◌<◌, ◌≤◌, max, ℕ, get_or, length}
-use Rattle.sts_budget.proofs.row.raised.Given as goal
-
--- the sums so far are raised
-
-abbrev pub invariant-loop-d : goal.invariant-loop-d
-invariant-loop-d l = (length l.after ≡ 17) × ((d : ℕ) → d < l.d → get_or l.after d 0 ≡ max (get_or l.row d 0) (get_or l.values d 0)) × ((d : ℕ) → l.d ≤ d → get_or l.after d 0 ≡ get_or l.row d 0) × ((d : ℕ) → d < l.d → get_or l.values d 0 ≤ l.most)
