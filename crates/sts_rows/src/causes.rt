@@ -1,6 +1,8 @@
 //! Each cause of a refusal: a text that is refused for it, and a neighbour of that text that is accepted.
 
 use crate::row::{Part, verifies};
+use std::alloc::Global;
+use std::process::Abort;
 use std::test::Fail;
 
 /// A subtask that gives 0.
@@ -33,7 +35,7 @@ struct Cause {
     budgets: &'static str,
 }
 
-static CAUSES: [Cause; 20] = [
+static OPERANDS_AND_WAYS: [Cause; 5] = [
     Cause {
         what: "fewer operands than the instruction pops",
         refused: &[Part(1, "func main 0 / pop / push 0 / ret / end")],
@@ -83,6 +85,9 @@ static CAUSES: [Cause; 20] = [
         )],
         budgets: "main steps 8 / main tasks 1 / main scopes 0 / main binds 0",
     },
+];
+
+static LOOPS_AND_SLOTS: [Cause; 5] = [
     Cause {
         what: "a ninth open loop",
         refused: &[
@@ -147,6 +152,9 @@ static CAUSES: [Cause; 20] = [
         ],
         budgets: "main steps 11 / main tasks 1 / main scopes 2 / main binds 0",
     },
+];
+
+static SCOPES_AND_BINDINGS: [Cause; 5] = [
     Cause {
         what: "what only the owner of a scope may do",
         refused: &[
@@ -215,6 +223,9 @@ static CAUSES: [Cause; 20] = [
         )],
         budgets: "main steps 5 / main tasks 1 / main scopes 0 / main binds 1",
     },
+];
+
+static EDGES_AND_BUDGETS: [Cause; 5] = [
     Cause {
         what: "a failed or timeout target that does not fit the scope",
         refused: &[Part(
@@ -319,20 +330,42 @@ static CAUSES: [Cause; 20] = [
     },
 ];
 
-#[test]
-fn each_cause_is_named(rt: HostRuntime) -> Result<(), Fail> {
-    for cause in &CAUSES {
-        let want = (cause.refusal, 4);
-        verifies(&rt, rt.alloc(), cause.what, cause.refused, want)?;
+/// Verifies the refused text of each cause.
+fn refuses<R: Abort>(rt: &R, alloc: Global, causes: &[Cause]) -> Result<(), Fail> {
+    for cause in causes {
+        verifies(rt, alloc, cause.what, cause.refused, (cause.refusal, 4))?;
+    }
+    Ok(())
+}
+
+/// Verifies the accepted text of each cause.
+fn accepts<R: Abort>(rt: &R, alloc: Global, causes: &[Cause]) -> Result<(), Fail> {
+    for cause in causes {
+        verifies(rt, alloc, cause.what, cause.accepted, (cause.budgets, 0))?;
     }
     Ok(())
 }
 
 #[test]
-fn the_neighbours_are_accepted(rt: HostRuntime) -> Result<(), Fail> {
-    for cause in &CAUSES {
-        let want = (cause.budgets, 0);
-        verifies(&rt, rt.alloc(), cause.what, cause.accepted, want)?;
-    }
-    Ok(())
+fn operands_and_ways(rt: HostRuntime) -> Result<(), Fail> {
+    refuses(&rt, rt.alloc(), &OPERANDS_AND_WAYS)?;
+    accepts(&rt, rt.alloc(), &OPERANDS_AND_WAYS)
+}
+
+#[test]
+fn loops_and_slots(rt: HostRuntime) -> Result<(), Fail> {
+    refuses(&rt, rt.alloc(), &LOOPS_AND_SLOTS)?;
+    accepts(&rt, rt.alloc(), &LOOPS_AND_SLOTS)
+}
+
+#[test]
+fn scopes_and_bindings(rt: HostRuntime) -> Result<(), Fail> {
+    refuses(&rt, rt.alloc(), &SCOPES_AND_BINDINGS)?;
+    accepts(&rt, rt.alloc(), &SCOPES_AND_BINDINGS)
+}
+
+#[test]
+fn edges_and_budgets(rt: HostRuntime) -> Result<(), Fail> {
+    refuses(&rt, rt.alloc(), &EDGES_AND_BUDGETS)?;
+    accepts(&rt, rt.alloc(), &EDGES_AND_BUDGETS)
 }
