@@ -8,7 +8,6 @@ ghost use Rattle.sts_model.specs.Misuse as misuse;
 ghost use Rattle.sts_model.specs.TypeState as typed;
 
 use crate::operands::{pops, pushes};
-use crate::same::copy_of_loops;
 use crate::state::TypeState;
 use sts_code::instr::{Instr, Joiner};
 use sts_code::program::Program;
@@ -116,29 +115,19 @@ fn is_all_success(joiner: Joiner) -> bool
 }
 
 impl TypeState {
-    /// A copy with another number of operands.
-    fn with_height(&self, height: u8) -> TypeState
-        requires { height ≤ 32 }
-        ensures { result ≡ record self.now { height = height } }
-    {
-        let mut after = self.copy();
-        after.height = height;
-        after
-    }
-
     /// The operands are popped and pushed.
-    pub fn moved(&self, program: &Program, instr: Instr) -> TypeState
-        requires { self.now.height - misuse.pops program.now instr + misuse.pushes instr ≤ 32 }
-        ensures { result ≡ def.moved program.now instr self.now }
+    pub fn move_operands(&mut self, program: &Program, instr: Instr)
+        requires { self.old.height - misuse.pops program.now instr + misuse.pushes instr ≤ 32 }
+        ensures { self.new ≡ def.moved program.now instr self.old }
     {
-        self.with_height(self.height.saturating_sub(pops(program, instr)) + pushes(instr))
+        self.height = self.height.saturating_sub(pops(program, instr)) + pushes(instr);
     }
 
     /// So many operands less.
-    pub fn popped(&self, count: u8) -> TypeState
-        ensures { result ≡ record self.now { height = self.now.height - count } }
+    pub fn pop(&mut self, count: u8)
+        ensures { self.new ≡ record self.old { height = self.old.height - count } }
     {
-        self.with_height(self.height.saturating_sub(count))
+        self.height = self.height.saturating_sub(count);
     }
 
     fn set_slot(&mut self, slot: u8, kind: SlotKind)
@@ -150,137 +139,122 @@ impl TypeState {
         }
     }
 
-    /// A copy in which this is known of a subtask.
-    pub fn with_known(&self, handle: u8, known: Known) -> TypeState
-        ensures { result ≡ def.with_known handle known self.now }
+    /// This is known of a subtask.
+    pub fn set_known(&mut self, handle: u8, known: Known)
+        ensures { self.new ≡ def.with_known handle known self.old }
     {
-        let mut after = self.copy();
-        after.set_slot(handle, known_as(known, self.kind(handle)));
-        after
+        let kind = known_as(known, self.kind(handle));
+        self.set_slot(handle, kind);
     }
 
-    /// A copy in which the scope is in this phase.
-    pub fn with_phase(&self, slot: u8, phase: TypedPhase) -> TypeState
-        ensures { result ≡ def.with_phase slot phase self.now }
+    /// The scope is in this phase.
+    pub fn set_phase(&mut self, slot: u8, phase: TypedPhase)
+        ensures { self.new ≡ def.with_phase slot phase self.old }
     {
-        TypeState {
-            height: self.height,
-            loops: copy_of_loops(&self.loops),
-            entries: entries_with_phase(&self.entries, slot, phase),
-            slots: self.slots,
-        }
+        let entries = entries_with_phase(&self.entries, slot, phase);
+        self.entries = entries;
     }
 
-    /// A copy after the ok outcome of the `join` of the scope in this slot.
-    fn joined(&self, slot: u8) -> TypeState
-        requires { self.now.height + def.ok_pushes (def.joiner_of (typed.scope_in self.now.entries slot)) ≤ 32 }
-        ensures { result ≡ def.after_ok slot (def.joiner_of (typed.scope_in self.now.entries slot)) self.now }
+    /// The ok outcome of the `join` of the scope in this slot.
+    fn join_ok(&mut self, slot: u8)
+        requires { self.old.height + def.ok_pushes (def.joiner_of (typed.scope_in self.old.entries slot)) ≤ 32 }
+        ensures { self.new ≡ def.after_ok slot (def.joiner_of (typed.scope_in self.old.entries slot)) self.old }
     {
         let joiner = joiner_of(self.scope_in(slot));
-        let mut after = self.with_phase(slot, TypedPhase::Joined);
-        after.height += ok_pushes(joiner);
+        self.set_phase(slot, TypedPhase::Joined);
+        self.height += ok_pushes(joiner);
         if is_all_success(joiner) {
-            after.slots = succeeded(slot, &self.slots);
+            let slots = succeeded(slot, &self.slots);
+            self.slots = slots;
         }
-        after
     }
 
-    /// A copy after the failed outcome.
-    pub fn failed(&self, slot: u8) -> TypeState
-        requires { self.now.height < 32 }
-        ensures { result ≡ def.raised 1 (def.with_phase slot TypedPhase.Joined self.now) }
+    /// The failed outcome of the `join`.
+    pub fn join_failed(&mut self, slot: u8)
+        requires { self.old.height < 32 }
+        ensures { self.new ≡ def.raised 1 (def.with_phase slot TypedPhase.Joined self.old) }
     {
-        let mut after = self.with_phase(slot, TypedPhase::Joined);
-        after.height += 1;
-        after
+        self.set_phase(slot, TypedPhase::Joined);
+        self.height += 1;
     }
 
-    /// A copy after a `times` at `pc` that makes a turn.
-    fn entered(&self, program: &Program, pc: u32, instr: Instr) -> TypeState
-        requires room { self.now.height - misuse.pops program.now instr + misuse.pushes instr ≤ 32 }
-        requires loops { length self.now.loops < 8 }
-        ensures { result ≡ record (def.moved program.now instr self.now) { loops = record { at = pc; entries = length self.now.entries } ∷ self.now.loops } }
+    /// A `times` at `pc` makes a turn.
+    fn enter(&mut self, program: &Program, pc: u32, instr: Instr)
+        requires room { self.old.height - misuse.pops program.now instr + misuse.pushes instr ≤ 32 }
+        requires loops { length self.old.loops < 8 }
+        ensures { self.new ≡ record (def.moved program.now instr self.old) { loops = record { at = pc; entries = length self.old.entries } ∷ self.old.loops } }
     {
-        let mut after = self.moved(program, instr);
-        after.loops.push(TypedLoop {
-            at: pc,
-            entries: self.entries.len() as u8,
-        });
-        after
+        self.move_operands(program, instr);
+        let entries = self.entries.len() as u8;
+        self.loops.push(TypedLoop { at: pc, entries });
     }
 
-    /// A copy with a scope opened.
-    fn opened(&self, slot: u8, joiner: Joiner, timed: bool) -> TypeState
-        requires { length self.now.entries < 16 }
-        ensures { result ≡ record self.now { entries = TypedEntry.Scope (record { slot = slot; joiner = joiner; timed = timed; phase = TypedPhase.Opened }) ∷ self.now.entries; slots = slice_set self.now.slots slot SlotKind.Own } }
+    fn open_scope(&mut self, slot: u8, joiner: Joiner, timed: bool)
+        requires { length self.old.entries < 16 }
+        ensures { self.new ≡ record self.old { entries = TypedEntry.Scope (record { slot = slot; joiner = joiner; timed = timed; phase = TypedPhase.Opened }) ∷ self.old.entries; slots = slice_set self.old.slots slot SlotKind.Own } }
     {
-        let mut after = self.copy();
-        after.entries.push(TypedEntry::Scope(TypedScope {
+        self.entries.push(TypedEntry::Scope(TypedScope {
             slot,
             joiner,
             timed,
             phase: TypedPhase::Opened,
         }));
-        after.set_slot(slot, SlotKind::Own);
-        after
+        self.set_slot(slot, SlotKind::Own);
     }
 
-    /// A copy after a fork.
-    fn forked(&self, program: &Program, instr: Instr, slot: u8, handle: Option<u8>) -> TypeState
-        requires { self.now.height - misuse.pops program.now instr + misuse.pushes instr ≤ 32 }
-        ensures { result ≡ def.with_slot handle (SlotKind.Sub slot Known.Unknown) (def.moved program.now instr self.now) }
+    fn fork(&mut self, program: &Program, instr: Instr, slot: u8, handle: Option<u8>)
+        requires { self.old.height - misuse.pops program.now instr + misuse.pushes instr ≤ 32 }
+        ensures { self.new ≡ def.with_slot handle (SlotKind.Sub slot Known.Unknown) (def.moved program.now instr self.old) }
     {
-        let mut after = self.moved(program, instr);
+        self.move_operands(program, instr);
         if let Some(handle) = handle {
-            after.set_slot(handle, SlotKind::Sub(slot, Known::Unknown));
+            self.set_slot(handle, SlotKind::Sub(slot, Known::Unknown));
         }
-        after
     }
 
-    /// A copy with the innermost entry, a scope, closed.
-    fn closed(&self, slot: u8) -> TypeState
-        ensures { result ≡ record self.now { entries = drop 1 self.now.entries; slots = def.cleared slot self.now.slots } }
+    /// The innermost entry, a scope, is closed.
+    fn close_scope(&mut self, slot: u8)
+        ensures { self.new ≡ record self.old { entries = drop 1 self.old.entries; slots = def.cleared slot self.old.slots } }
     {
-        let mut after = self.copy();
-        after.entries.drop_top(1);
-        after.slots = forgotten(slot, &self.slots);
-        after.set_slot(slot, SlotKind::Empty);
-        after
+        self.entries.drop_top(1);
+        let slots = forgotten(slot, &self.slots);
+        self.slots = slots;
+        self.set_slot(slot, SlotKind::Empty);
     }
 
-    /// A copy with a key bound.
-    fn bound(&self, program: &Program, instr: Instr, key: u8) -> TypeState
-        requires room { self.now.height - misuse.pops program.now instr + misuse.pushes instr ≤ 32 }
-        requires entries { length self.now.entries < 16 }
-        ensures { result ≡ record (def.moved program.now instr self.now) { entries = TypedEntry.Binding key ∷ self.now.entries } }
+    fn bind(&mut self, program: &Program, instr: Instr, key: u8)
+        requires room { self.old.height - misuse.pops program.now instr + misuse.pushes instr ≤ 32 }
+        requires entries { length self.old.entries < 16 }
+        ensures { self.new ≡ record (def.moved program.now instr self.old) { entries = TypedEntry.Binding key ∷ self.old.entries } }
     {
-        let mut after = self.moved(program, instr);
-        after.entries.push(TypedEntry::Binding(key));
-        after
+        self.move_operands(program, instr);
+        self.entries.push(TypedEntry::Binding(key));
     }
 
-    fn with_empty(&self, handle: u8) -> TypeState
-        ensures { result ≡ def.with_slot (Some handle) SlotKind.Empty self.now }
+    /// To the next instruction, where that may follow.
+    pub fn step(&mut self, program: &Program, pc: u32, instr: Instr)
+        requires falls { around.falls_through instr ≡ true }
+        requires room { HasRoom program.now instr self.old }
+        ensures { (code : List Instr) → slice_get (def.follows program.now code pc instr self.old) 0 ≡ Some (pc + 1, self.new) }
     {
-        let mut after = self.copy();
-        after.set_slot(handle, SlotKind::Empty);
-        after
-    }
-
-    fn without_loop(&self) -> TypeState
-        ensures { result ≡ record self.now { loops = drop 1 self.now.loops } }
-    {
-        let mut after = self.copy();
-        after.loops.drop_top(1);
-        after
-    }
-
-    fn without_entry(&self) -> TypeState
-        ensures { result ≡ record self.now { entries = drop 1 self.now.entries } }
-    {
-        let mut after = self.copy();
-        after.entries.drop_top(1);
-        after
+        match instr {
+            Instr::Div(_) => self.pop(1),
+            Instr::Times(_) => self.enter(program, pc, instr),
+            Instr::Next => self.loops.drop_top(1),
+            Instr::Open {
+                slot,
+                joiner,
+                timed,
+            } => self.open_scope(slot, joiner, timed),
+            Instr::Fork { slot, handle, .. } => self.fork(program, instr, slot, handle),
+            Instr::Join { slot, .. } => self.join_ok(slot),
+            Instr::Close(slot) => self.close_scope(slot),
+            Instr::Case { handle, .. } => self.set_known(handle, Known::Unknown),
+            Instr::Forget(handle) => self.set_slot(handle, SlotKind::Empty),
+            Instr::Bind(key) => self.bind(program, instr, key),
+            Instr::Unbind => self.entries.drop_top(1),
+            _ => self.move_operands(program, instr),
+        }
     }
 
     /// Where an instruction leads that has one edge and changes no more than the number of operands: the place, and the
@@ -311,32 +285,6 @@ impl TypeState {
                 pc + 1,
                 self.height.saturating_sub(pops(program, instr)) + pushes(instr),
             )),
-        }
-    }
-
-    /// The typestate at the next instruction, where that may follow.
-    pub fn after(&self, program: &Program, pc: u32, instr: Instr) -> TypeState
-        requires falls { around.falls_through instr ≡ true }
-        requires room { HasRoom program.now instr self.now }
-        ensures { (code : List Instr) → slice_get (def.follows program.now code pc instr self.now) 0 ≡ Some (pc + 1, result) }
-    {
-        match instr {
-            Instr::Div(_) => self.popped(1),
-            Instr::Times(_) => self.entered(program, pc, instr),
-            Instr::Next => self.without_loop(),
-            Instr::Open {
-                slot,
-                joiner,
-                timed,
-            } => self.opened(slot, joiner, timed),
-            Instr::Fork { slot, handle, .. } => self.forked(program, instr, slot, handle),
-            Instr::Join { slot, .. } => self.joined(slot),
-            Instr::Close(slot) => self.closed(slot),
-            Instr::Case { handle, .. } => self.with_known(handle, Known::Unknown),
-            Instr::Forget(handle) => self.with_empty(handle),
-            Instr::Bind(key) => self.bound(program, instr, key),
-            Instr::Unbind => self.without_entry(),
-            _ => self.moved(program, instr),
         }
     }
 }

@@ -1,12 +1,12 @@
 -- Typestates arrive one after the other.
-use Rattle.std.proofs.Common.{◌≡◌, ℕ, zero, suc, ◌+◌, ◌<◌, List, [], ◌∷◌, ◌++◌, length, take, get_or, set, Some, slice_get, inl, inr, refl, sym, ap, subst, arith}
+use Rattle.std.proofs.Common.{◌≡◌, ℕ, zero, suc, ◌+◌, ◌<◌, List, [], ◌∷◌, ◌++◌, length, take, get_or, set, Option, Some, None, slice_get, inl, inr, refl, sym, ap, ◌∙◌, subst, arith, length-set}
 use Rattle.std.specs.List.{All}
 use Rattle.std.proofs.lemmas.Option.{slice_get_within, get_or_from_slice_get}
 use Rattle.sts_model.specs.Flow.{Leads}
 use Rattle.sts_types.specs.declared.arrival.Arrival.{Arrival}
 use Rattle.sts_types.specs.declared.arrival.Arrival.TheVariants.{Nothing}
-use Rattle.sts_types.specs.Arrivals.{Merged, Arrive}
-use Rattle.sts_types.proofs.FollowLemmas.{take_there}
+use Rattle.sts_types.specs.Arrivals.{Merged, Arrive, ArriveAt}
+use Rattle.sts_types.proofs.FollowLemmas.{take_there, take_missing}
 
 module _ {S : Type 0} where
   arrive_push : (es : List (ℕ × S)) (table now : List (Arrival S)) (e : ℕ × S) (b : Arrival S) → Arrive table es now → Merged (get_or now e.0 Nothing) e.1 b → Arrive table (es ++ e ∷ []) (set now e.0 b)
@@ -17,6 +17,14 @@ module _ {S : Type 0} where
   pub arrive_next : (out : List (ℕ × S)) (table now after : List (Arrival S)) (k to : ℕ) (s : S) (b : Arrival S) → Arrive table (take k out) now → slice_get out k ≡ Some (to, s) → Merged (get_or now to Nothing) s b → after ≡ set now to b → Arrive table (take (k + 1) out) after
   arrive_next out table now after k to s b h there m is =
       subst (λ t. Arrive table (take (k + 1) out) t) (sym is) (subst (λ es. Arrive table es (set now to b)) (sym (take_there out k (to, s) there)) (arrive_push (take k out) table now (to, s) b h m))
+
+  -- the one of this number has arrived, if there is one
+  pub arrive_numbered : (out : List (ℕ × S)) (table now after : List (Arrival S)) (k : ℕ) → Arrive table (take k out) now → ArriveAt now (slice_get out k) after → Arrive table (take (k + 1) out) after × (length after ≡ length now)
+  arrive_numbered out table now after k h at = by (slice_get out k) refl at
+    where
+      by : (o : Option (ℕ × S)) → slice_get out k ≡ o → ArriveAt now o after → Arrive table (take (k + 1) out) after × (length after ≡ length now)
+      by None none is = (subst (λ es. Arrive table es after) (sym (take_missing out k none)) (subst (Arrive table (take k out)) (sym is) h), ap length is)
+      by (Some e) there is = (arrive_next out table now after k e.0 e.1 is.0 h there is.1.0 is.1.1, ap length is.1.1 ∙ length-set now e.0 is.0)
 
   -- the place of an edge
   pub place_within : (out : List (ℕ × S)) (k to n : ℕ) (s : S) → slice_get out k ≡ Some (to, s) → All (λ e. e.0 < n) out → to < n

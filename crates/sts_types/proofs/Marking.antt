@@ -1,5 +1,5 @@
 -- Marks, and the typestates that they stand for.
-use Rattle.std.proofs.Common.{◌≡◌, ◌≢◌, ℕ, zero, suc, ◌+◌, ◌<◌, ◌≤◌, ◌⊎◌, inl, inr, List, [], ◌∷◌, ◌++◌, length, map, get_or, set, replicate, refl, sym, ap, ◌∙◌, subst, arith, get_or-set_same, get_or-set_other, length-set}
+use Rattle.std.proofs.Common.{◌≡◌, ◌≢◌, ℕ, zero, suc, ◌<◌, ◌≤◌, ◌⊎◌, inl, inr, List, [], ◌∷◌, ◌++◌, Option, Some, None, length, map, get_or, set, replicate, refl, sym, ap, ◌∙◌, subst, arith, get_or-set_same, get_or-set_other, length-set}
 use Rattle.std.specs.List.{All}
 use Rattle.std.proofs.lemmas.Bool.{cases_eq}
 use Rattle.std.proofs.lemmas.List.{map-set, get_or-map, get_or_append_left, length-replicate, get_or-replicate, length-map, length-append}
@@ -7,7 +7,7 @@ use Rattle.sts_model.specs.TypeState.{TypeState}
 use Rattle.sts_types.specs.declared.arrival.Arrival.{Arrival}
 use Rattle.sts_types.specs.declared.arrival.Arrival.TheVariants.{Nothing, One, Several}
 use Rattle.sts_types.specs.declared.arrivals.Mark.{Mark}
-use Rattle.sts_types.specs.Arrivals.{Merged, IsMarked, arrival_of, at_height, none, state_of}
+use Rattle.sts_types.specs.Arrivals.{Merged, Goes, IsMarked, arrival_of, at_height, none, state_of}
 
 one_kept : (kept added : List TypeState) (m : Arrival Mark) → IsMarked (length kept) m → arrival_of (kept ++ added) m ≡ arrival_of kept m
 one_kept kept added Nothing h = refl
@@ -37,15 +37,17 @@ set_marked n marks place after all h k d lt = by (cases_eq place k)
     by (inl e) = let here : place < length marks = omega (arith, within) in subst (λ q. IsMarked n (get_or (set marks place after) q d)) e (subst (IsMarked n) (sym (get_or-set_same marks place after d here)) h)
     by (inr ne) = subst (IsMarked n) (sym (get_or-set_other marks place k after d (λ e. ne (sym e)))) (all k d within)
 
--- where more is kept, the marks stand for one of these, and so does the one at hand
-pub holds_more : (kept added now : List TypeState) (marks : List (Arrival Mark)) (place : ℕ) (after : Arrival Mark) (s : TypeState) (m : Mark) → now ≡ kept ++ added → All (IsMarked (length kept)) marks × (m.like < length kept) × (s ≡ state_of kept m) → IsMarked (length now) after → All (IsMarked (length now)) (set marks place after) × (m.like < length now) × (s ≡ state_of now m)
-holds_more kept added now marks place after s m is held h =
-    let long : length now ≡ length kept + length added = ap length is ∙ length-append kept added in
-    let le : length kept ≤ length now = omega (arith, long) in (
-      set_marked (length now) marks place after (λ k d lt. longer (length kept) (length now) (get_or marks k d) le (held.0 k d lt)) h,
-      omega (arith, held.1, le),
-      held.2 ∙ sym (ap (at_height m.height) (ap (λ l. get_or l m.like none) is ∙ get_or_append_left kept added none m.like held.1)),
-    )
+longer_kept : (kept added now : List TypeState) → now ≡ kept ++ added → length kept ≤ length now
+longer_kept kept added now is = omega (arith, ap length is ∙ length-append kept added)
+
+-- where more is kept, a mark stands for one of these
+pub mark_holds : (kept added now : List TypeState) (m : Arrival Mark) → now ≡ kept ++ added → IsMarked (length kept) m → IsMarked (length now) m
+mark_holds kept added now m is held = longer (length kept) (length now) m (longer_kept kept added now is) held
+
+-- and so do all, once one more is there
+pub marks_hold : (kept added now : List TypeState) (marks : List (Arrival Mark)) (place : ℕ) (after : Arrival Mark) → now ≡ kept ++ added → All (IsMarked (length kept)) marks → IsMarked (length now) after → All (IsMarked (length now)) (set marks place after)
+marks_hold kept added now marks place after is held h =
+    set_marked (length now) marks place after (λ k d lt. mark_holds kept added now (get_or marks k d) is (held k d lt)) h
 
 -- one more has arrived
 pub arrived : (kept shown : List TypeState) (marks : List (Arrival Mark)) (table : List (Arrival TypeState)) (place : ℕ) (before after : Arrival Mark) (m : Mark) (s : TypeState) → shown ≡ kept → map (arrival_of kept) marks ≡ table → place < length table → before ≡ get_or marks place before → state_of kept m ≡ s → Merged (arrival_of shown before) (state_of shown m) (arrival_of shown after) → (x : Arrival TypeState) × (Merged (get_or table place Nothing) s x × (map (arrival_of kept) (set marks place after) ≡ set table place x))
@@ -81,3 +83,8 @@ first_marked n marks places after empty h = set_marked n marks 0 after (λ k d l
   where
     at : (k : ℕ) (d : Arrival Mark) → k < length marks → IsMarked n (get_or (replicate places Nothing) k d)
     at k d lt = let within : k < places = omega (arith, lt, long marks places empty) in subst (IsMarked n) (sym (get_or-replicate places k Nothing d within)) tt
+
+-- where an edge led to a place, it is the edge to that place
+pub goes_there : (o : Option (ℕ × TypeState)) (before : TypeState) (r : Option ℕ) (after : TypeState) (to : ℕ) → Goes o before r after → r ≡ Some to → o ≡ Some (to, after)
+goes_there None before r after to goes is = cc
+goes_there (Some (place, s)) before r after to goes is = cc

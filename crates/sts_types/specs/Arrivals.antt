@@ -1,5 +1,5 @@
 -- What a table keeps of the states that arrive at its places: at most one state a place (this project's own).
-use Rattle.std.specs.Prelude.{◌≡◌, ◌≢◌, ◌<◌, ◌≤◌, ℕ, ◌⊎◌, List, [], ◌∷◌, slice_index_or, slice_set}
+use Rattle.std.specs.Prelude.{◌≡◌, ◌≢◌, ◌<◌, ◌≤◌, ℕ, ◌⊎◌, List, [], ◌∷◌, Option, Some, None, slice_index_or, slice_set}
 use Rattle.sts_model.specs.TypeState.{TypeState}
 use Rattle.sts_types.specs.declared.arrival.Arrival.{Arrival}
 use Rattle.sts_types.specs.declared.arrival.Arrival.TheVariants.{Nothing, One, Several}
@@ -16,10 +16,16 @@ abbrev pub Arrive : {S : Type 0} → List (Arrival S) → List (ℕ × S) → Li
 Arrive table [] after = after ≡ table
 Arrive {S} table (e ∷ es) after = (b : Arrival S) × (Merged (slice_index_or table e.0 Nothing) e.1 b × Arrive (slice_set table e.0 b) es after)
 
--- what has arrived at each place, and the typestate at hand
+-- after the pair, if there is one, has arrived
+abbrev pub ArriveAt : {S : Type 0} → List (Arrival S) → Option (ℕ × S) → List (Arrival S) → Type 0
+ArriveAt table None after = after ≡ table
+ArriveAt {S} table (Some e) after = (b : Arrival S) × (Merged (slice_index_or table e.0 Nothing) e.1 b × (after ≡ slice_set table e.0 b))
+
+-- what has arrived at each place, the typestate at hand, and that of the place that was loaded last
 pub record Arrived : Type 0 where
   pub table : List (Arrival TypeState)
   pub state : TypeState
+  pub start : TypeState
 
 -- with this number of operands
 abbrev pub at_height : ℕ → TypeState → TypeState
@@ -48,3 +54,13 @@ abbrev pub filled : {S X : Type 0} → S → Arrival X → Arrival S
 filled s Nothing = Nothing
 filled s (One x) = One s
 filled s Several = Several
+
+-- an edge, if there is one, leads from a typestate to this place and typestate; with none there is no place, and the typestate is the same
+abbrev pub Goes : Option (ℕ × TypeState) → TypeState → Option ℕ → TypeState → Type 0
+Goes None before to after = (to ≡ None) × (after ≡ before)
+Goes (Some e) before to after = (to ≡ Some e.0) × (after ≡ e.1)
+
+-- where one has arrived, it is at hand
+abbrev pub IsAtStart : {X : Type 0} → Arrival X → Arrived → Type 0
+IsAtStart (One x) a = a.start ≡ a.state
+IsAtStart _ a = Unit {0}

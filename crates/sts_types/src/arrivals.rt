@@ -1,12 +1,19 @@
 //! What has arrived at each place of a function, kept in little memory.
 
-ghost use Rattle.std.specs.Prelude.{◌≡◌, ◌<◌, ◌≤◌, ◌↔◌, ◌++◌, List, length, replicate, slice_index_or, slice_set, IfOk, OnOk, IsTrue};
+ghost use Rattle.std.specs.Prelude.{◌≡◌, ◌<◌, ◌≤◌, ◌↔◌, ◌++◌, List, length, replicate, slice_get, slice_index_or, slice_set, option_to_list, All, IfOk, OnOk, IsTrue};
+ghost use Rattle.sts_model.specs.Around as around;
+ghost use Rattle.sts_model.specs.Edges as def;
 ghost use Rattle.sts_model.specs.TypeState.{TypeState};
-ghost use Rattle.sts_types.specs.Arrivals.{Merged, IsMarked, arrival_of, at_height, filled, none, state_of};
+ghost use Rattle.sts_states.specs.Room.{HasRoom};
+ghost use Rattle.sts_types.specs.Arrivals.{Merged, ArriveAt, IsMarked, arrival_of, at_height, filled, none, state_of, IsAtStart};
 
 use crate::arrival::Arrival;
+use crate::follow::edge;
 use std::alloc::{AllocError, Global};
 use std::marker::Model;
+use sts_code::instr::Instr;
+use sts_code::program::Program;
+use sts_loops::loops::CodeLoops;
 use sts_states::state::TypeState;
 
 /// A typestate that arrived: its number of operands, and which of those that are kept is like it but for that number.
@@ -26,18 +33,21 @@ pub(crate) struct Arrivals {
     state: TypeState,
     /// Which of those that are kept is like the one at hand.
     like: usize,
+    /// The typestate of the place that was loaded last.
+    start: Mark,
 }
 
 impl Model for Arrivals {
     ghost use Rattle.std.specs.Prelude.{◌≡◌, ◌<◌, length, map, slice_index_or};
     ghost use Rattle.std.specs.List.{All};
     ghost use Rattle.sts_types.specs.Arrivals.{Arrived, IsMarked, arrival_of, none, state_of};
+    ghost use Rattle.sts_types.specs.declared.arrival.Arrival.{Arrival};
 
     ghost Value = { Arrived };
 
-    ghost view = { λ a. record { table = map (arrival_of a.kept.items) a.marks.items; state = a.state } };
+    ghost view = { λ a. record { table = map (arrival_of a.kept.items) a.marks.items; state = a.state; start = state_of a.kept.items a.start } };
 
-    ghost invariant = { λ a. All (IsMarked (length a.kept.items)) a.marks.items × (a.like < length a.kept.items) × (a.state ≡ state_of a.kept.items (record { height = a.state.height; like = a.like })) };
+    ghost invariant = { λ a. All (IsMarked (length a.kept.items)) a.marks.items × (a.like < length a.kept.items) × (a.state ≡ state_of a.kept.items (record { height = a.state.height; like = a.like })) × IsMarked (length a.kept.items) (Arrival.One a.start) };
 }
 
 /// Is it the same typestate that these stand for?
@@ -63,17 +73,32 @@ fn merged(kept: &[TypeState], before: Arrival<Mark>, mark: Mark) -> Arrival<Mark
     }
 }
 
-/// A typestate is kept, if the last that was kept isn't like it: answers which is like it.
-fn keep(kept: &mut Vec<TypeState>, state: TypeState) -> Result<usize, AllocError>
-    ensures like { IfOk result (λ at. (at < length kept.new.items) × (state_of kept.new.items (record { height = state.height; like = at }) ≡ state)) }
+/// A typestate is kept, if the one that it may be like isn't: answers which is like it.
+fn keep(kept: &mut Vec<TypeState>, like: usize, state: &TypeState) -> Result<usize, AllocError>
+    requires { like < length kept.old.items }
+    ensures like { IfOk result (λ at. (at < length kept.new.items) × (state_of kept.new.items (record { height = state.now.height; like = at }) ≡ state.now)) }
     ensures more { (added : List TypeState) × (kept.new.items ≡ kept.old.items ++ added) }
 {
-    let count = kept.len();
-    if 0 < count && kept[count - 1].is_like(&state) {
-        return Ok(count - 1);
+    if kept[like].is_like(state) {
+        return Ok(like);
     }
-    kept.push(state)?;
+    let count = kept.len();
+    kept.push(state.copy())?;
     Ok(count)
+}
+
+/// The typestate for which a mark stands comes to hand, where that at hand is like the one that is told.
+fn come_to(state: &mut TypeState, like: &mut usize, kept: &[TypeState], mark: Mark)
+    requires mark { IsMarked (length kept.now) (Arrival.One mark) }
+    requires hand { state.old ≡ state_of kept.now (record { height = state.old.height; like = like.old }) }
+    ensures state { state.new ≡ state_of kept.now mark }
+    ensures like { like.new ≡ mark.like }
+{
+    if mark.like != *like {
+        *state = kept[mark.like].copy();
+        *like = mark.like;
+    }
+    state.set_height(mark.height);
 }
 
 /// Marks of so many places to which nothing has come.
@@ -98,15 +123,19 @@ impl Arrivals {
         ensures { IfOk result (λ a. (a.table ≡ slice_set (replicate places Arrival.Nothing) 0 (Arrival.One first)) × (a.state ≡ first)) }
     {
         let mut kept = Vec::new(alloc);
-        let like = keep(&mut kept, first.copy())?;
-        let height = first.height();
+        kept.push(first.copy())?;
+        let start = Mark {
+            height: first.height(),
+            like: 0,
+        };
         let mut marks = no_marks(alloc, places)?;
-        marks[0] = Arrival::One(Mark { height, like });
+        marks[0] = Arrival::One(start);
         Ok(Arrivals {
             marks,
             kept,
             state: first,
-            like,
+            like: 0,
+            start,
         })
     }
 
@@ -122,19 +151,29 @@ impl Arrivals {
         requires { place < length self.old.table }
         ensures table { self.new.table ≡ self.old.table }
         ensures loaded { slice_index_or self.old.table place Arrival.Nothing ≡ filled self.new.state result }
+        ensures start { (result ≡ Arrival.One (record {})) → self.new.start ≡ self.new.state }
     {
         match self.marks[place as usize] {
             Arrival::Nothing => Arrival::Nothing,
             Arrival::Several => Arrival::Several,
             Arrival::One(mark) => {
-                if mark.like != self.like {
-                    self.state = self.kept[mark.like].copy();
-                    self.like = mark.like;
-                }
-                self.state.set_height(mark.height);
+                self.start = mark;
+                come_to(&mut self.state, &mut self.like, self.kept.as_slice(), mark);
                 Arrival::One(())
             }
         }
+    }
+
+    /// The typestate that was loaded last is at hand again.
+    pub(crate) fn go_back(&mut self)
+        ensures { self.new ≡ record self.old { state = self.old.start } }
+    {
+        come_to(
+            &mut self.state,
+            &mut self.like,
+            self.kept.as_slice(),
+            self.start,
+        );
     }
 
     /// The typestate at hand arrives at a place, with another number of operands.
@@ -143,6 +182,7 @@ impl Arrivals {
         requires few { height ≤ 32 }
         ensures table { (b : Arrival TypeState) × (Merged (slice_index_or self.old.table place Arrival.Nothing) (at_height height self.old.state) b × (self.new.table ≡ slice_set self.old.table place b)) }
         ensures state { self.new.state ≡ self.old.state }
+        ensures start { self.new.start ≡ self.old.start }
     {
         let place = place as usize;
         let like = self.like;
@@ -153,17 +193,40 @@ impl Arrivals {
         );
     }
 
-    /// A typestate arrives at a place.
-    pub(crate) fn arrive(&mut self, place: u32, state: TypeState) -> Result<(), AllocError>
-        requires { place < length self.old.table }
-        ensures table { OnOk result ((b : Arrival TypeState) × (Merged (slice_index_or self.old.table place Arrival.Nothing) state b × (self.new.table ≡ slice_set self.old.table place b))) }
-        ensures state { self.new.state ≡ self.old.state }
+    /// The typestate at hand goes along an edge of an instruction, by number from 0, and arrives where that leads.
+    pub(crate) fn arrive_along(
+        &mut self,
+        program: &Program,
+        loops: &CodeLoops<'_>,
+        pc: u32,
+        instr: Instr,
+        skip: Option<u32>,
+        number: usize,
+    ) -> Result<(), AllocError>
+        requires inside { pc < length loops.now }
+        requires skip { option_to_list skip ≡ around.skipped_to loops.now pc instr }
+        requires room { HasRoom program.now instr self.old.state }
+        requires places { All (λ e. e.0 < length self.old.table) (def.follows program.now loops.now pc instr self.old.state) }
+        ensures table { OnOk result (ArriveAt self.old.table (slice_get (def.follows program.now loops.now pc instr self.old.state) number) self.new.table) }
+        ensures start { self.new.start ≡ self.old.start }
     {
-        let place = place as usize;
-        let height = state.height();
-        let like = keep(&mut self.kept, state)?;
-        let mark = Mark { height, like };
-        self.marks[place] = merged(self.kept.as_slice(), self.marks[place], mark);
+        if let Some(to) = edge(program, loops, pc, instr, &mut self.state, skip, number) {
+            match keep(&mut self.kept, self.like, &self.state) {
+                Ok(like) => self.like = like,
+                Err(error) => {
+                    self.state = self.kept[self.like].copy();
+                    return Err(error);
+                }
+            }
+            let place = to as usize;
+            let height = self.state.height();
+            let like = self.like;
+            self.marks[place] = merged(
+                self.kept.as_slice(),
+                self.marks[place],
+                Mark { height, like },
+            );
+        }
         Ok(())
     }
 

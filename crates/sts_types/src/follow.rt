@@ -1,9 +1,13 @@
 //! The places and typestates that follow an instruction, where no cause holds.
 
-ghost use Rattle.std.specs.Prelude.{◌≡◌, ◌<◌, ◌≤◌, ◌-◌, ◌+◌, ◌++◌, ◌∷◌, [], length, slice_get, option_to_list, IfSome};
+ghost use Rattle.std.specs.Prelude.{ℕ, List, ◌≡◌, ◌<◌, ◌≤◌, ◌-◌, ◌+◌, ◌++◌, ◌∷◌, [], length, slice_get, option_to_list, IfSome};
 ghost use Rattle.sts_model.specs.Around as around;
 ghost use Rattle.sts_model.specs.Edges as def;
+ghost use Rattle.sts_code.specs.Program.{Program};
+ghost use Rattle.sts_code.specs.declared.instr.Instr.{Instr};
+ghost use Rattle.sts_model.specs.TypeState.{TypeState};
 ghost use Rattle.sts_states.specs.Room.{HasRoom};
+ghost use Rattle.sts_types.specs.Arrivals.{Goes};
 
 use arrayvec::ArrayVec;
 use std::marker::Model;
@@ -37,97 +41,113 @@ impl Edges {
     }
 }
 
-/// The first edge of an instruction.
+/// Along the first edge of an instruction: the typestate becomes that at the place it leads to.
 fn first_edge(
     program: &Program,
     loops: &CodeLoops<'_>,
     pc: u32,
     instr: Instr,
-    state: &TypeState,
-) -> Option<(u32, TypeState)>
+    state: &mut TypeState,
+) -> Option<u32>
     requires inside { pc < length loops.now }
-    requires room { HasRoom program.now instr state.now }
-    ensures { result ≡ slice_get (def.follows program.now loops.now pc instr state.now) 0 }
+    requires room { HasRoom program.now instr state.old }
+    ensures { Goes (slice_get (def.follows program.now loops.now pc instr state.old) 0) state.old result state.new }
 {
     if falls_through(instr) {
-        return Some((loops.after(pc), state.after(program, pc, instr)));
+        state.step(program, pc, instr);
+        return Some(loops.after(pc));
     }
     match instr {
-        Instr::Jmp(to) => Some((to, state.copy())),
+        Instr::Jmp(to) => Some(to),
         _ => None,
     }
 }
 
-/// The edges of a `join` but for that of ok, by number from 0.
+/// Along an edge of a `join` but for that of ok, by number from 0.
 fn join_edge(
-    state: &TypeState,
+    state: &mut TypeState,
     slot: u8,
     failed: Option<u32>,
     timeout: Option<u32>,
     interrupted: u32,
     number: usize,
-) -> Option<(u32, TypeState)>
-    requires { IfSome failed (λ _. state.now.height < 32) }
-    ensures { result ≡ slice_get (def.to_optional failed (def.raised 1 (def.with_phase slot TypedPhase.Joined state.now)) ++ def.to_optional timeout (def.with_phase slot TypedPhase.Late state.now) ++ (interrupted, def.with_phase slot TypedPhase.Attempted state.now) ∷ []) number }
+) -> Option<u32>
+    requires { IfSome failed (λ _. state.old.height < 32) }
+    ensures { Goes (slice_get (def.to_optional failed (def.raised 1 (def.with_phase slot TypedPhase.Joined state.old)) ++ def.to_optional timeout (def.with_phase slot TypedPhase.Late state.old) ++ (interrupted, def.with_phase slot TypedPhase.Attempted state.old) ∷ []) number) state.old result state.new }
 {
     let mut number = number;
     if let Some(to) = failed {
         if number == 0 {
-            return Some((to, state.failed(slot)));
+            state.join_failed(slot);
+            return Some(to);
         }
         number -= 1;
     }
     if let Some(to) = timeout {
         if number == 0 {
-            return Some((to, state.with_phase(slot, TypedPhase::Late)));
+            state.set_phase(slot, TypedPhase::Late);
+            return Some(to);
         }
         number -= 1;
     }
     if number == 0 {
-        Some((interrupted, state.with_phase(slot, TypedPhase::Attempted)))
+        state.set_phase(slot, TypedPhase::Attempted);
+        Some(interrupted)
     } else {
         None
     }
 }
 
-/// The edges of a `case` but for that of a subtask in neither state, by number from 0.
+/// Along an edge of a `case` but for that of a subtask in neither state, by number from 0.
 fn case_edge(
-    state: &TypeState,
+    state: &mut TypeState,
     handle: u8,
     success: u32,
     failed: u32,
     number: usize,
-) -> Option<(u32, TypeState)>
-    ensures { result ≡ slice_get ((success, def.with_known handle Known.Success state.now) ∷ (failed, def.with_known handle Known.Failed state.now) ∷ []) number }
+) -> Option<u32>
+    ensures { Goes (slice_get ((success, def.with_known handle Known.Success state.old) ∷ (failed, def.with_known handle Known.Failed state.old) ∷ []) number) state.old result state.new }
 {
     match number {
-        0 => Some((success, state.with_known(handle, Known::Success))),
-        1 => Some((failed, state.with_known(handle, Known::Failed))),
+        0 => {
+            state.set_known(handle, Known::Success);
+            Some(success)
+        }
+        1 => {
+            state.set_known(handle, Known::Failed);
+            Some(failed)
+        }
         _ => None,
     }
 }
 
-/// The edges of an instruction but for the first, by number from 0.
+/// Along an edge of an instruction but for the first, by number from 0.
 fn later_edge(
     program: &Program,
     loops: &CodeLoops<'_>,
     pc: u32,
     instr: Instr,
-    state: &TypeState,
+    state: &mut TypeState,
     skip: Option<u32>,
     number: usize,
-) -> Option<(u32, TypeState)>
+) -> Option<u32>
     requires skip { option_to_list skip ≡ around.skipped_to loops.now pc instr }
-    requires room { HasRoom program.now instr state.now }
-    ensures { result ≡ slice_get (def.follows program.now loops.now pc instr state.now) (number + 1) }
+    requires room { HasRoom program.now instr state.old }
+    ensures { Goes (slice_get (def.follows program.now loops.now pc instr state.old) (number + 1)) state.old result state.new }
 {
     match instr {
-        Instr::Div(to) if number == 0 => Some((to, state.popped(2))),
-        Instr::Jz(to) if number == 0 => Some((to, state.moved(program, instr))),
-        Instr::Times(_) if number == 0 => match skip {
-            Some(to) => Some((to, state.moved(program, instr))),
-            None => None,
-        },
+        Instr::Div(to) if number == 0 => {
+            state.pop(2);
+            Some(to)
+        }
+        Instr::Jz(to) if number == 0 => {
+            state.move_operands(program, instr);
+            Some(to)
+        }
+        Instr::Times(_) if number == 0 && skip.is_some() => {
+            state.move_operands(program, instr);
+            skip
+        }
         Instr::Join {
             slot,
             failed,
@@ -143,25 +163,39 @@ fn later_edge(
     }
 }
 
-/// The edges of an instruction, by number from 0.
+/// Along an edge of an instruction, by number from 0: answers the place that it leads to, and the typestate becomes the
+/// one there; with no such edge nothing changes.
 pub(crate) fn edge(
     program: &Program,
     loops: &CodeLoops<'_>,
     pc: u32,
     instr: Instr,
-    state: &TypeState,
+    state: &mut TypeState,
     skip: Option<u32>,
     number: usize,
-) -> Option<(u32, TypeState)>
+) -> Option<u32>
     requires inside { pc < length loops.now }
     requires skip { option_to_list skip ≡ around.skipped_to loops.now pc instr }
-    requires room { HasRoom program.now instr state.now }
-    ensures { result ≡ slice_get (def.follows program.now loops.now pc instr state.now) number }
+    requires room { HasRoom program.now instr state.old }
+    ensures { Goes (slice_get (def.follows program.now loops.now pc instr state.old) number) state.old result state.new }
 {
     if number == 0 {
         first_edge(program, loops, pc, instr, state)
     } else {
         later_edge(program, loops, pc, instr, state, skip, number - 1)
+    }
+}
+
+/// How many edges an instruction has at most.
+pub(crate) fn edge_count(instr: Instr) -> usize
+    ensures { (p : Program) (code : List Instr) (pc : ℕ) (s : TypeState) → length (def.follows p code pc instr s) ≤ result }
+{
+    match instr {
+        Instr::Ret | Instr::Fail => 0,
+        Instr::Div(_) | Instr::Jz(_) | Instr::Times(_) => 2,
+        Instr::Case { .. } => 3,
+        Instr::Join { .. } => 4,
+        _ => 1,
     }
 }
 
@@ -181,8 +215,9 @@ pub(crate) fn all_edges(
 {
     let mut edges = ArrayVec::new();
     for number in 0..4 {
-        if let Some(next) = edge(program, loops, pc, instr, state, skip, number) {
-            edges.push(next);
+        let mut after = state.copy();
+        if let Some(to) = edge(program, loops, pc, instr, &mut after, skip, number) {
+            edges.push((to, after));
         }
     }
     Edges { edges }

@@ -11,7 +11,7 @@ ghost use Rattle.sts_types.specs.Typing.{Tells};
 use crate::arrival::Arrival;
 use crate::arrivals::Arrivals;
 use crate::edges::code_of;
-use crate::follow::edge;
+use crate::follow::edge_count;
 use crate::leads::skip;
 use crate::least::least_cause;
 use std::alloc::{AllocError, Global};
@@ -65,15 +65,14 @@ fn spread(
 ) -> Result<(), AllocError>
     requires inside { pc < length loops.now }
     requires skip { option_to_list skip ≡ around.skipped_to loops.now pc instr }
+    requires start { arrivals.old.start ≡ arrivals.old.state }
     requires room { HasRoom program.now instr arrivals.old.state }
     requires places { All (λ e. e.0 < length arrivals.old.table) (def.follows program.now loops.now pc instr arrivals.old.state) }
     ensures { OnOk result (Arrive arrivals.old.table (def.follows program.now loops.now pc instr arrivals.old.state) arrivals.new.table) }
 {
-    for number in 0..4 {
-        match edge(program, loops, pc, instr, arrivals.state(), skip, number) {
-            Some((to, after)) => arrivals.arrive(to, after)?,
-            None => return Ok(()),
-        }
+    for number in 0..edge_count(instr) {
+        arrivals.go_back();
+        arrivals.arrive_along(program, loops, pc, instr, skip, number)?;
     }
     Ok(())
 }
@@ -91,6 +90,7 @@ fn follow(
     requires inside { pc < length loops.now }
     requires small { pc < 4096 }
     requires skip { option_to_list skip ≡ around.skipped_to loops.now pc instr }
+    requires start { arrivals.old.start ≡ arrivals.old.state }
     requires room { HasRoom program.now instr arrivals.old.state }
     requires places { All (λ e. e.0 < length arrivals.old.table) (def.follows program.now loops.now pc instr arrivals.old.state) }
     ensures { OnOk result (Arrive arrivals.old.table (def.follows program.now loops.now pc instr arrivals.old.state) arrivals.new.table) }

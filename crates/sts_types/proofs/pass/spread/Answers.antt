@@ -1,15 +1,18 @@
-use Rattle.std.proofs.Common.{◌≡◌, ◌∙◌, length, slice_get, Some, sym, ap, length-set}
+use Rattle.std.proofs.Common.{◌≡◌, ◌∙◌, slice_get, ap, subst}
 use Rattle.sts_model.specs.Edges.{follows}
-use Rattle.sts_types.proofs.Arriving.{arrive_next}
+use Rattle.sts_model.specs.TypeState.{TypeState}
+use Rattle.sts_types.specs.Arrivals.{ArriveAt}
+use Rattle.sts_types.proofs.Arriving.{arrive_numbered}
 use Rattle.sts_types.proofs.pass.spread.Goals as goal
 
 pub loop-number-preserved : goal.loop-number-preserved
 loop-number-preserved c =
-    let out = follows c.args.program.now c.args.loops.now c.args.pc c.args.instr c.args.arrivals.now.state in
-    let same = c.state.ensures ∙ c.loop-number.invariant.0 in
-    let there : slice_get out c.loop-number.number ≡ Some (c.in-Some.to, c.in-Some.after) = ap (λ s. slice_get (follows c.args.program.now c.args.loops.now c.args.pc c.args.instr s) c.loop-number.number) (sym same) ∙ sym c.edge.ensures ∙ c.in-Some.is in
-    let t = c.in_ok-arrive-in-Some.ensures.table in (
-      c.arrive.ensures.state ∙ c.loop-number.invariant.0,
-      ap length t.1.1 ∙ length-set c.loop-number.arrivals.table c.in-Some.to t.0 ∙ c.loop-number.invariant.1,
-      arrive_next out c.args.arrivals.now.table c.loop-number.arrivals.table c.arrive.new.self.table c.loop-number.number c.in-Some.to c.in-Some.after t.0 c.loop-number.invariant.2 there t.1.0 t.1.1,
-    )
+    let out = λ (s : TypeState). follows c.args.program.now c.args.loops.now c.args.pc c.args.instr s in
+    let table : c.go_back.new.self.table ≡ c.loop-number.arrivals.table = ap (λ a. a.table) c.go_back.ensures in
+    let state : c.go_back.new.self.state ≡ c.args.arrivals.now.state = ap (λ a. a.state) c.go_back.ensures ∙ c.loop-number.invariant.0 in
+    let start : c.go_back.new.self.start ≡ c.loop-number.arrivals.start = ap (λ a. a.start) c.go_back.ensures in
+    let here : ArriveAt c.loop-number.arrivals.table (slice_get (out c.args.arrivals.now.state) c.loop-number.number) c.arrive_along.new.self.table =
+    subst (λ t. ArriveAt t (slice_get (out c.args.arrivals.now.state) c.loop-number.number) c.arrive_along.new.self.table) table
+    (subst (λ s. ArriveAt c.go_back.new.self.table (slice_get (out s) c.loop-number.number) c.arrive_along.new.self.table) state c.in_ok-arrive_along.ensures.table) in
+    let there = arrive_numbered (out c.args.arrivals.now.state) c.args.arrivals.now.table c.loop-number.arrivals.table c.arrive_along.new.self.table c.loop-number.number c.loop-number.invariant.2 here in
+    (c.arrive_along.ensures.start ∙ start ∙ c.loop-number.invariant.0, there.1 ∙ c.loop-number.invariant.1, there.0)

@@ -5,4 +5,4 @@ use Rattle.sts_types.proofs.pass.spread.Given as goal
 
 -- the first ones have arrived
 abbrev pub invariant-loop-number : goal.invariant-loop-number
-invariant-loop-number l = (l.arrivals.state ≡ l.initial.arrivals.state) × (length l.arrivals.table ≡ length l.initial.arrivals.table) × Arrive l.initial.arrivals.table (take l.number (follows l.program l.loops l.pc l.instr l.initial.arrivals.state)) l.arrivals.table
+invariant-loop-number l = (l.arrivals.start ≡ l.initial.arrivals.state) × (length l.arrivals.table ≡ length l.initial.arrivals.table) × Arrive l.initial.arrivals.table (take l.number (follows l.program l.loops l.pc l.instr l.initial.arrivals.state)) l.arrivals.table

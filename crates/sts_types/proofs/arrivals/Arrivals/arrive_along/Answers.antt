@@ -1,0 +1,32 @@
+use Rattle.std.proofs.Common.{◌≡◌, ◌∙◌, length, map, slice_get, slice_set, Some, subst, sym, ap}
+use Rattle.sts_model.specs.Edges.{follows}
+use Rattle.sts_model.specs.TypeState.{TypeState}
+use Rattle.sts_types.specs.declared.arrival.Arrival.TheVariants.{One}
+use Rattle.sts_types.specs.Arrivals.{ArriveAt, IsMarked, arrival_of, state_of}
+use Rattle.sts_types.proofs.Arriving.{place_within}
+use Rattle.sts_types.proofs.Marking.{more_kept, mark_holds, marks_hold, arrived, goes_there}
+use Rattle.sts_types.proofs.arrivals.Arrivals.arrive_along.Goals as goal
+
+pub invariant_of-self-in-Some : goal.invariant_of-self-in-Some
+invariant_of-self-in-Some c =
+    let kept = c.self.inside.kept.items in
+    let now = c.keep.new.kept.items in
+    let more = c.keep.ensures.more in (
+      marks_hold kept more.0 now c.self.inside.marks.items c.in-Some.to c.merged.result more.1 c.self.invariant.0 (subst (λ l. IsMarked (length l) c.merged.result) c.as_slice.ensures.value c.merged.ensures.marked),
+      c.in-Ok.ensures.like.0,
+      sym c.in-Ok.ensures.like.1,
+      mark_holds kept more.0 now (One c.self.inside.start) more.1 c.self.invariant.3,
+    )
+
+pub returns-in-Ok-clause-table : goal.returns-in-Ok-clause-table
+returns-in-Ok-clause-table c =
+    let out = λ (s : TypeState). follows c.args.program.now c.args.loops.now c.args.pc c.args.instr s in
+    let state = ap (λ a. a.state) c.self.view_is in
+    let now = c.keep.new.kept.items in
+    let more = c.keep.ensures.more in
+    let there : slice_get (out c.args.self.now.state) c.args.number ≡ Some (c.in-Some.to, c.edge.new.state) = ap (λ s. slice_get (out s) c.args.number) (sym state) ∙ goes_there (slice_get (out c.self.inside.state) c.args.number) c.self.inside.state c.edge.result c.edge.new.state c.in-Some.to c.edge.ensures c.in-Some.is in
+    let view : map (arrival_of now) c.self.inside.marks.items ≡ c.args.self.now.table = ap (λ l. map (arrival_of l) c.self.inside.marks.items) more.1 ∙ more_kept c.self.inside.kept.items more.0 c.self.inside.marks.items c.self.invariant.0 ∙ ap (λ a. a.table) c.self.view_is in
+    let same = ap (λ h. state_of now (record { height = h; like = c.in-Ok.like })) c.height-height.ensures.value ∙ c.in-Ok.ensures.like.1 in
+    let within = place_within (out c.args.self.now.state) c.args.number c.in-Some.to (length c.args.self.now.table) c.edge.new.state there c.requires.places in
+    subst (λ o. ArriveAt c.args.self.now.table o (map (arrival_of now) (slice_set c.self.inside.marks.items c.in-Some.to c.merged.result))) (sym there)
+    (arrived now c.as_slice.result.now c.self.inside.marks.items c.args.self.now.table c.in-Some.to c.index-in-Some.result.now c.merged.result _ c.edge.new.state c.as_slice.ensures.value view within c.index-in-Some.ensures same c.merged.ensures.merged)
