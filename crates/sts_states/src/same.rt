@@ -5,28 +5,26 @@ ghost use Rattle.std.specs.Prelude.{◌≡◌, ◌↔◌, IsTrue, length, drop, 
 use sts_model::stack::Stack;
 use sts_model::typing::{SlotKind, TypedEntry, TypedLoop};
 
-/// A copy, which takes no memory.
-pub(crate) fn copy_of_loops(stack: &Stack<TypedLoop, 8>) -> Stack<TypedLoop, 8>
-    ensures { result ≡ stack.now }
+/// The loops are those of another stack from now on.
+pub(crate) fn copy_loops(copy: &mut Stack<TypedLoop, 8>, stack: &Stack<TypedLoop, 8>)
+    ensures { copy.new ≡ stack.now }
 {
-    let mut copy = Stack::new();
+    copy.drop_top(copy.len());
     let len = stack.len();
     for i in 0..len {
         copy.push(stack.get_or(len - 1 - i, TypedLoop::default()));
     }
-    copy
 }
 
-/// A copy, which takes no memory.
-pub(crate) fn copy_of_entries(stack: &Stack<TypedEntry, 16>) -> Stack<TypedEntry, 16>
-    ensures { result ≡ stack.now }
+/// The entries are those of another stack from now on.
+pub(crate) fn copy_entries(copy: &mut Stack<TypedEntry, 16>, stack: &Stack<TypedEntry, 16>)
+    ensures { copy.new ≡ stack.now }
 {
-    let mut copy = Stack::new();
+    copy.drop_top(copy.len());
     let len = stack.len();
     for i in 0..len {
         copy.push(stack.get_or(len - 1 - i, TypedEntry::default()));
     }
-    copy
 }
 
 pub(crate) fn are_same_loops(a: &Stack<TypedLoop, 8>, b: &Stack<TypedLoop, 8>) -> bool

@@ -3,9 +3,7 @@
 ghost use Rattle.std.specs.Prelude.{◌≡◌, ◌↔◌, ◌<◌, ◌≤◌, ◌+◌, ◌∷◌, IsTrue, length, drop, slice_set};
 ghost use Rattle.sts_model.specs.TypeState as def;
 
-use crate::same::{
-    are_same_entries, are_same_loops, are_same_slots, copy_of_entries, copy_of_loops,
-};
+use crate::same::{are_same_entries, are_same_loops, are_same_slots, copy_entries, copy_loops};
 use std::marker::Model;
 use sts_code::program::Program;
 use sts_model::stack::Stack;
@@ -49,12 +47,19 @@ impl TypeState {
     pub fn copy(&self) -> TypeState
         ensures { result ≡ self.now }
     {
-        TypeState {
-            height: self.height,
-            loops: copy_of_loops(&self.loops),
-            entries: copy_of_entries(&self.entries),
-            slots: self.slots,
-        }
+        let mut copy = TypeState::default();
+        copy.copy_from(self);
+        copy
+    }
+
+    /// All parts are those of another from now on.
+    pub fn copy_from(&mut self, other: &TypeState)
+        ensures { self.new ≡ other.now }
+    {
+        self.height = other.height;
+        copy_loops(&mut self.loops, &other.loops);
+        copy_entries(&mut self.entries, &other.entries);
+        self.slots = other.slots;
     }
 
     /// The number of operands.

@@ -95,7 +95,7 @@ fn come_to(state: &mut TypeState, like: &mut usize, kept: &[TypeState], mark: Ma
     ensures like { like.new ≡ mark.like }
 {
     if mark.like != *like {
-        *state = kept[mark.like].copy();
+        state.copy_from(&kept[mark.like]);
         *like = mark.like;
     }
     state.set_height(mark.height);
@@ -122,7 +122,8 @@ impl Arrivals {
         requires { 0 < places }
         ensures { IfOk result (λ a. (a.table ≡ slice_set (replicate places Arrival.Nothing) 0 (Arrival.One first)) × (a.state ≡ first)) }
     {
-        let mut kept = Vec::new(alloc);
+        // Room for one a place, so that what is kept need not move.
+        let mut kept = Vec::with_capacity(alloc, places)?;
         kept.push(first.copy())?;
         let start = Mark {
             height: first.height(),
@@ -214,7 +215,7 @@ impl Arrivals {
             match keep(&mut self.kept, self.like, &self.state) {
                 Ok(like) => self.like = like,
                 Err(error) => {
-                    self.state = self.kept[self.like].copy();
+                    self.state.copy_from(&self.kept[self.like]);
                     return Err(error);
                 }
             }

@@ -1,5 +1,5 @@
 use Rattle.std.proofs.Common.{◌≡◌, ◌-◌, length, drop}
-use Rattle.sts_states.proofs.same.copy_of_loops.Given as goal
+use Rattle.sts_states.proofs.same.copy_entries.Given as goal
 
 -- the copy has what lies below
 abbrev pub invariant-loop-i : goal.invariant-loop-i
