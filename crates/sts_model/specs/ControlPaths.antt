@@ -1,5 +1,5 @@
 -- Control paths: the ways that a task can take through the code of its function, whatever its operands are (this project's own).
-use Rattle.std.specs.Prelude.{◌≡◌, ℕ, suc, ◌+◌, ◌<◌, ◌≤◌, ◌⊎◌, List, [], ◌∷◌, Option, Some}
+use Rattle.std.specs.Prelude.{◌≡◌, ℕ, suc, ◌+◌, ◌<◌, ◌≤◌, ◌⊎◌, List, [], ◌∷◌}
 
 -- how an instruction goes on
 pub data Shape : Type 0 where

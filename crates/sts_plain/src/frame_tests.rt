@@ -5,23 +5,27 @@ ghost use Rattle.sts_model.specs.Local as loops;
 ghost use Rattle.sts_model.specs.Misuse as misuse;
 ghost use Rattle.sts_model.specs.World as def;
 
-use crate::operands::{pops, pushes};
 use sts_code::instr::Instr;
 use sts_code::program::Program;
 use sts_model::loops::match_of;
+use sts_model::operands::{pops, pushes};
 use sts_model::record::{Entry, Frame, Slot};
 use sts_world::code::code;
 
 pub fn lacks_operands(program: &Program, frame: &Frame, instr: Instr) -> bool
     ensures { result ≡ misuse.lacks_operands program.now frame.now instr }
 {
-    frame.operands.len() < pops(program, instr)
+    frame.operands.len() < pops(program, instr) as usize
 }
 
 pub fn overflows(program: &Program, frame: &Frame, instr: Instr) -> bool
     ensures { result ≡ misuse.overflows program.now frame.now instr }
 {
-    frame.operands.len().saturating_sub(pops(program, instr)) + pushes(instr) > 32
+    let left = frame
+        .operands
+        .len()
+        .saturating_sub(pops(program, instr) as usize);
+    left + pushes(instr) as usize > 32
 }
 
 /// Is the innermost open loop the one whose match is at `pc`?

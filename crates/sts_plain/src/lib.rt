@@ -4,7 +4,6 @@
 pub mod frame_tests;
 pub mod misstep;
 pub mod misuse;
-pub mod operands;
 pub mod perform;
 pub mod plain;
 pub mod stand;

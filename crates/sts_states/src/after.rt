@@ -7,10 +7,10 @@ ghost use Rattle.sts_model.specs.Edges as def;
 ghost use Rattle.sts_model.specs.Misuse as misuse;
 ghost use Rattle.sts_model.specs.TypeState as typed;
 
-use crate::operands::{pops, pushes};
 use crate::state::TypeState;
 use sts_code::instr::{Instr, Joiner};
 use sts_code::program::Program;
+use sts_model::operands::{pops, pushes};
 use sts_model::stack::Stack;
 use sts_model::typing::{Known, SlotKind, TypedEntry, TypedLoop, TypedPhase, TypedScope};
 

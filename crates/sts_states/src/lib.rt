@@ -2,7 +2,6 @@
 #![tactic(auto)]
 
 pub mod after;
-pub mod operands;
 mod same;
 pub mod slots;
 pub mod state;

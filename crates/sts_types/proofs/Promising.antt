@@ -15,7 +15,7 @@ use Rattle.sts_model.specs.Fits.{Fits}
 use Rattle.sts_model.specs.Flow.{Leads, Reaches, first, then}
 use Rattle.sts_model.specs.Promises.{TypingPromises}
 use Rattle.sts_model.specs.Refusal.{size, IsAccepted}
-use Rattle.sts_states.proofs.Short.{has_code}
+use Rattle.sts_model.proofs.Short.{has_code}
 use Rattle.sts_types.proofs.Fitting.{fits}
 use Rattle.sts_types.proofs.FollowLemmas.{at_place}
 use Rattle.sts_types.proofs.Laws.{Among, LeadsTo, among_left, among_right, next_among, none_passes, follow_leads, leads_among, or_cause_ok, laws}

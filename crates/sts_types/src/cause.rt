@@ -8,8 +8,8 @@ ghost use Rattle.sts_model.specs.Misuse as misuse;
 use sts_code::instr::Instr;
 use sts_code::profile::Profile;
 use sts_code::program::Program;
+use sts_model::operands::{pops, pushes};
 use sts_model::typing::{SlotKind, TypedEntry, TypedScope};
-use sts_states::operands::{pops, pushes};
 use sts_states::slots::{
     can_fail, can_join, filled_slot, is_await_all, is_binding, is_empty, is_failed, is_lent,
     is_opened, is_own, is_readable, is_scope_in, is_sub, is_success, owners_slot, subtask_slot,

@@ -1,7 +1,6 @@
 //! The edges of an instruction, or the least cause that holds there.
 
-ghost use Rattle.std.specs.Prelude.{◌≡◌, ◌<◌, ◌≤◌, length, MatchResult, Ok, Err};
-ghost use Rattle.sts_code.specs.Program.{routine};
+ghost use Rattle.std.specs.Prelude.{◌≡◌, ◌<◌, length, MatchResult, Ok, Err};
 ghost use Rattle.sts_model.specs.Edges as def;
 ghost use Rattle.sts_model.specs.Refusal.{size};
 
@@ -11,20 +10,9 @@ use crate::least::least_cause;
 use sts_code::instr::Instr;
 use sts_code::program::Program;
 use sts_loops::loops::CodeLoops;
+use sts_model::code::code_of;
 use sts_model::typing::Cause;
 use sts_states::state::TypeState;
-
-/// The instructions of a function.
-pub(crate) fn code_of(program: &Program, function: u32) -> &[Instr]
-    ensures value { result.now ≡ (routine program.now function).code }
-    ensures short { length result.now ≤ 4096 }
-    ensures some { function < length program.now.routines → 0 < length result.now }
-{
-    match program.functions().get(function as usize) {
-        Some(f) => f.code.as_slice(),
-        None => &[],
-    }
-}
 
 /// The edges of the instruction at a place of one of the program's functions, or the least cause that holds there.
 ///

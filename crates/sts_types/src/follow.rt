@@ -14,8 +14,8 @@ use std::marker::Model;
 use sts_code::instr::Instr;
 use sts_code::program::Program;
 use sts_loops::loops::CodeLoops;
+use sts_model::operands::falls_through;
 use sts_model::typing::{Known, TypedPhase};
-use sts_states::operands::falls_through;
 use sts_states::state::TypeState;
 
 /// The places that follow an instruction, each with its typestate, at most four: contracts see the list of them.

@@ -8,9 +8,9 @@ ghost use Rattle.sts_model.specs.TypeState.{heads};
 
 use sts_code::instr::Instr;
 use sts_loops::loops::CodeLoops;
+use sts_model::operands::falls_through;
 use sts_model::stack::Stack;
 use sts_model::typing::TypedLoop;
-use sts_states::operands::falls_through;
 use sts_states::state::TypeState;
 
 /// Where a `times` goes that makes no turn.

@@ -13,8 +13,8 @@ use crate::leads::{falls_off, jumps_back, mismatches};
 use sts_code::instr::Instr;
 use sts_code::program::Program;
 use sts_loops::loops::CodeLoops;
+use sts_model::operands::named;
 use sts_model::typing::Cause;
-use sts_states::operands::named;
 use sts_states::state::TypeState;
 
 /// The least cause from V3 to V5.

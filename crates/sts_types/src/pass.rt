@@ -10,7 +10,6 @@ ghost use Rattle.sts_types.specs.Typing.{Tells};
 
 use crate::arrival::Arrival;
 use crate::arrivals::Arrivals;
-use crate::edges::code_of;
 use crate::follow::edge_count;
 use crate::leads::skip;
 use crate::least::least_cause;
@@ -18,6 +17,7 @@ use std::alloc::{AllocError, Global};
 use sts_code::instr::Instr;
 use sts_code::program::Program;
 use sts_loops::loops::{CodeLoops, Tables};
+use sts_model::code::code_of;
 use sts_model::typing::Cause;
 use sts_states::state::{TypeState, entry};
 

@@ -4,6 +4,5 @@ pub mod Finds
 pub mod Keeping
 pub mod Raising
 pub mod Same
-pub mod Short
 pub mod Verdicts
 pub mod Worlds

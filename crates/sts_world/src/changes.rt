@@ -13,13 +13,14 @@ ghost use Rattle.sts_world.specs.Kept.{births as births_of};
 ghost use Rattle.sts_world.specs.Lines.{line, lines};
 ghost use Rattle.sts_world.specs.Raising.{raise_at as raise_one, raise_each as raise_all};
 
-use crate::code::{args, code};
+use crate::code::code;
 use crate::frames::{entry_frame, leave_fork, root_frame, set_slot};
 use crate::reading::{push_all, push_own};
 use crate::records::{Records, lives};
 use std::alloc::{AllocError, Global};
 use sts_code::instr::{Instr, Joiner};
 use sts_code::program::Program;
+use sts_model::code::args;
 use sts_model::event::{End, Phase};
 use sts_model::frame::local;
 use sts_model::record::{Bound, Completion, Entry, Scope, Slot, Task};

@@ -2,33 +2,19 @@
 
 ghost use Rattle.std.specs.Prelude.{◌≡◌, ◌<◌, length};
 ghost use Rattle.sts_model.specs.World as def;
-ghost use Rattle.sts_code.specs.Program.{routine};
 ghost use Rattle.std.specs.Prelude.{◌≤◌, IfSome};
 
 use sts_code::instr::Instr;
 use sts_code::program::Program;
+use sts_model::code::code_of;
 use sts_model::record::Frame;
-
-/// The number of arguments of a function.
-pub fn args(program: &Program, function: u32) -> u8
-    ensures value { result ≡ (routine program.now function).args }
-    ensures few { result ≤ 8 }
-{
-    match program.functions().get(function as usize) {
-        Some(f) => f.args,
-        None => 0,
-    }
-}
 
 /// The instructions of the frame's function.
 pub fn code<'a>(program: &'a Program, frame: &Frame) -> &'a [Instr]
     ensures value { result.now ≡ def.code program.now frame.now }
     ensures short { length result.now ≤ 4096 }
 {
-    match program.functions().get(frame.function as usize) {
-        Some(f) => f.code.as_slice(),
-        None => &[],
-    }
+    code_of(program, frame.function)
 }
 
 /// The instruction that is next, or none at the end.

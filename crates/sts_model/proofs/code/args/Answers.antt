@@ -1,7 +1,7 @@
 use Rattle.std.proofs.Common.{◌≡◌, ap}
 use Rattle.sts_code.specs.Program.{Routine}
-use Rattle.sts_world.proofs.Short.{function_is_short}
-use Rattle.sts_world.proofs.code.args.Goals as goal
+use Rattle.sts_model.proofs.Short.{function_is_short}
+use Rattle.sts_model.proofs.code.args.Goals as goal
 
 pub returns-in-Some-clause-few : goal.returns-in-Some-clause-few
 returns-in-Some-clause-few c =

@@ -1,25 +1,15 @@
 //! How many operands instructions pop and push, and where they may lead.
 
 ghost use Rattle.std.specs.Prelude.{◌≡◌, ◌≤◌};
-ghost use Rattle.sts_code.specs.Program.{routine};
 ghost use Rattle.sts_model.specs.Misuse as def;
 ghost use Rattle.sts_model.specs.Around as around;
 
+use crate::code::args;
 use arrayvec::ArrayVec;
 use sts_code::instr::Instr;
 use sts_code::program::Program;
 
-/// The number of arguments of a function.
-fn args(program: &Program, function: u32) -> u8
-    ensures value { result ≡ (routine program.now function).args }
-    ensures few { result ≤ 8 }
-{
-    match program.functions().get(function as usize) {
-        Some(f) => f.args,
-        None => 0,
-    }
-}
-
+/// How many operands an instruction pops.
 pub fn pops(program: &Program, instr: Instr) -> u8
     ensures value { result ≡ def.pops program.now instr }
     ensures few { result ≤ 8 }
@@ -46,6 +36,7 @@ pub fn pops(program: &Program, instr: Instr) -> u8
     }
 }
 
+/// How many operands an instruction pushes.
 pub fn pushes(instr: Instr) -> u8
     ensures value { result ≡ def.pushes instr }
     ensures few { result ≤ 2 }

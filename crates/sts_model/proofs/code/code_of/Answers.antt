@@ -1,7 +1,7 @@
 use Rattle.std.proofs.Common.{◌≡◌, length, ap, ◌∙◌}
 use Rattle.sts_code.specs.Program.{Routine}
-use Rattle.sts_states.proofs.Short.{function_is_short, function_has_code}
-use Rattle.sts_types.proofs.edges.code_of.Goals as goal
+use Rattle.sts_model.proofs.Short.{function_is_short, function_has_code}
+use Rattle.sts_model.proofs.code.code_of.Goals as goal
 
 pub returns-in-Some-clause-short : goal.returns-in-Some-clause-short
 returns-in-Some-clause-short c =
