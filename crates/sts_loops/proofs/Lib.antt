@@ -1,4 +1,3 @@
-pub mod Counting
 pub mod Marking
 pub mod Matching
 pub mod Nesting

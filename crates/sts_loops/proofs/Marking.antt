@@ -1,5 +1,5 @@
 -- Marking the places inside each loop.
-use Rattle.std.proofs.Common.{◌≡◌, ◌≢◌, ℕ, suc, ◌+◌, ◌-◌, ◌<◌, ◌≤◌, ◌⊎◌, inl, inr, List, [], ◌∷◌, length, map, Bool, true, false, Option, Some, None, ◌&&◌, cond, min, ltb, leb, refl, sym, ap, ◌∙◌, subst, arith, get_or, set, slice_get, replicate, get_or-set_same, get_or-set_other, length-set}
+use Rattle.std.proofs.Common.{◌≡◌, ◌≢◌, ℕ, suc, ◌+◌, ◌<◌, ◌≤◌, ◌⊎◌, inl, inr, List, ◌∷◌, length, map, Bool, true, false, Option, Some, None, ◌&&◌, cond, min, ltb, leb, refl, sym, ap, ◌∙◌, arith, get_or, set, slice_get, replicate, get_or-set_same, get_or-set_other}
 use Rattle.std.specs.List.{range_with_len}
 use Rattle.std.proofs.lemmas.Bool.{cases_eq, cases_lt}
 use Rattle.std.proofs.lemmas.Bool.Decides.{nat_tests}
@@ -8,7 +8,7 @@ use Rattle.std.proofs.lemmas.List.FromFn.{get_or-map-range_with_len, length-map-
 use Rattle.sts_code.specs.declared.instr.Instr.{Instr}
 use Rattle.sts_model.specs.Local.{match_of, is_times}
 use Rattle.sts_model.specs.Around.{instr_at, is_inside, reaches_to}
-use Rattle.sts_loops.specs.Tables.{Tables, AreTablesOf, end_at, head}
+use Rattle.sts_loops.specs.Tables.{AreTablesOf, end_at}
 use Rattle.sts_loops.proofs.Nesting.{below, below_more}
 use Rattle.sts_loops.proofs.Matching.{ends}
 

@@ -1,5 +1,5 @@
 -- The loops around a place: the innermost one, and those around it.
-use Rattle.std.proofs.Common.{◌≡◌, ◌≢◌, ℕ, zero, suc, ◌+◌, ◌-◌, ◌<◌, ◌≤◌, ◌⊎◌, inl, inr, List, [], ◌∷◌, ◌++◌, length, Bool, true, false, Option, Some, None, ◌&&◌, cond, refl, sym, ap, ◌∙◌, subst, arith, reverse, filter, slice_get, leb, leb-true, bytes_eq, eqb, eqb-true, eq-eqb, is_none, is_some, not, drop, get_or}
+use Rattle.std.proofs.Common.{◌≡◌, ℕ, zero, suc, ◌+◌, ◌-◌, ◌<◌, ◌≤◌, ◌⊎◌, inl, inr, List, [], ◌∷◌, ◌++◌, length, Bool, true, false, Option, Some, None, ◌&&◌, cond, refl, sym, ap, ◌∙◌, subst, arith, reverse, filter, slice_get, leb, leb-true, bytes_eq, eqb, eqb-true, eq-eqb, is_none, is_some, not, drop, get_or}
 use Rattle.std.specs.Option.{option_eq}
 use Rattle.std.specs.List.{range_with_len}
 use Rattle.std.proofs.lemmas.List.{reverse-append, get_or-map, length-map, drop_more, drop_all}
@@ -11,7 +11,7 @@ use Rattle.sts_model.specs.Around.{instr_at, is_inside, reaches_to, around}
 use Rattle.sts_model.specs.declared.typing.TypedLoop.{TypedLoop}
 use Rattle.sts_model.specs.TypeState.{heads}
 use Rattle.sts_loops.specs.Tables.{head}
-use Rattle.sts_loops.proofs.Matching.{Ends, ends, nested}
+use Rattle.sts_loops.proofs.Matching.{ends, nested}
 
 -- the loops around a place that begin before k
 abbrev pub below : List Instr → ℕ → ℕ → List ℕ

@@ -7,9 +7,10 @@ ghost use Rattle.sts_model.specs.TypeState.{heads};
 ghost use Rattle.sts_model.specs.Local as local;
 ghost use Rattle.sts_loops.specs.Tables.{head, AreTablesOf};
 
-use crate::ends::{is_times, match_of};
+use crate::ends::match_of;
 use std::marker::Model;
 use sts_code::instr::Instr;
+use sts_model::loops::is_times;
 use sts_model::stack::Stack;
 use sts_model::typing::TypedLoop;
 

@@ -4,10 +4,11 @@ ghost use Rattle.std.specs.Prelude.{◌≡◌, ◌≤◌, ◌<◌, ◌&&◌, len
 ghost use Rattle.std.specs.List.{range_with_len};
 ghost use Rattle.sts_loops.specs.Tables as table;
 
-use crate::ends::{is_times, match_of};
+use crate::ends::match_of;
 use crate::loops::Tables;
 use std::alloc::{AllocError, Global};
 use sts_code::instr::Instr;
+use sts_model::loops::is_times;
 
 /// The match of a `times` at `at`, if there is one.
 fn end_at(code: &[Instr], at: usize) -> Option<u32>

@@ -5,5 +5,6 @@ pub mod Laws
 pub mod Marking
 pub mod Passing
 pub mod Promising
+pub mod Ranges
 pub mod RoomLemmas
 pub mod Visiting

@@ -1,4 +1,4 @@
-use Rattle.std.proofs.Common.{◌≡◌, ◌≤◌, ◌+◌, ◌<◌, ◌∙◌, length, arith, subst, refl, length-set}
+use Rattle.std.proofs.Common.{◌≡◌, ◌+◌, ◌∙◌, arith, subst, refl, length-set}
 use Rattle.sts_loops.proofs.Marking.{Marks, marks_none, marks_more, marks_all}
 use Rattle.sts_loops.proofs.tables.mark.Goals as goal
 

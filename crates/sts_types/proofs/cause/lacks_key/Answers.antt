@@ -1,6 +1,6 @@
 use Rattle.std.proofs.Common.{◌∙◌, ◌&&◌, not, ℕ}
 use Rattle.sts_model.specs.Causes.{needs, is_bound}
-use Rattle.sts_loops.proofs.Counting.{any_next, any_here, any_end, any_all}
+use Rattle.sts_types.proofs.Ranges.{any_next, any_here, any_end, any_all}
 use Rattle.sts_types.proofs.cause.lacks_key.Goals as goal
 
 pub returns-then-lacks : goal.returns-then-lacks

@@ -1,4 +1,4 @@
-use Rattle.std.proofs.Common.{◌≡◌, ◌+◌, ◌∙◌, sym, refl, ap, arith, drop, bytes_eq, is_none}
+use Rattle.std.proofs.Common.{◌+◌, ◌∙◌, sym, ap, arith, drop, bytes_eq, is_none}
 use Rattle.sts_model.specs.Around.{around}
 use Rattle.sts_model.specs.TypeState.{heads}
 use Rattle.sts_loops.proofs.Nesting.{same_at, differs_at, at_end, heads_more, heads_end, is_not, is_it, none_is}
