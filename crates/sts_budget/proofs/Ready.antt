@@ -62,7 +62,7 @@ is_ready p f earlier code l fine in_program typed long is laid = subst (λ xs. I
     c = is_checked p f fine in_program
 
     right : (pc : ℕ) → pc < length (routine p f).code → IsRight p f l.heads.items l.names.items pc
-    right pc lt = laid.right pc lt (is_written p f typed c.some_code c.bounds (length (routine p f).code) pc (omega arith) lt)
+    right pc lt = laid.0.right pc lt (is_written p f typed c.some_code c.bounds (length (routine p f).code) pc (omega arith) lt)
 
     names_right : NamesRight p f (names_in l)
     names_right pc s r = (right pc (fits p f typed c.some_code c.bounds earlier pc s r).1).name s r
@@ -73,11 +73,12 @@ is_ready p f earlier code l fine in_program typed long is laid = subst (λ xs. I
       known = knows_names p f typed c.some_code c.bounds earlier (names_in l) names_right;
       led = led p f typed c.some_code c.bounds earlier;
       heads = λ pc lt. (right pc lt).head;
-      mates = λ h n t. (let o = opened p f typed c.some_code c.bounds earlier h n t in laid.mated h n t o.end o.ends (omega (arith, o.within)) ∙ sym o.mate);
-      heads_long = laid.heads_long;
-      mates_long = laid.mates_long;
-      names_long = laid.names_long;
+      mates = λ h n t. (let o = opened p f typed c.some_code c.bounds earlier h n t in laid.0.mated h n t o.end o.ends (omega (arith, o.within)) ∙ sym o.mate);
+      heads_long = laid.0.heads_long;
+      mates_long = laid.0.mates_long;
+      names_long = laid.0.names_long;
       forks = λ pc. subst (λ n. ForksEarlier n (instr_at (routine p f).code pc)) (sym long) (forks f pc (instr_at (routine p f).code pc) (c.earlier pc));
       turns = c.few;
       short = c.short;
+      deep = laid.1;
     }

@@ -1,5 +1,5 @@
 -- What is known to be open at each place of a function (this project's own).
-use Rattle.std.proofs.Common.{◌≡◌, ℕ, ◌<◌, ◌⊎◌, List, [], ◌∷◌, ◌++◌, length, get_or, Option, Some, None, unwrap_or, slice_set}
+use Rattle.std.proofs.Common.{◌≡◌, ℕ, ◌<◌, ◌≤◌, ◌⊎◌, List, [], ◌∷◌, ◌++◌, length, get_or, Option, Some, None, unwrap_or, slice_set}
 use Rattle.sts_code.specs.Program.{Program, routine}
 use Rattle.sts_code.specs.declared.instr.Instr.{Instr}
 use Rattle.sts_code.specs.declared.instr.Instr.TheVariants.{Times, Next}
@@ -51,6 +51,10 @@ abbrev pub mates_after : Instr → ℕ → Option ℕ → List ℕ → List ℕ
 mates_after Next pc (Some h) mates = slice_set mates h pc
 mates_after _ pc head mates = mates
 
+-- no place has more open entries than this, which is no more than can be open
+abbrev pub IsDeepest : List Names → ℕ → Type 0
+IsDeepest table deepest = ((pc : ℕ) → length (get_or table pc []) ≤ deepest) × (deepest ≤ 16)
+
 -- the tables of the whole function
 abbrev pub IsLaidOut : Program → ℕ → Layout → Type 0
-IsLaidOut p f l = IsLaid p f (length (routine p f).code) l.heads.items l.mates.items l.names.items
+IsLaidOut p f l = IsLaid p f (length (routine p f).code) l.heads.items l.mates.items l.names.items × IsDeepest l.names.items l.deepest

@@ -10,7 +10,7 @@ use Rattle.sts_budget.specs.declared.layout.Layout.{Layout}
 use Rattle.sts_budget.specs.Effect.{ForksEarlier}
 use Rattle.sts_budget.specs.Flowing.{flows}
 use Rattle.sts_budget.specs.Known.{KnowsNames}
-use Rattle.sts_budget.specs.Laid.{first_of}
+use Rattle.sts_budget.specs.Laid.{first_of, IsDeepest}
 use Rattle.sts_budget.specs.Layout.{Names}
 use Rattle.sts_budget.specs.Structured.{IsStructured, Led}
 use Rattle.sts_budget.specs.Sums.{Flows}
@@ -40,3 +40,4 @@ pub record IsReady (earlier : List Budgets) (code : List Instr) (l : Layout) : T
   pub forks : (pc : ℕ) → ForksEarlier (length earlier) (instr_at code pc)
   pub turns : (pc n : ℕ) → instr_at code pc ≡ Times n → n < 65536
   pub short : length code ≤ 4096
+  pub deep : IsDeepest l.names.items l.deepest

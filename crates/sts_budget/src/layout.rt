@@ -25,6 +25,8 @@ pub struct Layout {
     /// The `next` that ends the loop of a `times`.
     pub mates: Vec<u32>,
     pub names: Vec<Names>,
+    /// The greatest number of entries that are open at a place.
+    pub deepest: usize,
 }
 
 /// A copy, which takes no memory.
@@ -209,6 +211,7 @@ pub fn lay_out(alloc: Global, program: &Program, function: usize) -> Result<Layo
     let mut heads = empty_heads(alloc, code.len())?;
     let mut mates = empty_mates(alloc, code.len())?;
     let mut names = empty_names(alloc, code.len())?;
+    let mut deepest = 0;
     for pc in 0..code.len() {
         let instr = code[pc];
         let places = targets(instr, pc as u32);
@@ -218,10 +221,12 @@ pub fn lay_out(alloc: Global, program: &Program, function: usize) -> Result<Layo
         write_mate(&mut mates, instr, pc as u32, innermost);
         write_heads(&mut heads, places.as_slice(), head);
         write_names(&mut names, places.as_slice(), &after);
+        deepest = after.len().max(deepest);
     }
     Ok(Layout {
         heads,
         mates,
         names,
+        deepest,
     })
 }

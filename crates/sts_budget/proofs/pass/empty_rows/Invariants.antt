@@ -3,4 +3,4 @@ use Rattle.sts_budget.proofs.pass.empty_rows.Given as goal
 
 -- so many are there
 abbrev pub invariant-loop-place : goal.invariant-loop-place
-invariant-loop-place l = l.rows.items ≡ replicate l._place (replicate 17 0)
+invariant-loop-place g l = l.rows.items ≡ replicate l._place (replicate g.row.N 0)

@@ -5,4 +5,4 @@ use Rattle.sts_budget.proofs.pass.send.Given as goal
 
 -- the rows of the first places are raised
 abbrev pub invariant-loop-i : goal.invariant-loop-i
-invariant-loop-i l = IsSent l.values (λ pc. depth_of l.kind (get_or l.names pc [])) l.most (take l.i l.places) l.initial.best.items l.best.items
+invariant-loop-i g l = IsSent l.values (λ pc. depth_of l.kind (get_or l.names pc [])) l.most (take l.i l.places) l.initial.best.items l.best.items
