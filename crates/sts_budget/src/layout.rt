@@ -8,6 +8,7 @@ ghost use Rattle.sts_model.specs.Refusal.{IsWellTyped};
 ghost use Rattle.sts_budget.specs.Layout as def;
 ghost use Rattle.sts_budget.specs.Laid.{Writes, head_after, mates_after, IsLaidOut};
 
+use crate::fill::filled;
 use arrayvec::ArrayVec;
 use std::alloc::{AllocError, Global};
 use sts_code::instr::Instr;
@@ -150,26 +151,6 @@ fn outer(heads: &[Option<u32>], place: Option<u32>) -> Option<u32>
     }
 }
 
-fn empty_heads(alloc: Global, count: usize) -> Result<Vec<Option<u32>>, AllocError>
-    ensures { IfOk result (λ t. t.items ≡ replicate count None) }
-{
-    let mut heads = Vec::with_capacity(alloc, count)?;
-    for _place in 0..count {
-        heads.push(None)?;
-    }
-    Ok(heads)
-}
-
-fn empty_mates(alloc: Global, count: usize) -> Result<Vec<u32>, AllocError>
-    ensures { IfOk result (λ t. t.items ≡ replicate count 0) }
-{
-    let mut mates = Vec::with_capacity(alloc, count)?;
-    for _place in 0..count {
-        mates.push(0)?;
-    }
-    Ok(mates)
-}
-
 fn empty_names(alloc: Global, count: usize) -> Result<Vec<Names>, AllocError>
     ensures { IfOk result (λ t. t.items ≡ replicate count []) }
 {
@@ -208,8 +189,8 @@ pub fn lay_out(alloc: Global, program: &Program, function: usize) -> Result<Layo
     ensures { IfOk result (λ l. IsLaidOut program.now function l) }
 {
     let code = code_of(program, function);
-    let mut heads = empty_heads(alloc, code.len())?;
-    let mut mates = empty_mates(alloc, code.len())?;
+    let mut heads = filled(alloc, code.len(), None)?;
+    let mut mates = filled(alloc, code.len(), 0)?;
     let mut names = empty_names(alloc, code.len())?;
     let mut deepest = 0;
     for pc in 0..code.len() {

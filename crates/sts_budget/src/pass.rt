@@ -9,6 +9,7 @@ ghost use Rattle.sts_budget.specs.Table.{IsSent, IsStopped, IsSpread, IsPartial,
 ghost use Rattle.sts_budget.specs.Handing.{handed_value, is_quiet, turns_of};
 
 use crate::effect::{Kind, depth_of, effect_of};
+use crate::fill::filled;
 use crate::layout::{Layout, Names, targets};
 use crate::row::{Row, Values, raise, values_after, values_of_loop};
 use std::alloc::{AllocError, Global};
@@ -148,16 +149,6 @@ fn hand_on<const N: usize>(
     )
 }
 
-fn empty_rows<const N: usize>(alloc: Global, count: usize) -> Result<Vec<Row<N>>, AllocError>
-    ensures { IfOk result (λ t. t.items ≡ replicate count (replicate N 0)) }
-{
-    let mut rows = Vec::with_capacity(alloc, count)?;
-    for _place in 0..count {
-        rows.push([0; N])?;
-    }
-    Ok(rows)
-}
-
 /// The table of the greatest sums, or none where one passes the limit.
 pub(crate) fn table<const N: usize>(
     alloc: Global,
@@ -172,7 +163,7 @@ pub(crate) fn table<const N: usize>(
     requires fits { (q : ℕ) → depth kind (names_in layout.now q) < N }
     ensures { IfOk result (λ o. MatchOption o (Passes (skeleton earlier.now code.now) (flows_in kind earlier.now code.now layout.now) most) (λ t. IsPartial (skeleton earlier.now code.now) (flows_in kind earlier.now code.now layout.now) (length code.now) t.items)) }
 {
-    let mut best = empty_rows(alloc, code.len())?;
+    let mut best = filled(alloc, code.len(), [0; N])?;
     for pc in 0..code.len() {
         if !hand_on(kind, earlier, code, layout, &mut best, pc, most) {
             return Ok(None);

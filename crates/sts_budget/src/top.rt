@@ -9,6 +9,7 @@ ghost use Rattle.sts_budget.specs.Handing.{base_of, bases_after};
 ghost use Rattle.sts_budget.specs.Table.{read};
 
 use crate::effect::{Kind, depth_of};
+use crate::fill::filled;
 use crate::layout::Layout;
 use crate::pass::{own_step, table};
 use crate::row::Row;
@@ -34,16 +35,6 @@ fn limit_of(kind: Kind) -> u32
         Kind::Steps => 1_000_000,
         _ => 65_536,
     }
-}
-
-fn empty_bases(alloc: Global, count: usize) -> Result<Vec<u64>, AllocError>
-    ensures { IfOk result (λ t. t.items ≡ replicate count 0) }
-{
-    let mut bases = Vec::with_capacity(alloc, count)?;
-    for _place in 0..count {
-        bases.push(0)?;
-    }
-    Ok(bases)
 }
 
 /// The greatest sum before the last turn of the innermost loop around a place.
@@ -118,7 +109,7 @@ fn greatest<const N: usize>(
         Some(best) => best,
         None => return Ok(None),
     };
-    let mut bases = empty_bases(alloc, code.len())?;
+    let mut bases = filled(alloc, code.len(), 0)?;
     let mut greatest = 0;
     for pc in 0..code.len() {
         let depth = depth_of(kind, &layout.names[pc]);
