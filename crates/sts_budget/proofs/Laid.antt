@@ -1,5 +1,5 @@
 -- The pass that finds what is open at each place.
-use Rattle.std.proofs.Common.{◌≡◌, ◌≢◌, ℕ, zero, suc, max, ◌+◌, ◌<◌, ◌≤◌, ◌⊎◌, inl, inr, List, [], ◌∷◌, ◌++◌, length, take, set, get_or, false, Option, Some, None, refl, sym, ap, ◌∙◌, subst, arith, length-set, get_or-set_same, get_or-set_other, unwrap_or, replicate}
+use Rattle.std.proofs.Common.{◌≡◌, ◌≢◌, ℕ, suc, ◌+◌, ◌<◌, ◌≤◌, ◌⊎◌, inl, inr, List, [], ◌∷◌, ◌++◌, length, take, set, get_or, false, Option, Some, None, refl, sym, ap, ◌∙◌, subst, arith, length-set, get_or-set_same, get_or-set_other, unwrap_or, replicate}
 use Rattle.std.proofs.Math.Seq.{take-suc}
 use Rattle.std.proofs.lemmas.List.{length-replicate, get_or-replicate}
 use Rattle.std.proofs.lemmas.Bool.{cases_eq, cases_lt, leb-false}
@@ -23,7 +23,7 @@ use Rattle.sts_budget.proofs.Typed.{among_next, goes_at, here, fits, opened, Ope
 use Rattle.sts_budget.proofs.Named.{led, knows_names}
 use Rattle.sts_budget.specs.Structured.{IsStructured}
 use Rattle.sts_budget.specs.Known.{KnowsNames, NamesRight}
-use Rattle.sts_budget.specs.Laid.{mates_after, Writes, first_of, head_after, IsRight, IsWritten, IsLaid, IsDeepest}
+use Rattle.sts_budget.specs.Laid.{mates_after, Writes, first_of, head_after, IsRight, IsWritten, IsLaid}
 use Rattle.sts_budget.specs.Structured.{Led, from_go, from_head, from_end}
 use Rattle.sts_budget.specs.TypedNames.{names}
 
@@ -47,24 +47,6 @@ writes_more places i to value d old mid lt is w = record {
     by_at pc within a = elim (cases_eq pc to) [
       | inl e ↦ (let within' : pc < length mid = omega (arith, w.long) in subst (λ q. get_or (set mid q value) pc d ≡ value) e (get_or-set_same mid pc value d within'))
       | inr ne ↦ (get_or-set_other mid to pc value d ne ∙ elim a [ inl b ↦ w.at pc b within | inr b ↦ elim b [ inl e ↦ absurd (ne (sym e)) | inr out_of ↦ absurd out_of ] ])
-    ]
-
--- no names are longer than the greatest number, before the first place and after each one more
-pub deepest_none : (n : ℕ) (table : List Names) → table ≡ replicate n [] → IsDeepest table 0
-deepest_none n table e = ((λ pc. (let z : length (get_or table pc []) ≡ 0 = ap (λ (ns : List Names). length (get_or ns pc [])) e ∙ empty n pc in omega arith)), omega arith)
-  where
-    empty : (n pc : ℕ) → length (get_or {A = Names} (replicate n []) pc []) ≡ 0
-    empty zero pc = refl
-    empty (suc n) zero = refl
-    empty (suc n) (suc pc) = empty n pc
-
-pub deepest_more : (places : List ℕ) (after : Names) (table table' : List Names) (deepest deepest' : ℕ) → Writes places after [] table table' → length after ≤ 16 → deepest' ≡ max (length after) deepest → ((to : ℕ) → Among places to → to < length table) → IsDeepest table deepest → IsDeepest table' deepest'
-deepest_more places after table table' deepest deepest' w bound is inside h = (by, omega (arith, h.1))
-  where
-    by : (pc : ℕ) → length (get_or table' pc []) ≤ deepest'
-    by pc = elim (among_cases places pc) [
-      | inl a ↦ (let e = ap length (w.at pc a (inside pc a)) in omega arith)
-      | inr out ↦ (let e = ap length (w.other pc out) in let old = h.0 pc in omega arith)
     ]
 
 -- ---- one instruction

@@ -4,13 +4,14 @@ ghost use Rattle.std.specs.Prelude.{◌≡◌, ◌<◌, ◌≤◌, ◌+◌, ◌*
 ghost use Rattle.sts_model.specs.Around.{instr_at};
 ghost use Rattle.sts_model.specs.Budget.{skeleton};
 ghost use Rattle.sts_budget.specs.Effect.{depth_of as depth, own_step};
+ghost use Rattle.sts_budget.specs.Laid.{AreListed};
 ghost use Rattle.sts_budget.specs.Ready.{IsReady, flows_in, head_in, names_in};
 ghost use Rattle.sts_budget.specs.Table.{IsSent, IsStopped, IsSpread, IsPartial, HandsTooMuch, Passes, read};
 ghost use Rattle.sts_budget.specs.Handing.{handed_value, is_quiet, turns_of};
 
 use crate::effect::{Kind, depth_of, effect_of};
 use crate::fill::filled;
-use crate::layout::{Layout, Names, targets};
+use crate::layout::{Layout, names_at, targets};
 use crate::row::{Row, Values, raise, values_after, values_of_loop};
 use std::alloc::{AllocError, Global};
 use sts_code::instr::Instr;
@@ -23,18 +24,19 @@ fn send<const N: usize>(
     places: &[u32],
     values: &Values<N>,
     kind: Kind,
-    names: &[Names],
+    layout: &Layout,
     most: u32,
 ) -> bool
     requires inside { All (λ to. to < length best.old.items) places.now }
-    requires named { length names.now ≡ length best.old.items }
-    requires fits { (pc : ℕ) → depth kind (get_or names.now pc []) < N }
-    ensures sent { IsTrue result → IsSent values.now (λ pc. depth kind (get_or names.now pc [])) most places.now best.old.items best.new.items }
-    ensures over { IsFalse result → IsStopped values.now (λ pc. depth kind (get_or names.now pc [])) most places.now }
+    requires named { length layout.now.which.items ≡ length best.old.items }
+    requires listed { AreListed layout.now.lists.items layout.now.which.items }
+    requires fits { (pc : ℕ) → depth kind (names_in layout.now pc) < N }
+    ensures sent { IsTrue result → IsSent values.now (λ pc. depth kind (names_in layout.now pc)) most places.now best.old.items best.new.items }
+    ensures over { IsFalse result → IsStopped values.now (λ pc. depth kind (names_in layout.now pc)) most places.now }
 {
     for i in 0..places.len() {
         let to = places[i] as usize;
-        let low = depth_of(kind, &names[to]);
+        let low = depth_of(kind, names_at(layout, to));
         if !raise(&mut best[to], values, low, most) {
             return false;
         }
@@ -108,7 +110,7 @@ fn values_of<const N: usize>(
     match code[pc] {
         Instr::Next => loop_values(kind, code, layout, best, pc),
         instr => {
-            let names = &layout.names[pc];
+            let names = names_at(layout, pc);
             let effect = effect_of(kind, earlier, instr, names);
             values_after(effect, depth_of(kind, names), &best[pc])
         }
@@ -139,14 +141,7 @@ fn hand_on<const N: usize>(
     }
     let values = values_of(kind, earlier, code, layout, best.as_slice(), pc);
     let places = targets(instr, pc as u32);
-    send(
-        best,
-        places.as_slice(),
-        &values,
-        kind,
-        layout.names.as_slice(),
-        most,
-    )
+    send(best, places.as_slice(), &values, kind, layout, most)
 }
 
 /// The table of the greatest sums, or none where one passes the limit.

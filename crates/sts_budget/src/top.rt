@@ -10,7 +10,7 @@ ghost use Rattle.sts_budget.specs.Table.{read};
 
 use crate::effect::{Kind, depth_of};
 use crate::fill::filled;
-use crate::layout::Layout;
+use crate::layout::{Layout, names_at};
 use crate::pass::{own_step, table};
 use crate::row::Row;
 use std::alloc::{AllocError, Global};
@@ -112,7 +112,7 @@ fn greatest<const N: usize>(
     let mut bases = filled(alloc, code.len(), 0)?;
     let mut greatest = 0;
     for pc in 0..code.len() {
-        let depth = depth_of(kind, &layout.names[pc]);
+        let depth = depth_of(kind, names_at(layout, pc));
         let full = base_at(bases.as_slice(), layout.heads[pc])
             + sum_at(best.as_slice(), pc, depth) as u64;
         if full > most as u64 {

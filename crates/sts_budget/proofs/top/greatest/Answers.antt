@@ -1,4 +1,4 @@
-use Rattle.std.proofs.Common.{◌≡◌, ◌<◌, ◌≤◌, ◌+◌, ◌-◌, pos, ℕ, List, [], length, get_or, sym, ap, ◌∙◌, subst, arith}
+use Rattle.std.proofs.Common.{◌≡◌, ◌<◌, ◌≤◌, ◌+◌, ◌-◌, pos, ℕ, length, get_or, sym, ap, ◌∙◌, subst, arith}
 use Rattle.sts_code.specs.declared.instr.Instr.TheVariants.{Push, Ret, Times}
 use Rattle.sts_model.specs.Around.{instr_at}
 use Rattle.sts_model.specs.Budget.{skeleton, shape_of}
@@ -27,18 +27,17 @@ loop-pc-init g c =
 pub base_at-requires : goal.base_at-requires
 base_at-requires g c =
     let whole : IsPartial (skeleton c.args.earlier.now c.args.code.now) (flows_in c.args.kind c.args.earlier.now c.args.code.now c.args.layout.now) (length c.args.code.now) c.in-Some.best.items = rw c.in-Some.is at (c.in_ok-best.ensures {u = tt}) in
-    let h = head_small c.args.kind c.args.earlier.now c.args.code.now c.args.layout.now c.requires.ready c.in-Some.best.items whole c.loop-pc.pc c.loop-pc-test.true c.loop-pc.bases.items c.loop-pc.invariant.0 c.index-in-loop-pc.result.now _ c.index-in-loop-pc.ensures in
+    let h = head_small c.args.kind c.args.earlier.now c.args.code.now c.args.layout.now c.requires.ready c.in-Some.best.items whole c.loop-pc.pc c.loop-pc-test.true c.loop-pc.bases.items c.loop-pc.invariant.0 c.index.result.now _ c.index.ensures in
     rw c.as_slice.ensures.value h
 
 pub returns-then-full-most : goal.returns-then-full-most
 returns-then-full-most g c =
     let most_is : c.limit_of.result - c.own_of-own.result ≡ limit_of c.args.kind - own_of c.args.kind = ap (λ x. x - c.own_of-own.result) c.limit_of.ensures ∙ ap (λ x. limit_of c.args.kind - x) c.own_of-own.ensures in
     let whole : IsPartial (skeleton c.args.earlier.now c.args.code.now) (flows_in c.args.kind c.args.earlier.now c.args.code.now c.args.layout.now) (length c.args.code.now) c.in-Some.best.items = rw c.in-Some.is at (c.in_ok-best.ensures {u = tt}) in
-    let name : c.index.result.now ≡ names_in c.args.layout.now c.loop-pc.pc = c.index.ensures ∙ any_default c.args.layout.now.names.items c.loop-pc.pc _ [] (omega (arith, c.requires.ready.names_long)) in
-    let depth : c.depth_of-depth.result ≡ depth_of c.args.kind (names_in c.args.layout.now c.loop-pc.pc) = c.depth_of-depth.ensures.value ∙ ap (depth_of c.args.kind) name in
-    let base : c.base_at.result ≡ base_of c.loop-pc.bases.items c.index-in-loop-pc.result.now = c.base_at.ensures ∙ ap (λ xs. base_of xs c.index-in-loop-pc.result.now) c.as_slice.ensures.value in
+    let depth : c.depth_of-depth.result ≡ depth_of c.args.kind (names_in c.args.layout.now c.loop-pc.pc) = c.depth_of-depth.ensures.value ∙ ap (depth_of c.args.kind) c.names_at.ensures in
+    let base : c.base_at.result ≡ base_of c.loop-pc.bases.items c.index.result.now = c.base_at.ensures ∙ ap (λ xs. base_of xs c.index.result.now) c.as_slice.ensures.value in
     let row : c.sum_at.result ≡ read c.in-Some.best.items c.loop-pc.pc (depth_of c.args.kind (names_in c.args.layout.now c.loop-pc.pc)) = c.sum_at.ensures ∙ ap (λ rows. read rows c.loop-pc.pc c.depth_of-depth.result) c.as_slice-in-loop-pc.ensures.value ∙ ap (λ d. read c.in-Some.best.items c.loop-pc.pc d) depth in
-    let full_at = full_is c.args.kind c.args.earlier.now c.args.code.now c.args.layout.now c.requires.ready c.in-Some.best.items whole c.loop-pc.pc c.loop-pc-test.true c.loop-pc.bases.items c.loop-pc.invariant.0 c.index-in-loop-pc.result.now _ c.index-in-loop-pc.ensures in
+    let full_at = full_is c.args.kind c.args.earlier.now c.args.code.now c.args.layout.now c.requires.ready c.in-Some.best.items whole c.loop-pc.pc c.loop-pc-test.true c.loop-pc.bases.items c.loop-pc.invariant.0 c.index.result.now _ c.index.ensures in
     exceeds c.args.kind c.args.earlier.now c.args.code.now c.args.layout.now c.requires.ready _ most_is (over c.args.kind c.args.earlier.now c.args.code.now c.args.layout.now c.requires.ready c.in-Some.best.items whole c.loop-pc.pc _ c.loop-pc-test.true (omega arith))
 
 pub returns : goal.returns
@@ -53,11 +52,10 @@ returns g c =
 pub loop-pc-preserved : goal.loop-pc-preserved
 loop-pc-preserved g c =
     let whole : IsPartial (skeleton c.args.earlier.now c.args.code.now) (flows_in c.args.kind c.args.earlier.now c.args.code.now c.args.layout.now) (length c.args.code.now) c.in-Some.best.items = rw c.in-Some.is at (c.in_ok-best.ensures {u = tt}) in
-    let name : c.index.result.now ≡ names_in c.args.layout.now c.loop-pc.pc = c.index.ensures ∙ any_default c.args.layout.now.names.items c.loop-pc.pc _ [] (omega (arith, c.requires.ready.names_long)) in
-    let depth : c.depth_of-depth.result ≡ depth_of c.args.kind (names_in c.args.layout.now c.loop-pc.pc) = c.depth_of-depth.ensures.value ∙ ap (depth_of c.args.kind) name in
-    let base : c.base_at.result ≡ base_of c.loop-pc.bases.items c.index-in-loop-pc.result.now = c.base_at.ensures ∙ ap (λ xs. base_of xs c.index-in-loop-pc.result.now) c.as_slice.ensures.value in
+    let depth : c.depth_of-depth.result ≡ depth_of c.args.kind (names_in c.args.layout.now c.loop-pc.pc) = c.depth_of-depth.ensures.value ∙ ap (depth_of c.args.kind) c.names_at.ensures in
+    let base : c.base_at.result ≡ base_of c.loop-pc.bases.items c.index.result.now = c.base_at.ensures ∙ ap (λ xs. base_of xs c.index.result.now) c.as_slice.ensures.value in
     let row : c.sum_at.result ≡ read c.in-Some.best.items c.loop-pc.pc (depth_of c.args.kind (names_in c.args.layout.now c.loop-pc.pc)) = c.sum_at.ensures ∙ ap (λ rows. read rows c.loop-pc.pc c.depth_of-depth.result) c.as_slice-in-loop-pc.ensures.value ∙ ap (λ d. read c.in-Some.best.items c.loop-pc.pc d) depth in
-    let full_at = full_is c.args.kind c.args.earlier.now c.args.code.now c.args.layout.now c.requires.ready c.in-Some.best.items whole c.loop-pc.pc c.loop-pc-test.true c.loop-pc.bases.items c.loop-pc.invariant.0 c.index-in-loop-pc.result.now _ c.index-in-loop-pc.ensures in
+    let full_at = full_is c.args.kind c.args.earlier.now c.args.code.now c.args.layout.now c.requires.ready c.in-Some.best.items whole c.loop-pc.pc c.loop-pc-test.true c.loop-pc.bases.items c.loop-pc.invariant.0 c.index.result.now _ c.index.ensures in
     let instr : get_or c.args.code.now c.loop-pc.pc (Push (pos 0)) ≡ instr_at c.args.code.now c.loop-pc.pc = any_default c.args.code.now c.loop-pc.pc _ Ret c.loop-pc-test.true in
     let v : c.base_at.result + c.sum_at.result ≡ sum_at c.args.kind c.args.earlier.now c.args.code.now c.args.layout.now c.in-Some.best.items c.loop-pc.pc = omega arith in
     let low : c.base_at.result + c.sum_at.result < 4294967296 = omega (arith, c.if-full-most.false, c.limit_of.type_inv) in
@@ -76,15 +74,14 @@ loop-pc-preserved g c =
 
 pub overflow_add-full : goal.overflow_add-full
 overflow_add-full g c =
-    let base : c.base_at.result ≡ base_of c.loop-pc.bases.items c.index-in-loop-pc.result.now = c.base_at.ensures ∙ ap (λ xs. base_of xs c.index-in-loop-pc.result.now) c.as_slice.ensures.value in
-    let low = base_small c.loop-pc.bases.items c.index-in-loop-pc.result.now c.loop-pc.invariant.0.small in
+    let base : c.base_at.result ≡ base_of c.loop-pc.bases.items c.index.result.now = c.base_at.ensures ∙ ap (λ xs. base_of xs c.index.result.now) c.as_slice.ensures.value in
+    let low = base_small c.loop-pc.bases.items c.index.result.now c.loop-pc.invariant.0.small in
     omega (arith, c.sum_at.type_inv)
 
 pub turn_end-end-requires : goal.turn_end-end-requires
 turn_end-end-requires g c =
     let whole : IsPartial (skeleton c.args.earlier.now c.args.code.now) (flows_in c.args.kind c.args.earlier.now c.args.code.now c.args.layout.now) (length c.args.code.now) c.in-Some.best.items = rw c.in-Some.is at (c.in_ok-best.ensures {u = tt}) in
-    let name : c.index.result.now ≡ names_in c.args.layout.now c.loop-pc.pc = c.index.ensures ∙ any_default c.args.layout.now.names.items c.loop-pc.pc _ [] (omega (arith, c.requires.ready.names_long)) in
-    let depth : c.depth_of-depth.result ≡ depth_of c.args.kind (names_in c.args.layout.now c.loop-pc.pc) = c.depth_of-depth.ensures.value ∙ ap (depth_of c.args.kind) name in
+    let depth : c.depth_of-depth.result ≡ depth_of c.args.kind (names_in c.args.layout.now c.loop-pc.pc) = c.depth_of-depth.ensures.value ∙ ap (depth_of c.args.kind) c.names_at.ensures in
     let fits = c.requires.fits c.loop-pc.pc in (
       omega (arith, c.requires.small),
       (c.loop-pc-test.true, (omega (arith, c.requires.ready.mates_long), (λ n t. (let lp = c.requires.ready.good.loop c.loop-pc.pc n (ap (shape_of c.loop-pc.pc) t) in omega (arith, lp.2, c.requires.ready.mates c.loop-pc.pc n t, ap length c.as_slice-in-loop-pc-2.ensures.value, whole.long)), omega arith))),
@@ -93,7 +90,6 @@ turn_end-end-requires g c =
 pub sum_at-requires : goal.sum_at-requires
 sum_at-requires g c =
     let whole : IsPartial (skeleton c.args.earlier.now c.args.code.now) (flows_in c.args.kind c.args.earlier.now c.args.code.now c.args.layout.now) (length c.args.code.now) c.in-Some.best.items = rw c.in-Some.is at (c.in_ok-best.ensures {u = tt}) in
-    let name : c.index.result.now ≡ names_in c.args.layout.now c.loop-pc.pc = c.index.ensures ∙ any_default c.args.layout.now.names.items c.loop-pc.pc _ [] (omega (arith, c.requires.ready.names_long)) in
-    let depth : c.depth_of-depth.result ≡ depth_of c.args.kind (names_in c.args.layout.now c.loop-pc.pc) = c.depth_of-depth.ensures.value ∙ ap (depth_of c.args.kind) name in
+    let depth : c.depth_of-depth.result ≡ depth_of c.args.kind (names_in c.args.layout.now c.loop-pc.pc) = c.depth_of-depth.ensures.value ∙ ap (depth_of c.args.kind) c.names_at.ensures in
     let fits = c.requires.fits c.loop-pc.pc in
     (omega (arith, c.requires.small), (omega (arith, ap length c.as_slice-in-loop-pc.ensures.value, whole.long, c.loop-pc-test.true), omega arith))
