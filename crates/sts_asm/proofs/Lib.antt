@@ -1,5 +1,7 @@
 pub mod EachLemmas
 pub mod MarkLemmas
 pub mod NameLemmas
+pub mod NamelessLemmas
+pub mod PlainLemmas
 pub mod TableLemmas
 pub mod TextLemmas

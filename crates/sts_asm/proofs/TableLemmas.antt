@@ -475,6 +475,14 @@ other_all = (
   ),
 )
 
+-- the word of an instruction without operands is none of the others
+no_other : (word : List ℕ) (m : Mnemonic) → looked_up plain_words word ≡ Some m → looked_up other_words word ≡ None
+no_other word m e = looked_ok (λ w n. looked_up other_words w ≡ None) plain_words word m (refl, (refl, (refl, (refl, (refl, (refl, (refl, (refl, (refl, (refl, (refl, (refl, (refl, tt))))))))))))) e
+
+-- so the order in which they are looked for doesn't matter
+pub plain_first : (word : List ℕ) (m : Mnemonic) → looked_up plain_words word ≡ Some m → mnemonic_of word ≡ Some m
+plain_first word m e = rw (no_other word m e, e) refl
+
 or_ok : {A : Type 0} (a b : Option A) (x : A) → option_or a b ≡ Some x → (a ≡ Some x) ⊎ (b ≡ Some x)
 or_ok None b x e = inr e
 or_ok (Some y) b x e = inl e

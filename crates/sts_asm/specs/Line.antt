@@ -1,5 +1,5 @@
 -- The instructions by their words: the instruction table as it is read (this project's own).
-use Rattle.std.specs.Prelude.{ℕ, ◌^◌, ◌-◌, List, [], ◌∷◌, Option, Some, None, Result, Err, codes}
+use Rattle.std.specs.Prelude.{ℕ, ◌^◌, ◌-◌, Bool, true, false, List, [], ◌∷◌, Option, Some, None, Result, Err, codes}
 use Rattle.std.specs.Option.{option_or}
 use Rattle.sts_code.specs.declared.instr.Instr.{Instr}
 use Rattle.sts_code.specs.declared.instr.Instr.TheVariants as i
@@ -125,3 +125,13 @@ known names (Some m) words = operated names m words
 abbrev pub instr_of : Option Names → List (List ℕ) → Result Instr AsmKind
 instr_of names [] = Err UnknownWord
 instr_of names (word ∷ rest) = known names (mnemonic_of word) rest
+
+-- does an instruction name a label or a function?
+abbrev pub has_names : Instr → Bool
+has_names (i.Div to) = true
+has_names (i.Jmp to) = true
+has_names (i.Jz to) = true
+has_names (i.Fork s f h) = true
+has_names (i.Join s failed timeout interrupted) = true
+has_names (i.Case h success failed) = true
+has_names instr = false

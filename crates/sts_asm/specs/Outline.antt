@@ -1,5 +1,5 @@
 -- A text line by line: its functions with their labels and their lines of instructions, while no name is looked up (this project's own).
-use Rattle.std.specs.Prelude.{ℕ, ◌+◌, ◌++◌, ◌==◌, ◌-◌, Bool, true, false, ◌&&◌, ◌||◌, List, [], ◌∷◌, length, take, replicate, slice_index, slice_set, nat_le, Option, Some, None, is_some, Result, Ok, Err, if◌then◌else◌, codes}
+use Rattle.std.specs.Prelude.{ℕ, ◌+◌, ◌++◌, ◌==◌, ◌-◌, Bool, true, false, not, ◌&&◌, ◌||◌, List, [], ◌∷◌, length, take, replicate, slice_index, slice_set, nat_le, Option, Some, None, is_some, Result, Ok, Err, if◌then◌else◌, codes}
 use Rattle.std.specs.List.{list_all, before_first}
 use Rattle.std.specs.Str.{bytes_eq}
 use Rattle.sts_code.specs.Name.{is_name}
@@ -138,6 +138,10 @@ is_allowed b = b == 9 || (b == 13 || (nat_le 32 b && nat_le b 126))
 -- does it begin a comment?
 abbrev pub is_semicolon : ℕ → Bool
 is_semicolon b = b == 59
+
+-- allowed, and no beginning of a comment?
+abbrev pub is_plain : ℕ → Bool
+is_plain b = is_allowed b && not (is_semicolon b)
 
 -- what the line of this number adds; its bytes are judged first, those of a comment too
 abbrev pub line_read : ℕ → Outline → List ℕ → Result Outline AsmKind

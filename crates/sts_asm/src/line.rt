@@ -1,13 +1,14 @@
 //! Instructions from their words.
 
-ghost use Rattle.std.specs.Prelude.{◌≡◌, ◌∷◌};
+ghost use Rattle.std.specs.Prelude.{◌≡◌, ◌∷◌, None};
 ghost use Rattle.std.specs.Option.{option_copied};
-ghost use Rattle.sts_asm.specs.Line.{open_at, fork_at, join_at, case_at, tally_at, operated, instr_of};
+ghost use Rattle.sts_asm.specs.Line.{open_at, fork_at, join_at, case_at, tally_at, operated, plain_words, instr_of};
+ghost use Rattle.sts_asm.specs.Operand.{looked_up};
 ghost use Rattle.sts_asm.specs.declared.mnemonic.Mnemonic.TheVariants.{WithNumber, WithSlot, WithTarget, Push, Times};
 
 use crate::fault::AsmKind;
 use crate::marks::Names;
-use crate::mnemonic::{Mnemonic, Numbered, Slotted, Targeted, mnemonic_of};
+use crate::mnemonic::{Mnemonic, Numbered, Slotted, Targeted, mnemonic_of, plain_word};
 use crate::operand::{
     byte_at, finished, function_at, handle_at, joiner_at, kind_at, maybe_target_at, number_at,
     slot_at, target_at, timed_at, value_at,
@@ -158,7 +159,25 @@ fn operated(
     }
 }
 
+/// Kept out of line, so that an instruction without operands passes it by.
+#[inline(never)]
+fn with_operands(
+    word: &[u8],
+    words: &mut Words<'_>,
+    names: Option<&Names<'_, '_>>,
+) -> Result<Instr, AsmKind>
+    requires { looked_up plain_words word.now ≡ None }
+    ensures { result ≡ instr_of (option_copied names.entry) (word.now ∷ words.old) }
+{
+    match mnemonic_of(word) {
+        None => Err(AsmKind::UnknownWord),
+        Some(mnemonic) => operated(words, names, mnemonic),
+    }
+}
+
 /// The instruction that a first word and the words after it spell, or the first place that is wrong.
+#[inline]
+#[tactic(auto, using(crate::proofs::TableLemmas::plain_first))]
 pub fn instr_of(
     word: &[u8],
     words: &mut Words<'_>,
@@ -166,8 +185,8 @@ pub fn instr_of(
 ) -> Result<Instr, AsmKind>
     ensures { result ≡ instr_of (option_copied names.entry) (word.now ∷ words.old) }
 {
-    match mnemonic_of(word) {
-        None => Err(AsmKind::UnknownWord),
-        Some(mnemonic) => operated(words, names, mnemonic),
+    match plain_word(word) {
+        Some(instr) => finished(words, instr),
+        None => with_operands(word, words, names),
     }
 }

@@ -1,8 +1,9 @@
 //! The first words of instructions.
 
-ghost use Rattle.std.specs.Prelude.{◌≡◌};
+ghost use Rattle.std.specs.Prelude.{◌≡◌, None, option_map};
 ghost use Rattle.sts_asm.specs.Line.{plain_words, numbered_words, slotted_words, other_words, mnemonic_of, with_number, with_slot, with_target};
 ghost use Rattle.sts_asm.specs.Operand.{looked_up};
+ghost use Rattle.sts_asm.specs.declared.mnemonic.Mnemonic.TheVariants.{Plain};
 
 use sts_code::instr::Instr;
 
@@ -95,35 +96,36 @@ pub enum Mnemonic {
     Tally,
 }
 
-fn plain_word(word: &[u8]) -> Option<Mnemonic>
-    ensures { result ≡ looked_up plain_words word.now }
+/// The instruction without operands whose word this is.
+pub fn plain_word(word: &[u8]) -> Option<Instr>
+    ensures { option_map (λ instr. Plain instr) result ≡ looked_up plain_words word.now }
 {
     if word == b"pop".as_slice() {
-        Some(Mnemonic::Plain(Instr::Pop))
+        Some(Instr::Pop)
     } else if word == b"dup".as_slice() {
-        Some(Mnemonic::Plain(Instr::Dup))
+        Some(Instr::Dup)
     } else if word == b"swap".as_slice() {
-        Some(Mnemonic::Plain(Instr::Swap))
+        Some(Instr::Swap)
     } else if word == b"add".as_slice() {
-        Some(Mnemonic::Plain(Instr::Add))
+        Some(Instr::Add)
     } else if word == b"sub".as_slice() {
-        Some(Mnemonic::Plain(Instr::Sub))
+        Some(Instr::Sub)
     } else if word == b"mul".as_slice() {
-        Some(Mnemonic::Plain(Instr::Mul))
+        Some(Instr::Mul)
     } else if word == b"lt".as_slice() {
-        Some(Mnemonic::Plain(Instr::Lt))
+        Some(Instr::Lt)
     } else if word == b"eq".as_slice() {
-        Some(Mnemonic::Plain(Instr::Eq))
+        Some(Instr::Eq)
     } else if word == b"next".as_slice() {
-        Some(Mnemonic::Plain(Instr::Next))
+        Some(Instr::Next)
     } else if word == b"unbind".as_slice() {
-        Some(Mnemonic::Plain(Instr::Unbind))
+        Some(Instr::Unbind)
     } else if word == b"interrupted".as_slice() {
-        Some(Mnemonic::Plain(Instr::Interrupted))
+        Some(Instr::Interrupted)
     } else if word == b"ret".as_slice() {
-        Some(Mnemonic::Plain(Instr::Ret))
+        Some(Instr::Ret)
     } else if word == b"fail".as_slice() {
-        Some(Mnemonic::Plain(Instr::Fail))
+        Some(Instr::Fail)
     } else {
         None
     }
@@ -197,14 +199,12 @@ fn other_word(word: &[u8]) -> Option<Mnemonic>
     }
 }
 
-/// What this first word says, if it is an instruction's.
+/// What this first word says, if it is an instruction's; one without operands was looked for before.
 pub fn mnemonic_of(word: &[u8]) -> Option<Mnemonic>
+    requires { looked_up plain_words word.now ≡ None }
     ensures { result ≡ mnemonic_of word.now }
 {
     if let Some(found) = other_word(word) {
-        return Some(found);
-    }
-    if let Some(found) = plain_word(word) {
         return Some(found);
     }
     if let Some(found) = numbered_word(word) {

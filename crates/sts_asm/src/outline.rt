@@ -1,12 +1,13 @@
 //! The functions of a text with their labels and lines, while no name is looked up.
 
-ghost use Rattle.std.specs.Prelude.{◌≡◌, ◌∷◌, ◌+◌, ◌<◌, ◌≤◌, ◌^◌, [], length, option_map, is_some, OnOk, Ok};
+ghost use Rattle.std.specs.Prelude.{◌≡◌, ◌∷◌, ◌+◌, ◌<◌, ◌≤◌, ◌^◌, [], length, option_map, is_some, None, OnOk, Ok};
 ghost use Rattle.std.specs.List.{list_all, position, before_first};
 ghost use Rattle.sts_text.specs.Words.{words as words_in};
 ghost use Rattle.sts_asm.specs.Fault.{Steps};
+ghost use Rattle.sts_asm.specs.Line.{instr_of};
 ghost use Rattle.sts_asm.specs.Operand.{finished};
 ghost use Rattle.sts_asm.specs.Outline as def;
-ghost use Rattle.sts_asm.specs.Outline.{no_needs, profile_at, with_keys, keys_at, needs_at, label_of, is_allowed, is_semicolon, size_of, instructions};
+ghost use Rattle.sts_asm.specs.Outline.{no_needs, profile_at, with_keys, keys_at, needs_at, label_of, is_allowed, is_semicolon, is_plain, size_of, instructions};
 
 use crate::fault::AsmKind;
 use crate::line::instr_of;
@@ -14,24 +15,30 @@ use crate::marks::Marks;
 use crate::operand::{byte_at, name_at, name_text};
 use std::alloc::Global;
 use std::marker::Model;
+use sts_code::instr::Instr;
 use sts_code::naming::is_name;
 use sts_code::profile::Profile;
 use sts_text::{Words, number_up_to};
 
-/// A line of an instruction, without its comment.
+/// A line of an instruction, without its comment, and what it says while no name is known.
 #[derive(Drop)]
 pub struct Sentence<'a> {
     pub(crate) line: u32,
     pub(crate) text: &'a [u8],
+    pub(crate) unnamed: Instr,
 }
 
 impl<'a> Model for Sentence<'a> {
+    ghost use Rattle.std.specs.Prelude.{◌≡◌, None, Ok};
     ghost use Rattle.sts_text.specs.Words.{words};
+    ghost use Rattle.sts_asm.specs.Line.{instr_of};
     ghost use Rattle.sts_asm.specs.Outline.{Sentence};
 
     ghost Value = { Sentence };
 
     ghost view = { λ s. record { line = s.line; words = words s.text.now } };
+
+    ghost invariant = { λ s. instr_of None (words s.text.now) ≡ Ok s.unnamed };
 }
 
 /// A function as far as it was read.
@@ -143,6 +150,7 @@ fn label_of(word: &[u8]) -> Option<&[u8]>
 }
 
 impl<'a> Draft<'a> {
+    #[inline(never)]
     fn label(&mut self, name: &'a [u8]) -> Result<(), AsmKind>
         requires { length self.old.code < 2 ^ 32 }
         ensures steps { Steps result self.new (def.labelled self.old name.now) }
@@ -156,14 +164,20 @@ impl<'a> Draft<'a> {
         Ok(())
     }
 
-    fn sentence(&mut self, at: u32, text: &'a [u8]) -> Result<(), AsmKind>
+    fn sentence(&mut self, at: u32, text: &'a [u8], unnamed: Instr) -> Result<(), AsmKind>
+        requires { instr_of None (words_in text.now) ≡ Ok unnamed }
         ensures { Steps result self.new (Ok (def.with_sentence at self.old (words_in text.now))) }
     {
-        self.code.push(Sentence { line: at, text })?;
+        self.code.push(Sentence {
+            line: at,
+            text,
+            unnamed,
+        })?;
         Ok(())
     }
 
     /// A line of a function: a label, or an instruction. `word` and `rest` are the words of `text`.
+    #[inline]
     fn inner(
         &mut self,
         at: u32,
@@ -180,8 +194,8 @@ impl<'a> Draft<'a> {
             no_more(rest)?;
             return self.label(name);
         }
-        instr_of(word, rest, None)?;
-        self.sentence(at, text)
+        let unnamed = instr_of(word, rest, None)?;
+        self.sentence(at, text, unnamed)
     }
 }
 
@@ -208,6 +222,13 @@ fn all_allowed(line: &[u8]) -> bool
 {
     line.iter()
         .all(|b| matches!(*b, b'\t' | b'\r' | b' '..=b'~'))
+}
+
+/// Is each byte allowed, and none the beginning of a comment? Most lines are so, and are judged in one pass.
+fn all_plain(line: &[u8]) -> bool
+    ensures { result ≡ list_all is_plain line.now }
+{
+    line.iter().all(|b| matches!(*b, b'<'..=b'~' | b' '..=b':' | b'\t' | b'\r'))
 }
 
 fn semicolon_in(line: &[u8]) -> Option<usize>
@@ -246,6 +267,7 @@ impl<'a> Outline<'a> {
         self.current.is_some()
     }
 
+    #[inline(never)]
     fn profile(&mut self, rest: &mut Words<'a>) -> Result<(), AsmKind>
         ensures steps { Steps result self.new (def.profiled self.old rest.old) }
         ensures same { OnOk result (size_of self.new ≡ size_of self.old) }
@@ -254,6 +276,7 @@ impl<'a> Outline<'a> {
         Ok(())
     }
 
+    #[inline(never)]
     fn begin(&mut self, rest: &mut Words<'a>) -> Result<(), AsmKind>
         requires { size_of self.old < 2 ^ 32 }
         ensures steps { Steps result self.new (def.begun self.old rest.old) }
@@ -269,6 +292,7 @@ impl<'a> Outline<'a> {
         Ok(())
     }
 
+    #[inline(never)]
     fn end(&mut self, rest: &mut Words<'a>) -> Result<(), AsmKind>
         ensures steps { Steps result self.new (def.ended self.old self.old.current rest.old) }
         ensures grows { OnOk result (size_of self.new ≤ size_of self.old + 1) }
@@ -281,6 +305,7 @@ impl<'a> Outline<'a> {
         Ok(())
     }
 
+    #[inline]
     fn inside(
         &mut self,
         at: u32,
@@ -320,11 +345,15 @@ impl<'a> Outline<'a> {
     }
 
     /// Reads the line of this number.
+    #[tactic(auto, using(crate::proofs::PlainLemmas::plain_lines))]
     pub fn line(&mut self, at: u32, line: &'a [u8]) -> Result<(), AsmKind>
         requires { size_of self.old < 2 ^ 32 }
         ensures steps { Steps result self.new (def.line_read at self.old line.now) }
         ensures grows { OnOk result (size_of self.new ≤ size_of self.old + 1) }
     {
+        if all_plain(line) {
+            return self.say(at, line);
+        }
         if !all_allowed(line) {
             return Err(AsmKind::NotAscii);
         }

@@ -3,7 +3,7 @@
 ghost use Rattle.std.specs.Prelude.{◌≡◌, Some};
 ghost use Rattle.sts_text.specs.Words.{words as words_in};
 ghost use Rattle.sts_asm.specs.Fault.{Judges};
-ghost use Rattle.sts_asm.specs.Line.{instr_of};
+ghost use Rattle.sts_asm.specs.Line.{has_names, instr_of};
 ghost use Rattle.sts_asm.specs.Text.{each, instr_at, routine_of, program_of};
 
 use crate::fault::{AsmError, AsmKind};
@@ -25,9 +25,28 @@ fn instr_in(text: &[u8], names: &Names<'_, '_>) -> Result<Instr, AsmKind>
     instr_of(word, &mut rest, Some(names))
 }
 
+/// Does it name a label or a function?
+fn has_names(instr: &Instr) -> bool
+    ensures { result ≡ has_names instr.now }
+{
+    matches!(
+        *instr,
+        Instr::Div(_)
+            | Instr::Jmp(_)
+            | Instr::Jz(_)
+            | Instr::Fork { .. }
+            | Instr::Join { .. }
+            | Instr::Case { .. }
+    )
+}
+
+/// The instruction of a line. One that names nothing is what was read before the names were known.
 fn instr_at(names: &Names<'_, '_>, sentence: &Sentence<'_>) -> Result<Instr, AsmError>
     ensures { Judges (λ i. i) result (instr_at names.now sentence.now) }
 {
+    if !has_names(&sentence.unnamed) {
+        return Ok(sentence.unnamed);
+    }
     match instr_in(sentence.text, names) {
         Ok(instr) => Ok(instr),
         Err(AsmKind::Memory) => Err(AsmError {

@@ -1,5 +1,5 @@
 -- The four kinds of budgets: what the pass sums is what control paths count and hold.
-use Rattle.std.proofs.Common.{◌≡◌, ℕ, suc, ◌+◌, ◌<◌, ◌≤◌, List, [], length, refl, sym, ap, ◌∙◌, subst, arith}
+use Rattle.std.proofs.Common.{◌≡◌, ℕ, suc, ◌+◌, ◌<◌, ◌≤◌, List, [], ◌∷◌, length, refl, sym, ap, ◌∙◌, subst, arith}
 use Rattle.sts_code.specs.declared.instr.Instr.{Instr}
 use Rattle.sts_code.specs.declared.instr.Instr.TheVariants.{Push, Pop, Dup, Swap, Load, Store, Add, Sub, Mul, Lt, Eq, Div, Jmp, Jz, Times, Next, Open, Fork, Join, Close, Cancelled, Case, Get, Except, Tally, Total, Forget, Bind, Unbind, Read, Bound, OrElse, Interrupted, Ret, Fail}
 use Rattle.sts_model.specs.Around.{instr_at}
@@ -262,3 +262,26 @@ module _ (earlier : List Budgets) (code : List Instr) (round : ℕ → List ℕ)
   top_is_most Tasks best table r most pc within is = one_more (tasks_measure earlier) r (points_most (tasks_measure earlier) best table r most pc within is)
   top_is_most Scopes best table r most pc within is = let z : r ≡ 0 + r = omega arith in subst (IsPeak c (scopes_sum earlier)) z (points_most (scopes_measure earlier) best table r most pc within is)
   top_is_most Binds best table r most pc within is = let z : r ≡ 0 + r = omega arith in subst (IsPeak c (binds_sum earlier)) z (points_most (binds_measure earlier) best table r most pc within is)
+
+  -- ---- where nothing ever opens
+
+  nothing_open : (k : Measure) → ((pc : ℕ) → length (names_at pc) ≤ 0) → IsPeak c (entries_sum k) 0
+  nothing_open k none_open = ((0, ([], (0, ([], (start, refl))))), no_more)
+    where
+      nothing : (es : List OpenEntry) → length es ≤ 0 → entries_sum k es ≡ 0
+      nothing [] le = refl
+      nothing (e ∷ es) le = absurd (omega arith)
+
+      no_more : (other : ℕ) → PointHolds c (entries_sum k) other → other ≤ 0
+      no_more other (at, (loops, (before, (es, h)))) =
+          let n = comes_names at loops before es h.0 in
+          let short = none_open at in
+          let z = nothing es (omega (arith, long es, ap length n)) in
+          omega (arith, h.1)
+
+  -- only the task itself counts
+  pub own_is_most : (k : Kind) → (k ≡ Steps → ⊥) → ((pc : ℕ) → length (names_at pc) ≤ 0) → IsMost k earlier code (own_of k)
+  own_is_most Steps no_steps none_open = absurd (no_steps refl)
+  own_is_most Tasks no_steps none_open = one_more (tasks_measure earlier) 0 (nothing_open (tasks_measure earlier) none_open)
+  own_is_most Scopes no_steps none_open = nothing_open (scopes_measure earlier) none_open
+  own_is_most Binds no_steps none_open = nothing_open (binds_measure earlier) none_open

@@ -195,28 +195,29 @@ module _ (k : Kind) (earlier : List Budgets) (code : List Instr) (l : Layout) (r
   capped : (v x most : ℕ) → v ≡ min x 18446744073709551615 → v ≤ most → most < 4294967296 → v ≡ x
   capped v x most e le small = omega arith
 
-  pub sent_spread : (pc most : ℕ) (values : List ℕ) (before after : List (List ℕ)) → is_quiet (instr_at code pc) ≡ false → most < 4294967296 → ((d : ℕ) → d < 17 → get_or values d 0 ≡ min (handed_value k earlier code l (read before) pc d) 18446744073709551615)
+  pub sent_spread : (n pc most : ℕ) (values : List ℕ) (before after : List (List ℕ)) → ((q : ℕ) → depth_of k (names_in l q) < n) → is_quiet (instr_at code pc) ≡ false → most < 4294967296 → ((d : ℕ) → d < n → get_or values d 0 ≡ min (handed_value k earlier code l (read before) pc d) 18446744073709551615)
       → IsSent values (λ q. depth_of k (names_in l q)) most (named (instr_at code pc) ++ next_place pc (instr_at code pc)) before after → IsSpread c f (head_in l) pc before after
-  sent_spread pc most values before after quiet small is sent = record {
+  sent_spread n pc most values before after fits quiet small is sent = record {
     long = sent.long;
     raised = λ q d m lt low w. (
-        let n = new_is (read before) pc (instr_at code pc) refl (sort any_program code pc (instr_at code pc)) quiet q d m w in
-        let few = sent.few q n.0 in
-        let le = sent.small q d n.0 low in
+        let new = new_is (read before) pc (instr_at code pc) refl (sort any_program code pc (instr_at code pc)) quiet q d m w in
+        let few = fits q in
+        let le = sent.small q d new.0 low in
         let v = capped (get_or values d 0) (handed_value k earlier code l (read before) pc d) most (is d (omega arith)) le small in
-        sent.raised q d n.0 low ∙ ap (max (read before q d)) (v ∙ n.1));
+        sent.raised q d new.0 low ∙ ap (max (read before q d)) (v ∙ new.1));
     same = λ q d lt low out. elim (among_cases (named (instr_at code pc) ++ next_place pc (instr_at code pc)) q) [
       | inl a ↦ absurd (out _ (new_of (read before) pc (instr_at code pc) refl (sort any_program code pc (instr_at code pc)) quiet q d a))
       | inr no_way ↦ sent.same q d no_way
     ];
   }
 
-  pub stopped_over : (pc most : ℕ) (values : List ℕ) (before : List (List ℕ)) → pc < length code → is_quiet (instr_at code pc) ≡ false → ((d : ℕ) → d < 17 → get_or values d 0 ≡ min (handed_value k earlier code l (read before) pc d) 18446744073709551615)
+  pub stopped_over : (n pc most : ℕ) (values : List ℕ) (before : List (List ℕ)) → ((q : ℕ) → depth_of k (names_in l q) < n) → pc < length code → is_quiet (instr_at code pc) ≡ false → ((d : ℕ) → d < n → get_or values d 0 ≡ min (handed_value k earlier code l (read before) pc d) 18446744073709551615)
       → IsStopped values (λ q. depth_of k (names_in l q)) most (named (instr_at code pc) ++ next_place pc (instr_at code pc)) → HandsTooMuch c f (head_in l) pc (read before) most
-  stopped_over pc most values before within quiet is (q, (d, h)) =
-      let v = is d (omega (arith, h.2)) in
+  stopped_over n pc most values before fits within quiet is (q, (d, h)) =
+      let few = fits q in
+      let v = is d (omega (arith, h.1)) in
       let w = new_of (read before) pc (instr_at code pc) refl (sort any_program code pc (instr_at code pc)) quiet q d h.0 in
-      (q, (d, (_, (inside pc (c.shape pc) refl q d _ (read before) w, h.1, w, omega (arith, v, h.3)))))
+      (q, (d, (_, (inside pc (c.shape pc) refl q d _ (read before) w, h.1, w, omega (arith, v, h.2)))))
     where
       inside : (pc : ℕ) (s : Shape) → c.shape pc ≡ s → (q d m : ℕ) (best : ℕ → ℕ → ℕ) → New c f (head_in l) best pc s q d m → q < c.size
       inside pc (GoesTo places) e q d m best w = (ready.good.forward pc q places e w.0).1
@@ -242,9 +243,9 @@ module _ (k : Kind) (earlier : List Budgets) (code : List Instr) (l : Layout) (r
 
   -- ---- the pass
 
-  pub partial_none : (rows : List (List ℕ)) → rows ≡ replicate (length code) (replicate 17 0) → IsPartial c f 0 rows
-  partial_none rows e = record {
-    long = ap length e ∙ length-replicate (length code) (replicate 17 0);
+  pub partial_none : (n : ℕ) (rows : List (List ℕ)) → rows ≡ replicate (length code) (replicate n 0) → IsPartial c f 0 rows
+  partial_none n rows e = record {
+    long = ap length e ∙ length-replicate (length code) (replicate n 0);
     greatest = λ pc d lt low. ((λ m h. absurd (nothing pc d m h)), inr (zero_at pc d lt, nothing pc d));
   }
     where
@@ -258,7 +259,7 @@ module _ (k : Kind) (earlier : List Budgets) (code : List Instr) (l : Layout) (r
       zeros (suc n) (suc d) = zeros n d
 
       zero_at : (pc d : ℕ) → pc < length code → read rows pc d ≡ 0
-      zero_at pc d lt = ap (λ (xs : List (List ℕ)). get_or (get_or xs pc []) d 0) e ∙ ap (λ (x : List ℕ). get_or x d 0) (get_or-replicate (length code) pc (replicate 17 0) [] lt) ∙ zeros 17 d
+      zero_at pc d lt = ap (λ (xs : List (List ℕ)). get_or (get_or xs pc []) d 0) e ∙ ap (λ (x : List ℕ). get_or x d 0) (get_or-replicate (length code) pc (replicate n 0) [] lt) ∙ zeros n d
 
   pub partial_next : (pc : ℕ) (before after : List (List ℕ)) → IsPartial c f pc before → IsSpread c f (head_in l) pc before after → IsPartial c f (pc + 1) after
   partial_next pc before after h sp = partial_more c (around code) ready.good f fits_here (head_in l) heads_right pc before after h sp

@@ -61,11 +61,15 @@ mate_fits {k = k} {heads = heads} s (Some h) d e =
     let lt = head_fits s h same in
     omega (arith, s.laid.heads_long, s.laid.mates_long)
 
-pub places_fit : {p : Program} {f k : ℕ} {code : List Instr} {heads : List (Option ℕ)} {mates : List ℕ} {table : List Names} → Stage p f k code heads mates table → (places : List ℕ) → places ≡ named (get_or code k (Push (pos 0))) ++ next_place k (get_or code k (Push (pos 0))) → (q d : ℕ) → q < length places → get_or places q d < length (routine p f).code
-places_fit {p = p} {f = f} {k = k} s places is q d lt =
+pub among_fit : {p : Program} {f k : ℕ} {code : List Instr} {heads : List (Option ℕ)} {mates : List ℕ} {table : List Names} → Stage p f k code heads mates table → (places : List ℕ) → places ≡ named (get_or code k (Push (pos 0))) ++ next_place k (get_or code k (Push (pos 0))) → (to : ℕ) → Among places to → to < length table
+among_fit {p = p} {f = f} {k = k} s places is to a =
     let c = is_checked p f s.fine s.in_program in
-    let a = subst (λ ps. Among ps (get_or places q d)) (is ∙ ap (λ i. named i ++ next_place k i) (instr_is s)) (among_at places q d lt) in
-    (leads_inside p f s.typed c.some_code c.bounds k (get_or places q d) (inside_of s) a).1
+    let b = subst (λ ps. Among ps to) (is ∙ ap (λ i. named i ++ next_place k i) (instr_is s)) a in
+    let lt = (leads_inside p f s.typed c.some_code c.bounds k to (inside_of s) b).1 in
+    omega (arith, s.laid.names_long)
+
+pub places_fit : {p : Program} {f k : ℕ} {code : List Instr} {heads : List (Option ℕ)} {mates : List ℕ} {table : List Names} → Stage p f k code heads mates table → (places : List ℕ) → places ≡ named (get_or code k (Push (pos 0))) ++ next_place k (get_or code k (Push (pos 0))) → (q d : ℕ) → q < length places → get_or places q d < length (routine p f).code
+places_fit s places is q d lt = let inside = among_fit s places is (get_or places q d) (among_at places q d lt) in omega (arith, s.laid.names_long)
 
 pub next_place_laid : {p : Program} {f k : ℕ} {code : List Instr} {heads : List (Option ℕ)} {mates : List ℕ} {table : List Names} → Stage p f k code heads mates table → (places : List ℕ) → places ≡ named (get_or code k (Push (pos 0))) ++ next_place k (get_or code k (Push (pos 0)))
     → (head : Option ℕ) → head ≡ head_after (get_or code k (Push (pos 0))) k heads → (after before d : Names) → after ≡ names_after (get_or code k (Push (pos 0))) before → before ≡ get_or table k d

@@ -77,6 +77,11 @@ is_times_or Interrupted pc own full end bases = inr ((λ m e. (cc)), refl)
 is_times_or Ret pc own full end bases = inr ((λ m e. (cc)), refl)
 is_times_or Fail pc own full end bases = inr ((λ m e. (cc)), refl)
 
+-- the bases are small
+pub base_small : (bases : List ℕ) (o : Option ℕ) → ((i : ℕ) → get_or bases i 0 < 1125899906842624) → base_of bases o < 1125899906842624
+base_small bases None small = omega arith
+base_small bases (Some h) small = small h
+
 module _ (k : Kind) (earlier : List Budgets) (code : List Instr) (l : Layout) (ready : IsReady earlier code l) (rows : List (List ℕ)) (whole : IsPartial (skeleton earlier code) (flows_in k earlier code l) (length code) rows) where
   abbrev c : Skeleton
   c = skeleton earlier code

@@ -10,6 +10,7 @@ pub mod FourKinds
 pub mod Forward
 pub mod Laid
 pub mod Checked
+pub mod Listed
 pub mod LaidStep
 pub mod Rows
 pub mod HandOn

@@ -20,18 +20,17 @@ pub set_above : (xs : List ℕ) (i v d : ℕ) → i < d → get_or (set xs i v) 
 set_above xs i v d lt = let ne : d ≢ i = omega arith in get_or-set_other xs i d v 0 ne
 
 pub sent_none : (values : List ℕ) (low : ℕ → ℕ) (most : ℕ) (places : List ℕ) (rows : List (List ℕ)) → IsSent values low most (take 0 places) rows rows
-sent_none values low most places rows = record { long = refl; raised = λ pc d a le. absurd a; same = λ pc d out. refl; small = λ pc d a le. absurd a; few = λ pc a. absurd a }
+sent_none values low most places rows = record { long = refl; raised = λ pc d a le. absurd a; same = λ pc d out. refl; small = λ pc d a le. absurd a }
 
 -- the row of one more place is raised
-pub sent_more : (values : List ℕ) (low : ℕ → ℕ) (most : ℕ) (places : List ℕ) (i to : ℕ) (before mid : List (List ℕ)) (row : List ℕ) → i < length places → get_or places i 0 ≡ to → to < length before → low to ≤ 16 → IsSent values low most (take i places) before mid → IsRaised values (low to) most (get_or mid to []) row → IsSent values low most (take (i + 1) places) before (set mid to row)
-sent_more values low most places i to before mid row lt is within fits h r = record {
+pub sent_more : (values : List ℕ) (low : ℕ → ℕ) (most : ℕ) (places : List ℕ) (i to : ℕ) (before mid : List (List ℕ)) (row : List ℕ) → i < length places → get_or places i 0 ≡ to → to < length before → IsSent values low most (take i places) before mid → IsRaised values (low to) most (get_or mid to []) row → IsSent values low most (take (i + 1) places) before (set mid to row)
+sent_more values low most places i to before mid row lt is within h r = record {
   long = length-set mid to row ∙ h.long;
   raised = λ pc d a le. higher pc d le (among_of (take i places) (to ∷ []) pc (subst (λ ps. Among ps pc) more a)) (cases_eq pc to);
   same = λ pc d out. (
       let ne : pc ≢ to = λ e. out (subst (λ ps. Among ps pc) (sym more) (among_right (take i places) (to ∷ []) pc (inl (sym e)))) in
       other pc d ne ∙ h.same pc d (λ a. out (subst (λ ps. Among ps pc) (sym more) (among_left (take i places) (to ∷ []) pc a))));
   small = λ pc d a le. elim (among_of (take i places) (to ∷ []) pc (subst (λ ps. Among ps pc) more a)) [ inl b ↦ h.small pc d b le | inr b ↦ elim b [ inl e ↦ r.small d (subst (λ q. d ≤ low q) (sym e) le) | inr out_of ↦ absurd out_of ] ];
-  few = λ pc a. elim (among_of (take i places) (to ∷ []) pc (subst (λ ps. Among ps pc) more a)) [ inl b ↦ h.few pc b | inr b ↦ elim b [ inl e ↦ subst (λ q. low q ≤ 16) e fits | inr out_of ↦ absurd out_of ] ];
 }
   where
     more : take (i + 1) places ≡ take i places ++ to ∷ []
@@ -54,5 +53,5 @@ sent_more values low most places i to before mid row lt is within fits h r = rec
     higher pc d le (inr (inr out_of)) (inr ne) = absurd out_of
 
 -- a value over the limit at a place
-pub stopped_at : (values : List ℕ) (low : ℕ → ℕ) (most : ℕ) (places : List ℕ) (i to : ℕ) → i < length places → get_or places i 0 ≡ to → low to ≤ 16 → IsOver values (low to) most → IsStopped values low most places
-stopped_at values low most places i to lt is fits over = (to, (over.0, (subst (Among places) is (among_at places i 0 lt), over.1.0, omega (arith, over.1.0), over.1.1)))
+pub stopped_at : (values : List ℕ) (low : ℕ → ℕ) (most : ℕ) (places : List ℕ) (i to : ℕ) → i < length places → get_or places i 0 ≡ to → IsOver values (low to) most → IsStopped values low most places
+stopped_at values low most places i to lt is over = (to, (over.0, (subst (Among places) is (among_at places i 0 lt), over.1.0, over.1.1)))

@@ -1,5 +1,5 @@
 -- What is known to be open at each place of a function (this project's own).
-use Rattle.std.proofs.Common.{◌≡◌, ℕ, ◌<◌, ◌⊎◌, List, [], ◌∷◌, ◌++◌, length, get_or, Option, Some, None, unwrap_or, slice_set}
+use Rattle.std.proofs.Common.{◌≡◌, ℕ, ◌<◌, ◌≤◌, ◌⊎◌, List, [], ◌∷◌, ◌++◌, length, map, get_or, Option, Some, None, unwrap_or, slice_set}
 use Rattle.sts_code.specs.Program.{Program, routine}
 use Rattle.sts_code.specs.declared.instr.Instr.{Instr}
 use Rattle.sts_code.specs.declared.instr.Instr.TheVariants.{Times, Next}
@@ -10,7 +10,7 @@ use Rattle.sts_model.specs.Around.{instr_at, named, next_place, around}
 use Rattle.sts_model.specs.Edges.{typing}
 use Rattle.sts_model.specs.ControlPaths.{Among}
 use Rattle.sts_budget.specs.declared.layout.Layout.{Layout}
-use Rattle.sts_budget.specs.Layout.{Names}
+use Rattle.sts_budget.specs.Layout.{Names, names_after}
 use Rattle.sts_budget.specs.TypedNames.{names}
 
 -- one value is written at these places
@@ -51,6 +51,25 @@ abbrev pub mates_after : Instr → ℕ → Option ℕ → List ℕ → List ℕ
 mates_after Next pc (Some h) mates = slice_set mates h pc
 mates_after _ pc head mates = mates
 
+-- the names at each place, where these lists are at the places
+abbrev pub listed : List Names → List ℕ → List Names
+listed lists which = map (λ i. get_or lists i []) which
+
+-- each place has one of the lists
+abbrev pub AreListed : List Names → List ℕ → Type 0
+AreListed lists which = (pc : ℕ) → get_or which pc 0 < length lists
+
+-- the list i is that after the instruction, where this list is before it; the lists so far are kept
+pub record IsListAfter (instr : Instr) (list i : ℕ) (old new : List Names) : Type 0 where
+  pub kept : (k : ℕ) → k < length old → get_or new k [] ≡ get_or old k []
+  pub more : length old ≤ length new
+  pub inside : i < length new
+  pub after : get_or new i [] ≡ names_after instr (get_or old list [])
+
+-- no list is longer than this, which is no more than can be open
+abbrev pub IsDeepest : List Names → ℕ → Type 0
+IsDeepest lists deepest = ((k : ℕ) → length (get_or lists k []) ≤ deepest) × (deepest ≤ 16)
+
 -- the tables of the whole function
 abbrev pub IsLaidOut : Program → ℕ → Layout → Type 0
-IsLaidOut p f l = IsLaid p f (length (routine p f).code) l.heads.items l.mates.items l.names.items
+IsLaidOut p f l = IsLaid p f (length (routine p f).code) l.heads.items l.mates.items (listed l.lists.items l.which.items) × AreListed l.lists.items l.which.items × IsDeepest l.lists.items l.deepest

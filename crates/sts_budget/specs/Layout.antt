@@ -1,5 +1,5 @@
 -- The open entries by their names alone (this project's own).
-use Rattle.std.specs.Prelude.{◌≡◌, ℕ, ◌<◌, ◌⊎◌, List, [], ◌∷◌, length, drop, Option, Some, None}
+use Rattle.std.specs.Prelude.{◌≡◌, ℕ, ◌<◌, ◌⊎◌, List, [], ◌∷◌, length, drop, Option, Some, None, Bool, true, false}
 use Rattle.sts_code.specs.declared.instr.Instr.{Instr}
 use Rattle.sts_code.specs.declared.instr.Instr.TheVariants.{Open, Fork, Close, Bind, Unbind}
 
@@ -14,6 +14,14 @@ names_after (Bind key) ns = None ∷ ns
 names_after (Close slot) ns = drop 1 ns
 names_after Unbind ns = drop 1 ns
 names_after _ ns = ns
+
+-- does the instruction open and close nothing?
+abbrev pub keeps_names : Instr → Bool
+keeps_names (Open slot joiner timed) = false
+keeps_names (Bind key) = false
+keeps_names (Close slot) = false
+keeps_names Unbind = false
+keeps_names _ = true
 
 -- is there a scope in this slot among them?
 abbrev pub HasScope : ℕ → Names → Type 0

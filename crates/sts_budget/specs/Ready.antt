@@ -10,14 +10,14 @@ use Rattle.sts_budget.specs.declared.layout.Layout.{Layout}
 use Rattle.sts_budget.specs.Effect.{ForksEarlier}
 use Rattle.sts_budget.specs.Flowing.{flows}
 use Rattle.sts_budget.specs.Known.{KnowsNames}
-use Rattle.sts_budget.specs.Laid.{first_of}
+use Rattle.sts_budget.specs.Laid.{first_of, listed, AreListed}
 use Rattle.sts_budget.specs.Layout.{Names}
 use Rattle.sts_budget.specs.Structured.{IsStructured, Led}
 use Rattle.sts_budget.specs.Sums.{Flows}
 
 -- the names at a place
 abbrev pub names_in : Layout → ℕ → Names
-names_in l pc = get_or l.names.items pc []
+names_in l pc = get_or (listed l.lists.items l.which.items) pc []
 
 -- the `times` of the innermost loop around a place
 abbrev pub head_in : Layout → ℕ → ℕ
@@ -36,7 +36,10 @@ pub record IsReady (earlier : List Budgets) (code : List Instr) (l : Layout) : T
   pub mates : (h n : ℕ) → instr_at code h ≡ Times n → get_or l.mates.items h 0 ≡ (skeleton earlier code).mate h
   pub heads_long : length l.heads.items ≡ length code
   pub mates_long : length l.mates.items ≡ length code
-  pub names_long : length l.names.items ≡ length code
+  pub which_long : length l.which.items ≡ length code
+  pub listed : AreListed l.lists.items l.which.items
   pub forks : (pc : ℕ) → ForksEarlier (length earlier) (instr_at code pc)
   pub turns : (pc n : ℕ) → instr_at code pc ≡ Times n → n < 65536
   pub short : length code ≤ 4096
+  pub deep : (pc : ℕ) → length (names_in l pc) ≤ l.deepest
+  pub few : l.deepest ≤ 16

@@ -40,11 +40,10 @@ pub record IsSent (values : List ℕ) (low : ℕ → ℕ) (most : ℕ) (places :
   pub raised : (pc d : ℕ) → Among places pc → d ≤ low pc → read after pc d ≡ max (read before pc d) (get_or values d 0)
   pub same : (pc d : ℕ) → (Among places pc → ⊥) → read after pc d ≡ read before pc d
   pub small : (pc d : ℕ) → Among places pc → d ≤ low pc → get_or values d 0 ≤ most
-  pub few : (pc : ℕ) → Among places pc → low pc ≤ 16
 
 -- at one of these places a value passes the limit
 abbrev pub IsStopped : List ℕ → (ℕ → ℕ) → ℕ → List ℕ → Type 0
-IsStopped values low most places = (pc : ℕ) × ((d : ℕ) × (Among places pc × (d ≤ low pc) × (d ≤ 16) × (most < get_or values d 0)))
+IsStopped values low most places = (pc : ℕ) × ((d : ℕ) × (Among places pc × (d ≤ low pc) × (most < get_or values d 0)))
 
 -- a place hands on more than the limit
 abbrev pub HandsTooMuch : Skeleton → Flows → (ℕ → ℕ) → ℕ → (ℕ → ℕ → ℕ) → ℕ → Type 0

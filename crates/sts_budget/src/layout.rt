@@ -6,8 +6,9 @@ ghost use Rattle.sts_code.specs.Program.{routine};
 ghost use Rattle.sts_model.specs.Around as around;
 ghost use Rattle.sts_model.specs.Refusal.{IsWellTyped};
 ghost use Rattle.sts_budget.specs.Layout as def;
-ghost use Rattle.sts_budget.specs.Laid.{Writes, head_after, mates_after, IsLaidOut};
+ghost use Rattle.sts_budget.specs.Laid.{Writes, head_after, mates_after, listed, AreListed, IsListAfter, IsDeepest, IsLaidOut};
 
+use crate::fill::filled;
 use arrayvec::ArrayVec;
 use std::alloc::{AllocError, Global};
 use sts_code::instr::Instr;
@@ -24,7 +25,12 @@ pub struct Layout {
     pub heads: Vec<Option<u32>>,
     /// The `next` that ends the loop of a `times`.
     pub mates: Vec<u32>,
-    pub names: Vec<Names>,
+    /// The lists of names that are open at some place.
+    pub lists: Vec<Names>,
+    /// Which of the lists is open at each place.
+    pub which: Vec<usize>,
+    /// The greatest number of entries that are open at a place.
+    pub deepest: usize,
 }
 
 /// A copy, which takes no memory.
@@ -52,6 +58,51 @@ fn names_after(instr: Instr, names: &Names) -> Names
         _ => {}
     }
     after
+}
+
+/// Does the instruction open and close nothing?
+fn keeps_names(instr: Instr) -> bool
+    ensures { result ≡ def.keeps_names instr }
+{
+    !matches!(
+        instr,
+        Instr::Open { .. } | Instr::Bind(_) | Instr::Close(_) | Instr::Unbind
+    )
+}
+
+/// The list of the names after an instruction: the same, or a new one at the end.
+fn list_after(lists: &mut Vec<Names>, instr: Instr, list: usize) -> Result<usize, AllocError>
+    requires listed { list < length lists.old.items }
+    requires room { def.HasRoom instr (get_or lists.old.items list []) }
+    ensures { IfOk result (λ i. IsListAfter instr list i lists.old.items lists.new.items) }
+{
+    if keeps_names(instr) {
+        return Ok(list);
+    }
+    let after = names_after(instr, &lists[list]);
+    let new = lists.len();
+    lists.push(after)?;
+    Ok(new)
+}
+
+/// The greatest length of the lists.
+fn deepest_of(lists: &[Names]) -> usize
+    ensures { IsDeepest lists.now result }
+{
+    let mut deepest = 0;
+    for i in 0..lists.len() {
+        deepest = lists[i].len().max(deepest);
+    }
+    deepest
+}
+
+/// The names of the open entries at a place.
+pub(crate) fn names_at(layout: &Layout, pc: usize) -> &Names
+    requires in_code { pc < length layout.now.which.items }
+    requires listed { AreListed layout.now.lists.items layout.now.which.items }
+    ensures { result.now ≡ get_or (listed layout.now.lists.items layout.now.which.items) pc [] }
+{
+    &layout.lists[layout.which[pc]]
 }
 
 /// The places where an instruction that is no loop's goes on.
@@ -113,13 +164,13 @@ fn write_heads(heads: &mut Vec<Option<u32>>, places: &[u32], head: Option<u32>)
     }
 }
 
-/// Writes copies of a value at these places.
-fn write_names(table: &mut Vec<Names>, places: &[u32], names: &Names)
-    requires { All (λ to. to < vec_len table.old) places.now }
-    ensures { Writes places.now names.now [] table.old.items table.new.items }
+/// Writes which list is open at these places.
+fn write_which(which: &mut Vec<usize>, places: &[u32], list: usize)
+    requires { All (λ to. to < vec_len which.old) places.now }
+    ensures { Writes places.now list 0 which.old.items which.new.items }
 {
     for i in 0..places.len() {
-        table[places[i] as usize] = copy_of(names);
+        which[places[i] as usize] = list;
     }
 }
 
@@ -146,36 +197,6 @@ fn outer(heads: &[Option<u32>], place: Option<u32>) -> Option<u32>
         Some(at) => heads[at as usize],
         None => heads[0],
     }
-}
-
-fn empty_heads(alloc: Global, count: usize) -> Result<Vec<Option<u32>>, AllocError>
-    ensures { IfOk result (λ t. t.items ≡ replicate count None) }
-{
-    let mut heads = Vec::with_capacity(alloc, count)?;
-    for _place in 0..count {
-        heads.push(None)?;
-    }
-    Ok(heads)
-}
-
-fn empty_mates(alloc: Global, count: usize) -> Result<Vec<u32>, AllocError>
-    ensures { IfOk result (λ t. t.items ≡ replicate count 0) }
-{
-    let mut mates = Vec::with_capacity(alloc, count)?;
-    for _place in 0..count {
-        mates.push(0)?;
-    }
-    Ok(mates)
-}
-
-fn empty_names(alloc: Global, count: usize) -> Result<Vec<Names>, AllocError>
-    ensures { IfOk result (λ t. t.items ≡ replicate count []) }
-{
-    let mut names = Vec::with_capacity(alloc, count)?;
-    for _place in 0..count {
-        names.push(Stack::new())?;
-    }
-    Ok(names)
 }
 
 /// The `next` at `pc` ends the loop of this head.
@@ -206,22 +227,27 @@ pub fn lay_out(alloc: Global, program: &Program, function: usize) -> Result<Layo
     ensures { IfOk result (λ l. IsLaidOut program.now function l) }
 {
     let code = code_of(program, function);
-    let mut heads = empty_heads(alloc, code.len())?;
-    let mut mates = empty_mates(alloc, code.len())?;
-    let mut names = empty_names(alloc, code.len())?;
+    let mut heads = filled(alloc, code.len(), None)?;
+    let mut mates = filled(alloc, code.len(), 0)?;
+    let mut which = filled(alloc, code.len(), 0)?;
+    let mut lists = Vec::new(alloc);
+    lists.push(Stack::new())?;
     for pc in 0..code.len() {
         let instr = code[pc];
         let places = targets(instr, pc as u32);
-        let after = names_after(instr, &names[pc]);
+        let after = list_after(&mut lists, instr, which[pc])?;
         let innermost = heads[pc];
         let head = head_after(instr, pc as u32, heads.as_slice());
         write_mate(&mut mates, instr, pc as u32, innermost);
         write_heads(&mut heads, places.as_slice(), head);
-        write_names(&mut names, places.as_slice(), &after);
+        write_which(&mut which, places.as_slice(), after);
     }
+    let deepest = deepest_of(lists.as_slice());
     Ok(Layout {
         heads,
         mates,
-        names,
+        lists,
+        which,
+        deepest,
     })
 }

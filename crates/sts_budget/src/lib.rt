@@ -3,6 +3,7 @@
 
 pub mod budget;
 pub mod effect;
+mod fill;
 pub mod laws;
 pub mod layout;
 pub mod pass;

@@ -4,12 +4,14 @@ ghost use Rattle.std.specs.Prelude.{◌≡◌, ◌<◌, ◌≤◌, ◌+◌, ◌*
 ghost use Rattle.sts_model.specs.Around.{instr_at};
 ghost use Rattle.sts_model.specs.Budget.{skeleton};
 ghost use Rattle.sts_budget.specs.Effect.{depth_of as depth, own_step};
-ghost use Rattle.sts_budget.specs.Ready.{IsReady, flows_in, head_in};
+ghost use Rattle.sts_budget.specs.Laid.{AreListed};
+ghost use Rattle.sts_budget.specs.Ready.{IsReady, flows_in, head_in, names_in};
 ghost use Rattle.sts_budget.specs.Table.{IsSent, IsStopped, IsSpread, IsPartial, HandsTooMuch, Passes, read};
 ghost use Rattle.sts_budget.specs.Handing.{handed_value, is_quiet, turns_of};
 
 use crate::effect::{Kind, depth_of, effect_of};
-use crate::layout::{Layout, Names, targets};
+use crate::fill::filled;
+use crate::layout::{Layout, names_at, targets};
 use crate::row::{Row, Values, raise, values_after, values_of_loop};
 use std::alloc::{AllocError, Global};
 use sts_code::instr::Instr;
@@ -17,22 +19,24 @@ use sts_model::budget::Budgets;
 
 /// Raises the rows at these places to the values, as far as entries are open there: false where one of these values
 /// passes the limit.
-fn send(
-    best: &mut Vec<Row>,
+fn send<const N: usize>(
+    best: &mut Vec<Row<N>>,
     places: &[u32],
-    values: &Values,
+    values: &Values<N>,
     kind: Kind,
-    names: &[Names],
+    layout: &Layout,
     most: u32,
 ) -> bool
     requires inside { All (λ to. to < length best.old.items) places.now }
-    requires named { length names.now ≡ length best.old.items }
-    ensures sent { IsTrue result → IsSent values.now (λ pc. depth kind (get_or names.now pc [])) most places.now best.old.items best.new.items }
-    ensures over { IsFalse result → IsStopped values.now (λ pc. depth kind (get_or names.now pc [])) most places.now }
+    requires named { length layout.now.which.items ≡ length best.old.items }
+    requires listed { AreListed layout.now.lists.items layout.now.which.items }
+    requires fits { (pc : ℕ) → depth kind (names_in layout.now pc) < N }
+    ensures sent { IsTrue result → IsSent values.now (λ pc. depth kind (names_in layout.now pc)) most places.now best.old.items best.new.items }
+    ensures over { IsFalse result → IsStopped values.now (λ pc. depth kind (names_in layout.now pc)) most places.now }
 {
     for i in 0..places.len() {
         let to = places[i] as usize;
-        let low = depth_of(kind, &names[to]);
+        let low = depth_of(kind, names_at(layout, to));
         if !raise(&mut best[to], values, low, most) {
             return false;
         }
@@ -68,12 +72,18 @@ pub(crate) fn own_step(kind: Kind) -> u32
 }
 
 /// The sums that the end of a loop hands on.
-fn loop_values(kind: Kind, code: &[Instr], layout: &Layout, best: &[Row], pc: usize) -> Values
+fn loop_values<const N: usize>(
+    kind: Kind,
+    code: &[Instr],
+    layout: &Layout,
+    best: &[Row<N>],
+    pc: usize,
+) -> Values<N>
     requires in_code { pc < length code.now }
     requires head { head_in layout.now pc < length code.now }
     requires heads { length layout.now.heads.items ≡ length code.now }
     requires rows { length best.now ≡ length code.now }
-    ensures { (d : ℕ) → d < 17 → get_or result d 0 ≡ min (read best.now (head_in layout.now pc) d + own_step kind + turns_of (instr_at code.now (head_in layout.now pc)) * (read best.now pc d + own_step kind)) 18446744073709551615 }
+    ensures { (d : ℕ) → d < N → get_or result d 0 ≡ min (read best.now (head_in layout.now pc) d + own_step kind + turns_of (instr_at code.now (head_in layout.now pc)) * (read best.now pc d + own_step kind)) 18446744073709551615 }
 {
     let head = match layout.heads[pc] {
         Some(at) => at as usize,
@@ -83,23 +93,24 @@ fn loop_values(kind: Kind, code: &[Instr], layout: &Layout, best: &[Row], pc: us
 }
 
 /// The sums that an instruction hands on.
-fn values_of(
+fn values_of<const N: usize>(
     kind: Kind,
     earlier: &[Budgets],
     code: &[Instr],
     layout: &Layout,
-    best: &[Row],
+    best: &[Row<N>],
     pc: usize,
-) -> Values
+) -> Values<N>
     requires ready { IsReady earlier.now code.now layout.now }
+    requires fits { (q : ℕ) → depth kind (names_in layout.now q) < N }
     requires in_code { pc < length code.now }
     requires rows { length best.now ≡ length code.now }
-    ensures { (d : ℕ) → d < 17 → get_or result d 0 ≡ min (handed_value kind earlier.now code.now layout.now (read best.now) pc d) 18446744073709551615 }
+    ensures { (d : ℕ) → d < N → get_or result d 0 ≡ min (handed_value kind earlier.now code.now layout.now (read best.now) pc d) 18446744073709551615 }
 {
     match code[pc] {
         Instr::Next => loop_values(kind, code, layout, best, pc),
         instr => {
-            let names = &layout.names[pc];
+            let names = names_at(layout, pc);
             let effect = effect_of(kind, earlier, instr, names);
             values_after(effect, depth_of(kind, names), &best[pc])
         }
@@ -107,16 +118,18 @@ fn values_of(
 }
 
 /// The place hands on its sums: false where one of them passes the limit.
-fn hand_on(
+fn hand_on<const N: usize>(
     kind: Kind,
     earlier: &[Budgets],
     code: &[Instr],
     layout: &Layout,
-    best: &mut Vec<Row>,
+    best: &mut Vec<Row<N>>,
     pc: usize,
     most: u32,
 ) -> bool
     requires ready { IsReady earlier.now code.now layout.now }
+    requires small { N ≤ 17 }
+    requires fits { (q : ℕ) → depth kind (names_in layout.now q) < N }
     requires in_code { pc < length code.now }
     requires rows { length best.old.items ≡ length code.now }
     ensures spread { IsTrue result → IsSpread (skeleton earlier.now code.now) (flows_in kind earlier.now code.now layout.now) (head_in layout.now) pc best.old.items best.new.items }
@@ -128,39 +141,24 @@ fn hand_on(
     }
     let values = values_of(kind, earlier, code, layout, best.as_slice(), pc);
     let places = targets(instr, pc as u32);
-    send(
-        best,
-        places.as_slice(),
-        &values,
-        kind,
-        layout.names.as_slice(),
-        most,
-    )
-}
-
-fn empty_rows(alloc: Global, count: usize) -> Result<Vec<Row>, AllocError>
-    ensures { IfOk result (λ t. t.items ≡ replicate count (replicate 17 0)) }
-{
-    let mut rows = Vec::with_capacity(alloc, count)?;
-    for _place in 0..count {
-        rows.push([0; 17])?;
-    }
-    Ok(rows)
+    send(best, places.as_slice(), &values, kind, layout, most)
 }
 
 /// The table of the greatest sums, or none where one passes the limit.
-pub(crate) fn table(
+pub(crate) fn table<const N: usize>(
     alloc: Global,
     kind: Kind,
     earlier: &[Budgets],
     code: &[Instr],
     layout: &Layout,
     most: u32,
-) -> Result<Option<Vec<Row>>, AllocError>
+) -> Result<Option<Vec<Row<N>>>, AllocError>
     requires ready { IsReady earlier.now code.now layout.now }
+    requires small { N ≤ 17 }
+    requires fits { (q : ℕ) → depth kind (names_in layout.now q) < N }
     ensures { IfOk result (λ o. MatchOption o (Passes (skeleton earlier.now code.now) (flows_in kind earlier.now code.now layout.now) most) (λ t. IsPartial (skeleton earlier.now code.now) (flows_in kind earlier.now code.now layout.now) (length code.now) t.items)) }
 {
-    let mut best = empty_rows(alloc, code.len())?;
+    let mut best = filled(alloc, code.len(), [0; N])?;
     for pc in 0..code.len() {
         if !hand_on(kind, earlier, code, layout, &mut best, pc, most) {
             return Ok(None);

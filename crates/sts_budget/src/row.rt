@@ -6,33 +6,33 @@ ghost use Rattle.sts_budget.specs.Row.{IsRaised, IsOver};
 
 use crate::effect::{Effect, added_of, source_of};
 
-/// For each d up to 16 the greatest sum over the first d entries.
-pub(crate) type Row = [u32; 17];
+/// For each d below `N` the greatest sum over the first d entries.
+pub(crate) type Row<const N: usize> = [u32; N];
 
 /// Sums that are handed on, before they are held to a limit.
-pub(crate) type Values = [u64; 17];
+pub(crate) type Values<const N: usize> = [u64; N];
 
 /// The sums of a row, each risen by so much.
-fn risen(amount: u64, row: &Row) -> Values
-    ensures { (d : ℕ) → d < 17 → get_or result d 0 ≡ min (get_or row.now d 0 + amount) 18446744073709551615 }
+fn risen<const N: usize>(amount: u64, row: &Row<N>) -> Values<N>
+    ensures { (d : ℕ) → d < N → get_or result d 0 ≡ min (get_or row.now d 0 + amount) 18446744073709551615 }
 {
-    let mut values = [0; 17];
-    for d in 0..17 {
+    let mut values = [0; N];
+    for d in 0..N {
         values[d] = (row[d] as u64).saturating_add(amount);
     }
     values
 }
 
 /// The sums after an instruction, over as many entries as can be open then.
-pub(crate) fn values_after(effect: Effect, depth: usize, row: &Row) -> Values
-    requires { depth ≤ 16 }
-    ensures { (d : ℕ) → d < 17 → get_or result d 0 ≡ min (get_or row.now (source_of effect depth d) 0 + added_of effect depth d) 18446744073709551615 }
+pub(crate) fn values_after<const N: usize>(effect: Effect, depth: usize, row: &Row<N>) -> Values<N>
+    requires { depth < N }
+    ensures { (d : ℕ) → d < N → get_or result d 0 ≡ min (get_or row.now (source_of effect depth d) 0 + added_of effect depth d) 18446744073709551615 }
 {
     if let Effect::Rises(amount) = effect {
         return risen(amount, row);
     }
-    let mut values = [0; 17];
-    for d in 0..17 {
+    let mut values = [0; N];
+    for d in 0..N {
         values[d] = (row[source_of(effect, depth, d)] as u64).saturating_add(added_of(
             effect, depth, d,
         ));
@@ -41,11 +41,16 @@ pub(crate) fn values_after(effect: Effect, depth: usize, row: &Row) -> Values
 }
 
 /// The sums after a loop: those at its head, and so many times those of a turn.
-pub(crate) fn values_of_loop(turns: u16, own: u32, head: &Row, end: &Row) -> Values
-    ensures { (d : ℕ) → d < 17 → get_or result d 0 ≡ min (get_or head.now d 0 + own + turns * (get_or end.now d 0 + own)) 18446744073709551615 }
+pub(crate) fn values_of_loop<const N: usize>(
+    turns: u16,
+    own: u32,
+    head: &Row<N>,
+    end: &Row<N>,
+) -> Values<N>
+    ensures { (d : ℕ) → d < N → get_or result d 0 ≡ min (get_or head.now d 0 + own + turns * (get_or end.now d 0 + own)) 18446744073709551615 }
 {
-    let mut values = [0; 17];
-    for d in 0..17 {
+    let mut values = [0; N];
+    for d in 0..N {
         values[d] = (head[d] as u64 + own as u64).saturating_add(
             turns as u64 * (end[d] as u64 + own as u64),
         );
@@ -54,8 +59,13 @@ pub(crate) fn values_of_loop(turns: u16, own: u32, head: &Row, end: &Row) -> Val
 }
 
 /// Raises the sums over the first `low` entries to the values: false where one of these passes the limit.
-pub(crate) fn raise(row: &mut Row, values: &Values, low: usize, most: u32) -> bool
-    requires { low ≤ 16 }
+pub(crate) fn raise<const N: usize>(
+    row: &mut Row<N>,
+    values: &Values<N>,
+    low: usize,
+    most: u32,
+) -> bool
+    requires { low < N }
     ensures raised { IsTrue result → IsRaised values.now low most row.old row.new }
     ensures over { IsFalse result → IsOver values.now low most }
 {

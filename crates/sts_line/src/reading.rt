@@ -1,8 +1,10 @@
 //! Reads a command line.
 
-ghost use Rattle.std.specs.Prelude.{◌≡◌, IfOk, IsErr, map, option_map, Some, codes, List, ℕ, [], ◌∷◌};
-ghost use Rattle.clap.specs.Words.{first_of, rows_of, found_of, subcommand_rows_of};
+ghost use Rattle.std.specs.Prelude.{◌≡◌, ◌<◌, ◌≤◌, IfOk, IfErr, IsOk, IsErr, map, option_map, is_some, Some, codes, List, ℕ, Bool, false, [], ◌∷◌, length};
+ghost use Rattle.clap.specs.Words.{first_of, rows_of, found_of, fault_of, kind_of, subcommand_rows_of};
 ghost use Rattle.sts_line.specs.Asked.{asked, asked_by, given};
+ghost use Rattle.sts_line.specs.Command as def;
+ghost use Rattle.sts_line.specs.Refused.{BlamesUnless, Refuses, TellsKind, is_whole};
 
 use crate::asked;
 use crate::asked::LineError;
@@ -11,7 +13,9 @@ use clap::error::ErrorKind;
 use clap::{ArgMatches, Error};
 use std::alloc::Global;
 
-fn told(error: &Error, alloc: Global) -> LineError {
+fn told(error: &Error, alloc: Global) -> LineError
+    ensures { TellsKind (kind_of error.now) result }
+{
     let kind = error.kind();
     if matches!(kind, ErrorKind::OutOfMemory) {
         return LineError::Memory;
@@ -30,7 +34,10 @@ fn told(error: &Error, alloc: Global) -> LineError {
 
 /// Reads the words of a command line, the program's own name first.
 pub fn line<'a>(alloc: Global, words: &'a [&'a str]) -> Result<asked::Line<'a>, LineError>
-    ensures { IfOk result (λ l. asked l ≡ asked_by (map (λ w. w.now) words.entry.now)) }
+    ensures asked { IfOk result (λ l. asked l ≡ asked_by (map (λ w. w.now) words.entry.now)) }
+    ensures fine { IfOk result (λ _. 1 < length words.entry.now → fault_of def.program (map (λ w. w.now) words.entry.now) ≡ []) }
+    ensures alone { length words.entry.now ≤ 1 → IsOk result }
+    ensures refused { IfErr result (Refuses (map (λ w. w.now) words.entry.now)) }
 {
     if words.len() <= 1 {
         return Ok(asked::Line::Joined);
@@ -44,7 +51,8 @@ pub fn line<'a>(alloc: Global, words: &'a [&'a str]) -> Result<asked::Line<'a>, 
 
 /// What the command that `clap` found asks for.
 fn chosen<'a>(alloc: Global, matches: &ArgMatches<'a>) -> Result<asked::Line<'a>, LineError>
-    ensures { IfOk result (λ l. asked l ≡ option_map given (subcommand_rows_of matches.now)) }
+    ensures asked { IfOk result (λ l. asked l ≡ option_map given (subcommand_rows_of matches.now)) }
+    ensures lacks { IfErr result (BlamesUnless (is_whole (subcommand_rows_of matches.now))) }
 {
     match matches.subcommand() {
         Some((name, inner)) => asked_of(alloc, name, inner),
@@ -54,7 +62,8 @@ fn chosen<'a>(alloc: Global, matches: &ArgMatches<'a>) -> Result<asked::Line<'a>
 
 /// The answer where `clap` found no command of the program, which it never does.
 fn unknown<'a>(alloc: Global) -> Result<asked::Line<'a>, LineError>
-    ensures { IsErr result }
+    ensures none { IsErr result }
+    ensures blames { (whole : Bool) → whole ≡ false → IfErr result (BlamesUnless whole) }
 {
     Err(LineError::Usage("a command is missing".to_string(alloc)?))
 }
@@ -71,7 +80,8 @@ fn asked_of<'a>(
     name: &'a str,
     inner: &ArgMatches<'a>,
 ) -> Result<asked::Line<'a>, LineError>
-    ensures { IfOk result (λ l. asked l ≡ Some (given (name.now, rows_of (found_of inner.now)))) }
+    ensures asked { IfOk result (λ l. asked l ≡ Some (given (name.now, rows_of (found_of inner.now)))) }
+    ensures lacks { IfErr result (BlamesUnless (is_whole (Some (name.now, rows_of (found_of inner.now))))) }
 {
     match text_of(inner, "FILE") {
         None => unknown(alloc),
@@ -94,7 +104,8 @@ fn with_trace<'a>(
     file: &'a str,
     inner: &ArgMatches<'a>,
 ) -> Result<asked::Line<'a>, LineError>
-    ensures { IfOk result (λ l. (t : List ℕ) × (first_of (codes "TRACE") (rows_of (found_of inner.now)) ≡ Some t) × (asked l ≡ Some (codes "plain", file.now ∷ t ∷ []))) }
+    ensures asked { IfOk result (λ l. (t : List ℕ) × (first_of (codes "TRACE") (rows_of (found_of inner.now)) ≡ Some t) × (asked l ≡ Some (codes "plain", file.now ∷ t ∷ []))) }
+    ensures lacks { IfErr result (BlamesUnless (is_some (first_of (codes "TRACE") (rows_of (found_of inner.now))))) }
 {
     match text_of(inner, "TRACE") {
         Some(trace) => Ok(asked::Line::Plain { file, trace }),

@@ -1,70 +1,93 @@
-use Rattle.std.proofs.Common.{◌≡◌, ◌<◌, [], None, pos, get_or, length, sym, ap, ◌∙◌, subst, arith}
+use Rattle.std.proofs.Common.{◌≡◌, ◌<◌, ℕ, [], ◌∷◌, ◌++◌, None, pos, get_or, length, sym, ap, ◌∙◌, subst, arith}
+use Rattle.std.proofs.lemmas.List.{length-map}
 use Rattle.sts_code.specs.declared.instr.Instr.TheVariants.{Push}
 use Rattle.sts_code.specs.Program.{routine}
-use Rattle.sts_budget.specs.Laid.{IsLaid, Writes, head_after}
-use Rattle.sts_budget.proofs.LaidStep.{Stage, begin, short, room, head_fits, mate_fits, any_default, inside_of, places_fit, next_place_laid}
+use Rattle.sts_budget.specs.Laid.{IsLaid, listed, AreListed, IsDeepest, Writes, head_after}
+use Rattle.sts_model.specs.ControlPaths.{Among}
+use Rattle.sts_budget.proofs.Listed.{listed_at, listed_none, are_listed_none, listed_writes, are_listed_more}
+use Rattle.sts_budget.proofs.LaidStep.{Stage, among_fit, begin, short, room, head_fits, mate_fits, any_default, inside_of, places_fit, next_place_laid}
 use Rattle.sts_budget.proofs.layout.lay_out.Goals as goal
 
 pub loop-pc-init : goal.loop-pc-init
-loop-pc-init c = begin c.args.program.now c.args.function c.code_of-code.ensures.checked c.requires.in_program c.requires.typed c.code_of-code.result.now c.code_of-code.ensures.value c.in_ok-heads.heads.items c.in_ok-mates.mates.items c.in_ok-names.names.items (c.in_ok-heads.ensures {u = tt}) (c.in_ok-mates.ensures {u = tt}) (c.in_ok-names.ensures {u = tt})
+loop-pc-init c =
+    let lists_are : c.push.new.self.items ≡ [] ∷ [] = (c.in_ok-push.ensures {u = tt}).items ∙ ap (λ xs. xs ++ c.new.result ∷ []) c.new-lists.ensures.items ∙ ap (λ x. x ∷ []) c.new.ensures in
+    let which_is = c.in_ok-which.ensures {u = tt} in
+    let table_is = ap (λ xs. listed xs c.in_ok-which.which.items) lists_are ∙ ap (listed ([] ∷ [])) which_is ∙ listed_none (length c.code_of-code.result.now) in (
+      begin c.args.program.now c.args.function c.code_of-code.ensures.checked c.requires.in_program c.requires.typed c.code_of-code.result.now c.code_of-code.ensures.value c.in_ok-heads.heads.items c.in_ok-mates.mates.items (listed c.push.new.self.items c.in_ok-which.which.items) (c.in_ok-heads.ensures {u = tt}) (c.in_ok-mates.ensures {u = tt}) table_is,
+      subst (λ xs. AreListed xs c.in_ok-which.which.items) (sym lists_are) (subst (AreListed ([] ∷ [])) (sym which_is) (are_listed_none (length c.code_of-code.result.now))),
+    )
 
 pub overflow_cast-pc : goal.overflow_cast-pc
 overflow_cast-pc c =
-    let s : Stage c.args.program.now c.args.function c.loop-pc.pc c.code_of-code.result.now c.loop-pc.heads.items c.loop-pc.mates.items c.loop-pc.names.items = record { fine = c.code_of-code.ensures.checked; in_program = c.requires.in_program; typed = c.requires.typed; code_is = c.code_of-code.ensures.value; within = c.loop-pc-test.true; laid = c.loop-pc.invariant } in
+    let s : Stage c.args.program.now c.args.function c.loop-pc.pc c.code_of-code.result.now c.loop-pc.heads.items c.loop-pc.mates.items (listed c.loop-pc.lists.items c.loop-pc.which.items) = record { fine = c.code_of-code.ensures.checked; in_program = c.requires.in_program; typed = c.requires.typed; code_is = c.code_of-code.ensures.value; within = c.loop-pc-test.true; laid = c.loop-pc.invariant.0 } in
     let lt = short s in omega arith
 
 pub targets-places-requires : goal.targets-places-requires
 targets-places-requires c =
-    let s : Stage c.args.program.now c.args.function c.loop-pc.pc c.code_of-code.result.now c.loop-pc.heads.items c.loop-pc.mates.items c.loop-pc.names.items = record { fine = c.code_of-code.ensures.checked; in_program = c.requires.in_program; typed = c.requires.typed; code_is = c.code_of-code.ensures.value; within = c.loop-pc-test.true; laid = c.loop-pc.invariant } in
+    let s : Stage c.args.program.now c.args.function c.loop-pc.pc c.code_of-code.result.now c.loop-pc.heads.items c.loop-pc.mates.items (listed c.loop-pc.lists.items c.loop-pc.which.items) = record { fine = c.code_of-code.ensures.checked; in_program = c.requires.in_program; typed = c.requires.typed; code_is = c.code_of-code.ensures.value; within = c.loop-pc-test.true; laid = c.loop-pc.invariant.0 } in
     short s
-
-pub names_after-after-requires : goal.names_after-after-requires
-names_after-after-requires c =
-    let s : Stage c.args.program.now c.args.function c.loop-pc.pc c.code_of-code.result.now c.loop-pc.heads.items c.loop-pc.mates.items c.loop-pc.names.items = record { fine = c.code_of-code.ensures.checked; in_program = c.requires.in_program; typed = c.requires.typed; code_is = c.code_of-code.ensures.value; within = c.loop-pc-test.true; laid = c.loop-pc.invariant } in
-    room s c.index.result.now _ c.index.ensures
 
 pub overflow_cast-pc-in-loop-pc : goal.overflow_cast-pc-in-loop-pc
 overflow_cast-pc-in-loop-pc c =
-    let s : Stage c.args.program.now c.args.function c.loop-pc.pc c.code_of-code.result.now c.loop-pc.heads.items c.loop-pc.mates.items c.loop-pc.names.items = record { fine = c.code_of-code.ensures.checked; in_program = c.requires.in_program; typed = c.requires.typed; code_is = c.code_of-code.ensures.value; within = c.loop-pc-test.true; laid = c.loop-pc.invariant } in
+    let s : Stage c.args.program.now c.args.function c.loop-pc.pc c.code_of-code.result.now c.loop-pc.heads.items c.loop-pc.mates.items (listed c.loop-pc.lists.items c.loop-pc.which.items) = record { fine = c.code_of-code.ensures.checked; in_program = c.requires.in_program; typed = c.requires.typed; code_is = c.code_of-code.ensures.value; within = c.loop-pc-test.true; laid = c.loop-pc.invariant.0 } in
     let lt = short s in omega arith
 
 pub head_after-head-requires-clause-head : goal.head_after-head-requires-clause-head
 head_after-head-requires-clause-head c =
-    let s : Stage c.args.program.now c.args.function c.loop-pc.pc c.code_of-code.result.now c.loop-pc.heads.items c.loop-pc.mates.items c.loop-pc.names.items = record { fine = c.code_of-code.ensures.checked; in_program = c.requires.in_program; typed = c.requires.typed; code_is = c.code_of-code.ensures.value; within = c.loop-pc-test.true; laid = c.loop-pc.invariant } in
+    let s : Stage c.args.program.now c.args.function c.loop-pc.pc c.code_of-code.result.now c.loop-pc.heads.items c.loop-pc.mates.items (listed c.loop-pc.lists.items c.loop-pc.which.items) = record { fine = c.code_of-code.ensures.checked; in_program = c.requires.in_program; typed = c.requires.typed; code_is = c.code_of-code.ensures.value; within = c.loop-pc-test.true; laid = c.loop-pc.invariant.0 } in
     λ h e. subst (λ hs. h < length hs) (sym c.as_slice.ensures.value) (head_fits s h (ap (λ hs. get_or hs c.loop-pc.pc None) (sym c.as_slice.ensures.value) ∙ e))
 
 pub overflow_cast-pc-in-loop-pc-2 : goal.overflow_cast-pc-in-loop-pc-2
 overflow_cast-pc-in-loop-pc-2 c =
-    let s : Stage c.args.program.now c.args.function c.loop-pc.pc c.code_of-code.result.now c.loop-pc.heads.items c.loop-pc.mates.items c.loop-pc.names.items = record { fine = c.code_of-code.ensures.checked; in_program = c.requires.in_program; typed = c.requires.typed; code_is = c.code_of-code.ensures.value; within = c.loop-pc-test.true; laid = c.loop-pc.invariant } in
+    let s : Stage c.args.program.now c.args.function c.loop-pc.pc c.code_of-code.result.now c.loop-pc.heads.items c.loop-pc.mates.items (listed c.loop-pc.lists.items c.loop-pc.which.items) = record { fine = c.code_of-code.ensures.checked; in_program = c.requires.in_program; typed = c.requires.typed; code_is = c.code_of-code.ensures.value; within = c.loop-pc-test.true; laid = c.loop-pc.invariant.0 } in
     let lt = short s in omega arith
 
 pub write_mate-requires : goal.write_mate-requires
 write_mate-requires c =
-    let s : Stage c.args.program.now c.args.function c.loop-pc.pc c.code_of-code.result.now c.loop-pc.heads.items c.loop-pc.mates.items c.loop-pc.names.items = record { fine = c.code_of-code.ensures.checked; in_program = c.requires.in_program; typed = c.requires.typed; code_is = c.code_of-code.ensures.value; within = c.loop-pc-test.true; laid = c.loop-pc.invariant } in
+    let s : Stage c.args.program.now c.args.function c.loop-pc.pc c.code_of-code.result.now c.loop-pc.heads.items c.loop-pc.mates.items (listed c.loop-pc.lists.items c.loop-pc.which.items) = record { fine = c.code_of-code.ensures.checked; in_program = c.requires.in_program; typed = c.requires.typed; code_is = c.code_of-code.ensures.value; within = c.loop-pc-test.true; laid = c.loop-pc.invariant.0 } in
     mate_fits s c.index-innermost.result.now _ c.index-innermost.ensures
 
 pub write_heads-requires : goal.write_heads-requires
 write_heads-requires c =
-    let s : Stage c.args.program.now c.args.function c.loop-pc.pc c.code_of-code.result.now c.loop-pc.heads.items c.loop-pc.mates.items c.loop-pc.names.items = record { fine = c.code_of-code.ensures.checked; in_program = c.requires.in_program; typed = c.requires.typed; code_is = c.code_of-code.ensures.value; within = c.loop-pc-test.true; laid = c.loop-pc.invariant } in
-    λ k d lt. (let h = places_fit s c.as_slice-in-loop-pc.result.now (c.as_slice-in-loop-pc.ensures.value ∙ c.targets-places.ensures) k d lt in omega (arith, c.loop-pc.invariant.heads_long))
+    let s : Stage c.args.program.now c.args.function c.loop-pc.pc c.code_of-code.result.now c.loop-pc.heads.items c.loop-pc.mates.items (listed c.loop-pc.lists.items c.loop-pc.which.items) = record { fine = c.code_of-code.ensures.checked; in_program = c.requires.in_program; typed = c.requires.typed; code_is = c.code_of-code.ensures.value; within = c.loop-pc-test.true; laid = c.loop-pc.invariant.0 } in
+    λ k d lt. (let h = places_fit s c.as_slice-in-loop-pc.result.now (c.as_slice-in-loop-pc.ensures.value ∙ c.targets-places.ensures) k d lt in omega (arith, c.loop-pc.invariant.0.heads_long))
 
-pub write_names-requires : goal.write_names-requires
-write_names-requires c =
-    let s : Stage c.args.program.now c.args.function c.loop-pc.pc c.code_of-code.result.now c.loop-pc.heads.items c.loop-pc.mates.items c.loop-pc.names.items = record { fine = c.code_of-code.ensures.checked; in_program = c.requires.in_program; typed = c.requires.typed; code_is = c.code_of-code.ensures.value; within = c.loop-pc-test.true; laid = c.loop-pc.invariant } in
-    λ k d lt. (let h = places_fit s c.as_slice-in-loop-pc-2.result.now (c.as_slice-in-loop-pc-2.ensures.value ∙ c.targets-places.ensures) k d lt in omega (arith, c.loop-pc.invariant.names_long))
+pub write_which-requires : goal.write_which-requires
+write_which-requires c =
+    let s : Stage c.args.program.now c.args.function c.loop-pc.pc c.code_of-code.result.now c.loop-pc.heads.items c.loop-pc.mates.items (listed c.loop-pc.lists.items c.loop-pc.which.items) = record { fine = c.code_of-code.ensures.checked; in_program = c.requires.in_program; typed = c.requires.typed; code_is = c.code_of-code.ensures.value; within = c.loop-pc-test.true; laid = c.loop-pc.invariant.0 } in
+    λ k d lt. (let h = places_fit s c.as_slice-in-loop-pc-2.result.now (c.as_slice-in-loop-pc-2.ensures.value ∙ c.targets-places.ensures) k d lt in omega (arith, c.loop-pc.invariant.0.names_long, length-map c.loop-pc.which.items (λ i. get_or c.loop-pc.lists.items i [])))
+
+pub list_after-requires-clause-room : goal.list_after-requires-clause-room
+list_after-requires-clause-room c =
+    let s : Stage c.args.program.now c.args.function c.loop-pc.pc c.code_of-code.result.now c.loop-pc.heads.items c.loop-pc.mates.items (listed c.loop-pc.lists.items c.loop-pc.which.items) = record { fine = c.code_of-code.ensures.checked; in_program = c.requires.in_program; typed = c.requires.typed; code_is = c.code_of-code.ensures.value; within = c.loop-pc-test.true; laid = c.loop-pc.invariant.0 } in
+    let lt : c.loop-pc.pc < length c.loop-pc.which.items = omega (arith, inside_of s, c.loop-pc.invariant.0.names_long, length-map c.loop-pc.which.items (λ i. get_or c.loop-pc.lists.items i [])) in
+    let list = c.index.ensures ∙ any_default c.loop-pc.which.items c.loop-pc.pc _ 0 lt in
+    room s _ [] (ap (λ k. get_or c.loop-pc.lists.items k []) list ∙ sym (listed_at c.loop-pc.lists.items c.loop-pc.which.items c.loop-pc.pc lt))
 
 pub loop-pc-preserved : goal.loop-pc-preserved
 loop-pc-preserved c =
-    let s : Stage c.args.program.now c.args.function c.loop-pc.pc c.code_of-code.result.now c.loop-pc.heads.items c.loop-pc.mates.items c.loop-pc.names.items = record { fine = c.code_of-code.ensures.checked; in_program = c.requires.in_program; typed = c.requires.typed; code_is = c.code_of-code.ensures.value; within = c.loop-pc-test.true; laid = c.loop-pc.invariant } in
+    let s : Stage c.args.program.now c.args.function c.loop-pc.pc c.code_of-code.result.now c.loop-pc.heads.items c.loop-pc.mates.items (listed c.loop-pc.lists.items c.loop-pc.which.items) = record { fine = c.code_of-code.ensures.checked; in_program = c.requires.in_program; typed = c.requires.typed; code_is = c.code_of-code.ensures.value; within = c.loop-pc-test.true; laid = c.loop-pc.invariant.0 } in
     let p1 = c.as_slice-in-loop-pc.ensures.value ∙ c.targets-places.ensures in
     let p2 = c.as_slice-in-loop-pc-2.ensures.value ∙ c.targets-places.ensures in
-    let wn = subst (λ ps. Writes ps c.names_after-after.result [] c.loop-pc.names.items c.write_names.new.table.items) (p2 ∙ sym p1) c.write_names.ensures in
     let head = c.head_after-head.ensures ∙ ap (λ hs. head_after (get_or c.code_of-code.result.now c.loop-pc.pc (Push (pos 0))) c.loop-pc.pc hs) c.as_slice.ensures.value in
-    let end = c.index-innermost.ensures ∙ any_default c.loop-pc.heads.items c.loop-pc.pc _ None (let lt = inside_of s in omega (arith, c.loop-pc.invariant.heads_long)) in
-    next_place_laid s c.as_slice-in-loop-pc.result.now p1 c.head_after-head.result head c.names_after-after.result c.index.result.now _ c.names_after-after.ensures c.index.ensures c.write_heads.new.heads.items c.write_mate.new.mates.items c.write_names.new.table.items c.write_heads.ensures wn c.index-innermost.result.now end c.write_mate.ensures
+    let end = c.index-innermost.ensures ∙ any_default c.loop-pc.heads.items c.loop-pc.pc _ None (let lt = inside_of s in omega (arith, c.loop-pc.invariant.0.heads_long)) in
+    let after = c.in_ok-after.ensures {u = tt} in
+    let long : length (listed c.loop-pc.lists.items c.loop-pc.which.items) ≡ length c.loop-pc.which.items = length-map c.loop-pc.which.items (λ i. get_or c.loop-pc.lists.items i []) in
+    let lt : c.loop-pc.pc < length c.loop-pc.which.items = omega (arith, inside_of s, c.loop-pc.invariant.0.names_long, long) in
+    let list = c.index.ensures ∙ any_default c.loop-pc.which.items c.loop-pc.pc _ 0 lt in
+    let before = ap (λ k. get_or c.loop-pc.lists.items k []) list ∙ sym (listed_at c.loop-pc.lists.items c.loop-pc.which.items c.loop-pc.pc lt) in
+    let inside : (to : ℕ) → Among c.as_slice-in-loop-pc-2.result.now to → to < length c.loop-pc.which.items = λ to a. (let lt = among_fit s c.as_slice-in-loop-pc-2.result.now p2 to a in omega (arith, long)) in
+    let w2 = listed_writes _ _ c.in_ok-after.after c.loop-pc.lists.items c.list_after.new.lists.items c.loop-pc.which.items c.write_which.new.which.items c.as_slice-in-loop-pc-2.result.now after c.loop-pc.invariant.1 c.write_which.ensures in
+    let w1 = subst (λ ps. Writes ps (get_or c.list_after.new.lists.items c.in_ok-after.after []) [] (listed c.loop-pc.lists.items c.loop-pc.which.items) (listed c.list_after.new.lists.items c.write_which.new.which.items)) (p2 ∙ sym p1) w2 in (
+      next_place_laid s c.as_slice-in-loop-pc.result.now p1 c.head_after-head.result head (get_or c.list_after.new.lists.items c.in_ok-after.after []) _ [] after.after before c.write_heads.new.heads.items c.write_mate.new.mates.items (listed c.list_after.new.lists.items c.write_which.new.which.items) c.write_heads.ensures w1 c.index-innermost.result.now end c.write_mate.ensures,
+      are_listed_more _ _ c.in_ok-after.after c.loop-pc.lists.items c.list_after.new.lists.items c.loop-pc.which.items c.write_which.new.which.items c.as_slice-in-loop-pc-2.result.now after c.loop-pc.invariant.1 inside c.write_which.ensures,
+    )
 
 pub returns : goal.returns
 returns c =
     let n = ap length c.code_of-code.ensures.value in
-    let k : c.loop-pc.pc ≡ length (routine c.args.program.now c.args.function).code = omega arith in
-    subst (λ q. IsLaid c.args.program.now c.args.function q c.loop-pc.heads.items c.loop-pc.mates.items c.loop-pc.names.items) k c.loop-pc.invariant
+    let k : c.loop-pc.pc ≡ length (routine c.args.program.now c.args.function).code = omega arith in (
+      subst (λ q. IsLaid c.args.program.now c.args.function q c.loop-pc.heads.items c.loop-pc.mates.items (listed c.loop-pc.lists.items c.loop-pc.which.items)) k c.loop-pc.invariant.0,
+      c.loop-pc.invariant.1,
+      subst (λ xs. IsDeepest xs c.deepest_of-deepest.result) c.as_slice-2.ensures.value c.deepest_of-deepest.ensures,
+    )

@@ -1,39 +1,42 @@
-use Rattle.std.proofs.Common.{◌≡◌, ◌<◌, ℕ, pos, List, [], get_or, min, false, sym, ap, ◌∙◌, subst, arith, ◌++◌}
+use Rattle.std.proofs.Common.{◌≡◌, ◌<◌, ℕ, pos, length, get_or, min, false, sym, ap, ◌∙◌, subst, arith, ◌++◌}
 use Rattle.sts_code.specs.declared.instr.Instr.TheVariants.{Push, Ret}
 use Rattle.sts_model.specs.Around.{instr_at, named, next_place}
 use Rattle.sts_budget.specs.Effect.{depth_of}
 use Rattle.sts_budget.specs.Handing.{is_quiet, handed_value}
-use Rattle.sts_budget.specs.Layout.{Names}
+use Rattle.sts_budget.specs.Ready.{names_in}
 use Rattle.sts_budget.specs.Table.{read, IsSent, IsStopped}
 use Rattle.sts_budget.proofs.LaidStep.{any_default, among_at}
 use Rattle.sts_budget.proofs.HandOn.{sent_spread, stopped_over, leads_in}
 use Rattle.sts_model.specs.ControlPaths.{Among}
 use Rattle.sts_budget.proofs.pass.hand_on.Goals as goal
 
-pub send-requires-clause-inside : goal.send-requires-clause-inside
-send-requires-clause-inside c = λ k d lt.
+pub values_of-values-requires : goal.values_of-values-requires
+values_of-values-requires g c = (omega (arith, c.requires.small), (omega (arith, c.requires.small), (c.requires.ready, (c.requires.fits, (c.requires.in_code, ap length c.as_slice.ensures.value ∙ c.requires.rows)))))
+
+pub send-requires : goal.send-requires
+send-requires g c =
+    let inside : (k d : ℕ) → k < length c.as_slice-2.result.now → get_or c.as_slice-2.result.now k d < length c.args.best.now.items = λ k d lt.
     (let at : get_or c.args.code.now c.args.pc (Push (pos 0)) ≡ instr_at c.args.code.now c.args.pc = any_default c.args.code.now c.args.pc _ Ret c.requires.in_code in
     let quiet : is_quiet (instr_at c.args.code.now c.args.pc) ≡ false = sym (ap is_quiet at) ∙ sym c.is_quiet.ensures ∙ c.if-is_quiet.false in
     let places : c.as_slice-2.result.now ≡ named (instr_at c.args.code.now c.args.pc) ++ next_place c.args.pc (instr_at c.args.code.now c.args.pc) = c.as_slice-2.ensures.value ∙ c.targets-places.ensures ∙ ap (λ j. named j ++ next_place c.args.pc j) at in
     let h = leads_in c.args.kind c.args.earlier.now c.args.code.now c.args.layout.now c.requires.ready c.args.pc (get_or c.as_slice-2.result.now k d) quiet (subst (λ ps. Among ps (get_or c.as_slice-2.result.now k d)) places (among_at c.as_slice-2.result.now k d lt)) in
-    omega (arith, c.requires.rows))
+    omega (arith, c.requires.rows)) in
+    (omega (arith, c.requires.small), (omega (arith, c.requires.small), (inside, (c.requires.ready.which_long ∙ sym c.requires.rows, (c.requires.ready.listed, c.requires.fits)))))
 
 pub returns-clause-spread : goal.returns-clause-spread
-returns-clause-spread c = λ t.
+returns-clause-spread g c = λ t.
     (let at : get_or c.args.code.now c.args.pc (Push (pos 0)) ≡ instr_at c.args.code.now c.args.pc = any_default c.args.code.now c.args.pc _ Ret c.requires.in_code in
     let quiet : is_quiet (instr_at c.args.code.now c.args.pc) ≡ false = sym (ap is_quiet at) ∙ sym c.is_quiet.ensures ∙ c.if-is_quiet.false in
     let places : c.as_slice-2.result.now ≡ named (instr_at c.args.code.now c.args.pc) ++ next_place c.args.pc (instr_at c.args.code.now c.args.pc) = c.as_slice-2.ensures.value ∙ c.targets-places.ensures ∙ ap (λ j. named j ++ next_place c.args.pc j) at in
-    let values : (d : ℕ) → d < 17 → get_or c.values_of-values.result d 0 ≡ min (handed_value c.args.kind c.args.earlier.now c.args.code.now c.args.layout.now (read c.args.best.now.items) c.args.pc d) 18446744073709551615 = subst (λ rows. (d : ℕ) → d < 17 → get_or c.values_of-values.result d 0 ≡ min (handed_value c.args.kind c.args.earlier.now c.args.code.now c.args.layout.now (read rows) c.args.pc d) 18446744073709551615) c.as_slice.ensures.value c.values_of-values.ensures in
-    let sent = subst (λ ps. IsSent c.values_of-values.result (λ q. depth_of c.args.kind (get_or c.args.layout.now.names.items q [])) c.args.most ps c.args.best.now.items c.send.new.best.items) places
-    (subst (λ (ns : List Names). IsSent c.values_of-values.result (λ q. depth_of c.args.kind (get_or ns q [])) c.args.most c.as_slice-2.result.now c.args.best.now.items c.send.new.best.items) c.as_slice-3.ensures.value (c.send.ensures.sent t)) in
-    sent_spread c.args.kind c.args.earlier.now c.args.code.now c.args.layout.now c.requires.ready c.args.pc c.args.most c.values_of-values.result c.args.best.now.items c.send.new.best.items quiet c.ranges.most.fits values sent)
+    let values : (d : ℕ) → d < g.row.N → get_or c.values_of-values.result d 0 ≡ min (handed_value c.args.kind c.args.earlier.now c.args.code.now c.args.layout.now (read c.args.best.now.items) c.args.pc d) 18446744073709551615 = subst (λ rows. (d : ℕ) → d < g.row.N → get_or c.values_of-values.result d 0 ≡ min (handed_value c.args.kind c.args.earlier.now c.args.code.now c.args.layout.now (read rows) c.args.pc d) 18446744073709551615) c.as_slice.ensures.value c.values_of-values.ensures in
+    let sent = subst (λ ps. IsSent c.values_of-values.result (λ q. depth_of c.args.kind (names_in c.args.layout.now q)) c.args.most ps c.args.best.now.items c.send.new.best.items) places (c.send.ensures.sent t) in
+    sent_spread c.args.kind c.args.earlier.now c.args.code.now c.args.layout.now c.requires.ready g.row.N c.args.pc c.args.most c.values_of-values.result c.args.best.now.items c.send.new.best.items c.requires.fits quiet c.ranges.most.fits values sent)
 
 pub returns-clause-over : goal.returns-clause-over
-returns-clause-over c = λ t.
+returns-clause-over g c = λ t.
     (let at : get_or c.args.code.now c.args.pc (Push (pos 0)) ≡ instr_at c.args.code.now c.args.pc = any_default c.args.code.now c.args.pc _ Ret c.requires.in_code in
     let quiet : is_quiet (instr_at c.args.code.now c.args.pc) ≡ false = sym (ap is_quiet at) ∙ sym c.is_quiet.ensures ∙ c.if-is_quiet.false in
     let places : c.as_slice-2.result.now ≡ named (instr_at c.args.code.now c.args.pc) ++ next_place c.args.pc (instr_at c.args.code.now c.args.pc) = c.as_slice-2.ensures.value ∙ c.targets-places.ensures ∙ ap (λ j. named j ++ next_place c.args.pc j) at in
-    let values : (d : ℕ) → d < 17 → get_or c.values_of-values.result d 0 ≡ min (handed_value c.args.kind c.args.earlier.now c.args.code.now c.args.layout.now (read c.args.best.now.items) c.args.pc d) 18446744073709551615 = subst (λ rows. (d : ℕ) → d < 17 → get_or c.values_of-values.result d 0 ≡ min (handed_value c.args.kind c.args.earlier.now c.args.code.now c.args.layout.now (read rows) c.args.pc d) 18446744073709551615) c.as_slice.ensures.value c.values_of-values.ensures in
-    let stopped = subst (λ ps. IsStopped c.values_of-values.result (λ q. depth_of c.args.kind (get_or c.args.layout.now.names.items q [])) c.args.most ps) places
-    (subst (λ (ns : List Names). IsStopped c.values_of-values.result (λ q. depth_of c.args.kind (get_or ns q [])) c.args.most c.as_slice-2.result.now) c.as_slice-3.ensures.value (c.send.ensures.over t)) in
-    stopped_over c.args.kind c.args.earlier.now c.args.code.now c.args.layout.now c.requires.ready c.args.pc c.args.most c.values_of-values.result c.args.best.now.items c.requires.in_code quiet values stopped)
+    let values : (d : ℕ) → d < g.row.N → get_or c.values_of-values.result d 0 ≡ min (handed_value c.args.kind c.args.earlier.now c.args.code.now c.args.layout.now (read c.args.best.now.items) c.args.pc d) 18446744073709551615 = subst (λ rows. (d : ℕ) → d < g.row.N → get_or c.values_of-values.result d 0 ≡ min (handed_value c.args.kind c.args.earlier.now c.args.code.now c.args.layout.now (read rows) c.args.pc d) 18446744073709551615) c.as_slice.ensures.value c.values_of-values.ensures in
+    let stopped = subst (λ ps. IsStopped c.values_of-values.result (λ q. depth_of c.args.kind (names_in c.args.layout.now q)) c.args.most ps) places (c.send.ensures.over t) in
+    stopped_over c.args.kind c.args.earlier.now c.args.code.now c.args.layout.now c.requires.ready g.row.N c.args.pc c.args.most c.values_of-values.result c.args.best.now.items c.requires.fits c.requires.in_code quiet values stopped)

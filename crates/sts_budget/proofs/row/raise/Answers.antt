@@ -4,7 +4,7 @@ use Rattle.sts_budget.proofs.Rows.{set_below, set_above}
 use Rattle.sts_budget.proofs.row.raise.Goals as goal
 
 pub loop-d-preserved : goal.loop-d-preserved
-loop-d-preserved c =
+loop-d-preserved g c =
     let within : c.loop-d.d < length c.loop-d.row = omega (arith, c.loop-d.invariant.0) in
     let old : get_or c.loop-d.row c.loop-d.d 0 ≡ get_or c.args.row.now c.loop-d.d 0 = c.loop-d.invariant.2 c.loop-d.d (omega arith) in (
       length-set c.loop-d.row c.loop-d.d _ ∙ c.loop-d.invariant.0,

@@ -4,4 +4,4 @@ use Rattle.sts_budget.proofs.row.raise.Given as goal
 -- the sums so far are raised
 
 abbrev pub invariant-loop-d : goal.invariant-loop-d
-invariant-loop-d l = (length l.row ≡ 17) × ((d : ℕ) → d < l.d → get_or l.row d 0 ≡ max (get_or l.initial.row d 0) (get_or l.values d 0)) × ((d : ℕ) → l.d ≤ d → get_or l.row d 0 ≡ get_or l.initial.row d 0) × ((d : ℕ) → d < l.d → get_or l.values d 0 ≤ l.most)
+invariant-loop-d g l = (length l.row ≡ g.row.N) × ((d : ℕ) → d < l.d → get_or l.row d 0 ≡ max (get_or l.initial.row d 0) (get_or l.values d 0)) × ((d : ℕ) → l.d ≤ d → get_or l.row d 0 ≡ get_or l.initial.row d 0) × ((d : ℕ) → d < l.d → get_or l.values d 0 ≤ l.most)

@@ -3,4 +3,4 @@ use Rattle.sts_budget.proofs.row.risen.Given as goal
 
 -- the sums so far
 abbrev pub invariant-loop-d : goal.invariant-loop-d
-invariant-loop-d l = (length l.values ≡ 17) × ((d : ℕ) → d < l.d → get_or l.values d 0 ≡ min (get_or l.row d 0 + l.amount) 18446744073709551615)
+invariant-loop-d g l = (length l.values ≡ g.row.N) × ((d : ℕ) → d < l.d → get_or l.values d 0 ≡ min (get_or l.row d 0 + l.amount) 18446744073709551615)

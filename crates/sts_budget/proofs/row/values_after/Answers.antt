@@ -4,7 +4,7 @@ use Rattle.sts_budget.specs.Effect.{source_of, added_of}
 use Rattle.sts_budget.proofs.row.values_after.Goals as goal
 
 pub loop-d-preserved : goal.loop-d-preserved
-loop-d-preserved c =
+loop-d-preserved g c =
     let within : c.loop-d.d < length c.loop-d.values = omega (arith, c.loop-d.invariant.0) in
     let sum = ap (λ x. x + c.added_of.result) (ap (λ k. get_or c.args.row.now k 0) c.source_of.ensures) ∙ ap (λ x. get_or c.args.row.now (source_of c.args.effect c.args.depth c.loop-d.d) 0 + x) c.added_of.ensures in (
       length-set c.loop-d.values c.loop-d.d c.saturating_add.result ∙ c.loop-d.invariant.0,
@@ -12,4 +12,4 @@ loop-d-preserved c =
     )
 
 pub returns : goal.returns
-returns c = λ d lt. c.loop-d.invariant.1 d (omega arith)
+returns g c = λ d lt. c.loop-d.invariant.1 d (omega arith)

@@ -1,6 +1,0 @@
-use Rattle.std.proofs.Common.{◌≡◌, replicate}
-use Rattle.sts_budget.proofs.top.empty_bases.Given as goal
-
--- so many are there
-abbrev pub invariant-loop-place : goal.invariant-loop-place
-invariant-loop-place l = l.bases.items ≡ replicate l._place 0

@@ -1,0 +1,32 @@
+-- Why a command line asks for nothing.
+use Rattle.std.proofs.Common.{◌≡◌, ◌⊎◌, ◌&&◌, Bool, true, false, List, Some, is_some, codes, refl, sym, subst, inl, inr, ◌∙◌}
+use Rattle.clap.specs.Words.{Text, Row, IsAmong, fault_of, first_of, subcommand_of}
+use Rattle.clap.specs.declared.error.kind.ErrorKind.{ErrorKind}
+use Rattle.clap.specs.declared.error.kind.ErrorKind.TheVariants as kind
+use Rattle.sts_line.specs.declared.asked.LineError.{LineError}
+use Rattle.sts_line.specs.declared.asked.LineError.TheVariants as error
+use Rattle.sts_line.specs.Command.{program}
+use Rattle.sts_line.specs.Refused.{BlamesUnless, Refuses, TellsKind, is_whole}
+
+and_true : (b : Bool) → (b && true) ≡ b
+and_true true = refl
+and_true false = refl
+
+-- `plain` with its text is whole exactly where it has its trace
+pub whole_plain : (name file : Text) (rows : List Row) → name ≡ codes "plain" → first_of (codes "FILE") rows ≡ Some file
+    → is_whole (Some (name, rows)) ≡ is_some (first_of (codes "TRACE") rows)
+whole_plain name file rows n f = rw (n, f) (and_true (is_some (first_of (codes "TRACE") rows)))
+
+-- a command with something missing is refused
+pub refuses_blamed : (words : List Text) (e : LineError) → BlamesUnless (is_whole (subcommand_of program words)) e → Refuses words e
+refuses_blamed words error.Memory h = tt
+refuses_blamed words (error.Help text) h = absurd h
+refuses_blamed words (error.Usage text) h = inr h
+
+-- what `clap` refuses is refused
+pub refuses_told : (words : List Text) (k : ErrorKind) (e : LineError) → TellsKind k e → (k ≡ kind.OutOfMemory) ⊎ IsAmong k (fault_of program words) → Refuses words e
+refuses_told words k error.Memory h among = tt
+refuses_told words k (error.Help text) h (inl memory) = let bad : kind.DisplayHelp ≡ kind.OutOfMemory = sym h ∙ memory in cc
+refuses_told words k (error.Help text) h (inr among) = subst (λ x. IsAmong x (fault_of program words)) h among
+refuses_told words k (error.Usage text) h (inl memory) = absurd (h.1 memory)
+refuses_told words k (error.Usage text) h (inr among) = inl (k, among, h.0)

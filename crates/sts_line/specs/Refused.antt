@@ -1,0 +1,40 @@
+-- Why a command line asks for nothing, by `clap`'s own definitions (this project's own).
+use Rattle.std.specs.Prelude.{◌≡◌, ◌≢◌, ◌⊎◌, ◌&&◌, ◌||◌, Bool, false, List, Option, Some, None, is_some, codes}
+use Rattle.std.specs.List.{list_all}
+use Rattle.std.specs.Str.{bytes_eq}
+use Rattle.clap.specs.Words.{Text, Row, Kinds, IsAmong, fault_of, first_of, subcommand_of}
+use Rattle.clap.specs.declared.error.kind.ErrorKind.{ErrorKind}
+use Rattle.clap.specs.declared.error.kind.ErrorKind.TheVariants as kind
+use Rattle.sts_line.specs.declared.asked.LineError.{LineError}
+use Rattle.sts_line.specs.declared.asked.LineError.TheVariants as error
+use Rattle.sts_line.specs.Asked.{ids_of}
+use Rattle.sts_line.specs.Command.{program}
+
+-- an error of `clap` of this kind, as it is told
+abbrev pub TellsKind : ErrorKind → LineError → Type 0
+TellsKind k error.Memory = Unit {0}
+TellsKind k (error.Help text) = k ≡ kind.DisplayHelp
+TellsKind k (error.Usage text) = (k ≢ kind.DisplayHelp) × (k ≢ kind.OutOfMemory)
+
+-- the words name a command of the program, and all files that it takes
+abbrev pub is_whole : Option (Text × List Row) → Bool
+is_whole None = false
+is_whole (Some (name, rows)) =
+    (bytes_eq name (codes "verify") || (bytes_eq name (codes "list") || bytes_eq name (codes "plain")))
+    && list_all (λ id. is_some (first_of id rows)) (ids_of name)
+
+-- a usage fault comes only where this doesn't hold
+abbrev pub BlamesUnless : Bool → LineError → Type 0
+BlamesUnless whole error.Memory = Unit {0}
+BlamesUnless whole (error.Help text) = ⊥
+BlamesUnless whole (error.Usage text) = whole ≡ false
+
+-- one of the kinds is not that help was asked for
+abbrev pub HasMistake : Kinds → Type 0
+HasMistake kinds = (k : ErrorKind) × IsAmong k kinds × (k ≢ kind.DisplayHelp)
+
+-- the words ask for help, or are refused for a mistake, or name no command with all its files
+abbrev pub Refuses : List Text → LineError → Type 0
+Refuses words error.Memory = Unit {0}
+Refuses words (error.Help text) = IsAmong kind.DisplayHelp (fault_of program words)
+Refuses words (error.Usage text) = HasMistake (fault_of program words) ⊎ (is_whole (subcommand_of program words) ≡ false)
