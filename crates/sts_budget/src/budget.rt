@@ -9,12 +9,13 @@ ghost use Rattle.sts_budget.specs.Outcome.{IsFound, IsNumber};
 ghost use Rattle.sts_budget.specs.Ready.{IsReady};
 
 use crate::effect::Kind;
-use crate::layout::{Layout, code_of, lay_out};
+use crate::layout::{Layout, lay_out};
 use crate::top::top;
 use std::alloc::{AllocError, Global};
 use sts_code::instr::Instr;
 use sts_code::program::Program;
 use sts_model::budget::Budgets;
+use sts_model::code::code_of;
 use sts_model::typing::Cause;
 
 /// Why a function has no budgets.

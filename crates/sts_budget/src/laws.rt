@@ -6,9 +6,9 @@ ghost use Rattle.sts_model.specs.Refusal.{IsWellTyped};
 ghost use Rattle.sts_model.specs.Budget.{IsBudget};
 ghost use Rattle.sts_budget.specs.Laws.{PointsLieOnPaths, PointsAreWithin, ChildrenArePart};
 
-use crate::layout::code_of;
 use sts_code::program::Program;
 use sts_model::budget::Budgets;
+use sts_model::code::code_of;
 
 /// Law: each point of a control path of a well-typed function lies on a whole path.
 pub fn points_lie_on_paths(program: &Program, function: usize, earlier: &[Budgets])

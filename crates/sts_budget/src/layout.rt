@@ -1,7 +1,6 @@
 //! What is open at each place of a function's code.
 
 ghost use Rattle.std.specs.Prelude.{ℕ, List, [], All, IfOk, IfSome, Some, None, get_or, replicate, unwrap_or, vec_len, ◌≡◌, ◌<◌, ◌≤◌, ◌+◌, ◌++◌, length, option_to_list};
-ghost use Rattle.sts_code.specs.Checks.{program_fault};
 ghost use Rattle.sts_code.specs.Program.{routine};
 ghost use Rattle.sts_model.specs.Around as around;
 ghost use Rattle.sts_model.specs.Refusal.{IsWellTyped};
@@ -13,6 +12,8 @@ use arrayvec::ArrayVec;
 use std::alloc::{AllocError, Global};
 use sts_code::instr::Instr;
 use sts_code::program::Program;
+use sts_model::code::code_of;
+use sts_model::operands::falls_through;
 use sts_model::stack::Stack;
 
 /// The names of the open entries at a place, the innermost on top: a scope's slot, or none for a binding.
@@ -148,12 +149,6 @@ fn push_given(places: &mut ArrayVec<u32, 4>, target: Option<u32>)
     }
 }
 
-fn falls_through(instr: Instr) -> bool
-    ensures { result ≡ around.falls_through instr }
-{
-    !matches!(instr, Instr::Jmp(_) | Instr::Ret | Instr::Fail)
-}
-
 /// Writes a value at these places.
 fn write_heads(heads: &mut Vec<Option<u32>>, places: &[u32], head: Option<u32>)
     requires { All (λ to. to < vec_len heads.old) places.now }
@@ -207,17 +202,6 @@ fn write_mate(mates: &mut Vec<u32>, instr: Instr, pc: u32, head: Option<u32>)
     if let (Instr::Next, Some(at)) = (instr, head) {
         mates[at as usize] = pc;
     }
-}
-
-/// The instructions of a function.
-pub fn code_of(program: &Program, function: usize) -> &[Instr]
-    requires { function < length program.now.routines }
-    ensures value { result.now ≡ (routine program.now function).code }
-    ensures checked { program_fault program.now.routines ≡ None }
-{
-    let functions = program.functions();
-    let routine = &functions[function];
-    routine.code.as_slice()
 }
 
 /// What is open at each place of a well-typed function.

@@ -1,6 +1,7 @@
 //! What a program says of its functions.
 
-ghost use Rattle.std.specs.Prelude.{◌≡◌, ◌≤◌, ◌<◌, length};
+ghost use Rattle.std.specs.Prelude.{◌≡◌, ◌≤◌, ◌<◌, length, None};
+ghost use Rattle.sts_code.specs.Checks.{program_fault};
 ghost use Rattle.sts_code.specs.Program.{routine};
 
 use sts_code::instr::Instr;
@@ -18,12 +19,13 @@ pub fn args(program: &Program, function: u32) -> u8
 }
 
 /// The instructions of a function.
-pub fn code_of(program: &Program, function: u32) -> &[Instr]
+pub fn code_of(program: &Program, function: usize) -> &[Instr]
     ensures value { result.now ≡ (routine program.now function).code }
+    ensures checked { program_fault program.now.routines ≡ None }
     ensures short { length result.now ≤ 4096 }
     ensures some { function < length program.now.routines → 0 < length result.now }
 {
-    match program.functions().get(function as usize) {
+    match program.functions().get(function) {
         Some(f) => f.code.as_slice(),
         None => &[],
     }

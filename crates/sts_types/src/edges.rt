@@ -22,7 +22,7 @@ pub fn edges(program: &Program, function: u32, pc: u32, state: &TypeState) -> Re
     requires pc { pc < size program.now function }
     ensures { MatchResult result (λ edges. def.edges program.now function pc state.now ≡ Ok edges) (λ cause. def.edges program.now function pc state.now ≡ Err cause) }
 {
-    let code = code_of(program, function);
+    let code = code_of(program, function as usize);
     let loops = CodeLoops::new(code);
     let instr = code[pc as usize];
     let skip = skip(&loops, pc, instr);

@@ -110,7 +110,7 @@ pub fn type_function(alloc: Global, program: &Program, function: u32) -> Result<
     requires { function < length program.now.routines }
     ensures { MatchResult result (λ _. IsWellTyped program.now function) (Tells program.now function) }
 {
-    let code = code_of(program, function);
+    let code = code_of(program, function as usize);
     let tables = Tables::new(alloc, code)?;
     let loops = CodeLoops::with_tables(code, &tables);
     let mut arrivals = Arrivals::new(alloc, code.len(), entry(program, function))?;

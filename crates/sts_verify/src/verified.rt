@@ -9,9 +9,9 @@ use crate::error::VerifyError;
 use std::alloc::Global;
 use std::marker::Model;
 use sts_budget::budget::{BudgetError, budget};
-use sts_budget::layout::code_of;
 use sts_code::program::Program;
 use sts_model::budget::Budgets;
+use sts_model::code::code_of;
 use sts_types::pass::{TypeError, type_function};
 
 /// A program that was accepted: contracts see the program.

@@ -14,7 +14,7 @@ pub fn code<'a>(program: &'a Program, frame: &Frame) -> &'a [Instr]
     ensures value { result.now ≡ def.code program.now frame.now }
     ensures short { length result.now ≤ 4096 }
 {
-    code_of(program, frame.function)
+    code_of(program, frame.function as usize)
 }
 
 /// The instruction that is next, or none at the end.
