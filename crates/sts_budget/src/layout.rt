@@ -7,12 +7,12 @@ ghost use Rattle.sts_model.specs.Refusal.{IsWellTyped};
 ghost use Rattle.sts_budget.specs.Layout as def;
 ghost use Rattle.sts_budget.specs.Laid.{Writes, head_after, mates_after, listed, AreListed, IsListAfter, IsDeepest, IsLaidOut};
 
-use crate::fill::filled;
 use arrayvec::ArrayVec;
 use std::alloc::{AllocError, Global};
 use sts_code::instr::Instr;
 use sts_code::program::Program;
 use sts_model::code::code_of;
+use sts_model::fill::filled;
 use sts_model::operands::falls_through;
 use sts_model::stack::Stack;
 

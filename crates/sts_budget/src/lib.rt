@@ -3,7 +3,6 @@
 
 pub mod budget;
 pub mod effect;
-mod fill;
 pub mod laws;
 pub mod layout;
 pub mod pass;

@@ -10,12 +10,12 @@ ghost use Rattle.sts_budget.specs.Table.{IsSent, IsStopped, IsSpread, IsPartial,
 ghost use Rattle.sts_budget.specs.Handing.{handed_value, is_quiet, turns_of};
 
 use crate::effect::{Kind, depth_of, effect_of};
-use crate::fill::filled;
 use crate::layout::{Layout, names_at, targets};
 use crate::row::{Row, Values, raise, values_after, values_of_loop};
 use std::alloc::{AllocError, Global};
 use sts_code::instr::Instr;
 use sts_model::budget::Budgets;
+use sts_model::fill::filled;
 
 /// Raises the rows at these places to the values, as far as entries are open there: false where one of these values
 /// passes the limit.

@@ -9,13 +9,13 @@ ghost use Rattle.sts_budget.specs.Handing.{base_of, bases_after};
 ghost use Rattle.sts_budget.specs.Table.{read};
 
 use crate::effect::{Kind, depth_of};
-use crate::fill::filled;
 use crate::layout::{Layout, names_at};
 use crate::pass::{own_step, table};
 use crate::row::Row;
 use std::alloc::{AllocError, Global};
 use sts_code::instr::Instr;
 use sts_model::budget::Budgets;
+use sts_model::fill::filled;
 
 /// What the function counts beside the sums: the last step of a path, the task itself.
 fn own_of(kind: Kind) -> u32

@@ -8,6 +8,7 @@ use crate::ends::match_of;
 use crate::loops::Tables;
 use std::alloc::{AllocError, Global};
 use sts_code::instr::Instr;
+use sts_model::fill::filled;
 use sts_model::loops::is_times;
 
 /// The match of a `times` at `at`, if there is one.
@@ -35,17 +36,6 @@ fn ends_of(alloc: Global, code: &[Instr]) -> Result<Vec<Option<u32>>, AllocError
     Ok(ends)
 }
 
-/// No loop around any of so many places.
-fn no_heads(alloc: Global, places: usize) -> Result<Vec<Option<u32>>, AllocError>
-    ensures { IfOk result (λ heads. heads.items ≡ replicate places None) }
-{
-    let mut heads = Vec::with_capacity(alloc, places)?;
-    for _ in 0..places {
-        heads.push(None)?;
-    }
-    Ok(heads)
-}
-
 /// The loop at `at` is the innermost around the places after it, up to its match.
 fn mark(heads: &mut Vec<Option<u32>>, at: u32, end: u32)
     requires inside { end < vec_len heads.old }
@@ -64,7 +54,7 @@ impl Tables {
         ensures { IfOk result (table.AreTablesOf code.now) }
     {
         let ends = ends_of(alloc, code)?;
-        let mut heads = no_heads(alloc, code.len())?;
+        let mut heads = filled(alloc, code.len(), None)?;
         for at in 0..code.len() {
             if let Some(end) = ends[at] {
                 mark(&mut heads, at as u32, end);

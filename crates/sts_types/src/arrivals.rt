@@ -14,6 +14,7 @@ use std::marker::Model;
 use sts_code::instr::Instr;
 use sts_code::program::Program;
 use sts_loops::loops::CodeLoops;
+use sts_model::fill::filled;
 use sts_states::state::TypeState;
 
 /// A typestate that arrived: its number of operands, and which of those that are kept is like it but for that number.
@@ -101,17 +102,6 @@ fn come_to(state: &mut TypeState, like: &mut usize, kept: &[TypeState], mark: Ma
     state.set_height(mark.height);
 }
 
-/// Marks of so many places to which nothing has come.
-fn no_marks(alloc: Global, places: usize) -> Result<Vec<Arrival<Mark>>, AllocError>
-    ensures { IfOk result (λ marks. marks.items ≡ replicate places Arrival.Nothing) }
-{
-    let mut marks = Vec::with_capacity(alloc, places)?;
-    for _ in 0..places {
-        marks.push(Arrival::Nothing)?;
-    }
-    Ok(marks)
-}
-
 impl Arrivals {
     /// So many places, at the first of which this typestate has arrived, which is at hand.
     pub(crate) fn new(
@@ -129,7 +119,7 @@ impl Arrivals {
             height: first.height(),
             like: 0,
         };
-        let mut marks = no_marks(alloc, places)?;
+        let mut marks = filled(alloc, places, Arrival::Nothing)?;
         marks[0] = Arrival::One(start);
         Ok(Arrivals {
             marks,

@@ -5,7 +5,7 @@ ghost use Rattle.std.specs.Prelude.{◌≡◌, IfOk, replicate};
 use std::alloc::{AllocError, Global};
 
 /// So many copies of a value.
-pub(crate) fn filled<T: Copy>(alloc: Global, count: usize, value: T) -> Result<Vec<T>, AllocError>
+pub fn filled<T: Copy>(alloc: Global, count: usize, value: T) -> Result<Vec<T>, AllocError>
     ensures { IfOk result (λ t. t.items ≡ replicate count value) }
 {
     let mut list = Vec::new(alloc);
