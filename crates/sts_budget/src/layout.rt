@@ -25,11 +25,11 @@ pub struct Layout {
     pub heads: Vec<Option<u32>>,
     /// The `next` that ends the loop of a `times`.
     pub mates: Vec<u32>,
-    /// The lists of names that are open at some place.
+    /// The lists of names, of which each place has one: a new one for each entry that opens or closes.
     pub lists: Vec<Names>,
-    /// Which of the lists is open at each place.
+    /// Which of the lists each place has.
     pub which: Vec<usize>,
-    /// The greatest number of entries that are open at a place.
+    /// The greatest length of the lists: no place has more open entries.
     pub deepest: usize,
 }
 
@@ -170,7 +170,7 @@ fn falls_through(instr: Instr) -> bool
     !matches!(instr, Instr::Jmp(_) | Instr::Ret | Instr::Fail)
 }
 
-/// Writes a value at these places.
+/// Writes the innermost loop at these places.
 fn write_heads(heads: &mut Vec<Option<u32>>, places: &[u32], head: Option<u32>)
     requires { All (λ to. to < vec_len heads.old) places.now }
     ensures { Writes places.now head None heads.old.items heads.new.items }
@@ -180,7 +180,7 @@ fn write_heads(heads: &mut Vec<Option<u32>>, places: &[u32], head: Option<u32>)
     }
 }
 
-/// Writes which list is open at these places.
+/// Writes which list of names these places have.
 fn write_which(which: &mut Vec<usize>, places: &[u32], list: usize)
     requires { All (λ to. to < vec_len which.old) places.now }
     ensures { Writes places.now list 0 which.old.items which.new.items }
