@@ -49,6 +49,10 @@ writes_more places i to value d old mid lt is w = record {
       | inr ne ↦ (get_or-set_other mid to pc value d ne ∙ elim a [ inl b ↦ w.at pc b within | inr b ↦ elim b [ inl e ↦ absurd (ne (sym e)) | inr out_of ↦ absurd out_of ] ])
     ]
 
+-- one place alone
+pub writes_one : {A : Type 0} (to : ℕ) (value d : A) (old : List A) → Writes (to ∷ []) value d old (set old to value)
+writes_one to value d old = writes_more (to ∷ []) 0 to value d old old (omega arith) refl (writes_none (to ∷ []) value d old)
+
 -- ---- one instruction
 
 -- there is room for what an instruction opens

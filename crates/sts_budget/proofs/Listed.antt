@@ -1,12 +1,13 @@
 -- Which list of names is open at each place.
-use Rattle.std.proofs.Common.{◌≡◌, ℕ, zero, suc, ◌<◌, ◌≤◌, inl, inr, List, [], ◌∷◌, ◌++◌, length, get_or, replicate, true, refl, sym, ap, ◌∙◌, arith}
+use Rattle.std.proofs.Common.{◌≡◌, ℕ, zero, suc, ◌+◌, ◌<◌, ◌≤◌, inl, inr, List, [], ◌∷◌, ◌++◌, length, get_or, replicate, true, refl, sym, ap, ◌∙◌, arith}
 use Rattle.std.proofs.lemmas.List.{length-append, length-map, get_or-map, get_or_append_left, get_or_at}
 use Rattle.std.proofs.lemmas.Bool.{cases_lt}
 use Rattle.sts_code.specs.declared.instr.Instr.{Instr}
 use Rattle.sts_code.specs.declared.instr.Instr.TheVariants.{Push, Pop, Dup, Swap, Load, Store, Add, Sub, Mul, Lt, Eq, Div, Jmp, Jz, Times, Next, Open, Fork, Join, Close, Cancelled, Case, Get, Except, Tally, Total, Forget, Bind, Unbind, Read, Bound, OrElse, Interrupted, Ret, Fail}
+use Rattle.sts_model.specs.Around.{named, next_place}
 use Rattle.sts_model.specs.ControlPaths.{Among}
 use Rattle.sts_budget.specs.Laid.{Writes, listed, AreListed, IsListAfter, IsDeepest}
-use Rattle.sts_budget.specs.Layout.{Names, names_after, keeps_names}
+use Rattle.sts_budget.specs.Layout.{Names, names_after, keeps_names, goes_straight_on}
 use Rattle.sts_budget.proofs.Forward.{among_cases}
 
 -- an instruction that opens and closes nothing keeps the names
@@ -46,6 +47,44 @@ same_names (OrElse k) ns e = refl
 same_names Interrupted ns e = refl
 same_names Ret ns e = refl
 same_names Fail ns e = refl
+
+-- an instruction that goes straight on leads to the next place alone
+pub straight : (i : Instr) (pc : ℕ) → goes_straight_on i ≡ true → (pc + 1) ∷ [] ≡ named i ++ next_place pc i
+straight (Push k) pc e = refl
+straight Pop pc e = refl
+straight Dup pc e = refl
+straight Swap pc e = refl
+straight (Load x) pc e = refl
+straight (Store x) pc e = refl
+straight Add pc e = refl
+straight Sub pc e = refl
+straight Mul pc e = refl
+straight Lt pc e = refl
+straight Eq pc e = refl
+straight (Div to) pc e = absurd (cc)
+straight (Jmp to) pc e = absurd (cc)
+straight (Jz to) pc e = absurd (cc)
+straight (Times n) pc e = refl
+straight Next pc e = refl
+straight (Open x j timed) pc e = refl
+straight (Fork x g h) pc e = refl
+straight (Join x a b c) pc e = absurd (cc)
+straight (Close x) pc e = refl
+straight (Cancelled x) pc e = refl
+straight (Case h a b) pc e = absurd (cc)
+straight (Get h) pc e = refl
+straight (Except h) pc e = refl
+straight (Tally x k) pc e = refl
+straight (Total x) pc e = refl
+straight (Forget h) pc e = refl
+straight (Bind k) pc e = refl
+straight Unbind pc e = refl
+straight (Read k) pc e = refl
+straight (Bound k) pc e = refl
+straight (OrElse k) pc e = refl
+straight Interrupted pc e = refl
+straight Ret pc e = absurd (cc)
+straight Fail pc e = absurd (cc)
 
 pub list_kept : (i : Instr) (list : ℕ) (lists : List Names) → list < length lists → keeps_names i ≡ true → IsListAfter i list list lists lists
 list_kept i list lists lt e = record { kept = λ k less. refl; more = omega arith; inside = lt; after = sym (same_names i (get_or lists list []) e) }

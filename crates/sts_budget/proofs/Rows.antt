@@ -4,7 +4,7 @@ use Rattle.std.proofs.Math.Seq.{take-suc}
 use Rattle.std.proofs.lemmas.Bool.{cases_eq}
 use Rattle.sts_model.specs.ControlPaths.{Among}
 use Rattle.sts_budget.specs.Row.{IsRaised, IsOver}
-use Rattle.sts_budget.specs.Table.{read, IsSent, IsStopped}
+use Rattle.sts_budget.specs.Table.{read, IsRaisedAt, IsSent, IsStopped}
 use Rattle.sts_budget.proofs.Sorts.{among_of, among_left, among_right}
 use Rattle.sts_budget.proofs.Forward.{among_cases}
 use Rattle.sts_budget.proofs.LaidStep.{among_at}
@@ -55,3 +55,10 @@ sent_more values low most places i to before mid row lt is within h r = record {
 -- a value over the limit at a place
 pub stopped_at : (values : List ℕ) (low : ℕ → ℕ) (most : ℕ) (places : List ℕ) (i to : ℕ) → i < length places → get_or places i 0 ≡ to → IsOver values (low to) most → IsStopped values low most places
 stopped_at values low most places i to lt is over = (to, (over.0, (subst (Among places) is (among_at places i 0 lt), over.1.0, over.1.1)))
+
+-- one place alone
+pub sent_one : (values : List ℕ) (low : ℕ → ℕ) (most to : ℕ) (before after : List (List ℕ)) → to < length before → IsRaisedAt values (low to) most to before after → IsSent values low most (to ∷ []) before after
+sent_one values low most to before after within (row, h) = subst (IsSent values low most (to ∷ []) before) (sym h.0) (sent_more values low most (to ∷ []) 0 to before before row (omega arith) refl within (sent_none values low most (to ∷ []) before) h.1)
+
+pub stopped_one : (values : List ℕ) (low : ℕ → ℕ) (most to : ℕ) → IsOver values (low to) most → IsStopped values low most (to ∷ [])
+stopped_one values low most to over = stopped_at values low most (to ∷ []) 0 to (omega arith) refl over

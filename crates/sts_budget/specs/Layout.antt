@@ -1,7 +1,7 @@
 -- The open entries by their names alone (this project's own).
 use Rattle.std.specs.Prelude.{◌≡◌, ℕ, ◌<◌, ◌⊎◌, List, [], ◌∷◌, length, drop, Option, Some, None, Bool, true, false}
 use Rattle.sts_code.specs.declared.instr.Instr.{Instr}
-use Rattle.sts_code.specs.declared.instr.Instr.TheVariants.{Open, Fork, Close, Bind, Unbind}
+use Rattle.sts_code.specs.declared.instr.Instr.TheVariants.{Div, Jmp, Jz, Open, Fork, Join, Close, Case, Bind, Unbind, Ret, Fail}
 
 -- the names of the open entries, the innermost first: a scope's slot, or none for a binding
 abbrev pub Names : Type 0
@@ -22,6 +22,17 @@ keeps_names (Bind key) = false
 keeps_names (Close slot) = false
 keeps_names Unbind = false
 keeps_names _ = true
+
+-- does the instruction go on to the next place alone?
+abbrev pub goes_straight_on : Instr → Bool
+goes_straight_on (Div to) = false
+goes_straight_on (Jmp to) = false
+goes_straight_on (Jz to) = false
+goes_straight_on (Join slot failed timeout interrupted) = false
+goes_straight_on (Case handle success failed) = false
+goes_straight_on Ret = false
+goes_straight_on Fail = false
+goes_straight_on _ = true
 
 -- is there a scope in this slot among them?
 abbrev pub HasScope : ℕ → Names → Type 0

@@ -1,6 +1,7 @@
 -- The table of greatest sums that one pass makes (this project's own).
-use Rattle.std.proofs.Common.{◌≡◌, ℕ, ◌+◌, ◌*◌, ◌<◌, ◌≤◌, ◌⊎◌, max, List, [], length, get_or}
+use Rattle.std.proofs.Common.{◌≡◌, ℕ, ◌+◌, ◌*◌, ◌<◌, ◌≤◌, ◌⊎◌, max, List, [], length, get_or, slice_set}
 use Rattle.sts_model.specs.ControlPaths.{Shape, GoesTo, Repeats, EndsTurn, Skeleton, Among}
+use Rattle.sts_budget.specs.Row.{IsRaised}
 use Rattle.sts_budget.specs.Structured.{bound_of}
 use Rattle.sts_budget.specs.Sums.{Flows, gain, Stands}
 
@@ -33,6 +34,10 @@ pub record IsSpread (c : Skeleton) (f : Flows) (head : ℕ → ℕ) (k : ℕ) (b
 pub record IsPartial (c : Skeleton) (f : Flows) (k : ℕ) (rows : List (List ℕ)) : Type 0 where
   pub long : length rows ≡ c.size
   pub greatest : (pc d : ℕ) → pc < c.size → d ≤ f.depth pc → MaxOf (Handed c f (read rows) k pc d) (read rows pc d)
+
+-- the row at a place is raised to the values
+abbrev pub IsRaisedAt : List ℕ → (low most to : ℕ) → (before after : List (List ℕ)) → Type 0
+IsRaisedAt values low most to before after = (row : List ℕ) × ((after ≡ slice_set before to row) × IsRaised values low most (get_or before to []) row)
 
 -- the rows at these places are raised to the values, as far as entries are open there
 pub record IsSent (values : List ℕ) (low : ℕ → ℕ) (most : ℕ) (places : List ℕ) (before after : List (List ℕ)) : Type 0 where

@@ -26,11 +26,11 @@ pub struct Layout {
     pub heads: Vec<Option<u32>>,
     /// The `next` that ends the loop of a `times`.
     pub mates: Vec<u32>,
-    /// The lists of names that are open at some place.
+    /// The lists of names, of which each place has one: a new one for each entry that opens or closes.
     pub lists: Vec<Names>,
-    /// Which of the lists is open at each place.
+    /// Which of the lists each place has.
     pub which: Vec<usize>,
-    /// The greatest number of entries that are open at a place.
+    /// The greatest length of the lists: no place has more open entries.
     pub deepest: usize,
 }
 
@@ -149,7 +149,23 @@ fn push_given(places: &mut ArrayVec<u32, 4>, target: Option<u32>)
     }
 }
 
-/// Writes a value at these places.
+/// Does the instruction go on to the next place alone?
+pub(crate) fn goes_straight_on(instr: Instr) -> bool
+    ensures { result ≡ def.goes_straight_on instr }
+{
+    !matches!(
+        instr,
+        Instr::Div(_)
+            | Instr::Jmp(_)
+            | Instr::Jz(_)
+            | Instr::Join { .. }
+            | Instr::Case { .. }
+            | Instr::Ret
+            | Instr::Fail
+    )
+}
+
+/// Writes the innermost loop at these places.
 fn write_heads(heads: &mut Vec<Option<u32>>, places: &[u32], head: Option<u32>)
     requires { All (λ to. to < vec_len heads.old) places.now }
     ensures { Writes places.now head None heads.old.items heads.new.items }
@@ -159,7 +175,7 @@ fn write_heads(heads: &mut Vec<Option<u32>>, places: &[u32], head: Option<u32>)
     }
 }
 
-/// Writes which list is open at these places.
+/// Writes which list of names these places have.
 fn write_which(which: &mut Vec<usize>, places: &[u32], list: usize)
     requires { All (λ to. to < vec_len which.old) places.now }
     ensures { Writes places.now list 0 which.old.items which.new.items }
@@ -167,6 +183,31 @@ fn write_which(which: &mut Vec<usize>, places: &[u32], list: usize)
     for i in 0..places.len() {
         which[places[i] as usize] = list;
     }
+}
+
+/// Writes the innermost loop and the list of names at the places where an instruction goes on.
+fn write_on(
+    heads: &mut Vec<Option<u32>>,
+    which: &mut Vec<usize>,
+    instr: Instr,
+    pc: usize,
+    head: Option<u32>,
+    list: usize,
+)
+    requires short { pc < 4096 }
+    requires heads_inside { All (λ to. to < vec_len heads.old) (around.named instr ++ around.next_place pc instr) }
+    requires which_inside { All (λ to. to < vec_len which.old) (around.named instr ++ around.next_place pc instr) }
+    ensures heads { Writes (around.named instr ++ around.next_place pc instr) head None heads.old.items heads.new.items }
+    ensures which { Writes (around.named instr ++ around.next_place pc instr) list 0 which.old.items which.new.items }
+{
+    if goes_straight_on(instr) {
+        heads[pc + 1] = head;
+        which[pc + 1] = list;
+        return;
+    }
+    let places = targets(instr, pc as u32);
+    write_heads(heads, places.as_slice(), head);
+    write_which(which, places.as_slice(), list);
 }
 
 /// The `times` of the innermost loop at the places to which the instruction at `pc` leads.
@@ -218,13 +259,11 @@ pub fn lay_out(alloc: Global, program: &Program, function: usize) -> Result<Layo
     lists.push(Stack::new())?;
     for pc in 0..code.len() {
         let instr = code[pc];
-        let places = targets(instr, pc as u32);
         let after = list_after(&mut lists, instr, which[pc])?;
         let innermost = heads[pc];
         let head = head_after(instr, pc as u32, heads.as_slice());
         write_mate(&mut mates, instr, pc as u32, innermost);
-        write_heads(&mut heads, places.as_slice(), head);
-        write_which(&mut which, places.as_slice(), after);
+        write_on(&mut heads, &mut which, instr, pc, head, after);
     }
     let deepest = deepest_of(lists.as_slice());
     Ok(Layout {

@@ -1,24 +1,46 @@
 //! One forward pass makes the table of greatest sums.
 
-ghost use Rattle.std.specs.Prelude.{◌≡◌, ◌<◌, ◌≤◌, ◌+◌, ◌*◌, ℕ, List, [], All, IsTrue, IsFalse, IfOk, MatchOption, length, min, replicate, get_or};
+ghost use Rattle.std.specs.Prelude.{◌≡◌, ◌<◌, ◌≤◌, ◌+◌, ◌*◌, ℕ, ◌++◌, All, IsTrue, IsFalse, IfOk, MatchOption, length, min, replicate, get_or};
+ghost use Rattle.sts_model.specs.Around as around;
 ghost use Rattle.sts_model.specs.Around.{instr_at};
 ghost use Rattle.sts_model.specs.Budget.{skeleton};
 ghost use Rattle.sts_budget.specs.Effect.{depth_of as depth, own_step};
 ghost use Rattle.sts_budget.specs.Laid.{AreListed};
 ghost use Rattle.sts_budget.specs.Ready.{IsReady, flows_in, head_in, names_in};
-ghost use Rattle.sts_budget.specs.Table.{IsSent, IsStopped, IsSpread, IsPartial, HandsTooMuch, Passes, read};
+ghost use Rattle.sts_budget.specs.Row.{IsOver};
+ghost use Rattle.sts_budget.specs.Table.{IsRaisedAt, IsSent, IsStopped, IsSpread, IsPartial, HandsTooMuch, Passes, read};
 ghost use Rattle.sts_budget.specs.Handing.{handed_value, is_quiet, turns_of};
 
 use crate::effect::{Kind, depth_of, effect_of};
-use crate::layout::{Layout, names_at, targets};
+use crate::layout::{Layout, goes_straight_on, names_at, targets};
 use crate::row::{Row, Values, raise, values_after, values_of_loop};
 use std::alloc::{AllocError, Global};
 use sts_code::instr::Instr;
 use sts_model::budget::Budgets;
 use sts_model::fill::filled;
 
-/// Raises the rows at these places to the values, as far as entries are open there: false where one of these values
-/// passes the limit.
+/// Raises the row at a place to the values, as far as entries are open there: false where one of these values passes
+/// the limit.
+fn raise_at<const N: usize>(
+    best: &mut Vec<Row<N>>,
+    to: usize,
+    values: &Values<N>,
+    kind: Kind,
+    layout: &Layout,
+    most: u32,
+) -> bool
+    requires inside { to < length best.old.items }
+    requires named { length layout.now.which.items ≡ length best.old.items }
+    requires listed { AreListed layout.now.lists.items layout.now.which.items }
+    requires fits { (pc : ℕ) → depth kind (names_in layout.now pc) < N }
+    ensures raised { IsTrue result → IsRaisedAt values.now (depth kind (names_in layout.now to)) most to best.old.items best.new.items }
+    ensures over { IsFalse result → IsOver values.now (depth kind (names_in layout.now to)) most }
+{
+    let low = depth_of(kind, names_at(layout, to));
+    raise(&mut best[to], values, low, most)
+}
+
+/// Raises the rows at these places to the values: false where one of these values passes the limit.
 fn send<const N: usize>(
     best: &mut Vec<Row<N>>,
     places: &[u32],
@@ -35,13 +57,36 @@ fn send<const N: usize>(
     ensures over { IsFalse result → IsStopped values.now (λ pc. depth kind (names_in layout.now pc)) most places.now }
 {
     for i in 0..places.len() {
-        let to = places[i] as usize;
-        let low = depth_of(kind, names_at(layout, to));
-        if !raise(&mut best[to], values, low, most) {
+        if !raise_at(best, places[i] as usize, values, kind, layout, most) {
             return false;
         }
     }
     true
+}
+
+/// Raises the rows at the places where an instruction goes on.
+fn send_on<const N: usize>(
+    best: &mut Vec<Row<N>>,
+    instr: Instr,
+    pc: usize,
+    values: &Values<N>,
+    kind: Kind,
+    layout: &Layout,
+    most: u32,
+) -> bool
+    requires short { pc < 4096 }
+    requires inside { All (λ to. to < length best.old.items) (around.named instr ++ around.next_place pc instr) }
+    requires named { length layout.now.which.items ≡ length best.old.items }
+    requires listed { AreListed layout.now.lists.items layout.now.which.items }
+    requires fits { (q : ℕ) → depth kind (names_in layout.now q) < N }
+    ensures sent { IsTrue result → IsSent values.now (λ q. depth kind (names_in layout.now q)) most (around.named instr ++ around.next_place pc instr) best.old.items best.new.items }
+    ensures over { IsFalse result → IsStopped values.now (λ q. depth kind (names_in layout.now q)) most (around.named instr ++ around.next_place pc instr) }
+{
+    if goes_straight_on(instr) {
+        return raise_at(best, pc + 1, values, kind, layout, most);
+    }
+    let places = targets(instr, pc as u32);
+    send(best, places.as_slice(), values, kind, layout, most)
 }
 
 /// Does the instruction hand on nothing: is it the end of a path, or a `times`, behind which sums begin again?
@@ -140,8 +185,7 @@ fn hand_on<const N: usize>(
         return true;
     }
     let values = values_of(kind, earlier, code, layout, best.as_slice(), pc);
-    let places = targets(instr, pc as u32);
-    send(best, places.as_slice(), &values, kind, layout, most)
+    send_on(best, instr, pc, &values, kind, layout, most)
 }
 
 /// The table of the greatest sums, or none where one passes the limit.

@@ -1,8 +1,9 @@
-use Rattle.std.proofs.Common.{◌≡◌, ◌<◌, ℕ, [], ◌∷◌, ◌++◌, None, pos, get_or, length, sym, ap, ◌∙◌, subst, arith}
+use Rattle.std.proofs.Common.{◌≡◌, ◌<◌, ℕ, [], ◌∷◌, ◌++◌, None, pos, get_or, length, refl, sym, ap, ◌∙◌, subst, arith}
 use Rattle.std.proofs.lemmas.List.{length-map}
 use Rattle.sts_code.specs.declared.instr.Instr.TheVariants.{Push}
+use Rattle.sts_model.specs.Around.{named, next_place}
 use Rattle.sts_code.specs.Program.{routine}
-use Rattle.sts_budget.specs.Laid.{IsLaid, listed, AreListed, IsDeepest, Writes, head_after}
+use Rattle.sts_budget.specs.Laid.{IsLaid, listed, AreListed, IsDeepest, head_after}
 use Rattle.sts_model.specs.ControlPaths.{Among}
 use Rattle.sts_budget.proofs.Listed.{listed_at, listed_none, are_listed_none, listed_writes, are_listed_more}
 use Rattle.sts_budget.proofs.LaidStep.{Stage, among_fit, begin, short, room, head_fits, mate_fits, any_default, inside_of, places_fit, next_place_laid}
@@ -22,40 +23,15 @@ overflow_cast-pc c =
     let s : Stage c.args.program.now c.args.function c.loop-pc.pc c.code_of-code.result.now c.loop-pc.heads.items c.loop-pc.mates.items (listed c.loop-pc.lists.items c.loop-pc.which.items) = record { fine = c.code_of-code.ensures.checked; in_program = c.requires.in_program; typed = c.requires.typed; code_is = c.code_of-code.ensures.value; within = c.loop-pc-test.true; laid = c.loop-pc.invariant.0 } in
     let lt = short s in omega arith
 
-pub targets-places-requires : goal.targets-places-requires
-targets-places-requires c =
-    let s : Stage c.args.program.now c.args.function c.loop-pc.pc c.code_of-code.result.now c.loop-pc.heads.items c.loop-pc.mates.items (listed c.loop-pc.lists.items c.loop-pc.which.items) = record { fine = c.code_of-code.ensures.checked; in_program = c.requires.in_program; typed = c.requires.typed; code_is = c.code_of-code.ensures.value; within = c.loop-pc-test.true; laid = c.loop-pc.invariant.0 } in
-    short s
-
-pub overflow_cast-pc-in-loop-pc : goal.overflow_cast-pc-in-loop-pc
-overflow_cast-pc-in-loop-pc c =
-    let s : Stage c.args.program.now c.args.function c.loop-pc.pc c.code_of-code.result.now c.loop-pc.heads.items c.loop-pc.mates.items (listed c.loop-pc.lists.items c.loop-pc.which.items) = record { fine = c.code_of-code.ensures.checked; in_program = c.requires.in_program; typed = c.requires.typed; code_is = c.code_of-code.ensures.value; within = c.loop-pc-test.true; laid = c.loop-pc.invariant.0 } in
-    let lt = short s in omega arith
-
 pub head_after-head-requires-clause-head : goal.head_after-head-requires-clause-head
 head_after-head-requires-clause-head c =
     let s : Stage c.args.program.now c.args.function c.loop-pc.pc c.code_of-code.result.now c.loop-pc.heads.items c.loop-pc.mates.items (listed c.loop-pc.lists.items c.loop-pc.which.items) = record { fine = c.code_of-code.ensures.checked; in_program = c.requires.in_program; typed = c.requires.typed; code_is = c.code_of-code.ensures.value; within = c.loop-pc-test.true; laid = c.loop-pc.invariant.0 } in
     λ h e. subst (λ hs. h < length hs) (sym c.as_slice.ensures.value) (head_fits s h (ap (λ hs. get_or hs c.loop-pc.pc None) (sym c.as_slice.ensures.value) ∙ e))
 
-pub overflow_cast-pc-in-loop-pc-2 : goal.overflow_cast-pc-in-loop-pc-2
-overflow_cast-pc-in-loop-pc-2 c =
-    let s : Stage c.args.program.now c.args.function c.loop-pc.pc c.code_of-code.result.now c.loop-pc.heads.items c.loop-pc.mates.items (listed c.loop-pc.lists.items c.loop-pc.which.items) = record { fine = c.code_of-code.ensures.checked; in_program = c.requires.in_program; typed = c.requires.typed; code_is = c.code_of-code.ensures.value; within = c.loop-pc-test.true; laid = c.loop-pc.invariant.0 } in
-    let lt = short s in omega arith
-
 pub write_mate-requires : goal.write_mate-requires
 write_mate-requires c =
     let s : Stage c.args.program.now c.args.function c.loop-pc.pc c.code_of-code.result.now c.loop-pc.heads.items c.loop-pc.mates.items (listed c.loop-pc.lists.items c.loop-pc.which.items) = record { fine = c.code_of-code.ensures.checked; in_program = c.requires.in_program; typed = c.requires.typed; code_is = c.code_of-code.ensures.value; within = c.loop-pc-test.true; laid = c.loop-pc.invariant.0 } in
     mate_fits s c.index-innermost.result.now _ c.index-innermost.ensures
-
-pub write_heads-requires : goal.write_heads-requires
-write_heads-requires c =
-    let s : Stage c.args.program.now c.args.function c.loop-pc.pc c.code_of-code.result.now c.loop-pc.heads.items c.loop-pc.mates.items (listed c.loop-pc.lists.items c.loop-pc.which.items) = record { fine = c.code_of-code.ensures.checked; in_program = c.requires.in_program; typed = c.requires.typed; code_is = c.code_of-code.ensures.value; within = c.loop-pc-test.true; laid = c.loop-pc.invariant.0 } in
-    λ k d lt. (let h = places_fit s c.as_slice-in-loop-pc.result.now (c.as_slice-in-loop-pc.ensures.value ∙ c.targets-places.ensures) k d lt in omega (arith, c.loop-pc.invariant.0.heads_long))
-
-pub write_which-requires : goal.write_which-requires
-write_which-requires c =
-    let s : Stage c.args.program.now c.args.function c.loop-pc.pc c.code_of-code.result.now c.loop-pc.heads.items c.loop-pc.mates.items (listed c.loop-pc.lists.items c.loop-pc.which.items) = record { fine = c.code_of-code.ensures.checked; in_program = c.requires.in_program; typed = c.requires.typed; code_is = c.code_of-code.ensures.value; within = c.loop-pc-test.true; laid = c.loop-pc.invariant.0 } in
-    λ k d lt. (let h = places_fit s c.as_slice-in-loop-pc-2.result.now (c.as_slice-in-loop-pc-2.ensures.value ∙ c.targets-places.ensures) k d lt in omega (arith, c.loop-pc.invariant.0.names_long, length-map c.loop-pc.which.items (λ i. get_or c.loop-pc.lists.items i [])))
 
 pub list_after-requires-clause-room : goal.list_after-requires-clause-room
 list_after-requires-clause-room c =
@@ -67,8 +43,7 @@ list_after-requires-clause-room c =
 pub loop-pc-preserved : goal.loop-pc-preserved
 loop-pc-preserved c =
     let s : Stage c.args.program.now c.args.function c.loop-pc.pc c.code_of-code.result.now c.loop-pc.heads.items c.loop-pc.mates.items (listed c.loop-pc.lists.items c.loop-pc.which.items) = record { fine = c.code_of-code.ensures.checked; in_program = c.requires.in_program; typed = c.requires.typed; code_is = c.code_of-code.ensures.value; within = c.loop-pc-test.true; laid = c.loop-pc.invariant.0 } in
-    let p1 = c.as_slice-in-loop-pc.ensures.value ∙ c.targets-places.ensures in
-    let p2 = c.as_slice-in-loop-pc-2.ensures.value ∙ c.targets-places.ensures in
+    let places = named (get_or c.code_of-code.result.now c.loop-pc.pc (Push (pos 0))) ++ next_place c.loop-pc.pc (get_or c.code_of-code.result.now c.loop-pc.pc (Push (pos 0))) in
     let head = c.head_after-head.ensures ∙ ap (λ hs. head_after (get_or c.code_of-code.result.now c.loop-pc.pc (Push (pos 0))) c.loop-pc.pc hs) c.as_slice.ensures.value in
     let end = c.index-innermost.ensures ∙ any_default c.loop-pc.heads.items c.loop-pc.pc _ None (let lt = inside_of s in omega (arith, c.loop-pc.invariant.0.heads_long)) in
     let after = c.in_ok-after.ensures {u = tt} in
@@ -76,11 +51,10 @@ loop-pc-preserved c =
     let lt : c.loop-pc.pc < length c.loop-pc.which.items = omega (arith, inside_of s, c.loop-pc.invariant.0.names_long, long) in
     let list = c.index.ensures ∙ any_default c.loop-pc.which.items c.loop-pc.pc _ 0 lt in
     let before = ap (λ k. get_or c.loop-pc.lists.items k []) list ∙ sym (listed_at c.loop-pc.lists.items c.loop-pc.which.items c.loop-pc.pc lt) in
-    let inside : (to : ℕ) → Among c.as_slice-in-loop-pc-2.result.now to → to < length c.loop-pc.which.items = λ to a. (let lt = among_fit s c.as_slice-in-loop-pc-2.result.now p2 to a in omega (arith, long)) in
-    let w2 = listed_writes _ _ c.in_ok-after.after c.loop-pc.lists.items c.list_after.new.lists.items c.loop-pc.which.items c.write_which.new.which.items c.as_slice-in-loop-pc-2.result.now after c.loop-pc.invariant.1 c.write_which.ensures in
-    let w1 = subst (λ ps. Writes ps (get_or c.list_after.new.lists.items c.in_ok-after.after []) [] (listed c.loop-pc.lists.items c.loop-pc.which.items) (listed c.list_after.new.lists.items c.write_which.new.which.items)) (p2 ∙ sym p1) w2 in (
-      next_place_laid s c.as_slice-in-loop-pc.result.now p1 c.head_after-head.result head (get_or c.list_after.new.lists.items c.in_ok-after.after []) _ [] after.after before c.write_heads.new.heads.items c.write_mate.new.mates.items (listed c.list_after.new.lists.items c.write_which.new.which.items) c.write_heads.ensures w1 c.index-innermost.result.now end c.write_mate.ensures,
-      are_listed_more _ _ c.in_ok-after.after c.loop-pc.lists.items c.list_after.new.lists.items c.loop-pc.which.items c.write_which.new.which.items c.as_slice-in-loop-pc-2.result.now after c.loop-pc.invariant.1 inside c.write_which.ensures,
+    let inside : (to : ℕ) → Among (named (get_or c.code_of-code.result.now c.loop-pc.pc (Push (pos 0))) ++ next_place c.loop-pc.pc (get_or c.code_of-code.result.now c.loop-pc.pc (Push (pos 0)))) to → to < length c.loop-pc.which.items = λ to a. (let lt = among_fit s places refl to a in omega (arith, long)) in
+    let writes = listed_writes _ _ c.in_ok-after.after c.loop-pc.lists.items c.list_after.new.lists.items c.loop-pc.which.items c.write_on.new.which.items places after c.loop-pc.invariant.1 c.write_on.ensures.which in (
+      next_place_laid s places refl c.head_after-head.result head (get_or c.list_after.new.lists.items c.in_ok-after.after []) _ [] after.after before c.write_on.new.heads.items c.write_mate.new.mates.items (listed c.list_after.new.lists.items c.write_on.new.which.items) c.write_on.ensures.heads writes c.index-innermost.result.now end c.write_mate.ensures,
+      are_listed_more _ _ c.in_ok-after.after c.loop-pc.lists.items c.list_after.new.lists.items c.loop-pc.which.items c.write_on.new.which.items places after c.loop-pc.invariant.1 inside c.write_on.ensures.which,
     )
 
 pub returns : goal.returns
@@ -91,3 +65,18 @@ returns c =
       c.loop-pc.invariant.1,
       subst (λ xs. IsDeepest xs c.deepest_of-deepest.result) c.as_slice-2.ensures.value c.deepest_of-deepest.ensures,
     )
+
+pub write_on-requires : goal.write_on-requires
+write_on-requires c =
+    let s : Stage c.args.program.now c.args.function c.loop-pc.pc c.code_of-code.result.now c.loop-pc.heads.items c.loop-pc.mates.items (listed c.loop-pc.lists.items c.loop-pc.which.items) = record { fine = c.code_of-code.ensures.checked; in_program = c.requires.in_program; typed = c.requires.typed; code_is = c.code_of-code.ensures.value; within = c.loop-pc-test.true; laid = c.loop-pc.invariant.0 } in
+    let fit = places_fit s (named (get_or c.code_of-code.result.now c.loop-pc.pc (Push (pos 0))) ++ next_place c.loop-pc.pc (get_or c.code_of-code.result.now c.loop-pc.pc (Push (pos 0)))) refl in
+    record {
+      short = short s;
+      heads_inside = λ k d lt. (let h = fit k d lt in omega (arith, c.loop-pc.invariant.0.heads_long));
+      which_inside = λ k d lt. (let h = fit k d lt in omega (arith, c.loop-pc.invariant.0.names_long, length-map c.loop-pc.which.items (λ i. get_or c.loop-pc.lists.items i [])));
+    }
+
+pub overflow_cast-pc-in-loop-pc : goal.overflow_cast-pc-in-loop-pc
+overflow_cast-pc-in-loop-pc c =
+    let s : Stage c.args.program.now c.args.function c.loop-pc.pc c.code_of-code.result.now c.loop-pc.heads.items c.loop-pc.mates.items (listed c.loop-pc.lists.items c.loop-pc.which.items) = record { fine = c.code_of-code.ensures.checked; in_program = c.requires.in_program; typed = c.requires.typed; code_is = c.code_of-code.ensures.value; within = c.loop-pc-test.true; laid = c.loop-pc.invariant.0 } in
+    let lt = short s in omega arith

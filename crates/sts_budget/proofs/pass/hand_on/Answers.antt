@@ -7,36 +7,35 @@ use Rattle.sts_budget.specs.Ready.{names_in}
 use Rattle.sts_budget.specs.Table.{read, IsSent, IsStopped}
 use Rattle.sts_budget.proofs.LaidStep.{any_default, among_at}
 use Rattle.sts_budget.proofs.HandOn.{sent_spread, stopped_over, leads_in}
-use Rattle.sts_model.specs.ControlPaths.{Among}
 use Rattle.sts_budget.proofs.pass.hand_on.Goals as goal
 
 pub values_of-values-requires : goal.values_of-values-requires
 values_of-values-requires g c = (omega (arith, c.requires.small), (omega (arith, c.requires.small), (c.requires.ready, (c.requires.fits, (c.requires.in_code, ap length c.as_slice.ensures.value ∙ c.requires.rows)))))
 
-pub send-requires : goal.send-requires
-send-requires g c =
-    let inside : (k d : ℕ) → k < length c.as_slice-2.result.now → get_or c.as_slice-2.result.now k d < length c.args.best.now.items = λ k d lt.
-    (let at : get_or c.args.code.now c.args.pc (Push (pos 0)) ≡ instr_at c.args.code.now c.args.pc = any_default c.args.code.now c.args.pc _ Ret c.requires.in_code in
+pub send_on-requires : goal.send_on-requires
+send_on-requires g c =
+    let at : get_or c.args.code.now c.args.pc (Push (pos 0)) ≡ instr_at c.args.code.now c.args.pc = any_default c.args.code.now c.args.pc _ Ret c.requires.in_code in
     let quiet : is_quiet (instr_at c.args.code.now c.args.pc) ≡ false = sym (ap is_quiet at) ∙ sym c.is_quiet.ensures ∙ c.if-is_quiet.false in
-    let places : c.as_slice-2.result.now ≡ named (instr_at c.args.code.now c.args.pc) ++ next_place c.args.pc (instr_at c.args.code.now c.args.pc) = c.as_slice-2.ensures.value ∙ c.targets-places.ensures ∙ ap (λ j. named j ++ next_place c.args.pc j) at in
-    let h = leads_in c.args.kind c.args.earlier.now c.args.code.now c.args.layout.now c.requires.ready c.args.pc (get_or c.as_slice-2.result.now k d) quiet (subst (λ ps. Among ps (get_or c.as_slice-2.result.now k d)) places (among_at c.as_slice-2.result.now k d lt)) in
+    let inside : (k d : ℕ) → k < length (named (instr_at c.args.code.now c.args.pc) ++ next_place c.args.pc (instr_at c.args.code.now c.args.pc)) → get_or (named (instr_at c.args.code.now c.args.pc) ++ next_place c.args.pc (instr_at c.args.code.now c.args.pc)) k d < length c.args.best.now.items = λ k d lt.
+    (let h = leads_in c.args.kind c.args.earlier.now c.args.code.now c.args.layout.now c.requires.ready c.args.pc _ quiet (among_at (named (instr_at c.args.code.now c.args.pc) ++ next_place c.args.pc (instr_at c.args.code.now c.args.pc)) k d lt) in
     omega (arith, c.requires.rows)) in
-    (omega (arith, c.requires.small), (omega (arith, c.requires.small), (inside, (c.requires.ready.which_long ∙ sym c.requires.rows, (c.requires.ready.listed, c.requires.fits)))))
+    let inside' = subst (λ i. (k d : ℕ) → k < length (named i ++ next_place c.args.pc i) → get_or (named i ++ next_place c.args.pc i) k d < length c.args.best.now.items) (sym at) inside in
+    (omega (arith, c.requires.small), (omega (arith, c.requires.small), (omega (arith, c.requires.in_code, c.requires.ready.short), (inside', (c.requires.ready.which_long ∙ sym c.requires.rows, (c.requires.ready.listed, c.requires.fits))))))
 
 pub returns-clause-spread : goal.returns-clause-spread
 returns-clause-spread g c = λ t.
     (let at : get_or c.args.code.now c.args.pc (Push (pos 0)) ≡ instr_at c.args.code.now c.args.pc = any_default c.args.code.now c.args.pc _ Ret c.requires.in_code in
     let quiet : is_quiet (instr_at c.args.code.now c.args.pc) ≡ false = sym (ap is_quiet at) ∙ sym c.is_quiet.ensures ∙ c.if-is_quiet.false in
-    let places : c.as_slice-2.result.now ≡ named (instr_at c.args.code.now c.args.pc) ++ next_place c.args.pc (instr_at c.args.code.now c.args.pc) = c.as_slice-2.ensures.value ∙ c.targets-places.ensures ∙ ap (λ j. named j ++ next_place c.args.pc j) at in
+    let places = ap (λ j. named j ++ next_place c.args.pc j) at in
     let values : (d : ℕ) → d < g.row.N → get_or c.values_of-values.result d 0 ≡ min (handed_value c.args.kind c.args.earlier.now c.args.code.now c.args.layout.now (read c.args.best.now.items) c.args.pc d) 18446744073709551615 = subst (λ rows. (d : ℕ) → d < g.row.N → get_or c.values_of-values.result d 0 ≡ min (handed_value c.args.kind c.args.earlier.now c.args.code.now c.args.layout.now (read rows) c.args.pc d) 18446744073709551615) c.as_slice.ensures.value c.values_of-values.ensures in
-    let sent = subst (λ ps. IsSent c.values_of-values.result (λ q. depth_of c.args.kind (names_in c.args.layout.now q)) c.args.most ps c.args.best.now.items c.send.new.best.items) places (c.send.ensures.sent t) in
-    sent_spread c.args.kind c.args.earlier.now c.args.code.now c.args.layout.now c.requires.ready g.row.N c.args.pc c.args.most c.values_of-values.result c.args.best.now.items c.send.new.best.items c.requires.fits quiet c.ranges.most.fits values sent)
+    let sent = subst (λ ps. IsSent c.values_of-values.result (λ q. depth_of c.args.kind (names_in c.args.layout.now q)) c.args.most ps c.args.best.now.items c.send_on.new.best.items) places (c.send_on.ensures.sent t) in
+    sent_spread c.args.kind c.args.earlier.now c.args.code.now c.args.layout.now c.requires.ready g.row.N c.args.pc c.args.most c.values_of-values.result c.args.best.now.items c.send_on.new.best.items c.requires.fits quiet c.ranges.most.fits values sent)
 
 pub returns-clause-over : goal.returns-clause-over
 returns-clause-over g c = λ t.
     (let at : get_or c.args.code.now c.args.pc (Push (pos 0)) ≡ instr_at c.args.code.now c.args.pc = any_default c.args.code.now c.args.pc _ Ret c.requires.in_code in
     let quiet : is_quiet (instr_at c.args.code.now c.args.pc) ≡ false = sym (ap is_quiet at) ∙ sym c.is_quiet.ensures ∙ c.if-is_quiet.false in
-    let places : c.as_slice-2.result.now ≡ named (instr_at c.args.code.now c.args.pc) ++ next_place c.args.pc (instr_at c.args.code.now c.args.pc) = c.as_slice-2.ensures.value ∙ c.targets-places.ensures ∙ ap (λ j. named j ++ next_place c.args.pc j) at in
+    let places = ap (λ j. named j ++ next_place c.args.pc j) at in
     let values : (d : ℕ) → d < g.row.N → get_or c.values_of-values.result d 0 ≡ min (handed_value c.args.kind c.args.earlier.now c.args.code.now c.args.layout.now (read c.args.best.now.items) c.args.pc d) 18446744073709551615 = subst (λ rows. (d : ℕ) → d < g.row.N → get_or c.values_of-values.result d 0 ≡ min (handed_value c.args.kind c.args.earlier.now c.args.code.now c.args.layout.now (read rows) c.args.pc d) 18446744073709551615) c.as_slice.ensures.value c.values_of-values.ensures in
-    let stopped = subst (λ ps. IsStopped c.values_of-values.result (λ q. depth_of c.args.kind (names_in c.args.layout.now q)) c.args.most ps) places (c.send.ensures.over t) in
+    let stopped = subst (λ ps. IsStopped c.values_of-values.result (λ q. depth_of c.args.kind (names_in c.args.layout.now q)) c.args.most ps) places (c.send_on.ensures.over t) in
     stopped_over c.args.kind c.args.earlier.now c.args.code.now c.args.layout.now c.requires.ready g.row.N c.args.pc c.args.most c.values_of-values.result c.args.best.now.items c.requires.fits c.requires.in_code quiet values stopped)

@@ -1,0 +1,11 @@
+use Rattle.std.proofs.Common.{◌+◌, None, set, sym, ◌∙◌, subst}
+use Rattle.sts_budget.specs.Laid.{Writes}
+use Rattle.sts_budget.proofs.Laid.{writes_one}
+use Rattle.sts_budget.proofs.Listed.{straight}
+use Rattle.sts_budget.proofs.layout.write_on.Goals as goal
+
+pub returns-then-goes_straight_on-clause-heads : goal.returns-then-goes_straight_on-clause-heads
+returns-then-goes_straight_on-clause-heads c = subst (λ ps. Writes ps c.args.head None c.args.heads.now.items (set c.args.heads.now.items (c.args.pc + 1) c.args.head)) (straight c.args.instr c.args.pc (sym c.goes_straight_on.ensures ∙ c.if-goes_straight_on.true)) (writes_one (c.args.pc + 1) c.args.head None c.args.heads.now.items)
+
+pub returns-then-goes_straight_on-clause-which : goal.returns-then-goes_straight_on-clause-which
+returns-then-goes_straight_on-clause-which c = subst (λ ps. Writes ps c.args.list 0 c.args.which.now.items (set c.args.which.now.items (c.args.pc + 1) c.args.list)) (straight c.args.instr c.args.pc (sym c.goes_straight_on.ensures ∙ c.if-goes_straight_on.true)) (writes_one (c.args.pc + 1) c.args.list 0 c.args.which.now.items)
