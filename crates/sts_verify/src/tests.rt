@@ -20,15 +20,29 @@ fn function(alloc: Global, name: &str, code: &[Instr]) -> Result<Function, Fail>
 
 /// A program of a child that returns 0, and of `main` with this code.
 fn program_of(alloc: Global, code: &[Instr]) -> Result<Program, Fail> {
+    program_with(alloc, &[Instr::Push(0), Instr::Ret], code)
+}
+
+/// A program of a child and of `main` with these codes.
+fn program_with(alloc: Global, kid: &[Instr], code: &[Instr]) -> Result<Program, Fail> {
     let mut functions = Vec::new(alloc);
-    functions.push(function(alloc, "kid", &[Instr::Push(0), Instr::Ret])?)?;
+    functions.push(function(alloc, "kid", kid)?)?;
     functions.push(function(alloc, "main", code)?)?;
     Ok(Program::new(functions)?)
 }
 
 /// Where and why it is refused; none where it is accepted or memory was refused.
 fn refusal(alloc: Global, code: &[Instr]) -> Result<Option<(u32, u32, u8)>, Fail> {
-    match verify(alloc, program_of(alloc, code)?) {
+    refusal_with(alloc, &[Instr::Push(0), Instr::Ret], code)
+}
+
+/// The same where the child has this code.
+fn refusal_with(
+    alloc: Global,
+    kid: &[Instr],
+    code: &[Instr],
+) -> Result<Option<(u32, u32, u8)>, Fail> {
+    match verify(alloc, program_with(alloc, kid, code)?) {
         Ok(_) | Err(VerifyError::Memory(_)) => Ok(None),
         Err(
             VerifyError::Refused {
@@ -216,5 +230,98 @@ fn budgets_are_the_most_at_a_time(rt: HostRuntime) -> Result<(), Fail> {
 fn too_much_is_told_behind_the_last_instruction(rt: HostRuntime) -> Result<(), Fail> {
     let alloc = rt.alloc();
     assert_eq!(rt; refusal(alloc, CROWD.as_slice())?, Some((1, 15, 18)));
+    Ok(())
+}
+
+/// A child that opens 15 scopes, each in the one before it; slot 0 has the scope in which it is forked.
+fn scopes_in_scopes(alloc: Global) -> Result<Vec<Instr>, Fail> {
+    let mut code = Vec::new(alloc);
+    for slot in 1..16u8 {
+        code.push(Instr::Open {
+            slot,
+            joiner: Joiner::AwaitAll,
+            timed: false,
+        })?;
+    }
+    for closed in 0..15u8 {
+        let slot = 15 - closed;
+        let pc = 15 + 4 * closed as u32;
+        code.push(Instr::Join {
+            slot,
+            failed: None,
+            timeout: None,
+            interrupted: pc + 3,
+        })?;
+        code.push(Instr::Close(slot))?;
+        code.push(Instr::Jmp(pc + 4))?;
+        code.push(Instr::Close(slot))?;
+    }
+    code.push(Instr::Push(0))?;
+    code.push(Instr::Ret)?;
+    Ok(code)
+}
+
+/// A child that binds 16 keys, each in the binding before it.
+fn bindings_in_bindings(alloc: Global) -> Result<Vec<Instr>, Fail> {
+    let mut code = Vec::new(alloc);
+    for key in 0..16u8 {
+        code.push(Instr::Push(1))?;
+        code.push(Instr::Bind(key))?;
+    }
+    for _bound in 0..16 {
+        code.push(Instr::Unbind)?;
+    }
+    code.push(Instr::Push(0))?;
+    code.push(Instr::Ret)?;
+    Ok(code)
+}
+
+/// Forks the child 5000 times in one scope.
+static MANY: [Instr; 12] = [
+    OPEN,
+    Instr::Push(5000),
+    Instr::Times(5000),
+    FORK,
+    Instr::Next,
+    Instr::Join {
+        slot: 0,
+        failed: None,
+        timeout: None,
+        interrupted: 9,
+    },
+    Instr::Close(0),
+    Instr::Push(1),
+    Instr::Ret,
+    Instr::Push(0),
+    Instr::Close(0),
+    Instr::Fail,
+];
+
+/// 1000 turns of 1000 turns.
+static LONG: [Instr; 8] = [
+    Instr::Push(1000),
+    Instr::Times(1000),
+    Instr::Push(1000),
+    Instr::Times(1000),
+    Instr::Next,
+    Instr::Next,
+    Instr::Push(0),
+    Instr::Ret,
+];
+
+#[test]
+fn too_many_steps_scopes_and_bindings_are_told(rt: HostRuntime) -> Result<(), Fail> {
+    let alloc = rt.alloc();
+    assert_eq!(rt; refusal(alloc, LONG.as_slice())?, Some((1, 8, 17)));
+    let scopes = scopes_in_scopes(alloc)?;
+    assert_eq!(rt;
+        refusal_with(alloc, scopes.as_slice(), MANY.as_slice())?,
+        Some((1, 12, 19))
+    );
+    let bindings = bindings_in_bindings(alloc)?;
+    assert_eq!(rt;
+        refusal_with(alloc, bindings.as_slice(), MANY.as_slice())?,
+        Some((1, 12, 20))
+    );
     Ok(())
 }
