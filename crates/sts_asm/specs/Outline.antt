@@ -139,9 +139,9 @@ is_allowed b = b == 9 || (b == 13 || (nat_le 32 b && nat_le b 126))
 abbrev pub is_semicolon : ℕ → Bool
 is_semicolon b = b == 59
 
--- allowed, and no beginning of a comment?
+-- from the space to `~`, and no beginning of a comment?
 abbrev pub is_plain : ℕ → Bool
-is_plain b = is_allowed b && not (is_semicolon b)
+is_plain b = (nat_le 32 b && nat_le b 126) && not (is_semicolon b)
 
 -- what the line of this number adds; its bytes are judged first, those of a comment too
 abbrev pub line_read : ℕ → Outline → List ℕ → Result Outline AsmKind

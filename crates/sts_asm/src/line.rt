@@ -176,7 +176,7 @@ fn with_operands(
 }
 
 /// The instruction that a first word and the words after it spell, or the first place that is wrong.
-#[inline]
+#[inline(always)]
 #[tactic(auto, using(crate::proofs::TableLemmas::plain_first))]
 pub fn instr_of(
     word: &[u8],

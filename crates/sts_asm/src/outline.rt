@@ -160,7 +160,7 @@ impl<'a> Draft<'a> {
             return Err(AsmKind::DuplicateLabel);
         }
         let at = self.code.len() as u32;
-        self.labels.push(name, at)?;
+        self.labels.push_new(name, at)?;
         Ok(())
     }
 
@@ -177,7 +177,7 @@ impl<'a> Draft<'a> {
     }
 
     /// A line of a function: a label, or an instruction. `word` and `rest` are the words of `text`.
-    #[inline]
+    #[inline(always)]
     fn inner(
         &mut self,
         at: u32,
@@ -224,11 +224,12 @@ fn all_allowed(line: &[u8]) -> bool
         .all(|b| matches!(*b, b'\t' | b'\r' | b' '..=b'~'))
 }
 
-/// Is each byte allowed, and none the beginning of a comment? Most lines are so, and are judged in one pass.
+/// Is each byte from the space to `~`, and none the beginning of a comment? Most lines are so, and are judged in one
+/// pass.
 fn all_plain(line: &[u8]) -> bool
     ensures { result ≡ list_all is_plain line.now }
 {
-    line.iter().all(|b| matches!(*b, b'<'..=b'~' | b' '..=b':' | b'\t' | b'\r'))
+    line.iter().all(|b| matches!(*b, b' '..=b'~') && *b != b';')
 }
 
 fn semicolon_in(line: &[u8]) -> Option<usize>
@@ -305,7 +306,7 @@ impl<'a> Outline<'a> {
         Ok(())
     }
 
-    #[inline]
+    #[inline(always)]
     fn inside(
         &mut self,
         at: u32,
@@ -324,6 +325,7 @@ impl<'a> Outline<'a> {
         }
     }
 
+    #[inline(always)]
     fn say(&mut self, at: u32, text: &'a [u8]) -> Result<(), AsmKind>
         requires { size_of self.old < 2 ^ 32 }
         ensures steps { Steps result self.new (def.said at self.old (words_in text.now)) }
