@@ -319,10 +319,10 @@ impl<'a> Outline<'a> {
         ensures steps { Steps result self.new (def.inside at self.old self.old.current word.now rest.old) }
         ensures grows { OnOk result (size_of self.new ≤ size_of self.old + 1) }
     {
-        match &mut self.current {
-            None => Err(AsmKind::UnknownWord),
-            Some(draft) => draft.inner(at, text, word, rest),
-        }
+        let Some(draft) = &mut self.current else {
+            return Err(AsmKind::UnknownWord);
+        };
+        draft.inner(at, text, word, rest)
     }
 
     #[inline(always)]
@@ -336,14 +336,15 @@ impl<'a> Outline<'a> {
             return Ok(());
         };
         if word == b"func".as_slice() {
-            self.begin(&mut rest)
-        } else if word == b"end".as_slice() {
-            self.end(&mut rest)
-        } else if at == 1 && word == b"profile".as_slice() {
-            self.profile(&mut rest)
-        } else {
-            self.inside(at, text, word, &mut rest)
+            return self.begin(&mut rest);
         }
+        if word == b"end".as_slice() {
+            return self.end(&mut rest);
+        }
+        if at == 1 && word == b"profile".as_slice() {
+            return self.profile(&mut rest);
+        }
+        self.inside(at, text, word, &mut rest)
     }
 
     /// Reads the line of this number.
@@ -353,12 +354,13 @@ impl<'a> Outline<'a> {
         ensures steps { Steps result self.new (def.line_read at self.old line.now) }
         ensures grows { OnOk result (size_of self.new ≤ size_of self.old + 1) }
     {
-        if all_plain(line) {
-            return self.say(at, line);
+        let mut text = line;
+        if !all_plain(line) {
+            if !all_allowed(line) {
+                return Err(AsmKind::NotAscii);
+            }
+            text = uncommented(line);
         }
-        if !all_allowed(line) {
-            return Err(AsmKind::NotAscii);
-        }
-        self.say(at, uncommented(line))
+        self.say(at, text)
     }
 }
