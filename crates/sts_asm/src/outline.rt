@@ -1,6 +1,6 @@
 //! The functions of a text with their labels and lines, while no name is looked up.
 
-ghost use Rattle.std.specs.Prelude.{◌≡◌, ◌∷◌, ◌+◌, ◌<◌, ◌≤◌, ◌^◌, [], length, option_map, is_some, None, OnOk, Ok};
+ghost use Rattle.std.specs.Prelude.{◌≡◌, ◌∷◌, ◌++◌, ◌+◌, ◌<◌, ◌≤◌, ◌^◌, [], length, option_map, is_some, None, OnOk, Ok};
 ghost use Rattle.std.specs.List.{list_all, position, before_first};
 ghost use Rattle.sts_text.specs.Words.{words as words_in};
 ghost use Rattle.sts_asm.specs.Fault.{Steps};
@@ -13,32 +13,76 @@ use crate::fault::AsmKind;
 use crate::line::instr_of;
 use crate::marks::Marks;
 use crate::operand::{byte_at, name_at, name_text};
-use std::alloc::Global;
+use std::alloc::{AllocError, Global};
 use std::marker::Model;
 use sts_code::instr::Instr;
 use sts_code::naming::is_name;
 use sts_code::profile::Profile;
 use sts_text::{Words, number_up_to};
 
-/// A line of an instruction, without its comment, and what it says while no name is known.
+/// A line of an instruction, without its comment.
 #[derive(Drop)]
 pub struct Sentence<'a> {
     pub(crate) line: u32,
     pub(crate) text: &'a [u8],
-    pub(crate) unnamed: Instr,
 }
 
 impl<'a> Model for Sentence<'a> {
-    ghost use Rattle.std.specs.Prelude.{◌≡◌, None, Ok};
     ghost use Rattle.sts_text.specs.Words.{words};
-    ghost use Rattle.sts_asm.specs.Line.{instr_of};
     ghost use Rattle.sts_asm.specs.Outline.{Sentence};
 
     ghost Value = { Sentence };
 
     ghost view = { λ s. record { line = s.line; words = words s.text.now } };
+}
 
-    ghost invariant = { λ s. instr_of None (words s.text.now) ≡ Ok s.unnamed };
+/// The lines of a function's instructions, and what each says while no name is known.
+#[derive(Drop)]
+pub struct Lines<'a> {
+    pub(crate) sentences: Vec<Sentence<'a>>,
+    pub(crate) unnamed: Vec<Instr>,
+}
+
+impl<'a> Model for Lines<'a> {
+    ghost use Rattle.std.specs.Prelude.{List};
+    ghost use Rattle.sts_asm.specs.Outline.{Sentence, AreUnnamed};
+
+    ghost Value = { List Sentence };
+
+    ghost view = { λ l. l.sentences.items };
+
+    ghost invariant = { λ l. AreUnnamed l.sentences.items l.unnamed.items };
+}
+
+impl<'a> Lines<'a> {
+    fn new(alloc: Global) -> Lines<'a>
+        ensures { result ≡ [] }
+    {
+        Lines {
+            sentences: Vec::new(alloc),
+            unnamed: Vec::new(alloc),
+        }
+    }
+
+    fn len(&self) -> usize
+        ensures { result ≡ length self.now }
+    {
+        self.sentences.len()
+    }
+
+    fn push(&mut self, at: u32, text: &'a [u8], unnamed: Instr) -> Result<(), AllocError>
+        requires { instr_of None (words_in text.now) ≡ Ok unnamed }
+        ensures { OnOk result (self.new ≡ self.old ++ record { line = at; words = words_in text.now } ∷ []) }
+    {
+        self.sentences.push(Sentence { line: at, text })?;
+        match self.unnamed.push(unnamed) {
+            Ok(()) => Ok(()),
+            Err(_) => {
+                let _ = self.sentences.pop();
+                Err(AllocError)
+            }
+        }
+    }
 }
 
 /// A function as far as it was read.
@@ -48,7 +92,7 @@ pub struct Draft<'a> {
     pub(crate) args: u8,
     pub(crate) needs: [bool; 16],
     pub(crate) labels: Marks<'a>,
-    pub(crate) code: Vec<Sentence<'a>>,
+    pub(crate) code: Lines<'a>,
 }
 
 impl<'a> Model for Draft<'a> {
@@ -56,7 +100,7 @@ impl<'a> Model for Draft<'a> {
 
     ghost Value = { Draft };
 
-    ghost view = { λ d. record { name = d.name.now; args = d.args; needs = d.needs; labels = d.labels; code = d.code.items } };
+    ghost view = { λ d. record { name = d.name.now; args = d.args; needs = d.needs; labels = d.labels; code = d.code } };
 }
 
 fn no_more(rest: &mut Words<'_>) -> Result<(), AsmKind>
@@ -135,7 +179,7 @@ fn header_at<'a>(alloc: Global, rest: &mut Words<'a>) -> Result<Draft<'a>, AsmKi
         args,
         needs,
         labels: Marks::new(alloc),
-        code: Vec::new(alloc),
+        code: Lines::new(alloc),
     })
 }
 
@@ -168,11 +212,7 @@ impl<'a> Draft<'a> {
         requires { instr_of None (words_in text.now) ≡ Ok unnamed }
         ensures { Steps result self.new (Ok (def.with_sentence at self.old (words_in text.now))) }
     {
-        self.code.push(Sentence {
-            line: at,
-            text,
-            unnamed,
-        })?;
+        self.code.push(at, text, unnamed)?;
         Ok(())
     }
 
@@ -205,8 +245,8 @@ pub struct Outline<'a> {
     pub(crate) profile: Profile,
     pub(crate) functions: Marks<'a>,
     pub(crate) done: Vec<Draft<'a>>,
-    current: Option<Draft<'a>>,
-    alloc: Global,
+    pub(crate) current: Option<Draft<'a>>,
+    pub(crate) alloc: Global,
 }
 
 impl<'a> Model for Outline<'a> {
