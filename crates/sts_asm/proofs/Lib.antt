@@ -1,4 +1,5 @@
 pub mod EachLemmas
+pub mod InPlaceLemmas
 pub mod MarkLemmas
 pub mod NameLemmas
 pub mod NamelessLemmas

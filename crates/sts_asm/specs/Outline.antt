@@ -1,5 +1,5 @@
 -- A text line by line: its functions with their labels and their lines of instructions, while no name is looked up (this project's own).
-use Rattle.std.specs.Prelude.{ℕ, ◌+◌, ◌++◌, ◌==◌, ◌-◌, Bool, true, false, not, ◌&&◌, ◌||◌, List, [], ◌∷◌, length, take, replicate, slice_index, slice_set, nat_le, Option, Some, None, is_some, Result, Ok, Err, if◌then◌else◌, codes}
+use Rattle.std.specs.Prelude.{◌≡◌, map, ℕ, ◌+◌, ◌++◌, ◌==◌, ◌-◌, Bool, true, false, not, ◌&&◌, ◌||◌, List, [], ◌∷◌, length, take, replicate, slice_index, slice_set, nat_le, Option, Some, None, is_some, Result, Ok, Err, if◌then◌else◌, codes}
 use Rattle.std.specs.List.{list_all, before_first}
 use Rattle.std.specs.Str.{bytes_eq}
 use Rattle.sts_code.specs.Name.{is_name}
@@ -7,6 +7,7 @@ use Rattle.sts_code.specs.declared.profile.Profile.{Profile}
 use Rattle.sts_code.specs.declared.profile.Profile.TheVariants.{One, Two}
 use Rattle.sts_text.specs.Words.{lines, words}
 use Rattle.sts_text.specs.Number.{number_up_to}
+use Rattle.sts_code.specs.declared.instr.Instr.{Instr}
 use Rattle.sts_asm.specs.declared.fault.AsmKind.{AsmKind}
 use Rattle.sts_asm.specs.declared.fault.AsmKind.TheVariants.{NotAscii, UnknownWord, BadNumber, BadOperands, DuplicateLabel, Unclosed}
 use Rattle.sts_asm.specs.declared.fault.AsmError.{AsmError}
@@ -34,6 +35,10 @@ pub record Outline : Type 0 where
   pub functions : List Mark
   pub done : List Draft
   pub current : Option Draft
+
+-- Each instruction is what its line says while no name is known.
+abbrev pub AreUnnamed : List Sentence → List Instr → Type 0
+AreUnnamed lines code = map (λ (s : Sentence). instr_of None s.words) lines ≡ map (λ i. Ok i) code
 
 -- before the first line
 abbrev pub empty : Outline
@@ -139,9 +144,9 @@ is_allowed b = b == 9 || (b == 13 || (nat_le 32 b && nat_le b 126))
 abbrev pub is_semicolon : ℕ → Bool
 is_semicolon b = b == 59
 
--- allowed, and no beginning of a comment?
+-- from the space to `~`, and no beginning of a comment?
 abbrev pub is_plain : ℕ → Bool
-is_plain b = is_allowed b && not (is_semicolon b)
+is_plain b = (nat_le 32 b && nat_le b 126) && not (is_semicolon b)
 
 -- what the line of this number adds; its bytes are judged first, those of a comment too
 abbrev pub line_read : ℕ → Outline → List ℕ → Result Outline AsmKind

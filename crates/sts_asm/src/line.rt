@@ -169,14 +169,14 @@ fn with_operands(
     requires { looked_up plain_words word.now ≡ None }
     ensures { result ≡ instr_of (option_copied names.entry) (word.now ∷ words.old) }
 {
-    match mnemonic_of(word) {
-        None => Err(AsmKind::UnknownWord),
-        Some(mnemonic) => operated(words, names, mnemonic),
-    }
+    let Some(mnemonic) = mnemonic_of(word) else {
+        return Err(AsmKind::UnknownWord);
+    };
+    operated(words, names, mnemonic)
 }
 
 /// The instruction that a first word and the words after it spell, or the first place that is wrong.
-#[inline]
+#[inline(always)]
 #[tactic(auto, using(crate::proofs::TableLemmas::plain_first))]
 pub fn instr_of(
     word: &[u8],
@@ -185,8 +185,8 @@ pub fn instr_of(
 ) -> Result<Instr, AsmKind>
     ensures { result ≡ instr_of (option_copied names.entry) (word.now ∷ words.old) }
 {
-    match plain_word(word) {
-        Some(instr) => finished(words, instr),
-        None => with_operands(word, words, names),
+    if let Some(instr) = plain_word(word) {
+        return finished(words, instr);
     }
+    with_operands(word, words, names)
 }

@@ -60,7 +60,8 @@ impl<'a> Marks<'a> {
         self.index.get(name).copied()
     }
 
-    fn push_new(&mut self, name: &'a [u8], at: u32) -> Result<(), AllocError>
+    /// Adds a name that doesn't stand yet.
+    pub fn push_new(&mut self, name: &'a [u8], at: u32) -> Result<(), AllocError>
         requires { marked self.old name.now ≡ None }
         ensures ok { OnOk result (self.new ≡ self.old ++ record { name = name.now; at = at } ∷ []) }
         ensures err { OnErr result (self.new ≡ self.old) }

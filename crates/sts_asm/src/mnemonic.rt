@@ -101,102 +101,129 @@ pub fn plain_word(word: &[u8]) -> Option<Instr>
     ensures { option_map (λ instr. Plain instr) result ≡ looked_up plain_words word.now }
 {
     if word == b"pop".as_slice() {
-        Some(Instr::Pop)
-    } else if word == b"dup".as_slice() {
-        Some(Instr::Dup)
-    } else if word == b"swap".as_slice() {
-        Some(Instr::Swap)
-    } else if word == b"add".as_slice() {
-        Some(Instr::Add)
-    } else if word == b"sub".as_slice() {
-        Some(Instr::Sub)
-    } else if word == b"mul".as_slice() {
-        Some(Instr::Mul)
-    } else if word == b"lt".as_slice() {
-        Some(Instr::Lt)
-    } else if word == b"eq".as_slice() {
-        Some(Instr::Eq)
-    } else if word == b"next".as_slice() {
-        Some(Instr::Next)
-    } else if word == b"unbind".as_slice() {
-        Some(Instr::Unbind)
-    } else if word == b"interrupted".as_slice() {
-        Some(Instr::Interrupted)
-    } else if word == b"ret".as_slice() {
-        Some(Instr::Ret)
-    } else if word == b"fail".as_slice() {
-        Some(Instr::Fail)
-    } else {
-        None
+        return Some(Instr::Pop);
     }
+    if word == b"dup".as_slice() {
+        return Some(Instr::Dup);
+    }
+    if word == b"swap".as_slice() {
+        return Some(Instr::Swap);
+    }
+    if word == b"add".as_slice() {
+        return Some(Instr::Add);
+    }
+    if word == b"sub".as_slice() {
+        return Some(Instr::Sub);
+    }
+    if word == b"mul".as_slice() {
+        return Some(Instr::Mul);
+    }
+    if word == b"lt".as_slice() {
+        return Some(Instr::Lt);
+    }
+    if word == b"eq".as_slice() {
+        return Some(Instr::Eq);
+    }
+    if word == b"next".as_slice() {
+        return Some(Instr::Next);
+    }
+    if word == b"unbind".as_slice() {
+        return Some(Instr::Unbind);
+    }
+    if word == b"interrupted".as_slice() {
+        return Some(Instr::Interrupted);
+    }
+    if word == b"ret".as_slice() {
+        return Some(Instr::Ret);
+    }
+    if word == b"fail".as_slice() {
+        return Some(Instr::Fail);
+    }
+    None
 }
 
 fn numbered_word(word: &[u8]) -> Option<Mnemonic>
     ensures { result ≡ looked_up numbered_words word.now }
 {
     if word == b"load".as_slice() {
-        Some(Mnemonic::WithNumber(Numbered::Load))
-    } else if word == b"store".as_slice() {
-        Some(Mnemonic::WithNumber(Numbered::Store))
-    } else if word == b"bind".as_slice() {
-        Some(Mnemonic::WithNumber(Numbered::Bind))
-    } else if word == b"read".as_slice() {
-        Some(Mnemonic::WithNumber(Numbered::Read))
-    } else if word == b"bound".as_slice() {
-        Some(Mnemonic::WithNumber(Numbered::Bound))
-    } else if word == b"orelse".as_slice() {
-        Some(Mnemonic::WithNumber(Numbered::OrElse))
-    } else {
-        None
+        return Some(Mnemonic::WithNumber(Numbered::Load));
     }
+    if word == b"store".as_slice() {
+        return Some(Mnemonic::WithNumber(Numbered::Store));
+    }
+    if word == b"bind".as_slice() {
+        return Some(Mnemonic::WithNumber(Numbered::Bind));
+    }
+    if word == b"read".as_slice() {
+        return Some(Mnemonic::WithNumber(Numbered::Read));
+    }
+    if word == b"bound".as_slice() {
+        return Some(Mnemonic::WithNumber(Numbered::Bound));
+    }
+    if word == b"orelse".as_slice() {
+        return Some(Mnemonic::WithNumber(Numbered::OrElse));
+    }
+    None
 }
 
 fn slotted_word(word: &[u8]) -> Option<Mnemonic>
     ensures { result ≡ looked_up slotted_words word.now }
 {
     if word == b"close".as_slice() {
-        Some(Mnemonic::WithSlot(Slotted::Close))
-    } else if word == b"cancelled".as_slice() {
-        Some(Mnemonic::WithSlot(Slotted::Cancelled))
-    } else if word == b"get".as_slice() {
-        Some(Mnemonic::WithSlot(Slotted::Get))
-    } else if word == b"except".as_slice() {
-        Some(Mnemonic::WithSlot(Slotted::Except))
-    } else if word == b"total".as_slice() {
-        Some(Mnemonic::WithSlot(Slotted::Total))
-    } else if word == b"forget".as_slice() {
-        Some(Mnemonic::WithSlot(Slotted::Forget))
-    } else {
-        None
+        return Some(Mnemonic::WithSlot(Slotted::Close));
     }
+    if word == b"cancelled".as_slice() {
+        return Some(Mnemonic::WithSlot(Slotted::Cancelled));
+    }
+    if word == b"get".as_slice() {
+        return Some(Mnemonic::WithSlot(Slotted::Get));
+    }
+    if word == b"except".as_slice() {
+        return Some(Mnemonic::WithSlot(Slotted::Except));
+    }
+    if word == b"total".as_slice() {
+        return Some(Mnemonic::WithSlot(Slotted::Total));
+    }
+    if word == b"forget".as_slice() {
+        return Some(Mnemonic::WithSlot(Slotted::Forget));
+    }
+    None
 }
 
 fn other_word(word: &[u8]) -> Option<Mnemonic>
     ensures { result ≡ looked_up other_words word.now }
 {
     if word == b"push".as_slice() {
-        Some(Mnemonic::Push)
-    } else if word == b"jz".as_slice() {
-        Some(Mnemonic::WithTarget(Targeted::Jz))
-    } else if word == b"jmp".as_slice() {
-        Some(Mnemonic::WithTarget(Targeted::Jmp))
-    } else if word == b"div".as_slice() {
-        Some(Mnemonic::WithTarget(Targeted::Div))
-    } else if word == b"times".as_slice() {
-        Some(Mnemonic::Times)
-    } else if word == b"open".as_slice() {
-        Some(Mnemonic::Open)
-    } else if word == b"fork".as_slice() {
-        Some(Mnemonic::Fork)
-    } else if word == b"join".as_slice() {
-        Some(Mnemonic::Join)
-    } else if word == b"case".as_slice() {
-        Some(Mnemonic::Case)
-    } else if word == b"tally".as_slice() {
-        Some(Mnemonic::Tally)
-    } else {
-        None
+        return Some(Mnemonic::Push);
     }
+    if word == b"jz".as_slice() {
+        return Some(Mnemonic::WithTarget(Targeted::Jz));
+    }
+    if word == b"jmp".as_slice() {
+        return Some(Mnemonic::WithTarget(Targeted::Jmp));
+    }
+    if word == b"div".as_slice() {
+        return Some(Mnemonic::WithTarget(Targeted::Div));
+    }
+    if word == b"times".as_slice() {
+        return Some(Mnemonic::Times);
+    }
+    if word == b"open".as_slice() {
+        return Some(Mnemonic::Open);
+    }
+    if word == b"fork".as_slice() {
+        return Some(Mnemonic::Fork);
+    }
+    if word == b"join".as_slice() {
+        return Some(Mnemonic::Join);
+    }
+    if word == b"case".as_slice() {
+        return Some(Mnemonic::Case);
+    }
+    if word == b"tally".as_slice() {
+        return Some(Mnemonic::Tally);
+    }
+    None
 }
 
 /// What this first word says, if it is an instruction's; one without operands was looked for before.

@@ -1,6 +1,6 @@
 //! The functions of a text with their labels and lines, while no name is looked up.
 
-ghost use Rattle.std.specs.Prelude.{◌≡◌, ◌∷◌, ◌+◌, ◌<◌, ◌≤◌, ◌^◌, [], length, option_map, is_some, None, OnOk, Ok};
+ghost use Rattle.std.specs.Prelude.{◌≡◌, ◌∷◌, ◌++◌, ◌+◌, ◌<◌, ◌≤◌, ◌^◌, [], length, option_map, is_some, None, OnOk, Ok};
 ghost use Rattle.std.specs.List.{list_all, position, before_first};
 ghost use Rattle.sts_text.specs.Words.{words as words_in};
 ghost use Rattle.sts_asm.specs.Fault.{Steps};
@@ -13,32 +13,76 @@ use crate::fault::AsmKind;
 use crate::line::instr_of;
 use crate::marks::Marks;
 use crate::operand::{byte_at, name_at, name_text};
-use std::alloc::Global;
+use std::alloc::{AllocError, Global};
 use std::marker::Model;
 use sts_code::instr::Instr;
 use sts_code::naming::is_name;
 use sts_code::profile::Profile;
 use sts_text::{Words, number_up_to};
 
-/// A line of an instruction, without its comment, and what it says while no name is known.
+/// A line of an instruction, without its comment.
 #[derive(Drop)]
 pub struct Sentence<'a> {
     pub(crate) line: u32,
     pub(crate) text: &'a [u8],
-    pub(crate) unnamed: Instr,
 }
 
 impl<'a> Model for Sentence<'a> {
-    ghost use Rattle.std.specs.Prelude.{◌≡◌, None, Ok};
     ghost use Rattle.sts_text.specs.Words.{words};
-    ghost use Rattle.sts_asm.specs.Line.{instr_of};
     ghost use Rattle.sts_asm.specs.Outline.{Sentence};
 
     ghost Value = { Sentence };
 
     ghost view = { λ s. record { line = s.line; words = words s.text.now } };
+}
 
-    ghost invariant = { λ s. instr_of None (words s.text.now) ≡ Ok s.unnamed };
+/// The lines of a function's instructions, and what each says while no name is known.
+#[derive(Drop)]
+pub struct Lines<'a> {
+    pub(crate) sentences: Vec<Sentence<'a>>,
+    pub(crate) unnamed: Vec<Instr>,
+}
+
+impl<'a> Model for Lines<'a> {
+    ghost use Rattle.std.specs.Prelude.{List};
+    ghost use Rattle.sts_asm.specs.Outline.{Sentence, AreUnnamed};
+
+    ghost Value = { List Sentence };
+
+    ghost view = { λ l. l.sentences.items };
+
+    ghost invariant = { λ l. AreUnnamed l.sentences.items l.unnamed.items };
+}
+
+impl<'a> Lines<'a> {
+    fn new(alloc: Global) -> Lines<'a>
+        ensures { result ≡ [] }
+    {
+        Lines {
+            sentences: Vec::new(alloc),
+            unnamed: Vec::new(alloc),
+        }
+    }
+
+    fn len(&self) -> usize
+        ensures { result ≡ length self.now }
+    {
+        self.sentences.len()
+    }
+
+    fn push(&mut self, at: u32, text: &'a [u8], unnamed: Instr) -> Result<(), AllocError>
+        requires { instr_of None (words_in text.now) ≡ Ok unnamed }
+        ensures { OnOk result (self.new ≡ self.old ++ record { line = at; words = words_in text.now } ∷ []) }
+    {
+        self.sentences.push(Sentence { line: at, text })?;
+        match self.unnamed.push(unnamed) {
+            Ok(()) => Ok(()),
+            Err(_) => {
+                let _ = self.sentences.pop();
+                Err(AllocError)
+            }
+        }
+    }
 }
 
 /// A function as far as it was read.
@@ -48,7 +92,7 @@ pub struct Draft<'a> {
     pub(crate) args: u8,
     pub(crate) needs: [bool; 16],
     pub(crate) labels: Marks<'a>,
-    pub(crate) code: Vec<Sentence<'a>>,
+    pub(crate) code: Lines<'a>,
 }
 
 impl<'a> Model for Draft<'a> {
@@ -56,7 +100,7 @@ impl<'a> Model for Draft<'a> {
 
     ghost Value = { Draft };
 
-    ghost view = { λ d. record { name = d.name.now; args = d.args; needs = d.needs; labels = d.labels; code = d.code.items } };
+    ghost view = { λ d. record { name = d.name.now; args = d.args; needs = d.needs; labels = d.labels; code = d.code } };
 }
 
 fn no_more(rest: &mut Words<'_>) -> Result<(), AsmKind>
@@ -135,7 +179,7 @@ fn header_at<'a>(alloc: Global, rest: &mut Words<'a>) -> Result<Draft<'a>, AsmKi
         args,
         needs,
         labels: Marks::new(alloc),
-        code: Vec::new(alloc),
+        code: Lines::new(alloc),
     })
 }
 
@@ -160,7 +204,7 @@ impl<'a> Draft<'a> {
             return Err(AsmKind::DuplicateLabel);
         }
         let at = self.code.len() as u32;
-        self.labels.push(name, at)?;
+        self.labels.push_new(name, at)?;
         Ok(())
     }
 
@@ -168,16 +212,12 @@ impl<'a> Draft<'a> {
         requires { instr_of None (words_in text.now) ≡ Ok unnamed }
         ensures { Steps result self.new (Ok (def.with_sentence at self.old (words_in text.now))) }
     {
-        self.code.push(Sentence {
-            line: at,
-            text,
-            unnamed,
-        })?;
+        self.code.push(at, text, unnamed)?;
         Ok(())
     }
 
     /// A line of a function: a label, or an instruction. `word` and `rest` are the words of `text`.
-    #[inline]
+    #[inline(always)]
     fn inner(
         &mut self,
         at: u32,
@@ -205,8 +245,8 @@ pub struct Outline<'a> {
     pub(crate) profile: Profile,
     pub(crate) functions: Marks<'a>,
     pub(crate) done: Vec<Draft<'a>>,
-    current: Option<Draft<'a>>,
-    alloc: Global,
+    pub(crate) current: Option<Draft<'a>>,
+    pub(crate) alloc: Global,
 }
 
 impl<'a> Model for Outline<'a> {
@@ -224,11 +264,12 @@ fn all_allowed(line: &[u8]) -> bool
         .all(|b| matches!(*b, b'\t' | b'\r' | b' '..=b'~'))
 }
 
-/// Is each byte allowed, and none the beginning of a comment? Most lines are so, and are judged in one pass.
+/// Is each byte from the space to `~`, and none the beginning of a comment? Most lines are so, and are judged in one
+/// pass.
 fn all_plain(line: &[u8]) -> bool
     ensures { result ≡ list_all is_plain line.now }
 {
-    line.iter().all(|b| matches!(*b, b'<'..=b'~' | b' '..=b':' | b'\t' | b'\r'))
+    line.iter().all(|b| matches!(*b, b' '..=b'~') && *b != b';')
 }
 
 fn semicolon_in(line: &[u8]) -> Option<usize>
@@ -305,7 +346,7 @@ impl<'a> Outline<'a> {
         Ok(())
     }
 
-    #[inline]
+    #[inline(always)]
     fn inside(
         &mut self,
         at: u32,
@@ -318,12 +359,13 @@ impl<'a> Outline<'a> {
         ensures steps { Steps result self.new (def.inside at self.old self.old.current word.now rest.old) }
         ensures grows { OnOk result (size_of self.new ≤ size_of self.old + 1) }
     {
-        match &mut self.current {
-            None => Err(AsmKind::UnknownWord),
-            Some(draft) => draft.inner(at, text, word, rest),
-        }
+        let Some(draft) = &mut self.current else {
+            return Err(AsmKind::UnknownWord);
+        };
+        draft.inner(at, text, word, rest)
     }
 
+    #[inline(always)]
     fn say(&mut self, at: u32, text: &'a [u8]) -> Result<(), AsmKind>
         requires { size_of self.old < 2 ^ 32 }
         ensures steps { Steps result self.new (def.said at self.old (words_in text.now)) }
@@ -334,14 +376,15 @@ impl<'a> Outline<'a> {
             return Ok(());
         };
         if word == b"func".as_slice() {
-            self.begin(&mut rest)
-        } else if word == b"end".as_slice() {
-            self.end(&mut rest)
-        } else if at == 1 && word == b"profile".as_slice() {
-            self.profile(&mut rest)
-        } else {
-            self.inside(at, text, word, &mut rest)
+            return self.begin(&mut rest);
         }
+        if word == b"end".as_slice() {
+            return self.end(&mut rest);
+        }
+        if at == 1 && word == b"profile".as_slice() {
+            return self.profile(&mut rest);
+        }
+        self.inside(at, text, word, &mut rest)
     }
 
     /// Reads the line of this number.
@@ -351,12 +394,13 @@ impl<'a> Outline<'a> {
         ensures steps { Steps result self.new (def.line_read at self.old line.now) }
         ensures grows { OnOk result (size_of self.new ≤ size_of self.old + 1) }
     {
-        if all_plain(line) {
-            return self.say(at, line);
+        let mut text = line;
+        if !all_plain(line) {
+            if !all_allowed(line) {
+                return Err(AsmKind::NotAscii);
+            }
+            text = uncommented(line);
         }
-        if !all_allowed(line) {
-            return Err(AsmKind::NotAscii);
-        }
-        self.say(at, uncommented(line))
+        self.say(at, text)
     }
 }

@@ -9,7 +9,7 @@ ghost use Rattle.sts_asm.specs.Text.{each, instr_at, routine_of, program_of};
 use crate::fault::{AsmError, AsmKind};
 use crate::line::instr_of;
 use crate::marks::{Marks, Names};
-use crate::outline::{Draft, Outline, Sentence};
+use crate::outline::{Draft, Lines, Outline, Sentence};
 use std::alloc::Global;
 use sts_code::instr::Instr;
 use sts_code::program::{Function, Program};
@@ -40,13 +40,9 @@ fn has_names(instr: &Instr) -> bool
     )
 }
 
-/// The instruction of a line. One that names nothing is what was read before the names were known.
 fn instr_at(names: &Names<'_, '_>, sentence: &Sentence<'_>) -> Result<Instr, AsmError>
     ensures { Judges (λ i. i) result (instr_at names.now sentence.now) }
 {
-    if !has_names(&sentence.unnamed) {
-        return Ok(sentence.unnamed);
-    }
     match instr_in(sentence.text, names) {
         Ok(instr) => Ok(instr),
         Err(AsmKind::Memory) => Err(AsmError {
@@ -60,31 +56,37 @@ fn instr_at(names: &Names<'_, '_>, sentence: &Sentence<'_>) -> Result<Instr, Asm
     }
 }
 
-fn code_of(
-    alloc: Global,
-    names: &Names<'_, '_>,
-    sentences: &[Sentence<'_>],
-) -> Result<Vec<Instr>, AsmError>
-    ensures { Judges (λ code. code.items) result (each (instr_at names.now) sentences.now) }
+/// The instructions of the lines. One that names nothing is what was read before the names were known.
+fn code_of(names: &Names<'_, '_>, lines: Lines<'_>) -> Result<Vec<Instr>, AsmError>
+    ensures { Judges (λ code. code.items) result (each (instr_at names.now) lines.entry) }
 {
-    let mut code = Vec::new(alloc);
-    for sentence in sentences {
-        let instr = instr_at(names, sentence)?;
-        code.push(instr)?;
+    let Lines { sentences, unnamed } = lines;
+    let mut code = unnamed;
+    for (at, sentence) in sentences.iter().enumerate() {
+        if has_names(&code[at]) {
+            code[at] = instr_at(names, sentence)?;
+        }
     }
     Ok(code)
 }
 
-fn routine_of(alloc: Global, functions: &Marks<'_>, draft: &Draft<'_>) -> Result<Function, AsmError>
-    ensures { Judges (λ f. f) result (routine_of functions.now draft.now) }
+fn routine_of(alloc: Global, functions: &Marks<'_>, draft: Draft<'_>) -> Result<Function, AsmError>
+    ensures { Judges (λ f. f) result (routine_of functions.now draft.entry) }
 {
-    let names = Names::new(&draft.labels, functions);
-    let code = code_of(alloc, &names, draft.code.as_slice())?;
-    let name = String::from_str(alloc, draft.name)?;
+    let Draft {
+        name,
+        args,
+        needs,
+        labels,
+        code,
+    } = draft;
+    let names = Names::new(&labels, functions);
+    let code = code_of(&names, code)?;
+    let name = String::from_str(alloc, name)?;
     Ok(Function {
         name,
-        args: draft.args,
-        needs: draft.needs,
+        args,
+        needs,
         code,
     })
 }
@@ -92,9 +94,9 @@ fn routine_of(alloc: Global, functions: &Marks<'_>, draft: &Draft<'_>) -> Result
 fn routines_of(
     alloc: Global,
     functions: &Marks<'_>,
-    drafts: &[Draft<'_>],
+    drafts: Vec<Draft<'_>>,
 ) -> Result<Vec<Function>, AsmError>
-    ensures { Judges (λ fs. fs.items) result (each (routine_of functions.now) drafts.now) }
+    ensures { Judges (λ fs. fs.items) result (each (routine_of functions.now) drafts.entry.items) }
 {
     let mut routines = Vec::new(alloc);
     for draft in drafts {
@@ -105,11 +107,18 @@ fn routines_of(
 }
 
 /// The program of these functions, or the first name that there isn't, or the program check that they fail.
-pub fn program_of(alloc: Global, outline: &Outline<'_>) -> Result<Program, AsmError>
-    ensures { Judges (λ p. p) result (program_of outline.now) }
+pub fn program_of(alloc: Global, outline: Outline<'_>) -> Result<Program, AsmError>
+    ensures { Judges (λ p. p) result (program_of outline.entry) }
 {
-    let routines = routines_of(alloc, &outline.functions, outline.done.as_slice())?;
-    match Program::new_in(outline.profile, routines) {
+    let Outline {
+        profile,
+        functions,
+        done,
+        current: _,
+        alloc: _,
+    } = outline;
+    let routines = routines_of(alloc, &functions, done)?;
+    match Program::new_in(profile, routines) {
         Ok(program) => Ok(program),
         Err(error) => Err(AsmError {
             line: 0,

@@ -62,5 +62,5 @@ pub fn assemble(alloc: Global, text: &[u8]) -> Result<Program, AsmError>
         });
     }
     let outline = outline_of(alloc, text)?;
-    program_of(alloc, &outline)
+    program_of(alloc, outline)
 }

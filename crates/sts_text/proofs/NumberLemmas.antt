@@ -6,8 +6,8 @@ use Rattle.std.specs.List.{list_all}
 use Rattle.std.specs.Str.{IsUtf8, IsAscii}
 use Rattle.std.specs.Char.{is_ascii_digit}
 use Rattle.std.specs.Result.{OkIff}
-use Rattle.std.specs.Str.Parse.{ParsesUnsigned, ParsesSigned, digits_value}
-use Rattle.std.proofs.lemmas.Str.Parse.{parse_digits, parse_signed_digits, parse_signed_minus, IsNumeralModel, numerals_by_value}
+use Rattle.std.specs.Str.Parse.{ParsesSigned, digits_value}
+use Rattle.std.proofs.lemmas.Str.Parse.{parse_signed_minus, IsNumeralModel, numerals_by_value}
 use Rattle.std.proofs.lemmas.Str.Ascii.{IsAscii-nil, IsAscii-cons}
 use Rattle.std.proofs.lemmas.Str.{IsUtf8-from_ascii}
 use Rattle.std.proofs.lemmas.Bool.Decides.{nat_tests}
@@ -38,27 +38,9 @@ digits_utf8 ds e = IsUtf8-from_ascii ds (ascii_digits ds (both (not (length ds =
 some_digit : (n : ℕ) → not (n == 0) ≡ true → 0 < n
 some_digit n e = grind (arith, nat_tests)
 
-at_ok : {E : Type 0} (r : Result ℕ E) (n x most : ℕ) → OkIff r ((0 < n) × (x < most + 1)) x → 0 < n → result_ok r ≡ cond (nat_le x most) (Some x) None
-at_ok (Ok v) n x most h more = grind (arith, nat_tests, h.0.1, h.1)
-at_ok (Err e) n x most h more = grind (arith, nat_tests, λ (p : x < most + 1). h (more, p))
-
-pub parsed : {E : Type 0} (bs : List ℕ) (r : Result ℕ E) → ParsesUnsigned 32 10 bs r → is_digits bs ≡ true → result_ok r ≡ digits_up_to (2 ^ 32 - 1) bs
-parsed bs r h e =
-    let p = both (not (length bs == 0)) (list_all is_ascii_digit bs) e in
-    rw e (at_ok r (length bs) (digits_value 10 bs) (2 ^ 32 - 1) (parse_digits own 32 bs r h p.1) (some_digit (length bs) p.0))
-
-at_ok_int : {E : Type 0} (r : Result ℤ E) (n x limit : ℕ) (z : ℤ) → OkIff r ((0 < n) × (x < limit)) z → 0 < n → result_ok r ≡ cond (nat_lt x limit) (Some z) None
-at_ok_int (Ok v) n x limit z h more = grind (arith, nat_tests, h.0.1, h.1)
-at_ok_int (Err e) n x limit z h more = grind (arith, nat_tests, λ (p : x < limit). h (more, p))
-
 at_ok_le : {E : Type 0} (r : Result ℤ E) (P : Type 0) (n x limit : ℕ) (z : ℤ) → OkIff r (P × (0 < n) × (x ≤ limit)) z → P → 0 < n → result_ok r ≡ cond (nat_le x limit) (Some z) None
 at_ok_le (Ok v) P n x limit z h p more = grind (arith, nat_tests, h.0.2, h.1)
 at_ok_le (Err e) P n x limit z h p more = grind (arith, nat_tests, λ (q : x ≤ limit). h (p, more, q))
-
-pub parsed_positive : {E : Type 0} (bs : List ℕ) (r : Result ℤ E) → ParsesSigned w64 10 bs r → is_digits bs ≡ true → result_ok r ≡ cond (nat_lt (digits_value 10 bs) (2 ^ 63)) (Some (pos (digits_value 10 bs))) None
-parsed_positive bs r h e =
-    let p = both (not (length bs == 0)) (list_all is_ascii_digit bs) e in
-    at_ok_int r (length bs) (digits_value 10 bs) (2 ^ 63) (pos (digits_value 10 bs)) (parse_signed_digits own w64 bs r h p.1) (some_digit (length bs) p.0)
 
 pub parsed_negative : {E : Type 0} (bs : List ℕ) (r : Result ℤ E) → ParsesSigned w64 10 bs r → get_or bs 0 0 ≡ 45 → is_digits (drop 1 bs) ≡ true → result_ok r ≡ cond (nat_le (digits_value 10 (drop 1 bs)) (2 ^ 63)) (Some (neg_ℤ (pos (digits_value 10 (drop 1 bs))))) None
 parsed_negative bs r h m e =

@@ -1,9 +1,9 @@
 //! The numbers that words write.
 
-ghost use Rattle.std.specs.Prelude.{◌≡◌, ◌^◌, ◌<◌, ◌≤◌, ◌-◌, ◌↔◌, Some, None, IfSome, true, nat_lt, nat_le, pos, neg_ℤ, drop, slice_index, if◌then◌else◌, ℕ};
+ghost use Rattle.std.specs.Prelude.{◌≡◌, ◌^◌, ◌<◌, ◌≤◌, ◌-◌, ◌+◌, ◌*◌, ◌↔◌, Some, None, IfSome, true, nat_lt, nat_le, pos, neg_ℤ, drop, slice_index, if◌then◌else◌, ℕ};
 ghost use Rattle.std.specs.Str.Parse.{digits_value};
 ghost use Rattle.std.specs.List.{list_all};
-ghost use Rattle.std.specs.Char.{is_ascii_digit};
+ghost use Rattle.std.specs.Char.{is_ascii_digit, digit_value};
 ghost use Rattle.std.specs.Fmt.{decimal};
 ghost use Rattle.std.specs.Str.{IsUtf8};
 ghost use Rattle.sts_text.specs.Number.{is_digits, has_leading_zero, digits_up_to, numeral, number, number_up_to};
@@ -31,13 +31,36 @@ fn text_of(word: &[u8]) -> &str
     }
 }
 
+/// The number that one more digit makes of the number before it, where that is below 2^64.
+fn with_digit(value: u64, digit: u8) -> Option<u64>
+    requires { is_ascii_digit digit ≡ true }
+    ensures { result ≡ (if nat_lt (value * 10 + digit_value digit) (2 ^ 64) then Some (value * 10 + digit_value digit) else None) }
+{
+    value.checked_mul(10)?.checked_add(u64::from(digit - b'0'))
+}
+
+/// The number that digits write, where it is below 2^64.
+fn value_of(word: &[u8]) -> Option<u64>
+    requires { list_all is_ascii_digit word.now ≡ true }
+    ensures { result ≡ (if nat_lt (digits_value 10 word.now) (2 ^ 64) then Some (digits_value 10 word.now) else None) }
+{
+    let mut value = 0;
+    for digit in word {
+        value = with_digit(value, *digit)?;
+    }
+    Some(value)
+}
+
 fn digits(word: &[u8]) -> Option<u32>
     ensures { result ≡ digits_up_to (2 ^ 32 - 1) word.now }
 {
     if !is_digits(word) {
         return None;
     }
-    text_of(word).parse::<u32>().ok()
+    match value_of(word) {
+        Some(n) => u32::try_from(n).ok(),
+        None => None,
+    }
 }
 
 /// The number that digits write, where it is at most `most`. Leading zeros are allowed.
@@ -79,7 +102,10 @@ fn positive(word: &[u8]) -> Option<i64>
     requires { is_digits word.now ≡ true }
     ensures { result ≡ (if nat_lt (digits_value 10 word.now) (2 ^ 63) then Some (pos (digits_value 10 word.now)) else None) }
 {
-    text_of(word).parse::<i64>().ok()
+    match value_of(word) {
+        Some(n) => i64::try_from(n).ok(),
+        None => None,
+    }
 }
 
 fn negative(word: &[u8]) -> Option<i64>

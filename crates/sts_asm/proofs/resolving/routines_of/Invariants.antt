@@ -1,7 +1,8 @@
 use Rattle.std.proofs.Common.{◌≡◌, drop}
+use Rattle.std.specs.Vec.Iter.{into_iter_items}
 use Rattle.sts_asm.specs.Text.{each, routine_of}
 use Rattle.sts_asm.proofs.EachLemmas.{with_front}
 use Rattle.sts_asm.proofs.resolving.routines_of.Given as goal
 
 abbrev pub invariant-loop-draft : goal.invariant-loop-draft
-invariant-loop-draft l = with_front l.routines.items (each (routine_of l.functions) (drop l.draft-index l.drafts)) ≡ each (routine_of l.functions) l.drafts
+invariant-loop-draft l = with_front l.routines.items (each (routine_of l.functions) (into_iter_items l.draft-iterator)) ≡ each (routine_of l.functions) l.fn.drafts.items
