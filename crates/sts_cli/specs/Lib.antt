@@ -1,3 +1,4 @@
+pub mod Ending
 pub mod Joined
 pub mod Output
 pub mod Printed

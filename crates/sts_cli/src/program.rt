@@ -1,5 +1,8 @@
 //! The program `sts`, but for its `main`: reads the files that a command line names and writes what is printed.
 
+ghost use Rattle.std.specs.Prelude.{◌≡◌, ◌⊎◌, map};
+ghost use Rattle.sts_cli.specs.Ending.{Ends, EndsIn};
+
 use crate::mode::Mode;
 use crate::play::{play, play_joined};
 use crate::taking::{TakeError, take};
@@ -18,14 +21,18 @@ const MOST_OF_A_TEXT: u64 = 1_048_577;
 const STATUS_OUTSIDE: u8 = 6;
 
 /// Writes a line to standard output that says what failed outside of the program.
-fn failed<R: Print>(rt: &R, line: &str) -> u8 {
+fn failed<R: Print>(rt: &R, line: &str) -> u8
+    ensures { result ≡ 6 }
+{
     let mut out = io::writer(rt);
     match out.write_all(line.as_bytes()) {
         Ok(()) | Err(_) => STATUS_OUTSIDE,
     }
 }
 
-fn not_taken<R: Print>(rt: &R, error: TakeError) -> u8 {
+fn not_taken<R: Print>(rt: &R, error: TakeError) -> u8
+    ensures { result ≡ 6 }
+{
     match error {
         TakeError::Memory => failed(rt, "error memory\n"),
         TakeError::Read => failed(rt, "error file\n"),
@@ -44,7 +51,9 @@ fn file<R: Files>(rt: &R, alloc: Global, path: &str, most: u64) -> Result<Vec<u8
 }
 
 /// Does what a mode asks for with a text and a trace, on standard output.
-fn played<R: Print>(rt: &R, alloc: Global, mode: Mode, text: &[u8], trace: &[u8]) -> u8 {
+fn played<R: Print>(rt: &R, alloc: Global, mode: Mode, text: &[u8], trace: &[u8]) -> u8
+    ensures { EndsIn mode result }
+{
     match play(alloc, mode, text, trace, &mut io::writer(rt)) {
         Ok(status) => status,
         Err(_) => STATUS_OUTSIDE,
@@ -52,7 +61,9 @@ fn played<R: Print>(rt: &R, alloc: Global, mode: Mode, text: &[u8], trace: &[u8]
 }
 
 /// A mode that looks at a text alone.
-fn on_file<R: Files + Print>(rt: &R, alloc: Global, mode: Mode, path: &str) -> u8 {
+fn on_file<R: Files + Print>(rt: &R, alloc: Global, mode: Mode, path: &str) -> u8
+    ensures { EndsIn mode result }
+{
     match file(rt, alloc, path, MOST_OF_A_TEXT) {
         Ok(text) => played(rt, alloc, mode, text.as_slice(), &[]),
         Err(error) => not_taken(rt, error),
@@ -60,7 +71,9 @@ fn on_file<R: Files + Print>(rt: &R, alloc: Global, mode: Mode, path: &str) -> u
 }
 
 /// A mode that looks at a text and a trace; the text is read first.
-fn on_files<R: Files + Print>(rt: &R, alloc: Global, mode: Mode, path: &str, trace: &str) -> u8 {
+fn on_files<R: Files + Print>(rt: &R, alloc: Global, mode: Mode, path: &str, trace: &str) -> u8
+    ensures { EndsIn mode result }
+{
     match file(rt, alloc, path, MOST_OF_A_TEXT) {
         Ok(text) => match file(rt, alloc, trace, u64::MAX) {
             Ok(trace) => played(rt, alloc, mode, text.as_slice(), trace.as_slice()),
@@ -71,7 +84,9 @@ fn on_files<R: Files + Print>(rt: &R, alloc: Global, mode: Mode, path: &str, tra
 }
 
 /// A text and a trace on standard input.
-fn on_input<R: Input + Print>(rt: &R, alloc: Global) -> u8 {
+fn on_input<R: Input + Print>(rt: &R, alloc: Global) -> u8
+    ensures { EndsIn Mode.Plain result }
+{
     match take(alloc, &mut rt.reader(), u64::MAX) {
         Ok(input) => match play_joined(alloc, input.as_slice(), &mut io::writer(rt)) {
             Ok(status) => status,
@@ -82,7 +97,9 @@ fn on_input<R: Input + Print>(rt: &R, alloc: Global) -> u8 {
 }
 
 /// Writes a text for the person at the command line to standard error.
-fn told<R: Eprint>(rt: &R, text: &str, status: u8) -> u8 {
+fn told<R: Eprint>(rt: &R, text: &str, status: u8) -> u8
+    ensures { (result ≡ status) ⊎ (result ≡ 6) }
+{
     match eprint!(rt; "{text}") {
         Ok(()) => status,
         Err(_) => STATUS_OUTSIDE,
@@ -92,7 +109,9 @@ fn told<R: Eprint>(rt: &R, text: &str, status: u8) -> u8 {
 /// Does what a command line asks for, its first word being the program's name, and gives the status:
 /// 0 accepted, listed or root succeeded; 1 root failed; 2 usage; 3 a fault of a text; 4 refused; 5 a fault of the run, or
 /// it runs still; 6 memory, a file or a stream failed.
-pub fn run<R: Files + Input + Print + Eprint>(rt: &R, alloc: Global, words: &[&str]) -> u8 {
+pub fn run<R: Files + Input + Print + Eprint>(rt: &R, alloc: Global, words: &[&str]) -> u8
+    ensures { Ends (map (λ w. w.now) words.now) result }
+{
     match line(alloc, words) {
         Ok(asked::Line::Joined) => on_input(rt, alloc),
         Ok(asked::Line::Verify { file }) => on_file(rt, alloc, Mode::Verify, file),

@@ -1,5 +1,5 @@
 -- Why a command line asks for nothing, by `clap`'s own definitions (this project's own).
-use Rattle.std.specs.Prelude.{◌≡◌, ◌≢◌, ◌⊎◌, ◌&&◌, ◌||◌, Bool, false, List, Option, Some, None, is_some, codes}
+use Rattle.std.specs.Prelude.{◌≡◌, ◌≢◌, ◌⊎◌, ◌<◌, ◌&&◌, ◌||◌, Bool, false, List, length, Option, Some, None, is_some, codes}
 use Rattle.std.specs.List.{list_all}
 use Rattle.std.specs.Str.{bytes_eq}
 use Rattle.clap.specs.Words.{Text, Row, Kinds, IsAmong, fault_of, first_of, subcommand_of}
@@ -33,8 +33,15 @@ BlamesUnless whole (error.Usage text) = whole ≡ false
 abbrev pub HasMistake : Kinds → Type 0
 HasMistake kinds = (k : ErrorKind) × IsAmong k kinds × (k ≢ kind.DisplayHelp)
 
--- the words ask for help, or are refused for a mistake, or name no command with all its files
+-- the words ask for help
+abbrev pub AsksForHelp : List Text → Type 0
+AsksForHelp words = IsAmong kind.DisplayHelp (fault_of program words)
+
+-- words follow the program's name, and are refused for a mistake or name no command with all its files
+abbrev pub IsMistaken : List Text → Type 0
+IsMistaken words = (1 < length words) × (HasMistake (fault_of program words) ⊎ (is_whole (subcommand_of program words) ≡ false))
+
 abbrev pub Refuses : List Text → LineError → Type 0
 Refuses words error.Memory = Unit {0}
-Refuses words (error.Help text) = IsAmong kind.DisplayHelp (fault_of program words)
-Refuses words (error.Usage text) = HasMistake (fault_of program words) ⊎ (is_whole (subcommand_of program words) ≡ false)
+Refuses words (error.Help text) = AsksForHelp words
+Refuses words (error.Usage text) = IsMistaken words

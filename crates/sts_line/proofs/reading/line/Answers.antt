@@ -33,7 +33,7 @@ returns-in-Ok-clause-refused c =
     let found = (c.in-Ok.ensures.matches (ap is_simple program_is)).1 in
     let words = map (λ w. w.now) c.args.words.now in
     IfErr-weaker c.chosen.result _ _
-    (λ e h. refuses_blamed words e (subst (λ s. BlamesUnless (is_whole s) e) (found ∙ ap (λ a. subcommand_of a words) program_is) h))
+    (λ e h. refuses_blamed words e (simp length-map (omega arith)) (subst (λ s. BlamesUnless (is_whole s) e) (found ∙ ap (λ a. subcommand_of a words) program_is) h))
     c.chosen.ensures.lacks
 
 pub returns-in-Err-clause-refused : goal.returns-in-Err-clause-refused
@@ -41,5 +41,5 @@ returns-in-Err-clause-refused c =
     let program_is = c.in_ok-command.ensures in
     let words = map (λ w. w.now) c.args.words.now in
     let kinds = c.in-Err.ensures.kinds (ap is_simple_and_free program_is) in
-    refuses_told words (kind_of c.in-Err.error) c.told.result c.told.ensures
+    refuses_told words (kind_of c.in-Err.error) c.told.result (simp length-map (omega arith)) c.told.ensures
     (subst (λ (a : App). HasKind (fault_of a words) c.in-Err.error) program_is kinds)
