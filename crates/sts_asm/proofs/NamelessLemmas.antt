@@ -1,5 +1,5 @@
-use Rattle.std.proofs.Common.{◌≡◌, ℕ, Bool, true, false, List}
-use Rattle.std.specs.Prelude.{Option, Some, None, Ok}
+use Rattle.std.proofs.Common.{◌≡◌, ℕ, false, List}
+use Rattle.std.specs.Prelude.{Option, None, Ok}
 use Rattle.sts_code.specs.declared.instr.Instr.{Instr}
 use Rattle.sts_code.specs.declared.instr.Instr.TheVariants as i
 use Rattle.sts_asm.specs.Marks.{Names}

@@ -1,5 +1,5 @@
-use Rattle.std.proofs.Common.{zero, suc, ◌+◌, ◌-◌, ◌≡◌, ℕ, ◌<◌, ◌≤◌, ◌^◌, Bool, true, false, cond, List, [], ◌∷◌, length, get_or, arith, refl, drop, sym, ◌∙◌, ap, rules}
-use Rattle.std.specs.Prelude.{◌↔◌, Option, Some, None, Result, Ok, Err, nat_lt, nat_le, ◌==◌, ◌&&◌, not, ℤ, pos, neg_ℤ}
+use Rattle.std.proofs.Common.{zero, suc, ◌-◌, ◌≡◌, ℕ, ◌<◌, ◌≤◌, ◌^◌, Bool, true, false, cond, List, [], ◌∷◌, length, get_or, arith, refl, drop, sym, ◌∙◌, ap, rules}
+use Rattle.std.specs.Prelude.{◌↔◌, Option, Some, None, Result, Ok, Err, nat_le, ◌==◌, ◌&&◌, not, ℤ, pos, neg_ℤ}
 use Rattle.std.specs.Result.{result_ok}
 use Rattle.std.specs.Int.{w64}
 use Rattle.std.specs.List.{list_all}

@@ -1,4 +1,4 @@
-use Rattle.std.proofs.Common.{◌≡◌, drop}
+use Rattle.std.proofs.Common.{◌≡◌}
 use Rattle.std.specs.Vec.Iter.{into_iter_items}
 use Rattle.sts_asm.specs.Text.{each, routine_of}
 use Rattle.sts_asm.proofs.EachLemmas.{with_front}
