@@ -70,6 +70,127 @@ def fan_out_trace():
     return "".join(steps)
 
 
+def chain(scopes):
+    """Functions of 14 bindings, each a subtask of the next; the first opens so many scopes, one after another."""
+    binds = " / ".join(f"push {key} / bind {key}" for key in range(14))
+    unbinds = " / ".join(["unbind"] * 14)
+    ending = f"{unbinds} / push 0 / ret / end"
+    text = lines(
+        f"func f0 0 / {binds} / push 10 / times 10 / push {scopes // 10} / times {scopes // 10} / open s1 awaitall / "
+        f"join s1 - - intr / close s1 / jmp on / intr: / close s1 / on: / next / next / {ending}"
+    )
+    depth = 20
+    for i in range(1, depth):
+        name = "main" if i == depth - 1 else f"f{i}"
+        text += lines(
+            f"func {name} 0 / {binds} / open s1 awaitall / fork s1 f{i - 1} _ / join s1 - - intr / close s1 / jmp on / "
+            f"intr: / close s1 / on: / {ending}"
+        )
+    down = "".join(f"step {task}\n" * 30 for task in range(depth - 1))
+    last = f"step {depth - 1}\n" * (28 + 2 + 10 * 3 + scopes * 5 + 16)
+    up = "".join(f"step {task}\n" * 19 for task in reversed(range(depth - 1)))
+    return text, down + last + up
+
+
+def last_of_many(subtasks):
+    """Reads the subtask that ended last of so many, as often."""
+    turns = subtasks // 10
+    text = lines(
+        f"func kid 0 / push 7 / ret / end / func main 0 / open s0 awaitall / push 10 / times 10 / push {turns} / times {turns} / "
+        f"fork s0 kid _ / next / next / fork s0 kid s1 / join s0 - - intr / push 10 / times 10 / push {turns} / times {turns} / "
+        f"get s1 / pop / next / next / close s0 / push 1 / ret / intr: / push 0 / close s0 / fail / end"
+    )
+    kids = "".join(f"step {birth}\n" * 2 for birth in range(1, subtasks + 2))
+    return text, "step 0\n" * (1 + 2 + 30 + subtasks * 2 + 1) + kids + "step 0\n" * (1 + 2 + 30 + subtasks * 3 + 3)
+
+
+def fifties(scopes):
+    """Fifty subtasks in each of so many scopes."""
+    text = lines(
+        f"func kid 0 / push 7 / ret / end / func main 0 / push {scopes} / times {scopes} / open s0 awaitall / push 50 / times 50 / "
+        f"fork s0 kid _ / next / join s0 - - intr / close s0 / jmp on / intr: / close s0 / on: / next / push 1 / ret / end"
+    )
+    turns = ["step 0\n" * 2]
+    for first in range(1, scopes * 50 + 1, 50):
+        turns.append("step 0\n" * 103 + "".join(f"step {birth}\n" * 2 for birth in range(first, first + 50)) + "step 0\n" * 4)
+    return text, "".join(turns) + "step 0\n" * 2
+
+
+def never_run(scopes):
+    """Fifty subtasks forked after the cancel in each of so many scopes."""
+    text = lines(
+        f"func kid 0 / push 7 / ret / end / func main 0 / push {scopes} / times {scopes} / open s0 any / fork s0 kid _ / push 50 / "
+        f"times 50 / fork s0 kid _ / next / join s0 bad - intr / pop / close s0 / jmp on / bad: / pop / close s0 / jmp on / "
+        f"intr: / close s0 / on: / next / push 1 / ret / end"
+    )
+    turns = ["step 0\n" * 2]
+    for first in range(1, scopes * 51 + 1, 51):
+        turns.append("step 0\n" * 2 + f"step {first}\n" * 2 + "step 0\n" * 107)
+    return text, "".join(turns) + "step 0\n" * 2
+
+
+# name, text and trace by the amount of work, and the least amount; each is made with 1, 2, 4 and 8 times that
+GROWTH = [
+    ("chain", chain, 10_000),
+    ("last_of_many", last_of_many, 7_000),
+    ("fifties", fifties, 1_200),
+    ("never_run", never_run, 1_200),
+]
+
+
+MASK = 2**64 - 1
+
+
+def folded(a, b):
+    product = a * b
+    return (product & MASK) ^ (product >> 64)
+
+
+def fed(state, byte):
+    """The state of the standard library's hasher of fixed seed after one byte more."""
+    return folded(state ^ (byte | byte << 8 | byte << 16), 0x9E3779B97F4A7C15 ^ 2)
+
+
+def colliding_names(count):
+    """Names of seven bytes whose hashes by that hasher agree in ten low bits, as many as wanted."""
+    letters = b"abcdefghijklmnopqrstuvwxyz0123456789"
+    start = folded(0x243F6A8885A308D3 ^ (7 | 0 << 32), 0x9E3779B97F4A7C15 ^ 16)
+    names, states = [], [(b"x", fed(start, ord("x")))]
+    for _ in range(5):
+        states = [(name + bytes([c]), fed(state, c)) for name, state in states[:12_000] for c in letters]
+    for name, state in states:
+        for c in letters:
+            if fed(state, c) & 1023 == 0:
+                names.append((name + bytes([c])).decode())
+                if len(names) == count:
+                    return names
+    raise SystemExit(f"only {len(names)} names")
+
+
+def alike_names(count):
+    """Names of 32 bytes, the longest that there are, that differ in their last bytes alone."""
+    return [f"{'x' * 26}{i:06}" for i in range(count)]
+
+
+def labels(names):
+    """One function of labels, with a jump to each of some of them, spread over all."""
+    order = sorted(names, key=lambda name: name[::-1])
+    jumps = "".join(f"jmp {name}\n" for name in order[:: -(-len(order) // 3_000)])
+    return "func main 0\n" + "".join(f"{name}:\n" for name in order) + jumps + "push 0\nret\nend\n"
+
+
+# The sizes of the texts of labels, from which each is twice the one before.
+TIMES = (1, 2, 4, 8)
+
+
+def growing(folder):
+    """Texts of labels that are hard to tell apart, 1, 2, 4 and 8 times as many."""
+    colliding, alike = colliding_names(10_000), alike_names(24_000)
+    for times in TIMES:
+        write(folder, f"colliding{times}.sts", labels(colliding[: times * len(colliding) // 8]))
+        write(folder, f"alike{times}.sts", labels(alike[: times * len(alike) // 8]))
+
+
 def main():
     folder = sys.argv[1]
     os.makedirs(folder, exist_ok=True)
@@ -79,6 +200,12 @@ def main():
     write(folder, "loop.trace", "step 0\n" * 1_000_000)
     write(folder, "fan_out.sts", FAN_OUT)
     write(folder, "fan_out.trace", fan_out_trace())
+    for name, make, least in GROWTH:
+        for times in (1, 2, 4, 8):
+            text, trace = make(least * times)
+            write(folder, f"{name}{times}.sts", text)
+            write(folder, f"{name}{times}.trace", trace)
+    growing(folder)
 
 
 main()

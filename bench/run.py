@@ -24,6 +24,20 @@ def least_seconds(command):
     return min(times), done.stdout
 
 
+# Run by itself, as a child begins with the memory of the process that started it.
+MEASURE = """
+import os, sys
+null = [(os.POSIX_SPAWN_OPEN, 1, os.devnull, os.O_WRONLY, 0)]
+_, _, usage = os.wait4(os.posix_spawn(sys.argv[1], sys.argv[1:], os.environ, file_actions=null), 0)
+print(usage.ru_maxrss / 1024)
+"""
+
+
+def most_megabytes(command):
+    """The most memory that one run takes."""
+    return float(subprocess.check_output([sys.executable, "-c", MEASURE, *command]))
+
+
 def instructions(path):
     """The lines of a text that are instructions."""
     with open(path) as file:
@@ -33,6 +47,16 @@ def instructions(path):
 
 def steps_of(output):
     return int(output.decode().split("steps ")[1])
+
+
+def grown(program, name, at):
+    """Rows of texts with 1, 2, 4 and 8 times as many labels, and the time over that of the least."""
+    first = None
+    for times in (1, 2, 4, 8):
+        seconds, _ = least_seconds([program, "list", at(f"{name}{times}.sts")])
+        first = first or seconds
+        case = f"list {name} labels, {times} times"
+        print(f"{case:38}{seconds * 1e3:9.2f}{'':9}{'':11}{seconds / first:9.1f} times the first")
 
 
 def main():
@@ -57,6 +81,14 @@ def main():
             seconds, output = least_seconds([program, "plain", at(name + ".sts"), at(name + ".trace")])
             million = steps_of(output) / 1e6 / max(seconds - base, 1e-6)
             print(f"{'plain ' + name + ', steps':38}{seconds * 1e3:9.2f}{'':9}{million:11.2f}")
+        print(f"\n{'plain, so many times the work':38}{'ms':>9}{'MiB':>9}")
+        for name in ("chain", "last_of_many", "fifties", "never_run"):
+            for times in (1, 2, 4, 8):
+                command = [program, "plain", at(f"{name}{times}.sts"), at(f"{name}{times}.trace")]
+                seconds, _ = least_seconds(command)
+                print(f"{name + ', ' + str(times) + ' times':38}{seconds * 1e3:9.2f}{most_megabytes(command):9.0f}")
+        for name in ("colliding", "alike"):
+            grown(program, name, at)
 
 
 main()

@@ -5,7 +5,7 @@ ghost use Rattle.std.specs.Option.{option_copied};
 ghost use Rattle.sts_asm.specs.Marks.{Mark, marked, label_in, function_in};
 
 use std::alloc::{AllocError, Global};
-use std::collections::HashMap;
+use std::collections::BTreeMap;
 use std::marker::Model;
 
 /// A name and the number of what it names.
@@ -23,33 +23,36 @@ impl<'a> Model for Mark<'a> {
     ghost view = { λ m. record { name = m.name.now; at = m.at } };
 }
 
-/// Names in the order of the text, each found in constant time.
+/// Names in the order of the text, each found among n by some log n comparisons, whatever they are.
 #[derive(Drop)]
 pub struct Marks<'a> {
     list: Vec<Mark<'a>>,
-    index: HashMap<&'a [u8], u32>,
+    index: BTreeMap<&'a [u8], u32>,
 }
 
 impl<'a> Model for Marks<'a> {
     ghost use Rattle.std.specs.Prelude.{List, ℕ, ◌≡◌};
-    ghost use Rattle.std.specs.HashMap.{get_by};
-    ghost use Rattle.std.specs.Str.{bytes_eq};
+    ghost use Rattle.std.specs.Ordering.{nat_cmp};
+    ghost use Rattle.std.specs.BTreeMap.{get_by};
+    ghost use Rattle.std.specs.Cmp.Lexicographic.{slice_cmp};
     ghost use Rattle.sts_asm.specs.Marks.{Mark, marked};
 
     ghost Value = { List Mark };
 
     ghost view = { λ l. l.list.items };
 
-    ghost invariant = { λ l. (q : List ℕ) → get_by (λ k. bytes_eq q k.now) l.index ≡ marked l.list.items q };
+    ghost invariant = { λ l. (q : List ℕ)
+        → get_by (λ k. slice_cmp nat_cmp q k.now) l.index ≡ marked l.list.items q };
 }
 
 impl<'a> Marks<'a> {
+    /// No name yet.
     pub fn new(alloc: Global) -> Marks<'a>
         ensures { result ≡ [] }
     {
         Marks {
             list: Vec::new(alloc),
-            index: HashMap::new(alloc),
+            index: BTreeMap::new(alloc),
         }
     }
 
@@ -114,6 +117,7 @@ impl<'t, 'a> Model for Names<'t, 'a> {
 }
 
 impl<'t, 'a> Names<'t, 'a> {
+    /// The labels of a function, and the functions of the text.
     pub fn new(labels: &'t Marks<'a>, functions: &'t Marks<'a>) -> Names<'t, 'a>
         ensures { result ≡ record { labels = labels.now; functions = functions.now } }
     {

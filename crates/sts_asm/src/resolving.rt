@@ -70,7 +70,11 @@ fn code_of(names: &Names<'_, '_>, lines: Lines<'_>) -> Result<Vec<Instr>, AsmErr
     Ok(code)
 }
 
-fn routine_of(alloc: Global, functions: &Marks<'_>, draft: Draft<'_>) -> Result<Function, AsmError>
+fn routine_of<'a>(
+    alloc: Global,
+    functions: &Marks<'a>,
+    draft: Draft<'a>,
+) -> Result<Function, AsmError>
     ensures { Judges (λ f. f) result (routine_of functions.now draft.entry) }
 {
     let Draft {
@@ -91,10 +95,10 @@ fn routine_of(alloc: Global, functions: &Marks<'_>, draft: Draft<'_>) -> Result<
     })
 }
 
-fn routines_of(
+fn routines_of<'a>(
     alloc: Global,
-    functions: &Marks<'_>,
-    drafts: Vec<Draft<'_>>,
+    functions: &Marks<'a>,
+    drafts: Vec<Draft<'a>>,
 ) -> Result<Vec<Function>, AsmError>
     ensures { Judges (λ fs. fs.items) result (each (routine_of functions.now) drafts.entry.items) }
 {

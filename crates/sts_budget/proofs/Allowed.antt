@@ -5,13 +5,14 @@ use Rattle.std.proofs.lemmas.Bool.{leb-false}
 use Rattle.std.proofs.lemmas.Slice.Eq.{bytes_eq-Decides}
 use Rattle.sts_code.specs.Program.{Program, routine}
 use Rattle.sts_code.specs.declared.instr.Instr.{Instr}
-use Rattle.sts_model.specs.declared.typing.Cause.{Cause}
-use Rattle.sts_model.specs.declared.typing.Cause.TheVariants as cause
-use Rattle.sts_model.specs.TypeState.{TypeState, heads}
-use Rattle.sts_model.specs.Around.{named, next_place, skipped_to, open_after, around}
-use Rattle.sts_model.specs.Causes.{holds, causes, least_cause, is_unmatched, breaks_structure, is_nested, is_illegal, has_wrong_slot, is_strangers, is_other_loop}
-use Rattle.sts_model.specs.Edges.{follows, or_cause, edges_of}
-use Rattle.sts_model.specs.ControlPaths.{Among}
+use Rattle.sts_rules.specs.declared.typing.Cause.{Cause}
+use Rattle.sts_rules.specs.declared.typing.Cause.TheVariants as cause
+use Rattle.sts_rules.specs.TypeState.{TypeState, heads}
+use Rattle.sts_rules.specs.Around.{next_place, skipped_to, open_after, around}
+use Rattle.sts_code.specs.Facts.{targets}
+use Rattle.sts_rules.specs.Causes.{holds, causes, least_cause, is_unmatched, breaks_structure, is_nested, is_illegal, has_wrong_slot, is_strangers, is_other_loop}
+use Rattle.sts_rules.specs.Edges.{follows, or_cause, edges_of}
+use Rattle.sts_rules.specs.ControlPaths.{Among}
 
 -- no cause was found, and these are the edges
 fine : (o : Option Cause) (es out : List (ℕ × TypeState)) → or_cause o es ≡ Ok out → (o ≡ None) × (out ≡ es)
@@ -52,10 +53,10 @@ same_loops code hs to e = (bytes_eq-Decides (around code to) hs).0 (not_false _ 
 
 pub record Allowed (p : Program) (f pc : ℕ) (i : Instr) (s : TypeState) (out : List (ℕ × TypeState)) : Type 0 where
   pub is : out ≡ follows p (routine p f).code pc i s
-  pub inside : (to : ℕ) → Among (named i ++ next_place pc i ++ skipped_to (routine p f).code pc i) to → to < length (routine p f).code
-  pub later : (to : ℕ) → Among (named i) to → pc < to
+  pub inside : (to : ℕ) → Among (targets i ++ next_place pc i ++ skipped_to (routine p f).code pc i) to → to < length (routine p f).code
+  pub later : (to : ℕ) → Among (targets i) to → pc < to
   pub matched : is_unmatched (routine p f).code pc i s ≡ false
-  pub around_named : (to : ℕ) → Among (named i ++ skipped_to (routine p f).code pc i) to → around (routine p f).code to ≡ heads s.loops
+  pub around_named : (to : ℕ) → Among (targets i ++ skipped_to (routine p f).code pc i) to → around (routine p f).code to ≡ heads s.loops
   pub around_next : (to : ℕ) → Among (next_place pc i) to → around (routine p f).code to ≡ open_after pc i (heads s.loops)
   pub ordered : breaks_structure i s ≡ false
   pub nested : is_nested i s ≡ false
@@ -76,14 +77,14 @@ allowed p f pc i s out e =
     let c12 = none_holds t causes cause.IllegalState o.0 (inr (inr (inr (inr (inr (inr (inr (inr (inr (inl refl)))))))))) in
     let c13 = none_holds t causes cause.Structure o.0 (inr (inr (inr (inr (inr (inr (inr (inr (inr (inr (inl refl))))))))))) in
     let c14 = none_holds t causes cause.Nesting o.0 (inr (inr (inr (inr (inr (inr (inr (inr (inr (inr (inr (inl refl)))))))))))) in
-    let m = neither (is_unmatched code pc i s || list_any (is_other_loop code (heads s.loops)) (named i ++ skipped_to code pc i)) (list_any (is_other_loop code (open_after pc i (heads s.loops))) (next_place pc i)) c5 in
-    let m' = neither (is_unmatched code pc i s) (list_any (is_other_loop code (heads s.loops)) (named i ++ skipped_to code pc i)) m.0 in
+    let m = neither (is_unmatched code pc i s || list_any (is_other_loop code (heads s.loops)) (targets i ++ skipped_to code pc i)) (list_any (is_other_loop code (open_after pc i (heads s.loops))) (next_place pc i)) c5 in
+    let m' = neither (is_unmatched code pc i s) (list_any (is_other_loop code (heads s.loops)) (targets i ++ skipped_to code pc i)) m.0 in
     record {
       is = o.1;
-      inside = λ to a. leb-false (length code) to (none_passes _ (named i ++ next_place pc i ++ skipped_to code pc i) to c3 a);
-      later = λ to a. leb-false to pc (none_passes _ (named i) to c4 a);
+      inside = λ to a. leb-false (length code) to (none_passes _ (targets i ++ next_place pc i ++ skipped_to code pc i) to c3 a);
+      later = λ to a. leb-false to pc (none_passes _ (targets i) to c4 a);
       matched = m'.0;
-      around_named = λ to a. same_loops code (heads s.loops) to (none_passes _ (named i ++ skipped_to code pc i) to m'.1 a);
+      around_named = λ to a. same_loops code (heads s.loops) to (none_passes _ (targets i ++ skipped_to code pc i) to m'.1 a);
       around_next = λ to a. same_loops code (open_after pc i (heads s.loops)) to (none_passes _ (next_place pc i) to m.1 a);
       ordered = c13;
       nested = c14;

@@ -4,13 +4,12 @@ use Rattle.std.specs.Option.{option_or}
 use Rattle.std.proofs.lemmas.Bool.{leb-false, ltb-false}
 use Rattle.sts_code.specs.Checks as def
 use Rattle.sts_code.specs.Name.{is_name}
-use Rattle.sts_code.specs.Program.{Program, routine}
+use Rattle.sts_code.specs.Program.{Program, routine, instr_at}
 use Rattle.sts_code.specs.declared.checking.CodeCause.{CodeCause}
 use Rattle.sts_code.specs.declared.checking.CodeCause.TheVariants.{TooLong, BadRange, BadTarget, LaterFunction}
 use Rattle.sts_code.specs.declared.instr.Instr.{Instr}
 use Rattle.sts_code.specs.declared.instr.Instr.TheVariants.{Times, Fork, Ret}
 use Rattle.sts_code.proofs.Checked.{routine_is_fine, routines_are_fine, code_is_short}
-use Rattle.sts_model.specs.Around.{instr_at}
 
 neither : {A : Type 0} (a b : Option A) → option_or a b ≡ None → (a ≡ None) × (b ≡ None)
 neither None b e = (refl, e)

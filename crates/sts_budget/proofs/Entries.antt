@@ -5,10 +5,10 @@ use Rattle.std.proofs.lemmas.Bool.{cases_lt, lt-ltb, le-ltb, eqb-false}
 use Rattle.std.proofs.lemmas.List.Sums.{sum_by-cons}
 use Rattle.sts_code.specs.declared.instr.Instr.{Instr}
 use Rattle.sts_code.specs.declared.instr.Instr.TheVariants.{Push, Pop, Dup, Swap, Load, Store, Add, Sub, Mul, Lt, Eq, Div, Jmp, Jz, Times, Next, Open, Fork, Join, Close, Cancelled, Case, Get, Except, Tally, Total, Forget, Bind, Unbind, Read, Bound, OrElse, Interrupted, Ret, Fail}
-use Rattle.sts_model.specs.ControlPaths.{OpenEntry, OpenScope, OpenBinding}
-use Rattle.sts_model.specs.Budget.{Measure, entry_sum, entries_sum, forked, entries_of}
+use Rattle.sts_rules.specs.ControlPaths.{OpenEntry, OpenScope, OpenBinding}
+use Rattle.sts_rules.specs.Budget.{Measure, entry_sum, entries_sum, forked, entries_of}
 use Rattle.sts_budget.specs.Layout.{Names, names_after, HasScope, FitsNames}
-use Rattle.sts_budget.specs.Effect.{source_of, added_of, position_of, measured}
+use Rattle.sts_budget.specs.Change.{source_of, added_of, position_of, measured}
 
 abbrev pub name_of : OpenEntry → Option ℕ
 name_of (OpenScope s subtasks) = Some s

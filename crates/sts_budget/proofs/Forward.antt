@@ -1,7 +1,7 @@
 -- One forward pass over the places makes the table of greatest sums.
 use Rattle.std.proofs.Common.{◌≡◌, ℕ, ◌+◌, ◌*◌, ◌<◌, ◌≤◌, ◌⊎◌, max, inl, inr, List, [], ◌∷◌, refl, sym, ap, ◌∙◌, subst, arith}
 use Rattle.std.proofs.lemmas.Bool.{cases_eq, cases_lt}
-use Rattle.sts_model.specs.ControlPaths.{Shape, GoesTo, Repeats, EndsTurn, EndsPath, Skeleton, Among}
+use Rattle.sts_rules.specs.ControlPaths.{Shape, GoesTo, Repeats, EndsTurn, EndsPath, Skeleton, Among}
 use Rattle.sts_budget.proofs.Sums.{IsTable, IsSourced, Source, by_go, by_turn, by_loop}
 use Rattle.sts_budget.specs.Structured.{IsStructured, bound_of, Led, from_go, from_head, from_end}
 use Rattle.sts_budget.specs.Sums.{Flows, FitsEntries, gain}

@@ -2,25 +2,27 @@
 use Rattle.std.proofs.Common.{◌≡◌, ℕ, ◌<◌, ◌≤◌, List, Result, Ok, Err, sym, subst, arith}
 use Rattle.std.specs.Result.{IsErrAnd}
 use Rattle.sts_code.specs.declared.instr.Instr.{Instr}
-use Rattle.sts_model.specs.declared.budget.Budgets.{Budgets}
-use Rattle.sts_model.specs.declared.typing.Cause.{Cause}
-use Rattle.sts_model.specs.declared.typing.Cause.TheVariants as cause
-use Rattle.sts_model.specs.Causes.{cause_number}
-use Rattle.sts_model.specs.Budget.{Exceeds, IsLeastExcess}
-use Rattle.sts_budget.specs.declared.effect.Kind.{Kind}
-use Rattle.sts_budget.specs.declared.effect.Kind.TheVariants.{Steps, Tasks, Scopes, Binds}
+use Rattle.sts_rules.specs.declared.budget.Budgets.{Budgets}
+use Rattle.sts_rules.specs.declared.typing.Cause.{Cause}
+use Rattle.sts_rules.specs.declared.typing.Cause.TheVariants as cause
+use Rattle.sts_rules.specs.Causes.{cause_number}
+use Rattle.sts_rules.specs.Budget.{Exceeds, IsLeastExcess}
+use Rattle.sts_budget.specs.declared.change.Resource.{Resource}
+use Rattle.sts_budget.specs.declared.change.Resource.TheVariants.{Steps, Tasks, Scopes, Binds}
 use Rattle.sts_budget.specs.declared.budget.BudgetError.{BudgetError}
 use Rattle.sts_budget.specs.declared.budget.BudgetError.TheVariants.{Memory, TooMuch}
-use Rattle.sts_budget.specs.Effect.{cause_of, limit_of, IsMost}
+use Rattle.sts_budget.specs.Change.{cause_of, limit_of, IsMost}
 use Rattle.sts_budget.specs.Outcome.{IsFound, IsNumber}
+use Rattle.sts_budget.specs.declared.layout.Layout.{Layout}
+use Rattle.sts_budget.specs.Ready.{IsLaidFor}
 use Rattle.sts_budget.proofs.LastTurns.{no_excess, least_excess}
 
--- no kind before this one passes its limit
-abbrev pub NoneBefore : Kind → List Budgets → List Instr → Type 0
-NoneBefore k earlier code = (j : Kind) → cause_number (cause_of j) < cause_number (cause_of k) → Exceeds earlier code (cause_of j) → ⊥
+-- no resource before this one passes its limit
+abbrev pub NoneBefore : Resource → List Budgets → List Instr → Type 0
+NoneBefore k earlier code = (j : Resource) → cause_number (cause_of j) < cause_number (cause_of k) → Exceeds earlier code (cause_of j) → ⊥
 
 -- a number within its limit
-abbrev pub IsWithin : Kind → List Budgets → List Instr → ℕ → Type 0
+abbrev pub IsWithin : Resource → List Budgets → List Instr → ℕ → Type 0
 IsWithin k earlier code m = IsMost k earlier code m × (m ≤ limit_of k)
 
 pub before_steps : (earlier : List Budgets) (code : List Instr) → NoneBefore Steps earlier code
@@ -47,7 +49,7 @@ before_binds earlier code s t o hs ht ho Tasks lt e = no_excess Tasks earlier co
 before_binds earlier code s t o hs ht ho Scopes lt e = no_excess Scopes earlier code o ho.0 ho.1 e
 before_binds earlier code s t o hs ht ho Binds lt e = omega arith
 
-pub found_error : (k : Kind) (earlier : List Budgets) (code code' : List Instr) → code ≡ code' → NoneBefore k earlier code → (e : BudgetError) → IsNumber k earlier code (Err e) → (r : Result Budgets BudgetError) → IsErrAnd r (λ x. x ≡ e) → IsFound earlier code' r
+pub found_error : (k : Resource) (earlier : List Budgets) (code code' : List Instr) → code ≡ code' → NoneBefore k earlier code → (e : BudgetError) → IsNumber k earlier code (Err e) → (r : Result Budgets BudgetError) → IsErrAnd r (λ x. x ≡ e) → IsFound earlier code' r
 found_error k earlier code code' same before e h (Ok b) a = absurd a
 found_error k earlier code code' same before Memory h (Err x) a = subst (λ y. IsFound earlier code' (Err y)) (sym a) tt
 found_error k earlier code code' same before (TooMuch c) h (Err x) a =
@@ -78,3 +80,11 @@ none_exceeds earlier code s t o b hs ht ho hb cause.TooManyBinds e = no_excess B
 
 pub found_all : (earlier : List Budgets) (code code' : List Instr) → code ≡ code' → (s t o b : ℕ) → IsWithin Steps earlier code s → IsWithin Tasks earlier code t → IsWithin Scopes earlier code o → IsWithin Binds earlier code b → IsFound earlier code' (Ok (record { steps = s; tasks = t; scopes = o; binds = b }))
 found_all earlier code code' same s t o b hs ht ho hb = subst (λ xs. IsFound earlier xs (Ok (record { steps = s; tasks = t; scopes = o; binds = b }))) same (record { steps = hs.0; tasks = ht.0; scopes = ho.0; binds = hb.0 }, none_exceeds earlier code s t o b hs ht ho hb)
+
+-- ---- the passes that ask for them
+
+pub as_ready : (bs earlier : List Budgets) (xs code : List Instr) (k l : Layout) → bs ≡ earlier → xs ≡ code → k ≡ l → IsLaidFor earlier code l → IsLaidFor bs xs k
+as_ready bs earlier xs code k l e f g h = rw (e, f, g) h
+
+pub as_number : (r s : Resource) (bs earlier : List Budgets) (xs code : List Instr) (o : Result ℕ BudgetError) → r ≡ s → bs ≡ earlier → xs ≡ code → IsNumber r bs xs o → IsNumber s earlier code o
+as_number r s bs earlier xs code o e f g h = subst (λ q. IsNumber q earlier code o) e (subst (λ q. IsNumber r q code o) f (subst (λ q. IsNumber r bs q o) g h))

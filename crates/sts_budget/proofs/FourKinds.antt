@@ -1,15 +1,15 @@
--- The four kinds of budgets: what the pass sums is what control paths count and hold.
+-- The four budgets: what the pass sums is what control paths count and hold.
 use Rattle.std.proofs.Common.{◌≡◌, ℕ, suc, ◌+◌, ◌<◌, ◌≤◌, List, [], ◌∷◌, length, refl, sym, ap, ◌∙◌, subst, arith}
 use Rattle.sts_code.specs.declared.instr.Instr.{Instr}
 use Rattle.sts_code.specs.declared.instr.Instr.TheVariants.{Push, Pop, Dup, Swap, Load, Store, Add, Sub, Mul, Lt, Eq, Div, Jmp, Jz, Times, Next, Open, Fork, Join, Close, Cancelled, Case, Get, Except, Tally, Total, Forget, Bind, Unbind, Read, Bound, OrElse, Interrupted, Ret, Fail}
-use Rattle.sts_model.specs.Around.{instr_at}
-use Rattle.sts_model.specs.ControlPaths.{EndsPath, OpenEntry, Skeleton, Loops, Follows, go, skip, enter, again, leave, Comes, start, step, PathCounts, IsGreatest, PointHolds, IsPeak}
-use Rattle.sts_model.specs.declared.budget.Budgets.{Budgets}
-use Rattle.sts_model.specs.Budget.{Measure, entries_sum, entries_of, skeleton, shape_of, steps_of, tasks_measure, scopes_measure, binds_measure, scopes_sum, binds_sum, Exceeds, PathExceeds}
+use Rattle.sts_code.specs.Program.{instr_at}
+use Rattle.sts_rules.specs.ControlPaths.{EndsPath, OpenEntry, Skeleton, Loops, Follows, go, skip, enter, again, leave, Comes, start, step, PathCounts, IsGreatest, PointHolds, IsPeak}
+use Rattle.sts_rules.specs.declared.budget.Budgets.{Budgets}
+use Rattle.sts_rules.specs.Budget.{Measure, entries_sum, entries_of, skeleton, shape_of, steps_of, tasks_measure, scopes_measure, binds_measure, scopes_sum, binds_sum, Exceeds, PathExceeds}
 use Rattle.sts_budget.specs.Layout.{Names, names_after, FitsNames}
-use Rattle.sts_budget.specs.declared.effect.Kind.{Kind}
-use Rattle.sts_budget.specs.declared.effect.Kind.TheVariants.{Steps, Tasks, Scopes, Binds}
-use Rattle.sts_budget.specs.Effect.{source_of, added_of, measured, own_of, limit_of, cause_of, IsMost}
+use Rattle.sts_budget.specs.declared.change.Resource.{Resource}
+use Rattle.sts_budget.specs.declared.change.Resource.TheVariants.{Steps, Tasks, Scopes, Binds}
+use Rattle.sts_budget.specs.Change.{source_of, added_of, measured, own_of, limit_of, cause_of, IsMost}
 use Rattle.sts_budget.proofs.Structured.{own_loop, IsInside, comes_inside, at_points}
 use Rattle.sts_budget.proofs.Sums.{IsTable, point_most, point_attained}
 use Rattle.sts_budget.proofs.Entries.{names, front, front_all, front_le, names_of, front_of, source_low, source_kept, long}
@@ -122,7 +122,7 @@ module _ (earlier : List Budgets) (code : List Instr) (round : ℕ → List ℕ)
     deeper = λ pc h hs e. omega arith;
   }
 
-  pub fits : (k : Kind) → FitsEntries c round (flows k earlier code names_at)
+  pub fits : (k : Resource) → FitsEntries c round (flows k earlier code names_at)
   fits Steps = fits_steps
   fits Tasks = fits_by (tasks_measure earlier)
   fits Scopes = fits_by (scopes_measure earlier)
@@ -209,7 +209,7 @@ module _ (earlier : List Budgets) (code : List Instr) (round : ℕ → List ℕ)
       let le = front_le k w.1.0 d in
       (entries_sum k w.1.0, ((pc, (loops, (w.0, (w.1.0, (w.1.1.0, refl))))), omega (arith, h.2, w.1.1.1)))
 
-  pub stands_exceeds : (k : Kind) (v : ℕ) → Stands c (flows k earlier code names_at) v → limit_of k < own_of k + v → Exceeds earlier code (cause_of k)
+  pub stands_exceeds : (k : Resource) (v : ℕ) → Stands c (flows k earlier code names_at) v → limit_of k < own_of k + v → Exceeds earlier code (cause_of k)
   stands_exceeds Steps v h over = steps_exceed v 1000000 h over
   stands_exceeds Tasks v h over = let p = point_exceeds (tasks_measure earlier) v h in (1 + p.0, ((p.1.0.0, (p.1.0.1.0, (p.1.0.1.1.0, (p.1.0.1.1.1.0, (p.1.0.1.1.1.1.0, ap (λ n. 1 + n) p.1.0.1.1.1.1.1))))), omega (arith, p.1.1)))
   stands_exceeds Scopes v h over = let p = point_exceeds (scopes_measure earlier) v h in (p.0, (p.1.0, omega (arith, p.1.1)))
@@ -257,7 +257,7 @@ module _ (earlier : List Budgets) (code : List Instr) (round : ℕ → List ℕ)
     λ other p. (let le = h.1 (entries_sum k p.1.1.1.0) (p.0, (p.1.0, (p.1.1.0, (p.1.1.1.0, (p.1.1.1.1.0, refl))))) in omega (arith, p.1.1.1.1.1)),
   )
 
-  pub top_is_most : (k : Kind) (best : ℕ → ℕ → ℕ) (table : IsTable c (flows k earlier code names_at) best) (r : ℕ) → ((pc : ℕ) → pc < c.size → full c (flows k earlier code names_at) round best pc ≤ r) → (pc : ℕ) → pc < c.size → full c (flows k earlier code names_at) round best pc ≡ r → IsMost k earlier code (own_of k + r)
+  pub top_is_most : (k : Resource) (best : ℕ → ℕ → ℕ) (table : IsTable c (flows k earlier code names_at) best) (r : ℕ) → ((pc : ℕ) → pc < c.size → full c (flows k earlier code names_at) round best pc ≤ r) → (pc : ℕ) → pc < c.size → full c (flows k earlier code names_at) round best pc ≡ r → IsMost k earlier code (own_of k + r)
   top_is_most Steps best table r most pc within is = steps_most best table r most pc within is
   top_is_most Tasks best table r most pc within is = one_more (tasks_measure earlier) r (points_most (tasks_measure earlier) best table r most pc within is)
   top_is_most Scopes best table r most pc within is = let z : r ≡ 0 + r = omega arith in subst (IsPeak c (scopes_sum earlier)) z (points_most (scopes_measure earlier) best table r most pc within is)
@@ -280,7 +280,7 @@ module _ (earlier : List Budgets) (code : List Instr) (round : ℕ → List ℕ)
           omega (arith, h.1)
 
   -- only the task itself counts
-  pub own_is_most : (k : Kind) → (k ≡ Steps → ⊥) → ((pc : ℕ) → length (names_at pc) ≤ 0) → IsMost k earlier code (own_of k)
+  pub own_is_most : (k : Resource) → (k ≡ Steps → ⊥) → ((pc : ℕ) → length (names_at pc) ≤ 0) → IsMost k earlier code (own_of k)
   own_is_most Steps no_steps none_open = absurd (no_steps refl)
   own_is_most Tasks no_steps none_open = one_more (tasks_measure earlier) 0 (nothing_open (tasks_measure earlier) none_open)
   own_is_most Scopes no_steps none_open = nothing_open (scopes_measure earlier) none_open

@@ -1,21 +1,22 @@
 -- What the code hands on at a place is what the pass hands on.
 use Rattle.std.proofs.Common.{◌≡◌, ℕ, zero, suc, ◌+◌, ◌*◌, ◌<◌, ◌≤◌, max, min, inl, inr, List, [], ◌∷◌, ◌++◌, length, get_or, replicate, true, false, Option, unwrap_or, refl, sym, ap, ◌∙◌, subst, arith}
 use Rattle.std.proofs.lemmas.List.{length-replicate, get_or-replicate}
-use Rattle.sts_code.specs.Program.{Program}
+use Rattle.sts_code.specs.Program.{Program, instr_at}
 use Rattle.sts_code.specs.declared.profile.Profile.TheVariants.{One}
 use Rattle.sts_code.specs.declared.instr.Instr.{Instr}
 use Rattle.sts_code.specs.declared.instr.Instr.TheVariants.{Push, Pop, Dup, Swap, Load, Store, Add, Sub, Mul, Lt, Eq, Div, Jmp, Jz, Times, Next, Open, Fork, Join, Close, Cancelled, Case, Get, Except, Tally, Total, Forget, Bind, Unbind, Read, Bound, OrElse, Interrupted, Ret, Fail}
-use Rattle.sts_model.specs.Around.{instr_at, named, next_place, around}
-use Rattle.sts_model.specs.declared.budget.Budgets.{Budgets}
-use Rattle.sts_model.specs.Budget.{skeleton, shape_of}
-use Rattle.sts_model.specs.ControlPaths.{Shape, GoesTo, Repeats, EndsTurn, EndsPath, Skeleton, Among}
-use Rattle.sts_budget.specs.declared.effect.Kind.{Kind}
-use Rattle.sts_budget.specs.declared.effect.Kind.TheVariants.{Steps, Tasks, Scopes, Binds}
+use Rattle.sts_rules.specs.Around.{next_place, around}
+use Rattle.sts_code.specs.Facts.{targets}
+use Rattle.sts_rules.specs.declared.budget.Budgets.{Budgets}
+use Rattle.sts_rules.specs.Budget.{skeleton, shape_of}
+use Rattle.sts_rules.specs.ControlPaths.{Shape, GoesTo, Repeats, EndsTurn, EndsPath, Skeleton, Among}
+use Rattle.sts_budget.specs.declared.change.Resource.{Resource}
+use Rattle.sts_budget.specs.declared.change.Resource.TheVariants.{Steps, Tasks, Scopes, Binds}
 use Rattle.sts_budget.specs.declared.layout.Layout.{Layout}
-use Rattle.sts_budget.specs.Effect.{source_of, added_of, effect_of, depth_of, own_step}
+use Rattle.sts_budget.specs.Change.{source_of, added_of, change_of, depth_of, own_step}
 use Rattle.sts_budget.specs.Handing.{is_quiet, turns_of, value_by, handed_value}
 use Rattle.sts_budget.specs.Laid.{first_of}
-use Rattle.sts_budget.specs.Ready.{IsReady, names_in, head_in, flows_in}
+use Rattle.sts_budget.specs.Ready.{IsLaidFor, names_in, head_in, flows_in}
 use Rattle.sts_budget.specs.Structured.{bound_of}
 use Rattle.sts_budget.specs.Sums.{Flows, FitsEntries, Stands}
 use Rattle.sts_budget.specs.Table.{read, New, Handed, over_go, over_loop, IsSpread, IsPartial, IsSent, IsStopped, HandsTooMuch, Passes}
@@ -30,20 +31,20 @@ abbrev any_program : Program
 any_program = record { profile = One; routines = [] }
 
 -- a `times` and a `next` count the same
-pub times_counts : (k : Kind) (earlier : List Budgets) (n : ℕ) (ns : List (Option ℕ)) (d : ℕ) → added_of (effect_of k earlier (Times n) ns) (depth_of k ns) d ≡ own_step k
+pub times_counts : (k : Resource) (earlier : List Budgets) (n : ℕ) (ns : List (Option ℕ)) (d : ℕ) → added_of (change_of k earlier (Times n) ns) (depth_of k ns) d ≡ own_step k
 times_counts Steps earlier n ns d = refl
 times_counts Tasks earlier n ns d = refl
 times_counts Scopes earlier n ns d = refl
 times_counts Binds earlier n ns d = refl
 
-pub next_counts : (k : Kind) (earlier : List Budgets) (ns : List (Option ℕ)) (d : ℕ) → added_of (effect_of k earlier Next ns) (depth_of k ns) d ≡ own_step k
+pub next_counts : (k : Resource) (earlier : List Budgets) (ns : List (Option ℕ)) (d : ℕ) → added_of (change_of k earlier Next ns) (depth_of k ns) d ≡ own_step k
 next_counts Steps earlier ns d = refl
 next_counts Tasks earlier ns d = refl
 next_counts Scopes earlier ns d = refl
 next_counts Binds earlier ns d = refl
 
 -- an instruction that goes on hands on the sums after it
-value_goes : (k : Kind) (earlier : List Budgets) (code : List Instr) (l : Layout) (best : ℕ → ℕ → ℕ) (pc : ℕ) (i : Instr) (d : ℕ) → GoesOn any_program code pc i → value_by k earlier code l best pc i d ≡ best pc (source_of (effect_of k earlier i (names_in l pc)) (depth_of k (names_in l pc)) d) + added_of (effect_of k earlier i (names_in l pc)) (depth_of k (names_in l pc)) d
+value_goes : (k : Resource) (earlier : List Budgets) (code : List Instr) (l : Layout) (best : ℕ → ℕ → ℕ) (pc : ℕ) (i : Instr) (d : ℕ) → GoesOn any_program code pc i → value_by k earlier code l best pc i d ≡ best pc (source_of (change_of k earlier i (names_in l pc)) (depth_of k (names_in l pc)) d) + added_of (change_of k earlier i (names_in l pc)) (depth_of k (names_in l pc)) d
 value_goes k earlier code l best pc (Push v) d goes = refl
 value_goes k earlier code l best pc Pop d goes = refl
 value_goes k earlier code l best pc Dup d goes = refl
@@ -59,7 +60,7 @@ value_goes k earlier code l best pc (Div to) d goes = refl
 value_goes k earlier code l best pc (Jmp to) d goes = refl
 value_goes k earlier code l best pc (Jz to) d goes = refl
 value_goes k earlier code l best pc (Times n) d goes = refl
-value_goes k earlier code l best pc Next d goes = (let z : EndsTurn ≡ GoesTo (named Next ++ next_place pc Next) = goes.shape in absurd (cc))
+value_goes k earlier code l best pc Next d goes = (let z : EndsTurn ≡ GoesTo (targets Next ++ next_place pc Next) = goes.shape in absurd (cc))
 value_goes k earlier code l best pc (Open x j timed) d goes = refl
 value_goes k earlier code l best pc (Fork x g h) d goes = refl
 value_goes k earlier code l best pc (Join x a b c) d goes = refl
@@ -118,7 +119,7 @@ quiet_none skel fl head best pc Interrupted e q d m w = absurd (cc)
 quiet_none skel fl head best pc Ret e q d m w = w
 quiet_none skel fl head best pc Fail e q d m w = w
 
-module _ (k : Kind) (earlier : List Budgets) (code : List Instr) (l : Layout) (ready : IsReady earlier code l) where
+module _ (k : Resource) (earlier : List Budgets) (code : List Instr) (l : Layout) (ready : IsLaidFor earlier code l) where
   abbrev c : Skeleton
   c = skeleton earlier code
 
@@ -145,19 +146,19 @@ module _ (k : Kind) (earlier : List Budgets) (code : List Instr) (l : Layout) (r
   head_times pc n e = ready.known.times (head_in l pc) n e
 
   pub counts_times : (pc n d : ℕ) → instr_at code pc ≡ Times n → f.added pc d ≡ own_step k
-  counts_times pc n d t = ap (λ j. added_of (effect_of k earlier j (names_in l pc)) (depth_of k (names_in l pc)) d) t ∙ times_counts k earlier n (names_in l pc) d
+  counts_times pc n d t = ap (λ j. added_of (change_of k earlier j (names_in l pc)) (depth_of k (names_in l pc)) d) t ∙ times_counts k earlier n (names_in l pc) d
 
   pub counts_next : (pc d : ℕ) → instr_at code pc ≡ Next → f.added pc d ≡ own_step k
-  counts_next pc d t = ap (λ j. added_of (effect_of k earlier j (names_in l pc)) (depth_of k (names_in l pc)) d) t ∙ next_counts k earlier (names_in l pc) d
+  counts_next pc d t = ap (λ j. added_of (change_of k earlier j (names_in l pc)) (depth_of k (names_in l pc)) d) t ∙ next_counts k earlier (names_in l pc) d
 
   -- what is new is handed over to the places that the instruction names
-  new_is : (best : ℕ → ℕ → ℕ) (pc : ℕ) (i : Instr) → instr_at code pc ≡ i → Sort any_program code pc i → is_quiet i ≡ false → (q d m : ℕ) → New c f (head_in l) best pc (shape_of pc i) q d m → Among (named i ++ next_place pc i) q × (value_by k earlier code l best pc i d ≡ m)
+  new_is : (best : ℕ → ℕ → ℕ) (pc : ℕ) (i : Instr) → instr_at code pc ≡ i → Sort any_program code pc i → is_quiet i ≡ false → (q d m : ℕ) → New c f (head_in l) best pc (shape_of pc i) q d m → Among (targets i ++ next_place pc i) q × (value_by k earlier code l best pc i d ≡ m)
   new_is best pc i at (is_times n) quiet q d m w = absurd (cc)
   new_is best pc i at is_next quiet q d m w =
       let h = heads_right pc (ap (shape_of pc) at) in
       let t = head_times pc h.0.0 h.0.1 in
-      let head_counts : f.added (head_in l pc) d ≡ own_step k = ap (λ j. added_of (effect_of k earlier j (names_in l (head_in l pc))) (depth_of k (names_in l (head_in l pc))) d) t ∙ times_counts k earlier h.0.0 (names_in l (head_in l pc)) d in
-      let here_counts : f.added pc d ≡ own_step k = ap (λ j. added_of (effect_of k earlier j (names_in l pc)) (depth_of k (names_in l pc)) d) at ∙ next_counts k earlier (names_in l pc) d in
+      let head_counts : f.added (head_in l pc) d ≡ own_step k = ap (λ j. added_of (change_of k earlier j (names_in l (head_in l pc))) (depth_of k (names_in l (head_in l pc))) d) t ∙ times_counts k earlier h.0.0 (names_in l (head_in l pc)) d in
+      let here_counts : f.added pc d ≡ own_step k = ap (λ j. added_of (change_of k earlier j (names_in l pc)) (depth_of k (names_in l pc)) d) at ∙ next_counts k earlier (names_in l pc) d in
       let turns : bound_of (c.shape (head_in l pc)) ≡ turns_of (instr_at code (head_in l pc)) = ap bound_of h.0.1 ∙ sym (ap turns_of t) in (
         inl w.0,
         sym (ap (λ x. best (head_in l pc) d + x + bound_of (c.shape (head_in l pc)) * (best pc d + f.added pc d)) head_counts
@@ -166,17 +167,17 @@ module _ (k : Kind) (earlier : List Budgets) (code : List Instr) (l : Layout) (r
       )
   new_is best pc i at (is_end shape none nowhere) quiet q d m w = absurd (subst (λ s. New c f (head_in l) best pc s q d m) shape w)
   new_is best pc i at (goes_on g) quiet q d m w =
-      let w' : Among (named i ++ next_place pc i) q × (best pc (f.source pc d) + f.added pc d ≡ m) = subst (λ s. New c f (head_in l) best pc s q d m) g.shape w in
-      (w'.0, value_goes k earlier code l best pc i d g ∙ ap (λ j. best pc (source_of (effect_of k earlier j (names_in l pc)) (depth_of k (names_in l pc)) d) + added_of (effect_of k earlier j (names_in l pc)) (depth_of k (names_in l pc)) d) (sym at) ∙ w'.1)
+      let w' : Among (targets i ++ next_place pc i) q × (best pc (f.source pc d) + f.added pc d ≡ m) = subst (λ s. New c f (head_in l) best pc s q d m) g.shape w in
+      (w'.0, value_goes k earlier code l best pc i d g ∙ ap (λ j. best pc (source_of (change_of k earlier j (names_in l pc)) (depth_of k (names_in l pc)) d) + added_of (change_of k earlier j (names_in l pc)) (depth_of k (names_in l pc)) d) (sym at) ∙ w'.1)
 
   -- and the other way round
-  new_of : (best : ℕ → ℕ → ℕ) (pc : ℕ) (i : Instr) → instr_at code pc ≡ i → Sort any_program code pc i → is_quiet i ≡ false → (q d : ℕ) → Among (named i ++ next_place pc i) q → New c f (head_in l) best pc (shape_of pc i) q d (value_by k earlier code l best pc i d)
+  new_of : (best : ℕ → ℕ → ℕ) (pc : ℕ) (i : Instr) → instr_at code pc ≡ i → Sort any_program code pc i → is_quiet i ≡ false → (q d : ℕ) → Among (targets i ++ next_place pc i) q → New c f (head_in l) best pc (shape_of pc i) q d (value_by k earlier code l best pc i d)
   new_of best pc i at (is_times n) quiet q d among = absurd (cc)
   new_of best pc i at is_next quiet q d (inl same) =
       let h = heads_right pc (ap (shape_of pc) at) in
       let t = head_times pc h.0.0 h.0.1 in
-      let head_counts : f.added (head_in l pc) d ≡ own_step k = ap (λ j. added_of (effect_of k earlier j (names_in l (head_in l pc))) (depth_of k (names_in l (head_in l pc))) d) t ∙ times_counts k earlier h.0.0 (names_in l (head_in l pc)) d in
-      let here_counts : f.added pc d ≡ own_step k = ap (λ j. added_of (effect_of k earlier j (names_in l pc)) (depth_of k (names_in l pc)) d) at ∙ next_counts k earlier (names_in l pc) d in
+      let head_counts : f.added (head_in l pc) d ≡ own_step k = ap (λ j. added_of (change_of k earlier j (names_in l (head_in l pc))) (depth_of k (names_in l (head_in l pc))) d) t ∙ times_counts k earlier h.0.0 (names_in l (head_in l pc)) d in
+      let here_counts : f.added pc d ≡ own_step k = ap (λ j. added_of (change_of k earlier j (names_in l pc)) (depth_of k (names_in l pc)) d) at ∙ next_counts k earlier (names_in l pc) d in
       let turns : bound_of (c.shape (head_in l pc)) ≡ turns_of (instr_at code (head_in l pc)) = ap bound_of h.0.1 ∙ sym (ap turns_of t) in (
         same,
         ap (λ x. best (head_in l pc) d + x + bound_of (c.shape (head_in l pc)) * (best pc d + f.added pc d)) head_counts
@@ -186,7 +187,7 @@ module _ (k : Kind) (earlier : List Budgets) (code : List Instr) (l : Layout) (r
   new_of best pc i at is_next quiet q d (inr out_of) = absurd out_of
   new_of best pc i at (is_end shape none nowhere) quiet q d among = absurd (subst (λ ps. Among ps q) nowhere among)
   new_of best pc i at (goes_on g) quiet q d among =
-      let v = value_goes k earlier code l best pc i d g ∙ ap (λ j. best pc (source_of (effect_of k earlier j (names_in l pc)) (depth_of k (names_in l pc)) d) + added_of (effect_of k earlier j (names_in l pc)) (depth_of k (names_in l pc)) d) (sym at) in
+      let v = value_goes k earlier code l best pc i d g ∙ ap (λ j. best pc (source_of (change_of k earlier j (names_in l pc)) (depth_of k (names_in l pc)) d) + added_of (change_of k earlier j (names_in l pc)) (depth_of k (names_in l pc)) d) (sym at) in
       subst (λ s. New c f (head_in l) best pc s q d (value_by k earlier code l best pc i d)) (sym g.shape) (among, sym v)
 
   pub quiet_spread : (pc : ℕ) (rows : List (List ℕ)) → is_quiet (instr_at code pc) ≡ true → IsSpread c f (head_in l) pc rows rows
@@ -196,7 +197,7 @@ module _ (k : Kind) (earlier : List Budgets) (code : List Instr) (l : Layout) (r
   capped v x most e le small = omega arith
 
   pub sent_spread : (n pc most : ℕ) (values : List ℕ) (before after : List (List ℕ)) → ((q : ℕ) → depth_of k (names_in l q) < n) → is_quiet (instr_at code pc) ≡ false → most < 4294967296 → ((d : ℕ) → d < n → get_or values d 0 ≡ min (handed_value k earlier code l (read before) pc d) 18446744073709551615)
-      → IsSent values (λ q. depth_of k (names_in l q)) most (named (instr_at code pc) ++ next_place pc (instr_at code pc)) before after → IsSpread c f (head_in l) pc before after
+      → IsSent values (λ q. depth_of k (names_in l q)) most (targets (instr_at code pc) ++ next_place pc (instr_at code pc)) before after → IsSpread c f (head_in l) pc before after
   sent_spread n pc most values before after fits quiet small is sent = record {
     long = sent.long;
     raised = λ q d m lt low w. (
@@ -205,14 +206,14 @@ module _ (k : Kind) (earlier : List Budgets) (code : List Instr) (l : Layout) (r
         let le = sent.small q d new.0 low in
         let v = capped (get_or values d 0) (handed_value k earlier code l (read before) pc d) most (is d (omega arith)) le small in
         sent.raised q d new.0 low ∙ ap (max (read before q d)) (v ∙ new.1));
-    same = λ q d lt low out. elim (among_cases (named (instr_at code pc) ++ next_place pc (instr_at code pc)) q) [
+    same = λ q d lt low out. elim (among_cases (targets (instr_at code pc) ++ next_place pc (instr_at code pc)) q) [
       | inl a ↦ absurd (out _ (new_of (read before) pc (instr_at code pc) refl (sort any_program code pc (instr_at code pc)) quiet q d a))
       | inr no_way ↦ sent.same q d no_way
     ];
   }
 
   pub stopped_over : (n pc most : ℕ) (values : List ℕ) (before : List (List ℕ)) → ((q : ℕ) → depth_of k (names_in l q) < n) → pc < length code → is_quiet (instr_at code pc) ≡ false → ((d : ℕ) → d < n → get_or values d 0 ≡ min (handed_value k earlier code l (read before) pc d) 18446744073709551615)
-      → IsStopped values (λ q. depth_of k (names_in l q)) most (named (instr_at code pc) ++ next_place pc (instr_at code pc)) → HandsTooMuch c f (head_in l) pc (read before) most
+      → IsStopped values (λ q. depth_of k (names_in l q)) most (targets (instr_at code pc) ++ next_place pc (instr_at code pc)) → HandsTooMuch c f (head_in l) pc (read before) most
   stopped_over n pc most values before fits within quiet is (q, (d, h)) =
       let few = fits q in
       let v = is d (omega (arith, h.1)) in
@@ -229,7 +230,7 @@ module _ (k : Kind) (earlier : List Budgets) (code : List Instr) (l : Layout) (r
       inside pc EndsPath e q d m best w = absurd w
 
   -- where the instruction leads to lies in the code
-  pub leads_in : (pc q : ℕ) → is_quiet (instr_at code pc) ≡ false → Among (named (instr_at code pc) ++ next_place pc (instr_at code pc)) q → q < length code
+  pub leads_in : (pc q : ℕ) → is_quiet (instr_at code pc) ≡ false → Among (targets (instr_at code pc) ++ next_place pc (instr_at code pc)) q → q < length code
   leads_in pc q quiet among = by (c.shape pc) refl (new_of (λ x y. 0) pc (instr_at code pc) refl (sort any_program code pc (instr_at code pc)) quiet q 0 among)
     where
       by : (s : Shape) → c.shape pc ≡ s → New c f (head_in l) (λ x y. 0) pc s q 0 (value_by k earlier code l (λ x y. 0) pc (instr_at code pc) 0) → q < length code

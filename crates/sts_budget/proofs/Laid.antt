@@ -3,28 +3,28 @@ use Rattle.std.proofs.Common.{◌≡◌, ◌≢◌, ℕ, suc, ◌+◌, ◌<◌, 
 use Rattle.std.proofs.Math.Seq.{take-suc}
 use Rattle.std.proofs.lemmas.List.{length-replicate, get_or-replicate}
 use Rattle.std.proofs.lemmas.Bool.{cases_eq, cases_lt, leb-false}
-use Rattle.sts_code.specs.Program.{Program, routine}
+use Rattle.sts_code.specs.Program.{Program, routine, instr_at}
 use Rattle.sts_code.specs.declared.instr.Instr.{Instr}
 use Rattle.sts_code.specs.declared.instr.Instr.TheVariants.{Push, Pop, Dup, Swap, Load, Store, Add, Sub, Mul, Lt, Eq, Div, Jmp, Jz, Times, Next, Open, Fork, Join, Close, Cancelled, Case, Get, Except, Tally, Total, Forget, Bind, Unbind, Read, Bound, OrElse, Interrupted, Ret, Fail}
-use Rattle.sts_model.specs.Flow.{Reaches}
-use Rattle.sts_model.specs.Local.{match_of}
-use Rattle.sts_model.specs.declared.typing.TypedEntry.{TypedEntry}
-use Rattle.sts_model.specs.TypeState.{TypeState}
-use Rattle.sts_model.specs.Around.{instr_at, named, next_place, around}
-use Rattle.sts_model.specs.Causes.{is_nested}
-use Rattle.sts_model.specs.Edges.{typing}
-use Rattle.sts_model.specs.Refusal.{IsWellTyped}
-use Rattle.sts_model.specs.ControlPaths.{GoesTo, Repeats, EndsTurn, EndsPath, Among}
-use Rattle.sts_model.specs.Budget.{skeleton, shape_of}
-use Rattle.sts_budget.specs.Layout.{Names, names_after, HasRoom}
+use Rattle.sts_rules.specs.Flow.{Reaches}
+use Rattle.sts_code.specs.Loops.{match_of}
+use Rattle.sts_rules.specs.declared.typing.TypedEntry.{TypedEntry}
+use Rattle.sts_rules.specs.TypeState.{TypeState}
+use Rattle.sts_rules.specs.Around.{next_place, around}
+use Rattle.sts_code.specs.Facts.{targets}
+use Rattle.sts_rules.specs.Causes.{is_nested}
+use Rattle.sts_rules.specs.Edges.{typing}
+use Rattle.sts_rules.specs.Refusal.{IsWellTyped}
+use Rattle.sts_rules.specs.ControlPaths.{GoesTo, Repeats, EndsTurn, EndsPath, Among}
+use Rattle.sts_rules.specs.Budget.{skeleton, shape_of}
+use Rattle.sts_budget.specs.Layout.{Names, names_after, HasEntryRoom}
 use Rattle.sts_budget.proofs.Sorts.{Sort, sort, is_times, is_next, is_end, goes_on, GoesOn, among_of, among_left, among_right}
 use Rattle.sts_budget.proofs.Forward.{among_cases}
 use Rattle.sts_budget.proofs.Typed.{among_next, goes_at, here, fits, opened, Opened, ended, inside, structured, leading_go, times_of}
 use Rattle.sts_budget.proofs.Named.{led, knows_names}
-use Rattle.sts_budget.specs.Structured.{IsStructured}
+use Rattle.sts_budget.specs.Structured.{IsStructured, Led, from_go, from_head, from_end}
 use Rattle.sts_budget.specs.Known.{KnowsNames, NamesRight}
 use Rattle.sts_budget.specs.Laid.{mates_after, Writes, first_of, head_after, IsRight, IsWritten, IsLaid}
-use Rattle.sts_budget.specs.Structured.{Led, from_go, from_head, from_end}
 use Rattle.sts_budget.specs.TypedNames.{names}
 
 -- ---- lists
@@ -56,7 +56,7 @@ writes_one to value d old = writes_more (to ∷ []) 0 to value d old old (omega 
 -- ---- one instruction
 
 -- there is room for what an instruction opens
-has_room : (i : Instr) (s : TypeState) (ns : Names) → length ns ≡ length s.entries → is_nested i s ≡ false → HasRoom i ns
+has_room : (i : Instr) (s : TypeState) (ns : Names) → length ns ≡ length s.entries → is_nested i s ≡ false → HasEntryRoom i ns
 has_room (Push k) s ns long e = tt
 has_room Pop s ns long e = tt
 has_room Dup s ns long e = tt
@@ -108,8 +108,8 @@ head_kept p code pc Eq heads goes = refl
 head_kept p code pc (Div to) heads goes = refl
 head_kept p code pc (Jmp to) heads goes = refl
 head_kept p code pc (Jz to) heads goes = refl
-head_kept p code pc (Times n) heads goes = (let z : Repeats n ≡ GoesTo (named (Times n) ++ next_place pc (Times n)) = goes.shape in absurd (cc))
-head_kept p code pc Next heads goes = (let z : EndsTurn ≡ GoesTo (named Next ++ next_place pc Next) = goes.shape in absurd (cc))
+head_kept p code pc (Times n) heads goes = (let z : Repeats n ≡ GoesTo (targets (Times n) ++ next_place pc (Times n)) = goes.shape in absurd (cc))
+head_kept p code pc Next heads goes = (let z : EndsTurn ≡ GoesTo (targets Next ++ next_place pc Next) = goes.shape in absurd (cc))
 head_kept p code pc (Open x j timed) heads goes = refl
 head_kept p code pc (Fork x g h) heads goes = refl
 head_kept p code pc (Join x a b c) heads goes = refl
@@ -270,7 +270,7 @@ module _ (p : Program) (f : ℕ) (accepted : IsWellTyped p f) (some_code : 0 < l
   pub is_written : (k pc : ℕ) → pc ≤ k → pc < length (routine p f).code → IsWritten (routine p f).code k pc
   is_written k pc le lt = elim (cases_eq pc 0) [ inl z ↦ inl z | inr nz ↦ inr (by pc le (led p f accepted some_code bounds [] pc (omega arith) lt)) ]
     where
-      by : (pc : ℕ) → pc ≤ k → Led (skeleton [] (routine p f).code) pc → (from : ℕ) × ((from < k) × Among (named (instr_at (routine p f).code from) ++ next_place from (instr_at (routine p f).code from)) pc)
+      by : (pc : ℕ) → pc ≤ k → Led (skeleton [] (routine p f).code) pc → (from : ℕ) × ((from < k) × Among (targets (instr_at (routine p f).code from) ++ next_place from (instr_at (routine p f).code from)) pc)
       by pc le (from_go from to places e among) =
           let g = goes_at p f accepted some_code bounds [] from places e in
           let k' = here p f accepted some_code bounds [] from (inside p f accepted some_code bounds [] from (instr_at (routine p f).code from) refl (λ z. (let w : EndsPath ≡ GoesTo places = sym (ap (shape_of from) z) ∙ e in (cc)))) in
@@ -279,13 +279,13 @@ module _ (p : Program) (f : ℕ) (accepted : IsWellTyped p f) (some_code : 0 < l
           (from, (omega (arith, u.later), a))
       by pc le (from_head h n e) =
           let i = times_of p (routine p f).code h (instr_at (routine p f).code h) n (sort p (routine p f).code h (instr_at (routine p f).code h)) e in
-          (h, (omega arith, subst (λ j. Among (named j ++ next_place h j) (h + 1)) (sym i) (inl refl)))
+          (h, (omega arith, subst (λ j. Among (targets j ++ next_place h j) (h + 1)) (sym i) (inl refl)))
       by pc le (from_end h n e) =
           let i = times_of p (routine p f).code h (instr_at (routine p f).code h) n (sort p (routine p f).code h (instr_at (routine p f).code h)) e in
           let o = opened p f accepted some_code bounds [] h n i in
-          (o.end, (omega (arith, o.mate), subst (λ q. Among (named (instr_at (routine p f).code o.end) ++ next_place o.end (instr_at (routine p f).code o.end)) (q + 1)) (sym o.mate) (subst (λ j. Among (named j ++ next_place o.end j) (o.end + 1)) (sym o.is_end) (inl refl))))
+          (o.end, (omega (arith, o.mate), subst (λ q. Among (targets (instr_at (routine p f).code o.end) ++ next_place o.end (instr_at (routine p f).code o.end)) (q + 1)) (sym o.mate) (subst (λ j. Among (targets j ++ next_place o.end j) (o.end + 1)) (sym o.is_end) (inl refl))))
 
-  pub fits_room : (k : ℕ) (heads : List (Option ℕ)) (table : List Names) → k < length (routine p f).code → IsRight p f heads table k → HasRoom (instr_at (routine p f).code k) (get_or table k [])
+  pub fits_room : (k : ℕ) (heads : List (Option ℕ)) (table : List Names) → k < length (routine p f).code → IsRight p f heads table k → HasEntryRoom (instr_at (routine p f).code k) (get_or table k [])
   fits_room k heads table lt r =
       let h = here p f accepted some_code bounds [] k lt in
       has_room (instr_at (routine p f).code k) h.clear.state (get_or table k []) (ap length (sym (r.name h.clear.state h.clear.alone.0)) ∙ long h.clear.state.entries) h.rules.nested
@@ -295,15 +295,15 @@ module _ (p : Program) (f : ℕ) (accepted : IsWellTyped p f) (some_code : 0 < l
       long (e ∷ es) = ap suc (long es)
 
   -- where an instruction leads to lies in the code
-  pub leads_inside : (k to : ℕ) → k < length (routine p f).code → Among (named (instr_at (routine p f).code k) ++ next_place k (instr_at (routine p f).code k)) to → (k < to) × (to < length (routine p f).code)
+  pub leads_inside : (k to : ℕ) → k < length (routine p f).code → Among (targets (instr_at (routine p f).code k) ++ next_place k (instr_at (routine p f).code k)) to → (k < to) × (to < length (routine p f).code)
   leads_inside k to lt a =
       let h = here p f accepted some_code bounds [] k lt in (
-        elim (among_of (named (instr_at (routine p f).code k)) (next_place k (instr_at (routine p f).code k)) to a) [ inl m ↦ h.rules.later to m | inr m ↦ (let e = among_next k (instr_at (routine p f).code k) to m in omega arith) ],
-        h.rules.inside to (among_left (named (instr_at (routine p f).code k) ++ next_place k (instr_at (routine p f).code k)) _ to a),
+        elim (among_of (targets (instr_at (routine p f).code k)) (next_place k (instr_at (routine p f).code k)) to a) [ inl m ↦ h.rules.later to m | inr m ↦ (let e = among_next k (instr_at (routine p f).code k) to m in omega arith) ],
+        h.rules.inside to (among_left (targets (instr_at (routine p f).code k) ++ next_place k (instr_at (routine p f).code k)) _ to a),
       )
 
   -- the values that are written at the places to which an instruction leads
-  pub right_value : (k to : ℕ) (heads : List (Option ℕ)) (mates : List ℕ) (table : List Names) → k < length (routine p f).code → IsLaid p f k heads mates table → Among (named (instr_at (routine p f).code k) ++ next_place k (instr_at (routine p f).code k)) to
+  pub right_value : (k to : ℕ) (heads : List (Option ℕ)) (mates : List ℕ) (table : List Names) → k < length (routine p f).code → IsLaid p f k heads mates table → Among (targets (instr_at (routine p f).code k) ++ next_place k (instr_at (routine p f).code k)) to
       → (head_after (instr_at (routine p f).code k) k heads ≡ first_of (around (routine p f).code to)) × ((s : TypeState) → Reaches (typing p f) to s → names s.entries ≡ names_after (instr_at (routine p f).code k) (get_or table k []))
   right_value k to heads mates table lt laid a = by (instr_at (routine p f).code k) refl (sort p (routine p f).code k (instr_at (routine p f).code k)) a
     where
@@ -316,7 +316,7 @@ module _ (p : Program) (f : ℕ) (accepted : IsWellTyped p f) (some_code : 0 < l
       named_by : (i : Instr) → names_here to ≡ names_after i (names_here k) → (s : TypeState) → Reaches (typing p f) to s → names s.entries ≡ names_after i (get_or table k [])
       named_by i e s r = names_right to s r ∙ e ∙ ap (names_after i) (sym table_is)
 
-      by : (i : Instr) → instr_at (routine p f).code k ≡ i → Sort p (routine p f).code k i → Among (named i ++ next_place k i) to → (head_after i k heads ≡ first_of (around (routine p f).code to)) × ((s : TypeState) → Reaches (typing p f) to s → names s.entries ≡ names_after i (get_or table k []))
+      by : (i : Instr) → instr_at (routine p f).code k ≡ i → Sort p (routine p f).code k i → Among (targets i ++ next_place k i) to → (head_after i k heads ≡ first_of (around (routine p f).code to)) × ((s : TypeState) → Reaches (typing p f) to s → names s.entries ≡ names_after i (get_or table k []))
       by i e (is_times n) (inl same) =
           let o = opened p f accepted some_code bounds [] k n e in
           (sym (ap first_of (ap (around (routine p f).code) (sym same) ∙ o.around_turn)), named_by (Times n) (ap names_here (sym same) ∙ (known.same k n (ap (shape_of k) e)).0))
@@ -341,11 +341,11 @@ module _ (p : Program) (f : ℕ) (accepted : IsWellTyped p f) (some_code : 0 < l
       by i e (goes_on g) among =
           let h = here p f accepted some_code bounds [] k lt in
           let g' = subst (λ j. GoesOn p (routine p f).code k j) (sym e) g in
-          let among' = subst (λ j. Among (named j ++ next_place k j) to) (sym e) among in
+          let among' = subst (λ j. Among (targets j ++ next_place k j) to) (sym e) among in
           let u = leading_go p f accepted some_code bounds [] k (instr_at (routine p f).code k) h.clear.state h.clear.out to h.clear.state h.rules g' among' refl in
           let around_is : around (routine p f).code to ≡ around (routine p f).code k = u.loops ∙ h.fit.loops in (
             head_kept p (routine p f).code k i heads g ∙ now.head ∙ sym (ap first_of around_is),
-            named_by i (known.over_go k to (named i ++ next_place k i) (ap (shape_of k) e ∙ g.shape) among ∙ ap (λ j. names_after j (names_here k)) e),
+            named_by i (known.over_go k to (targets i ++ next_place k i) (ap (shape_of k) e ∙ g.shape) among ∙ ap (λ j. names_after j (names_here k)) e),
           )
 
   -- before the first place
@@ -414,8 +414,8 @@ module _ (p : Program) (f : ℕ) (accepted : IsWellTyped p f) (some_code : 0 < l
 
   -- one more place
   pub laid_more : (k : ℕ) (heads heads' : List (Option ℕ)) (mates mates' : List ℕ) (table table' : List Names) → k < length (routine p f).code → IsLaid p f k heads mates table
-      → Writes (named (instr_at (routine p f).code k) ++ next_place k (instr_at (routine p f).code k)) (head_after (instr_at (routine p f).code k) k heads) None heads heads'
-      → Writes (named (instr_at (routine p f).code k) ++ next_place k (instr_at (routine p f).code k)) (names_after (instr_at (routine p f).code k) (get_or table k [])) [] table table'
+      → Writes (targets (instr_at (routine p f).code k) ++ next_place k (instr_at (routine p f).code k)) (head_after (instr_at (routine p f).code k) k heads) None heads heads'
+      → Writes (targets (instr_at (routine p f).code k) ++ next_place k (instr_at (routine p f).code k)) (names_after (instr_at (routine p f).code k) (get_or table k [])) [] table table'
       → mates' ≡ mates_after (instr_at (routine p f).code k) k (get_or heads k None) mates
       → IsLaid p f (k + 1) heads' mates' table'
   laid_more k heads heads' mates mates' table table' lt laid wh wn ml = record {
@@ -427,7 +427,7 @@ module _ (p : Program) (f : ℕ) (accepted : IsWellTyped p f) (some_code : 0 < l
   }
     where
       outs : List ℕ
-      outs = named (instr_at (routine p f).code k) ++ next_place k (instr_at (routine p f).code k)
+      outs = targets (instr_at (routine p f).code k) ++ next_place k (instr_at (routine p f).code k)
 
       right : (pc : ℕ) → pc < length (routine p f).code → IsWritten (routine p f).code (k + 1) pc → IsRight p f heads' table' pc
       right pc within w = elim (among_cases outs pc) [
@@ -435,5 +435,5 @@ module _ (p : Program) (f : ℕ) (accepted : IsWellTyped p f) (some_code : 0 < l
         | inr out ↦ (let old : IsRight p f heads table pc = laid.right pc within (elim w [ inl z ↦ inl z | inr x ↦ inr (earlier out x) ]) in record { head = wh.other pc out ∙ old.head; name = λ s r. (old.name s r ∙ sym (wn.other pc out)) })
       ]
         where
-          earlier : (Among outs pc → ⊥) → ((from : ℕ) × ((from < k + 1) × Among (named (instr_at (routine p f).code from) ++ next_place from (instr_at (routine p f).code from)) pc)) → (from : ℕ) × ((from < k) × Among (named (instr_at (routine p f).code from) ++ next_place from (instr_at (routine p f).code from)) pc)
-          earlier out (from, x) = elim (cases_eq from k) [ inl e ↦ absurd (out (subst (λ q. Among (named (instr_at (routine p f).code q) ++ next_place q (instr_at (routine p f).code q)) pc) e x.1)) | inr ne ↦ (from, (omega (arith, x.0), x.1)) ]
+          earlier : (Among outs pc → ⊥) → ((from : ℕ) × ((from < k + 1) × Among (targets (instr_at (routine p f).code from) ++ next_place from (instr_at (routine p f).code from)) pc)) → (from : ℕ) × ((from < k) × Among (targets (instr_at (routine p f).code from) ++ next_place from (instr_at (routine p f).code from)) pc)
+          earlier out (from, x) = elim (cases_eq from k) [ inl e ↦ absurd (out (subst (λ q. Among (targets (instr_at (routine p f).code q) ++ next_place q (instr_at (routine p f).code q)) pc) e x.1)) | inr ne ↦ (from, (omega (arith, x.0), x.1)) ]

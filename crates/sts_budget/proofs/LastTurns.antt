@@ -4,37 +4,44 @@ use Rattle.std.proofs.lemmas.Bool.{cases_eq, cases_lt}
 use Rattle.std.proofs.lemmas.List.{length-replicate}
 use Rattle.sts_code.specs.declared.instr.Instr.{Instr}
 use Rattle.sts_code.specs.declared.instr.Instr.TheVariants.{Push, Pop, Dup, Swap, Load, Store, Add, Sub, Mul, Lt, Eq, Div, Jmp, Jz, Times, Next, Open, Fork, Join, Close, Cancelled, Case, Get, Except, Tally, Total, Forget, Bind, Unbind, Read, Bound, OrElse, Interrupted, Ret, Fail}
-use Rattle.sts_model.specs.Around.{instr_at, around}
-use Rattle.sts_model.specs.declared.budget.Budgets.{Budgets}
-use Rattle.sts_model.specs.declared.typing.Cause.{Cause}
-use Rattle.sts_model.specs.declared.typing.Cause.TheVariants as cause
-use Rattle.sts_model.specs.Causes.{cause_number}
-use Rattle.sts_model.specs.Budget.{skeleton, shape_of, Exceeds, IsLeastExcess}
-use Rattle.sts_model.specs.ControlPaths.{Skeleton}
-use Rattle.sts_budget.specs.declared.effect.Kind.{Kind}
+use Rattle.sts_rules.specs.Around.{around}
+use Rattle.sts_code.specs.Program.{instr_at}
+use Rattle.sts_rules.specs.declared.budget.Budgets.{Budgets}
+use Rattle.sts_rules.specs.declared.typing.Cause.{Cause}
+use Rattle.sts_rules.specs.declared.typing.Cause.TheVariants as cause
+use Rattle.sts_rules.specs.Causes.{cause_number}
+use Rattle.sts_rules.specs.Budget.{skeleton, shape_of, Exceeds, IsLeastExcess}
+use Rattle.sts_rules.specs.ControlPaths.{Skeleton}
+use Rattle.sts_budget.specs.declared.change.Resource.{Resource}
 use Rattle.sts_budget.specs.declared.layout.Layout.{Layout}
-use Rattle.sts_budget.specs.Effect.{own_step, own_of, limit_of, cause_of, depth_of, IsMost}
+use Rattle.sts_budget.specs.Change.{own_step, own_of, limit_of, cause_of, depth_of, IsMost}
 use Rattle.sts_budget.specs.Handing.{base_of, bases_after}
 use Rattle.sts_budget.specs.Laid.{first_of}
 use Rattle.sts_budget.specs.Last.{HasBases, IsTop}
-use Rattle.sts_budget.specs.Ready.{IsReady, names_in, head_in, flows_in}
+use Rattle.sts_budget.specs.Ready.{IsLaidFor, names_in, head_in, flows_in}
 use Rattle.sts_budget.specs.Structured.{bound_of}
 use Rattle.sts_budget.specs.Sums.{Flows, full, turn_base, gain}
 use Rattle.sts_budget.specs.Table.{read, IsPartial, Passes}
-use Rattle.sts_budget.specs.declared.effect.Kind.TheVariants.{Steps, Tasks, Scopes, Binds}
+use Rattle.sts_budget.specs.declared.change.Resource.TheVariants.{Steps, Tasks, Scopes, Binds}
 use Rattle.sts_budget.proofs.LaidStep.{any_default}
 use Rattle.sts_budget.proofs.Forward.{is_table}
 use Rattle.sts_budget.proofs.FourKinds.{stands_exceeds, top_is_most}
 use Rattle.sts_budget.proofs.HandOn.{fits_here, heads_right, counts_times, counts_next}
 use Rattle.sts_budget.proofs.Sums.{IsTable, point_attained, full_inside, full_outside}
 
-pub own_within : (k : Kind) → own_of k ≤ limit_of k
+pub limit_small : (k : Resource) → limit_of k ≤ 1000000
+limit_small Steps = omega arith
+limit_small Tasks = omega arith
+limit_small Scopes = omega arith
+limit_small Binds = omega arith
+
+pub own_within : (k : Resource) → own_of k ≤ limit_of k
 own_within Steps = omega arith
 own_within Tasks = omega arith
 own_within Scopes = omega arith
 own_within Binds = omega arith
 
-own_low : (k : Kind) → own_step k ≤ 1
+own_low : (k : Resource) → own_step k ≤ 1
 own_low Steps = omega arith
 own_low Tasks = omega arith
 own_low Scopes = omega arith
@@ -82,7 +89,7 @@ pub base_small : (bases : List ℕ) (o : Option ℕ) → ((i : ℕ) → get_or b
 base_small bases None small = omega arith
 base_small bases (Some h) small = small h
 
-module _ (k : Kind) (earlier : List Budgets) (code : List Instr) (l : Layout) (ready : IsReady earlier code l) (rows : List (List ℕ)) (whole : IsPartial (skeleton earlier code) (flows_in k earlier code l) (length code) rows) where
+module _ (k : Resource) (earlier : List Budgets) (code : List Instr) (l : Layout) (ready : IsLaidFor earlier code l) (rows : List (List ℕ)) (whole : IsPartial (skeleton earlier code) (flows_in k earlier code l) (length code) rows) where
   abbrev c : Skeleton
   c = skeleton earlier code
 
@@ -213,18 +220,18 @@ module _ (k : Kind) (earlier : List Budgets) (code : List Instr) (l : Layout) (r
   ]
 
 -- the limit is passed
-pub exceeds : (k : Kind) (earlier : List Budgets) (code : List Instr) (l : Layout) → IsReady earlier code l → (most : ℕ) → most ≡ limit_of k - own_of k → Passes (skeleton earlier code) (flows_in k earlier code l) most → Exceeds earlier code (cause_of k)
+pub exceeds : (k : Resource) (earlier : List Budgets) (code : List Instr) (l : Layout) → IsLaidFor earlier code l → (most : ℕ) → most ≡ limit_of k - own_of k → Passes (skeleton earlier code) (flows_in k earlier code l) most → Exceeds earlier code (cause_of k)
 exceeds k earlier code l ready most e (v, h) = stands_exceeds earlier code (around code) ready.good (names_in l) ready.known k v h.0 (omega (arith, h.1))
 
 -- a budget within its limit is no cause
-pub no_excess : (k : Kind) (earlier : List Budgets) (code : List Instr) (m : ℕ) → IsMost k earlier code m → m ≤ limit_of k → Exceeds earlier code (cause_of k) → ⊥
+pub no_excess : (k : Resource) (earlier : List Budgets) (code : List Instr) (m : ℕ) → IsMost k earlier code m → m ≤ limit_of k → Exceeds earlier code (cause_of k) → ⊥
 no_excess Steps earlier code m h le (x, t) = let top = h.1 x t.0 in omega (arith, t.1)
 no_excess Tasks earlier code m h le (x, t) = let top = h.1 x t.0 in omega (arith, t.1)
 no_excess Scopes earlier code m h le (x, t) = let top = h.1 x t.0 in omega (arith, t.1)
 no_excess Binds earlier code m h le (x, t) = let top = h.1 x t.0 in omega (arith, t.1)
 
--- the first kind that passes its limit gives the least cause
-pub least_excess : (k : Kind) (earlier : List Budgets) (code : List Instr) → Exceeds earlier code (cause_of k) → ((j : Kind) → cause_number (cause_of j) < cause_number (cause_of k) → Exceeds earlier code (cause_of j) → ⊥) → IsLeastExcess earlier code (cause_of k)
+-- the first resource that passes its limit gives the least cause
+pub least_excess : (k : Resource) (earlier : List Budgets) (code : List Instr) → Exceeds earlier code (cause_of k) → ((j : Resource) → cause_number (cause_of j) < cause_number (cause_of k) → Exceeds earlier code (cause_of j) → ⊥) → IsLeastExcess earlier code (cause_of k)
 least_excess k earlier code here before = (here, less)
   where
     less : (other : Cause) → cause_number other < cause_number (cause_of k) → Exceeds earlier code other → ⊥

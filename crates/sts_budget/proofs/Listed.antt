@@ -4,8 +4,9 @@ use Rattle.std.proofs.lemmas.List.{length-append, length-map, get_or-map, get_or
 use Rattle.std.proofs.lemmas.Bool.{cases_lt}
 use Rattle.sts_code.specs.declared.instr.Instr.{Instr}
 use Rattle.sts_code.specs.declared.instr.Instr.TheVariants.{Push, Pop, Dup, Swap, Load, Store, Add, Sub, Mul, Lt, Eq, Div, Jmp, Jz, Times, Next, Open, Fork, Join, Close, Cancelled, Case, Get, Except, Tally, Total, Forget, Bind, Unbind, Read, Bound, OrElse, Interrupted, Ret, Fail}
-use Rattle.sts_model.specs.Around.{named, next_place}
-use Rattle.sts_model.specs.ControlPaths.{Among}
+use Rattle.sts_rules.specs.Around.{next_place}
+use Rattle.sts_code.specs.Facts.{targets}
+use Rattle.sts_rules.specs.ControlPaths.{Among}
 use Rattle.sts_budget.specs.Laid.{Writes, listed, AreListed, IsListAfter, IsDeepest}
 use Rattle.sts_budget.specs.Layout.{Names, names_after, keeps_names, goes_straight_on}
 use Rattle.sts_budget.proofs.Forward.{among_cases}
@@ -49,7 +50,7 @@ same_names Ret ns e = refl
 same_names Fail ns e = refl
 
 -- an instruction that goes straight on leads to the next place alone
-pub straight : (i : Instr) (pc : ℕ) → goes_straight_on i ≡ true → (pc + 1) ∷ [] ≡ named i ++ next_place pc i
+pub straight : (i : Instr) (pc : ℕ) → goes_straight_on i ≡ true → (pc + 1) ∷ [] ≡ targets i ++ next_place pc i
 straight (Push k) pc e = refl
 straight Pop pc e = refl
 straight Dup pc e = refl

@@ -7,8 +7,8 @@ use Rattle.std.proofs.lemmas.List.{get_or-drop}
 use Rattle.std.proofs.lemmas.List.Sums.{sum_by-append, sum_by-cons}
 use Rattle.sts_code.specs.declared.instr.Instr.{Instr}
 use Rattle.sts_code.specs.declared.instr.Instr.TheVariants.{Push, Pop, Dup, Swap, Load, Store, Add, Sub, Mul, Lt, Eq, Div, Jmp, Jz, Times, Next, Open, Fork, Join, Close, Cancelled, Case, Get, Except, Tally, Total, Forget, Bind, Unbind, Read, Bound, OrElse, Interrupted, Ret, Fail}
-use Rattle.sts_model.specs.Local.{is_times, is_next, is_balanced, match_of}
-use Rattle.sts_model.specs.Around.{instr_at}
+use Rattle.sts_code.specs.Loops.{is_times, is_next, is_balanced, match_of}
+use Rattle.sts_code.specs.Program.{instr_at}
 
 pub next_is : (i : Instr) → is_next i ≡ true → i ≡ Next
 next_is (Push k) e = cc

@@ -3,23 +3,24 @@ use Rattle.std.proofs.Common.{◌≡◌, ℕ, suc, ◌+◌, ◌<◌, ◌≤◌, 
 use Rattle.std.specs.List.{list_any}
 use Rattle.std.proofs.lemmas.Bool.{cases_lt, leb-false, eqb-true}
 use Rattle.std.proofs.lemmas.List.{length-map}
-use Rattle.sts_code.specs.Program.{Program, routine}
+use Rattle.sts_code.specs.Program.{Program, routine, instr_at}
 use Rattle.sts_code.specs.declared.instr.Instr.{Instr}
 use Rattle.sts_code.specs.declared.instr.Instr.TheVariants.{Push, Pop, Dup, Swap, Load, Store, Add, Sub, Mul, Lt, Eq, Div, Jmp, Jz, Times, Next, Open, Fork, Join, Close, Cancelled, Case, Get, Except, Tally, Total, Forget, Bind, Unbind, Read, Bound, OrElse, Interrupted, Ret, Fail}
-use Rattle.sts_model.specs.declared.typing.TypedLoop.{TypedLoop}
-use Rattle.sts_model.specs.declared.typing.TypedEntry.{TypedEntry}
-use Rattle.sts_model.specs.declared.typing.TypedEntry.TheVariants.{Scope, Binding}
-use Rattle.sts_model.specs.declared.typing.SlotKind.{SlotKind}
-use Rattle.sts_model.specs.declared.typing.SlotKind.TheVariants as slot
-use Rattle.sts_model.specs.Flow.{Leads, Reaches, first, then}
-use Rattle.sts_model.specs.TypeState.{TypeState, heads, kind, scope_in}
-use Rattle.sts_model.specs.Around.{instr_at, named, next_place, around}
-use Rattle.sts_model.specs.Causes.{breaks_structure, is_illegal, has_wrong_slot, is_strangers, is_held, is_own, is_lent, passes, is_opened, innermost, is_scope_in, is_binding}
-use Rattle.sts_model.specs.Edges.{follows, moved, typing, back_of}
-use Rattle.sts_model.specs.Refusal.{IsWellTyped}
-use Rattle.sts_model.specs.ControlPaths.{GoesTo, Repeats, EndsPath, Skeleton, Among}
-use Rattle.sts_model.specs.declared.budget.Budgets.{Budgets}
-use Rattle.sts_model.specs.Budget.{skeleton, shape_of}
+use Rattle.sts_rules.specs.declared.typing.TypedLoop.{TypedLoop}
+use Rattle.sts_rules.specs.declared.typing.TypedEntry.{TypedEntry}
+use Rattle.sts_rules.specs.declared.typing.TypedEntry.TheVariants.{Scope, Binding}
+use Rattle.sts_rules.specs.declared.typing.SlotKind.{SlotKind}
+use Rattle.sts_rules.specs.declared.typing.SlotKind.TheVariants as slot
+use Rattle.sts_rules.specs.Flow.{Leads, Reaches, first, then}
+use Rattle.sts_rules.specs.TypeState.{TypeState, heads, kind, scope_in}
+use Rattle.sts_rules.specs.Around.{next_place, around}
+use Rattle.sts_code.specs.Facts.{targets}
+use Rattle.sts_rules.specs.Causes.{breaks_structure, is_illegal, has_wrong_slot, is_strangers, is_held, is_own, is_lent, passes, is_opened, innermost, is_scope_in, is_binding}
+use Rattle.sts_rules.specs.Edges.{follows, moved, typing, back_of}
+use Rattle.sts_rules.specs.Refusal.{IsWellTyped}
+use Rattle.sts_rules.specs.ControlPaths.{GoesTo, Repeats, EndsPath, Skeleton, Among}
+use Rattle.sts_rules.specs.declared.budget.Budgets.{Budgets}
+use Rattle.sts_rules.specs.Budget.{skeleton, shape_of}
 use Rattle.sts_budget.specs.Layout.{Names, names_after, HasScope, FitsNames}
 use Rattle.sts_budget.proofs.Allowed.{allowed, not_false, neither}
 use Rattle.sts_budget.proofs.Typed.{IsEdge, over_go, into_loop, past_loop, over_next, edge_at, here, times_at, next_at, goes_at, within_code, opened, ended, none_past}
@@ -165,7 +166,7 @@ module _ (p : Program) (f : ℕ) (accepted : IsWellTyped p f) (some_code : 0 < l
   led pc pos within = by pc (accepted pc within).state pos (accepted pc within).alone.0
     where
       at : (from to : ℕ) (s x : TypeState) → IsEdge p (routine p f).code from (instr_at (routine p f).code from) s to x → Led (skeleton earlier (routine p f).code) to
-      at from to s x (over_go g among same entries) = from_go from to (named (instr_at (routine p f).code from) ++ next_place from (instr_at (routine p f).code from)) g.shape among
+      at from to s x (over_go g among same entries) = from_go from to (targets (instr_at (routine p f).code from) ++ next_place from (instr_at (routine p f).code from)) g.shape among
       at from to s x (into_loop n is loops entries) = from_head from n (ap (shape_of from) is)
       at from to s x (past_loop n q is m loops entries) =
           let o = opened p f accepted some_code bounds earlier from n is in

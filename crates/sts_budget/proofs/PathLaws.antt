@@ -1,16 +1,16 @@
 -- The laws of the budgets, from structured code.
 use Rattle.std.proofs.Common.{◌≡◌, ℕ, ◌+◌, ◌<◌, List, [], ◌∷◌, length, Some, None, Bool, true, false, ◌==◌, cond, ltb, refl, sym, ap, ◌∙◌, subst, arith, inl, inr}
 use Rattle.std.proofs.lemmas.Bool.{lt-ltb, eqb-false}
-use Rattle.sts_code.specs.Program.{Program, routine}
+use Rattle.sts_code.specs.Program.{Program, routine, instr_at}
 use Rattle.sts_code.specs.Checks.{program_fault}
-use Rattle.sts_model.specs.Around.{instr_at, around}
-use Rattle.sts_model.specs.Refusal.{IsWellTyped}
-use Rattle.sts_model.specs.declared.budget.Budgets.{Budgets}
-use Rattle.sts_model.specs.ControlPaths.{GoesTo, OpenEntry, step, go}
-use Rattle.sts_model.specs.Budget.{IsBudget, skeleton, shape_of, steps_of, budget_at, Measure, entries_sum, entries_of, forked, tasks_measure, scopes_measure, binds_measure}
+use Rattle.sts_rules.specs.Around.{around}
+use Rattle.sts_rules.specs.Refusal.{IsWellTyped}
+use Rattle.sts_rules.specs.declared.budget.Budgets.{Budgets}
+use Rattle.sts_rules.specs.ControlPaths.{GoesTo, OpenEntry, step, go}
+use Rattle.sts_rules.specs.Budget.{IsBudget, skeleton, shape_of, steps_of, budget_at, Measure, entries_sum, entries_of, forked, tasks_measure, scopes_measure, binds_measure}
 use Rattle.sts_budget.specs.Laws.{PointsLieOnPaths, PointsAreWithin, ChildrenArePart}
 use Rattle.sts_budget.specs.Layout.{Names, HasScope, FitsNames}
-use Rattle.sts_budget.specs.Effect.{position_of}
+use Rattle.sts_budget.specs.Change.{position_of}
 use Rattle.sts_budget.proofs.Structured.{at_points, comes_inside}
 use Rattle.sts_budget.proofs.Entries.{names, front, front_all, front_forked, length_forked, long}
 use Rattle.sts_budget.proofs.FourKinds.{comes_names}

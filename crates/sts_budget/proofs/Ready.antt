@@ -2,17 +2,16 @@
 use Rattle.std.proofs.Common.{◌≡◌, ℕ, ◌<◌, List, Option, None, [], get_or, length, refl, sym, ◌∙◌, subst, arith}
 use Rattle.std.proofs.lemmas.List.{length-map}
 use Rattle.sts_code.specs.Checks.{program_fault}
-use Rattle.sts_code.specs.Program.{Program, routine}
+use Rattle.sts_code.specs.Program.{Program, routine, instr_at}
 use Rattle.sts_code.specs.declared.instr.Instr.{Instr}
 use Rattle.sts_code.specs.declared.instr.Instr.TheVariants.{Push, Pop, Dup, Swap, Load, Store, Add, Sub, Mul, Lt, Eq, Div, Jmp, Jz, Times, Next, Open, Fork, Join, Close, Cancelled, Case, Get, Except, Tally, Total, Forget, Bind, Unbind, Read, Bound, OrElse, Interrupted, Ret, Fail}
-use Rattle.sts_model.specs.Around.{instr_at}
-use Rattle.sts_model.specs.Refusal.{IsWellTyped}
-use Rattle.sts_model.specs.declared.budget.Budgets.{Budgets}
+use Rattle.sts_rules.specs.Refusal.{IsWellTyped}
+use Rattle.sts_rules.specs.declared.budget.Budgets.{Budgets}
 use Rattle.sts_budget.specs.declared.layout.Layout.{Layout}
-use Rattle.sts_budget.specs.Effect.{ForksEarlier}
+use Rattle.sts_budget.specs.Change.{ForksEarlier}
 use Rattle.sts_budget.specs.Known.{NamesRight}
 use Rattle.sts_budget.specs.Laid.{IsLaidOut, IsRight, listed}
-use Rattle.sts_budget.specs.Ready.{IsReady, names_in}
+use Rattle.sts_budget.specs.Ready.{IsLaidFor, names_in}
 use Rattle.sts_budget.proofs.Listed.{deep_listed}
 use Rattle.sts_budget.proofs.Checked.{IsChecked, is_checked}
 use Rattle.sts_budget.proofs.Laid.{is_written}
@@ -57,8 +56,8 @@ forks f pc Interrupted e = tt
 forks f pc Ret e = tt
 forks f pc Fail e = tt
 
-pub is_ready : (p : Program) (f : ℕ) (earlier : List Budgets) (code : List Instr) (l : Layout) → program_fault p.routines ≡ None → f < length p.routines → IsWellTyped p f → length earlier ≡ f → code ≡ (routine p f).code → IsLaidOut p f l → IsReady earlier code l
-is_ready p f earlier code l fine in_program typed long is laid = subst (λ xs. IsReady earlier xs l) (sym is) ready
+pub is_ready : (p : Program) (f : ℕ) (earlier : List Budgets) (code : List Instr) (l : Layout) → program_fault p.routines ≡ None → f < length p.routines → IsWellTyped p f → length earlier ≡ f → code ≡ (routine p f).code → IsLaidOut p f l → IsLaidFor earlier code l
+is_ready p f earlier code l fine in_program typed long is laid = subst (λ xs. IsLaidFor earlier xs l) (sym is) ready
   where
     c : IsChecked p f
     c = is_checked p f fine in_program
@@ -69,7 +68,7 @@ is_ready p f earlier code l fine in_program typed long is laid = subst (λ xs. I
     names_right : NamesRight p f (names_in l)
     names_right pc s r = (right pc (fits p f typed c.some_code c.bounds earlier pc s r).1).name s r
 
-    ready : IsReady earlier (routine p f).code l
+    ready : IsLaidFor earlier (routine p f).code l
     ready = record {
       good = structured p f typed c.some_code c.bounds earlier;
       known = knows_names p f typed c.some_code c.bounds earlier (names_in l) names_right;

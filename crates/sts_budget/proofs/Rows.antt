@@ -2,7 +2,7 @@
 use Rattle.std.proofs.Common.{◌≡◌, ◌≢◌, ℕ, suc, ◌+◌, ◌<◌, ◌≤◌, ◌⊎◌, max, inl, inr, List, length, set, get_or, refl, sym, ap, ◌∙◌, subst, arith, [], ◌∷◌, ◌++◌, take, get_or-set_same, get_or-set_other, length-set}
 use Rattle.std.proofs.Math.Seq.{take-suc}
 use Rattle.std.proofs.lemmas.Bool.{cases_eq}
-use Rattle.sts_model.specs.ControlPaths.{Among}
+use Rattle.sts_rules.specs.ControlPaths.{Among}
 use Rattle.sts_budget.specs.Row.{IsRaised, IsOver}
 use Rattle.sts_budget.specs.Table.{read, IsRaisedAt, IsSent, IsStopped}
 use Rattle.sts_budget.proofs.Sorts.{among_of, among_left, among_right}

@@ -3,19 +3,20 @@ use Rattle.std.proofs.Common.{◌≡◌, ℕ, ◌+◌, ◌-◌, ◌⊎◌, inl, 
 use Rattle.sts_code.specs.Program.{Program}
 use Rattle.sts_code.specs.declared.instr.Instr.{Instr}
 use Rattle.sts_code.specs.declared.instr.Instr.TheVariants.{Push, Pop, Dup, Swap, Load, Store, Add, Sub, Mul, Lt, Eq, Div, Jmp, Jz, Times, Next, Open, Fork, Join, Close, Cancelled, Case, Get, Except, Tally, Total, Forget, Bind, Unbind, Read, Bound, OrElse, Interrupted, Ret, Fail}
-use Rattle.sts_model.specs.declared.typing.TypedEntry.{TypedEntry}
-use Rattle.sts_model.specs.declared.typing.TypedEntry.TheVariants.{Scope, Binding}
-use Rattle.sts_model.specs.declared.typing.TypedPhase.{TypedPhase}
-use Rattle.sts_model.specs.declared.typing.TypedPhase.TheVariants.{Opened, Attempted, Joined, Late}
-use Rattle.sts_model.specs.declared.typing.Known.TheVariants.{Unknown, Success, Failed}
-use Rattle.sts_model.specs.declared.typing.SlotKind.{SlotKind}
-use Rattle.sts_model.specs.declared.typing.SlotKind.TheVariants.{Empty, Own, Sub}
-use Rattle.sts_model.specs.TypeState.{TypeState, scope_in}
-use Rattle.sts_model.specs.Flow.{Leads}
-use Rattle.sts_model.specs.Around.{named, next_place, skipped_to, open_after}
-use Rattle.sts_model.specs.Edges.{follows, moved, with_slot, with_known, with_phase, phase_set, raised, after_ok, joiner_of, cleared, join_follows}
-use Rattle.sts_model.specs.ControlPaths.{GoesTo, EndsPath, Among}
-use Rattle.sts_model.specs.Budget.{shape_of}
+use Rattle.sts_rules.specs.declared.typing.TypedEntry.{TypedEntry}
+use Rattle.sts_rules.specs.declared.typing.TypedEntry.TheVariants.{Scope, Binding}
+use Rattle.sts_rules.specs.declared.typing.TypedPhase.{TypedPhase}
+use Rattle.sts_rules.specs.declared.typing.TypedPhase.TheVariants.{Opened, Attempted, Joined, Late}
+use Rattle.sts_rules.specs.declared.typing.Known.TheVariants.{Unknown, Success, Failed}
+use Rattle.sts_rules.specs.declared.typing.SlotKind.{SlotKind}
+use Rattle.sts_rules.specs.declared.typing.SlotKind.TheVariants.{Empty, Own, Sub}
+use Rattle.sts_rules.specs.TypeState.{TypeState, scope_in}
+use Rattle.sts_rules.specs.Flow.{Leads}
+use Rattle.sts_rules.specs.Around.{next_place, skipped_to, open_after}
+use Rattle.sts_code.specs.Facts.{targets}
+use Rattle.sts_rules.specs.Edges.{follows, moved, with_slot, with_known, with_phase, phase_set, raised, after_ok, joiner_of, cleared, join_follows}
+use Rattle.sts_rules.specs.ControlPaths.{GoesTo, EndsPath, Among}
+use Rattle.sts_rules.specs.Budget.{shape_of}
 use Rattle.sts_budget.specs.Layout.{names_after}
 use Rattle.sts_budget.specs.TypedNames.{name_of, names}
 
@@ -33,21 +34,21 @@ names_dropped (e ∷ es) = refl
 
 -- an instruction that goes on at the places that it names and at the next one, as its typing does
 pub record GoesOn (p : Program) (code : List Instr) (pc : ℕ) (i : Instr) : Type 0 where
-  pub shape : shape_of pc i ≡ GoesTo (named i ++ next_place pc i)
+  pub shape : shape_of pc i ≡ GoesTo (targets i ++ next_place pc i)
   pub no_skip : skipped_to code pc i ≡ []
   pub keeps_loops : (hs : List ℕ) → open_after pc i hs ≡ hs
-  pub from : (s : TypeState) (to : ℕ) (x : TypeState) → Leads (follows p code pc i s) to x → Among (named i ++ next_place pc i) to × (x.loops ≡ s.loops) × (names x.entries ≡ names_after i (names s.entries))
-  pub into : (s : TypeState) (to : ℕ) → Among (named i ++ next_place pc i) to → (x : TypeState) × Leads (follows p code pc i s) to x
-  pub some : (to : ℕ) × Among (named i ++ next_place pc i) to
+  pub from : (s : TypeState) (to : ℕ) (x : TypeState) → Leads (follows p code pc i s) to x → Among (targets i ++ next_place pc i) to × (x.loops ≡ s.loops) × (names x.entries ≡ names_after i (names s.entries))
+  pub into : (s : TypeState) (to : ℕ) → Among (targets i ++ next_place pc i) to → (x : TypeState) × Leads (follows p code pc i s) to x
+  pub some : (to : ℕ) × Among (targets i ++ next_place pc i) to
 
 pub data Sort (p : Program) (code : List Instr) (pc : ℕ) : Instr → Type 0 where
   is_times : (n : ℕ) → Sort p code pc (Times n)
   is_next : Sort p code pc Next
-  is_end : {i : Instr} → shape_of pc i ≡ EndsPath → ((s : TypeState) → follows p code pc i s ≡ []) → (named i ++ next_place pc i ≡ []) → Sort p code pc i
+  is_end : {i : Instr} → shape_of pc i ≡ EndsPath → ((s : TypeState) → follows p code pc i s ≡ []) → (targets i ++ next_place pc i ≡ []) → Sort p code pc i
   goes_on : {i : Instr} → GoesOn p code pc i → Sort p code pc i
 
 -- an instruction that goes on at the next place alone
-single : (p : Program) (code : List Instr) (pc : ℕ) (i : Instr) (out : TypeState → TypeState) → shape_of pc i ≡ GoesTo (named i ++ next_place pc i) → (named i ++ next_place pc i ≡ (pc + 1) ∷ []) → skipped_to code pc i ≡ [] → ((hs : List ℕ) → open_after pc i hs ≡ hs)
+single : (p : Program) (code : List Instr) (pc : ℕ) (i : Instr) (out : TypeState → TypeState) → shape_of pc i ≡ GoesTo (targets i ++ next_place pc i) → (targets i ++ next_place pc i ≡ (pc + 1) ∷ []) → skipped_to code pc i ≡ [] → ((hs : List ℕ) → open_after pc i hs ≡ hs)
     → ((s : TypeState) → follows p code pc i s ≡ (pc + 1, out s) ∷ []) → ((s : TypeState) → (out s).loops ≡ s.loops) → ((s : TypeState) → names (out s).entries ≡ names_after i (names s.entries)) → GoesOn p code pc i
 single p code pc i out shape places no_skip keeps is loops entries = record {
   shape = shape;
@@ -58,7 +59,7 @@ single p code pc i out shape places no_skip keeps is loops entries = record {
   some = (pc + 1, subst (λ ps. Among ps (pc + 1)) (sym places) (inl refl));
 }
   where
-    at : (s : TypeState) (to : ℕ) (x : TypeState) → Leads ((pc + 1, out s) ∷ []) to x → Among (named i ++ next_place pc i) to × (x.loops ≡ s.loops) × (names x.entries ≡ names_after i (names s.entries))
+    at : (s : TypeState) (to : ℕ) (x : TypeState) → Leads ((pc + 1, out s) ∷ []) to x → Among (targets i ++ next_place pc i) to × (x.loops ≡ s.loops) × (names x.entries ≡ names_after i (names s.entries))
     at s to x (inl e) = (subst (λ ps. Among ps to) (sym places) (inl e.0), ap (λ (y : TypeState). y.loops) (sym e.1) ∙ loops s, ap (λ (y : TypeState). names y.entries) (sym e.1) ∙ entries s)
     at s to x (inr out_of) = absurd out_of
 
@@ -95,8 +96,8 @@ jump p code pc to = record {
   some = (to, inl refl);
 }
 
--- to the next place, or to the one named
-branch : (p : Program) (code : List Instr) (pc to : ℕ) (i : Instr) (here there : TypeState → TypeState) → shape_of pc i ≡ GoesTo (named i ++ next_place pc i) → (named i ++ next_place pc i ≡ to ∷ (pc + 1) ∷ []) → skipped_to code pc i ≡ [] → ((hs : List ℕ) → open_after pc i hs ≡ hs)
+-- to the next place, or to the one targets
+branch : (p : Program) (code : List Instr) (pc to : ℕ) (i : Instr) (here there : TypeState → TypeState) → shape_of pc i ≡ GoesTo (targets i ++ next_place pc i) → (targets i ++ next_place pc i ≡ to ∷ (pc + 1) ∷ []) → skipped_to code pc i ≡ [] → ((hs : List ℕ) → open_after pc i hs ≡ hs)
     → ((s : TypeState) → follows p code pc i s ≡ (pc + 1, here s) ∷ (to, there s) ∷ []) → ((s : TypeState) → ((here s).loops ≡ s.loops) × ((there s).loops ≡ s.loops)) → ((s : TypeState) → (names (here s).entries ≡ names_after i (names s.entries)) × (names (there s).entries ≡ names_after i (names s.entries))) → GoesOn p code pc i
 branch p code pc to i here there shape places no_skip keeps is loops entries = record {
   shape = shape;
@@ -107,7 +108,7 @@ branch p code pc to i here there shape places no_skip keeps is loops entries = r
   some = (pc + 1, subst (λ ps. Among ps (pc + 1)) (sym places) (inr (inl refl)));
 }
   where
-    at : (s : TypeState) (q : ℕ) (x : TypeState) → Leads ((pc + 1, here s) ∷ (to, there s) ∷ []) q x → Among (named i ++ next_place pc i) q × (x.loops ≡ s.loops) × (names x.entries ≡ names_after i (names s.entries))
+    at : (s : TypeState) (q : ℕ) (x : TypeState) → Leads ((pc + 1, here s) ∷ (to, there s) ∷ []) q x → Among (targets i ++ next_place pc i) q × (x.loops ≡ s.loops) × (names x.entries ≡ names_after i (names s.entries))
     at s q x (inl e) = (subst (λ ps. Among ps q) (sym places) (inr (inl e.0)), ap (λ (y : TypeState). y.loops) (sym e.1) ∙ (loops s).0, ap (λ (y : TypeState). names y.entries) (sym e.1) ∙ (entries s).0)
     at s q x (inr (inl e)) = (subst (λ ps. Among ps q) (sym places) (inl e.0), ap (λ (y : TypeState). y.loops) (sym e.1) ∙ (loops s).1, ap (λ (y : TypeState). names y.entries) (sym e.1) ∙ (entries s).1)
     at s q x (inr (inr out_of)) = absurd out_of
@@ -146,10 +147,10 @@ join_of p code pc x failed timeout interrupted = record {
   keeps_loops = λ hs. refl;
   from = at failed timeout;
   into = back failed timeout;
-  some = (interrupted, among_left (named (Join x failed timeout interrupted)) ((pc + 1) ∷ []) interrupted (last failed timeout));
+  some = (interrupted, among_left (targets (Join x failed timeout interrupted)) ((pc + 1) ∷ []) interrupted (last failed timeout));
 }
   where
-    last : (failed timeout : Option ℕ) → Among (named (Join x failed timeout interrupted)) interrupted
+    last : (failed timeout : Option ℕ) → Among (targets (Join x failed timeout interrupted)) interrupted
     last None None = inl refl
     last None (Some t) = inr (inl refl)
     last (Some f) None = inr (inl refl)
@@ -167,7 +168,7 @@ join_of p code pc x failed timeout interrupted = record {
     moving : (s y : TypeState) (phase : TypedPhase) → with_phase x phase s ≡ y → (y.loops ≡ s.loops) × (names y.entries ≡ names s.entries)
     moving s y phase e = (ap (λ (z : TypeState). z.loops) (sym e), phased s y phase (ap (λ (z : TypeState). names z.entries) (sym e)))
 
-    at : (failed timeout : Option ℕ) (s : TypeState) (q : ℕ) (y : TypeState) → Leads (join_follows pc x failed timeout interrupted s) q y → Among (named (Join x failed timeout interrupted) ++ next_place pc (Join x failed timeout interrupted)) q × (y.loops ≡ s.loops) × (names y.entries ≡ names s.entries)
+    at : (failed timeout : Option ℕ) (s : TypeState) (q : ℕ) (y : TypeState) → Leads (join_follows pc x failed timeout interrupted s) q y → Among (targets (Join x failed timeout interrupted) ++ next_place pc (Join x failed timeout interrupted)) q × (y.loops ≡ s.loops) × (names y.entries ≡ names s.entries)
     at None None s q y (inl e) = (inr (inl e.0), (joined s y e.1).0, (joined s y e.1).1)
     at None None s q y (inr (inl e)) = (inl e.0, (moving s y Attempted e.1).0, (moving s y Attempted e.1).1)
     at None None s q y (inr (inr out_of)) = absurd out_of
@@ -185,7 +186,7 @@ join_of p code pc x failed timeout interrupted = record {
     at (Some f) (Some t) s q y (inr (inr (inr (inl e)))) = (inr (inr (inl e.0)), (moving s y Attempted e.1).0, (moving s y Attempted e.1).1)
     at (Some f) (Some t) s q y (inr (inr (inr (inr out_of)))) = absurd out_of
 
-    back : (failed timeout : Option ℕ) (s : TypeState) (q : ℕ) → Among (named (Join x failed timeout interrupted) ++ next_place pc (Join x failed timeout interrupted)) q → (y : TypeState) × Leads (join_follows pc x failed timeout interrupted s) q y
+    back : (failed timeout : Option ℕ) (s : TypeState) (q : ℕ) → Among (targets (Join x failed timeout interrupted) ++ next_place pc (Join x failed timeout interrupted)) q → (y : TypeState) × Leads (join_follows pc x failed timeout interrupted s) q y
     back None None s q (inl e) = (with_phase x Attempted s, inr (inl (e, refl)))
     back None None s q (inr (inl e)) = (after_ok x (joiner_of (scope_in s.entries x)) s, inl (e, refl))
     back None None s q (inr (inr out_of)) = absurd out_of

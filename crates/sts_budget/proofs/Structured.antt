@@ -1,6 +1,6 @@
 -- Structured code: its paths go forward, and enter and leave a loop by its head and its end alone. Every point of a path lies on a whole path.
 use Rattle.std.proofs.Common.{◌≡◌, ℕ, zero, suc, ◌+◌, ◌-◌, ◌<◌, ◌≤◌, List, [], ◌∷◌, refl, sym, ap, ◌∙◌, subst, arith}
-use Rattle.sts_model.specs.ControlPaths.{Shape, GoesTo, Repeats, EndsTurn, EndsPath, OpenEntry, Skeleton, Loops, Follows, go, skip, enter, again, leave, Comes, start, step, PathCounts}
+use Rattle.sts_rules.specs.ControlPaths.{Shape, GoesTo, Repeats, EndsTurn, EndsPath, OpenEntry, Skeleton, Loops, Follows, go, skip, enter, again, leave, Comes, start, step, PathCounts}
 use Rattle.sts_budget.specs.Structured.{heads, bound_of, IsStructured}
 
 module _ (c : Skeleton) (around : ℕ → List ℕ) (good : IsStructured c around) where

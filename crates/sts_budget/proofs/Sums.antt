@@ -1,7 +1,7 @@
 -- One pass that keeps, for each d, the greatest sum over the first d open entries finds the greatest sum of all points. The steps of paths are such a sum over no entry.
 use Rattle.std.proofs.Common.{◌≡◌, ◌≢◌, ℕ, zero, suc, ◌+◌, ◌-◌, ◌*◌, ◌<◌, ◌≤◌, ◌⊎◌, min, inl, inr, List, [], ◌∷◌, refl, sym, ap, ◌∙◌, subst, arith, suc-mul, zero-mul, mul-le-mul_right}
 use Rattle.std.proofs.lemmas.Bool.{cases_eq}
-use Rattle.sts_model.specs.ControlPaths.{GoesTo, Repeats, Skeleton, Among, Loops, Follows, go, skip, enter, again, leave}
+use Rattle.sts_rules.specs.ControlPaths.{GoesTo, Repeats, Skeleton, Among, Loops, Follows, go, skip, enter, again, leave}
 use Rattle.sts_budget.proofs.Structured.{FitTurns, own_loop, IsInside, inside_step, inside_start}
 use Rattle.sts_budget.specs.Structured.{IsStructured, heads, bound_of}
 use Rattle.sts_budget.specs.Sums.{Flows, Sums, FitsEntries, Stands, gain, last_turns, base, full, turn_base, none, more}

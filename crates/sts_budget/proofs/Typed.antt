@@ -3,21 +3,21 @@ use Rattle.std.proofs.Common.{◌≡◌, ℕ, zero, suc, ◌+◌, ◌<◌, ◌�
 use Rattle.std.specs.List.{filter, range_with_len}
 use Rattle.std.proofs.lemmas.Bool.{cases_eq, cases_lt, leb-true, le-leb, eqb-true}
 use Rattle.std.proofs.lemmas.List.{get_or_past, reverse-append}
-use Rattle.sts_code.specs.Program.{Program, routine}
+use Rattle.sts_code.specs.Program.{Program, routine, instr_at}
 use Rattle.sts_code.specs.declared.instr.Instr.{Instr}
 use Rattle.sts_code.specs.declared.instr.Instr.TheVariants.{Times, Next, Ret}
-use Rattle.sts_model.specs.declared.typing.TypedLoop.{TypedLoop}
-use Rattle.sts_model.specs.Flow.{Leads, Reaches, first, then, IsClear}
-use Rattle.sts_model.specs.Local.{match_of, is_times}
-use Rattle.sts_model.specs.Misuse.{is_at}
-use Rattle.sts_model.specs.TypeState.{TypeState, heads}
-use Rattle.sts_model.specs.Around.{instr_at, named, falls_through, next_place, skipped_to, around, is_inside, reaches_to}
-use Rattle.sts_model.specs.Causes.{closes_loop}
-use Rattle.sts_model.specs.Edges.{follows, moved, typing, edges_of}
-use Rattle.sts_model.specs.Refusal.{IsWellTyped}
-use Rattle.sts_model.specs.ControlPaths.{GoesTo, Repeats, EndsTurn, EndsPath, Skeleton, Among}
-use Rattle.sts_model.specs.declared.budget.Budgets.{Budgets}
-use Rattle.sts_model.specs.Budget.{skeleton, shape_of}
+use Rattle.sts_rules.specs.declared.typing.TypedLoop.{TypedLoop}
+use Rattle.sts_rules.specs.Flow.{Leads, Reaches, first, then, IsClear}
+use Rattle.sts_code.specs.Loops.{match_of, is_times, is_at}
+use Rattle.sts_rules.specs.TypeState.{TypeState, heads}
+use Rattle.sts_rules.specs.Around.{next_place, skipped_to, around, is_inside, reaches_to}
+use Rattle.sts_code.specs.Facts.{targets, falls_through}
+use Rattle.sts_rules.specs.Causes.{closes_loop}
+use Rattle.sts_rules.specs.Edges.{follows, moved, typing, edges_of}
+use Rattle.sts_rules.specs.Refusal.{IsWellTyped}
+use Rattle.sts_rules.specs.ControlPaths.{GoesTo, Repeats, EndsTurn, EndsPath, Skeleton, Among}
+use Rattle.sts_rules.specs.declared.budget.Budgets.{Budgets}
+use Rattle.sts_rules.specs.Budget.{skeleton, shape_of}
 use Rattle.sts_budget.specs.Layout.{names_after}
 use Rattle.sts_budget.proofs.Sorts.{Sort, is_times as times_sort, is_next as next_sort, is_end as end_sort, goes_on, GoesOn, sort, among_of, among_left, among_right}
 use Rattle.sts_budget.proofs.Allowed.{Allowed, allowed, not_false}
@@ -29,7 +29,7 @@ use Rattle.sts_budget.specs.TypedNames.{names}
 
 -- the ways of an edge
 pub data IsEdge (p : Program) (code : List Instr) (pc : ℕ) (i : Instr) (s : TypeState) : ℕ → TypeState → Type 0 where
-  over_go : {to : ℕ} {x : TypeState} → GoesOn p code pc i → Among (named i ++ next_place pc i) to → x.loops ≡ s.loops → names x.entries ≡ names_after i (names s.entries) → IsEdge p code pc i s to x
+  over_go : {to : ℕ} {x : TypeState} → GoesOn p code pc i → Among (targets i ++ next_place pc i) to → x.loops ≡ s.loops → names x.entries ≡ names_after i (names s.entries) → IsEdge p code pc i s to x
   into_loop : (n : ℕ) {x : TypeState} → i ≡ Times n → x.loops ≡ record { at = pc; entries = length s.entries } ∷ s.loops → x.entries ≡ s.entries → IsEdge p code pc i s (pc + 1) x
   past_loop : (n q : ℕ) {x : TypeState} → i ≡ Times n → match_of code pc ≡ Some q → x.loops ≡ s.loops → x.entries ≡ s.entries → IsEdge p code pc i s (q + 1) x
   over_next : {x : TypeState} → i ≡ Next → x.loops ≡ drop 1 s.loops → x.entries ≡ s.entries → IsEdge p code pc i s (pc + 1) x
@@ -140,23 +140,23 @@ shape_times code p t = let n = times_is (instr_at code p) t in (n.0, ap (shape_o
 
 -- ---- what the shape says of the instruction
 
-pub goes_of : (p : Program) (code : List Instr) (pc : ℕ) (i : Instr) (places : List ℕ) → Sort p code pc i → shape_of pc i ≡ GoesTo places → GoesOn p code pc i × (places ≡ named i ++ next_place pc i)
+pub goes_of : (p : Program) (code : List Instr) (pc : ℕ) (i : Instr) (places : List ℕ) → Sort p code pc i → shape_of pc i ≡ GoesTo places → GoesOn p code pc i × (places ≡ targets i ++ next_place pc i)
 goes_of p code pc i places (times_sort n) e = absurd (cc)
 goes_of p code pc i places next_sort e = absurd (cc)
 goes_of p code pc i places (end_sort shape none nowhere) e = let z : EndsPath ≡ GoesTo places = sym shape ∙ e in absurd (cc)
-goes_of p code pc i places (goes_on g) e = let z : GoesTo places ≡ GoesTo (named i ++ next_place pc i) = sym e ∙ g.shape in (g, (cc))
+goes_of p code pc i places (goes_on g) e = let z : GoesTo places ≡ GoesTo (targets i ++ next_place pc i) = sym e ∙ g.shape in (g, (cc))
 
 pub times_of : (p : Program) (code : List Instr) (pc : ℕ) (i : Instr) (n : ℕ) → Sort p code pc i → shape_of pc i ≡ Repeats n → i ≡ Times n
 times_of p code pc i n (times_sort m) e = let z : m ≡ n = cc in ap (λ (k : ℕ). Times k) z
 times_of p code pc i n next_sort e = absurd (cc)
 times_of p code pc i n (end_sort shape none nowhere) e = let z : EndsPath ≡ Repeats n = sym shape ∙ e in absurd (cc)
-times_of p code pc i n (goes_on g) e = let z : GoesTo (named i ++ next_place pc i) ≡ Repeats n = sym g.shape ∙ e in absurd (cc)
+times_of p code pc i n (goes_on g) e = let z : GoesTo (targets i ++ next_place pc i) ≡ Repeats n = sym g.shape ∙ e in absurd (cc)
 
 pub next_of : (p : Program) (code : List Instr) (pc : ℕ) (i : Instr) → Sort p code pc i → shape_of pc i ≡ EndsTurn → i ≡ Next
 next_of p code pc i (times_sort m) e = absurd (cc)
 next_of p code pc i next_sort e = refl
 next_of p code pc i (end_sort shape none nowhere) e = let z : EndsPath ≡ EndsTurn = sym shape ∙ e in absurd (cc)
-next_of p code pc i (goes_on g) e = let z : GoesTo (named i ++ next_place pc i) ≡ EndsTurn = sym g.shape ∙ e in absurd (cc)
+next_of p code pc i (goes_on g) e = let z : GoesTo (targets i ++ next_place pc i) ≡ EndsTurn = sym g.shape ∙ e in absurd (cc)
 
 some_match : (o : Option ℕ) → is_none o ≡ false → (q : ℕ) × (o ≡ Some q)
 some_match None e = absurd (cc)
@@ -205,12 +205,12 @@ module _ (p : Program) (f : ℕ) (accepted : IsWellTyped p f) (some_code : 0 < l
     pub within : to < length (routine p f).code
     pub loops : around (routine p f).code to ≡ heads x.loops
 
-  pub leading_go : (pc : ℕ) (i : Instr) (s : TypeState) (out : List (ℕ × TypeState)) (to : ℕ) (x : TypeState) → Allowed p f pc i s out → GoesOn p (routine p f).code pc i → Among (named i ++ next_place pc i) to → x.loops ≡ s.loops → Leading pc s to x
+  pub leading_go : (pc : ℕ) (i : Instr) (s : TypeState) (out : List (ℕ × TypeState)) (to : ℕ) (x : TypeState) → Allowed p f pc i s out → GoesOn p (routine p f).code pc i → Among (targets i ++ next_place pc i) to → x.loops ≡ s.loops → Leading pc s to x
   leading_go pc i s out to x a g among same = record {
-    later = elim (among_of (named i) (next_place pc i) to among) [ inl m ↦ a.later to m | inr m ↦ (let e = among_next pc i to m in omega arith) ];
-    within = a.inside to (among_left (named i ++ next_place pc i) (skipped_to (routine p f).code pc i) to among);
-    loops = elim (among_of (named i) (next_place pc i) to among) [
-      | inl m ↦ a.around_named to (among_left (named i) (skipped_to (routine p f).code pc i) to m) ∙ ap heads (sym same)
+    later = elim (among_of (targets i) (next_place pc i) to among) [ inl m ↦ a.later to m | inr m ↦ (let e = among_next pc i to m in omega arith) ];
+    within = a.inside to (among_left (targets i ++ next_place pc i) (skipped_to (routine p f).code pc i) to among);
+    loops = elim (among_of (targets i) (next_place pc i) to among) [
+      | inl m ↦ a.around_named to (among_left (targets i) (skipped_to (routine p f).code pc i) to m) ∙ ap heads (sym same)
       | inr m ↦ a.around_next to m ∙ g.keeps_loops (heads s.loops) ∙ ap heads (sym same)
     ];
   }
@@ -294,7 +294,7 @@ module _ (p : Program) (f : ℕ) (accepted : IsWellTyped p f) (some_code : 0 < l
   pub next_at : (pc : ℕ) → c.shape pc ≡ EndsTurn → instr_at (routine p f).code pc ≡ Next
   next_at pc e = next_of p (routine p f).code pc (instr_at (routine p f).code pc) (sort_at pc) e
 
-  pub goes_at : (pc : ℕ) (places : List ℕ) → c.shape pc ≡ GoesTo places → GoesOn p (routine p f).code pc (instr_at (routine p f).code pc) × (places ≡ named (instr_at (routine p f).code pc) ++ next_place pc (instr_at (routine p f).code pc))
+  pub goes_at : (pc : ℕ) (places : List ℕ) → c.shape pc ≡ GoesTo places → GoesOn p (routine p f).code pc (instr_at (routine p f).code pc) × (places ≡ targets (instr_at (routine p f).code pc) ++ next_place pc (instr_at (routine p f).code pc))
   goes_at pc places e = goes_of p (routine p f).code pc (instr_at (routine p f).code pc) places (sort_at pc) e
 
   -- a place with an instruction that isn't the end of a path

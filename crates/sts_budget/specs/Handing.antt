@@ -2,11 +2,11 @@
 use Rattle.std.specs.Prelude.{ℕ, ◌+◌, ◌-◌, ◌*◌, List, get_or, slice_set, Option, Some, None, Bool, true, false}
 use Rattle.sts_code.specs.declared.instr.Instr.{Instr}
 use Rattle.sts_code.specs.declared.instr.Instr.TheVariants.{Times, Next, Ret, Fail}
-use Rattle.sts_model.specs.Around.{instr_at}
-use Rattle.sts_model.specs.declared.budget.Budgets.{Budgets}
-use Rattle.sts_budget.specs.declared.effect.Kind.{Kind}
+use Rattle.sts_code.specs.Program.{instr_at}
+use Rattle.sts_rules.specs.declared.budget.Budgets.{Budgets}
+use Rattle.sts_budget.specs.declared.change.Resource.{Resource}
 use Rattle.sts_budget.specs.declared.layout.Layout.{Layout}
-use Rattle.sts_budget.specs.Effect.{source_of, added_of, effect_of, depth_of, own_step}
+use Rattle.sts_budget.specs.Change.{source_of, added_of, change_of, depth_of, own_step}
 use Rattle.sts_budget.specs.Ready.{names_in, head_in}
 
 -- nothing is handed on at the end of a path, nor at a `times`, behind which sums begin again
@@ -22,11 +22,11 @@ turns_of (Times n) = n
 turns_of _ = 0
 
 -- the sum over the first d that the instruction at pc hands on
-abbrev pub value_by : Kind → List Budgets → List Instr → Layout → (ℕ → ℕ → ℕ) → ℕ → Instr → ℕ → ℕ
+abbrev pub value_by : Resource → List Budgets → List Instr → Layout → (ℕ → ℕ → ℕ) → ℕ → Instr → ℕ → ℕ
 value_by k earlier code l best pc Next d = best (head_in l pc) d + own_step k + turns_of (instr_at code (head_in l pc)) * (best pc d + own_step k)
-value_by k earlier code l best pc i d = best pc (source_of (effect_of k earlier i (names_in l pc)) (depth_of k (names_in l pc)) d) + added_of (effect_of k earlier i (names_in l pc)) (depth_of k (names_in l pc)) d
+value_by k earlier code l best pc i d = best pc (source_of (change_of k earlier i (names_in l pc)) (depth_of k (names_in l pc)) d) + added_of (change_of k earlier i (names_in l pc)) (depth_of k (names_in l pc)) d
 
-abbrev pub handed_value : Kind → List Budgets → List Instr → Layout → (ℕ → ℕ → ℕ) → ℕ → ℕ → ℕ
+abbrev pub handed_value : Resource → List Budgets → List Instr → Layout → (ℕ → ℕ → ℕ) → ℕ → ℕ → ℕ
 handed_value k earlier code l best pc d = value_by k earlier code l best pc (instr_at code pc) d
 
 -- the greatest sum before the last turn of the loop of this head, or 0 outside of loops

@@ -1,13 +1,12 @@
 -- The names of the open entries fit the instructions and the jumps (this project's own).
 use Rattle.std.proofs.Common.{◌≡◌, ℕ, ◌+◌, ◌<◌, ◌≤◌, List, [], ◌∷◌, length}
-use Rattle.sts_code.specs.Program.{Program}
+use Rattle.sts_code.specs.Program.{Program, instr_at}
 use Rattle.sts_code.specs.declared.instr.Instr.{Instr}
 use Rattle.sts_code.specs.declared.instr.Instr.TheVariants.{Times, Next}
-use Rattle.sts_model.specs.Flow.{Reaches}
-use Rattle.sts_model.specs.TypeState.{TypeState}
-use Rattle.sts_model.specs.Around.{instr_at}
-use Rattle.sts_model.specs.Edges.{typing}
-use Rattle.sts_model.specs.ControlPaths.{GoesTo, Repeats, EndsTurn, Skeleton, Among}
+use Rattle.sts_rules.specs.Flow.{Reaches}
+use Rattle.sts_rules.specs.TypeState.{TypeState}
+use Rattle.sts_rules.specs.Edges.{typing}
+use Rattle.sts_rules.specs.ControlPaths.{GoesTo, Repeats, EndsTurn, Skeleton, Among}
 use Rattle.sts_budget.specs.Layout.{Names, names_after, FitsNames}
 use Rattle.sts_budget.specs.TypedNames.{names}
 

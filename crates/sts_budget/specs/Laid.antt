@@ -1,14 +1,16 @@
 -- What is known to be open at each place of a function (this project's own).
 use Rattle.std.proofs.Common.{◌≡◌, ℕ, ◌<◌, ◌≤◌, ◌⊎◌, List, [], ◌∷◌, ◌++◌, length, map, get_or, Option, Some, None, unwrap_or, slice_set}
-use Rattle.sts_code.specs.Program.{Program, routine}
+use Rattle.sts_code.specs.Program.{Program, routine, instr_at}
+use Rattle.sts_code.specs.declared.limits.TheConstants.{MAX_ENTRIES}
 use Rattle.sts_code.specs.declared.instr.Instr.{Instr}
 use Rattle.sts_code.specs.declared.instr.Instr.TheVariants.{Times, Next}
-use Rattle.sts_model.specs.Flow.{Reaches}
-use Rattle.sts_model.specs.Local.{match_of}
-use Rattle.sts_model.specs.TypeState.{TypeState}
-use Rattle.sts_model.specs.Around.{instr_at, named, next_place, around}
-use Rattle.sts_model.specs.Edges.{typing}
-use Rattle.sts_model.specs.ControlPaths.{Among}
+use Rattle.sts_rules.specs.Flow.{Reaches}
+use Rattle.sts_code.specs.Loops.{match_of}
+use Rattle.sts_rules.specs.TypeState.{TypeState}
+use Rattle.sts_rules.specs.Around.{next_place, around}
+use Rattle.sts_code.specs.Facts.{targets}
+use Rattle.sts_rules.specs.Edges.{typing}
+use Rattle.sts_rules.specs.ControlPaths.{Among}
 use Rattle.sts_budget.specs.declared.layout.Layout.{Layout}
 use Rattle.sts_budget.specs.Layout.{Names, names_after}
 use Rattle.sts_budget.specs.TypedNames.{names}
@@ -36,7 +38,7 @@ pub record IsRight (p : Program) (f : ℕ) (heads : List (Option ℕ)) (table : 
 
 -- a place to which one below k leads, or the first
 abbrev pub IsWritten : List Instr → ℕ → ℕ → Type 0
-IsWritten code k pc = (pc ≡ 0) ⊎ ((from : ℕ) × ((from < k) × Among (named (instr_at code from) ++ next_place from (instr_at code from)) pc))
+IsWritten code k pc = (pc ≡ 0) ⊎ ((from : ℕ) × ((from < k) × Among (targets (instr_at code from) ++ next_place from (instr_at code from)) pc))
 
 -- the tables after the places below k
 pub record IsLaid (p : Program) (f k : ℕ) (heads : List (Option ℕ)) (mates : List ℕ) (table : List Names) : Type 0 where
@@ -68,7 +70,7 @@ pub record IsListAfter (instr : Instr) (list i : ℕ) (old new : List Names) : T
 
 -- no list is longer than this, which is no more than can be open
 abbrev pub IsDeepest : List Names → ℕ → Type 0
-IsDeepest lists deepest = ((k : ℕ) → length (get_or lists k []) ≤ deepest) × (deepest ≤ 16)
+IsDeepest lists deepest = ((k : ℕ) → length (get_or lists k []) ≤ deepest) × (deepest ≤ MAX_ENTRIES)
 
 -- the tables of the whole function
 abbrev pub IsLaidOut : Program → ℕ → Layout → Type 0

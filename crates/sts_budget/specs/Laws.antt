@@ -2,10 +2,10 @@
 use Rattle.std.specs.Prelude.{◌≡◌, ℕ, ◌+◌, ◌≤◌, List, Option}
 use Rattle.sts_code.specs.declared.instr.Instr.{Instr}
 use Rattle.sts_code.specs.declared.instr.Instr.TheVariants.{Fork}
-use Rattle.sts_model.specs.Around.{instr_at}
-use Rattle.sts_model.specs.declared.budget.Budgets.{Budgets}
-use Rattle.sts_model.specs.ControlPaths.{OpenEntry, Loops, Comes, PathCounts}
-use Rattle.sts_model.specs.Budget.{skeleton, steps_of, budget_at, tasks_sum, scopes_sum, binds_sum}
+use Rattle.sts_code.specs.Program.{instr_at}
+use Rattle.sts_rules.specs.declared.budget.Budgets.{Budgets}
+use Rattle.sts_rules.specs.ControlPaths.{OpenEntry, Loops, Comes, PathCounts}
+use Rattle.sts_rules.specs.Budget.{skeleton, steps_of, budget_at, tasks_sum, scopes_sum, binds_sum}
 
 -- each point of a control path lies on a whole one: with its own steps it counts no more than some whole path
 abbrev pub PointsLieOnPaths : List Budgets → List Instr → Type 0

@@ -1,6 +1,7 @@
 -- The open entries by their names alone (this project's own).
 use Rattle.std.specs.Prelude.{◌≡◌, ℕ, ◌<◌, ◌⊎◌, List, [], ◌∷◌, length, drop, Option, Some, None, Bool, true, false}
 use Rattle.sts_code.specs.declared.instr.Instr.{Instr}
+use Rattle.sts_code.specs.declared.limits.TheConstants.{MAX_ENTRIES}
 use Rattle.sts_code.specs.declared.instr.Instr.TheVariants.{Div, Jmp, Jz, Open, Fork, Join, Close, Case, Bind, Unbind, Ret, Fail}
 
 -- the names of the open entries, the innermost first: a scope's slot, or none for a binding
@@ -47,7 +48,7 @@ FitsNames (Fork slot function handle) ns = HasScope slot ns
 FitsNames _ ns = Unit {0}
 
 -- there is room for the entry that an instruction opens
-abbrev pub HasRoom : Instr → Names → Type 0
-HasRoom (Open slot joiner timed) ns = length ns < 16
-HasRoom (Bind key) ns = length ns < 16
-HasRoom _ ns = Unit {0}
+abbrev pub HasEntryRoom : Instr → Names → Type 0
+HasEntryRoom (Open slot joiner timed) ns = length ns < MAX_ENTRIES
+HasEntryRoom (Bind key) ns = length ns < MAX_ENTRIES
+HasEntryRoom _ ns = Unit {0}

@@ -1,4 +1,4 @@
-pub mod Effect
+pub mod Change
 pub mod Flowing
 pub mod Known
 pub mod Laid
@@ -12,4 +12,5 @@ pub mod Ready
 pub mod Handing
 pub mod Last
 pub mod Outcome
+pub mod Pass
 pub mod Laws

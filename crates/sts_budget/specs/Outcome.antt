@@ -1,11 +1,11 @@
 -- What is answered where the budgets of a function are asked for (this project's own).
 use Rattle.std.specs.Prelude.{◌≡◌, ◌≤◌, ℕ, List, Result, Ok, Err}
 use Rattle.sts_code.specs.declared.instr.Instr.{Instr}
-use Rattle.sts_model.specs.declared.typing.Cause.{Cause}
-use Rattle.sts_model.specs.declared.budget.Budgets.{Budgets}
-use Rattle.sts_model.specs.Budget.{IsBudget, IsLeastExcess, Exceeds}
-use Rattle.sts_budget.specs.declared.effect.Kind.{Kind}
-use Rattle.sts_budget.specs.Effect.{cause_of, limit_of, IsMost}
+use Rattle.sts_rules.specs.declared.typing.Cause.{Cause}
+use Rattle.sts_rules.specs.declared.budget.Budgets.{Budgets}
+use Rattle.sts_rules.specs.Budget.{IsBudget, IsLeastExcess, Exceeds}
+use Rattle.sts_budget.specs.declared.change.Resource.{Resource}
+use Rattle.sts_budget.specs.Change.{cause_of, limit_of, IsMost}
 use Rattle.sts_budget.specs.declared.budget.BudgetError.{BudgetError}
 use Rattle.sts_budget.specs.declared.budget.BudgetError.TheVariants.{Memory, TooMuch}
 
@@ -15,8 +15,8 @@ IsFound earlier code (Ok b) = IsBudget earlier code b × ((c : Cause) → ¬ Exc
 IsFound earlier code (Err (TooMuch c)) = IsLeastExcess earlier code c
 IsFound earlier code (Err Memory) = Unit {0}
 
--- the budget of one kind, within its limit; or the cause by which it passes it, if there was memory
-abbrev pub IsNumber : Kind → List Budgets → List Instr → Result ℕ BudgetError → Type 0
+-- the budget of one resource, within its limit; or the cause by which it passes it, if there was memory
+abbrev pub IsNumber : Resource → List Budgets → List Instr → Result ℕ BudgetError → Type 0
 IsNumber k earlier code (Ok m) = IsMost k earlier code m × (m ≤ limit_of k)
 IsNumber k earlier code (Err (TooMuch c)) = (c ≡ cause_of k) × Exceeds earlier code (cause_of k)
 IsNumber k earlier code (Err Memory) = Unit {0}

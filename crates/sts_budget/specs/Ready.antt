@@ -1,13 +1,15 @@
 -- What the passes know of a function (this project's own).
 use Rattle.std.specs.Prelude.{◌≡◌, ℕ, ◌<◌, ◌≤◌, List, [], length, get_or, unwrap_or, None}
 use Rattle.sts_code.specs.declared.instr.Instr.{Instr}
+use Rattle.sts_code.specs.declared.limits.TheConstants.{MAX_ENTRIES, MAX_INSTRUCTIONS}
 use Rattle.sts_code.specs.declared.instr.Instr.TheVariants.{Times}
-use Rattle.sts_model.specs.Around.{instr_at, around}
-use Rattle.sts_model.specs.declared.budget.Budgets.{Budgets}
-use Rattle.sts_model.specs.Budget.{skeleton}
-use Rattle.sts_budget.specs.declared.effect.Kind.{Kind}
+use Rattle.sts_rules.specs.Around.{around}
+use Rattle.sts_code.specs.Program.{instr_at}
+use Rattle.sts_rules.specs.declared.budget.Budgets.{Budgets}
+use Rattle.sts_rules.specs.Budget.{skeleton}
+use Rattle.sts_budget.specs.declared.change.Resource.{Resource}
 use Rattle.sts_budget.specs.declared.layout.Layout.{Layout}
-use Rattle.sts_budget.specs.Effect.{ForksEarlier}
+use Rattle.sts_budget.specs.Change.{ForksEarlier}
 use Rattle.sts_budget.specs.Flowing.{flows}
 use Rattle.sts_budget.specs.Known.{KnowsNames}
 use Rattle.sts_budget.specs.Laid.{first_of, listed, AreListed}
@@ -23,12 +25,12 @@ names_in l pc = get_or (listed l.lists.items l.which.items) pc []
 abbrev pub head_in : Layout → ℕ → ℕ
 head_in l pc = unwrap_or (get_or l.heads.items pc None) 0
 
--- how the sums of a kind flow
-abbrev pub flows_in : Kind → List Budgets → List Instr → Layout → Flows
+-- how the sums of a resource flow
+abbrev pub flows_in : Resource → List Budgets → List Instr → Layout → Flows
 flows_in k earlier code l = flows k earlier code (names_in l)
 
 -- the code is structured, and the layout is right of it
-pub record IsReady (earlier : List Budgets) (code : List Instr) (l : Layout) : Type 0 where
+pub record IsLaidFor (earlier : List Budgets) (code : List Instr) (l : Layout) : Type 0 where
   pub good : IsStructured (skeleton earlier code) (around code)
   pub known : KnowsNames code (skeleton earlier code) (around code) (names_in l)
   pub led : (pc : ℕ) → 0 < pc → pc < length code → Led (skeleton earlier code) pc
@@ -40,6 +42,6 @@ pub record IsReady (earlier : List Budgets) (code : List Instr) (l : Layout) : T
   pub listed : AreListed l.lists.items l.which.items
   pub forks : (pc : ℕ) → ForksEarlier (length earlier) (instr_at code pc)
   pub turns : (pc n : ℕ) → instr_at code pc ≡ Times n → n < 65536
-  pub short : length code ≤ 4096
+  pub short : length code ≤ MAX_INSTRUCTIONS
   pub deep : (pc : ℕ) → length (names_in l pc) ≤ l.deepest
-  pub few : l.deepest ≤ 16
+  pub few : l.deepest ≤ MAX_ENTRIES

@@ -1,6 +1,6 @@
 -- Structured code: what the conditions on jumps and loops give (this project's own).
 use Rattle.std.proofs.Common.{◌≡◌, ℕ, ◌+◌, ◌<◌, List, [], ◌∷◌}
-use Rattle.sts_model.specs.ControlPaths.{Shape, GoesTo, Repeats, EndsTurn, Skeleton, Among, Loops}
+use Rattle.sts_rules.specs.ControlPaths.{Shape, GoesTo, Repeats, EndsTurn, Skeleton, Among, Loops}
 
 -- the places where the open loops opened
 abbrev pub heads : Loops → List ℕ

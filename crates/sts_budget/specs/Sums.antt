@@ -1,6 +1,6 @@
 -- Sums over the first open entries along control paths, and the greatest of them (this project's own).
 use Rattle.std.proofs.Common.{◌≡◌, ℕ, ◌+◌, ◌-◌, ◌*◌, ◌≤◌, min, List, [], ◌∷◌}
-use Rattle.sts_model.specs.ControlPaths.{GoesTo, Repeats, EndsTurn, Skeleton, Among, Loops, Follows}
+use Rattle.sts_rules.specs.ControlPaths.{GoesTo, Repeats, EndsTurn, Skeleton, Among, Loops, Follows}
 use Rattle.sts_budget.specs.Structured.{bound_of}
 
 -- how the sum over the first d entries at a place comes from a sum over the first entries at the place before it

@@ -1,6 +1,6 @@
 -- The table of greatest sums that one pass makes (this project's own).
 use Rattle.std.proofs.Common.{◌≡◌, ℕ, ◌+◌, ◌*◌, ◌<◌, ◌≤◌, ◌⊎◌, max, List, [], length, get_or, slice_set}
-use Rattle.sts_model.specs.ControlPaths.{Shape, GoesTo, Repeats, EndsTurn, Skeleton, Among}
+use Rattle.sts_rules.specs.ControlPaths.{Shape, GoesTo, Repeats, EndsTurn, Skeleton, Among}
 use Rattle.sts_budget.specs.Row.{IsRaised}
 use Rattle.sts_budget.specs.Structured.{bound_of}
 use Rattle.sts_budget.specs.Sums.{Flows, gain, Stands}

@@ -1,7 +1,7 @@
 -- The names of the open entries in a typestate (this project's own).
 use Rattle.std.proofs.Common.{ℕ, List, map, Option, Some, None}
-use Rattle.sts_model.specs.declared.typing.TypedEntry.{TypedEntry}
-use Rattle.sts_model.specs.declared.typing.TypedEntry.TheVariants.{Scope, Binding}
+use Rattle.sts_rules.specs.declared.typing.TypedEntry.{TypedEntry}
+use Rattle.sts_rules.specs.declared.typing.TypedEntry.TheVariants.{Scope, Binding}
 use Rattle.sts_budget.specs.Layout.{Names}
 
 abbrev pub name_of : TypedEntry → Option ℕ

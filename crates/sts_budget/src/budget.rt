@@ -1,22 +1,24 @@
 //! The four budgets of a function.
 
-ghost use Rattle.std.specs.Prelude.{◌≡◌, ◌<◌, length};
+ghost use Rattle.std.specs.Prelude.{◌≡◌, ◌<◌, ◌-◌, length};
 ghost use Rattle.sts_code.specs.Program.{routine};
-ghost use Rattle.sts_model.specs.Refusal.{IsWellTyped};
-ghost use Rattle.sts_model.specs.Budget.{AreBudgets};
-ghost use Rattle.sts_budget.specs.Effect.{cause_of};
+ghost use Rattle.sts_rules.specs.Refusal.{IsWellTyped};
+ghost use Rattle.sts_rules.specs.Budget.{AreBudgets};
+ghost use Rattle.sts_budget.specs.Change.{cause_of, limit_of, own_of};
 ghost use Rattle.sts_budget.specs.Outcome.{IsFound, IsNumber};
-ghost use Rattle.sts_budget.specs.Ready.{IsReady};
+ghost use Rattle.sts_budget.specs.Pass.{IsSet};
+ghost use Rattle.sts_budget.specs.Ready.{IsLaidFor};
 
-use crate::effect::Kind;
+use crate::change::Resource;
+use crate::greatest::{greatest, most_of};
 use crate::layout::{Layout, lay_out};
-use crate::top::top;
+use crate::pass::Pass;
 use std::alloc::{AllocError, Global};
+use sts_code::code::code_of;
 use sts_code::instr::Instr;
 use sts_code::program::Program;
-use sts_model::budget::Budgets;
-use sts_model::code::code_of;
-use sts_model::typing::Cause;
+use sts_rules::budget::Budgets;
+use sts_rules::typing::Cause;
 
 /// Why a function has no budgets.
 #[derive(Clone, Copy, Debug, PartialEq, Eq)]
@@ -52,10 +54,10 @@ pub fn budget(
 {
     let code = code_of(program, function);
     let layout = lay_out(alloc, program, function)?;
-    let steps = number(alloc, Kind::Steps, earlier, code, &layout)?;
-    let tasks = number(alloc, Kind::Tasks, earlier, code, &layout)?;
-    let scopes = number(alloc, Kind::Scopes, earlier, code, &layout)?;
-    let binds = number(alloc, Kind::Binds, earlier, code, &layout)?;
+    let steps = budget_of(alloc, &pass_of(Resource::Steps, earlier, code, &layout))?;
+    let tasks = budget_of(alloc, &pass_of(Resource::Tasks, earlier, code, &layout))?;
+    let scopes = budget_of(alloc, &pass_of(Resource::Scopes, earlier, code, &layout))?;
+    let binds = budget_of(alloc, &pass_of(Resource::Binds, earlier, code, &layout))?;
     Ok(Budgets {
         steps,
         tasks,
@@ -65,30 +67,47 @@ pub fn budget(
 }
 
 /// The cause of a budget that passes its limit.
-fn cause_of(kind: Kind) -> Cause
-    ensures { result ≡ cause_of kind }
+fn cause_of(resource: Resource) -> Cause
+    ensures { result ≡ cause_of resource }
 {
-    match kind {
-        Kind::Steps => Cause::TooManySteps,
-        Kind::Tasks => Cause::TooManyTasks,
-        Kind::Scopes => Cause::TooManyScopes,
-        Kind::Binds => Cause::TooManyBinds,
+    match resource {
+        Resource::Steps => Cause::TooManySteps,
+        Resource::Tasks => Cause::TooManyTasks,
+        Resource::Scopes => Cause::TooManyScopes,
+        Resource::Binds => Cause::TooManyBinds,
     }
 }
 
-/// The budget of one kind.
-fn number(
-    alloc: Global,
-    kind: Kind,
-    earlier: &[Budgets],
-    code: &[Instr],
-    layout: &Layout,
-) -> Result<u32, BudgetError>
-    requires ready { IsReady earlier.now code.now layout.now }
-    ensures { IsNumber kind earlier.now code.now result }
+/// The pass over a function for a resource.
+fn pass_of<'p>(
+    resource: Resource,
+    earlier: &'p [Budgets],
+    code: &'p [Instr],
+    layout: &'p Layout,
+) -> Pass<'p>
+    ensures resource { result.resource ≡ resource }
+    ensures earlier { result.earlier.now ≡ earlier.now }
+    ensures code { result.code.now ≡ code.now }
+    ensures layout { result.layout.now ≡ layout.now }
+    ensures most { result.most ≡ limit_of resource - own_of resource }
 {
-    match top(alloc, kind, earlier, code, layout)? {
+    Pass {
+        resource,
+        earlier,
+        code,
+        layout,
+        most: most_of(resource),
+    }
+}
+
+/// The budget of the pass's resource.
+fn budget_of(alloc: Global, pass: &Pass<'_>) -> Result<u32, BudgetError>
+    requires ready { IsSet pass.now }
+    requires most { pass.now.most ≡ limit_of pass.now.resource - own_of pass.now.resource }
+    ensures { IsNumber pass.now.resource pass.now.earlier.now pass.now.code.now result }
+{
+    match greatest(alloc, pass)? {
         Some(number) => Ok(number),
-        None => Err(BudgetError::TooMuch(cause_of(kind))),
+        None => Err(BudgetError::TooMuch(cause_of(pass.resource))),
     }
 }

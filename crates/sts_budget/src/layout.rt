@@ -2,19 +2,21 @@
 
 ghost use Rattle.std.specs.Prelude.{ℕ, List, [], All, IfOk, IfSome, Some, None, get_or, replicate, unwrap_or, vec_len, ◌≡◌, ◌<◌, ◌≤◌, ◌+◌, ◌++◌, length, option_to_list};
 ghost use Rattle.sts_code.specs.Program.{routine};
-ghost use Rattle.sts_model.specs.Around as around;
-ghost use Rattle.sts_model.specs.Refusal.{IsWellTyped};
+ghost use Rattle.sts_rules.specs.Around as around;
+ghost use Rattle.sts_code.specs.Facts as facts;
+ghost use Rattle.sts_rules.specs.Refusal.{IsWellTyped};
 ghost use Rattle.sts_budget.specs.Layout as def;
 ghost use Rattle.sts_budget.specs.Laid.{Writes, head_after, mates_after, listed, AreListed, IsListAfter, IsDeepest, IsLaidOut};
 
 use arrayvec::ArrayVec;
 use std::alloc::{AllocError, Global};
+use sts_code::code::code_of;
+use sts_code::facts::{falls_through, targets};
 use sts_code::instr::Instr;
+use sts_code::limits::MAX_INSTRUCTIONS;
 use sts_code::program::Program;
-use sts_model::code::code_of;
-use sts_model::fill::filled;
-use sts_model::operands::falls_through;
 use sts_model::stack::Stack;
+use sts_rules::fill::filled;
 
 /// The names of the open entries at a place, the innermost on top: a scope's slot, or none for a binding.
 pub type Names = Stack<Option<u8>, 16>;
@@ -48,7 +50,7 @@ fn copy_of(names: &Names) -> Names
 
 /// The names after an instruction.
 fn names_after(instr: Instr, names: &Names) -> Names
-    requires { def.HasRoom instr names.now }
+    requires { def.HasEntryRoom instr names.now }
     ensures { result ≡ def.names_after instr names.now }
 {
     let mut after = copy_of(names);
@@ -74,7 +76,7 @@ fn keeps_names(instr: Instr) -> bool
 /// The list of the names after an instruction: the same, or a new one at the end.
 fn list_after(lists: &mut Vec<Names>, instr: Instr, list: usize) -> Result<usize, AllocError>
     requires listed { list < length lists.old.items }
-    requires room { def.HasRoom instr (get_or lists.old.items list []) }
+    requires room { def.HasEntryRoom instr (get_or lists.old.items list []) }
     ensures { IfOk result (λ i. IsListAfter instr list i lists.old.items lists.new.items) }
 {
     if keeps_names(instr) {
@@ -107,46 +109,15 @@ pub(crate) fn names_at(layout: &Layout, pc: usize) -> &Names
 }
 
 /// The places where an instruction that is no loop's goes on.
-pub fn targets(instr: Instr, pc: u32) -> ArrayVec<u32, 4>
-    requires { pc < 4096 }
-    ensures { result.items ≡ around.named instr ++ around.next_place pc instr }
+pub fn next_places(instr: Instr, pc: u32) -> ArrayVec<u32, 4>
+    requires { pc < MAX_INSTRUCTIONS }
+    ensures { result.items ≡ facts.targets instr ++ around.next_place pc instr }
 {
-    let mut places = ArrayVec::new();
-    match instr {
-        Instr::Div(to) | Instr::Jmp(to) | Instr::Jz(to) => places.push(to),
-        Instr::Join {
-            failed,
-            timeout,
-            interrupted,
-            ..
-        } => {
-            push_given(&mut places, failed);
-            push_given(&mut places, timeout);
-            places.push(interrupted);
-        }
-        Instr::Case {
-            success,
-            failed,
-            ..
-        } => {
-            places.push(success);
-            places.push(failed);
-        }
-        _ => {}
-    }
+    let mut places = targets(instr);
     if falls_through(instr) {
         places.push(pc + 1);
     }
     places
-}
-
-fn push_given(places: &mut ArrayVec<u32, 4>, target: Option<u32>)
-    requires { length places.old.items < 4 }
-    ensures { places.new.items ≡ places.old.items ++ option_to_list target }
-{
-    if let Some(to) = target {
-        places.push(to);
-    }
 }
 
 /// Does the instruction go on to the next place alone?
@@ -194,18 +165,18 @@ fn write_on(
     head: Option<u32>,
     list: usize,
 )
-    requires short { pc < 4096 }
-    requires heads_inside { All (λ to. to < vec_len heads.old) (around.named instr ++ around.next_place pc instr) }
-    requires which_inside { All (λ to. to < vec_len which.old) (around.named instr ++ around.next_place pc instr) }
-    ensures heads { Writes (around.named instr ++ around.next_place pc instr) head None heads.old.items heads.new.items }
-    ensures which { Writes (around.named instr ++ around.next_place pc instr) list 0 which.old.items which.new.items }
+    requires short { pc < MAX_INSTRUCTIONS }
+    requires heads_inside { All (λ to. to < vec_len heads.old) (facts.targets instr ++ around.next_place pc instr) }
+    requires which_inside { All (λ to. to < vec_len which.old) (facts.targets instr ++ around.next_place pc instr) }
+    ensures heads { Writes (facts.targets instr ++ around.next_place pc instr) head None heads.old.items heads.new.items }
+    ensures which { Writes (facts.targets instr ++ around.next_place pc instr) list 0 which.old.items which.new.items }
 {
     if goes_straight_on(instr) {
         heads[pc + 1] = head;
         which[pc + 1] = list;
         return;
     }
-    let places = targets(instr, pc as u32);
+    let places = next_places(instr, pc as u32);
     write_heads(heads, places.as_slice(), head);
     write_which(which, places.as_slice(), list);
 }

@@ -2,9 +2,9 @@
 #![tactic(auto)]
 
 pub mod budget;
-pub mod effect;
+pub mod change;
+mod greatest;
 pub mod laws;
 pub mod layout;
 pub mod pass;
 pub mod row;
-pub mod top;

@@ -1,10 +1,10 @@
 //! Rows of the greatest sums over the first open entries.
 
 ghost use Rattle.std.specs.Prelude.{◌≡◌, ◌<◌, ◌≤◌, ◌+◌, ◌*◌, ℕ, min, get_or, IsTrue, IsFalse};
-ghost use Rattle.sts_budget.specs.Effect.{source_of, added_of};
+ghost use Rattle.sts_budget.specs.Change.{source_of, added_of};
 ghost use Rattle.sts_budget.specs.Row.{IsRaised, IsOver};
 
-use crate::effect::{Effect, added_of, source_of};
+use crate::change::{SumChange, added_of, source_of};
 
 /// For each d below `N` the greatest sum over the first d entries.
 pub(crate) type Row<const N: usize> = [u32; N];
@@ -24,17 +24,21 @@ fn risen<const N: usize>(amount: u64, row: &Row<N>) -> Values<N>
 }
 
 /// The sums after an instruction, over as many entries as can be open then.
-pub(crate) fn values_after<const N: usize>(effect: Effect, depth: usize, row: &Row<N>) -> Values<N>
+pub(crate) fn values_after<const N: usize>(
+    change: SumChange,
+    depth: usize,
+    row: &Row<N>,
+) -> Values<N>
     requires { depth < N }
-    ensures { (d : ℕ) → d < N → get_or result d 0 ≡ min (get_or row.now (source_of effect depth d) 0 + added_of effect depth d) 18446744073709551615 }
+    ensures { (d : ℕ) → d < N → get_or result d 0 ≡ min (get_or row.now (source_of change depth d) 0 + added_of change depth d) 18446744073709551615 }
 {
-    if let Effect::Rises(amount) = effect {
+    if let SumChange::Rises(amount) = change {
         return risen(amount, row);
     }
     let mut values = [0; N];
     for d in 0..N {
-        values[d] = (row[source_of(effect, depth, d)] as u64).saturating_add(added_of(
-            effect, depth, d,
+        values[d] = (row[source_of(change, depth, d)] as u64).saturating_add(added_of(
+            change, depth, d,
         ));
     }
     values

@@ -1,28 +1,100 @@
--- The status that the program ends with (this project's own).
-use Rattle.std.specs.Prelude.{◌≡◌, ℕ, List}
+-- What the whole program writes, and the status that it ends with (this project's own).
+use Rattle.std.specs.Prelude.{◌≡◌, ◌-◌, ◌^◌, ℕ, List, [], Option, Result, Ok, Err, codes, map}
+use Rattle.std.specs.Prelude.{String, Vec}
+use Rattle.std.specs.String.{string_bytes}
+use Rattle.std.specs.declared.alloc.Global.{Global}
+use Rattle.std.specs.Io.KnownBytes.{Appends, Keeps}
 use Rattle.clap.specs.Words.{Text}
-use Rattle.sts_line.specs.Asked.{asked, asked_by}
+use Rattle.sts_line.specs.Asked.{Asks}
 use Rattle.sts_line.specs.Refused.{AsksForHelp, IsMistaken}
 use Rattle.sts_line.specs.declared.asked.Line.{Line}
 use Rattle.sts_line.specs.declared.asked.Line.TheVariants as line
-use Rattle.sts_cli.specs.Output.{Output, IsAnswer}
+use Rattle.sts_cli.specs.Joined.{halves_of}
+use Rattle.sts_cli.specs.Output.{Output, Shows, Writes, failure_output, memory_output}
+use Rattle.sts_cli.specs.Taking.{IsTakenOf}
 use Rattle.sts_cli.specs.declared.mode.Mode.{Mode}
 use Rattle.sts_cli.specs.declared.mode.Mode.TheVariants as mode
+use Rattle.sts_cli.specs.declared.taking.TakeError.{TakeError}
+use Rattle.sts_cli.specs.declared.words.WordsError.{WordsError}
+use Rattle.sts_cli.specs.declared.words.WordsError.TheVariants as words_error
 
--- the status of what the mode shows of some text and trace, or that memory, a file or a stream failed
-pub data EndsIn (m : Mode) (status : ℕ) : Type 0 where
-  shown : (text trace : List ℕ) (output : Output) → IsAnswer m text trace output → status ≡ output.status → EndsIn m status
-  failed : status ≡ 6 → EndsIn m status
+-- one byte more than a text may have
+abbrev pub most_of_a_text : ℕ
+most_of_a_text = 1048577
 
-abbrev pub mode_of : Line → Mode
-mode_of line.Joined = mode.Plain
-mode_of (line.Verify file) = mode.Verify
-mode_of (line.List file) = mode.List
-mode_of (line.Plain file trace) = mode.Plain
+-- more than memory holds
+abbrev pub most_of_a_stream : ℕ
+most_of_a_stream = 2 ^ 64 - 1
 
--- the status after what the words ask for, after help that they ask for, and where they are mistaken
-pub data Ends (words : List Text) (status : ℕ) : Type 0 where
-  played : (l : Line) → asked l ≡ asked_by words → EndsIn (mode_of l) status → Ends words status
-  helped : AsksForHelp words → status ≡ 0 → Ends words status
-  refused : IsMistaken words → status ≡ 2 → Ends words status
-  failed : status ≡ 6 → Ends words status
+-- the bytes of a file by its name, where they are known
+abbrev pub Files : Type 0
+Files = Text → Option (List ℕ)
+
+-- what is printed of a file's text in a mode, or that memory or the file failed
+pub data IsOfText (m : Mode) (file : Option (List ℕ)) (o : Output) : Type 0 where
+  shown : (text : List ℕ) → IsTakenOf file most_of_a_text text → Shows m text [] o
+      → IsOfText m file o
+  failed : (e : TakeError) → o ≡ failure_output e → IsOfText m file o
+
+-- what mode `plain` prints of a text and a trace
+pub data IsOfTextAndTrace (file trace_file : Option (List ℕ)) (o : Output) : Type 0 where
+  shown : (text trace : List ℕ) → IsTakenOf file most_of_a_text text
+      → IsTakenOf trace_file most_of_a_stream trace → Shows mode.Plain text trace o
+      → IsOfTextAndTrace file trace_file o
+  failed : (e : TakeError) → o ≡ failure_output e → IsOfTextAndTrace file trace_file o
+
+-- what mode `plain` prints of a text, a line `%` and a trace
+pub data IsOfInput (input : Option (List ℕ)) (o : Output) : Type 0 where
+  shown : (bytes : List ℕ) → IsTakenOf input most_of_a_stream bytes
+      → Shows mode.Plain (halves_of bytes).text (halves_of bytes).trace o → IsOfInput input o
+  failed : (e : TakeError) → o ≡ failure_output e → IsOfInput input o
+
+-- what is printed for a line
+abbrev pub IsPlayed : Line → Files → Option (List ℕ) → Output → Type 0
+IsPlayed line.Joined files input o = IsOfInput input o
+IsPlayed (line.Verify file) files input o = IsOfText mode.Verify (files file.now) o
+IsPlayed (line.List file) files input o = IsOfText mode.List (files file.now) o
+IsPlayed (line.Plain file trace) files input o = IsOfTextAndTrace (files file.now)
+    (files trace.now) o
+
+-- the bytes that the two streams hold before and after, where they are known
+pub record Streams : Type 0 where
+  pub out_old : Option (List ℕ)
+  pub out_new : Option (List ℕ)
+  pub err_old : Option (List ℕ)
+  pub err_new : Option (List ℕ)
+
+-- this output alone is written
+pub record Prints (s : Streams) (status : ℕ) (o : Output) : Type 0 where
+  pub written : Writes s.out_old s.out_new status o
+  pub kept : Keeps s.err_old s.err_new
+
+-- some text is told to the person at the command line, and nothing is printed
+pub record Tells (s : Streams) (status : ℕ) (o : Output) : Type 0 where
+  pub told : Writes s.err_old s.err_new status o
+  pub kept : Keeps s.out_old s.out_new
+
+-- what the program writes, and its status: that of the line that the words ask for, 0 after help
+-- that they ask for, 2 where they are mistaken, or that memory was refused
+pub data Ends (words : List Text) (files : Files) (input : Option (List ℕ)) (s : Streams)
+    (status : ℕ) : Type 0 where
+  played : (l : Line) (o : Output) → Asks words l → IsPlayed l files input o → Prints s status o
+      → Ends words files input s status
+  helped : (o : Output) → AsksForHelp words → o.status ≡ 0 → Tells s status o
+      → Ends words files input s status
+  mistaken : (o : Output) → IsMistaken words → o.status ≡ 2 → Tells s status o
+      → Ends words files input s status
+  failed : Prints s status memory_output → Ends words files input s status
+
+abbrev pub not_text_output : Output
+not_text_output = record {
+  bytes = codes "error: a word of the command line is not UTF-8\n";
+  status = 2;
+}
+
+-- the same from the words that were had, or not
+abbrev pub EndsFrom : Result (Vec (String Global) Global) WordsError → Files → Option (List ℕ)
+    → Streams → ℕ → Type 0
+EndsFrom (Ok words) files input s status = Ends (map string_bytes words.items) files input s status
+EndsFrom (Err words_error.Memory) files input s status = Prints s status memory_output
+EndsFrom (Err words_error.NotText) files input s status = Tells s status not_text_output

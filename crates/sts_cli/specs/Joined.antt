@@ -16,12 +16,15 @@ is_mark line = bytes_eq line (codes "%")
 abbrev pub after_line : List ℕ → Halves → Halves
 after_line line halves = record halves { text = line ++ 10 ∷ halves.text }
 
--- the lines before the first line that is exactly `%`, and those after it; with no such line all is text
+-- the lines before the first line that is exactly `%`, and those after it; with no such line all is
+-- text
 abbrev pub halves : List (List ℕ) → Halves
 halves [] = record { text = []; trace = [] }
-halves (line ∷ []) = if is_mark line then record { text = []; trace = [] } else record { text = line; trace = [] }
+halves (line ∷ []) = if is_mark line then record { text = []; trace = [] }
+    else record { text = line; trace = [] }
 halves (line ∷ next ∷ more) =
-    if is_mark line then record { text = []; trace = join_with_byte 10 (next ∷ more) } else after_line line (halves (next ∷ more))
+    if is_mark line then record { text = []; trace = join_with_byte 10 (next ∷ more) }
+    else after_line line (halves (next ∷ more))
 
 abbrev pub halves_of : List ℕ → Halves
 halves_of input = halves (lines input)

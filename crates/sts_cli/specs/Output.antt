@@ -1,14 +1,15 @@
 -- What the program prints and the status that it ends with, for each mode (this project's own).
-use Rattle.std.specs.Prelude.{◌≡◌, ◌⊎◌, ℕ, List, ◌++◌, ◌<◌, length, Result, Ok, Err}
+use Rattle.std.specs.Prelude.{◌≡◌, ◌⊎◌, ℕ, List, ◌++◌, ◌<◌, length, Option, Result, Ok, Err}
+use Rattle.std.specs.Io.KnownBytes.{Appends}
 use Rattle.sts_code.specs.Program.{Program}
 use Rattle.sts_model.specs.declared.event.Event.{Event}
 use Rattle.sts_model.specs.declared.event.End.{End}
 use Rattle.sts_model.specs.declared.event.End.TheVariants.{Success, Failed}
-use Rattle.sts_model.specs.Budget.{budget_at}
-use Rattle.sts_model.specs.Refusal.{IsAccepted, IsRefusal, IsBudgetOf}
+use Rattle.sts_rules.specs.Budget.{budget_at}
+use Rattle.sts_rules.specs.Refusal.{IsAccepted, IsRefusal, IsBudgetOf}
 use Rattle.sts_model.specs.Run.{after, taken}
-use Rattle.sts_model.specs.declared.budget.Budgets.{Budgets}
-use Rattle.sts_model.specs.declared.typing.Cause.{Cause}
+use Rattle.sts_rules.specs.declared.budget.Budgets.{Budgets}
+use Rattle.sts_rules.specs.declared.typing.Cause.{Cause}
 use Rattle.sts_asm.specs.Fault.{code_error}
 use Rattle.sts_asm.specs.Text.{judged}
 use Rattle.sts_asm.specs.declared.fault.AsmError.{AsmError}
@@ -20,7 +21,10 @@ use Rattle.sts_trace.specs.Reading.{trace_read}
 use Rattle.sts_trace.specs.declared.error.TraceError.{TraceError}
 use Rattle.sts_cli.specs.declared.mode.Mode.{Mode}
 use Rattle.sts_cli.specs.declared.mode.Mode.TheVariants as mode
-use Rattle.sts_cli.specs.Printed.{text_fault_line, trace_fault_line, state_line, steps_line, memory_line, refused_line, accepted_lines}
+use Rattle.sts_cli.specs.declared.taking.TakeError.{TakeError}
+use Rattle.sts_cli.specs.declared.taking.TakeError.TheVariants as take_error
+use Rattle.sts_cli.specs.Printed.{text_fault_line, trace_fault_line, state_line, steps_line}
+use Rattle.sts_cli.specs.Printed.{memory_line, file_line, refused_line, accepted_lines}
 
 -- what is printed, and the status
 pub record Output : Type 0 where
@@ -37,7 +41,11 @@ state_status (plain.Ended end) = end_status end
 state_status _ = 5
 
 abbrev pub state_output : Program → PlainState → ℕ → Output
-state_output p state steps = record { bytes = state_line p state ++ steps_line steps; status = state_status state }
+state_output p state steps = record {
+  bytes = state_line p state
+      ++ steps_line steps;
+  status = state_status state;
+}
 
 -- how the machine stands after the events, and the steps that it took
 abbrev pub run_output : Program → List Event → Output
@@ -51,6 +59,14 @@ trace_fault_output e = record { bytes = trace_fault_line e; status = 3 }
 
 abbrev pub memory_output : Output
 memory_output = record { bytes = memory_line; status = 6 }
+
+abbrev pub file_output : Output
+file_output = record { bytes = file_line; status = 6 }
+
+-- what is printed where the bytes of a file or a stream were not had
+abbrev pub failure_output : TakeError → Output
+failure_output take_error.Memory = memory_output
+failure_output take_error.Read = file_output
 
 -- ---- mode plain
 
@@ -81,10 +97,13 @@ pub record AreTold (p : Program) (budgets : List Budgets) : Type 0 where
   pub count : length budgets ≡ length p.routines
   pub each : (f : ℕ) → f < length budgets → IsBudgetOf p f (budget_at budgets f)
 
--- what is printed of a program that is accepted, or refused at its least place with a cause, for the least cause there
+-- what is printed of a program that is accepted, or refused at its least place with a cause, for
+-- the least cause there
 pub data IsVerdict (p : Program) (output : Output) : Type 0 where
-  accepted : IsAccepted p → (budgets : List Budgets) → AreTold p budgets → output ≡ accepted_output p budgets → IsVerdict p output
-  refused : (f pc : ℕ) (c : Cause) → IsRefusal p f pc c → output ≡ refused_output p f pc c → IsVerdict p output
+  accepted : IsAccepted p → (budgets : List Budgets) → AreTold p budgets
+      → output ≡ accepted_output p budgets → IsVerdict p output
+  refused : (f pc : ℕ) (c : Cause) → IsRefusal p f pc c → output ≡ refused_output p f pc c
+      → IsVerdict p output
 
 abbrev pub VerifyShows : Result Program AsmError → Output → Type 0
 VerifyShows (Ok p) output = IsVerdict p output
@@ -99,5 +118,9 @@ Shows mode.List text trace output = output ≡ list_output (judged text)
 Shows mode.Verify text trace output = VerifyShows (judged text) output
 
 -- the output of the mode, or that memory was refused
-abbrev pub IsAnswer : Mode → List ℕ → List ℕ → Output → Type 0
-IsAnswer mode text trace output = Shows mode text trace output ⊎ (output ≡ memory_output)
+abbrev pub IsOutputOf : Mode → List ℕ → List ℕ → Output → Type 0
+IsOutputOf mode text trace output = Shows mode text trace output ⊎ (output ≡ memory_output)
+
+-- all of an output is written to a stream, and the status is its own
+abbrev pub Writes : Option (List ℕ) → Option (List ℕ) → ℕ → Output → Type 0
+Writes old new status output = (status ≡ output.status) × Appends old new output.bytes

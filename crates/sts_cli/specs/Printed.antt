@@ -12,9 +12,9 @@ use Rattle.sts_model.specs.declared.event.Fault.TheVariants as fault
 use Rattle.sts_asm.specs.Fault.{kind_number}
 use Rattle.sts_asm.specs.declared.fault.AsmError.{AsmError}
 use Rattle.sts_list.specs.Spelling.{spelled}
-use Rattle.sts_model.specs.Causes.{cause_number as refusal_number}
-use Rattle.sts_model.specs.declared.budget.Budgets.{Budgets}
-use Rattle.sts_model.specs.declared.typing.Cause.{Cause}
+use Rattle.sts_rules.specs.Causes.{cause_number as refusal_number}
+use Rattle.sts_rules.specs.declared.budget.Budgets.{Budgets}
+use Rattle.sts_rules.specs.declared.typing.Cause.{Cause}
 use Rattle.sts_plain.specs.declared.misstep.PlainState.{PlainState}
 use Rattle.sts_plain.specs.declared.misstep.PlainState.TheVariants as plain
 use Rattle.sts_trace.specs.declared.error.TraceError.{TraceError}
@@ -28,10 +28,12 @@ ended line = line ++ 10 ∷ []
 
 abbrev pub code_fault_line : CodeError → List ℕ
 code_fault_line e =
-    ended (codes "error A9 C" ++ decimal (cause_number e.cause) ++ codes " function " ++ decimal e.function ++ codes " at " ++ decimal e.pc)
+    ended (codes "error A9 C" ++ decimal (cause_number e.cause) ++ codes " function "
+    ++ decimal e.function ++ codes " at " ++ decimal e.pc)
 
 abbrev pub line_fault_line : ℕ → ℕ → List ℕ
-line_fault_line number line = ended (codes "error A" ++ decimal number ++ codes " line " ++ decimal line)
+line_fault_line number line = ended (codes "error A" ++ decimal number ++ codes " line "
+    ++ decimal line)
 
 -- `error A2 line 3`, or `error A9 C5 function 0 at 0`
 abbrev pub text_fault_line : AsmError → Option CodeError → List ℕ
@@ -40,6 +42,9 @@ text_fault_line e None = line_fault_line (kind_number e.kind) e.line
 
 abbrev pub memory_line : List ℕ
 memory_line = codes "error memory\n"
+
+abbrev pub file_line : List ℕ
+file_line = codes "error file\n"
 
 -- `error T2 line 2`, or `error T3`
 abbrev pub trace_fault_line : TraceError → List ℕ
@@ -63,7 +68,8 @@ end_line (Failed c) = ended (codes "failed " ++ signed_decimal c)
 
 abbrev pub fault_line : Program → Fault → ℕ → ℕ → ℕ → List ℕ
 fault_line p kind task function pc =
-    ended (codes "fault " ++ fault_word kind ++ codes " task " ++ decimal task ++ codes " in " ++ (routine p function).name ++ codes " at " ++ decimal pc)
+    ended (codes "fault " ++ fault_word kind ++ codes " task " ++ decimal task ++ codes " in "
+    ++ (routine p function).name ++ codes " at " ++ decimal pc)
 
 -- `success V`, `failed C`, `running` or `fault KIND task T in NAME at PC`
 abbrev pub state_line : Program → PlainState → List ℕ
@@ -84,7 +90,9 @@ place_words p (Some i) = spelled p i
 -- `refused V13 in NAME at PC: INSTRUCTION`
 abbrev pub refused_line : Program → ℕ → ℕ → Cause → List ℕ
 refused_line p f pc c =
-    ended (codes "refused V" ++ decimal (refusal_number c) ++ codes " in " ++ (routine p f).name ++ codes " at " ++ decimal pc ++ codes ": " ++ place_words p (slice_get (routine p f).code pc))
+    ended (codes "refused V" ++ decimal (refusal_number c) ++ codes " in " ++ (routine p f).name
+    ++ codes " at " ++ decimal pc ++ codes ": "
+    ++ place_words p (slice_get (routine p f).code pc))
 
 -- `NAME steps N`
 abbrev pub budget_line : List ℕ → List ℕ → ℕ → List ℕ
@@ -93,7 +101,10 @@ budget_line name word n = ended (name ++ word ++ decimal n)
 -- the four lines of a function
 abbrev pub budget_lines : List ℕ → Budgets → List ℕ
 budget_lines name b =
-    budget_line name (codes " steps ") b.steps ++ (budget_line name (codes " tasks ") b.tasks ++ (budget_line name (codes " scopes ") b.scopes ++ budget_line name (codes " binds ") b.binds))
+    budget_line name (codes " steps ") b.steps
+    ++ (budget_line name (codes " tasks ") b.tasks
+    ++ (budget_line name (codes " scopes ") b.scopes
+    ++ budget_line name (codes " binds ") b.binds))
 
 -- the lines of these functions, which have these budgets
 abbrev pub accepted_lines : List Routine → List Budgets → List ℕ

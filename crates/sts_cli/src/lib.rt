@@ -1,11 +1,13 @@
-//! All that the program `sts` does, over bytes and writers.
+//! All that the program `sts` does, over bytes, readers and writers.
 #![tactic(auto)]
 
-pub mod answer;
 pub mod joined;
 pub mod mode;
+pub mod modes;
+pub mod output;
 pub mod play;
 pub mod printed;
 pub mod program;
+pub mod sources;
 pub mod taking;
-pub mod verdict;
+pub mod words;

@@ -1,14 +1,14 @@
 //! Does what a mode asks for, and writes what is to be printed.
 
 ghost use Rattle.std.specs.Prelude.{◌≡◌, IfOk};
-ghost use Rattle.std.specs.Io.KnownBytes.{Appends};
 ghost use Rattle.sts_cli.specs.Joined.{Halves, halves_of};
 ghost use Rattle.sts_cli.specs.Output as def;
 
-use crate::answer::Answer;
 use crate::joined::split;
 use crate::mode::Mode;
-use crate::{answer, verdict};
+use crate::modes::{list, plain, verify};
+use crate::output::Output;
+use crate::taking::TakeError;
 use std::alloc::{AllocError, Global};
 use std::io::Write;
 
@@ -16,21 +16,24 @@ use std::io::Write;
 #[derive(Clone, Copy, Debug, PartialEq, Eq)]
 pub struct WriteFailed;
 
-/// What is printed where memory was refused.
-const OUT_OF_MEMORY: &[u8] = b"error memory\n";
+/// The status where memory, a file or a stream failed.
+pub(crate) const STATUS_OUTSIDE: u8 = 6;
 
-fn answer(alloc: Global, mode: Mode, text: &[u8], trace: &[u8]) -> Result<Answer, AllocError>
-    ensures { IfOk result (λ a. def.Shows mode text.now trace.now a) }
+fn output(alloc: Global, mode: Mode, text: &[u8], trace: &[u8]) -> Result<Output, AllocError>
+    ensures { IfOk result (λ o. def.Shows mode text.now trace.now o) }
 {
     match mode {
-        Mode::Plain => answer::plain(alloc, text, trace),
-        Mode::List => answer::listed(alloc, text),
-        Mode::Verify => verdict::verified(alloc, text),
+        Mode::Plain => plain::after_trace(alloc, text, trace),
+        Mode::List => list::listed(alloc, text),
+        Mode::Verify => verify::verified(alloc, text),
     }
 }
 
-fn written<W: Write>(out: &mut W, bytes: &[u8], status: u8) -> Result<u8, WriteFailed>
-    ensures { IfOk result (λ s. (s ≡ status) × Appends (W.contents out.old) (W.contents out.new) bytes.now) }
+/// Writes all of these bytes, and gives the status.
+pub(crate) fn written<W: Write>(out: &mut W, bytes: &[u8], status: u8) -> Result<u8, WriteFailed>
+    ensures { IfOk result (λ s. (o : def.Output)
+        × (o ≡ record { bytes = bytes.now; status = status })
+        × def.Writes (W.contents out.old) (W.contents out.new) s o) }
 {
     match out.write_all(bytes) {
         Ok(()) => Ok(status),
@@ -38,7 +41,19 @@ fn written<W: Write>(out: &mut W, bytes: &[u8], status: u8) -> Result<u8, WriteF
     }
 }
 
-/// Does what the mode asks for with a text and a trace, writes all that is printed, and gives the status.
+/// Writes what is printed where memory, a file or a stream failed, and gives the status.
+pub(crate) fn failed<W: Write>(error: TakeError, out: &mut W) -> Result<u8, WriteFailed>
+    ensures { IfOk result (λ s.
+        def.Writes (W.contents out.old) (W.contents out.new) s (def.failure_output error)) }
+{
+    match error {
+        TakeError::Memory => written(out, b"error memory\n", STATUS_OUTSIDE),
+        TakeError::Read => written(out, b"error file\n", STATUS_OUTSIDE),
+    }
+}
+
+/// Does what the mode asks for with a text and a trace, writes all that is printed, and gives the
+/// status.
 ///
 /// It takes all its memory before the first byte is written.
 ///
@@ -52,21 +67,25 @@ pub fn play<W: Write>(
     trace: &[u8],
     out: &mut W,
 ) -> Result<u8, WriteFailed>
-    ensures { IfOk result (λ status. (output : def.Output) × def.IsAnswer mode text.now trace.now output × (status ≡ output.status) × Appends (W.contents out.old) (W.contents out.new) output.bytes) }
+    ensures { IfOk result (λ s. (o : def.Output) × def.IsOutputOf mode text.now trace.now o
+        × def.Writes (W.contents out.old) (W.contents out.new) s o) }
 {
-    match answer(alloc, mode, text, trace) {
-        Ok(answer) => written(out, answer.text.as_bytes(), answer.status),
-        Err(_) => written(out, OUT_OF_MEMORY, 6),
+    match output(alloc, mode, text, trace) {
+        Ok(output) => written(out, output.text.as_bytes(), output.status),
+        Err(_) => failed(TakeError::Memory, out),
     }
 }
 
-/// `play` in mode `Plain`, with the text up to the first line that is exactly `%`, and the trace after it.
+/// `play` in mode `Plain`, with the text up to the first line that is exactly `%`, and the trace
+/// after it.
 ///
 /// # Errors
 ///
 /// A write failed.
 pub fn play_joined<W: Write>(alloc: Global, input: &[u8], out: &mut W) -> Result<u8, WriteFailed>
-    ensures { IfOk result (λ status. (output : def.Output) × def.IsAnswer Mode.Plain (halves_of input.now).text (halves_of input.now).trace output × (status ≡ output.status) × Appends (W.contents out.old) (W.contents out.new) output.bytes) }
+    ensures { IfOk result (λ s. (o : def.Output)
+        × def.IsOutputOf Mode.Plain (halves_of input.now).text (halves_of input.now).trace o
+        × def.Writes (W.contents out.old) (W.contents out.new) s o) }
 {
     let (text, trace) = split(input);
     play(alloc, Mode::Plain, text, trace, out)

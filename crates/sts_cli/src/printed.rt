@@ -13,14 +13,15 @@ use sts_code::checking::CodeError;
 use sts_code::instr::Instr;
 use sts_code::program::{Function, Program};
 use sts_list::spell;
-use sts_model::budget::Budgets;
 use sts_model::event::{End, Fault};
-use sts_model::typing::Cause;
 use sts_plain::misstep::PlainState;
+use sts_rules::budget::Budgets;
+use sts_rules::typing::Cause;
 use sts_trace::TraceError;
 
 fn code_fault_line(out: &mut String, error: CodeError) -> Result<(), AllocError>
-    ensures { OnOk result (string_bytes out.new ≡ string_bytes out.old ++ def.code_fault_line error) }
+    ensures { OnOk result (string_bytes out.new
+        ≡ string_bytes out.old ++ def.code_fault_line error) }
 {
     let number = error.cause.number();
     let function = error.function;
@@ -29,8 +30,13 @@ fn code_fault_line(out: &mut String, error: CodeError) -> Result<(), AllocError>
 }
 
 /// The line of a fault of a text.
+///
+/// # Errors
+///
+/// Memory was refused; a part of it may then stand in `out`.
 pub fn text_fault_line(out: &mut String, error: AsmError) -> Result<(), AllocError>
-    ensures { OnOk result (string_bytes out.new ≡ string_bytes out.old ++ def.text_fault_line error (code_error error.kind)) }
+    ensures { OnOk result (string_bytes out.new
+        ≡ string_bytes out.old ++ def.text_fault_line error (code_error error.kind)) }
 {
     match error.kind.code_error() {
         Some(refused) => code_fault_line(out, refused),
@@ -43,8 +49,13 @@ pub fn text_fault_line(out: &mut String, error: AsmError) -> Result<(), AllocErr
 }
 
 /// The line of a fault of a trace.
+///
+/// # Errors
+///
+/// Memory was refused; a part of it may then stand in `out`.
 pub fn trace_fault_line(out: &mut String, error: TraceError) -> Result<(), AllocError>
-    ensures { OnOk result (string_bytes out.new ≡ string_bytes out.old ++ def.trace_fault_line error) }
+    ensures { OnOk result (string_bytes out.new
+        ≡ string_bytes out.old ++ def.trace_fault_line error) }
 {
     match error {
         TraceError::BadLine(n) => writeln!(out, "error T1 line {n}"),
@@ -93,7 +104,8 @@ fn fault_line(
     function: u32,
     pc: u32,
 ) -> Result<(), AllocError>
-    ensures { OnOk result (string_bytes out.new ≡ string_bytes out.old ++ def.fault_line program.now kind task function pc) }
+    ensures { OnOk result (string_bytes out.new
+        ≡ string_bytes out.old ++ def.fault_line program.now kind task function pc) }
 {
     let word = fault_word(kind);
     let name = name_of(program, function);
@@ -101,8 +113,13 @@ fn fault_line(
 }
 
 /// The line that says how the plain machine stands.
+///
+/// # Errors
+///
+/// Memory was refused; a part of it may then stand in `out`.
 pub fn state_line(out: &mut String, program: &Program, state: PlainState) -> Result<(), AllocError>
-    ensures { OnOk result (string_bytes out.new ≡ string_bytes out.old ++ def.state_line program.now state) }
+    ensures { OnOk result (string_bytes out.new
+        ≡ string_bytes out.old ++ def.state_line program.now state) }
 {
     match state {
         PlainState::Running => writeln!(out, "running"),
@@ -117,6 +134,10 @@ pub fn state_line(out: &mut String, program: &Program, state: PlainState) -> Res
 }
 
 /// The line of the steps taken.
+///
+/// # Errors
+///
+/// Memory was refused; a part of it may then stand in `out`.
 pub fn steps_line(out: &mut String, steps: u64) -> Result<(), AllocError>
     ensures { OnOk result (string_bytes out.new ≡ string_bytes out.old ++ def.steps_line steps) }
 {
@@ -130,7 +151,8 @@ fn place_words(
     program: &Program,
     instr: Option<Instr>,
 ) -> Result<(), AllocError>
-    ensures { OnOk result (string_bytes out.new ≡ string_bytes out.old ++ def.place_words program.now instr) }
+    ensures { OnOk result (string_bytes out.new
+        ≡ string_bytes out.old ++ def.place_words program.now instr) }
 {
     match instr {
         None => out.push_str("end")?,
@@ -153,6 +175,10 @@ fn instr_at(program: &Program, function: u32, pc: u32) -> Option<Instr>
 }
 
 /// The line that says where and why a program is refused.
+///
+/// # Errors
+///
+/// Memory was refused; a part of it may then stand in `out`.
 pub fn refused_line(
     alloc: Global,
     out: &mut String,
@@ -161,7 +187,8 @@ pub fn refused_line(
     pc: u32,
     cause: Cause,
 ) -> Result<(), AllocError>
-    ensures { OnOk result (string_bytes out.new ≡ string_bytes out.old ++ def.refused_line program.now function pc cause) }
+    ensures { OnOk result (string_bytes out.new
+        ≡ string_bytes out.old ++ def.refused_line program.now function pc cause) }
 {
     let number = cause.number();
     let name = name_of(program, function);
@@ -173,7 +200,8 @@ pub fn refused_line(
 
 /// The four lines of a function's budgets.
 fn budget_lines(out: &mut String, name: &str, budgets: Budgets) -> Result<(), AllocError>
-    ensures { OnOk result (string_bytes out.new ≡ string_bytes out.old ++ def.budget_lines name.now budgets) }
+    ensures { OnOk result (string_bytes out.new
+        ≡ string_bytes out.old ++ def.budget_lines name.now budgets) }
 {
     let steps = budgets.steps;
     let tasks = budgets.tasks;
@@ -186,13 +214,18 @@ fn budget_lines(out: &mut String, name: &str, budgets: Budgets) -> Result<(), Al
 }
 
 /// The lines of the budgets of all functions.
+///
+/// # Errors
+///
+/// Memory was refused; a part of it may then stand in `out`.
 pub fn accepted_lines(
     out: &mut String,
     functions: &[Function],
     budgets: &[Budgets],
 ) -> Result<(), AllocError>
     requires { length budgets.now ≡ length functions.now }
-    ensures { OnOk result (string_bytes out.new ≡ string_bytes out.old ++ def.accepted_lines functions.now budgets.now) }
+    ensures { OnOk result (string_bytes out.new
+        ≡ string_bytes out.old ++ def.accepted_lines functions.now budgets.now) }
 {
     for i in 0..functions.len() {
         let function = &functions[i];

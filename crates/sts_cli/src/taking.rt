@@ -1,7 +1,8 @@
 //! Takes a reader's bytes, up to a most.
 
 ghost use Rattle.std.specs.IoError.{error_kind};
-ghost use Rattle.std.specs.Prelude.{◌≡◌, ◌↔◌, ◌≤◌, ◌<◌, ◌++◌, Some, IsNone, IfSome, IfOk, OnErr, length, take};
+ghost use Rattle.std.specs.Prelude.{◌≡◌, ◌↔◌, ◌≤◌, ◌<◌, ◌++◌, Some, IsNone, IfSome, IfOk, OnErr};
+ghost use Rattle.std.specs.Prelude.{length, take};
 ghost use Rattle.std.specs.Io.{ReadsAtMost};
 ghost use Rattle.std.specs.Io.KnownBytes.{Keeps, Consumes, IsAtEnd};
 ghost use Rattle.sts_cli.specs.Taking.{LosesUpTo};
@@ -36,7 +37,8 @@ const PIECE: usize = 64 * 1024;
 /// What a failed read is told as; an interrupted one is none, and is tried again.
 fn told_as(error: &io::Error) -> Option<TakeError>
     ensures interrupted { IsNone result ↔ (error_kind error.now ≡ ErrorKind.Interrupted) }
-    ensures memory { (result ≡ Some TakeError.Memory) ↔ (error_kind error.now ≡ ErrorKind.OutOfMemory) }
+    ensures memory { (result ≡ Some TakeError.Memory) ↔
+        (error_kind error.now ≡ ErrorKind.OutOfMemory) }
 {
     match error.kind() {
         ErrorKind::Interrupted => None,
@@ -48,8 +50,10 @@ fn told_as(error: &io::Error) -> Option<TakeError>
 /// One read, tried again where a signal interrupts it.
 fn read_once<R: Read>(reader: &mut R, piece: &mut [u8]) -> Result<usize, TakeError>
     ensures bound { ReadsAtMost result piece.new }
-    ensures bytes { IfOk result (λ n. Consumes (R.remaining reader.old) (R.remaining reader.new) (take n piece.new)) }
-    ensures end { IfOk result (λ n. n ≡ 0 → 0 < length piece.old → IsAtEnd (R.remaining reader.new)) }
+    ensures bytes { IfOk result (λ n. Consumes (R.remaining reader.old) (R.remaining reader.new)
+        (take n piece.new)) }
+    ensures end { IfOk result (λ n. n ≡ 0 → 0 < length piece.old
+        → IsAtEnd (R.remaining reader.new)) }
     ensures err { OnErr result (Keeps (R.remaining reader.old) (R.remaining reader.new)) }
 {
     for _ in 0..u64::MAX {
@@ -76,7 +80,8 @@ fn take_piece<R: Read>(
     requires within { room ≤ length piece.old }
     ensures bound { IfOk result (λ n. n ≤ room) }
     ensures items { IfOk result (λ n. taken.new.items ≡ taken.old.items ++ take n piece.new) }
-    ensures read { IfOk result (λ n. Consumes (R.remaining reader.old) (R.remaining reader.new) (take n piece.new)) }
+    ensures read { IfOk result (λ n. Consumes (R.remaining reader.old) (R.remaining reader.new)
+        (take n piece.new)) }
     ensures end { IfOk result (λ n. n ≡ 0 → IsAtEnd (R.remaining reader.new)) }
     ensures lost { OnErr result (LosesUpTo room (R.remaining reader.old) (R.remaining reader.new)) }
 {
@@ -91,9 +96,11 @@ fn take_piece<R: Read>(
 ///
 /// Memory was refused, or a read failed; the bytes that were read before are lost.
 pub fn take<R: Read>(alloc: Global, reader: &mut R, most: u64) -> Result<Vec<u8>, TakeError>
-    ensures known { IfOk result (λ taken. IfSome (R.remaining reader.old) (λ xs. taken.items ≡ take most xs)) }
+    ensures known { IfOk result (λ taken. IfSome (R.remaining reader.old)
+        (λ xs. taken.items ≡ take most xs)) }
     ensures bound { IfOk result (λ taken. length taken.items ≤ most) }
-    ensures read { IfOk result (λ taken. Consumes (R.remaining reader.old) (R.remaining reader.new) taken.items) }
+    ensures read { IfOk result (λ taken. Consumes (R.remaining reader.old)
+        (R.remaining reader.new) taken.items) }
     ensures lost { OnErr result (LosesUpTo most (R.remaining reader.old) (R.remaining reader.new)) }
 {
     let mut piece = vec![in alloc; 0; PIECE]?;

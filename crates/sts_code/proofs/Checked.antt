@@ -7,6 +7,7 @@ use Rattle.sts_code.specs.declared.checking.CodeError.{CodeError}
 use Rattle.sts_code.specs.Checks as def
 use Rattle.sts_code.specs.declared.checking.CodeCause.TheVariants.{TooLong, BadRange}
 use Rattle.sts_code.specs.Name.{is_name}
+use Rattle.sts_code.specs.declared.limits.TheConstants.{MAX_FUNCTIONS, MAX_INSTRUCTIONS, MAX_ARGS}
 use Rattle.sts_code.specs.Program.{Program, Routine, no_routine, routine}
 use borrow.Author.Tests.{ltb-false}
 
@@ -47,25 +48,25 @@ either_fails true b e = cc
 either_fails false b e = e
 
 -- a function as a whole is within the limits
-pub routine_is_small : (earlier : List Routine) (r : Routine) → def.routine_fault earlier r ≡ None → (length r.code ≤ 4096) × (r.args ≤ 8)
+pub routine_is_small : (earlier : List Routine) (r : Routine) → def.routine_fault earlier r ≡ None → (length r.code ≤ MAX_INSTRUCTIONS) × (r.args ≤ MAX_ARGS)
 routine_is_small earlier r e =
     let none : def.routine_cause earlier r ≡ None = no_cause (length earlier) 0 (def.routine_cause earlier r) (neither _ (def.code_fault (length earlier) (length r.code) 0 r.code) e).0 in
-    let short = no_test (nat_lt 4096 (length r.code)) TooLong _ none in
-    let named = neither_holds (not (is_name r.name) || nat_lt 8 r.args) (length r.code == 0) BadRange _ short.1 in
-    let few = either_fails (not (is_name r.name)) (nat_lt 8 r.args) named.0 in
+    let short = no_test (nat_lt MAX_INSTRUCTIONS (length r.code)) TooLong _ none in
+    let named = neither_holds (not (is_name r.name) || nat_lt MAX_ARGS r.args) (length r.code == 0) BadRange _ short.1 in
+    let few = either_fails (not (is_name r.name)) (nat_lt MAX_ARGS r.args) named.0 in
     (grind (arith, ltb-false, short.0), grind (arith, ltb-false, few))
 
 -- there are at most 64 functions, and each is without fault
-pub routines_are_fine : (rs : List Routine) → def.program_fault rs ≡ None → (length rs ≤ 64) × (def.routines_fault [] rs ≡ None)
+pub routines_are_fine : (rs : List Routine) → def.program_fault rs ≡ None → (length rs ≤ MAX_FUNCTIONS) × (def.routines_fault [] rs ≡ None)
 routines_are_fine rs e =
-    let few = not_many (nat_lt 64 (length rs)) _ _ e in
+    let few = not_many (nat_lt MAX_FUNCTIONS (length rs)) _ _ e in
     (grind (arith, ltb-false, few.0), (neither (def.routines_fault [] rs) _ few.1).0)
 
-small_at : (earlier rs : List Routine) (i : ℕ) → def.routines_fault earlier rs ≡ None → (length (slice_index_or rs i no_routine).code ≤ 4096) × ((slice_index_or rs i no_routine).args ≤ 8)
+small_at : (earlier rs : List Routine) (i : ℕ) → def.routines_fault earlier rs ≡ None → (length (slice_index_or rs i no_routine).code ≤ MAX_INSTRUCTIONS) × ((slice_index_or rs i no_routine).args ≤ MAX_ARGS)
 small_at earlier [] i e = (omega arith, omega arith)
 small_at earlier (r ∷ rest) zero e = routine_is_small earlier r (neither (def.routine_fault earlier r) _ e).0
 small_at earlier (r ∷ rest) (suc i) e = small_at (earlier ++ r ∷ []) rest i (neither (def.routine_fault earlier r) _ e).1
 
 -- each function of a program is within the limits
-pub code_is_short : (p : Program) (i : ℕ) → def.program_fault p.routines ≡ None → (length (routine p i).code ≤ 4096) × ((routine p i).args ≤ 8)
+pub code_is_short : (p : Program) (i : ℕ) → def.program_fault p.routines ≡ None → (length (routine p i).code ≤ MAX_INSTRUCTIONS) × ((routine p i).args ≤ MAX_ARGS)
 code_is_short p i e = small_at [] p.routines i (routines_are_fine p.routines e).1

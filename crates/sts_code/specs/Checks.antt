@@ -11,24 +11,16 @@ use Rattle.sts_code.specs.declared.instr.Instr.TheVariants.{Load, Store, Div, Jm
 use Rattle.sts_code.specs.declared.instr.Joiner.{Joiner}
 use Rattle.sts_code.specs.declared.instr.Joiner.TheVariants.{Until}
 use Rattle.sts_code.specs.declared.instr.Pred.TheVariants as pred
+use Rattle.sts_code.specs.declared.limits.TheConstants.{MAX_FUNCTIONS, MAX_INSTRUCTIONS, MAX_ARGS, LAST_SLOT, MAX_TURNS, MAX_ENDS}
+use Rattle.sts_code.specs.Facts.{targets}
 use Rattle.sts_code.specs.Name.{is_name}
 use Rattle.sts_code.specs.Program.{Routine}
 
 -- ---- one instruction
 
--- a target that may be left out, and is none of n instructions?
-abbrev pub misses : ℕ → Option ℕ → Bool
-misses n None = false
-misses n (Some to) = nat_le n to
-
 -- does it name a place that is none of n instructions?
 abbrev pub has_bad_target : ℕ → Instr → Bool
-has_bad_target n (Div to) = nat_le n to
-has_bad_target n (Jmp to) = nat_le n to
-has_bad_target n (Jz to) = nat_le n to
-has_bad_target n (Join s failed timeout interrupted) = misses n failed || misses n timeout || nat_le n interrupted
-has_bad_target n (Case h success failed) = nat_le n success || nat_le n failed
-has_bad_target n _ = false
+has_bad_target n i = list_any (nat_le n) (targets i)
 
 -- does it fork a function that isn't before the function at this index?
 abbrev pub forks_later : ℕ → Instr → Bool
@@ -37,7 +29,7 @@ forks_later at _ = false
 
 -- a slot, local or key that there isn't?
 abbrev pub is_past : ℕ → Bool
-is_past x = nat_lt 15 x
+is_past x = nat_lt LAST_SLOT x
 
 abbrev pub handle_is_past : Option ℕ → Bool
 handle_is_past None = false
@@ -45,7 +37,7 @@ handle_is_past (Some h) = is_past h
 
 -- a number of ends that is not from 1 to 65,536?
 abbrev pub is_bad_count : ℕ → Bool
-is_bad_count n = n == 0 || nat_lt 65536 n
+is_bad_count n = n == 0 || nat_lt MAX_ENDS n
 
 abbrev pub has_bad_count : Joiner → Bool
 has_bad_count (Until (pred.Failed n)) = is_bad_count n
@@ -56,7 +48,7 @@ has_bad_count _ = false
 abbrev pub has_bad_range : Instr → Bool
 has_bad_range (Load x) = is_past x
 has_bad_range (Store x) = is_past x
-has_bad_range (Times n) = n == 0 || nat_lt 10000 n
+has_bad_range (Times n) = n == 0 || nat_lt MAX_TURNS n
 has_bad_range (Open s joiner timed) = is_past s || has_bad_count joiner
 has_bad_range (Fork s f h) = is_past s || handle_is_past h
 has_bad_range (Join s failed timeout interrupted) = is_past s
@@ -98,8 +90,8 @@ is_named name r = bytes_eq r.name name
 -- what is wrong with a function as a whole, after these
 abbrev pub routine_cause : List Routine → Routine → Option CodeCause
 routine_cause earlier r =
-    if nat_lt 4096 (length r.code) then Some TooLong
-    else (if not (is_name r.name) || nat_lt 8 r.args || length r.code == 0 then Some BadRange
+    if nat_lt MAX_INSTRUCTIONS (length r.code) then Some TooLong
+    else (if not (is_name r.name) || nat_lt MAX_ARGS r.args || length r.code == 0 then Some BadRange
     else (if list_any (is_named r.name) earlier then Some DuplicateName else None))
 
 -- the first fault of a function, after these
@@ -129,7 +121,7 @@ ends_with_main rs = is_main_at (slice_get rs (length rs - 1))
 -- the first check that fails, or none
 abbrev pub program_fault : List Routine → Option CodeError
 program_fault rs =
-    if nat_lt 64 (length rs) then Some (record { cause = TooManyFunctions; function = 0; pc = 0 })
+    if nat_lt MAX_FUNCTIONS (length rs) then Some (record { cause = TooManyFunctions; function = 0; pc = 0 })
     else option_or (routines_fault [] rs)
     (if ends_with_main rs then None else Some (record { cause = NoMain; function = 0; pc = 0 }))
 

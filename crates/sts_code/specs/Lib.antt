@@ -1,3 +1,5 @@
 pub mod Checks
+pub mod Facts
+pub mod Loops
 pub mod Name
 pub mod Program

@@ -1,6 +1,7 @@
 -- Names of functions and labels (this project's own).
 use Rattle.std.specs.Prelude.{ℕ, List, [], ◌∷◌, length, Bool, false, ◌&&◌, ◌||◌, ◌==◌, not, nat_le}
 use Rattle.std.specs.List.{list_all}
+use Rattle.sts_code.specs.declared.limits.TheConstants.{MAX_NAME}
 use Rattle.std.specs.Char.{is_ascii_alphanumeric, is_ascii_digit}
 
 -- a letter, a digit or an underscore?
@@ -13,4 +14,4 @@ begins_with_digit (b ∷ bs) = is_ascii_digit b
 
 -- 1 to 32 letters, digits and underscores, the first of them no digit?
 abbrev pub is_name : List ℕ → Bool
-is_name bytes = not (length bytes == 0) && nat_le (length bytes) 32 && list_all is_name_byte bytes && not (begins_with_digit bytes)
+is_name bytes = not (length bytes == 0) && nat_le (length bytes) MAX_NAME && list_all is_name_byte bytes && not (begins_with_digit bytes)

@@ -4,7 +4,10 @@ ghost use Rattle.std.specs.Prelude.{◌≡◌, ◌≤◌, ◌<◌, ◌^◌, [], 
 ghost use Rattle.std.specs.List.{list_any};
 ghost use Rattle.sts_code.specs.Checks as def;
 
+use crate::code::needs_any;
+use crate::facts::targets;
 use crate::instr::{Instr, Joiner, Pred};
+use crate::limits::{LAST_SLOT, MAX_ARGS, MAX_ENDS, MAX_FUNCTIONS, MAX_INSTRUCTIONS, MAX_TURNS};
 use crate::naming::is_name;
 use crate::program::Function;
 use thiserror::Error;
@@ -55,33 +58,10 @@ pub struct CodeError {
     pub pc: u32,
 }
 
-fn misses(count: usize, target: Option<u32>) -> bool
-    ensures { result ≡ def.misses count target }
-{
-    match target {
-        None => false,
-        Some(to) => count <= to as usize,
-    }
-}
-
 fn has_bad_target(count: usize, instr: Instr) -> bool
     ensures { result ≡ def.has_bad_target count instr }
 {
-    match instr {
-        Instr::Div(to) | Instr::Jmp(to) | Instr::Jz(to) => count <= to as usize,
-        Instr::Join {
-            failed,
-            timeout,
-            interrupted,
-            ..
-        } => misses(count, failed) || misses(count, timeout) || count <= interrupted as usize,
-        Instr::Case {
-            success,
-            failed,
-            ..
-        } => count <= success as usize || count <= failed as usize,
-        _ => false,
-    }
+    targets(instr).iter().any(|to| count <= *to as usize)
 }
 
 fn forks_later(at: u32, instr: Instr) -> bool
@@ -96,7 +76,7 @@ fn forks_later(at: u32, instr: Instr) -> bool
 fn is_past(x: u8) -> bool
     ensures { result ≡ def.is_past x }
 {
-    x > 15
+    x > LAST_SLOT
 }
 
 fn handle_is_past(handle: Option<u8>) -> bool
@@ -112,7 +92,7 @@ fn has_bad_count(joiner: Joiner) -> bool
     ensures { result ≡ def.has_bad_count joiner }
 {
     match joiner {
-        Joiner::Until(Pred::Failed(n)) | Joiner::Until(Pred::Success(n)) => n == 0 || n > 65536,
+        Joiner::Until(Pred::Failed(n)) | Joiner::Until(Pred::Success(n)) => n == 0 || n > MAX_ENDS,
         _ => false,
     }
 }
@@ -136,7 +116,7 @@ fn has_bad_range(instr: Instr) -> bool
         | Instr::Read(x)
         | Instr::Bound(x)
         | Instr::OrElse(x) => is_past(x),
-        Instr::Times(n) => n == 0 || n > 10000,
+        Instr::Times(n) => n == 0 || n > MAX_TURNS,
         Instr::Open { slot, joiner, .. } => is_past(slot) || has_bad_count(joiner),
         Instr::Fork { slot, handle, .. } => is_past(slot) || handle_is_past(handle),
         _ => false,
@@ -159,7 +139,7 @@ fn instr_cause(at: u32, count: usize, instr: Instr) -> Option<CodeCause>
 
 /// The first fault of the instructions of the function at `at`.
 fn code_fault(at: u32, code: &[Instr]) -> Option<CodeError>
-    requires { length code.now ≤ 4096 }
+    requires { length code.now ≤ MAX_INSTRUCTIONS }
     ensures { result ≡ def.code_fault at (length code.now) 0 code.now }
 {
     for pc in 0..code.len() {
@@ -184,9 +164,9 @@ fn routine_cause(earlier: &[Function], function: &Function) -> Option<CodeCause>
     ensures { result ≡ def.routine_cause earlier.now function.now }
 {
     let name = function.name.as_bytes();
-    if function.code.len() > 4096 {
+    if function.code.len() > MAX_INSTRUCTIONS {
         Some(CodeCause::TooLong)
-    } else if !is_name(name) || function.args > 8 || function.code.is_empty() {
+    } else if !is_name(name) || function.args > MAX_ARGS || function.code.is_empty() {
         Some(CodeCause::BadRange)
     } else if is_taken(name, earlier) {
         Some(CodeCause::DuplicateName)
@@ -211,7 +191,7 @@ fn routine_fault(earlier: &[Function], function: &Function) -> Option<CodeError>
 }
 
 fn routines_fault(functions: &[Function]) -> Option<CodeError>
-    requires { length functions.now ≤ 64 }
+    requires { length functions.now ≤ MAX_FUNCTIONS }
     ensures { result ≡ def.routines_fault [] functions.now }
 {
     for i in 0..functions.len() {
@@ -231,12 +211,6 @@ fn is_main(function: &Function) -> bool
         && !needs_any(&function.needs)
 }
 
-fn needs_any(needs: &[bool; 16]) -> bool
-    ensures { result ≡ list_any (λ needed. needed) needs.now }
-{
-    needs.iter().any(|needed| *needed)
-}
-
 fn ends_with_main(functions: &[Function]) -> bool
     ensures { result ≡ def.ends_with_main functions.now }
 {
@@ -250,7 +224,7 @@ fn ends_with_main(functions: &[Function]) -> bool
 pub fn program_fault(functions: &[Function]) -> Option<CodeError>
     ensures { result ≡ def.program_fault functions.now }
 {
-    if functions.len() > 64 {
+    if functions.len() > MAX_FUNCTIONS {
         return Some(CodeError {
             cause: CodeCause::TooManyFunctions,
             function: 0,

@@ -4,6 +4,8 @@ ghost use Rattle.std.specs.Prelude.{◌≡◌};
 ghost use Rattle.std.specs.List.{list_all};
 ghost use Rattle.sts_code.specs.Name as def;
 
+use crate::limits::MAX_NAME;
+
 fn is_name_byte(byte: u8) -> bool
     ensures { result ≡ def.is_name_byte byte }
 {
@@ -29,5 +31,8 @@ fn begins_with_digit(bytes: &[u8]) -> bool
 pub fn is_name(bytes: &[u8]) -> bool
     ensures { result ≡ def.is_name bytes.now }
 {
-    !bytes.is_empty() && bytes.len() <= 32 && all_name_bytes(bytes) && !begins_with_digit(bytes)
+    !bytes.is_empty()
+        && bytes.len() <= MAX_NAME
+        && all_name_bytes(bytes)
+        && !begins_with_digit(bytes)
 }

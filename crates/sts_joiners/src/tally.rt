@@ -140,6 +140,13 @@ impl Tally {
         }
     }
 
+    /// The joiner that is told.
+    pub fn joiner(&self) -> Joiner
+        ensures { result ≡ self.now.joiner }
+    {
+        self.joiner
+    }
+
     /// How many of the ends are successes.
     pub fn successes(&self) -> u32
         ensures kept { result ≡ self.now.told.successes }

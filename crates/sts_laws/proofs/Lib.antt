@@ -1,13 +1,4 @@
-pub mod Births
-pub mod Effects
-pub mod Events
-pub mod Frames
-pub mod Kept
-pub mod Later
-pub mod Laws
-pub mod Lists
-pub mod Runs
-pub mod Sound
-pub mod Steps
-pub mod Still
-pub mod Told
+pub mod FlagLemmas
+pub mod StateLemmas
+pub mod StayLemmas
+pub mod StepLemmas

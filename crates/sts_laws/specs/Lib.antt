@@ -1,2 +1,3 @@
-pub mod Runs
+pub mod Flags
+pub mod States
 pub mod Stays

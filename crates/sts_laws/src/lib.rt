@@ -2,40 +2,41 @@
 #![tactic(auto)]
 
 ghost use Rattle.sts_laws.specs.Stays.{FaultsStay, StepsAreCounted, NothingIsLost, EndsStay, ClosedStays, PhasesGoForward, CompletionsGrow, StatesStay, CancelledStartsNothing};
-ghost use Rattle.sts_laws.specs.Runs.{CompletionsAreEnds, ClosedIsEmpty, RootEndsLast, SomeTaskSteps, OwnersHold};
+ghost use Rattle.sts_laws.specs.Flags.{CancelInterrupts, InterruptSetsFlag, FlagsHaveCause, FlagsAreTaken};
+ghost use Rattle.sts_laws.specs.States.{CompletionsAreEnds, ClosedIsEmpty, RootEndsLast, SomeTaskSteps, OwnersHold};
 
 /// A fault stays.
-#[tactic(auto, using(crate::proofs::Runs::faults_stay))]
+#[tactic(auto, using(crate::proofs::StayLemmas::faults_stay))]
 pub fn faults_stay()
     ensures { FaultsStay }
 {}
 
 /// Tasks and scopes are never lost: they are never fewer, and each keeps what it was born with.
-#[tactic(auto, using(crate::proofs::Laws::nothing_is_lost))]
+#[tactic(auto, using(crate::proofs::StayLemmas::nothing_is_lost))]
 pub fn nothing_is_lost()
     ensures { NothingIsLost }
 {}
 
 /// A task that has ended keeps its end, and never steps again.
-#[tactic(auto, using(crate::proofs::Laws::ends_stay))]
+#[tactic(auto, using(crate::proofs::StayLemmas::ends_stay))]
 pub fn ends_stay()
     ensures { EndsStay }
 {}
 
 /// A closed scope stays closed, a cancelled one cancelled, an expired one expired.
-#[tactic(auto, using(crate::proofs::Laws::closed_stays))]
+#[tactic(auto, using(crate::proofs::StayLemmas::closed_stays))]
 pub fn closed_stays()
     ensures { ClosedStays }
 {}
 
 /// A scope never goes back to an earlier phase, and where `join` had an outcome or the close has begun it doesn't expire any more.
-#[tactic(auto, using(crate::proofs::Laws::phases_go_forward))]
+#[tactic(auto, using(crate::proofs::StayLemmas::phases_go_forward))]
 pub fn phases_go_forward()
     ensures { PhasesGoForward }
 {}
 
 /// Completions only grow, and no more once their scope is cancelled.
-#[tactic(auto, using(crate::proofs::Laws::completions_grow))]
+#[tactic(auto, using(crate::proofs::StayLemmas::completions_grow))]
 pub fn completions_grow()
     ensures { CompletionsGrow }
 {}
@@ -47,13 +48,13 @@ pub fn completions_are_ends()
 {}
 
 /// The state of a subtask never changes once it is a success or failed.
-#[tactic(auto, using(crate::proofs::Laws::states_stay))]
+#[tactic(auto, using(crate::proofs::StayLemmas::states_stay))]
 pub fn states_stay()
     ensures { StatesStay }
 {}
 
 /// An event takes at most one step, and exactly one where it is a step that counts.
-#[tactic(auto, using(crate::proofs::Runs::steps_are_counted))]
+#[tactic(auto, using(crate::proofs::StayLemmas::steps_are_counted))]
 pub fn steps_are_counted()
     ensures { StepsAreCounted }
 {}
@@ -74,7 +75,7 @@ pub fn some_task_steps()
 {}
 
 /// No task that is born into a cancelled scope is ever started.
-#[tactic(auto, using(crate::proofs::Laws::cancelled_starts_nothing))]
+#[tactic(auto, using(crate::proofs::StayLemmas::cancelled_starts_nothing))]
 pub fn cancelled_starts_nothing()
     ensures { CancelledStartsNothing }
 {}
@@ -82,4 +83,24 @@ pub fn cancelled_starts_nothing()
 /// A scope that isn't closed is held by its owner, which lives.
 pub fn owners_hold()
     ensures { OwnersHold }
+{}
+
+/// An event that cancels a scope interrupts each subtask of it that lives: its flag is set.
+pub fn cancel_interrupts()
+    ensures { CancelInterrupts }
+{}
+
+/// An interrupt sets the flag of a task that lives.
+pub fn interrupt_sets_flag()
+    ensures { InterruptSetsFlag }
+{}
+
+/// Nothing but an interrupt of the task or the cancel of its scope sets a flag.
+pub fn flags_have_cause()
+    ensures { FlagsHaveCause }
+{}
+
+/// A flag is cleared by a step of the task itself alone: by `interrupted`, or by a `join` that ends as interrupted.
+pub fn flags_are_taken()
+    ensures { FlagsAreTaken }
 {}

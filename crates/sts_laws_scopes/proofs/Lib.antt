@@ -1,5 +1,8 @@
-pub mod Causes
-pub mod Entered
-pub mod Entries
-pub mod Laws
-pub mod Settled
+pub mod CauseLemmas
+pub mod EnteredLemmas
+pub mod EntryLemmas
+pub mod OrderlyLemmas
+pub mod ScopeLemmas
+pub mod SettledLemmas
+pub mod SlotLemmas
+pub mod TallyLemmas

@@ -1,1 +1,3 @@
 pub mod Scopes
+pub mod Slots
+pub mod Tallies

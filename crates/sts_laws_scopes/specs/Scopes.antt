@@ -10,7 +10,7 @@ use Rattle.sts_model.specs.World.{World, task_at, scope_at}
 use Rattle.sts_model.specs.Joining.{cancels}
 use Rattle.sts_model.specs.Living.{lives, is_closed, ends, sub_state}
 use Rattle.sts_model.specs.Misuse.{is_joined, is_entry_of}
-use Rattle.sts_laws.specs.Runs.{Ever}
+use Rattle.sts_runs.specs.Runs.{Ever}
 
 -- has its close begun?
 abbrev pub is_leaving : Phase → Bool

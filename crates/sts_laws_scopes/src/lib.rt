@@ -1,7 +1,10 @@
-//! Laws over all event lists of every program: why scopes are cancelled, what is settled in them, where they are entered.
+//! Laws over all event lists of every program: why scopes are cancelled, what is settled in them, where they are entered, what slots
+//! name, what `tally` answers.
 #![tactic(auto)]
 
 ghost use Rattle.sts_laws_scopes.specs.Scopes.{CancelledHasCause, LeftOutIsCancelled, JoinedIsSettled, EntriesAreOpen};
+ghost use Rattle.sts_laws_scopes.specs.Slots.{SlotsStand};
+ghost use Rattle.sts_laws_scopes.specs.Tallies.{TalliesAreCounts};
 
 /// A scope is cancelled by an end after which its joiner asks for it, by its expiry or by its close, and by nothing else.
 pub fn cancelled_has_cause()
@@ -21,4 +24,14 @@ pub fn joined_is_settled()
 /// A scope in the structure list of a living task is its own, isn't closed, and stands there once.
 pub fn entries_are_open()
     ensures { EntriesAreOpen }
+{}
+
+/// What the slots of a living task name stands.
+pub fn slots_stand()
+    ensures { SlotsStand }
+{}
+
+/// `tally` answers the numbers of subtasks that are a success, failed and unavailable; together they are all subtasks of the scope.
+pub fn tallies_are_counts()
+    ensures { TalliesAreCounts }
 {}

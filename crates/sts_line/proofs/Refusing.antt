@@ -1,5 +1,5 @@
 -- Why a command line asks for nothing.
-use Rattle.std.proofs.Common.{◌≡◌, ◌⊎◌, ◌&&◌, Bool, true, false, List, Some, is_some, codes, length, ◌<◌, refl, sym, subst, inl, inr, ◌∙◌}
+use Rattle.std.proofs.Common.{◌≡◌, ◌⊎◌, ◌&&◌, Bool, true, false, List, [], Some, is_some, codes, length, ◌<◌, refl, sym, subst, inl, inr, ◌∙◌}
 use Rattle.clap.specs.Words.{Text, Row, IsAmong, fault_of, first_of, subcommand_of}
 use Rattle.clap.specs.declared.error.kind.ErrorKind.{ErrorKind}
 use Rattle.clap.specs.declared.error.kind.ErrorKind.TheVariants as kind
@@ -18,15 +18,17 @@ pub whole_plain : (name file : Text) (rows : List Row) → name ≡ codes "plain
 whole_plain name file rows n f = rw (n, f) (and_true (is_some (first_of (codes "TRACE") rows)))
 
 -- a command with something missing is refused
-pub refuses_blamed : (words : List Text) (e : LineError) → 1 < length words → BlamesUnless (is_whole (subcommand_of program words)) e → Refuses words e
-refuses_blamed words error.Memory more h = tt
-refuses_blamed words (error.Help text) more h = absurd h
-refuses_blamed words (error.Usage text) more h = (more, inr h)
+pub refuses_blamed : (words : List Text) (e : LineError) → 1 < length words → fault_of program words ≡ []
+    → BlamesUnless (is_whole (subcommand_of program words)) e → Refuses words e
+refuses_blamed words error.Memory more none h = tt
+refuses_blamed words (error.Help text) more none h = absurd h
+refuses_blamed words (error.Usage text) more none h = (more, inr (none, h))
 
 -- what `clap` refuses is refused
-pub refuses_told : (words : List Text) (k : ErrorKind) (e : LineError) → 1 < length words → TellsKind k e → (k ≡ kind.OutOfMemory) ⊎ IsAmong k (fault_of program words) → Refuses words e
+pub refuses_told : (words : List Text) (k : ErrorKind) (e : LineError) → 1 < length words → TellsKind k e
+    → (k ≡ kind.OutOfMemory) ⊎ IsAmong k (fault_of program words) → Refuses words e
 refuses_told words k error.Memory more h among = tt
 refuses_told words k (error.Help text) more h (inl memory) = let bad : kind.DisplayHelp ≡ kind.OutOfMemory = sym h ∙ memory in cc
-refuses_told words k (error.Help text) more h (inr among) = subst (λ x. IsAmong x (fault_of program words)) h among
+refuses_told words k (error.Help text) more h (inr among) = (more, subst (λ x. IsAmong x (fault_of program words)) h among)
 refuses_told words k (error.Usage text) more h (inl memory) = absurd (h.1 memory)
 refuses_told words k (error.Usage text) more h (inr among) = (more, inl (k, among, h.0))

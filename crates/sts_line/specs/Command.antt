@@ -23,4 +23,5 @@ required a = record a { top = record a.top { subcommand_required = true } }
 
 -- the program: a command is required
 abbrev pub program : App
-program = with_subcommand (with_subcommand (with_subcommand (required (new_app (codes "sts"))) verify.top) list.top) plain.top
+program = with_subcommand (with_subcommand (with_subcommand
+    (required (new_app (codes "sts"))) verify.top) list.top) plain.top

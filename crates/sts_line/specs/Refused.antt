@@ -1,5 +1,6 @@
 -- Why a command line asks for nothing, by `clap`'s own definitions (this project's own).
-use Rattle.std.specs.Prelude.{◌≡◌, ◌≢◌, ◌⊎◌, ◌<◌, ◌&&◌, ◌||◌, Bool, false, List, length, Option, Some, None, is_some, codes}
+use Rattle.std.specs.Prelude.{◌≡◌, ◌≢◌, ◌⊎◌, ◌<◌, ◌&&◌, ◌||◌, Bool, false, List, [], length, Option}
+use Rattle.std.specs.Prelude.{Some, None, is_some, codes}
 use Rattle.std.specs.List.{list_all}
 use Rattle.std.specs.Str.{bytes_eq}
 use Rattle.clap.specs.Words.{Text, Row, Kinds, IsAmong, fault_of, first_of, subcommand_of}
@@ -20,7 +21,8 @@ TellsKind k (error.Usage text) = (k ≢ kind.DisplayHelp) × (k ≢ kind.OutOfMe
 abbrev pub is_whole : Option (Text × List Row) → Bool
 is_whole None = false
 is_whole (Some (name, rows)) =
-    (bytes_eq name (codes "verify") || (bytes_eq name (codes "list") || bytes_eq name (codes "plain")))
+    (bytes_eq name (codes "verify") || (bytes_eq name (codes "list") || bytes_eq name
+    (codes "plain")))
     && list_all (λ id. is_some (first_of id rows)) (ids_of name)
 
 -- a usage fault comes only where this doesn't hold
@@ -33,13 +35,19 @@ BlamesUnless whole (error.Usage text) = whole ≡ false
 abbrev pub HasMistake : Kinds → Type 0
 HasMistake kinds = (k : ErrorKind) × IsAmong k kinds × (k ≢ kind.DisplayHelp)
 
--- the words ask for help
+-- words follow the program's name, and ask for help
 abbrev pub AsksForHelp : List Text → Type 0
-AsksForHelp words = IsAmong kind.DisplayHelp (fault_of program words)
+AsksForHelp words = (1 < length words) × IsAmong kind.DisplayHelp (fault_of program words)
 
--- words follow the program's name, and are refused for a mistake or name no command with all its files
+-- `clap` finds no fault, and no command of the program with all its files either (which never
+-- comes)
+abbrev pub NamesNothing : List Text → Type 0
+NamesNothing words = (fault_of program words ≡ [])
+    × (is_whole (subcommand_of program words) ≡ false)
+
+-- words follow the program's name, and `clap` finds another fault than that they ask for help
 abbrev pub IsMistaken : List Text → Type 0
-IsMistaken words = (1 < length words) × (HasMistake (fault_of program words) ⊎ (is_whole (subcommand_of program words) ≡ false))
+IsMistaken words = (1 < length words) × (HasMistake (fault_of program words) ⊎ NamesNothing words)
 
 abbrev pub Refuses : List Text → LineError → Type 0
 Refuses words error.Memory = Unit {0}

@@ -37,13 +37,18 @@ fn on_file<'a>(alloc: Global, name: &'a str, about: &'a str) -> Result<Command<'
 
 /// The command `plain`, which takes a trace too.
 fn on_trace<'a>(alloc: Global, name: &'a str, about: &'a str) -> Result<Command<'a>, AllocError>
-    ensures app { IfOk result (λ c. app_of c ≡ with_rule (with_rule (new_app name.entry.now) def.file_rule) def.trace_rule) }
+    ensures app { IfOk result (λ c. app_of c
+        ≡ with_rule (with_rule (new_app name.entry.now) def.file_rule) def.trace_rule) }
     ensures local { IfOk result (λ c. (out-Command c).has_globals ≡ false) }
 {
     on_file(alloc, name, about)?.arg(trace(alloc))
 }
 
 /// The whole program.
+///
+/// # Errors
+///
+/// Memory was refused.
 pub fn program<'a>(alloc: Global) -> Result<Command<'a>, AllocError>
     ensures { IfOk result (λ c. app_of c ≡ def.program) }
 {
@@ -55,17 +60,18 @@ pub fn program<'a>(alloc: Global) -> Result<Command<'a>, AllocError>
     let list = on_file(
         alloc,
         "list",
-        "Prints the text as the assembler understands it",
+        "Prints the program as the assembler understands it",
     )?;
     let plain = on_trace(
         alloc,
         "plain",
-        "Runs the events of a trace on the machine that tests everything",
+        "Prints how the machine that tests everything stands after a trace, and the steps taken",
     )?;
     Command::new(alloc, "sts")
         .about("Structured task scopes over a small stack code")
         .after_help(
-            "With no command it reads a text, a line `%` and a trace from standard input, and does what `plain` does.",
+            "With no command it reads a text, a line `%` and a trace from standard input, \
+             and does what `plain` does.",
         )
         .subcommand_required(true)
         .subcommand(verify)?

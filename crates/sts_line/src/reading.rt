@@ -1,9 +1,11 @@
 //! Reads a command line.
 
-ghost use Rattle.std.specs.Prelude.{◌≡◌, ◌<◌, ◌≤◌, IfOk, IfErr, IsOk, IsErr, map, option_map, is_some, Some, codes, List, ℕ, Bool, false, [], ◌∷◌, length};
-ghost use Rattle.clap.specs.Words.{first_of, rows_of, found_of, fault_of, kind_of, subcommand_rows_of};
-ghost use Rattle.sts_line.specs.Asked.{asked, asked_by, given};
-ghost use Rattle.sts_line.specs.Command as def;
+ghost use Rattle.std.specs.Prelude.{◌≡◌, ◌↔◌, ◌≤◌, Ok, IfOk, IfErr, IsErr, map, option_map};
+ghost use Rattle.std.specs.Prelude.{is_some, Some};
+ghost use Rattle.std.specs.Prelude.{codes, List, ℕ, Bool, false, [], ◌∷◌, length};
+ghost use Rattle.clap.specs.Words.{first_of, rows_of, found_of, kind_of, subcommand_rows_of};
+ghost use Rattle.sts_line.specs.declared.asked.Line.TheVariants.{Joined};
+ghost use Rattle.sts_line.specs.Asked.{Asks, IsLineOf, asked, given};
 ghost use Rattle.sts_line.specs.Refused.{BlamesUnless, Refuses, TellsKind, is_whole};
 
 use crate::asked;
@@ -32,11 +34,14 @@ fn told(error: &Error, alloc: Global) -> LineError
     }
 }
 
-/// Reads the words of a command line, the program's own name first.
+/// What the words of a command line ask for, the program's own name being the first.
+///
+/// # Errors
+///
+/// Memory was refused, help was asked for, or the words are mistaken: then the text says how.
 pub fn line<'a>(alloc: Global, words: &'a [&'a str]) -> Result<asked::Line<'a>, LineError>
-    ensures asked { IfOk result (λ l. asked l ≡ asked_by (map (λ w. w.now) words.entry.now)) }
-    ensures fine { IfOk result (λ _. 1 < length words.entry.now → fault_of def.program (map (λ w. w.now) words.entry.now) ≡ []) }
-    ensures alone { length words.entry.now ≤ 1 → IsOk result }
+    ensures joined { (result ≡ Ok Joined) ↔ (length words.entry.now ≤ 1) }
+    ensures asked { IfOk result (Asks (map (λ w. w.now) words.entry.now)) }
     ensures refused { IfErr result (Refuses (map (λ w. w.now) words.entry.now)) }
 {
     if words.len() <= 1 {
@@ -51,7 +56,7 @@ pub fn line<'a>(alloc: Global, words: &'a [&'a str]) -> Result<asked::Line<'a>, 
 
 /// What the command that `clap` found asks for.
 fn chosen<'a>(alloc: Global, matches: &ArgMatches<'a>) -> Result<asked::Line<'a>, LineError>
-    ensures asked { IfOk result (λ l. asked l ≡ option_map given (subcommand_rows_of matches.now)) }
+    ensures asked { IfOk result (IsLineOf (subcommand_rows_of matches.now)) }
     ensures lacks { IfErr result (BlamesUnless (is_whole (subcommand_rows_of matches.now))) }
 {
     match matches.subcommand() {
@@ -80,8 +85,10 @@ fn asked_of<'a>(
     name: &'a str,
     inner: &ArgMatches<'a>,
 ) -> Result<asked::Line<'a>, LineError>
-    ensures asked { IfOk result (λ l. asked l ≡ Some (given (name.now, rows_of (found_of inner.now)))) }
-    ensures lacks { IfErr result (BlamesUnless (is_whole (Some (name.now, rows_of (found_of inner.now))))) }
+    ensures asked { IfOk result (λ l. asked l
+        ≡ Some (given (name.now, rows_of (found_of inner.now)))) }
+    ensures lacks { IfErr result (BlamesUnless
+        (is_whole (Some (name.now, rows_of (found_of inner.now))))) }
 {
     match text_of(inner, "FILE") {
         None => unknown(alloc),
@@ -104,8 +111,11 @@ fn with_trace<'a>(
     file: &'a str,
     inner: &ArgMatches<'a>,
 ) -> Result<asked::Line<'a>, LineError>
-    ensures asked { IfOk result (λ l. (t : List ℕ) × (first_of (codes "TRACE") (rows_of (found_of inner.now)) ≡ Some t) × (asked l ≡ Some (codes "plain", file.now ∷ t ∷ []))) }
-    ensures lacks { IfErr result (BlamesUnless (is_some (first_of (codes "TRACE") (rows_of (found_of inner.now))))) }
+    ensures asked { IfOk result (λ l. (t : List ℕ)
+        × (first_of (codes "TRACE") (rows_of (found_of inner.now)) ≡ Some t)
+        × (asked l ≡ Some (codes "plain", file.now ∷ t ∷ []))) }
+    ensures lacks { IfErr result (BlamesUnless
+        (is_some (first_of (codes "TRACE") (rows_of (found_of inner.now))))) }
 {
     match text_of(inner, "TRACE") {
         Some(trace) => Ok(asked::Line::Plain { file, trace }),

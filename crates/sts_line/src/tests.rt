@@ -38,6 +38,22 @@ static UNKNOWN: [&str; 3] = ["sts", "replay", "a.sts"];
 
 static NO_COMMAND: [&str; 2] = ["sts", "--"];
 
+static HELP_WORD: [&str; 2] = ["sts", "help"];
+
+static HELP_ON_VERIFY: [&str; 3] = ["sts", "help", "verify"];
+
+static HELP_ON_NOTHING: [&str; 3] = ["sts", "help", "frobnicate"];
+
+static HELP_OF_VERIFY: [&str; 3] = ["sts", "verify", "--help"];
+
+static HELP_OF_LIST: [&str; 3] = ["sts", "list", "-h"];
+
+static FROBNICATE: [&str; 2] = ["sts", "frobnicate"];
+
+static NO_FILE: [&str; 2] = ["sts", "list"];
+
+static OPTION: [&str; 4] = ["sts", "verify", "a.sts", "--workers"];
+
 #[test]
 fn each_command_line_is_read(rt: HostRuntime) {
     let alloc = rt.alloc();
@@ -52,6 +68,8 @@ fn help_is_no_fault(rt: HostRuntime) {
     let alloc = rt.alloc();
     assert!(rt; shown(alloc, HELP.as_slice()).0 == "help");
     assert!(rt; shown(alloc, HELP_OF_PLAIN.as_slice()).0 == "help");
+    assert!(rt; shown(alloc, HELP_WORD.as_slice()).0 == "help");
+    assert!(rt; shown(alloc, HELP_ON_VERIFY.as_slice()).0 == "help");
 }
 
 #[test]
@@ -61,4 +79,80 @@ fn what_asks_for_nothing_is_a_usage_fault(rt: HostRuntime) {
     assert!(rt; shown(alloc, LEFT_OVER.as_slice()).0 == "usage");
     assert!(rt; shown(alloc, UNKNOWN.as_slice()).0 == "usage");
     assert!(rt; shown(alloc, NO_COMMAND.as_slice()).0 == "usage");
+    assert!(rt; shown(alloc, FROBNICATE.as_slice()).0 == "usage");
+    assert!(rt; shown(alloc, HELP_ON_NOTHING.as_slice()).0 == "usage");
+    assert!(rt; shown(alloc, NO_FILE.as_slice()).0 == "usage");
+    assert!(rt; shown(alloc, OPTION.as_slice()).0 == "usage");
+}
+
+/// The text for the person who wrote the words, if they ask for nothing.
+fn text_of<'a>(alloc: Global, words: &'a [&'a str]) -> String {
+    match line(alloc, words) {
+        Err(LineError::Help(text) | LineError::Usage(text)) => text,
+        _ => String::new(alloc),
+    }
+}
+
+/// Does the text that these words bring have all of these?
+fn names_all<'a>(alloc: Global, words: &'a [&'a str], wanted: &[&str]) -> bool {
+    let text = text_of(alloc, words);
+    wanted.iter().all(|word| text.contains(*word))
+}
+
+#[test]
+fn help_names_the_commands_their_files_and_what_they_print(rt: HostRuntime) {
+    let alloc = rt.alloc();
+    let program = [
+        "sts",
+        "verify",
+        "list",
+        "plain",
+        "Prints the budgets",
+        "standard input",
+    ];
+    assert!(rt; names_all(alloc, HELP.as_slice(), program.as_slice()));
+    assert!(rt; names_all(alloc, HELP_WORD.as_slice(), program.as_slice()));
+    let verify = [
+        "sts verify",
+        "FILE",
+        "a text of functions",
+        "Prints the budgets",
+    ];
+    assert!(rt; names_all(alloc, HELP_OF_VERIFY.as_slice(), verify.as_slice()));
+    assert!(rt; names_all(alloc, HELP_ON_VERIFY.as_slice(), verify.as_slice()));
+    let list = [
+        "sts list",
+        "FILE",
+        "a text of functions",
+        "Prints the program as the assembler",
+    ];
+    assert!(rt; names_all(alloc, HELP_OF_LIST.as_slice(), list.as_slice()));
+    let plain = [
+        "sts plain",
+        "FILE",
+        "TRACE",
+        "`step N`",
+        "`expire N`",
+        "Prints how",
+    ];
+    assert!(rt; names_all(alloc, HELP_OF_PLAIN.as_slice(), plain.as_slice()));
+}
+
+#[test]
+fn a_mistake_names_the_word(rt: HostRuntime) {
+    let alloc = rt.alloc();
+    assert!(rt;
+        names_all(
+            alloc,
+            FROBNICATE.as_slice(),
+            ["frobnicate", "Usage"].as_slice()
+        )
+    );
+    assert!(rt; names_all(alloc, UNKNOWN.as_slice(), ["replay", "Usage"].as_slice()));
+    assert!(rt; names_all(alloc, LEFT_OVER.as_slice(), ["b.trace", "Usage"].as_slice()));
+    assert!(rt; names_all(alloc, OPTION.as_slice(), ["--workers", "Usage"].as_slice()));
+    assert!(rt; names_all(alloc, NO_TRACE.as_slice(), ["TRACE", "Usage"].as_slice()));
+    assert!(rt; names_all(alloc, NO_FILE.as_slice(), ["FILE", "Usage"].as_slice()));
+    assert!(rt; names_all(alloc, HELP_ON_NOTHING.as_slice(), ["frobnicate"].as_slice()));
+    assert!(rt; names_all(alloc, NO_COMMAND.as_slice(), ["Usage"].as_slice()));
 }

@@ -7,14 +7,14 @@ use Rattle.std.proofs.lemmas.Slice.Eq.{bytes_eq-Decides}
 use Rattle.std.proofs.lemmas.Bool.Decides.{nat_tests}
 use Rattle.sts_code.specs.Name.{is_name}
 use Rattle.sts_code.specs.Program.{Routine, no_routine}
-use Rattle.sts_code.specs.Checks.{misses, has_bad_target, forks_later, has_bad_range, instr_cause, fault_at, code_fault, is_named, routine_cause, routine_fault, routines_fault, ends_with_main, program_fault}
+use Rattle.sts_code.specs.Checks.{has_bad_target, forks_later, has_bad_range, instr_cause, fault_at, code_fault, is_named, routine_cause, routine_fault, routines_fault, ends_with_main, program_fault}
 use Rattle.sts_code.specs.declared.checking.CodeCause.{CodeCause}
 use Rattle.sts_code.specs.declared.checking.CodeCause.TheVariants.{TooManyFunctions, TooLong, BadTarget, LaterFunction, NoMain, BadRange, DuplicateName}
 use Rattle.sts_code.specs.declared.instr.Instr.{Instr}
 use Rattle.sts_code.specs.declared.instr.Instr.TheVariants as i
 use Rattle.sts_asm.specs.Marks.{Mark, marked}
 use Rattle.sts_asm.proofs.MarkLemmas.{marked_cons, marked_append}
-use Rattle.sts_list.specs.Listing.{targets, maybe}
+use Rattle.sts_code.specs.Facts.{targets}
 use Rattle.sts_list.proofs.SpellingLemmas.{either, forked}
 use Rattle.sts_list.proofs.FunctionLemmas.{names_from}
 
@@ -96,53 +96,16 @@ program_checked rs e =
 later : (n to : ℕ) → nat_le n to ≡ false → to < n
 later n to e = grind (arith, nat_tests)
 
-maybe_within : (n : ℕ) (to : Option ℕ) → misses n to ≡ false → AllByRecursion (λ to. to < n) (maybe to)
-maybe_within n None e = tt
-maybe_within n (Some to) e = (later n to e, tt)
+none_past : (n : ℕ) (places : List ℕ) → list_any (nat_le n) places ≡ false → AllByRecursion (λ to. to < n) places
+none_past n [] e = tt
+none_past n (to ∷ rest) e = let a = either (nat_le n to) (list_any (nat_le n) rest) e in (later n to a.0, none_past n rest a.1)
 
 pub all_joined : (P : ℕ → Type 0) (xs ys : List ℕ) → AllByRecursion P xs → AllByRecursion P ys → AllByRecursion P (xs ++ ys)
 all_joined P [] ys h g = g
 all_joined P (x ∷ xs) ys h g = (h.0, all_joined P xs ys h.1 g)
 
 pub targets_within : (n : ℕ) (instr : Instr) → has_bad_target n instr ≡ false → AllByRecursion (λ to. to < n) (targets instr)
-targets_within n (i.Push k) e = tt
-targets_within n (i.Load x) e = tt
-targets_within n (i.Store x) e = tt
-targets_within n (i.Div to) e = (later n to e, tt)
-targets_within n (i.Jmp to) e = (later n to e, tt)
-targets_within n (i.Jz to) e = (later n to e, tt)
-targets_within n (i.Times m) e = tt
-targets_within n (i.Open s j t) e = tt
-targets_within n (i.Fork s f h) e = tt
-targets_within n (i.Join s f t r) e =
-    let a = either (misses n f || misses n t) (nat_le n r) e in
-    let b = either (misses n f) (misses n t) a.0 in
-    all_joined (λ to. to < n) (maybe f ++ maybe t) (r ∷ []) (all_joined (λ to. to < n) (maybe f) (maybe t) (maybe_within n f b.0) (maybe_within n t b.1)) (later n r a.1, tt)
-targets_within n (i.Close s) e = tt
-targets_within n (i.Cancelled s) e = tt
-targets_within n (i.Case h s f) e = let a = either (nat_le n s) (nat_le n f) e in (later n s a.0, (later n f a.1, tt))
-targets_within n (i.Get h) e = tt
-targets_within n (i.Except h) e = tt
-targets_within n (i.Tally s k) e = tt
-targets_within n (i.Total s) e = tt
-targets_within n (i.Forget h) e = tt
-targets_within n (i.Bind k) e = tt
-targets_within n (i.Read k) e = tt
-targets_within n (i.Bound k) e = tt
-targets_within n (i.OrElse k) e = tt
-targets_within n i.Pop e = tt
-targets_within n i.Dup e = tt
-targets_within n i.Swap e = tt
-targets_within n i.Add e = tt
-targets_within n i.Sub e = tt
-targets_within n i.Mul e = tt
-targets_within n i.Lt e = tt
-targets_within n i.Eq e = tt
-targets_within n i.Next e = tt
-targets_within n i.Unbind e = tt
-targets_within n i.Interrupted e = tt
-targets_within n i.Ret e = tt
-targets_within n i.Fail e = tt
+targets_within n instr e = none_past n (targets instr) e
 
 -- the function that is forked is one of the first
 abbrev pub IsBelow : ℕ → Option ℕ → Type 0

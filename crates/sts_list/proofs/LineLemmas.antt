@@ -14,7 +14,8 @@ use Rattle.sts_asm.specs.Outline.{Draft, Outline, label_of, with_label, with_sen
 use Rattle.sts_asm.proofs.TextLemmas.{line_step}
 use Rattle.sts_asm.proofs.TableLemmas.{spelled_read}
 use Rattle.sts_list.specs.Spelling.{keyword, operands, label, after_spaces}
-use Rattle.sts_list.specs.Listing.{targets, label_line, instr_line}
+use Rattle.sts_list.specs.Listing.{label_line, instr_line}
+use Rattle.sts_code.specs.Facts.{targets}
 use Rattle.sts_list.specs.RoundTrip.{FitsInstr}
 use Rattle.sts_list.proofs.ByteLemmas.{is_plain, is_text, plain_text, all_implied, all_append, IsWord, AreWords, words_text, words_read, line_cut, line_uncommented, line_allowed}
 use Rattle.sts_list.proofs.DecimalLemmas.{label_word, label_name}

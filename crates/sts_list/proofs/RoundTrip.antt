@@ -11,7 +11,8 @@ use Rattle.sts_asm.specs.Text.{each, instr_at, routine_of}
 use Rattle.sts_asm.proofs.MarkLemmas.{marked_cons}
 use Rattle.sts_asm.proofs.TableLemmas.{spelled_read}
 use Rattle.sts_list.specs.Spelling.{keyword, operands, label}
-use Rattle.sts_list.specs.Listing.{targets, is_target, listing}
+use Rattle.sts_list.specs.Listing.{is_target, listing}
+use Rattle.sts_code.specs.Facts.{targets}
 use Rattle.sts_list.specs.RoundTrip.{FitsInstr, FitsRoutine, AssembledAgain}
 use Rattle.sts_list.proofs.SpellingLemmas.{Labels, forked, ForkFound, moved, spelled_as, moved_nowhere}
 use Rattle.sts_list.proofs.LineLemmas.{IsGood}

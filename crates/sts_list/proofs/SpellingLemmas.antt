@@ -1,5 +1,5 @@
 use Rattle.std.proofs.Common.{◌≡◌, ℕ, ◌<◌, ◌≤◌, ◌^◌, ◌-◌, Bool, true, false, List, [], ◌∷◌, ◌++◌, length, refl, arith}
-use Rattle.std.specs.Prelude.{◌==◌, ◌||◌, nat_lt, Option, Some, None, option_map, codes, ⊤}
+use Rattle.std.specs.Prelude.{◌==◌, ◌||◌, nat_lt, Option, Some, None, option_map, codes, ⊤, option_to_list}
 use Rattle.std.specs.List.{list_all, AllByRecursion}
 use Rattle.std.proofs.lemmas.Bool.Decides.{nat_tests}
 use Rattle.sts_code.specs.Name.{is_name, is_name_byte}
@@ -19,7 +19,7 @@ use Rattle.sts_text.specs.Number.{number_up_to}
 use Rattle.sts_asm.specs.Operand as operand
 use Rattle.sts_asm.specs.Table.{Spells, IsLabel, IsMaybeLabel, IsFunction, IsHandle, IsKind, IsJoiner, IsTimed}
 use Rattle.sts_list.specs.Spelling.{keyword, operands, label, slot, maybe_label, handle, kind_word, joiner_words, condition_words, timed_words}
-use Rattle.sts_list.specs.Listing.{targets, maybe}
+use Rattle.sts_code.specs.Facts.{targets}
 use Rattle.sts_list.specs.RoundTrip.{FitsCondition, FitsJoiner, FitsInstr}
 use Rattle.sts_list.proofs.ByteLemmas.{is_plain, all_implied, IsWord, AreWords}
 use Rattle.sts_list.proofs.DecimalLemmas.{number_read, value_read, value_word, decimal_word, slot_read, slot_word, label_word, label_name}
@@ -68,7 +68,7 @@ slot_good s e = let h = present s e in slot_read s (omega arith)
 target_good : (names : Option Names) (found : ℕ → ℕ) (to : ℕ) → Labels names found to → IsLabel names (found to) (label to)
 target_good names found to h = (label_name to h.small, h.named)
 
-maybe_good : (names : Option Names) (found : ℕ → ℕ) (to : Option ℕ) → AllByRecursion (Labels names found) (maybe to) → IsMaybeLabel names (option_map found to) (maybe_label to)
+maybe_good : (names : Option Names) (found : ℕ → ℕ) (to : Option ℕ) → AllByRecursion (Labels names found) (option_to_list to) → IsMaybeLabel names (option_map found to) (maybe_label to)
 maybe_good names found None h = refl
 maybe_good names found (Some to) h = target_good names found to h.0
 
@@ -146,8 +146,8 @@ spelled_as p names found other (i.Fork s f h) e k t g =
     let b = either (is_past s) (handle_is_past h) e in
     (slot s, (routine p f).name, handle h, refl, slot_good s b.0, g, handle_good h b.1)
 spelled_as p names found other (i.Join s failed timeout r) e f t g =
-    let a = all_split (Labels names found) (maybe failed ++ maybe timeout) (r ∷ []) t in
-    let b = all_split (Labels names found) (maybe failed) (maybe timeout) a.0 in
+    let a = all_split (Labels names found) (option_to_list failed ++ option_to_list timeout) (r ∷ []) t in
+    let b = all_split (Labels names found) (option_to_list failed) (option_to_list timeout) a.0 in
     (slot s, maybe_label failed, maybe_label timeout, label r, refl, slot_good s e, maybe_good names found failed b.0, maybe_good names found timeout b.1, target_good names found r a.1.0)
 spelled_as p names found other (i.Case h s f) e k t g = (slot h, label s, label f, refl, slot_good h e, target_good names found s t.0, target_good names found f t.1.0)
 spelled_as p names found other (i.Tally s k) e f t g = (slot s, kind_word k, refl, slot_good s e, kind_good k)
@@ -172,7 +172,7 @@ number_is_word n e = let h = present n e in decimal_word n (omega arith)
 label_is_word : (names : Option Names) (found : ℕ → ℕ) (to : ℕ) → Labels names found to → IsWord (label to)
 label_is_word names found to h = let s = h.small in label_word to (omega arith)
 
-maybe_is_word : (names : Option Names) (found : ℕ → ℕ) (to : Option ℕ) → AllByRecursion (Labels names found) (maybe to) → IsWord (maybe_label to)
+maybe_is_word : (names : Option Names) (found : ℕ → ℕ) (to : Option ℕ) → AllByRecursion (Labels names found) (option_to_list to) → IsWord (maybe_label to)
 maybe_is_word names found None h = record { filled = omega arith; plain = refl }
 maybe_is_word names found (Some to) h = label_is_word names found to h.0
 
@@ -249,8 +249,8 @@ operands_are_words p names found other (i.Fork s f h) e k t g =
     let b = either (is_past s) (handle_is_past h) e in
     (slot_is_word s b.0, (name_word (routine p f).name g.0, (handle_is_word h b.1, tt)))
 operands_are_words p names found other (i.Join s failed timeout r) e f t g =
-    let a = all_split (Labels names found) (maybe failed ++ maybe timeout) (r ∷ []) t in
-    let b = all_split (Labels names found) (maybe failed) (maybe timeout) a.0 in
+    let a = all_split (Labels names found) (option_to_list failed ++ option_to_list timeout) (r ∷ []) t in
+    let b = all_split (Labels names found) (option_to_list failed) (option_to_list timeout) a.0 in
     (slot_is_word s e, (maybe_is_word names found failed b.0, (maybe_is_word names found timeout b.1, (label_is_word names found r a.1.0, tt))))
 operands_are_words p names found other (i.Case h s f) e k t g = (slot_is_word h e, (label_is_word names found s t.0, (label_is_word names found f t.1.0, tt)))
 operands_are_words p names found other (i.Tally s k) e f t g = (slot_is_word s e, (kind_is_word k, tt))

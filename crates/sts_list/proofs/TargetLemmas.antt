@@ -5,7 +5,8 @@ use Rattle.std.proofs.lemmas.List.{length-set, get_or-set_other, get_or-replicat
 use Rattle.std.proofs.lemmas.Grind.{get_or-set_at, flat_map-append}
 use Rattle.std.proofs.lemmas.Bool.Decides.{nat_tests}
 use Rattle.sts_code.specs.declared.instr.Instr.{Instr}
-use Rattle.sts_list.specs.Listing.{with_marks, targets}
+use Rattle.sts_list.specs.Listing.{with_marks}
+use Rattle.sts_code.specs.Facts.{targets}
 
 pub with_marks-append : (marks : List Bool) (xs ys : List ℕ) → with_marks marks (xs ++ ys) ≡ with_marks (with_marks marks xs) ys
 with_marks-append marks [] ys = refl

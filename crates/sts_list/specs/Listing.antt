@@ -6,24 +6,10 @@ use Rattle.sts_code.specs.Program.{Program, Routine}
 use Rattle.sts_code.specs.declared.profile.Profile.{Profile}
 use Rattle.sts_code.specs.declared.profile.Profile.TheVariants.{One, Two}
 use Rattle.sts_code.specs.declared.instr.Instr.{Instr}
-use Rattle.sts_code.specs.declared.instr.Instr.TheVariants.{Div, Jmp, Jz, Join, Case}
+use Rattle.sts_code.specs.Facts.{targets}
 use Rattle.sts_list.specs.Spelling.{label, spelled}
 
 -- ---- targets
-
--- what an option has, as a list
-abbrev pub maybe : Option ℕ → List ℕ
-maybe None = []
-maybe (Some x) = x ∷ []
-
--- the instructions that an instruction names
-abbrev pub targets : Instr → List ℕ
-targets (Div to) = to ∷ []
-targets (Jmp to) = to ∷ []
-targets (Jz to) = to ∷ []
-targets (Join s failed timeout interrupted) = maybe failed ++ maybe timeout ++ interrupted ∷ []
-targets (Case h success failed) = success ∷ failed ∷ []
-targets instr = []
 
 -- is this instruction named by one of these?
 abbrev pub is_target : List Instr → ℕ → Bool

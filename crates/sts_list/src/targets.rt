@@ -1,8 +1,9 @@
 //! The instructions that others name, found in one pass.
 
-ghost use Rattle.std.specs.Prelude.{◌≡◌, ◌∷◌, [], ◌++◌, ◌<◌, length, slice_index_or, IfOk, true, false, replicate, ℕ};
+ghost use Rattle.std.specs.Prelude.{◌≡◌, ◌∷◌, [], ◌++◌, ◌<◌, length, slice_index_or, IfOk, true, false, replicate, ℕ, option_to_list};
 ghost use Rattle.std.specs.List.{flat_map};
-ghost use Rattle.sts_list.specs.Listing.{maybe, targets, is_target, with_marks};
+ghost use Rattle.sts_list.specs.Listing.{is_target, with_marks};
+ghost use Rattle.sts_code.specs.Facts.{targets};
 
 use std::alloc::{AllocError, Global};
 use sts_code::instr::Instr;
@@ -17,7 +18,7 @@ fn mark(marks: &mut Vec<bool>, to: u32)
 }
 
 fn mark_maybe(marks: &mut Vec<bool>, to: Option<u32>)
-    ensures { marks.new.items ≡ with_marks marks.old.items (maybe to) }
+    ensures { marks.new.items ≡ with_marks marks.old.items (option_to_list to) }
 {
     if let Some(to) = to {
         mark(marks, to);
@@ -25,7 +26,7 @@ fn mark_maybe(marks: &mut Vec<bool>, to: Option<u32>)
 }
 
 fn mark_join(marks: &mut Vec<bool>, failed: Option<u32>, timeout: Option<u32>, interrupted: u32)
-    ensures { marks.new.items ≡ with_marks marks.old.items (maybe failed ++ maybe timeout ++ interrupted ∷ []) }
+    ensures { marks.new.items ≡ with_marks marks.old.items (option_to_list failed ++ option_to_list timeout ++ interrupted ∷ []) }
 {
     mark_maybe(marks, failed);
     mark_maybe(marks, timeout);

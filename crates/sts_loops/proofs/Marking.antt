@@ -6,8 +6,9 @@ use Rattle.std.proofs.lemmas.Bool.Decides.{nat_tests}
 use Rattle.std.proofs.lemmas.List.{length-replicate, get_or-replicate}
 use Rattle.std.proofs.lemmas.List.FromFn.{get_or-map-range_with_len, length-map-range_with_len}
 use Rattle.sts_code.specs.declared.instr.Instr.{Instr}
-use Rattle.sts_model.specs.Local.{match_of, is_times}
-use Rattle.sts_model.specs.Around.{instr_at, is_inside, reaches_to}
+use Rattle.sts_code.specs.Loops.{match_of, is_times}
+use Rattle.sts_rules.specs.Around.{is_inside, reaches_to}
+use Rattle.sts_code.specs.Program.{instr_at}
 use Rattle.sts_loops.specs.Tables.{AreTablesOf, end_at}
 use Rattle.sts_loops.proofs.Nesting.{below, below_more}
 use Rattle.sts_loops.proofs.Matching.{ends}

@@ -6,8 +6,8 @@ use Rattle.std.proofs.lemmas.List.{get_or-drop, length-drop}
 use Rattle.std.proofs.lemmas.List.Sums.{count_by_more_yes, count_by_more_no}
 use Rattle.sts_code.specs.declared.instr.Instr.{Instr}
 use Rattle.sts_code.specs.declared.instr.Instr.TheVariants.{Ret, Times, Next}
-use Rattle.sts_model.specs.Local.{match_of, is_times, is_next, is_balanced}
-use Rattle.sts_model.specs.Around.{instr_at}
+use Rattle.sts_code.specs.Loops.{match_of, is_times, is_next, is_balanced}
+use Rattle.sts_code.specs.Program.{instr_at}
 
 -- ---- what is found
 

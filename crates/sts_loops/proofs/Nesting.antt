@@ -6,10 +6,11 @@ use Rattle.std.proofs.lemmas.List.{reverse-append, get_or-map, length-map, drop_
 use Rattle.std.proofs.lemmas.Bool.{cases_lt}
 use Rattle.std.proofs.lemmas.Bool.Decides.{nat_tests}
 use Rattle.sts_code.specs.declared.instr.Instr.{Instr}
-use Rattle.sts_model.specs.Local.{match_of, is_times}
-use Rattle.sts_model.specs.Around.{instr_at, is_inside, reaches_to, around}
-use Rattle.sts_model.specs.declared.typing.TypedLoop.{TypedLoop}
-use Rattle.sts_model.specs.TypeState.{heads}
+use Rattle.sts_code.specs.Loops.{match_of, is_times}
+use Rattle.sts_rules.specs.Around.{is_inside, reaches_to, around}
+use Rattle.sts_code.specs.Program.{instr_at}
+use Rattle.sts_rules.specs.declared.typing.TypedLoop.{TypedLoop}
+use Rattle.sts_rules.specs.TypeState.{heads}
 use Rattle.sts_loops.specs.Tables.{head}
 use Rattle.sts_loops.proofs.Matching.{ends, nested}
 

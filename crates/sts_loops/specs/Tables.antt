@@ -1,8 +1,9 @@
 -- Tables of the loops of a function's code (this project's own).
 use Rattle.std.specs.Prelude.{◌≡◌, ℕ, ◌<◌, List, length, true, if◌then◌else◌, Option, None, slice_get, slice_index_or}
 use Rattle.sts_code.specs.declared.instr.Instr.{Instr}
-use Rattle.sts_model.specs.Local.{match_of, is_times}
-use Rattle.sts_model.specs.Around.{instr_at, around}
+use Rattle.sts_code.specs.Loops.{match_of, is_times}
+use Rattle.sts_rules.specs.Around.{around}
+use Rattle.sts_code.specs.Program.{instr_at}
 
 -- for each place the match of a `times` there, and the innermost loop around it
 pub record Tables : Type 0 where

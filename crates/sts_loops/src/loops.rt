@@ -1,18 +1,19 @@
 //! Which loops are around a place: looked up in tables where there are any.
 
 ghost use Rattle.std.specs.Prelude.{◌≡◌, ◌≤◌, ◌<◌, ◌+◌, ◌∷◌, length, drop, bytes_eq, ◌↔◌, IsTrue, Some};
-ghost use Rattle.sts_model.specs.Around as def;
-ghost use Rattle.sts_model.specs.Causes.{closes_loop};
-ghost use Rattle.sts_model.specs.TypeState.{heads};
-ghost use Rattle.sts_model.specs.Local as local;
+ghost use Rattle.sts_rules.specs.Around as def;
+ghost use Rattle.sts_code.specs.Program as program;
+ghost use Rattle.sts_rules.specs.Causes.{closes_loop};
+ghost use Rattle.sts_rules.specs.TypeState.{heads};
+ghost use Rattle.sts_code.specs.Loops as matching;
 ghost use Rattle.sts_loops.specs.Tables.{head, AreTablesOf};
 
-use crate::ends::match_of;
 use std::marker::Model;
 use sts_code::instr::Instr;
-use sts_model::loops::is_times;
+use sts_code::limits::MAX_INSTRUCTIONS;
+use sts_code::loops::{is_times, match_of};
 use sts_model::stack::Stack;
-use sts_model::typing::TypedLoop;
+use sts_rules::typing::TypedLoop;
 
 /// For each place of a function's code, the match of a `times` there, and the innermost loop around it.
 #[derive(Drop)]
@@ -39,25 +40,28 @@ pub struct CodeLoops<'c> {
 impl<'c> Model for CodeLoops<'c> {
     ghost use Rattle.std.specs.Prelude.{◌≤◌, List, length, IfSome};
     ghost use Rattle.sts_code.specs.declared.instr.Instr.{Instr};
+    ghost use Rattle.sts_code.specs.declared.limits.TheConstants.{MAX_INSTRUCTIONS};
     ghost use Rattle.sts_loops.specs.Tables.{AreTablesOf};
 
     ghost Value = { List Instr };
 
     ghost view = { λ l. l.code.now };
 
-    ghost invariant = { λ l. (length l.code.now ≤ 4096) × IfSome l.tables (λ t. AreTablesOf l.code.now t.now) };
+    ghost invariant = { λ l. (length l.code.now ≤ MAX_INSTRUCTIONS) × IfSome l.tables (λ t. AreTablesOf l.code.now t.now) };
 }
 
 impl<'c> CodeLoops<'c> {
+    /// The loops of this code, each found where it is asked for.
     pub fn new(code: &'c [Instr]) -> CodeLoops<'c>
-        requires { length code.now ≤ 4096 }
+        requires { length code.now ≤ MAX_INSTRUCTIONS }
         ensures { result ≡ code.now }
     {
         CodeLoops { code, tables: None }
     }
 
+    /// The loops of this code, read off tables that were made of it.
     pub fn with_tables(code: &'c [Instr], tables: &'c Tables) -> CodeLoops<'c>
-        requires short { length code.now ≤ 4096 }
+        requires short { length code.now ≤ MAX_INSTRUCTIONS }
         requires tables { AreTablesOf code.now tables.now }
         ensures { result ≡ code.now }
     {
@@ -69,7 +73,7 @@ impl<'c> CodeLoops<'c> {
 
     pub fn len(&self) -> u32
         ensures value { result ≡ length self.now }
-        ensures short { result ≤ 4096 }
+        ensures short { result ≤ MAX_INSTRUCTIONS }
     {
         self.code.len() as u32
     }
@@ -85,7 +89,7 @@ impl<'c> CodeLoops<'c> {
 
     /// Does a `times` stand there?
     fn has_times(&self, at: u32) -> bool
-        ensures value { result ≡ local.is_times (def.instr_at self.now at) }
+        ensures value { result ≡ matching.is_times (program.instr_at self.now at) }
     {
         match self.code.get(at as usize) {
             Some(instr) => is_times(*instr),
@@ -95,7 +99,7 @@ impl<'c> CodeLoops<'c> {
 
     /// The match of a `times` at `at`.
     pub fn end_of(&self, at: u32) -> Option<u32>
-        ensures { result ≡ local.match_of self.now at }
+        ensures { result ≡ matching.match_of self.now at }
     {
         match self.tables {
             Some(tables) if self.has_times(at) => tables.ends[at as usize],

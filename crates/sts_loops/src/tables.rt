@@ -4,16 +4,16 @@ ghost use Rattle.std.specs.Prelude.{◌≡◌, ◌≤◌, ◌<◌, ◌&&◌, len
 ghost use Rattle.std.specs.List.{range_with_len};
 ghost use Rattle.sts_loops.specs.Tables as table;
 
-use crate::ends::match_of;
 use crate::loops::Tables;
 use std::alloc::{AllocError, Global};
 use sts_code::instr::Instr;
-use sts_model::fill::filled;
-use sts_model::loops::is_times;
+use sts_code::limits::MAX_INSTRUCTIONS;
+use sts_code::loops::{is_times, match_of};
+use sts_rules::fill::filled;
 
 /// The match of a `times` at `at`, if there is one.
 fn end_at(code: &[Instr], at: usize) -> Option<u32>
-    requires short { length code.now ≤ 4096 }
+    requires short { length code.now ≤ MAX_INSTRUCTIONS }
     requires inside { at < length code.now }
     ensures { result ≡ table.end_at code.now at }
 {
@@ -26,7 +26,7 @@ fn end_at(code: &[Instr], at: usize) -> Option<u32>
 
 /// The match of each `times`, by place.
 fn ends_of(alloc: Global, code: &[Instr]) -> Result<Vec<Option<u32>>, AllocError>
-    requires { length code.now ≤ 4096 }
+    requires { length code.now ≤ MAX_INSTRUCTIONS }
     ensures { IfOk result (λ ends. ends.items ≡ map (table.end_at code.now) (range_with_len 0 (length code.now))) }
 {
     let mut ends = Vec::with_capacity(alloc, code.len())?;
@@ -50,7 +50,7 @@ fn mark(heads: &mut Vec<Option<u32>>, at: u32, end: u32)
 
 impl Tables {
     pub fn new(alloc: Global, code: &[Instr]) -> Result<Tables, AllocError>
-        requires { length code.now ≤ 4096 }
+        requires { length code.now ≤ MAX_INSTRUCTIONS }
         ensures { IfOk result (table.AreTablesOf code.now) }
     {
         let ends = ends_of(alloc, code)?;

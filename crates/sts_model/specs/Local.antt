@@ -5,6 +5,7 @@ use Rattle.std.specs.Int.{int_wrap, int_wrapping_div, w64}
 use Rattle.std.specs.Ordering.{int_eq}
 use Rattle.sts_code.specs.declared.instr.Instr.{Instr}
 use Rattle.sts_code.specs.declared.instr.Instr.TheVariants.{Push, Pop, Dup, Swap, Load, Store, Add, Sub, Mul, Lt, Eq, Div, Jmp, Jz, Times, Next}
+use Rattle.sts_code.specs.Loops.{match_of}
 use Rattle.sts_model.specs.declared.record.Frame.{Frame}
 use Rattle.sts_model.specs.declared.record.Loop.{Loop}
 
@@ -27,22 +28,6 @@ is_local (Jz to) = true
 is_local (Times n) = true
 is_local Next = true
 is_local _ = false
-
-abbrev pub is_times : Instr → Bool
-is_times (Times n) = true
-is_times _ = false
-
-abbrev pub is_next : Instr → Bool
-is_next Next = true
-is_next _ = false
-
--- as many `next` as `times`
-abbrev pub is_balanced : List Instr → Bool
-is_balanced is = count_by is_next is == count_by is_times is
-
--- the match of the `times` at p: the least q past it such that p to q are balanced
-abbrev pub match_of : List Instr → ℕ → Option ℕ
-match_of code p = find (λ q. is_balanced (slice_range code p (q + 1))) (range_with_len (p + 1) (length code - (p + 1)))
 
 -- an operand by its distance from the top
 abbrev pub operand : Frame → ℕ → ℤ

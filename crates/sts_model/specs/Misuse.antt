@@ -4,12 +4,15 @@
 -- the kinds, WrongThread and IllegalState of `tally` and `total`, Structure of `ret` and `fail`, and not reading after a timeout are own.
 use Rattle.std.specs.Prelude.{◌≡◌, ℕ, ◌+◌, ◌-◌, List, [], ◌∷◌, length, Bool, true, false, Option, Some, None, is_some, is_none, nat_lt, nat_le, ◌==◌, ◌&&◌, ◌||◌, not, if◌then◌else◌, slice_index_or}
 use Rattle.sts_code.specs.Program.{Program, routine}
+use Rattle.sts_code.specs.declared.limits.TheConstants.{MAX_BIRTHS, MAX_ENTRIES, MAX_LOOPS, MAX_OPERANDS, MAX_STANDING}
 use Rattle.sts_code.specs.declared.instr.Instr.{Instr}
 use Rattle.sts_code.specs.declared.instr.Instr.TheVariants.{Push, Pop, Dup, Swap, Load, Store, Add, Sub, Mul, Lt, Eq, Div, Jz, Times, Next, Open, Fork, Join, Close, Cancelled, Case, Get, Except, Tally, Total, Forget, Bind, Unbind, Read, Bound, OrElse, Interrupted, Ret, Fail}
 use Rattle.sts_code.specs.declared.profile.Profile.{Profile}
 use Rattle.sts_code.specs.declared.profile.Profile.TheVariants.{One, Two}
 use Rattle.sts_code.specs.declared.instr.Joiner.{Joiner}
 use Rattle.sts_code.specs.declared.instr.Joiner.TheVariants.{AllSucceed, AnySucceeds, AwaitOk, AwaitAll}
+use Rattle.sts_code.specs.Facts.{pops, pushes, owners_slot, subtask_slot, filled_slot, can_fail, is_await_all, same, is_two}
+use Rattle.sts_code.specs.Loops.{match_of, is_at}
 use Rattle.sts_model.specs.declared.event.Fault.{Fault}
 use Rattle.sts_model.specs.declared.event.Fault.TheVariants.{IllegalState, WrongThread, Structure, Operand, Unbound}
 use Rattle.sts_model.specs.declared.event.End.{End}
@@ -23,7 +26,6 @@ use Rattle.sts_model.specs.declared.record.Entry.TheVariants as entry
 use Rattle.sts_model.specs.declared.record.Frame.{Frame}
 use Rattle.sts_model.specs.declared.record.Loop.{Loop}
 use Rattle.sts_model.specs.declared.record.Scope.{Scope}
-use Rattle.sts_model.specs.Local.{match_of}
 use Rattle.sts_model.specs.World.{World, code, task_at, scope_at, instr_at}
 use Rattle.sts_model.specs.Living.{subtask_count, scope_of, sub_state}
 use Rattle.sts_model.specs.Environment.{environment_of, read}
@@ -31,61 +33,13 @@ use Rattle.sts_model.specs.Standing.{standing_tasks, standing_scopes}
 
 -- ---- operands
 
--- what is popped
-abbrev pub pops : Program → Instr → ℕ
-pops p Pop = 1
-pops p Dup = 1
-pops p Swap = 2
-pops p (Store x) = 1
-pops p Add = 2
-pops p Sub = 2
-pops p Mul = 2
-pops p Lt = 2
-pops p Eq = 2
-pops p (Div to) = 2
-pops p (Jz to) = 1
-pops p (Times n) = 1
-pops p (Fork s f h) = (routine p f).args
-pops p (Bind k) = 1
-pops p (OrElse k) = 1
-pops p Ret = 1
-pops p Fail = 1
-pops p _ = 0
-
--- what is pushed; of `join` see `join_overflows`
-abbrev pub pushes : Instr → ℕ
-pushes (Push k) = 1
-pushes Dup = 2
-pushes Swap = 2
-pushes (Load x) = 1
-pushes Add = 1
-pushes Sub = 1
-pushes Mul = 1
-pushes Lt = 1
-pushes Eq = 1
-pushes (Div to) = 1
-pushes (Cancelled s) = 1
-pushes (Get h) = 1
-pushes (Except h) = 1
-pushes (Tally s k) = 1
-pushes (Total s) = 1
-pushes (Read k) = 1
-pushes (Bound k) = 1
-pushes (OrElse k) = 1
-pushes Interrupted = 1
-pushes _ = 0
-
 -- fewer operands than popped
 abbrev pub lacks_operands : Program → Frame → Instr → Bool
 lacks_operands p f i = nat_lt (length f.operands) (pops p i)
 
 -- more than 32 operands afterwards
 abbrev pub overflows : Program → Frame → Instr → Bool
-overflows p f i = nat_lt 32 (length f.operands - pops p i + pushes i)
-
-abbrev pub is_at : Option ℕ → ℕ → Bool
-is_at None q = false
-is_at (Some m) q = m == q
+overflows p f i = nat_lt MAX_OPERANDS (length f.operands - pops p i + pushes i)
 
 -- is the innermost open loop the one whose match is at pc?
 abbrev pub closes_loop : List Instr → ℕ → List Loop → Bool
@@ -94,7 +48,7 @@ closes_loop is pc (l ∷ ls) = is_at (match_of is l.at) pc
 
 -- a `times` without match or with 8 loops open; a `next` that isn't the match of the innermost open loop
 abbrev pub breaks_loop : Program → Frame → Instr → Bool
-breaks_loop p f (Times n) = is_none (match_of (code p f) f.pc) || nat_le 8 (length f.loops)
+breaks_loop p f (Times n) = is_none (match_of (code p f) f.pc) || nat_le MAX_LOOPS (length f.loops)
 breaks_loop p f Next = not (closes_loop (code p f) f.pc f.loops)
 breaks_loop p f _ = false
 
@@ -120,29 +74,6 @@ is_lent _ = false
 abbrev pub is_sub : Slot → Bool
 is_sub (Sub t) = true
 is_sub _ = false
-
--- the slot of an instruction that only the owner of a scope may do
-abbrev pub owners_slot : Instr → Option ℕ
-owners_slot (Fork s f h) = Some s
-owners_slot (Join s f t i) = Some s
-owners_slot (Close s) = Some s
-owners_slot (Tally s k) = Some s
-owners_slot (Total s) = Some s
-owners_slot _ = None
-
--- the slot of an instruction on a subtask
-abbrev pub subtask_slot : Instr → Option ℕ
-subtask_slot (Case h s f) = Some h
-subtask_slot (Get h) = Some h
-subtask_slot (Except h) = Some h
-subtask_slot (Forget h) = Some h
-subtask_slot _ = None
-
--- the slot that an instruction fills
-abbrev pub filled_slot : Instr → Option ℕ
-filled_slot (Open s j timed) = Some s
-filled_slot (Fork s f h) = h
-filled_slot _ = None
 
 -- a test of a slot, if there is one
 abbrev pub at_slot : Frame → Option ℕ → (Slot → Bool) → Bool
@@ -171,25 +102,10 @@ abbrev pub at_sub : World → Slot → (ℕ → Scope → Bool) → Bool
 at_sub w (Sub t) test = test t (scope_of w t)
 at_sub w _ test = false
 
--- can the joiner's answer be a failure?
-abbrev pub can_fail : Joiner → Bool
-can_fail AllSucceed = true
-can_fail AwaitOk = true
-can_fail AnySucceeds = true
-can_fail _ = false
-
-abbrev pub is_await_all : Joiner → Bool
-is_await_all AwaitAll = true
-is_await_all _ = false
-
-abbrev pub same : Bool → Bool → Bool
-same true b = b
-same false b = not b
-
 -- a `join` with no room for the answer, or whose targets don't fit the scope
 abbrev pub joins_wrongly : Frame → Option ℕ → Option ℕ → Scope → Bool
 joins_wrongly f failed timeout scope =
-    (nat_le 32 (length f.operands) && not (is_await_all scope.joiner))
+    (nat_le MAX_OPERANDS (length f.operands) && not (is_await_all scope.joiner))
     || not (same (is_some failed) (can_fail scope.joiner)) || not (same (is_some timeout) scope.timed)
 
 -- a `join` whose form does not fit its scope
@@ -199,12 +115,12 @@ misjoins w f _ = false
 
 -- 65,536 stand, or 1,000,000 were born?
 abbrev pub is_crowded : ℕ → ℕ → Bool
-is_crowded standing born = nat_le 65536 standing || nat_le 1000000 born
+is_crowded standing born = nat_le MAX_STANDING standing || nat_le MAX_BIRTHS born
 
 -- no room for an entry, a scope or a task
 abbrev pub has_no_room : World → Frame → Instr → Bool
-has_no_room w f (Open s j timed) = nat_le 16 (length f.entries) || is_crowded (standing_scopes w) (length w.scopes)
-has_no_room w f (Bind k) = nat_le 16 (length f.entries)
+has_no_room w f (Open s j timed) = nat_le MAX_ENTRIES (length f.entries) || is_crowded (standing_scopes w) (length w.scopes)
+has_no_room w f (Bind k) = nat_le MAX_ENTRIES (length f.entries)
 has_no_room w f (Fork s g h) = is_crowded (standing_tasks w) (length w.tasks)
 has_no_room w f _ = false
 
@@ -235,10 +151,6 @@ abbrev pub is_failed : Option End → Bool
 is_failed None = false
 is_failed (Some (Success v)) = false
 is_failed (Some (Failed c)) = true
-
-abbrev pub is_two : Profile → Bool
-is_two One = false
-is_two Two = true
 
 -- may the scope's subtasks be read? After a timeout in profile two alone
 abbrev pub is_readable : Profile → Scope → Bool

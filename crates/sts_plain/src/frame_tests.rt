@@ -1,14 +1,16 @@
 //! Tests for misuse that read the frame alone.
 
-ghost use Rattle.std.specs.Prelude.{◌≡◌};
-ghost use Rattle.sts_model.specs.Local as loops;
+ghost use Rattle.std.specs.Prelude.{◌≡◌, ◌≤◌, length};
+ghost use Rattle.sts_code.specs.Loops as matching;
 ghost use Rattle.sts_model.specs.Misuse as misuse;
+ghost use Rattle.sts_code.specs.Facts as facts;
 ghost use Rattle.sts_model.specs.World as def;
 
+use sts_code::facts::{pops, pushes};
 use sts_code::instr::Instr;
+use sts_code::limits::MAX_INSTRUCTIONS;
+use sts_code::loops::match_of;
 use sts_code::program::Program;
-use sts_model::loops::match_of;
-use sts_model::operands::{pops, pushes};
 use sts_model::record::{Entry, Frame, Slot};
 use sts_world::code::code;
 
@@ -30,26 +32,15 @@ pub fn overflows(program: &Program, frame: &Frame, instr: Instr) -> bool
 
 /// Is the innermost open loop the one whose match is at `pc`?
 fn closes_loop(code: &[Instr], frame: &Frame) -> bool
+    requires { length code.now ≤ MAX_INSTRUCTIONS }
     ensures { result ≡ misuse.closes_loop code.now frame.now.pc frame.now.loops }
 {
     match frame.loops.get(0) {
         None => false,
-        Some(innermost) => match match_at(code, innermost.at) {
+        Some(innermost) => match match_of(code, innermost.at) {
             None => false,
-            Some(q) => q == frame.pc as usize,
+            Some(q) => q == frame.pc,
         },
-    }
-}
-
-/// The match of the `times` at `at`, if that is in the code.
-fn match_at(code: &[Instr], at: u32) -> Option<usize>
-    ensures { result ≡ loops.match_of code.now at }
-{
-    let at = at as usize;
-    if at < code.len() {
-        match_of(code, at)
-    } else {
-        None
     }
 }
 
@@ -58,7 +49,7 @@ pub fn breaks_loop(program: &Program, frame: &Frame, instr: Instr) -> bool
 {
     match instr {
         Instr::Times(_) => {
-            match_at(code(program, frame), frame.pc).is_none() || frame.loops.len() >= 8
+            match_of(code(program, frame), frame.pc).is_none() || frame.loops.len() >= 8
         }
         Instr::Next => !closes_loop(code(program, frame), frame),
         _ => false,
@@ -91,7 +82,7 @@ fn is_empty(slot: Slot) -> bool
 }
 
 fn owners_slot(instr: Instr) -> Option<u8>
-    ensures { result ≡ misuse.owners_slot instr }
+    ensures { result ≡ facts.owners_slot instr }
 {
     match instr {
         Instr::Fork { slot, .. } | Instr::Join { slot, .. } => Some(slot),
@@ -101,7 +92,7 @@ fn owners_slot(instr: Instr) -> Option<u8>
 }
 
 fn subtask_slot(instr: Instr) -> Option<u8>
-    ensures { result ≡ misuse.subtask_slot instr }
+    ensures { result ≡ facts.subtask_slot instr }
 {
     match instr {
         Instr::Case { handle, .. } => Some(handle),
@@ -111,7 +102,7 @@ fn subtask_slot(instr: Instr) -> Option<u8>
 }
 
 fn filled_slot(instr: Instr) -> Option<u8>
-    ensures { result ≡ misuse.filled_slot instr }
+    ensures { result ≡ facts.filled_slot instr }
 {
     match instr {
         Instr::Open { slot, .. } => Some(slot),

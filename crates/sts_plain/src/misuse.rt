@@ -1,8 +1,9 @@
 //! Tests for misuse, and the fault that they find.
 
-ghost use Rattle.std.specs.Prelude.{◌≡◌, ◌<◌, length};
+ghost use Rattle.std.specs.Prelude.{◌≡◌, ◌<◌, length, true};
 ghost use Rattle.sts_model.specs.Living as living;
 ghost use Rattle.sts_model.specs.Misuse as misuse;
+ghost use Rattle.sts_code.specs.Facts as facts;
 ghost use Rattle.sts_model.specs.World as def;
 
 use crate::frame_tests::{
@@ -18,7 +19,7 @@ use sts_world::records::{Records, can_join};
 use sts_world::world::World;
 
 fn can_fail(joiner: Joiner) -> bool
-    ensures { result ≡ misuse.can_fail joiner }
+    ensures { result ≡ facts.can_fail joiner }
 {
     matches!(
         joiner,
@@ -194,7 +195,8 @@ fn fault_of(world: &World, program: &Program, t: u32, frame: &Frame, instr: Inst
 
 /// The fault that a step of this task would be, or none.
 pub fn misuse(world: &World, program: &Program, t: u32) -> Option<Fault>
-    requires { t < length world.now.tasks }
+    requires born { t < length world.now.tasks }
+    requires lives { living.lives (def.task_at world.now t) ≡ true }
     ensures { result ≡ misuse.misuse program.now world.now t }
 {
     let frame = world.records().frame(t);

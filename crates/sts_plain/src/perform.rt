@@ -32,7 +32,8 @@ fn named(slot: Slot) -> u32
 
 /// The scope or subtask that a slot of a task holds.
 fn at_slot(records: &Records, t: u32, x: u8) -> u32
-    requires { t < length records.now.tasks }
+    requires born { t < length records.now.tasks }
+    requires lives { living.lives (def.task_at records.now t) ≡ true }
     ensures { result ≡ effect.named (misuse.slot (def.task_at records.now t).frame x) }
 {
     named(slot(records.frame(t), x))
@@ -40,7 +41,8 @@ fn at_slot(records: &Records, t: u32, x: u8) -> u32
 
 /// The top operand.
 fn top(records: &Records, t: u32) -> i64
-    requires { t < length records.now.tasks }
+    requires born { t < length records.now.tasks }
+    requires lives { living.lives (def.task_at records.now t) ≡ true }
     ensures { result ≡ frames.operand (def.task_at records.now t).frame 0 }
 {
     records.frame(t).operand(0)
@@ -71,6 +73,7 @@ fn value_or_zero(records: &Records, sub: u32) -> i64
 /// Pops `n` operands, pushes a value and goes on.
 fn push_value(world: &mut World, t: u32, n: usize, value: i64)
     requires born { t < length world.old.tasks }
+    requires lives { living.lives (def.task_at world.old t) ≡ true }
     requires more { (def.task_at world.old t).frame.pc + 1 < 2 ^ 32 }
     requires room { length (def.task_at world.old t).frame.operands - n < 32 }
     ensures { world.new ≡ def.with_frame world.old t (frames.steps (def.task_at world.old t).frame n (value ∷ [])) }
@@ -124,15 +127,15 @@ fn perform(
             handle,
         } => {
             let s = at_slot(world.records(), t, slot);
-            world.fork_task(program, t, s, function, handle)
+            world.fork_task(alloc, program, t, s, function, handle)
         }
         Instr::Ret => {
             let value = top(world.records(), t);
-            world.end_task(t, End::Success(value))
+            world.end_task(alloc, t, End::Success(value))
         }
         Instr::Fail => {
             let code = top(world.records(), t);
-            world.end_task(t, End::Failed(code))
+            world.end_task(alloc, t, End::Failed(code))
         }
         _ => {
             change(world, program, t, instr);
@@ -144,6 +147,7 @@ fn perform(
 /// Does an instruction that takes no memory.
 fn change(world: &mut World, program: &Program, t: u32, instr: Instr)
     requires born { t < length world.old.tasks }
+    requires lives { living.lives (def.task_at world.old t) ≡ true }
     requires at { def.instr_at program.now (def.task_at world.old t).frame ≡ Some instr }
     requires more { (def.task_at world.old t).frame.pc + 1 < 2 ^ 32 }
     requires short { length (def.code program.now (def.task_at world.old t).frame) < 2 ^ 32 }

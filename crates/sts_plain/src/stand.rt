@@ -1,6 +1,7 @@
 //! Where a task stands, and whether it can step.
 
-ghost use Rattle.std.specs.Prelude.{◌≡◌, ◌<◌, length};
+ghost use Rattle.std.specs.Prelude.{◌≡◌, ◌<◌, length, true};
+ghost use Rattle.sts_model.specs.Living as living;
 ghost use Rattle.sts_model.specs.Waiting as waiting;
 ghost use Rattle.sts_model.specs.World as def;
 ghost use Rattle.sts_model.specs.declared.record.Slot.TheVariants.{Own};
@@ -16,7 +17,8 @@ use sts_world::world::World;
 
 /// Where the task stands.
 fn stand_at(world: &World, program: &Program, t: u32) -> Stand
-    requires { t < length world.now.tasks }
+    requires born { t < length world.now.tasks }
+    requires lives { living.lives (def.task_at world.now t) ≡ true }
     ensures { result ≡ waiting.stand_at program.now world.now t }
 {
     let frame = world.records().frame(t);

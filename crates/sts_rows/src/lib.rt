@@ -18,6 +18,8 @@ mod misuse;
 #[cfg(test)]
 mod profile_two;
 #[cfg(test)]
+mod program;
+#[cfg(test)]
 mod row;
 #[cfg(test)]
 mod scopes;

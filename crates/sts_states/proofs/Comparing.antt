@@ -10,17 +10,17 @@ use Rattle.sts_code.specs.declared.instr.Joiner.TheVariants.{Until}
 use Rattle.std.specs.contracts.prelude.BoolPartialEq.TheImpl as bool_eq
 use Rattle.sts_code.specs.contracts.instr.PredPartialEq.TheImpl as pred_eq
 use Rattle.sts_code.specs.contracts.instr.JoinerPartialEq.TheImpl as joiner_eq
-use Rattle.sts_model.specs.declared.typing.SlotKind.{SlotKind}
-use Rattle.sts_model.specs.declared.typing.TypedPhase.{TypedPhase}
-use Rattle.sts_model.specs.declared.typing.TypedScope.{TypedScope}
-use Rattle.sts_model.specs.declared.typing.TypedEntry.{TypedEntry}
-use Rattle.sts_model.specs.declared.typing.TypedEntry.TheVariants.{Scope, Binding}
-use Rattle.sts_model.specs.declared.typing.TypedLoop.{TypedLoop}
-use Rattle.sts_model.specs.contracts.typing.TypedLoopPartialEq.TheImpl as loop_eq
-use Rattle.sts_model.specs.contracts.typing.TypedPhasePartialEq.TheImpl as phase_eq
-use Rattle.sts_model.specs.contracts.typing.TypedScopePartialEq.TheImpl as scope_eq
-use Rattle.sts_model.specs.contracts.typing.TypedEntryPartialEq.TheImpl as entry_eq
-use Rattle.sts_model.specs.contracts.typing.SlotKindPartialEq.TheImpl as slot_eq
+use Rattle.sts_rules.specs.declared.typing.SlotKind.{SlotKind}
+use Rattle.sts_rules.specs.declared.typing.TypedPhase.{TypedPhase}
+use Rattle.sts_rules.specs.declared.typing.TypedScope.{TypedScope}
+use Rattle.sts_rules.specs.declared.typing.TypedEntry.{TypedEntry}
+use Rattle.sts_rules.specs.declared.typing.TypedEntry.TheVariants.{Scope, Binding}
+use Rattle.sts_rules.specs.declared.typing.TypedLoop.{TypedLoop}
+use Rattle.sts_rules.specs.contracts.typing.TypedLoopPartialEq.TheImpl as loop_eq
+use Rattle.sts_rules.specs.contracts.typing.TypedPhasePartialEq.TheImpl as phase_eq
+use Rattle.sts_rules.specs.contracts.typing.TypedScopePartialEq.TheImpl as scope_eq
+use Rattle.sts_rules.specs.contracts.typing.TypedEntryPartialEq.TheImpl as entry_eq
+use Rattle.sts_rules.specs.contracts.typing.SlotKindPartialEq.TheImpl as slot_eq
 
 -- the test decides equality
 abbrev pub IsSame : {X : Type 0} → (X → X → Bool) → Type 0

@@ -2,17 +2,18 @@
 
 ghost use Rattle.std.specs.Prelude.{◌≡◌, ◌<◌, ◌≤◌, ◌-◌, ◌+◌, ◌∷◌, length, drop, map, true, slice_set, slice_get, if◌then◌else◌, List, [], Some, IfSome};
 ghost use Rattle.sts_states.specs.Room.{HasRoom};
-ghost use Rattle.sts_model.specs.Around as around;
-ghost use Rattle.sts_model.specs.Edges as def;
-ghost use Rattle.sts_model.specs.Misuse as misuse;
-ghost use Rattle.sts_model.specs.TypeState as typed;
+ghost use Rattle.sts_rules.specs.Around as around;
+ghost use Rattle.sts_rules.specs.Edges as def;
+ghost use Rattle.sts_code.specs.Facts as facts;
+ghost use Rattle.sts_rules.specs.TypeState as typed;
 
 use crate::state::TypeState;
+use sts_code::facts::{pops, pushes};
 use sts_code::instr::{Instr, Joiner};
+use sts_code::limits::{MAX_ENTRIES, MAX_INSTRUCTIONS, MAX_LOOPS, MAX_OPERANDS};
 use sts_code::program::Program;
-use sts_model::operands::{pops, pushes};
 use sts_model::stack::Stack;
-use sts_model::typing::{Known, SlotKind, TypedEntry, TypedLoop, TypedPhase, TypedScope};
+use sts_rules::typing::{Known, SlotKind, TypedEntry, TypedLoop, TypedPhase, TypedScope};
 
 fn is_sub_of(slot: u8, kind: SlotKind) -> bool
     ensures { result ≡ def.is_sub_of slot kind }
@@ -117,7 +118,7 @@ fn is_all_success(joiner: Joiner) -> bool
 impl TypeState {
     /// The operands are popped and pushed.
     pub fn move_operands(&mut self, program: &Program, instr: Instr)
-        requires { self.old.height - misuse.pops program.now instr + misuse.pushes instr ≤ 32 }
+        requires { self.old.height - facts.pops program.now instr + facts.pushes instr ≤ MAX_OPERANDS }
         ensures { self.new ≡ def.moved program.now instr self.old }
     {
         self.height = self.height.saturating_sub(pops(program, instr)) + pushes(instr);
@@ -157,7 +158,7 @@ impl TypeState {
 
     /// The ok outcome of the `join` of the scope in this slot.
     fn join_ok(&mut self, slot: u8)
-        requires { self.old.height + def.ok_pushes (def.joiner_of (typed.scope_in self.old.entries slot)) ≤ 32 }
+        requires { self.old.height + def.ok_pushes (def.joiner_of (typed.scope_in self.old.entries slot)) ≤ MAX_OPERANDS }
         ensures { self.new ≡ def.after_ok slot (def.joiner_of (typed.scope_in self.old.entries slot)) self.old }
     {
         let joiner = joiner_of(self.scope_in(slot));
@@ -171,7 +172,7 @@ impl TypeState {
 
     /// The failed outcome of the `join`.
     pub fn join_failed(&mut self, slot: u8)
-        requires { self.old.height < 32 }
+        requires { self.old.height < MAX_OPERANDS }
         ensures { self.new ≡ def.raised 1 (def.with_phase slot TypedPhase.Joined self.old) }
     {
         self.set_phase(slot, TypedPhase::Joined);
@@ -180,8 +181,8 @@ impl TypeState {
 
     /// A `times` at `pc` makes a turn.
     fn enter(&mut self, program: &Program, pc: u32, instr: Instr)
-        requires room { self.old.height - misuse.pops program.now instr + misuse.pushes instr ≤ 32 }
-        requires loops { length self.old.loops < 8 }
+        requires room { self.old.height - facts.pops program.now instr + facts.pushes instr ≤ MAX_OPERANDS }
+        requires loops { length self.old.loops < MAX_LOOPS }
         ensures { self.new ≡ record (def.moved program.now instr self.old) { loops = record { at = pc; entries = length self.old.entries } ∷ self.old.loops } }
     {
         self.move_operands(program, instr);
@@ -190,7 +191,7 @@ impl TypeState {
     }
 
     fn open_scope(&mut self, slot: u8, joiner: Joiner, timed: bool)
-        requires { length self.old.entries < 16 }
+        requires { length self.old.entries < MAX_ENTRIES }
         ensures { self.new ≡ record self.old { entries = TypedEntry.Scope (record { slot = slot; joiner = joiner; timed = timed; phase = TypedPhase.Opened }) ∷ self.old.entries; slots = slice_set self.old.slots slot SlotKind.Own } }
     {
         self.entries.push(TypedEntry::Scope(TypedScope {
@@ -203,7 +204,7 @@ impl TypeState {
     }
 
     fn fork(&mut self, program: &Program, instr: Instr, slot: u8, handle: Option<u8>)
-        requires { self.old.height - misuse.pops program.now instr + misuse.pushes instr ≤ 32 }
+        requires { self.old.height - facts.pops program.now instr + facts.pushes instr ≤ MAX_OPERANDS }
         ensures { self.new ≡ def.with_slot handle (SlotKind.Sub slot Known.Unknown) (def.moved program.now instr self.old) }
     {
         self.move_operands(program, instr);
@@ -223,8 +224,8 @@ impl TypeState {
     }
 
     fn bind(&mut self, program: &Program, instr: Instr, key: u8)
-        requires room { self.old.height - misuse.pops program.now instr + misuse.pushes instr ≤ 32 }
-        requires entries { length self.old.entries < 16 }
+        requires room { self.old.height - facts.pops program.now instr + facts.pushes instr ≤ MAX_OPERANDS }
+        requires entries { length self.old.entries < MAX_ENTRIES }
         ensures { self.new ≡ record (def.moved program.now instr self.old) { entries = TypedEntry.Binding key ∷ self.old.entries } }
     {
         self.move_operands(program, instr);
@@ -233,7 +234,7 @@ impl TypeState {
 
     /// To the next instruction, where that may follow.
     pub fn step(&mut self, program: &Program, pc: u32, instr: Instr)
-        requires falls { around.falls_through instr ≡ true }
+        requires falls { facts.falls_through instr ≡ true }
         requires room { HasRoom program.now instr self.old }
         ensures { (code : List Instr) → slice_get (def.follows program.now code pc instr self.old) 0 ≡ Some (pc + 1, self.new) }
     {
@@ -260,10 +261,10 @@ impl TypeState {
     /// Where an instruction leads that has one edge and changes no more than the number of operands: the place, and the
     /// number there.
     pub fn moves_to(&self, program: &Program, pc: u32, instr: Instr) -> Option<(u32, u8)>
-        requires pc { pc < 4096 }
+        requires pc { pc < MAX_INSTRUCTIONS }
         requires room { HasRoom program.now instr self.now }
         ensures edge { (code : List Instr) → IfSome result (λ e. def.follows program.now code pc instr self.now ≡ (e.0, record self.now { height = e.1 }) ∷ []) }
-        ensures few { IfSome result (λ e. e.1 ≤ 32) }
+        ensures few { IfSome result (λ e. e.1 ≤ MAX_OPERANDS) }
     {
         match instr {
             Instr::Jmp(to) => Some((to, self.height)),

@@ -3,7 +3,7 @@
 ghost use Rattle.std.specs.Prelude.{◌≡◌, ◌↔◌, IsTrue, length, drop, reverse};
 
 use sts_model::stack::Stack;
-use sts_model::typing::{SlotKind, TypedEntry, TypedLoop};
+use sts_rules::typing::{SlotKind, TypedEntry, TypedLoop};
 
 /// The loops are those of another stack from now on.
 pub(crate) fn copy_loops(copy: &mut Stack<TypedLoop, 8>, stack: &Stack<TypedLoop, 8>)

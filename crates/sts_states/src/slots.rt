@@ -2,15 +2,15 @@
 
 ghost use Rattle.std.specs.Prelude.{◌≡◌, nat_le};
 ghost use Rattle.std.specs.List.{list_any};
-ghost use Rattle.sts_model.specs.Causes as def;
-ghost use Rattle.sts_model.specs.TypeState as typed;
+ghost use Rattle.sts_rules.specs.Causes as def;
+ghost use Rattle.sts_rules.specs.TypeState as typed;
 ghost use Rattle.sts_model.specs.Misuse as misuse;
 
 use crate::state::TypeState;
 use sts_code::instr::{Instr, Joiner};
 use sts_code::profile::Profile;
 use sts_model::stack::Stack;
-use sts_model::typing::{Known, SlotKind, TypedEntry, TypedLoop, TypedPhase, TypedScope};
+use sts_rules::typing::{Known, SlotKind, TypedEntry, TypedLoop, TypedPhase, TypedScope};
 
 pub fn is_empty(kind: SlotKind) -> bool
     ensures { result ≡ def.is_empty kind }
@@ -66,60 +66,6 @@ fn scope_in(entries: &Stack<TypedEntry, 16>, slot: u8) -> Option<TypedScope>
         }
     }
     None
-}
-
-/// The slot of an instruction that only the owner of a scope may do.
-pub fn owners_slot(instr: Instr) -> Option<u8>
-    ensures { result ≡ misuse.owners_slot instr }
-{
-    match instr {
-        Instr::Fork { slot, .. }
-        | Instr::Join { slot, .. }
-        | Instr::Close(slot)
-        | Instr::Tally(slot, _)
-        | Instr::Total(slot) => Some(slot),
-        _ => None,
-    }
-}
-
-/// The slot of an instruction on a subtask.
-pub fn subtask_slot(instr: Instr) -> Option<u8>
-    ensures { result ≡ misuse.subtask_slot instr }
-{
-    match instr {
-        Instr::Case { handle, .. }
-        | Instr::Get(handle)
-        | Instr::Except(handle)
-        | Instr::Forget(handle) => Some(handle),
-        _ => None,
-    }
-}
-
-/// The slot that an instruction fills.
-pub fn filled_slot(instr: Instr) -> Option<u8>
-    ensures { result ≡ misuse.filled_slot instr }
-{
-    match instr {
-        Instr::Open { slot, .. } => Some(slot),
-        Instr::Fork { handle, .. } => handle,
-        _ => None,
-    }
-}
-
-/// Can `join` fail under this joiner?
-pub fn can_fail(joiner: Joiner) -> bool
-    ensures { result ≡ misuse.can_fail joiner }
-{
-    matches!(
-        joiner,
-        Joiner::AllSucceed | Joiner::AwaitOk | Joiner::AnySucceeds
-    )
-}
-
-pub fn is_await_all(joiner: Joiner) -> bool
-    ensures { result ≡ misuse.is_await_all joiner }
-{
-    matches!(joiner, Joiner::AwaitAll)
 }
 
 pub fn is_opened(scope: TypedScope) -> bool

@@ -1,13 +1,14 @@
 //! Typestates.
 
 ghost use Rattle.std.specs.Prelude.{◌≡◌, ◌↔◌, ◌<◌, ◌≤◌, ◌+◌, ◌∷◌, IsTrue, length, drop, slice_set};
-ghost use Rattle.sts_model.specs.TypeState as def;
+ghost use Rattle.sts_rules.specs.TypeState as def;
 
 use crate::same::{are_same_entries, are_same_loops, are_same_slots, copy_entries, copy_loops};
 use std::marker::Model;
+use sts_code::limits::MAX_OPERANDS;
 use sts_code::program::Program;
 use sts_model::stack::Stack;
-use sts_model::typing::{SlotKind, TypedEntry, TypedLoop};
+use sts_rules::typing::{SlotKind, TypedEntry, TypedLoop};
 
 /// What the verifier knows of a task at an instruction: contracts see the number of operands, the open loops and the
 /// structure list, the innermost first, and what each slot holds.
@@ -21,7 +22,7 @@ pub struct TypeState {
 
 impl Model for TypeState {
     ghost use Rattle.std.specs.Prelude.{◌≤◌};
-    ghost use Rattle.sts_model.specs.TypeState.{TypeState};
+    ghost use Rattle.sts_rules.specs.TypeState.{TypeState};
 
     ghost Value = { TypeState };
 
@@ -65,7 +66,7 @@ impl TypeState {
     /// The number of operands.
     pub fn height(&self) -> u8
         ensures value { result ≡ self.now.height }
-        ensures few { result ≤ 32 }
+        ensures few { result ≤ MAX_OPERANDS }
     {
         self.height
     }
@@ -102,7 +103,7 @@ impl TypeState {
 
     /// So many operands are there from now on.
     pub fn set_height(&mut self, height: u8)
-        requires { height ≤ 32 }
+        requires { height ≤ MAX_OPERANDS }
         ensures { self.new ≡ record self.old { height = height } }
     {
         self.height = height;

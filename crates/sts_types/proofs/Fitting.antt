@@ -2,12 +2,12 @@
 use Rattle.std.proofs.Common.{◌≡◌, ℕ, Bool, true, false, Option, Some, None, cond, refl, ap, ◌∙◌, is_some, List}
 use Rattle.sts_code.specs.Program.{Program, routine}
 use Rattle.sts_code.specs.declared.instr.Instr.{Instr}
-use Rattle.sts_model.specs.declared.typing.Cause.{Cause}
-use Rattle.sts_model.specs.declared.typing.Cause.TheVariants.{StackUnder, StackOver, FallsOff, BackJump, LoopMismatch, LoopDepth, SlotKind, SlotBusy, WrongThread, IllegalState, Structure, Nesting, Unbound, JoinEdges}
-use Rattle.sts_model.specs.TypeState.{TypeState}
-use Rattle.sts_model.specs.Causes.{holds, least_cause}
-use Rattle.sts_model.specs.Causes as test
-use Rattle.sts_model.specs.Fits.{Fits}
+use Rattle.sts_rules.specs.declared.typing.Cause.{Cause}
+use Rattle.sts_rules.specs.declared.typing.Cause.TheVariants.{StackUnder, StackOver, FallsOff, BackJump, LoopMismatch, LoopDepth, SlotKind, SlotBusy, WrongThread, IllegalState, Structure, Nesting, Unbound, JoinEdges}
+use Rattle.sts_rules.specs.TypeState.{TypeState}
+use Rattle.sts_rules.specs.Causes.{holds, least_cause}
+use Rattle.sts_rules.specs.Causes as test
+use Rattle.sts_rules.specs.Fits.{Fits}
 
 -- where the first is not found, the rest is looked through
 none_here : (b : Bool) (c : Cause) (rest : Option Cause) → cond b (Some c) rest ≡ None → (b ≡ false) × (rest ≡ None)

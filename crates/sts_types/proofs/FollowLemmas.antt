@@ -5,9 +5,9 @@ use Rattle.std.proofs.lemmas.Option.{slice_get_within, slice_get_cases, get_or_f
 use Rattle.sts_code.specs.Program.{Program}
 use Rattle.sts_code.specs.declared.instr.Instr.{Instr}
 use Rattle.sts_code.specs.declared.instr.Instr.TheVariants.{Times, Join}
-use Rattle.sts_model.specs.Local.{match_of}
-use Rattle.sts_model.specs.TypeState.{TypeState}
-use Rattle.sts_model.specs.Edges.{follows, moved}
+use Rattle.sts_code.specs.Loops.{match_of}
+use Rattle.sts_rules.specs.TypeState.{TypeState}
+use Rattle.sts_rules.specs.Edges.{follows, moved}
 
 -- the next one is there
 pub take_there : {X : Type 0} (xs : List X) (n : ℕ) (x : X) → slice_get xs n ≡ Some x → take (n + 1) xs ≡ take n xs ++ x ∷ []

@@ -1,20 +1,20 @@
 -- The edges of instructions go forward and stay inside the function.
 use Rattle.std.proofs.Common.{◌≡◌, ℕ, ◌+◌, ◌<◌, ◌≤◌, ◌⊎◌, inl, inr, Bool, true, false, ◌||◌, not, List, [], ◌∷◌, ◌++◌, map, Option, Some, None, option_map, option_to_list, slice_get, Ok, leb, cond, eqb-true, leb-false, refl, sym, ap, subst, arith}
 use Rattle.std.specs.List.{list_any}
-use Rattle.sts_code.specs.Program.{Program, routine}
+use Rattle.sts_code.specs.Program.{Program, routine, instr_at}
 use Rattle.sts_code.specs.declared.instr.Instr.{Instr}
 use Rattle.sts_code.specs.declared.instr.Instr.TheVariants.{Div, Jmp, Jz, Times, Next, Join, Case, Ret, Fail}
-use Rattle.sts_model.specs.declared.typing.Cause.{Cause}
-use Rattle.sts_model.specs.declared.typing.TypedLoop.{TypedLoop}
-use Rattle.sts_model.specs.Local.{match_of}
-use Rattle.sts_model.specs.Misuse.{is_at}
-use Rattle.sts_model.specs.TypeState.{TypeState}
-use Rattle.sts_model.specs.Around.{instr_at, named, next_place, skipped_to, falls_through}
-use Rattle.sts_model.specs.Causes.{closes_loop}
-use Rattle.sts_model.specs.Edges.{follows, to_optional, moved, or_cause, back_of, typing}
-use Rattle.sts_model.specs.Fits.{Fits}
-use Rattle.sts_model.specs.Flow.{Leads}
-use Rattle.sts_model.specs.Refusal.{size}
+use Rattle.sts_rules.specs.declared.typing.Cause.{Cause}
+use Rattle.sts_rules.specs.declared.typing.TypedLoop.{TypedLoop}
+use Rattle.sts_code.specs.Loops.{match_of, is_at}
+use Rattle.sts_rules.specs.TypeState.{TypeState}
+use Rattle.sts_rules.specs.Around.{next_place, skipped_to}
+use Rattle.sts_code.specs.Facts.{targets, falls_through}
+use Rattle.sts_rules.specs.Causes.{closes_loop}
+use Rattle.sts_rules.specs.Edges.{follows, to_optional, moved, or_cause, back_of, typing}
+use Rattle.sts_rules.specs.Fits.{Fits}
+use Rattle.sts_rules.specs.Flow.{Leads}
+use Rattle.sts_rules.specs.Refusal.{size}
 use Rattle.sts_types.proofs.Fitting.{fits}
 use Rattle.sts_types.proofs.FollowLemmas.{at_place}
 use Rattle.sts_loops.proofs.Matching.{ends}
@@ -50,7 +50,7 @@ none_passes test (x ∷ xs) to e (inr m) = none_passes test xs to (rest_passes (
 
 -- where an instruction leads: to a place that it names, to the next, or past its loop
 abbrev pub LeadsTo : List Instr → ℕ → Instr → ℕ → Type 0
-LeadsTo code pc i to = Among (named i) to ⊎ (((pc + 1 ≡ to) × (falls_through i ≡ true)) ⊎ Among (skipped_to code pc i) to)
+LeadsTo code pc i to = Among (targets i) to ⊎ (((pc + 1 ≡ to) × (falls_through i ≡ true)) ⊎ Among (skipped_to code pc i) to)
 
 pub leads_among : (xs : List ℕ) (s : TypeState) (to : ℕ) (x : TypeState) → Leads (map (at_place s) xs) to x → Among xs to
 leads_among [] s to x m = elim m [ ]
@@ -119,17 +119,17 @@ pub next_among : (pc : ℕ) (i : Instr) (to : ℕ) → (pc + 1 ≡ to) × (falls
 next_among pc i to h = subst (λ xs. Among xs to) (ap (λ b. cond b ((pc + 1) ∷ []) []) (sym h.1)) (inl h.0)
 
 leads_up : (p : Program) (f pc : ℕ) (i : Instr) (s : TypeState) (to : ℕ) → Fits p f pc i s → LeadsTo (routine p f).code pc i to → (pc < to) × (to < size p f)
-leads_up p f pc i s to fit m = (after m, leb-false (size p f) to (none_passes (leb (size p f)) (named i ++ next_place pc i ++ skipped_to (routine p f).code pc i) to fit.inside (all m)))
+leads_up p f pc i s to fit m = (after m, leb-false (size p f) to (none_passes (leb (size p f)) (targets i ++ next_place pc i ++ skipped_to (routine p f).code pc i) to fit.inside (all m)))
   where
     after : LeadsTo (routine p f).code pc i to → pc < to
-    after (inl m) = past_pc pc to (none_passes (λ t. leb t pc) (named i) to fit.forward m)
+    after (inl m) = past_pc pc to (none_passes (λ t. leb t pc) (targets i) to fit.forward m)
     after (inr (inl h)) = omega (arith, h.0)
     after (inr (inr m)) = skip_after (routine p f).code pc i to m
 
-    all : LeadsTo (routine p f).code pc i to → Among (named i ++ next_place pc i ++ skipped_to (routine p f).code pc i) to
-    all (inl m) = among_left (named i ++ next_place pc i) (skipped_to (routine p f).code pc i) to (among_left (named i) (next_place pc i) to m)
-    all (inr (inl h)) = among_left (named i ++ next_place pc i) (skipped_to (routine p f).code pc i) to (among_right (named i) (next_place pc i) to (next_among pc i to h))
-    all (inr (inr m)) = among_right (named i ++ next_place pc i) (skipped_to (routine p f).code pc i) to m
+    all : LeadsTo (routine p f).code pc i to → Among (targets i ++ next_place pc i ++ skipped_to (routine p f).code pc i) to
+    all (inl m) = among_left (targets i ++ next_place pc i) (skipped_to (routine p f).code pc i) to (among_left (targets i) (next_place pc i) to m)
+    all (inr (inl h)) = among_left (targets i ++ next_place pc i) (skipped_to (routine p f).code pc i) to (among_right (targets i) (next_place pc i) to (next_among pc i to h))
+    all (inr (inr m)) = among_right (targets i ++ next_place pc i) (skipped_to (routine p f).code pc i) to m
 
 pub or_cause_ok : (o : Option Cause) (es out : List (ℕ × TypeState)) → or_cause o es ≡ Ok out → (o ≡ None) × (es ≡ out)
 or_cause_ok None es out e = (refl, cc)

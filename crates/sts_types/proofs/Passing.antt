@@ -4,7 +4,7 @@ use Rattle.std.proofs.lemmas.Bool.{cases_eq, cases_lt}
 use Rattle.sts_types.specs.declared.arrival.Arrival.{Arrival}
 use Rattle.sts_types.specs.declared.arrival.Arrival.TheVariants.{Nothing, One, Several}
 use Rattle.sts_types.specs.Arrivals.{Merged, Arrive}
-use Rattle.sts_model.specs.Flow.{Flow, Leads, Reaches, first, then, IsAlone, TurnDiffers, TurnKeeps, IsClear, HasCause, dead, two, edge, turn}
+use Rattle.sts_rules.specs.Flow.{Flow, Leads, Reaches, first, then, IsAlone, TurnDiffers, TurnKeeps, IsClear, HasCause, dead, two, edge, turn}
 
 -- what stands for the states P
 abbrev pub Stands : {S : Type 0} → (S → Type 0) → Arrival S → Type 0

@@ -2,20 +2,21 @@
 use Rattle.std.proofs.Common.{◌≡◌, ℕ, ◌<◌, ◌⊎◌, inl, inr, Bool, true, false, ◌||◌, not, List, [], ◌∷◌, ◌++◌, map, drop, Option, Some, None, Ok, bytes_eq, refl, sym, ap, ◌∙◌, subst}
 use Rattle.std.specs.List.{list_any}
 use lib.Pointwise.{bytes_decides}
-use Rattle.sts_code.specs.Program.{Program, routine}
+use Rattle.sts_code.specs.Program.{Program, routine, instr_at}
 use Rattle.sts_code.specs.Checks.{program_fault}
 use Rattle.sts_code.specs.declared.instr.Instr.{Instr}
 use Rattle.sts_code.specs.declared.instr.Instr.TheVariants.{Div, Jz, Times, Next, Fork, Join, Case, Ret, Fail}
-use Rattle.sts_model.specs.declared.typing.TypedLoop.{TypedLoop}
-use Rattle.sts_model.specs.TypeState.{TypeState, heads}
-use Rattle.sts_model.specs.Around.{instr_at, named, next_place, skipped_to, around, open_after}
-use Rattle.sts_model.specs.Causes.{is_unmatched, is_other_loop}
-use Rattle.sts_model.specs.Edges.{follows, moved, typing, to_optional}
-use Rattle.sts_model.specs.Fits.{Fits}
-use Rattle.sts_model.specs.Flow.{Leads, Reaches, first, then}
-use Rattle.sts_model.specs.Promises.{TypingPromises}
-use Rattle.sts_model.specs.Refusal.{size, IsAccepted}
-use Rattle.sts_model.proofs.Short.{has_code}
+use Rattle.sts_rules.specs.declared.typing.TypedLoop.{TypedLoop}
+use Rattle.sts_rules.specs.TypeState.{TypeState, heads}
+use Rattle.sts_rules.specs.Around.{next_place, skipped_to, around, open_after}
+use Rattle.sts_code.specs.Facts.{targets}
+use Rattle.sts_rules.specs.Causes.{is_unmatched, is_other_loop}
+use Rattle.sts_rules.specs.Edges.{follows, moved, typing, to_optional}
+use Rattle.sts_rules.specs.Fits.{Fits}
+use Rattle.sts_rules.specs.Flow.{Leads, Reaches, first, then}
+use Rattle.sts_rules.specs.Promises.{TypingPromises}
+use Rattle.sts_rules.specs.Refusal.{size, IsAccepted}
+use Rattle.sts_code.proofs.LimitLemmas.{has_code}
 use Rattle.sts_types.proofs.Fitting.{fits}
 use Rattle.sts_types.proofs.FollowLemmas.{at_place}
 use Rattle.sts_types.proofs.Laws.{Among, LeadsTo, among_left, among_right, next_among, none_passes, follow_leads, leads_among, or_cause_ok, laws}
@@ -42,12 +43,12 @@ keep_join loops (Some f) (Some t) a b c i x y z = (x, (y, (z, tt)))
 
 -- what an edge leaves open: what the code says of its place
 abbrev OpensAt : List Instr → ℕ → Instr → List ℕ → ℕ → List ℕ → Type 0
-OpensAt code pc i before to after = (Among (named i ++ skipped_to code pc i) to × (after ≡ before)) ⊎ (Among (next_place pc i) to × (after ≡ open_after pc i before))
+OpensAt code pc i before to after = (Among (targets i ++ skipped_to code pc i) to × (after ≡ before)) ⊎ (Among (next_place pc i) to × (after ≡ open_after pc i before))
 
 plain : (code : List Instr) (pc : ℕ) (i : Instr) (loops : List ℕ) (to : ℕ) (x : TypeState) → open_after pc i loops ≡ loops → LeadsTo code pc i to → heads x.loops ≡ loops → OpensAt code pc i loops to (heads x.loops)
-plain code pc i loops to x same (inl m) k = inl (among_left (named i) (skipped_to code pc i) to m, k)
+plain code pc i loops to x same (inl m) k = inl (among_left (targets i) (skipped_to code pc i) to m, k)
 plain code pc i loops to x same (inr (inl h)) k = inr (next_among pc i to h, k ∙ sym same)
-plain code pc i loops to x same (inr (inr m)) k = inl (among_right (named i) (skipped_to code pc i) to m, k)
+plain code pc i loops to x same (inr (inr m)) k = inl (among_right (targets i) (skipped_to code pc i) to m, k)
 
 heads_dropped : (loops : List TypedLoop) → heads (drop 1 loops) ≡ drop 1 (heads loops)
 heads_dropped [] = refl
@@ -84,8 +85,8 @@ not_other code loops to e = (bytes_decides (around code to) loops).0 (by (bytes_
 opened : (p : Program) (f pc : ℕ) (i : Instr) (s : TypeState) (to : ℕ) (after : List ℕ) → Fits p f pc i s → OpensAt (routine p f).code pc i (heads s.loops) to after → after ≡ around (routine p f).code to
 opened p f pc i s to after fit o = by (neither _ _ fit.loops) o
   where
-    by : (is_unmatched (routine p f).code pc i s || list_any (is_other_loop (routine p f).code (heads s.loops)) (named i ++ skipped_to (routine p f).code pc i) ≡ false) × (list_any (is_other_loop (routine p f).code (open_after pc i (heads s.loops))) (next_place pc i) ≡ false) → OpensAt (routine p f).code pc i (heads s.loops) to after → after ≡ around (routine p f).code to
-    by h (inl m) = m.1 ∙ sym (not_other (routine p f).code (heads s.loops) to (none_passes (is_other_loop (routine p f).code (heads s.loops)) (named i ++ skipped_to (routine p f).code pc i) to (neither (is_unmatched (routine p f).code pc i s) _ h.0).1 m.0))
+    by : (is_unmatched (routine p f).code pc i s || list_any (is_other_loop (routine p f).code (heads s.loops)) (targets i ++ skipped_to (routine p f).code pc i) ≡ false) × (list_any (is_other_loop (routine p f).code (open_after pc i (heads s.loops))) (next_place pc i) ≡ false) → OpensAt (routine p f).code pc i (heads s.loops) to after → after ≡ around (routine p f).code to
+    by h (inl m) = m.1 ∙ sym (not_other (routine p f).code (heads s.loops) to (none_passes (is_other_loop (routine p f).code (heads s.loops)) (targets i ++ skipped_to (routine p f).code pc i) to (neither (is_unmatched (routine p f).code pc i s) _ h.0).1 m.0))
     by h (inr m) = m.1 ∙ sym (not_other (routine p f).code (open_after pc i (heads s.loops)) to (none_passes (is_other_loop (routine p f).code (open_after pc i (heads s.loops))) (next_place pc i) to h.1 m.0))
 
 pub loops_around : (p : Program) (f pc : ℕ) (s : TypeState) → Reaches (typing p f) pc s → heads s.loops ≡ around (routine p f).code pc

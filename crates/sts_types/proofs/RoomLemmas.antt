@@ -5,14 +5,14 @@ use Rattle.sts_code.specs.declared.instr.Instr.{Instr}
 use Rattle.sts_code.specs.declared.instr.Instr.TheVariants.{Join}
 use Rattle.sts_code.specs.declared.instr.Joiner.{Joiner}
 use Rattle.sts_code.specs.declared.instr.Joiner.TheVariants.{AllSucceed, AnySucceeds, AwaitOk, AwaitAll, Until}
-use Rattle.sts_model.specs.declared.typing.SlotKind.{SlotKind}
-use Rattle.sts_model.specs.declared.typing.SlotKind.TheVariants.{Empty, Own, Lent, Sub}
-use Rattle.sts_model.specs.declared.typing.TypedScope.{TypedScope}
-use Rattle.sts_model.specs.Misuse.{pops, pushes, can_fail, is_await_all, same}
-use Rattle.sts_model.specs.TypeState.{TypeState, kind, scope_in}
-use Rattle.sts_model.specs.Causes.{is_own, is_lent, passes, can_join, join_overflows}
-use Rattle.sts_model.specs.Edges.{joiner_of, ok_pushes}
-use Rattle.sts_model.specs.Fits.{Fits}
+use Rattle.sts_rules.specs.declared.typing.SlotKind.{SlotKind}
+use Rattle.sts_rules.specs.declared.typing.SlotKind.TheVariants.{Empty, Own, Lent, Sub}
+use Rattle.sts_rules.specs.declared.typing.TypedScope.{TypedScope}
+use Rattle.sts_code.specs.Facts.{pops, pushes, can_fail, is_await_all, same}
+use Rattle.sts_rules.specs.TypeState.{TypeState, kind, scope_in}
+use Rattle.sts_rules.specs.Causes.{is_own, is_lent, passes, can_join, join_overflows}
+use Rattle.sts_rules.specs.Edges.{joiner_of, ok_pushes}
+use Rattle.sts_rules.specs.Fits.{Fits}
 use Rattle.sts_states.specs.Room.{HasRoom, JoinHasRoom}
 
 neither : (a b : Bool) → a || b ≡ false → (a ≡ false) × (b ≡ false)

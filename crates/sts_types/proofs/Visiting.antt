@@ -2,17 +2,16 @@
 use Rattle.std.proofs.Common.{◌≡◌, ◌≢◌, ℕ, ◌+◌, ◌<◌, ◌≤◌, ◌↔◌, IsTrue, IfSome, Bool, true, false, List, length, Option, Some, None, Ok, Err, get_or, set, replicate, refl, sym, ap, ◌∙◌, subst, arith, get_or-set_same, get_or-set_other, length-set}
 use Rattle.std.specs.List.{All}
 use Rattle.std.proofs.lemmas.List.{get_or_default, length-replicate, get_or-replicate}
-use Rattle.sts_code.specs.Program.{Program, routine}
+use Rattle.sts_code.specs.Program.{Program, routine, instr_at}
 use Rattle.sts_code.specs.declared.instr.Instr.{Instr}
 use Rattle.sts_code.specs.declared.instr.Instr.TheVariants.{Ret}
-use Rattle.sts_model.specs.declared.typing.Cause.{Cause}
-use Rattle.sts_model.specs.declared.typing.Cause.TheVariants.{StatesDiffer, DeadCode}
-use Rattle.sts_model.specs.TypeState.{TypeState, entry}
-use Rattle.sts_model.specs.Around.{instr_at}
-use Rattle.sts_model.specs.Causes.{least_cause}
-use Rattle.sts_model.specs.Edges.{edges, follows, or_cause, back_of, typing}
-use Rattle.sts_model.specs.Flow.{TurnKeeps}
-use Rattle.sts_model.specs.Refusal.{size, IsTypeRefusal}
+use Rattle.sts_rules.specs.declared.typing.Cause.{Cause}
+use Rattle.sts_rules.specs.declared.typing.Cause.TheVariants.{StatesDiffer, DeadCode}
+use Rattle.sts_rules.specs.TypeState.{TypeState, entry}
+use Rattle.sts_rules.specs.Causes.{least_cause}
+use Rattle.sts_rules.specs.Edges.{edges, follows, or_cause, back_of, typing}
+use Rattle.sts_rules.specs.Flow.{TurnKeeps}
+use Rattle.sts_rules.specs.Refusal.{size, IsTypeRefusal}
 use Rattle.sts_types.specs.declared.arrival.Arrival.{Arrival}
 use Rattle.sts_types.specs.declared.arrival.Arrival.TheVariants.{Nothing, One, Several}
 use Rattle.sts_types.specs.Arrivals.{Arrive, filled}

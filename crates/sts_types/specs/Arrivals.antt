@@ -1,6 +1,7 @@
 -- What a table keeps of the states that arrive at its places: at most one state a place (this project's own).
 use Rattle.std.specs.Prelude.{◌≡◌, ◌≢◌, ◌<◌, ◌≤◌, ℕ, ◌⊎◌, List, [], ◌∷◌, Option, Some, None, slice_index_or, slice_set}
-use Rattle.sts_model.specs.TypeState.{TypeState}
+use Rattle.sts_code.specs.declared.limits.TheConstants.{MAX_OPERANDS}
+use Rattle.sts_rules.specs.TypeState.{TypeState}
 use Rattle.sts_types.specs.declared.arrival.Arrival.{Arrival}
 use Rattle.sts_types.specs.declared.arrival.Arrival.TheVariants.{Nothing, One, Several}
 use Rattle.sts_types.specs.declared.arrivals.Mark.{Mark}
@@ -46,7 +47,7 @@ arrival_of kept Several = Several
 
 -- a mark stands for one of so many, with no more than 32 operands
 abbrev pub IsMarked : ℕ → Arrival Mark → Type 0
-IsMarked n (One m) = (m.like < n) × (m.height ≤ 32)
+IsMarked n (One m) = (m.like < n) × (m.height ≤ MAX_OPERANDS)
 IsMarked n _ = Unit {0}
 
 -- the one that arrived is this

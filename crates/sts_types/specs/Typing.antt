@@ -1,7 +1,7 @@
 -- What the typing of a function tells (this project's own).
 use Rattle.std.specs.Prelude.{ℕ}
 use Rattle.sts_code.specs.Program.{Program}
-use Rattle.sts_model.specs.Refusal.{IsTypeRefusal}
+use Rattle.sts_rules.specs.Refusal.{IsTypeRefusal}
 use Rattle.sts_types.specs.declared.pass.TypeError.{TypeError}
 use Rattle.sts_types.specs.declared.pass.TypeError.TheVariants.{Memory, Refused}
 

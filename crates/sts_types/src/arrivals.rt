@@ -1,20 +1,18 @@
 //! What has arrived at each place of a function, kept in little memory.
 
 ghost use Rattle.std.specs.Prelude.{◌≡◌, ◌<◌, ◌≤◌, ◌↔◌, ◌++◌, List, length, replicate, slice_get, slice_index_or, slice_set, option_to_list, All, IfOk, OnOk, IsTrue};
-ghost use Rattle.sts_model.specs.Around as around;
-ghost use Rattle.sts_model.specs.Edges as def;
-ghost use Rattle.sts_model.specs.TypeState.{TypeState};
-ghost use Rattle.sts_states.specs.Room.{HasRoom};
+ghost use Rattle.sts_rules.specs.Edges as def;
+ghost use Rattle.sts_rules.specs.TypeState.{TypeState};
+ghost use Rattle.sts_types.specs.Site.{IsSite, HasRoomAt, follows_at};
 ghost use Rattle.sts_types.specs.Arrivals.{Merged, ArriveAt, IsMarked, arrival_of, at_height, filled, none, state_of, IsAtStart};
 
 use crate::arrival::Arrival;
 use crate::follow::edge;
+use crate::site::Site;
 use std::alloc::{AllocError, Global};
 use std::marker::Model;
-use sts_code::instr::Instr;
-use sts_code::program::Program;
-use sts_loops::loops::CodeLoops;
-use sts_model::fill::filled;
+use sts_code::limits::MAX_OPERANDS;
+use sts_rules::fill::filled;
 use sts_states::state::TypeState;
 
 /// A typestate that arrived: its number of operands, and which of those that are kept is like it but for that number.
@@ -170,7 +168,7 @@ impl Arrivals {
     /// The typestate at hand arrives at a place, with another number of operands.
     pub(crate) fn arrive_moved(&mut self, place: u32, height: u8)
         requires place { place < length self.old.table }
-        requires few { height ≤ 32 }
+        requires few { height ≤ MAX_OPERANDS }
         ensures table { (b : Arrival TypeState) × (Merged (slice_index_or self.old.table place Arrival.Nothing) (at_height height self.old.state) b × (self.new.table ≡ slice_set self.old.table place b)) }
         ensures state { self.new.state ≡ self.old.state }
         ensures start { self.new.start ≡ self.old.start }
@@ -185,23 +183,14 @@ impl Arrivals {
     }
 
     /// The typestate at hand goes along an edge of an instruction, by number from 0, and arrives where that leads.
-    pub(crate) fn arrive_along(
-        &mut self,
-        program: &Program,
-        loops: &CodeLoops<'_>,
-        pc: u32,
-        instr: Instr,
-        skip: Option<u32>,
-        number: usize,
-    ) -> Result<(), AllocError>
-        requires inside { pc < length loops.now }
-        requires skip { option_to_list skip ≡ around.skipped_to loops.now pc instr }
-        requires room { HasRoom program.now instr self.old.state }
-        requires places { All (λ e. e.0 < length self.old.table) (def.follows program.now loops.now pc instr self.old.state) }
-        ensures table { OnOk result (ArriveAt self.old.table (slice_get (def.follows program.now loops.now pc instr self.old.state) number) self.new.table) }
+    pub(crate) fn arrive_along(&mut self, site: &Site<'_>, number: usize) -> Result<(), AllocError>
+        requires site { IsSite site.now }
+        requires room { HasRoomAt site.now self.old.state }
+        requires places { All (λ e. e.0 < length self.old.table) (follows_at site.now self.old.state) }
+        ensures table { OnOk result (ArriveAt self.old.table (slice_get (follows_at site.now self.old.state) number) self.new.table) }
         ensures start { self.new.start ≡ self.old.start }
     {
-        if let Some(to) = edge(program, loops, pc, instr, &mut self.state, skip, number) {
+        if let Some(to) = edge(site, &mut self.state, number) {
             match keep(&mut self.kept, self.like, &self.state) {
                 Ok(like) => self.like = like,
                 Err(error) => {

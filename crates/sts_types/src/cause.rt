@@ -2,17 +2,20 @@
 
 ghost use Rattle.std.specs.Prelude.{◌≡◌, not, ◌&&◌, ◌||◌, is_some};
 ghost use Rattle.std.specs.List.{list_any, range_with_len};
-ghost use Rattle.sts_model.specs.Causes as def;
-ghost use Rattle.sts_model.specs.Misuse as misuse;
+ghost use Rattle.sts_rules.specs.Causes as def;
+ghost use Rattle.sts_code.specs.Facts as facts;
 
+use sts_code::facts::{
+    can_fail, filled_slot, is_await_all, owners_slot, pops, pushes, subtask_slot,
+};
 use sts_code::instr::Instr;
+use sts_code::limits::{MAX_ENTRIES, MAX_LOOPS, MAX_OPERANDS};
 use sts_code::profile::Profile;
 use sts_code::program::Program;
-use sts_model::operands::{pops, pushes};
-use sts_model::typing::{SlotKind, TypedEntry, TypedScope};
+use sts_rules::typing::{SlotKind, TypedEntry, TypedScope};
 use sts_states::slots::{
-    can_fail, can_join, filled_slot, is_await_all, is_binding, is_empty, is_failed, is_lent,
-    is_opened, is_own, is_readable, is_scope_in, is_sub, is_success, owners_slot, subtask_slot,
+    can_join, is_binding, is_empty, is_failed, is_lent, is_opened, is_own, is_readable,
+    is_scope_in, is_sub, is_success,
 };
 use sts_states::state::TypeState;
 
@@ -26,7 +29,7 @@ pub(crate) fn lacks_operands(program: &Program, instr: Instr, state: &TypeState)
 
 /// Does the answer of this scope's `join` take room?
 fn answers(scope: Option<TypedScope>) -> bool
-    ensures { result ≡ def.passes (λ scope. not (misuse.is_await_all scope.joiner)) scope }
+    ensures { result ≡ def.passes (λ scope. not (facts.is_await_all scope.joiner)) scope }
 {
     match scope {
         None => false,
@@ -39,7 +42,9 @@ fn join_overflows(state: &TypeState, instr: Instr) -> bool
 {
     match instr {
         Instr::Join { slot, .. } => {
-            32 <= state.height() && is_own(state.kind(slot)) && answers(state.scope_in(slot))
+            MAX_OPERANDS <= state.height()
+                && is_own(state.kind(slot))
+                && answers(state.scope_in(slot))
         }
         _ => false,
     }
@@ -49,20 +54,20 @@ pub(crate) fn overflows(program: &Program, instr: Instr, state: &TypeState) -> b
     ensures { result ≡ def.overflows program.now instr state.now }
 {
     let left = state.height().saturating_sub(pops(program, instr));
-    32 < left + pushes(instr) || join_overflows(state, instr)
+    MAX_OPERANDS < left + pushes(instr) || join_overflows(state, instr)
 }
 
 pub(crate) fn is_too_deep(instr: Instr, state: &TypeState) -> bool
     ensures { result ≡ def.is_too_deep instr state.now }
 {
-    matches!(instr, Instr::Times(_)) && 8 <= state.loops().len()
+    matches!(instr, Instr::Times(_)) && MAX_LOOPS <= state.loops().len()
 }
 
 // ---- V9 to V11
 
 /// Does the slot that only an owner may use hold no scope?
 fn has_no_scope(instr: Instr, state: &TypeState) -> bool
-    ensures { result ≡ def.at_slot state.now (misuse.owners_slot instr) (λ k. not (def.is_own k || def.is_lent k)) }
+    ensures { result ≡ def.at_slot state.now (facts.owners_slot instr) (λ k. not (def.is_own k || def.is_lent k)) }
 {
     match owners_slot(instr) {
         None => false,
@@ -74,7 +79,7 @@ fn has_no_scope(instr: Instr, state: &TypeState) -> bool
 }
 
 fn has_no_subtask(instr: Instr, state: &TypeState) -> bool
-    ensures { result ≡ def.at_slot state.now (misuse.subtask_slot instr) (λ k. not (def.is_sub k)) }
+    ensures { result ≡ def.at_slot state.now (facts.subtask_slot instr) (λ k. not (def.is_sub k)) }
 {
     match subtask_slot(instr) {
         None => false,
@@ -216,7 +221,7 @@ pub(crate) fn breaks_structure(instr: Instr, state: &TypeState) -> bool
 pub(crate) fn is_nested(instr: Instr, state: &TypeState) -> bool
     ensures { result ≡ def.is_nested instr state.now }
 {
-    matches!(instr, Instr::Open { .. } | Instr::Bind(_)) && 16 <= state.entries().len()
+    matches!(instr, Instr::Open { .. } | Instr::Bind(_)) && MAX_ENTRIES <= state.entries().len()
 }
 
 fn needs(program: &Program, function: u32, key: u8) -> bool
@@ -270,7 +275,7 @@ pub(crate) fn is_unbound(program: &Program, function: u32, instr: Instr, state: 
 
 /// Do the targets not fit the scope?
 fn misfits(failed: Option<u32>, timeout: Option<u32>, scope: Option<TypedScope>) -> bool
-    ensures { result ≡ def.passes (λ scope. not (misuse.same (is_some failed) (misuse.can_fail scope.joiner)) || not (misuse.same (is_some timeout) scope.timed)) scope }
+    ensures { result ≡ def.passes (λ scope. not (facts.same (is_some failed) (facts.can_fail scope.joiner)) || not (facts.same (is_some timeout) scope.timed)) scope }
 {
     match scope {
         None => false,

@@ -1,17 +1,17 @@
 //! The edges of an instruction, or the least cause that holds there.
 
 ghost use Rattle.std.specs.Prelude.{◌≡◌, ◌<◌, length, MatchResult, Ok, Err};
-ghost use Rattle.sts_model.specs.Edges as def;
-ghost use Rattle.sts_model.specs.Refusal.{size};
+ghost use Rattle.sts_rules.specs.Edges as def;
+ghost use Rattle.sts_rules.specs.Refusal.{size};
 
 use crate::follow::{Edges, all_edges};
 use crate::leads::skip;
 use crate::least::least_cause;
-use sts_code::instr::Instr;
+use crate::site::Site;
+use sts_code::code::code_of;
 use sts_code::program::Program;
 use sts_loops::loops::CodeLoops;
-use sts_model::code::code_of;
-use sts_model::typing::Cause;
+use sts_rules::typing::Cause;
 use sts_states::state::TypeState;
 
 /// The edges of the instruction at a place of one of the program's functions, or the least cause that holds there.
@@ -26,8 +26,16 @@ pub fn edges(program: &Program, function: u32, pc: u32, state: &TypeState) -> Re
     let loops = CodeLoops::new(code);
     let instr = code[pc as usize];
     let skip = skip(&loops, pc, instr);
-    match least_cause(program, function, &loops, pc, instr, state, skip) {
+    let site = Site {
+        program,
+        function,
+        loops: &loops,
+        pc,
+        instr,
+        skip,
+    };
+    match least_cause(&site, state) {
         Some(cause) => Err(cause),
-        None => Ok(all_edges(program, &loops, pc, instr, state, skip)),
+        None => Ok(all_edges(&site, state)),
     }
 }

@@ -1,21 +1,20 @@
 //! The places and typestates that follow an instruction, where no cause holds.
 
 ghost use Rattle.std.specs.Prelude.{ℕ, List, ◌≡◌, ◌<◌, ◌≤◌, ◌-◌, ◌+◌, ◌++◌, ◌∷◌, [], length, slice_get, option_to_list, IfSome};
-ghost use Rattle.sts_model.specs.Around as around;
-ghost use Rattle.sts_model.specs.Edges as def;
+ghost use Rattle.sts_rules.specs.Edges as def;
 ghost use Rattle.sts_code.specs.Program.{Program};
 ghost use Rattle.sts_code.specs.declared.instr.Instr.{Instr};
-ghost use Rattle.sts_model.specs.TypeState.{TypeState};
-ghost use Rattle.sts_states.specs.Room.{HasRoom};
+ghost use Rattle.sts_rules.specs.TypeState.{TypeState};
 ghost use Rattle.sts_types.specs.Arrivals.{Goes};
+ghost use Rattle.sts_types.specs.Site.{IsSite, HasRoomAt, follows_at, outcomes, states};
 
+use crate::site::Site;
 use arrayvec::ArrayVec;
 use std::marker::Model;
+use sts_code::facts::falls_through;
 use sts_code::instr::Instr;
-use sts_code::program::Program;
-use sts_loops::loops::CodeLoops;
-use sts_model::operands::falls_through;
-use sts_model::typing::{Known, TypedPhase};
+use sts_code::limits::MAX_OPERANDS;
+use sts_rules::typing::{Known, TypedPhase};
 use sts_states::state::TypeState;
 
 /// The places that follow an instruction, each with its typestate, at most four: contracts see the list of them.
@@ -26,7 +25,7 @@ pub struct Edges {
 
 impl Model for Edges {
     ghost use Rattle.std.specs.Prelude.{ℕ, List};
-    ghost use Rattle.sts_model.specs.TypeState.{TypeState};
+    ghost use Rattle.sts_rules.specs.TypeState.{TypeState};
 
     ghost Value = { List (ℕ × TypeState) };
 
@@ -42,22 +41,16 @@ impl Edges {
 }
 
 /// Along the first edge of an instruction: the typestate becomes that at the place it leads to.
-fn first_edge(
-    program: &Program,
-    loops: &CodeLoops<'_>,
-    pc: u32,
-    instr: Instr,
-    state: &mut TypeState,
-) -> Option<u32>
-    requires inside { pc < length loops.now }
-    requires room { HasRoom program.now instr state.old }
-    ensures { Goes (slice_get (def.follows program.now loops.now pc instr state.old) 0) state.old result state.new }
+fn first_edge(site: &Site<'_>, state: &mut TypeState) -> Option<u32>
+    requires site { IsSite site.now }
+    requires room { HasRoomAt site.now state.old }
+    ensures { Goes (slice_get (follows_at site.now state.old) 0) state.old result state.new }
 {
-    if falls_through(instr) {
-        state.step(program, pc, instr);
-        return Some(loops.after(pc));
+    if falls_through(site.instr) {
+        state.step(site.program, site.pc, site.instr);
+        return Some(site.loops.after(site.pc));
     }
-    match instr {
+    match site.instr {
         Instr::Jmp(to) => Some(to),
         _ => None,
     }
@@ -72,8 +65,8 @@ fn join_edge(
     interrupted: u32,
     number: usize,
 ) -> Option<u32>
-    requires { IfSome failed (λ _. state.old.height < 32) }
-    ensures { Goes (slice_get (def.to_optional failed (def.raised 1 (def.with_phase slot TypedPhase.Joined state.old)) ++ def.to_optional timeout (def.with_phase slot TypedPhase.Late state.old) ++ (interrupted, def.with_phase slot TypedPhase.Attempted state.old) ∷ []) number) state.old result state.new }
+    requires { IfSome failed (λ _. state.old.height < MAX_OPERANDS) }
+    ensures { Goes (slice_get (outcomes slot failed timeout interrupted state.old) number) state.old result state.new }
 {
     let mut number = number;
     if let Some(to) = failed {
@@ -106,7 +99,7 @@ fn case_edge(
     failed: u32,
     number: usize,
 ) -> Option<u32>
-    ensures { Goes (slice_get ((success, def.with_known handle Known.Success state.old) ∷ (failed, def.with_known handle Known.Failed state.old) ∷ []) number) state.old result state.new }
+    ensures { Goes (slice_get (states handle success failed state.old) number) state.old result state.new }
 {
     match number {
         0 => {
@@ -122,31 +115,23 @@ fn case_edge(
 }
 
 /// Along an edge of an instruction but for the first, by number from 0.
-fn later_edge(
-    program: &Program,
-    loops: &CodeLoops<'_>,
-    pc: u32,
-    instr: Instr,
-    state: &mut TypeState,
-    skip: Option<u32>,
-    number: usize,
-) -> Option<u32>
-    requires skip { option_to_list skip ≡ around.skipped_to loops.now pc instr }
-    requires room { HasRoom program.now instr state.old }
-    ensures { Goes (slice_get (def.follows program.now loops.now pc instr state.old) (number + 1)) state.old result state.new }
+fn later_edge(site: &Site<'_>, state: &mut TypeState, number: usize) -> Option<u32>
+    requires site { IsSite site.now }
+    requires room { HasRoomAt site.now state.old }
+    ensures { Goes (slice_get (follows_at site.now state.old) (number + 1)) state.old result state.new }
 {
-    match instr {
+    match site.instr {
         Instr::Div(to) if number == 0 => {
             state.pop(2);
             Some(to)
         }
         Instr::Jz(to) if number == 0 => {
-            state.move_operands(program, instr);
+            state.move_operands(site.program, site.instr);
             Some(to)
         }
-        Instr::Times(_) if number == 0 && skip.is_some() => {
-            state.move_operands(program, instr);
-            skip
+        Instr::Times(_) if number == 0 && site.skip.is_some() => {
+            state.move_operands(site.program, site.instr);
+            site.skip
         }
         Instr::Join {
             slot,
@@ -165,24 +150,15 @@ fn later_edge(
 
 /// Along an edge of an instruction, by number from 0: answers the place that it leads to, and the typestate becomes the
 /// one there; with no such edge nothing changes.
-pub(crate) fn edge(
-    program: &Program,
-    loops: &CodeLoops<'_>,
-    pc: u32,
-    instr: Instr,
-    state: &mut TypeState,
-    skip: Option<u32>,
-    number: usize,
-) -> Option<u32>
-    requires inside { pc < length loops.now }
-    requires skip { option_to_list skip ≡ around.skipped_to loops.now pc instr }
-    requires room { HasRoom program.now instr state.old }
-    ensures { Goes (slice_get (def.follows program.now loops.now pc instr state.old) number) state.old result state.new }
+pub(crate) fn edge(site: &Site<'_>, state: &mut TypeState, number: usize) -> Option<u32>
+    requires site { IsSite site.now }
+    requires room { HasRoomAt site.now state.old }
+    ensures { Goes (slice_get (follows_at site.now state.old) number) state.old result state.new }
 {
     if number == 0 {
-        first_edge(program, loops, pc, instr, state)
+        first_edge(site, state)
     } else {
-        later_edge(program, loops, pc, instr, state, skip, number - 1)
+        later_edge(site, state, number - 1)
     }
 }
 
@@ -200,23 +176,15 @@ pub(crate) fn edge_count(instr: Instr) -> usize
 }
 
 /// All edges of an instruction.
-pub(crate) fn all_edges(
-    program: &Program,
-    loops: &CodeLoops<'_>,
-    pc: u32,
-    instr: Instr,
-    state: &TypeState,
-    skip: Option<u32>,
-) -> Edges
-    requires inside { pc < length loops.now }
-    requires skip { option_to_list skip ≡ around.skipped_to loops.now pc instr }
-    requires room { HasRoom program.now instr state.now }
-    ensures { result ≡ def.follows program.now loops.now pc instr state.now }
+pub(crate) fn all_edges(site: &Site<'_>, state: &TypeState) -> Edges
+    requires site { IsSite site.now }
+    requires room { HasRoomAt site.now state.now }
+    ensures { result ≡ follows_at site.now state.now }
 {
     let mut edges = ArrayVec::new();
     for number in 0..4 {
         let mut after = state.copy();
-        if let Some(to) = edge(program, loops, pc, instr, &mut after, skip, number) {
+        if let Some(to) = edge(site, &mut after, number) {
             edges.push((to, after));
         }
     }

@@ -2,15 +2,18 @@
 
 ghost use Rattle.std.specs.Prelude.{◌≡◌, ◌<◌, length, nat_le, option_to_list};
 ghost use Rattle.std.specs.List.{list_any};
-ghost use Rattle.sts_model.specs.Around as around;
-ghost use Rattle.sts_model.specs.Causes as def;
-ghost use Rattle.sts_model.specs.TypeState.{heads};
+ghost use Rattle.sts_rules.specs.Around as around;
+ghost use Rattle.sts_code.specs.Facts as facts;
+ghost use Rattle.sts_rules.specs.Causes as def;
+ghost use Rattle.sts_rules.specs.TypeState.{heads};
+ghost use Rattle.sts_types.specs.Site.{IsSite};
 
+use crate::site::Site;
+use sts_code::facts::falls_through;
 use sts_code::instr::Instr;
 use sts_loops::loops::CodeLoops;
-use sts_model::operands::falls_through;
 use sts_model::stack::Stack;
-use sts_model::typing::TypedLoop;
+use sts_rules::typing::TypedLoop;
 use sts_states::state::TypeState;
 
 /// Where a `times` goes that makes no turn.
@@ -42,37 +45,30 @@ fn is_past(count: u32, place: Option<u32>) -> bool
     }
 }
 
-pub(crate) fn falls_off(
-    loops: &CodeLoops<'_>,
-    pc: u32,
-    instr: Instr,
-    named: &[u32],
-    skip: Option<u32>,
-) -> bool
-    requires inside { pc < length loops.now }
-    requires named { named.now ≡ around.named instr }
-    requires skip { option_to_list skip ≡ around.skipped_to loops.now pc instr }
-    ensures { result ≡ def.falls_off loops.now pc instr }
+pub(crate) fn falls_off(site: &Site<'_>, targets: &[u32]) -> bool
+    requires site { IsSite site.now }
+    requires targets { targets.now ≡ facts.targets site.now.instr }
+    ensures { result ≡ def.falls_off site.now.loops.now site.now.pc site.now.instr }
 {
-    let count = loops.len();
-    any_past(count, named)
-        || (falls_through(instr) && count <= loops.after(pc))
-        || is_past(count, skip)
+    let count = site.loops.len();
+    any_past(count, targets)
+        || (falls_through(site.instr) && count <= site.loops.after(site.pc))
+        || is_past(count, site.skip)
 }
 
-pub(crate) fn jumps_back(pc: u32, instr: Instr, named: &[u32]) -> bool
-    requires { named.now ≡ around.named instr }
+pub(crate) fn jumps_back(pc: u32, instr: Instr, targets: &[u32]) -> bool
+    requires { targets.now ≡ facts.targets instr }
     ensures { result ≡ def.jumps_back pc instr }
 {
-    named.iter().any(|to| *to <= pc)
+    targets.iter().any(|to| *to <= pc)
 }
 
-fn is_unmatched(loops: &CodeLoops<'_>, pc: u32, instr: Instr, state: &TypeState) -> bool
-    ensures { result ≡ def.is_unmatched loops.now pc instr state.now }
+fn is_unmatched(site: &Site<'_>, state: &TypeState) -> bool
+    ensures { result ≡ def.is_unmatched site.now.loops.now site.now.pc site.now.instr state.now }
 {
-    match instr {
-        Instr::Times(_) => loops.end_of(pc).is_none(),
-        Instr::Next => !loops.closes_loop(pc, state.loops()),
+    match site.instr {
+        Instr::Times(_) => site.loops.end_of(site.pc).is_none(),
+        Instr::Next => !site.loops.closes_loop(site.pc, state.loops()),
         _ => false,
     }
 }
@@ -94,32 +90,25 @@ fn is_other(loops: &CodeLoops<'_>, now: &Stack<TypedLoop, 8>, place: Option<u32>
 }
 
 /// Are other loops around the next place than those that are then open?
-fn next_differs(loops: &CodeLoops<'_>, pc: u32, instr: Instr, state: &TypeState) -> bool
-    requires { pc < length loops.now }
-    ensures { result ≡ list_any (def.is_other_loop loops.now (around.open_after pc instr (heads state.now.loops))) (around.next_place pc instr) }
+fn next_differs(site: &Site<'_>, state: &TypeState) -> bool
+    requires { IsSite site.now }
+    ensures { result ≡ list_any (def.is_other_loop site.now.loops.now (around.open_after site.now.pc site.now.instr (heads state.now.loops))) (around.next_place site.now.pc site.now.instr) }
 {
-    match instr {
-        Instr::Times(_) => !loops.begins(pc, state.loops()),
-        Instr::Next => !loops.are_around(loops.after(pc), state.loops(), 1),
-        _ => falls_through(instr) && !loops.are_around(loops.after(pc), state.loops(), 0),
+    let loops = site.loops;
+    match site.instr {
+        Instr::Times(_) => !loops.begins(site.pc, state.loops()),
+        Instr::Next => !loops.are_around(loops.after(site.pc), state.loops(), 1),
+        _ => falls_through(site.instr) && !loops.are_around(loops.after(site.pc), state.loops(), 0),
     }
 }
 
-pub(crate) fn mismatches(
-    loops: &CodeLoops<'_>,
-    pc: u32,
-    instr: Instr,
-    state: &TypeState,
-    named: &[u32],
-    skip: Option<u32>,
-) -> bool
-    requires inside { pc < length loops.now }
-    requires named { named.now ≡ around.named instr }
-    requires skip { option_to_list skip ≡ around.skipped_to loops.now pc instr }
-    ensures { result ≡ def.mismatches loops.now pc instr state.now }
+pub(crate) fn mismatches(site: &Site<'_>, state: &TypeState, targets: &[u32]) -> bool
+    requires site { IsSite site.now }
+    requires targets { targets.now ≡ facts.targets site.now.instr }
+    ensures { result ≡ def.mismatches site.now.loops.now site.now.pc site.now.instr state.now }
 {
-    is_unmatched(loops, pc, instr, state)
-        || any_other(loops, state.loops(), named)
-        || is_other(loops, state.loops(), skip)
-        || next_differs(loops, pc, instr, state)
+    is_unmatched(site, state)
+        || any_other(site.loops, state.loops(), targets)
+        || is_other(site.loops, state.loops(), site.skip)
+        || next_differs(site, state)
 }

@@ -1,41 +1,33 @@
 //! The least cause that holds at an instruction.
 
 ghost use Rattle.std.specs.Prelude.{◌≡◌, ◌<◌, length, option_to_list, if◌then◌else◌, Some, None};
-ghost use Rattle.sts_code.specs.Program.{routine};
-ghost use Rattle.sts_model.specs.Around as around;
-ghost use Rattle.sts_model.specs.Causes as def;
+ghost use Rattle.sts_types.specs.Site.{IsSite};
+ghost use Rattle.sts_rules.specs.Causes as def;
 
 use crate::cause::{
     breaks_structure, has_busy_slot, has_wrong_slot, is_illegal, is_nested, is_strangers,
     is_too_deep, is_unbound, lacks_operands, misjoins, overflows,
 };
 use crate::leads::{falls_off, jumps_back, mismatches};
+use crate::site::Site;
+use sts_code::facts::targets;
 use sts_code::instr::Instr;
 use sts_code::program::Program;
-use sts_loops::loops::CodeLoops;
-use sts_model::operands::named;
-use sts_model::typing::Cause;
+use sts_rules::typing::Cause;
 use sts_states::state::TypeState;
 
 /// The least cause from V3 to V5.
-fn lead_cause(
-    loops: &CodeLoops<'_>,
-    pc: u32,
-    instr: Instr,
-    state: &TypeState,
-    skip: Option<u32>,
-) -> Option<Cause>
-    requires inside { pc < length loops.now }
-    requires skip { option_to_list skip ≡ around.skipped_to loops.now pc instr }
-    ensures { result ≡ (if def.falls_off loops.now pc instr then Some Cause.FallsOff else (if def.jumps_back pc instr then Some Cause.BackJump else (if def.mismatches loops.now pc instr state.now then Some Cause.LoopMismatch else None))) }
+fn lead_cause(site: &Site<'_>, state: &TypeState) -> Option<Cause>
+    requires { IsSite site.now }
+    ensures { result ≡ (if def.falls_off site.now.loops.now site.now.pc site.now.instr then Some Cause.FallsOff else (if def.jumps_back site.now.pc site.now.instr then Some Cause.BackJump else (if def.mismatches site.now.loops.now site.now.pc site.now.instr state.now then Some Cause.LoopMismatch else None))) }
 {
-    let named = named(instr);
-    let named = named.as_slice();
-    if falls_off(loops, pc, instr, named, skip) {
+    let targets = targets(site.instr);
+    let targets = targets.as_slice();
+    if falls_off(site, targets) {
         Some(Cause::FallsOff)
-    } else if jumps_back(pc, instr, named) {
+    } else if jumps_back(site.pc, site.instr, targets) {
         Some(Cause::BackJump)
-    } else if mismatches(loops, pc, instr, state, named, skip) {
+    } else if mismatches(site, state, targets) {
         Some(Cause::LoopMismatch)
     } else {
         None
@@ -73,42 +65,32 @@ fn late_cause(program: &Program, function: u32, instr: Instr, state: &TypeState)
 }
 
 /// The least cause that holds at the instruction, if one does.
-pub(crate) fn least_cause(
-    program: &Program,
-    function: u32,
-    loops: &CodeLoops<'_>,
-    pc: u32,
-    instr: Instr,
-    state: &TypeState,
-    skip: Option<u32>,
-) -> Option<Cause>
-    requires code { loops.now ≡ (routine program.now function).code }
-    requires inside { pc < length loops.now }
-    requires skip { option_to_list skip ≡ around.skipped_to loops.now pc instr }
-    ensures { result ≡ def.least_cause program.now function pc instr state.now }
+pub(crate) fn least_cause(site: &Site<'_>, state: &TypeState) -> Option<Cause>
+    requires site { IsSite site.now }
+    ensures { result ≡ def.least_cause site.now.program.now site.now.function site.now.pc site.now.instr state.now }
 {
-    if lacks_operands(program, instr, state) {
+    if lacks_operands(site.program, site.instr, state) {
         return Some(Cause::StackUnder);
     }
-    if overflows(program, instr, state) {
+    if overflows(site.program, site.instr, state) {
         return Some(Cause::StackOver);
     }
-    let lead = lead_cause(loops, pc, instr, state, skip);
+    let lead = lead_cause(site, state);
     if lead.is_some() {
         return lead;
     }
-    if is_too_deep(instr, state) {
+    if is_too_deep(site.instr, state) {
         return Some(Cause::LoopDepth);
     }
-    let slot = slot_cause(instr, state);
+    let slot = slot_cause(site.instr, state);
     if slot.is_some() {
         return slot;
     }
-    if is_illegal(program.profile(), instr, state) {
+    if is_illegal(site.program.profile(), site.instr, state) {
         return Some(Cause::IllegalState);
     }
-    if breaks_structure(instr, state) {
+    if breaks_structure(site.instr, state) {
         return Some(Cause::Structure);
     }
-    late_cause(program, function, instr, state)
+    late_cause(site.program, site.function, site.instr, state)
 }

@@ -9,3 +9,4 @@ pub mod follow;
 mod leads;
 mod least;
 pub mod pass;
+mod site;

@@ -1,11 +1,10 @@
 //! One forward pass over a function, which finds its least place with a cause.
 
 ghost use Rattle.std.specs.Prelude.{◌≡◌, ◌≤◌, ◌<◌, ◌^◌, ◌↔◌, length, replicate, slice_index_or, slice_set, vec_len, IsTrue, OnOk, IfSome, MatchResult, All, Some, ℕ, option_to_list};
-ghost use Rattle.sts_model.specs.Around as around;
-ghost use Rattle.sts_model.specs.Edges as def;
-ghost use Rattle.sts_model.specs.Refusal.{IsWellTyped};
+ghost use Rattle.sts_rules.specs.Edges as def;
+ghost use Rattle.sts_rules.specs.Refusal.{IsWellTyped};
 ghost use Rattle.sts_types.specs.Arrivals.{Merged, Arrive};
-ghost use Rattle.sts_states.specs.Room.{HasRoom};
+ghost use Rattle.sts_types.specs.Site.{IsSite, HasRoomAt, follows_at};
 ghost use Rattle.sts_types.specs.Typing.{Tells};
 
 use crate::arrival::Arrival;
@@ -13,12 +12,14 @@ use crate::arrivals::Arrivals;
 use crate::follow::edge_count;
 use crate::leads::skip;
 use crate::least::least_cause;
+use crate::site::Site;
 use std::alloc::{AllocError, Global};
+use sts_code::code::code_of;
 use sts_code::instr::Instr;
+use sts_code::limits::MAX_INSTRUCTIONS;
 use sts_code::program::Program;
 use sts_loops::loops::{CodeLoops, Tables};
-use sts_model::code::code_of;
-use sts_model::typing::Cause;
+use sts_rules::typing::Cause;
 use sts_states::state::{TypeState, entry};
 
 /// Why a function is refused.
@@ -55,52 +56,36 @@ fn back_to(instr: Instr, state: &TypeState) -> Option<u32>
 }
 
 /// The typestates after an instruction arrive at their places.
-fn spread(
-    program: &Program,
-    loops: &CodeLoops<'_>,
-    pc: u32,
-    instr: Instr,
-    skip: Option<u32>,
-    arrivals: &mut Arrivals,
-) -> Result<(), AllocError>
-    requires inside { pc < length loops.now }
-    requires skip { option_to_list skip ≡ around.skipped_to loops.now pc instr }
+fn spread(site: &Site<'_>, arrivals: &mut Arrivals) -> Result<(), AllocError>
+    requires site { IsSite site.now }
     requires start { arrivals.old.start ≡ arrivals.old.state }
-    requires room { HasRoom program.now instr arrivals.old.state }
-    requires places { All (λ e. e.0 < length arrivals.old.table) (def.follows program.now loops.now pc instr arrivals.old.state) }
-    ensures { OnOk result (Arrive arrivals.old.table (def.follows program.now loops.now pc instr arrivals.old.state) arrivals.new.table) }
+    requires room { HasRoomAt site.now arrivals.old.state }
+    requires places { All (λ e. e.0 < length arrivals.old.table) (follows_at site.now arrivals.old.state) }
+    ensures { OnOk result (Arrive arrivals.old.table (follows_at site.now arrivals.old.state) arrivals.new.table) }
 {
-    for number in 0..edge_count(instr) {
+    for number in 0..edge_count(site.instr) {
         arrivals.go_back();
-        arrivals.arrive_along(program, loops, pc, instr, skip, number)?;
+        arrivals.arrive_along(site, number)?;
     }
     Ok(())
 }
 
 /// The typestates after an instruction arrive at their places: a short way for those that change no more than the
 /// number of operands.
-fn follow(
-    program: &Program,
-    loops: &CodeLoops<'_>,
-    pc: u32,
-    instr: Instr,
-    skip: Option<u32>,
-    arrivals: &mut Arrivals,
-) -> Result<(), AllocError>
-    requires inside { pc < length loops.now }
-    requires small { pc < 4096 }
-    requires skip { option_to_list skip ≡ around.skipped_to loops.now pc instr }
+fn follow(site: &Site<'_>, arrivals: &mut Arrivals) -> Result<(), AllocError>
+    requires site { IsSite site.now }
+    requires small { site.now.pc < MAX_INSTRUCTIONS }
     requires start { arrivals.old.start ≡ arrivals.old.state }
-    requires room { HasRoom program.now instr arrivals.old.state }
-    requires places { All (λ e. e.0 < length arrivals.old.table) (def.follows program.now loops.now pc instr arrivals.old.state) }
-    ensures { OnOk result (Arrive arrivals.old.table (def.follows program.now loops.now pc instr arrivals.old.state) arrivals.new.table) }
+    requires room { HasRoomAt site.now arrivals.old.state }
+    requires places { All (λ e. e.0 < length arrivals.old.table) (follows_at site.now arrivals.old.state) }
+    ensures { OnOk result (Arrive arrivals.old.table (follows_at site.now arrivals.old.state) arrivals.new.table) }
 {
-    match arrivals.state().moves_to(program, pc, instr) {
+    match arrivals.state().moves_to(site.program, site.pc, site.instr) {
         Some((to, height)) => {
             arrivals.arrive_moved(to, height);
             Ok(())
         }
-        None => spread(program, loops, pc, instr, skip, arrivals),
+        None => spread(site, arrivals),
     }
 }
 
@@ -122,15 +107,15 @@ pub fn type_function(alloc: Global, program: &Program, function: u32) -> Result<
         }
         let instr = code[pc as usize];
         let skip = skip(&loops, pc, instr);
-        if let Some(cause) = least_cause(
+        let site = Site {
             program,
             function,
-            &loops,
+            loops: &loops,
             pc,
             instr,
-            arrivals.state(),
             skip,
-        ) {
+        };
+        if let Some(cause) = least_cause(&site, arrivals.state()) {
             return Err(refused(pc, cause));
         }
         if let Some(start) = back_to(instr, arrivals.state()) {
@@ -138,7 +123,7 @@ pub fn type_function(alloc: Global, program: &Program, function: u32) -> Result<
                 return Err(refused(pc, Cause::StatesDiffer));
             }
         }
-        follow(program, &loops, pc, instr, skip, &mut arrivals)?;
+        follow(&site, &mut arrivals)?;
     }
     Ok(())
 }

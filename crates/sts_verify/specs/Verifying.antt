@@ -3,7 +3,7 @@ use Rattle.std.specs.Prelude.{◌≡◌, ℕ}
 use Rattle.sts_code.specs.Program.{Program}
 use Rattle.sts_budget.specs.declared.budget.BudgetError.{BudgetError}
 use Rattle.sts_budget.specs.declared.budget.BudgetError.TheVariants as budgets
-use Rattle.sts_model.specs.Refusal.{IsRefusal, IsUnsound}
+use Rattle.sts_rules.specs.Refusal.{IsRefusal, IsUnsound}
 use Rattle.sts_types.specs.declared.pass.TypeError.{TypeError}
 use Rattle.sts_types.specs.declared.pass.TypeError.TheVariants as typing
 use Rattle.sts_verify.specs.declared.error.VerifyError.{VerifyError}

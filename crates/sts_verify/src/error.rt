@@ -1,7 +1,7 @@
 //! Why a program is not verified.
 
 use sts_code::program::Program;
-use sts_model::typing::Cause;
+use sts_rules::typing::Cause;
 
 /// Why a program is not verified. The program is given back.
 #[derive(Drop)]

@@ -1,7 +1,7 @@
 //! Laws of the verifier: each stands on a function that does nothing.
 
-ghost use Rattle.sts_model.specs.Promises.{TypingPromises};
-ghost use Rattle.sts_model.specs.Refusal.{IsAccepted};
+ghost use Rattle.sts_rules.specs.Promises.{TypingPromises};
+ghost use Rattle.sts_rules.specs.Refusal.{IsAccepted, IsOneVerdict};
 
 use sts_code::program::Program;
 
@@ -10,6 +10,15 @@ use sts_code::program::Program;
 pub fn typing_promises(program: &Program)
     requires { IsAccepted program.now }
     ensures { TypingPromises program.now }
+{
+    let _ = program.functions();
+}
+
+/// Acceptance and refusal exclude each other, and a program has one refusal at most: the least place, and the least
+/// cause there. So, where memory suffices, `verify` accepts exactly the programs that are accepted, and names of each
+/// other one the only refusal.
+pub fn verdict_is_one(program: &Program)
+    ensures { IsOneVerdict program.now }
 {
     let _ = program.functions();
 }

@@ -1,6 +1,8 @@
 //! The verifier: which programs are accepted, and where and why the others are refused.
 #![tactic(auto)]
 
+#[cfg(test)]
+mod alone;
 pub mod error;
 pub mod laws;
 #[cfg(test)]

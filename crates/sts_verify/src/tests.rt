@@ -6,7 +6,7 @@ use std::alloc::Global;
 use std::test::Fail;
 use sts_code::instr::{Instr, Joiner};
 use sts_code::program::{Function, Program};
-use sts_model::budget::Budgets;
+use sts_rules::budget::Budgets;
 use sts_types::pass::type_function;
 
 fn function(alloc: Global, name: &str, code: &[Instr]) -> Result<Function, Fail> {
@@ -24,7 +24,7 @@ fn program_of(alloc: Global, code: &[Instr]) -> Result<Program, Fail> {
 }
 
 /// A program of a child and of `main` with these codes.
-fn program_with(alloc: Global, kid: &[Instr], code: &[Instr]) -> Result<Program, Fail> {
+pub(crate) fn program_with(alloc: Global, kid: &[Instr], code: &[Instr]) -> Result<Program, Fail> {
     let mut functions = Vec::new(alloc);
     functions.push(function(alloc, "kid", kid)?)?;
     functions.push(function(alloc, "main", code)?)?;
@@ -55,7 +55,7 @@ fn refusal_with(
     }
 }
 
-const OPEN: Instr = Instr::Open {
+pub(crate) const OPEN: Instr = Instr::Open {
     slot: 0,
     joiner: Joiner::AwaitAll,
     timed: false,
@@ -74,7 +74,7 @@ const JOIN: Instr = Instr::Join {
     interrupted: 6,
 };
 
-static FORKS: [Instr; 9] = [
+pub(crate) static FORKS: [Instr; 9] = [
     OPEN,
     FORK,
     JOIN,
@@ -298,7 +298,7 @@ static MANY: [Instr; 12] = [
 ];
 
 /// 1000 turns of 1000 turns.
-static LONG: [Instr; 8] = [
+pub(crate) static LONG: [Instr; 8] = [
     Instr::Push(1000),
     Instr::Times(1000),
     Instr::Push(1000),

@@ -1,17 +1,18 @@
 //! Programs that were verified.
 
 ghost use Rattle.std.specs.Prelude.{◌≡◌, ◌<◌, ◌≤◌, ◌+◌, length, MatchResult};
-ghost use Rattle.sts_model.specs.Budget.{AreBudgets};
-ghost use Rattle.sts_model.specs.Refusal.{IsAccepted, IsSound, IsBudgetOf};
+ghost use Rattle.sts_rules.specs.Budget.{AreBudgets};
+ghost use Rattle.sts_rules.specs.Refusal.{IsAccepted, IsSound, IsBudgetOf};
 ghost use Rattle.sts_verify.specs.Verifying as def;
 
 use crate::error::VerifyError;
 use std::alloc::Global;
 use std::marker::Model;
 use sts_budget::budget::{BudgetError, budget};
+use sts_code::code::code_of;
+use sts_code::limits::MAX_INSTRUCTIONS;
 use sts_code::program::Program;
-use sts_model::budget::Budgets;
-use sts_model::code::code_of;
+use sts_rules::budget::Budgets;
 use sts_types::pass::{TypeError, type_function};
 
 /// A program that was accepted: contracts see the program.
@@ -24,8 +25,8 @@ pub struct Verified {
 impl Model for Verified {
     ghost use Rattle.std.specs.Prelude.{◌≡◌, length};
     ghost use Rattle.sts_code.specs.Program.{Program};
-    ghost use Rattle.sts_model.specs.Refusal.{IsAccepted};
-    ghost use Rattle.sts_model.specs.Budget.{AreBudgets};
+    ghost use Rattle.sts_rules.specs.Refusal.{IsAccepted};
+    ghost use Rattle.sts_rules.specs.Budget.{AreBudgets};
 
     ghost Value = { Program };
 
@@ -75,7 +76,7 @@ fn told(program: Program, function: u32, error: TypeError) -> VerifyError
 
 /// A cause of budgets is told behind the last of so many instructions.
 fn at_end(count: usize, error: BudgetError) -> TypeError
-    requires { count ≤ 4096 }
+    requires { count ≤ MAX_INSTRUCTIONS }
     ensures { result ≡ def.at_end count error }
 {
     match error {

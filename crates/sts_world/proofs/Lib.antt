@@ -1,8 +1,11 @@
+pub mod Chaining
 pub mod Counting
 pub mod Environments
 pub mod Finds
 pub mod Keeping
 pub mod Raising
+pub mod Resting
 pub mod Same
+pub mod Scoping
 pub mod Verdicts
 pub mod Worlds

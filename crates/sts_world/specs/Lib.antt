@@ -1,3 +1,6 @@
+pub mod Chains
+pub mod Held
 pub mod Kept
 pub mod Lines
 pub mod Raising
+pub mod Scopes

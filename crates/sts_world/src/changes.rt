@@ -4,6 +4,7 @@ ghost use Rattle.std.specs.Prelude.{◌≡◌, ◌<◌, ◌≤◌, ◌+◌, ◌-
 ghost use Rattle.sts_code.specs.Program.{routine};
 ghost use Rattle.sts_model.specs.Cancelling as cancelling;
 ghost use Rattle.sts_model.specs.Effect as effect;
+ghost use Rattle.sts_model.specs.Living as living;
 ghost use Rattle.sts_model.specs.Environment as scoped;
 ghost use Rattle.sts_model.specs.Local as frames;
 ghost use Rattle.sts_model.specs.Misuse as misuse;
@@ -13,17 +14,16 @@ ghost use Rattle.sts_world.specs.Kept.{births as births_of};
 ghost use Rattle.sts_world.specs.Lines.{line, lines};
 ghost use Rattle.sts_world.specs.Raising.{raise_at as raise_one, raise_each as raise_all};
 
-use crate::code::code;
-use crate::frames::{entry_frame, leave_fork, root_frame, set_slot};
-use crate::reading::{push_all, push_own};
-use crate::records::{Records, lives};
+use crate::chains::Chains;
+use crate::records::Records;
+use crate::scope::{ScopeRecord, front_of};
+use crate::task::TaskRecord;
 use std::alloc::{AllocError, Global};
+use sts_code::code::args;
 use sts_code::instr::{Instr, Joiner};
 use sts_code::program::Program;
-use sts_model::code::args;
 use sts_model::event::{End, Phase};
-use sts_model::frame::local;
-use sts_model::record::{Bound, Completion, Entry, Scope, Slot, Task};
+use sts_model::record::{Completion, Slot};
 use sts_model::stack::Items;
 
 // ---- the frame of one task
@@ -32,25 +32,26 @@ impl Records {
     /// Pops `n` operands and goes to `to`.
     pub(crate) fn goes(&mut self, t: u32, to: u32, n: usize)
         requires born { t < length self.old.tasks }
+        requires lives { living.lives (def.task_at self.old t) ≡ true }
         ensures { self.new ≡ def.with_frame self.old t (frames.goes (def.task_at self.old t).frame to n []) }
     {
-        let frame = &mut self.tasks[t as usize].frame;
-        frame.goes(to, n);
+        self.tasks[t as usize].goes(to, n);
     }
 
     /// Pops `n` operands, pushes a value and goes to `to`.
     pub(crate) fn goes_with(&mut self, t: u32, to: u32, n: usize, value: i64)
         requires born { t < length self.old.tasks }
+        requires lives { living.lives (def.task_at self.old t) ≡ true }
         requires room { length (def.task_at self.old t).frame.operands - n < 32 }
         ensures { self.new ≡ def.with_frame self.old t (frames.goes (def.task_at self.old t).frame to n (value ∷ [])) }
     {
-        let frame = &mut self.tasks[t as usize].frame;
-        frame.goes_with(to, n, value);
+        self.tasks[t as usize].goes_with(to, n, value);
     }
 
     /// Does a local instruction.
     pub(crate) fn local(&mut self, program: &Program, t: u32, instr: Instr)
         requires born { t < length self.old.tasks }
+        requires lives { living.lives (def.task_at self.old t) ≡ true }
         requires at { def.instr_at program.now (def.task_at self.old t).frame ≡ Some instr }
         requires more { (def.task_at self.old t).frame.pc + 1 < 2 ^ 32 }
         requires short { length (def.code program.now (def.task_at self.old t).frame) < 2 ^ 32 }
@@ -59,84 +60,68 @@ impl Records {
         requires loops { misuse.breaks_loop program.now (def.task_at self.old t).frame instr ≡ false }
         ensures { self.new ≡ def.with_frame self.old t (frames.local (def.code program.now (def.task_at self.old t).frame) instr (def.task_at self.old t).frame) }
     {
-        let frame = &mut self.tasks[t as usize].frame;
-        let instructions = code(program, frame);
-        local(frame, program, instructions, instr);
+        self.tasks[t as usize].local(program, instr);
     }
 
     /// Empties a slot.
     pub(crate) fn forget(&mut self, t: u32, x: u8)
         requires born { t < length self.old.tasks }
+        requires lives { living.lives (def.task_at self.old t) ≡ true }
         requires more { (def.task_at self.old t).frame.pc + 1 < 2 ^ 32 }
         ensures { self.new ≡ effect.forget self.old t (def.task_at self.old t).frame x }
     {
-        let frame = &mut self.tasks[t as usize].frame;
-        let next = frame.pc + 1;
-        frame.goes(next, 0);
-        set_slot(&mut frame.slots, x, Slot::Empty);
+        self.tasks[t as usize].forget(x);
     }
 
     /// Binds a key to the popped operand.
     pub(crate) fn bind(&mut self, t: u32, k: u8)
         requires born { t < length self.old.tasks }
+        requires lives { living.lives (def.task_at self.old t) ≡ true }
         requires more { (def.task_at self.old t).frame.pc + 1 < 2 ^ 32 }
         requires entries { length (def.task_at self.old t).frame.entries < 16 }
         ensures { self.new ≡ effect.bind self.old t (def.task_at self.old t).frame k }
     {
-        let frame = &mut self.tasks[t as usize].frame;
-        let value = frame.operand(0);
-        let next = frame.pc + 1;
-        frame.goes(next, 1);
-        frame.entries.push(Entry::Binding(k, value));
+        self.tasks[t as usize].bind(k);
     }
 
     /// Ends the innermost binding.
     pub(crate) fn unbind(&mut self, t: u32)
         requires born { t < length self.old.tasks }
+        requires lives { living.lives (def.task_at self.old t) ≡ true }
         requires more { (def.task_at self.old t).frame.pc + 1 < 2 ^ 32 }
         ensures { self.new ≡ effect.unbind self.old t (def.task_at self.old t).frame }
     {
-        let frame = &mut self.tasks[t as usize].frame;
-        let next = frame.pc + 1;
-        frame.goes(next, 0);
-        frame.entries.drop_top(1);
+        self.tasks[t as usize].unbind();
     }
 
     /// Pushes the flag and clears it.
     pub(crate) fn take_flag(&mut self, t: u32)
         requires born { t < length self.old.tasks }
+        requires lives { living.lives (def.task_at self.old t) ≡ true }
         requires more { (def.task_at self.old t).frame.pc + 1 < 2 ^ 32 }
         requires room { length (def.task_at self.old t).frame.operands < 32 }
         ensures { self.new ≡ effect.take_flag self.old t (def.task_at self.old t).frame }
     {
-        let task = &mut self.tasks[t as usize];
-        let flag = i64::from(task.flag);
-        let next = task.frame.pc + 1;
-        task.frame.goes_with(next, 0, flag);
-        task.flag = false;
+        self.tasks[t as usize].take_flag();
     }
 
     /// Leaves a `join` that was interrupted.
     pub(crate) fn leave_join(&mut self, t: u32, to: u32)
         requires born { t < length self.old.tasks }
+        requires lives { living.lives (def.task_at self.old t) ≡ true }
         ensures { self.new ≡ def.with_task self.old t (record (def.task_at self.old t) { frame = frames.goes (def.task_at self.old t).frame to 0 []; flag = false }) }
     {
-        let task = &mut self.tasks[t as usize];
-        task.frame.goes(to, 0);
-        task.flag = false;
+        self.tasks[t as usize].leave_join(to);
     }
 
     /// Leaves a `close` that has ended, with these slots.
     pub(crate) fn leave_close(&mut self, t: u32, slots: [Slot; 16])
         requires born { t < length self.old.tasks }
+        requires lives { living.lives (def.task_at self.old t) ≡ true }
         requires more { (def.task_at self.old t).frame.pc + 1 < 2 ^ 32 }
         ensures { self.new ≡ def.with_frame self.old t (record (frames.steps (def.task_at self.old t).frame 0 []) { entries = drop 1 (def.task_at self.old t).frame.entries; slots = slots }) }
     {
-        let frame = &mut self.tasks[t as usize].frame;
-        let next = frame.pc + 1;
-        frame.goes(next, 0);
-        frame.entries.drop_top(1);
-        frame.slots = slots;
+        self.tasks[t as usize].leave_close(slots);
     }
 
     fn is_of(&self, s: u32, slot: Slot) -> bool
@@ -154,10 +139,11 @@ impl Records {
 
     /// The slots of a task, those emptied that name the scope or one of its subtasks.
     pub(crate) fn cleared(&self, t: u32, s: u32) -> [Slot; 16]
-        requires { t < length self.now.tasks }
+        requires born { t < length self.now.tasks }
+        requires lives { living.lives (def.task_at self.now t) ≡ true }
         ensures { result ≡ effect.cleared self.now s (def.task_at self.now t).frame.slots }
     {
-        let mut slots = self.tasks[t as usize].frame.slots;
+        let mut slots = self.frame(t).slots;
         for x in slots.iter_mut() {
             if self.is_of(s, *x) {
                 *x = Slot::Empty;
@@ -171,20 +157,18 @@ impl Records {
         ensures { self.new ≡ outside.interrupt self.old t }
     {
         if self.lives(t) {
-            self.tasks[t as usize].flag = true;
+            self.tasks[t as usize].interrupt();
         }
     }
 
     /// Sets the end of a task, and tells nobody.
-    pub(crate) fn set_end(&mut self, t: u32, end: End)
+    pub(crate) fn set_end(&mut self, alloc: Global, t: u32, end: End)
         requires born { t < length self.old.tasks }
+        requires lives { living.lives (def.task_at self.old t) ≡ true }
         requires more { (def.task_at self.old t).frame.pc + 1 < 2 ^ 32 }
         ensures { self.new ≡ effect.ended self.old t (def.task_at self.old t).frame end }
     {
-        let task = &mut self.tasks[t as usize];
-        let next = task.frame.pc + 1;
-        task.frame.goes(next, 1);
-        task.outcome = Some(end);
+        self.tasks[t as usize].end(alloc, end);
     }
 }
 
@@ -223,6 +207,15 @@ impl Records {
         Ok(())
     }
 
+    fn set_cancelled(&mut self, s: u32)
+        ensures { self.new ≡ def.with_scope self.old s (record (def.scope_at self.old s) { cancelled = true }) }
+    {
+        let s = s as usize;
+        if s < self.scopes.len() {
+            self.scopes[s].cancelled = true;
+        }
+    }
+
     /// Cancels the scope whose subtasks these are.
     pub(crate) fn cancel(&mut self, s: u32, births: &[u32])
         requires { births.now ≡ births_of s (lines self.old).tasks }
@@ -230,28 +223,24 @@ impl Records {
     {
         if !self.is_cancelled(s) {
             raise(&mut self.tasks, s, births);
-            if (s as usize) < self.scopes.len() {
-                self.scopes[s as usize].cancelled = true;
-            }
+            self.set_cancelled(s);
         }
     }
 }
 
 /// Sets the flag of a task, if it is a living subtask of the scope.
-fn raise_at(tasks: &mut [Task], s: u32, t: u32)
+fn raise_at(tasks: &mut [TaskRecord], s: u32, t: u32)
     ensures { tasks.new ≡ raise_one s tasks.old t }
 {
     let t = t as usize;
     if t < tasks.len() {
-        if tasks[t].scope == Some(s) && lives(&tasks[t]) {
-            tasks[t].flag = true;
-        }
+        tasks[t].raise(s);
     }
 }
 
 /// Sets the flags of the living subtasks of a scope, where these are all its subtasks.
 #[tactic(auto, using(crate::proofs::Raising::raises_all))]
-fn raise(tasks: &mut [Task], s: u32, births: &[u32])
+fn raise(tasks: &mut [TaskRecord], s: u32, births: &[u32])
     requires { births.now ≡ births_of s (map line tasks.old) }
     ensures { tasks.new ≡ cancelling.raised s tasks.old }
 {
@@ -259,7 +248,7 @@ fn raise(tasks: &mut [Task], s: u32, births: &[u32])
 }
 
 /// Sets the flags of those of these tasks that are living subtasks of the scope.
-fn raise_each(tasks: &mut [Task], s: u32, births: &[u32])
+fn raise_each(tasks: &mut [TaskRecord], s: u32, births: &[u32])
     ensures { tasks.new ≡ raise_all s tasks.old births.now }
 {
     for t in births {
@@ -276,33 +265,12 @@ impl Records {
     {
         let last = program.functions().len() - 1;
         let mut tasks = Vec::new(alloc);
-        tasks.push(Task {
-            frame: root_frame(last as u32),
-            started: true,
-            flag: false,
-            scope: None,
-            outcome: None,
-        })?;
+        tasks.push(TaskRecord::root(alloc, last as u32)?)?;
         Ok(Records {
             tasks,
             scopes: Vec::new(alloc),
+            chains: Chains::new(alloc),
         })
-    }
-
-    /// A task's whole environment.
-    pub(crate) fn environment(&self, alloc: Global, t: u32) -> Result<Items<Bound>, AllocError>
-        requires { t < length self.now.tasks }
-        ensures { IfOk result (λ e. e ≡ scoped.environment_of (def.task_at self.now t) self.now) }
-    {
-        let task = &self.tasks[t as usize];
-        let mut bounds = Items::new(alloc);
-        push_own(&mut bounds, &task.frame)?;
-        if let Some(s) = task.scope {
-            if let Some(scope) = self.scopes.get(s as usize) {
-                push_all(&mut bounds, scope.environment.as_slice())?;
-            }
-        }
-        Ok(bounds)
     }
 
     /// Opens a scope.
@@ -316,6 +284,7 @@ impl Records {
         timed: bool,
     ) -> Result<(), AllocError>
         requires born { t < length self.old.tasks }
+        requires lives { living.lives (def.task_at self.old t) ≡ true }
         requires more { (def.task_at self.old t).frame.pc + 1 < 2 ^ 32 }
         requires room { length self.old.scopes < 1000000 }
         requires entries { length (def.task_at self.old t).frame.entries < 16 }
@@ -323,8 +292,9 @@ impl Records {
         ensures err { OnErr result (self.new ≡ self.old) }
     {
         let s = self.scopes.len() as u32;
-        let environment = self.environment(alloc, t)?;
-        self.scopes.push(Scope {
+        let rest = front_of(&self.scopes, self.tasks[t as usize].scope());
+        let front = self.tasks[t as usize].environment(&mut self.chains, rest)?;
+        self.scopes.push(ScopeRecord {
             owner: t,
             joiner,
             timed,
@@ -332,12 +302,9 @@ impl Records {
             cancelled: false,
             expired: false,
             completions: Items::new(alloc),
-            environment,
+            front,
         })?;
-        let frame = &mut self.tasks[t as usize].frame;
-        frame.goes(frame.pc + 1, 0);
-        frame.entries.push(Entry::Scope(s));
-        set_slot(&mut frame.slots, slot, Slot::Own(s));
+        self.tasks[t as usize].leave_open(slot, s, front);
         Ok(())
     }
 
@@ -345,6 +312,7 @@ impl Records {
     #[tactic(auto, unfolding(sts_model::specs::Effect::fork_task))]
     pub(crate) fn fork_task(
         &mut self,
+        alloc: Global,
         program: &Program,
         t: u32,
         s: u32,
@@ -352,6 +320,7 @@ impl Records {
         handle: Option<u8>,
     ) -> Result<(), AllocError>
         requires born { t < length self.old.tasks }
+        requires lives { living.lives (def.task_at self.old t) ≡ true }
         requires more { (def.task_at self.old t).frame.pc + 1 < 2 ^ 32 }
         requires room { length self.old.tasks < 1000000 }
         requires enough { (routine program.now function).args ≤ length (def.task_at self.old t).frame.operands }
@@ -361,20 +330,9 @@ impl Records {
         let child = self.tasks.len() as u32;
         let args = args(program, function);
         let started = !self.is_cancelled(s);
-        let frame = entry_frame(function, args, &self.tasks[t as usize].frame, Slot::Lent(s));
-        self.tasks.push(Task {
-            frame,
-            started,
-            flag: false,
-            scope: Some(s),
-            outcome: None,
-        })?;
-        leave_fork(
-            &mut self.tasks[t as usize].frame,
-            args as usize,
-            handle,
-            child,
-        );
+        let task = TaskRecord::subtask(alloc, function, args, self.frame(t), s, started)?;
+        self.tasks.push(task)?;
+        self.tasks[t as usize].leave_fork(args as usize, handle, child);
         Ok(())
     }
 }

@@ -1,12 +1,11 @@
 //! What a program says at a frame.
 
-ghost use Rattle.std.specs.Prelude.{◌≡◌, ◌<◌, length};
+ghost use Rattle.std.specs.Prelude.{◌≡◌, ◌<◌, length, ◌≤◌, IfSome};
 ghost use Rattle.sts_model.specs.World as def;
-ghost use Rattle.std.specs.Prelude.{◌≤◌, IfSome};
 
+use sts_code::code::code_of;
 use sts_code::instr::Instr;
 use sts_code::program::Program;
-use sts_model::code::code_of;
 use sts_model::record::Frame;
 
 /// The instructions of the frame's function.

@@ -1,11 +1,13 @@
 //! Frames at the beginning of a function, and slots.
 
-ghost use Rattle.std.specs.Prelude.{◌≡◌, ◌<◌, ◌≤◌, ◌+◌, ◌^◌, length, [], reverse, take, slice_set};
+ghost use Rattle.std.specs.Prelude.{◌≡◌, ◌<◌, ◌≤◌, ◌+◌, ◌^◌, length, [], ◌∷◌, reverse, take, drop, slice_set};
 ghost use Rattle.sts_model.specs.World as def;
 ghost use Rattle.sts_model.specs.Effect as effect;
+ghost use Rattle.sts_model.specs.Local as local;
+ghost use Rattle.sts_model.specs.declared.record.Entry.TheVariants as entries;
 ghost use Rattle.sts_model.specs.declared.record.Slot.TheVariants as slots;
 
-use sts_model::record::{Frame, Slot};
+use sts_model::record::{Entry, Frame, Slot};
 use sts_model::stack::Stack;
 
 /// The frame at the beginning of `main`.
@@ -53,6 +55,61 @@ pub fn leave_fork(frame: &mut Frame, args: usize, handle: Option<u8>, child: u32
     if let Some(x) = handle {
         set_slot(&mut frame.slots, x, Slot::Sub(child));
     }
+}
+
+/// The frame after a scope was opened.
+pub fn leave_open(frame: &mut Frame, slot: u8, s: u32)
+    requires more { frame.old.pc + 1 < 2 ^ 32 }
+    requires entries { length frame.old.entries < 16 }
+    ensures { frame.new ≡ record (local.steps frame.old 0 []) { entries = entries.Scope s ∷ frame.old.entries; slots = slice_set frame.old.slots slot (slots.Own s) } }
+{
+    let next = frame.pc + 1;
+    frame.goes(next, 0);
+    frame.entries.push(Entry::Scope(s));
+    set_slot(&mut frame.slots, slot, Slot::Own(s));
+}
+
+/// The frame after a `close` has ended, with these slots.
+pub fn leave_close(frame: &mut Frame, slots: [Slot; 16])
+    requires { frame.old.pc + 1 < 2 ^ 32 }
+    ensures { frame.new ≡ record (local.steps frame.old 0 []) { entries = drop 1 frame.old.entries; slots = slots } }
+{
+    let next = frame.pc + 1;
+    frame.goes(next, 0);
+    frame.entries.drop_top(1);
+    frame.slots = slots;
+}
+
+/// Empties a slot.
+pub fn forget(frame: &mut Frame, x: u8)
+    requires { frame.old.pc + 1 < 2 ^ 32 }
+    ensures { frame.new ≡ record (local.steps frame.old 0 []) { slots = slice_set frame.old.slots x slots.Empty } }
+{
+    let next = frame.pc + 1;
+    frame.goes(next, 0);
+    set_slot(&mut frame.slots, x, Slot::Empty);
+}
+
+/// Binds a key to the popped operand.
+pub fn bind(frame: &mut Frame, k: u8)
+    requires more { frame.old.pc + 1 < 2 ^ 32 }
+    requires entries { length frame.old.entries < 16 }
+    ensures { frame.new ≡ record (local.steps frame.old 1 []) { entries = entries.Binding k (local.operand frame.old 0) ∷ frame.old.entries } }
+{
+    let value = frame.operand(0);
+    let next = frame.pc + 1;
+    frame.goes(next, 1);
+    frame.entries.push(Entry::Binding(k, value));
+}
+
+/// Ends the innermost binding.
+pub fn unbind(frame: &mut Frame)
+    requires { frame.old.pc + 1 < 2 ^ 32 }
+    ensures { frame.new ≡ record (local.steps frame.old 0 []) { entries = drop 1 frame.old.entries } }
+{
+    let next = frame.pc + 1;
+    frame.goes(next, 0);
+    frame.entries.drop_top(1);
 }
 
 /// The arguments, and zeros after them.

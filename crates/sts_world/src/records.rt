@@ -1,23 +1,27 @@
 //! All tasks and all scopes, by birth number, and what is read of them.
 
-ghost use Rattle.std.specs.Prelude.{◌≡◌, ◌<◌, ◌≤◌, length, true};
+ghost use Rattle.std.specs.Prelude.{◌≡◌, ◌<◌, ◌≤◌, length, true, None, IfSome};
 ghost use Rattle.sts_model.specs.Environment as scoped;
 ghost use Rattle.sts_model.specs.Living as living;
 ghost use Rattle.sts_model.specs.Misuse as misuse;
 ghost use Rattle.sts_model.specs.Outside as outside;
 ghost use Rattle.sts_model.specs.World as def;
+ghost use Rattle.sts_world.specs.Scopes.{IsShown};
 
-use crate::reading::{kept_value, own_value};
+use crate::chains::Chains;
+use crate::scope::{ScopeRecord, front_of};
+use crate::task::TaskRecord;
 use std::marker::Model;
 use sts_code::instr::Joiner;
 use sts_model::event::{End, Phase};
-use sts_model::record::{Completion, Frame, Scope, Task};
+use sts_model::record::{Completion, Frame};
 
 /// The tasks and the scopes by birth number: contracts see the two lists.
 #[derive(Drop)]
 pub struct Records {
-    pub(crate) tasks: Vec<Task>,
-    pub(crate) scopes: Vec<Scope>,
+    pub(crate) tasks: Vec<TaskRecord>,
+    pub(crate) scopes: Vec<ScopeRecord>,
+    pub(crate) chains: Chains,
 }
 
 impl Model for Records {
@@ -25,17 +29,12 @@ impl Model for Records {
 
     ghost Value = { World };
 
-    ghost view = { λ w. record { tasks = w.tasks.items; scopes = w.scopes.items } };
+    ghost use Rattle.std.specs.Prelude.{length, map, ◌≤◌};
+    ghost use Rattle.sts_world.specs.Scopes.{shown, AreWithin};
 
-    ghost use Rattle.std.specs.Prelude.{length, ◌≤◌};
+    ghost view = { λ w. record { tasks = w.tasks.items; scopes = map (shown w.chains) w.scopes.items } };
 
-    ghost invariant = { λ w. (length w.tasks.items ≤ 1000000) × (length w.scopes.items ≤ 1000000) };
-}
-
-pub fn lives(task: &Task) -> bool
-    ensures { result ≡ living.lives task.now }
-{
-    task.started && task.outcome.is_none()
+    ghost invariant = { λ w. (length w.tasks.items ≤ 1000000) × (length w.scopes.items ≤ 1000000) × AreWithin w.chains w.scopes.items };
 }
 
 /// May `join` be done in this phase?
@@ -74,23 +73,24 @@ impl Records {
         ensures born { result ≡ true → t < length self.now.tasks }
     {
         match self.tasks.get(t as usize) {
-            Some(task) => lives(task),
+            Some(task) => task.lives(),
             None => false,
         }
     }
 
     pub fn frame(&self, t: u32) -> &Frame
-        requires { t < length self.now.tasks }
+        requires born { t < length self.now.tasks }
+        requires lives { living.lives (def.task_at self.now t) ≡ true }
         ensures { result.now ≡ (def.task_at self.now t).frame }
     {
-        &self.tasks[t as usize].frame
+        self.tasks[t as usize].frame()
     }
 
     pub fn flag(&self, t: u32) -> bool
         ensures { result ≡ (def.task_at self.now t).flag }
     {
         match self.tasks.get(t as usize) {
-            Some(task) => task.flag,
+            Some(task) => task.flag(),
             None => false,
         }
     }
@@ -100,7 +100,7 @@ impl Records {
         ensures { result ≡ (def.task_at self.now t).scope }
     {
         match self.tasks.get(t as usize) {
-            Some(task) => task.scope,
+            Some(task) => task.scope(),
             None => None,
         }
     }
@@ -110,15 +110,23 @@ impl Records {
         ensures { result ≡ (def.task_at self.now 0).outcome }
     {
         match self.tasks.get(0) {
-            Some(task) => task.outcome,
+            Some(task) => task.outcome(),
             None => None,
         }
+    }
+
+    /// A scope as it is kept.
+    fn scope(&self, s: u32) -> Option<&ScopeRecord>
+        ensures some { IfSome result (λ x. IsShown x.now (def.scope_at self.now s)) }
+        ensures none { result ≡ None → def.scope_at self.now s ≡ def.no_scope }
+    {
+        self.scopes.get(s as usize)
     }
 
     pub fn phase(&self, s: u32) -> Phase
         ensures { result ≡ (def.scope_at self.now s).phase }
     {
-        match self.scopes.get(s as usize) {
+        match self.scope(s) {
             Some(scope) => scope.phase,
             None => Phase::Closed,
         }
@@ -127,7 +135,7 @@ impl Records {
     pub fn joiner(&self, s: u32) -> Joiner
         ensures { result ≡ (def.scope_at self.now s).joiner }
     {
-        match self.scopes.get(s as usize) {
+        match self.scope(s) {
             Some(scope) => scope.joiner,
             None => Joiner::AwaitAll,
         }
@@ -136,7 +144,7 @@ impl Records {
     pub fn is_timed(&self, s: u32) -> bool
         ensures { result ≡ (def.scope_at self.now s).timed }
     {
-        match self.scopes.get(s as usize) {
+        match self.scope(s) {
             Some(scope) => scope.timed,
             None => false,
         }
@@ -145,7 +153,7 @@ impl Records {
     pub fn is_cancelled(&self, s: u32) -> bool
         ensures { result ≡ (def.scope_at self.now s).cancelled }
     {
-        match self.scopes.get(s as usize) {
+        match self.scope(s) {
             Some(scope) => scope.cancelled,
             None => false,
         }
@@ -154,7 +162,7 @@ impl Records {
     pub fn is_expired(&self, s: u32) -> bool
         ensures { result ≡ (def.scope_at self.now s).expired }
     {
-        match self.scopes.get(s as usize) {
+        match self.scope(s) {
             Some(scope) => scope.expired,
             None => false,
         }
@@ -171,7 +179,7 @@ impl Records {
     fn completions(&self, s: u32) -> &[Completion]
         ensures { result.now ≡ (def.scope_at self.now s).completions }
     {
-        match self.scopes.get(s as usize) {
+        match self.scope(s) {
             Some(scope) => scope.completions.as_slice(),
             None => &[],
         }
@@ -190,13 +198,7 @@ impl Records {
     fn value_kept(&self, scope: Option<u32>, k: u8) -> Option<i64>
         ensures { result ≡ scoped.read (living.parent self.now scope).environment k }
     {
-        match scope {
-            None => None,
-            Some(s) => match self.scopes.get(s as usize) {
-                None => None,
-                Some(scope) => kept_value(scope.environment.as_slice(), k),
-            },
-        }
+        self.chains.read(front_of(&self.scopes, scope), k)
     }
 
     /// The innermost value of a key for a task.
@@ -207,11 +209,11 @@ impl Records {
         match self.tasks.get(t as usize) {
             None => None,
             Some(task) => {
-                let own = own_value(&task.frame, k);
+                let own = task.own_value(k);
                 if own.is_some() {
                     own
                 } else {
-                    self.value_kept(task.scope, k)
+                    self.value_kept(task.scope(), k)
                 }
             }
         }

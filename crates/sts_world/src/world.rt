@@ -8,6 +8,7 @@ ghost use Rattle.sts_model.specs.Joining as joining;
 ghost use Rattle.sts_model.specs.Living as living;
 ghost use Rattle.sts_model.specs.Local as frames;
 ghost use Rattle.sts_model.specs.Misuse as misuse;
+ghost use Rattle.sts_code.specs.Facts as facts;
 ghost use Rattle.sts_model.specs.Outside as outside;
 ghost use Rattle.sts_model.specs.Standing as standing;
 ghost use Rattle.sts_model.specs.World as def;
@@ -193,6 +194,7 @@ impl World {
     /// Pops `n` operands and goes to `to`.
     pub fn goes(&mut self, t: u32, to: u32, n: usize)
         requires born { t < length self.old.tasks }
+        requires lives { living.lives (def.task_at self.old t) ≡ true }
         ensures { self.new ≡ def.with_frame self.old t (frames.goes (def.task_at self.old t).frame to n []) }
     {
         self.records.goes(t, to, n);
@@ -201,6 +203,7 @@ impl World {
     /// Pops `n` operands, pushes a value and goes to `to`.
     pub fn goes_with(&mut self, t: u32, to: u32, n: usize, value: i64)
         requires born { t < length self.old.tasks }
+        requires lives { living.lives (def.task_at self.old t) ≡ true }
         requires room { length (def.task_at self.old t).frame.operands - n < 32 }
         ensures { self.new ≡ def.with_frame self.old t (frames.goes (def.task_at self.old t).frame to n (value ∷ [])) }
     {
@@ -210,6 +213,7 @@ impl World {
     /// Does a local instruction.
     pub fn local(&mut self, program: &Program, t: u32, instr: Instr)
         requires born { t < length self.old.tasks }
+        requires lives { living.lives (def.task_at self.old t) ≡ true }
         requires at { def.instr_at program.now (def.task_at self.old t).frame ≡ Some instr }
         requires more { (def.task_at self.old t).frame.pc + 1 < 2 ^ 32 }
         requires short { length (def.code program.now (def.task_at self.old t).frame) < 2 ^ 32 }
@@ -224,6 +228,7 @@ impl World {
     /// Empties a slot.
     pub fn forget(&mut self, t: u32, x: u8)
         requires born { t < length self.old.tasks }
+        requires lives { living.lives (def.task_at self.old t) ≡ true }
         requires more { (def.task_at self.old t).frame.pc + 1 < 2 ^ 32 }
         ensures { self.new ≡ effect.forget self.old t (def.task_at self.old t).frame x }
     {
@@ -233,6 +238,7 @@ impl World {
     /// Binds a key to the popped operand.
     pub fn bind(&mut self, t: u32, k: u8)
         requires born { t < length self.old.tasks }
+        requires lives { living.lives (def.task_at self.old t) ≡ true }
         requires more { (def.task_at self.old t).frame.pc + 1 < 2 ^ 32 }
         requires entries { length (def.task_at self.old t).frame.entries < 16 }
         ensures { self.new ≡ effect.bind self.old t (def.task_at self.old t).frame k }
@@ -243,6 +249,7 @@ impl World {
     /// Ends the innermost binding.
     pub fn unbind(&mut self, t: u32)
         requires born { t < length self.old.tasks }
+        requires lives { living.lives (def.task_at self.old t) ≡ true }
         requires more { (def.task_at self.old t).frame.pc + 1 < 2 ^ 32 }
         ensures { self.new ≡ effect.unbind self.old t (def.task_at self.old t).frame }
     {
@@ -252,6 +259,7 @@ impl World {
     /// Pushes the flag and clears it.
     pub fn take_flag(&mut self, t: u32)
         requires born { t < length self.old.tasks }
+        requires lives { living.lives (def.task_at self.old t) ≡ true }
         requires more { (def.task_at self.old t).frame.pc + 1 < 2 ^ 32 }
         requires room { length (def.task_at self.old t).frame.operands < 32 }
         ensures { self.new ≡ effect.take_flag self.old t (def.task_at self.old t).frame }
@@ -318,14 +326,14 @@ impl World {
 
 impl World {
     /// Sets the end of a living task, and tells nobody.
-    fn set_end(&mut self, t: u32, end: End)
+    fn set_end(&mut self, alloc: Global, t: u32, end: End)
         requires born { t < length self.old.tasks }
         requires lives { living.lives (def.task_at self.old t) ≡ true }
         requires more { (def.task_at self.old t).frame.pc + 1 < 2 ^ 32 }
         ensures { self.new ≡ effect.ended self.old t (def.task_at self.old t).frame end }
     {
         let parent = self.records.parent(t);
-        self.records.set_end(t, end);
+        self.records.set_end(alloc, t, end);
         match parent {
             None => {}
             Some(s) => self.families[s as usize].lose(),
@@ -333,7 +341,7 @@ impl World {
     }
 
     /// Ends a living subtask of a scope that is told of it, and answers whether the scope's joiner now asks to cancel it.
-    fn complete(&mut self, t: u32, s: u32, end: End) -> Result<bool, AllocError>
+    fn complete(&mut self, alloc: Global, t: u32, s: u32, end: End) -> Result<bool, AllocError>
         requires born { t < length self.old.tasks }
         requires lives { living.lives (def.task_at self.old t) ≡ true }
         requires in_scope { (def.task_at self.old t).scope ≡ Some s }
@@ -343,14 +351,14 @@ impl World {
         ensures err { OnErr result (self.new ≡ self.old) }
     {
         self.records.tell(s, t, end)?;
-        self.records.set_end(t, end);
+        self.records.set_end(alloc, t, end);
         self.families[s as usize].lose();
         Ok(self.tallies[s as usize].on_complete(end))
     }
 
     /// Ends a living task.
     #[tactic(auto, unfolding(sts_model::specs::Effect::end_task))]
-    pub fn end_task(&mut self, t: u32, end: End) -> Result<(), AllocError>
+    pub fn end_task(&mut self, alloc: Global, t: u32, end: End) -> Result<(), AllocError>
         requires born { t < length self.old.tasks }
         requires lives { living.lives (def.task_at self.old t) ≡ true }
         requires more { (def.task_at self.old t).frame.pc + 1 < 2 ^ 32 }
@@ -359,13 +367,13 @@ impl World {
     {
         match self.records.parent(t) {
             None => {
-                self.set_end(t, end);
+                self.set_end(alloc, t, end);
             }
             Some(s) => {
                 if self.records.is_cancelled(s) {
-                    self.set_end(t, end);
+                    self.set_end(alloc, t, end);
                 } else {
-                    if self.complete(t, s, end)? {
+                    if self.complete(alloc, t, s, end)? {
                         self.cancel(s);
                     }
                 }
@@ -381,6 +389,7 @@ impl World {
     /// An outcome of `join` that pushes nothing.
     fn joined(&mut self, t: u32, s: u32, to: u32)
         requires born { t < length self.old.tasks }
+        requires lives { living.lives (def.task_at self.old t) ≡ true }
         ensures { self.new ≡ effect.joined self.old t s (frames.goes (def.task_at self.old t).frame to 0 []) }
     {
         self.set_phase(s, Phase::Joined);
@@ -390,6 +399,7 @@ impl World {
     /// An outcome of `join` that pushes a value.
     fn joined_with(&mut self, t: u32, s: u32, to: u32, value: i64)
         requires born { t < length self.old.tasks }
+        requires lives { living.lives (def.task_at self.old t) ≡ true }
         requires room { length (def.task_at self.old t).frame.operands < 32 }
         ensures { self.new ≡ effect.joined self.old t s (frames.goes (def.task_at self.old t).frame to 0 (value ∷ [])) }
     {
@@ -400,6 +410,7 @@ impl World {
     /// `join` is interrupted.
     fn attempted(&mut self, t: u32, s: u32, to: u32)
         requires born { t < length self.old.tasks }
+        requires lives { living.lives (def.task_at self.old t) ≡ true }
         ensures { self.new ≡ def.with_task (effect.with_phase self.old s Attempted) t (record (def.task_at self.old t) { frame = frames.goes (def.task_at self.old t).frame to 0 []; flag = false }) }
     {
         self.set_phase(s, Phase::Attempted);
@@ -408,6 +419,7 @@ impl World {
 
     fn leave_join(&mut self, t: u32, to: u32)
         requires born { t < length self.old.tasks }
+        requires lives { living.lives (def.task_at self.old t) ≡ true }
         ensures { self.new ≡ def.with_task self.old t (record (def.task_at self.old t) { frame = frames.goes (def.task_at self.old t).frame to 0 []; flag = false }) }
     {
         self.records.leave_join(t, to);
@@ -417,8 +429,9 @@ impl World {
     #[tactic(auto, using(crate::proofs::Verdicts::ok_pushes, crate::proofs::Verdicts::failed_pushes), unfolding(sts_model::specs::Effect::join_scope))]
     pub fn join(&mut self, t: u32, s: u32, failed: u32, timeout: u32, interrupted: u32)
         requires born { t < length self.old.tasks }
+        requires lives { living.lives (def.task_at self.old t) ≡ true }
         requires more { (def.task_at self.old t).frame.pc + 1 < 2 ^ 32 }
-        requires room { (nat_le 32 (length (def.task_at self.old t).frame.operands) && not (misuse.is_await_all (def.scope_at self.old s).joiner)) ≡ false }
+        requires room { (nat_le 32 (length (def.task_at self.old t).frame.operands) && not (facts.is_await_all (def.scope_at self.old s).joiner)) ≡ false }
         ensures { self.new ≡ effect.join_scope self.old t (def.task_at self.old t).frame s failed timeout interrupted }
     {
         if self.records.is_expired(s) {
@@ -444,6 +457,7 @@ impl World {
     #[tactic(auto, unfolding(sts_model::specs::Effect::close_scope))]
     pub fn close(&mut self, t: u32, s: u32)
         requires born { t < length self.old.tasks }
+        requires lives { living.lives (def.task_at self.old t) ≡ true }
         requires more { (def.task_at self.old t).frame.pc + 1 < 2 ^ 32 }
         ensures { self.new ≡ effect.close_scope self.old t (def.task_at self.old t).frame s }
     {
@@ -457,6 +471,7 @@ impl World {
 
     fn end_close(&mut self, t: u32, s: u32)
         requires born { t < length self.old.tasks }
+        requires lives { living.lives (def.task_at self.old t) ≡ true }
         requires more { (def.task_at self.old t).frame.pc + 1 < 2 ^ 32 }
         ensures { self.new ≡ effect.closed self.old t (def.task_at self.old t).frame s }
     {
@@ -467,6 +482,7 @@ impl World {
 
     fn leave_close(&mut self, t: u32, slots: [Slot; 16])
         requires born { t < length self.old.tasks }
+        requires lives { living.lives (def.task_at self.old t) ≡ true }
         requires more { (def.task_at self.old t).frame.pc + 1 < 2 ^ 32 }
         ensures { self.new ≡ def.with_frame self.old t (record (frames.steps (def.task_at self.old t).frame 0 []) { entries = drop 1 (def.task_at self.old t).frame.entries; slots = slots }) }
     {
@@ -501,6 +517,7 @@ impl World {
         timed: bool,
     ) -> Result<(), AllocError>
         requires born { t < length self.old.tasks }
+        requires lives { living.lives (def.task_at self.old t) ≡ true }
         requires more { (def.task_at self.old t).frame.pc + 1 < 2 ^ 32 }
         requires room { length self.old.scopes < 1000000 }
         requires entries { length (def.task_at self.old t).frame.entries < 16 }
@@ -520,6 +537,7 @@ impl World {
     /// Makes a subtask of a scope that is open.
     pub fn fork_task(
         &mut self,
+        alloc: Global,
         program: &Program,
         t: u32,
         s: u32,
@@ -527,6 +545,7 @@ impl World {
         handle: Option<u8>,
     ) -> Result<(), AllocError>
         requires born { t < length self.old.tasks }
+        requires lives { living.lives (def.task_at self.old t) ≡ true }
         requires more { (def.task_at self.old t).frame.pc + 1 < 2 ^ 32 }
         requires room { length self.old.tasks < 1000000 }
         requires enough { (routine program.now function).args ≤ length (def.task_at self.old t).frame.operands }
@@ -539,7 +558,10 @@ impl World {
         let started = !self.records.is_cancelled(s);
         let tasks = self.standing_tasks();
         self.families[s as usize].add(child, started)?;
-        if let Err(error) = self.records.fork_task(program, t, s, function, handle) {
+        if let Err(error) = self
+            .records
+            .fork_task(alloc, program, t, s, function, handle)
+        {
             self.families[s as usize].take_back(started);
             return Err(error);
         }

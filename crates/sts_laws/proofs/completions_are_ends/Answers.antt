@@ -1,4 +1,4 @@
-use Rattle.sts_laws.proofs.Laws as laws
+use Rattle.sts_laws.proofs.StateLemmas as laws
 use Rattle.sts_laws.proofs.completions_are_ends.Goals as goal
 
 pub returns : goal.returns

@@ -1,5 +1,5 @@
-use Rattle.sts_laws.proofs.Steps as steps
+use Rattle.sts_laws.proofs.StepLemmas as laws
 use Rattle.sts_laws.proofs.root_ends_last.Goals as goal
 
 pub returns : goal.returns
-returns c = steps.root_ends_last
+returns c = laws.root_ends_last

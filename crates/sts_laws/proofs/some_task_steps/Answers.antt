@@ -1,5 +1,5 @@
-use Rattle.sts_laws.proofs.Steps as steps
+use Rattle.sts_laws.proofs.StepLemmas as laws
 use Rattle.sts_laws.proofs.some_task_steps.Goals as goal
 
 pub returns : goal.returns
-returns c = steps.some_task_steps
+returns c = laws.some_task_steps

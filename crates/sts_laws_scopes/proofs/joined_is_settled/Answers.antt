@@ -1,4 +1,4 @@
-use Rattle.sts_laws_scopes.proofs.Laws as laws
+use Rattle.sts_laws_scopes.proofs.ScopeLemmas as laws
 use Rattle.sts_laws_scopes.proofs.joined_is_settled.Goals as goal
 
 pub returns : goal.returns

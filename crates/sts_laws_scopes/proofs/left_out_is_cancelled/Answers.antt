@@ -1,4 +1,4 @@
-use Rattle.sts_laws_scopes.proofs.Laws as laws
+use Rattle.sts_laws_scopes.proofs.ScopeLemmas as laws
 use Rattle.sts_laws_scopes.proofs.left_out_is_cancelled.Goals as goal
 
 pub returns : goal.returns

@@ -1,10 +1,11 @@
 use Rattle.std.proofs.Common.{◌≡◌, ◌<◌, ℕ, [], ◌∷◌, ◌++◌, None, pos, get_or, length, refl, sym, ap, ◌∙◌, subst, arith}
 use Rattle.std.proofs.lemmas.List.{length-map}
 use Rattle.sts_code.specs.declared.instr.Instr.TheVariants.{Push}
-use Rattle.sts_model.specs.Around.{named, next_place}
+use Rattle.sts_rules.specs.Around.{next_place}
+use Rattle.sts_code.specs.Facts.{targets}
 use Rattle.sts_code.specs.Program.{routine}
 use Rattle.sts_budget.specs.Laid.{IsLaid, listed, AreListed, IsDeepest, head_after}
-use Rattle.sts_model.specs.ControlPaths.{Among}
+use Rattle.sts_rules.specs.ControlPaths.{Among}
 use Rattle.sts_budget.proofs.Listed.{listed_at, listed_none, are_listed_none, listed_writes, are_listed_more}
 use Rattle.sts_budget.proofs.LaidStep.{Stage, among_fit, begin, short, room, head_fits, mate_fits, any_default, inside_of, places_fit, next_place_laid}
 use Rattle.sts_budget.proofs.layout.lay_out.Goals as goal
@@ -43,7 +44,7 @@ list_after-requires-clause-room c =
 pub loop-pc-preserved : goal.loop-pc-preserved
 loop-pc-preserved c =
     let s : Stage c.args.program.now c.args.function c.loop-pc.pc c.code_of-code.result.now c.loop-pc.heads.items c.loop-pc.mates.items (listed c.loop-pc.lists.items c.loop-pc.which.items) = record { fine = c.code_of-code.ensures.checked; in_program = c.requires.in_program; typed = c.requires.typed; code_is = c.code_of-code.ensures.value; within = c.loop-pc-test.true; laid = c.loop-pc.invariant.0 } in
-    let places = named (get_or c.code_of-code.result.now c.loop-pc.pc (Push (pos 0))) ++ next_place c.loop-pc.pc (get_or c.code_of-code.result.now c.loop-pc.pc (Push (pos 0))) in
+    let places = targets (get_or c.code_of-code.result.now c.loop-pc.pc (Push (pos 0))) ++ next_place c.loop-pc.pc (get_or c.code_of-code.result.now c.loop-pc.pc (Push (pos 0))) in
     let head = c.head_after-head.ensures ∙ ap (λ hs. head_after (get_or c.code_of-code.result.now c.loop-pc.pc (Push (pos 0))) c.loop-pc.pc hs) c.as_slice.ensures.value in
     let end = c.index-innermost.ensures ∙ any_default c.loop-pc.heads.items c.loop-pc.pc _ None (let lt = inside_of s in omega (arith, c.loop-pc.invariant.0.heads_long)) in
     let after = c.in_ok-after.ensures {u = tt} in
@@ -51,7 +52,7 @@ loop-pc-preserved c =
     let lt : c.loop-pc.pc < length c.loop-pc.which.items = omega (arith, inside_of s, c.loop-pc.invariant.0.names_long, long) in
     let list = c.index.ensures ∙ any_default c.loop-pc.which.items c.loop-pc.pc _ 0 lt in
     let before = ap (λ k. get_or c.loop-pc.lists.items k []) list ∙ sym (listed_at c.loop-pc.lists.items c.loop-pc.which.items c.loop-pc.pc lt) in
-    let inside : (to : ℕ) → Among (named (get_or c.code_of-code.result.now c.loop-pc.pc (Push (pos 0))) ++ next_place c.loop-pc.pc (get_or c.code_of-code.result.now c.loop-pc.pc (Push (pos 0)))) to → to < length c.loop-pc.which.items = λ to a. (let lt = among_fit s places refl to a in omega (arith, long)) in
+    let inside : (to : ℕ) → Among (targets (get_or c.code_of-code.result.now c.loop-pc.pc (Push (pos 0))) ++ next_place c.loop-pc.pc (get_or c.code_of-code.result.now c.loop-pc.pc (Push (pos 0)))) to → to < length c.loop-pc.which.items = λ to a. (let lt = among_fit s places refl to a in omega (arith, long)) in
     let writes = listed_writes _ _ c.in_ok-after.after c.loop-pc.lists.items c.list_after.new.lists.items c.loop-pc.which.items c.write_on.new.which.items places after c.loop-pc.invariant.1 c.write_on.ensures.which in (
       next_place_laid s places refl c.head_after-head.result head (get_or c.list_after.new.lists.items c.in_ok-after.after []) _ [] after.after before c.write_on.new.heads.items c.write_mate.new.mates.items (listed c.list_after.new.lists.items c.write_on.new.which.items) c.write_on.ensures.heads writes c.index-innermost.result.now end c.write_mate.ensures,
       are_listed_more _ _ c.in_ok-after.after c.loop-pc.lists.items c.list_after.new.lists.items c.loop-pc.which.items c.write_on.new.which.items places after c.loop-pc.invariant.1 inside c.write_on.ensures.which,
@@ -69,7 +70,7 @@ returns c =
 pub write_on-requires : goal.write_on-requires
 write_on-requires c =
     let s : Stage c.args.program.now c.args.function c.loop-pc.pc c.code_of-code.result.now c.loop-pc.heads.items c.loop-pc.mates.items (listed c.loop-pc.lists.items c.loop-pc.which.items) = record { fine = c.code_of-code.ensures.checked; in_program = c.requires.in_program; typed = c.requires.typed; code_is = c.code_of-code.ensures.value; within = c.loop-pc-test.true; laid = c.loop-pc.invariant.0 } in
-    let fit = places_fit s (named (get_or c.code_of-code.result.now c.loop-pc.pc (Push (pos 0))) ++ next_place c.loop-pc.pc (get_or c.code_of-code.result.now c.loop-pc.pc (Push (pos 0)))) refl in
+    let fit = places_fit s (targets (get_or c.code_of-code.result.now c.loop-pc.pc (Push (pos 0))) ++ next_place c.loop-pc.pc (get_or c.code_of-code.result.now c.loop-pc.pc (Push (pos 0)))) refl in
     record {
       short = short s;
       heads_inside = λ k d lt. (let h = fit k d lt in omega (arith, c.loop-pc.invariant.0.heads_long));

@@ -3,10 +3,10 @@ use Rattle.sts_budget.proofs.HandOn.{partial_none, partial_next, too_much}
 use Rattle.sts_budget.proofs.pass.table.Goals as goal
 
 pub loop-pc-init : goal.loop-pc-init
-loop-pc-init g c = partial_none c.args.kind c.args.earlier.now c.args.code.now c.args.layout.now c.requires.ready g.row.N c.in_ok-best.best.items (c.in_ok-best.ensures {u = tt})
+loop-pc-init g c = partial_none c.args.pass.now.resource c.args.pass.now.earlier.now c.args.pass.now.code.now c.args.pass.now.layout.now c.requires.ready g.row.N c.in_ok-best.best.items (c.in_ok-best.ensures {u = tt})
 
 pub returns-then-not-hand_on : goal.returns-then-not-hand_on
-returns-then-not-hand_on g c = too_much c.args.kind c.args.earlier.now c.args.code.now c.args.layout.now c.requires.ready c.loop-pc.pc c.args.most c.loop-pc.best.items c.loop-pc-test.true c.loop-pc.invariant (c.hand_on.ensures.over (search rules))
+returns-then-not-hand_on g c = too_much c.args.pass.now.resource c.args.pass.now.earlier.now c.args.pass.now.code.now c.args.pass.now.layout.now c.requires.ready c.loop-pc.pc c.args.pass.now.most c.loop-pc.best.items c.loop-pc-test.true c.loop-pc.invariant (c.hand_on.ensures.over (search rules))
 
 pub loop-pc-preserved : goal.loop-pc-preserved
-loop-pc-preserved g c = partial_next c.args.kind c.args.earlier.now c.args.code.now c.args.layout.now c.requires.ready c.loop-pc.pc c.loop-pc.best.items c.hand_on.new.best.items c.loop-pc.invariant (c.hand_on.ensures.spread (search rules))
+loop-pc-preserved g c = partial_next c.args.pass.now.resource c.args.pass.now.earlier.now c.args.pass.now.code.now c.args.pass.now.layout.now c.requires.ready c.loop-pc.pc c.loop-pc.best.items c.hand_on.new.best.items c.loop-pc.invariant (c.hand_on.ensures.spread (search rules))

@@ -4,4 +4,4 @@ use Rattle.sts_cli.specs.Output.{memory_output}
 use Rattle.sts_cli.proofs.play.play.Goals as goal
 
 pub returns-in-Err : goal.returns-in-Err
-returns-in-Err g c = IfOk-weaker c.written-in-Err.result _ _ (λ s h. (memory_output, inr refl, h.0, h.1)) c.written-in-Err.ensures
+returns-in-Err g c = IfOk-weaker c.failed.result _ _ (λ s h. (memory_output, inr refl, h)) c.failed.ensures

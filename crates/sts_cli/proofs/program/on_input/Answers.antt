@@ -1,7 +1,17 @@
+use Rattle.std.proofs.Common.{refl, sym, subst}
+use Rattle.std.proofs.lemmas.Result.{IfOk-weaker}
 use Rattle.sts_cli.specs.Ending as def
+use Rattle.sts_cli.specs.Output.{failure_output}
+use Rattle.sts_cli.specs.Taking.{IsTakenOf}
+use Rattle.sts_cli.proofs.Ends.{gives_taken, of_input}
 use Rattle.sts_cli.proofs.program.on_input.Goals as goal
 
-pub returns-in-Ok-play_joined : goal.returns-in-Ok-play_joined
-returns-in-Ok-play_joined g c =
-    let told = c.in-Ok-play_joined.ensures in
-    def.shown _ _ told.0 told.1 told.2
+pub returns-in-Ok : goal.returns-in-Ok
+returns-in-Ok g c =
+    let input = g.S.Sources.offered c.args.sources.now in
+    let known = gives_taken input _ def.most_of_a_stream c.in-Ok.input.items c.input.ensures.bytes c.in-Ok.ensures.known in
+    let taken = subst (λ xs. IsTakenOf input def.most_of_a_stream xs) (sym c.as_slice.ensures.value) known in
+    IfOk-weaker c.play_joined.result _ _ (λ s h. (h.0, of_input input _ h.0 taken h.1, h.2)) c.play_joined.ensures
+
+pub returns : goal.returns
+returns g c = IfOk-weaker c.failed.result _ _ (λ s h. (failure_output c.in-Err.error, def.failed c.in-Err.error refl, h)) c.failed.ensures

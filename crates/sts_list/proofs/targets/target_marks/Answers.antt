@@ -3,7 +3,8 @@ use Rattle.std.specs.List.{flat_map}
 use Rattle.std.specs.Prelude.{pos}
 use Rattle.sts_code.specs.declared.instr.Instr.{Instr}
 use Rattle.sts_code.specs.declared.instr.Instr.TheVariants.{Push}
-use Rattle.sts_list.specs.Listing.{with_marks, targets}
+use Rattle.sts_list.specs.Listing.{with_marks}
+use Rattle.sts_code.specs.Facts.{targets}
 use Rattle.sts_list.proofs.TargetLemmas.{marked_all, marks_step}
 use Rattle.sts_list.proofs.targets.target_marks.Goals as goal
 

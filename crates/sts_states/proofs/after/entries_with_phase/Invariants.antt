@@ -1,5 +1,5 @@
 use Rattle.std.proofs.Common.{◌≡◌, ◌-◌, length, drop, map}
-use Rattle.sts_model.specs.Edges.{phase_set}
+use Rattle.sts_rules.specs.Edges.{phase_set}
 use Rattle.sts_states.proofs.after.entries_with_phase.Given as goal
 
 -- what lies below is set

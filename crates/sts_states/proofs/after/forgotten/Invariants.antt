@@ -1,6 +1,6 @@
 use Rattle.std.proofs.Common.{◌≡◌, ◌++◌, take, drop, map, if◌then◌else◌}
-use Rattle.sts_model.specs.declared.typing.SlotKind.TheVariants.{Empty}
-use Rattle.sts_model.specs.Edges.{is_sub_of}
+use Rattle.sts_rules.specs.declared.typing.SlotKind.TheVariants.{Empty}
+use Rattle.sts_rules.specs.Edges.{is_sub_of}
 use Rattle.sts_states.proofs.after.forgotten.Given as goal
 
 -- those that were visited are cleared

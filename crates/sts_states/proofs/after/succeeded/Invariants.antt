@@ -1,5 +1,5 @@
 use Rattle.std.proofs.Common.{◌≡◌, ◌++◌, take, drop}
-use Rattle.sts_model.specs.Edges.{succeeded}
+use Rattle.sts_rules.specs.Edges.{succeeded}
 use Rattle.sts_states.proofs.after.succeeded.Given as goal
 
 -- those that were visited are set

@@ -1,5 +1,5 @@
 use Rattle.std.proofs.Common.{◌≡◌, drop}
-use Rattle.sts_model.specs.Causes.{binds_after}
+use Rattle.sts_rules.specs.Causes.{binds_after}
 use Rattle.sts_states.proofs.slots.binds_after.Given as goal
 
 -- the rest decides

@@ -1,6 +1,6 @@
 use Rattle.std.proofs.Common.{◌≡◌, drop}
 use Rattle.std.specs.List.{list_any}
-use Rattle.sts_model.specs.Causes.{binds}
+use Rattle.sts_rules.specs.Causes.{binds}
 use Rattle.sts_states.proofs.slots.has_binding.Given as goal
 
 -- the rest decides

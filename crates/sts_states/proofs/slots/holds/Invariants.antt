@@ -1,6 +1,6 @@
 use Rattle.std.proofs.Common.{◌≡◌, drop, leb}
 use Rattle.std.specs.List.{list_any}
-use Rattle.sts_model.specs.declared.typing.TypedLoop.{TypedLoop}
+use Rattle.sts_rules.specs.declared.typing.TypedLoop.{TypedLoop}
 use Rattle.sts_states.proofs.slots.holds.Given as goal
 
 -- the rest decides

@@ -1,5 +1,5 @@
 use Rattle.std.proofs.Common.{◌≡◌, drop}
-use Rattle.sts_model.specs.TypeState.{scope_in}
+use Rattle.sts_rules.specs.TypeState.{scope_in}
 use Rattle.sts_states.proofs.slots.scope_in.Given as goal
 
 -- the rest decides

@@ -1,5 +1,5 @@
 use Rattle.std.proofs.Common.{◌∙◌, ◌&&◌, not, ℕ}
-use Rattle.sts_model.specs.Causes.{needs, is_bound}
+use Rattle.sts_rules.specs.Causes.{needs, is_bound}
 use Rattle.sts_types.proofs.Ranges.{any_next, any_here, any_end, any_all}
 use Rattle.sts_types.proofs.cause.lacks_key.Goals as goal
 

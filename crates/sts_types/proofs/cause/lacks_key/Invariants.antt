@@ -1,5 +1,5 @@
 use Rattle.std.proofs.Common.{◌≡◌, ◌&&◌, not}
-use Rattle.sts_model.specs.Causes.{needs, is_bound}
+use Rattle.sts_rules.specs.Causes.{needs, is_bound}
 use Rattle.sts_types.proofs.Ranges.{any_from}
 use Rattle.sts_types.proofs.cause.lacks_key.Given as goal
 

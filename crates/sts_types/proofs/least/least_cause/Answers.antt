@@ -1,16 +1,16 @@
 use Rattle.std.proofs.Common.{◌∙◌, sym, ap}
-use Rattle.sts_model.specs.Causes.{is_illegal}
+use Rattle.sts_rules.specs.Causes.{is_illegal}
 use Rattle.sts_types.proofs.Fitting.{lead_found, slot_found, slot_missed}
 use Rattle.sts_types.proofs.least.least_cause.Goals as goal
 
 pub returns-then-is_some : goal.returns-then-is_some
 returns-then-is_some c =
-    lead_found c.args.program.now c.args.function c.args.pc c.args.instr c.args.state.now c.args.loops.now c.requires.code (sym c.lacks_operands.ensures ∙ c.if-lacks_operands.false) (sym c.overflows.ensures ∙ c.if-overflows.false) c.lead_cause-lead.result c.lead_cause-lead.ensures (sym c.is_some.ensures ∙ c.if-is_some.true)
+    lead_found c.args.site.now.program.now c.args.site.now.function c.args.site.now.pc c.args.site.now.instr c.args.state.now c.args.site.now.loops.now c.requires.site.code (sym c.lacks_operands.ensures ∙ c.if-lacks_operands.false) (sym c.overflows.ensures ∙ c.if-overflows.false) c.lead_cause-lead.result c.lead_cause-lead.ensures (sym c.is_some.ensures ∙ c.if-is_some.true)
 
 pub returns-then-is_some-2 : goal.returns-then-is_some-2
 returns-then-is_some-2 c =
-    slot_found c.args.program.now c.args.function c.args.pc c.args.instr c.args.state.now c.args.loops.now c.requires.code (sym c.lacks_operands.ensures ∙ c.if-lacks_operands.false) (sym c.overflows.ensures ∙ c.if-overflows.false) c.lead_cause-lead.result c.lead_cause-lead.ensures (sym c.is_some.ensures ∙ c.if-is_some.false) (sym c.is_too_deep.ensures ∙ c.if-is_too_deep.false) c.slot_cause-slot.result c.slot_cause-slot.ensures (sym c.is_some-2.ensures ∙ c.if-is_some-2.true)
+    slot_found c.args.site.now.program.now c.args.site.now.function c.args.site.now.pc c.args.site.now.instr c.args.state.now c.args.site.now.loops.now c.requires.site.code (sym c.lacks_operands.ensures ∙ c.if-lacks_operands.false) (sym c.overflows.ensures ∙ c.if-overflows.false) c.lead_cause-lead.result c.lead_cause-lead.ensures (sym c.is_some.ensures ∙ c.if-is_some.false) (sym c.is_too_deep.ensures ∙ c.if-is_too_deep.false) c.slot_cause-slot.result c.slot_cause-slot.ensures (sym c.is_some-2.ensures ∙ c.if-is_some-2.true)
 
 pub returns : goal.returns
 returns c =
-    c.late_cause.ensures ∙ slot_missed c.args.program.now c.args.function c.args.pc c.args.instr c.args.state.now c.args.loops.now c.requires.code (sym c.lacks_operands.ensures ∙ c.if-lacks_operands.false) (sym c.overflows.ensures ∙ c.if-overflows.false) c.lead_cause-lead.result c.lead_cause-lead.ensures (sym c.is_some.ensures ∙ c.if-is_some.false) (sym c.is_too_deep.ensures ∙ c.if-is_too_deep.false) c.slot_cause-slot.result c.slot_cause-slot.ensures (sym c.is_some-2.ensures ∙ c.if-is_some-2.false) (ap (λ profile. is_illegal profile c.args.instr c.args.state.now) (sym c.profile.ensures) ∙ sym c.is_illegal.ensures ∙ c.if-is_illegal.false) (sym c.breaks_structure.ensures ∙ c.if-breaks_structure.false)
+    c.late_cause.ensures ∙ slot_missed c.args.site.now.program.now c.args.site.now.function c.args.site.now.pc c.args.site.now.instr c.args.state.now c.args.site.now.loops.now c.requires.site.code (sym c.lacks_operands.ensures ∙ c.if-lacks_operands.false) (sym c.overflows.ensures ∙ c.if-overflows.false) c.lead_cause-lead.result c.lead_cause-lead.ensures (sym c.is_some.ensures ∙ c.if-is_some.false) (sym c.is_too_deep.ensures ∙ c.if-is_too_deep.false) c.slot_cause-slot.result c.slot_cause-slot.ensures (sym c.is_some-2.ensures ∙ c.if-is_some-2.false) (ap (λ profile. is_illegal profile c.args.site.now.instr c.args.state.now) (sym c.profile.ensures) ∙ sym c.is_illegal.ensures ∙ c.if-is_illegal.false) (sym c.breaks_structure.ensures ∙ c.if-breaks_structure.false)

@@ -1,13 +1,13 @@
 use Rattle.std.proofs.Common.{◌≡◌, ◌∙◌, slice_get, ap, subst}
-use Rattle.sts_model.specs.Edges.{follows}
-use Rattle.sts_model.specs.TypeState.{TypeState}
+use Rattle.sts_rules.specs.Edges.{follows}
+use Rattle.sts_rules.specs.TypeState.{TypeState}
 use Rattle.sts_types.specs.Arrivals.{ArriveAt}
 use Rattle.sts_types.proofs.Arriving.{arrive_numbered}
 use Rattle.sts_types.proofs.pass.spread.Goals as goal
 
 pub loop-number-preserved : goal.loop-number-preserved
 loop-number-preserved c =
-    let out = λ (s : TypeState). follows c.args.program.now c.args.loops.now c.args.pc c.args.instr s in
+    let out = λ (s : TypeState). follows c.args.site.now.program.now c.args.site.now.loops.now c.args.site.now.pc c.args.site.now.instr s in
     let table : c.go_back.new.self.table ≡ c.loop-number.arrivals.table = ap (λ a. a.table) c.go_back.ensures in
     let state : c.go_back.new.self.state ≡ c.args.arrivals.now.state = ap (λ a. a.state) c.go_back.ensures ∙ c.loop-number.invariant.0 in
     let start : c.go_back.new.self.start ≡ c.loop-number.arrivals.start = ap (λ a. a.start) c.go_back.ensures in

@@ -1,8 +1,8 @@
 use Rattle.std.proofs.Common.{◌<◌, length, get_or, pos, sym, ap, refl, arith, subst}
 use Rattle.sts_code.specs.declared.instr.Instr.TheVariants.{Push}
-use Rattle.sts_model.specs.Edges.{typing}
-use Rattle.sts_model.specs.Flow.{TurnKeeps}
-use Rattle.sts_model.specs.Refusal.{size}
+use Rattle.sts_rules.specs.Edges.{typing}
+use Rattle.sts_rules.specs.Flow.{TurnKeeps}
+use Rattle.sts_rules.specs.Refusal.{size}
 use Rattle.sts_types.specs.Typing.{Tells}
 use Rattle.sts_types.proofs.Passing.{Passed}
 use Rattle.sts_types.proofs.Visiting.{starts, within_code, loaded_is, least_is, back_is, back_fits_same, dead_here, several_here, cause_here, room, places, back_here, back_fits, turn_here, keeps_here, no_turn_here, goes_on_here}

@@ -1,5 +1,5 @@
-use Rattle.sts_model.specs.Edges.{typing}
-use Rattle.sts_model.specs.Refusal.{size}
+use Rattle.sts_rules.specs.Edges.{typing}
+use Rattle.sts_rules.specs.Refusal.{size}
 use Rattle.sts_types.proofs.Passing.{Passed}
 use Rattle.sts_types.proofs.pass.type_function.Given as goal
 

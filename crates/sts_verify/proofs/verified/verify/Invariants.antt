@@ -1,6 +1,6 @@
 use Rattle.std.proofs.Common.{◌≡◌, ◌<◌, ℕ, length}
-use Rattle.sts_model.specs.Budget.{AreBudgets}
-use Rattle.sts_model.specs.Refusal.{IsSound}
+use Rattle.sts_rules.specs.Budget.{AreBudgets}
+use Rattle.sts_rules.specs.Refusal.{IsSound}
 use Rattle.sts_verify.proofs.verified.verify.Given as goal
 
 -- no place of the functions so far has a cause, and their budgets are known

@@ -1,11 +1,12 @@
 use Rattle.std.proofs.Common.{◌≡◌, [], ◌∷◌, ◌++◌, length, Ok, Err, sym, ap, ◌∙◌, subst, arith}
 use Rattle.sts_code.specs.Program.{routine}
-use Rattle.sts_model.specs.Budget.{AreBudgets}
-use Rattle.sts_model.specs.Refusal.{IsSound}
+use Rattle.sts_rules.specs.Budget.{AreBudgets}
+use Rattle.sts_rules.specs.Refusal.{IsSound}
 use Rattle.sts_budget.specs.Outcome.{IsFound}
 use Rattle.sts_budget.proofs.Checked.{is_checked}
 use Rattle.sts_verify.specs.Verifying.{TellsOf}
-use Rattle.sts_verify.proofs.Verifying.{typing_tells, budgets_more, budget_tells}
+use Rattle.sts_verify.proofs.BudgetLemmas.{budgets_more}
+use Rattle.sts_verify.proofs.Verifying.{typing_tells, budget_tells}
 use Rattle.sts_verify.proofs.verified.verify_function.Goals as goal
 
 pub returns-in-Err : goal.returns-in-Err

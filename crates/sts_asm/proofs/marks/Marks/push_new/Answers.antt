@@ -1,14 +1,14 @@
 use Rattle.std.proofs.Common.{rules, ◌≡◌, ◌++◌, ◌∷◌, [], None, ℕ, List, sym, ◌∙◌, ap, cond}
 use Rattle.std.specs.Prelude.{Option, Some}
 use Rattle.std.specs.Str.{bytes_eq}
-use Rattle.std.proofs.lemmas.Map.Text.{hash_map_updates_str}
+use Rattle.std.proofs.lemmas.Map.Text.{btree_map_updates_str}
 use Rattle.sts_asm.specs.Marks.{Mark, marked}
 use Rattle.sts_asm.proofs.MarkLemmas.{marked_push}
 use Rattle.sts_asm.proofs.marks.Marks.push_new.Goals as goal
 
 pub invariant_of-self-in-Ok : goal.invariant_of-self-in-Ok
 invariant_of-self-in-Ok c = λ q.
-    let u = hash_map_updates_str c.args.name.now c.self.inside.index c.insert.new.self _ c.in-Ok.ensures.updates q in
+    let u = btree_map_updates_str c.args.name.now c.self.inside.index c.insert.new.self _ c.in-Ok.ensures.updates q in
     let inv = c.self.invariant q in
     let free : marked c.self.inside.list.items c.args.name.now ≡ None = search rules in
     let new : Mark = record { name = c.args.name.now; at = c.args.at } in

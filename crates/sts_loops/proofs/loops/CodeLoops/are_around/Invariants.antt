@@ -1,6 +1,6 @@
 use Rattle.std.proofs.Common.{◌≡◌, drop, bytes_eq}
-use Rattle.sts_model.specs.Around.{around}
-use Rattle.sts_model.specs.TypeState.{heads}
+use Rattle.sts_rules.specs.Around.{around}
+use Rattle.sts_rules.specs.TypeState.{heads}
 use Rattle.sts_loops.proofs.loops.CodeLoops.are_around.Given as goal
 
 -- what is left to compare decides

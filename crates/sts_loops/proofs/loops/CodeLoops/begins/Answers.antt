@@ -1,5 +1,5 @@
 use Rattle.std.proofs.Common.{◌+◌, ◌∙◌, sym}
-use Rattle.sts_model.specs.TypeState.{heads}
+use Rattle.sts_rules.specs.TypeState.{heads}
 use Rattle.sts_loops.proofs.Nesting.{same_at, differs_at}
 use Rattle.sts_loops.proofs.loops.CodeLoops.begins.Goals as goal
 

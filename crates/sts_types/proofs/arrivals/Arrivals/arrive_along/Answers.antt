@@ -1,6 +1,6 @@
 use Rattle.std.proofs.Common.{◌≡◌, ◌∙◌, length, map, slice_get, slice_set, Some, subst, sym, ap}
-use Rattle.sts_model.specs.Edges.{follows}
-use Rattle.sts_model.specs.TypeState.{TypeState}
+use Rattle.sts_rules.specs.Edges.{follows}
+use Rattle.sts_rules.specs.TypeState.{TypeState}
 use Rattle.sts_types.specs.declared.arrival.Arrival.TheVariants.{One}
 use Rattle.sts_types.specs.Arrivals.{ArriveAt, IsMarked, arrival_of, state_of}
 use Rattle.sts_types.proofs.Arriving.{place_within}
@@ -20,7 +20,7 @@ invariant_of-self-in-Some c =
 
 pub returns-in-Ok-clause-table : goal.returns-in-Ok-clause-table
 returns-in-Ok-clause-table c =
-    let out = λ (s : TypeState). follows c.args.program.now c.args.loops.now c.args.pc c.args.instr s in
+    let out = λ (s : TypeState). follows c.args.site.now.program.now c.args.site.now.loops.now c.args.site.now.pc c.args.site.now.instr s in
     let state = ap (λ a. a.state) c.self.view_is in
     let now = c.keep.new.kept.items in
     let more = c.keep.ensures.more in

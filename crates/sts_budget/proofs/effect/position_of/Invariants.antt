@@ -1,7 +1,0 @@
-use Rattle.std.proofs.Common.{◌≡◌, drop}
-use Rattle.sts_budget.specs.Effect as def
-use Rattle.sts_budget.proofs.effect.position_of.Given as goal
-
--- the scope is among the rest
-abbrev pub invariant-loop-i : goal.invariant-loop-i
-invariant-loop-i l = def.position_of l.slot (drop l.i l.names) ≡ def.position_of l.slot l.names

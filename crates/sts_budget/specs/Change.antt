@@ -1,0 +1,91 @@
+-- What instructions do to the sums over the open entries, the outermost first, by which the budgets are found (this project's own).
+use Rattle.std.specs.Prelude.{ℕ, ◌<◌, List, [], ◌∷◌, length, min, nat_lt, ◌==◌, if◌then◌else◌, Some, None}
+use Rattle.sts_code.specs.declared.instr.Instr.{Instr}
+use Rattle.sts_code.specs.declared.limits.TheConstants.{MAX_STANDING, MAX_STEPS}
+use Rattle.sts_code.specs.declared.instr.Instr.TheVariants.{Open, Fork, Bind}
+use Rattle.sts_rules.specs.declared.typing.Cause.{Cause}
+use Rattle.sts_rules.specs.declared.typing.Cause.TheVariants.{TooManySteps, TooManyTasks, TooManyScopes, TooManyBinds}
+use Rattle.sts_rules.specs.ControlPaths.{IsGreatest, IsPeak}
+use Rattle.sts_rules.specs.declared.budget.Budgets.{Budgets}
+use Rattle.sts_rules.specs.Budget.{Measure, steps_of, skeleton, tasks_sum, scopes_sum, binds_sum, tasks_measure, scopes_measure, binds_measure}
+use Rattle.sts_budget.specs.declared.change.Resource.{Resource}
+use Rattle.sts_budget.specs.declared.change.Resource.TheVariants.{Steps, Tasks, Scopes, Binds}
+use Rattle.sts_budget.specs.declared.change.SumChange.{SumChange}
+use Rattle.sts_budget.specs.declared.change.SumChange.TheVariants.{Rises, Opens, Adds}
+use Rattle.sts_budget.specs.Layout.{Names}
+
+-- the number of entries that the sum over the first d looks back on, where n are open before the instruction
+abbrev pub source_of : SumChange → ℕ → ℕ → ℕ
+source_of (Opens own) n d = min d n
+source_of _ n d = d
+
+-- what the instruction adds to the sum over the first d
+abbrev pub added_of : SumChange → ℕ → ℕ → ℕ
+added_of (Rises amount) n d = amount
+added_of (Opens own) n d = if nat_lt n d then own else 0
+added_of (Adds position amount) n d = if nat_lt position d then amount else 0
+
+-- the position from the outermost of the innermost scope in this slot
+abbrev pub position_of : ℕ → Names → ℕ
+position_of slot [] = 0
+position_of slot (None ∷ ns) = position_of slot ns
+position_of slot (Some s ∷ ns) = if s == slot then length ns else position_of slot ns
+
+abbrev pub measured : Measure → Instr → Names → SumChange
+measured m (Open slot joiner timed) ns = Opens m.scope
+measured m (Bind key) ns = Opens m.binding
+measured m (Fork slot function handle) ns = Adds (position_of slot ns) (m.subtask function)
+measured m _ ns = Rises 0
+
+-- a fork is of an earlier function
+abbrev pub ForksEarlier : ℕ → Instr → Type 0
+ForksEarlier n (Fork slot function handle) = function < n
+ForksEarlier n _ = Unit {0}
+
+-- what is summed for a resource
+abbrev pub measure_of : Resource → List Budgets → Measure
+measure_of Steps earlier = record { scope = 0; binding = 0; subtask = λ f. 0 }
+measure_of Tasks earlier = tasks_measure earlier
+measure_of Scopes earlier = scopes_measure earlier
+measure_of Binds earlier = binds_measure earlier
+
+-- steps are summed over no entry
+abbrev pub change_of : Resource → List Budgets → Instr → Names → SumChange
+change_of Steps earlier i ns = Rises (steps_of earlier i)
+change_of Tasks earlier i ns = measured (tasks_measure earlier) i ns
+change_of Scopes earlier i ns = measured (scopes_measure earlier) i ns
+change_of Binds earlier i ns = measured (binds_measure earlier) i ns
+
+abbrev pub depth_of : Resource → Names → ℕ
+depth_of Steps ns = 0
+depth_of _ ns = length ns
+
+-- what the function counts beside the sums: the last step of a path, the task itself
+abbrev pub own_of : Resource → ℕ
+own_of Steps = 1
+own_of Tasks = 1
+own_of Scopes = 0
+own_of Binds = 0
+
+-- the limit
+abbrev pub limit_of : Resource → ℕ
+limit_of Steps = MAX_STEPS
+limit_of _ = MAX_STANDING
+
+abbrev pub cause_of : Resource → Cause
+cause_of Steps = TooManySteps
+cause_of Tasks = TooManyTasks
+cause_of Scopes = TooManyScopes
+cause_of Binds = TooManyBinds
+
+-- m is the budget of this resource
+abbrev pub IsMost : Resource → List Budgets → List Instr → ℕ → Type 0
+IsMost Steps earlier code m = IsGreatest (skeleton earlier code) m
+IsMost Tasks earlier code m = IsPeak (skeleton earlier code) (tasks_sum earlier) m
+IsMost Scopes earlier code m = IsPeak (skeleton earlier code) (scopes_sum earlier) m
+IsMost Binds earlier code m = IsPeak (skeleton earlier code) (binds_sum earlier) m
+
+-- what a `times` or a `next` counts
+abbrev pub own_step : Resource → ℕ
+own_step Steps = 1
+own_step _ = 0

@@ -1,0 +1,158 @@
+//! The budget of one resource: the greatest sum of all places, each loop being in its last turn.
+
+ghost use Rattle.std.specs.Prelude.{◌≡◌, ◌<◌, ◌≤◌, ◌+◌, ◌-◌, ◌*◌, ◌^◌, ℕ, IfOk, IfSome, MatchOption, length, replicate, get_or};
+ghost use Rattle.sts_code.specs.Program.{instr_at};
+ghost use Rattle.sts_rules.specs.Budget.{Exceeds};
+ghost use Rattle.sts_budget.specs.Change.{own_of, limit_of, cause_of, depth_of as depth, IsMost};
+ghost use Rattle.sts_budget.specs.Pass.{IsBudgetOr, IsSet, low_at};
+ghost use Rattle.sts_budget.specs.Ready.{IsLaidFor, names_in};
+ghost use Rattle.sts_budget.specs.Handing.{base_of, bases_after};
+ghost use Rattle.sts_budget.specs.Table.{read};
+
+use crate::change::{Resource, depth_of};
+use crate::layout::names_at;
+use crate::pass::{Pass, own_step, table};
+use crate::row::Row;
+use std::alloc::{AllocError, Global};
+use sts_code::instr::Instr;
+use sts_code::limits::{MAX_STANDING, MAX_STEPS};
+use sts_rules::fill::filled;
+
+/// What the function counts beside the sums: the last step of a path, the task itself.
+fn own_of(resource: Resource) -> u32
+    ensures { result ≡ own_of resource }
+{
+    match resource {
+        Resource::Steps | Resource::Tasks => 1,
+        Resource::Scopes | Resource::Binds => 0,
+    }
+}
+
+/// The limit of a budget.
+fn limit_of(resource: Resource) -> u32
+    ensures { result ≡ limit_of resource }
+{
+    match resource {
+        Resource::Steps => MAX_STEPS,
+        _ => MAX_STANDING,
+    }
+}
+
+/// The most that the sums may come to, beside what the function counts itself.
+pub(crate) fn most_of(resource: Resource) -> u32
+    ensures { result ≡ limit_of resource - own_of resource }
+{
+    limit_of(resource) - own_of(resource)
+}
+
+/// The greatest sum before the last turn of the innermost loop around a place.
+fn base_at(bases: &[u64], head: Option<u32>) -> u64
+    requires { IfSome head (λ h. h < length bases.now) }
+    ensures { result ≡ base_of bases.now head }
+{
+    match head {
+        Some(at) => bases[at as usize],
+        None => 0,
+    }
+}
+
+/// The greatest sum over so many entries at a place.
+fn sum_at<const N: usize>(best: &[Row<N>], pc: usize, depth: usize) -> u32
+    requires in_code { pc < length best.now }
+    requires few { depth < N }
+    ensures { result ≡ read best.now pc depth }
+{
+    best[pc][depth]
+}
+
+/// A `times` at `pc` opens a loop, where the greatest sum before it is `full`, and one turn's is `end`.
+fn open_loop(bases: &mut Vec<u64>, instr: Instr, pc: usize, own: u32, full: u64, end: u32)
+    requires in_code { pc < length bases.old.items }
+    requires small { full < 2 ^ 32 }
+    ensures { bases.new.items ≡ bases_after instr pc own full end bases.old.items }
+{
+    if let Instr::Times(turns) = instr {
+        bases[pc] = full
+            + own as u64
+            + (turns as u64).saturating_sub(1) * (end as u64 + own as u64);
+    }
+}
+
+/// The sum at the end of a turn of the loop that a `times` opens.
+fn turn_end<const N: usize>(pass: &Pass<'_>, best: &[Row<N>], pc: usize, depth: usize) -> u32
+    requires in_code { pc < length pass.now.code.now }
+    requires mates { pc < length pass.now.layout.now.mates.items }
+    requires inside { (n : ℕ) → instr_at pass.now.code.now pc ≡ Instr.Times n → get_or pass.now.layout.now.mates.items pc 0 < length best.now }
+    requires few { depth < N }
+    ensures { (n : ℕ) → instr_at pass.now.code.now pc ≡ Instr.Times n → result ≡ read best.now (get_or pass.now.layout.now.mates.items pc 0) depth }
+{
+    match pass.code[pc] {
+        Instr::Times(_) => sum_at(best, pass.layout.mates[pc] as usize, depth),
+        _ => 0,
+    }
+}
+
+/// The budget of this resource by a table of rows of `N` sums, or none where it passes its limit.
+fn greatest_by<const N: usize>(alloc: Global, pass: &Pass<'_>) -> Result<Option<u32>, AllocError>
+    requires ready { IsSet pass.now }
+    requires most { pass.now.most ≡ limit_of pass.now.resource - own_of pass.now.resource }
+    requires small { N ≤ 17 }
+    requires fits { (q : ℕ) → low_at pass.now q < N }
+    ensures { IfOk result (IsBudgetOr pass.now) }
+{
+    let own = own_of(pass.resource);
+    let best = match table::<N>(alloc, pass)? {
+        Some(best) => best,
+        None => return Ok(None),
+    };
+    let mut bases = filled(alloc, pass.code.len(), 0)?;
+    let mut greatest = 0;
+    for pc in 0..pass.code.len() {
+        let depth = depth_of(pass.resource, names_at(pass.layout, pc));
+        let full = base_at(bases.as_slice(), pass.layout.heads[pc])
+            + sum_at(best.as_slice(), pc, depth) as u64;
+        if full > pass.most as u64 {
+            return Ok(None);
+        }
+        greatest = full.max(greatest);
+        let end = turn_end(pass, best.as_slice(), pc, depth);
+        open_loop(
+            &mut bases,
+            pass.code[pc],
+            pc,
+            own_step(pass.resource),
+            full,
+            end,
+        );
+    }
+    Ok(Some(own + greatest as u32))
+}
+
+/// The budget of a resource that counts what stands in the open entries, by rows as short as those allow, and by none
+/// where nothing ever opens.
+fn peak(alloc: Global, pass: &Pass<'_>) -> Result<Option<u32>, AllocError>
+    requires ready { IsSet pass.now }
+    requires most { pass.now.most ≡ limit_of pass.now.resource - own_of pass.now.resource }
+    requires no_steps { pass.now.resource ≡ Resource.Steps → ⊥ }
+    ensures { IfOk result (IsBudgetOr pass.now) }
+{
+    if pass.layout.deepest == 0 {
+        return Ok(Some(own_of(pass.resource)));
+    }
+    if pass.layout.deepest < 5 {
+        return greatest_by::<5>(alloc, pass);
+    }
+    greatest_by::<17>(alloc, pass)
+}
+
+/// The budget of this resource, or none where it passes its limit. Steps are summed over no entry.
+pub(crate) fn greatest(alloc: Global, pass: &Pass<'_>) -> Result<Option<u32>, AllocError>
+    requires ready { IsSet pass.now }
+    requires most { pass.now.most ≡ limit_of pass.now.resource - own_of pass.now.resource }
+    ensures { IfOk result (IsBudgetOr pass.now) }
+{
+    match pass.resource {
+        Resource::Steps => greatest_by::<1>(alloc, pass),
+        _ => peak(alloc, pass),
+    }
+}

@@ -1,0 +1,28 @@
+-- What is printed of what was read.
+use Rattle.std.proofs.Common.{◌≡◌, ◌⊎◌, ℕ, List, [], Option, None, Some, IfSome, take, subst, inl, inr}
+use Rattle.sts_cli.specs.Joined.{halves_of}
+use Rattle.sts_cli.specs.Output.{Output, IsOutputOf}
+use Rattle.sts_cli.specs.Taking.{Gives, IsTakenOf}
+use Rattle.sts_cli.specs.Ending.{IsOfText, IsOfTextAndTrace, IsOfInput, most_of_a_text, most_of_a_stream, shown, failed}
+use Rattle.sts_cli.specs.declared.mode.Mode.{Mode}
+use Rattle.sts_cli.specs.declared.mode.Mode.TheVariants as mode
+use Rattle.sts_cli.specs.declared.taking.TakeError.TheVariants.{Memory}
+
+pub of_text : (m : Mode) (file : Option (List ℕ)) (text : List ℕ) (o : Output) → IsTakenOf file most_of_a_text text → IsOutputOf m text [] o → IsOfText m file o
+of_text m file text o taken (inl shows) = shown text taken shows
+of_text m file text o taken (inr memory) = failed Memory memory
+
+pub of_text_and_trace : (file trace_file : Option (List ℕ)) (text trace : List ℕ) (o : Output) → IsTakenOf file most_of_a_text text
+    → IsTakenOf trace_file most_of_a_stream trace → IsOutputOf mode.Plain text trace o → IsOfTextAndTrace file trace_file o
+of_text_and_trace file trace_file text trace o taken traced (inl shows) = shown text trace taken traced shows
+of_text_and_trace file trace_file text trace o taken traced (inr memory) = failed Memory memory
+
+pub of_input : (input : Option (List ℕ)) (bytes : List ℕ) (o : Output) → IsTakenOf input most_of_a_stream bytes
+    → IsOutputOf mode.Plain (halves_of bytes).text (halves_of bytes).trace o → IsOfInput input o
+of_input input bytes o taken (inl shows) = shown bytes taken shows
+of_input input bytes o taken (inr memory) = failed Memory memory
+
+-- what was taken of a reader is of its source
+pub gives_taken : (known remaining : Option (List ℕ)) (most : ℕ) (taken : List ℕ) → Gives known remaining → IfSome remaining (λ xs. taken ≡ take most xs) → IsTakenOf known most taken
+gives_taken None remaining most taken gives is = tt
+gives_taken (Some xs) remaining most taken gives is = subst (λ o. IfSome o (λ ys. taken ≡ take most ys)) gives is

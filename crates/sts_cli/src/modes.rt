@@ -1,0 +1,5 @@
+//! What is printed in each mode, one file for one mode.
+
+pub mod list;
+pub mod plain;
+pub mod verify;

@@ -1,0 +1,85 @@
+//! Mode `verify`: the budgets of each function, or the refused instruction.
+
+ghost use Rattle.std.specs.Prelude.{◌≡◌, IfOk};
+ghost use Rattle.sts_asm.specs.Text.{judged};
+ghost use Rattle.sts_cli.specs.Output as def;
+
+use crate::output::Output;
+use crate::{output, printed};
+use std::alloc::{AllocError, Global};
+use sts_asm::assemble;
+use sts_code::program::Program;
+use sts_rules::budget::Budgets;
+use sts_rules::typing::Cause;
+use sts_verify::error::VerifyError;
+use sts_verify::verified::{Verified, verify};
+
+fn refused(
+    alloc: Global,
+    program: &Program,
+    function: u32,
+    pc: u32,
+    cause: Cause,
+) -> Result<Output, AllocError>
+    ensures { IfOk result (λ o. o ≡ def.refused_output program.now function pc cause) }
+{
+    let mut text = String::new(alloc);
+    printed::refused_line(alloc, &mut text, program, function, pc, cause)?;
+    Ok(Output { text, status: 4 })
+}
+
+/// The budgets of the functions, in order.
+fn all_budgets(alloc: Global, verified: &Verified) -> Result<Vec<Budgets>, AllocError>
+    ensures { IfOk result (λ budgets. def.AreTold verified.now budgets.items) }
+{
+    let mut budgets = Vec::new(alloc);
+    for function in 0..verified.program().functions().len() {
+        budgets.push(verified.budgets(function))?;
+    }
+    Ok(budgets)
+}
+
+fn accepted(alloc: Global, verified: &Verified) -> Result<Output, AllocError>
+    ensures { IfOk result (λ o. def.IsVerdict verified.now o) }
+{
+    let budgets = all_budgets(alloc, verified)?;
+    let mut text = String::new(alloc);
+    printed::accepted_lines(
+        &mut text,
+        verified.program().functions(),
+        budgets.as_slice(),
+    )?;
+    Ok(Output { text, status: 0 })
+}
+
+/// Verifies a program.
+fn verdict(alloc: Global, program: Program) -> Result<Output, AllocError>
+    ensures { IfOk result (λ o. def.IsVerdict program o) }
+{
+    match verify(alloc, program) {
+        Ok(verified) => accepted(alloc, &verified),
+        Err(VerifyError::Memory(_)) => Err(AllocError),
+        Err(
+            VerifyError::Refused {
+                program,
+                function,
+                pc,
+                cause,
+            },
+        ) => refused(alloc, &program, function, pc, cause),
+    }
+}
+
+/// Assembles the text and verifies the program.
+///
+/// # Errors
+///
+/// Memory was refused.
+pub fn verified(alloc: Global, text: &[u8]) -> Result<Output, AllocError>
+    ensures { IfOk result (λ o. def.VerifyShows (judged text.now) o) }
+{
+    match assemble(alloc, text) {
+        Ok(program) => verdict(alloc, program),
+        Err(error) => output::text_fault(alloc, error),
+    }
+}

@@ -1,0 +1,64 @@
+//! The words that the process was given.
+
+use std::alloc::Global;
+use std::env;
+use std::env::FillError;
+use std::io::ErrorKind;
+use std::rt::Env;
+
+/// Why the words were not had.
+#[derive(Clone, Copy, Debug, PartialEq, Eq)]
+pub enum WordsError {
+    /// Memory was refused.
+    Memory,
+    /// A word after the program's name is no UTF-8.
+    NotText,
+}
+
+/// The name that the program goes by, whatever it was started as.
+const NAME: &[u8] = b"sts";
+
+/// An environment but for the program's own name, which is always `sts`.
+#[derive(Drop)]
+struct Named<'a, R> {
+    rt: &'a R,
+}
+
+impl<R: Env> Env for Named<'_, R> {
+    fn arg(&self, i: usize, buf: &mut [u8]) -> Result<usize, FillError> {
+        if i > 0 {
+            return self.rt.arg(i, buf);
+        }
+        if buf.len() < NAME.len() {
+            return Err(FillError::TooLong);
+        }
+        buf[..NAME.len()].copy_from_slice(NAME);
+        Ok(NAME.len())
+    }
+
+    fn var(&self, name: &str, buf: &mut [u8]) -> Result<usize, FillError> {
+        self.rt.var(name, buf)
+    }
+
+    fn var_at(&self, i: usize, buf: &mut [u8]) -> Result<usize, FillError> {
+        self.rt.var_at(i, buf)
+    }
+}
+
+/// The words of the command line, the program's name first.
+///
+/// # Errors
+///
+/// Memory was refused, or a word after the program's name is no UTF-8.
+pub fn words<R: Env>(rt: &R, alloc: Global) -> Result<Vec<String>, WordsError> {
+    match env::args(&(Named { rt }, alloc)) {
+        Ok(words) => match words.collect(alloc) {
+            Ok(words) => Ok(words),
+            Err(_) => Err(WordsError::Memory),
+        },
+        Err(error) => match error.kind() {
+            ErrorKind::InvalidData => Err(WordsError::NotText),
+            _ => Err(WordsError::Memory),
+        },
+    }
+}

@@ -1,0 +1,4 @@
+pub mod EveryRun
+pub mod Faults
+pub mod Printed
+pub mod Room

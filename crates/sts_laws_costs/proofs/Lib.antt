@@ -1,0 +1,15 @@
+pub mod Accepted
+pub mod Balance
+pub mod Born
+pub mod Effects
+pub mod Flow
+pub mod Forks
+pub mod Good
+pub mod Laws
+pub mod Moves
+pub mod Points
+pub mod Ranges
+pub mod Runs
+pub mod Sums
+pub mod Turns
+pub mod Untyped

@@ -1,0 +1,10 @@
+pub mod Around
+pub mod Budget
+pub mod Causes
+pub mod ControlPaths
+pub mod Edges
+pub mod Fits
+pub mod Flow
+pub mod Promises
+pub mod Refusal
+pub mod TypeState

@@ -1,0 +1,11 @@
+pub mod BirthLemmas
+pub mod CompletionLemmas
+pub mod EffectLemmas
+pub mod EventLemmas
+pub mod FrameLemmas
+pub mod KeptLemmas
+pub mod LaterLemmas
+pub mod ListLemmas
+pub mod RunLemmas
+pub mod SoundLemmas
+pub mod StillLemmas

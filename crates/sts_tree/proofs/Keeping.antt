@@ -1,0 +1,230 @@
+-- What one change leaves of who can step, and of who owns what.
+use Rattle.std.proofs.Common.{◌≡◌, ◌≢◌, ℕ, zero, suc, ◌<◌, List, [], ◌∷◌, ◌++◌, map, Bool, true, false, ◌&&◌, ◌||◌, not, Option, Some, None, refl, sym, ◌∙◌, ap, arith, get_or, set, get_or-set_same, get_or-set_other, is_some, nat_eq, nat_lt, length}
+use Rattle.std.proofs.lemmas.Bool.Decides.{nat_tests}
+use Rattle.std.proofs.lemmas.List.{get_or_append_left, get_or_past}
+use Rattle.std.specs.Prelude.{option_map}
+use Rattle.sts_model.specs.declared.event.Stand.{Stand}
+use Rattle.sts_model.specs.declared.event.Stand.TheVariants.{Free, AtJoin, AtClose}
+use Rattle.sts_links.specs.Lists.{first_or}
+use Rattle.sts_forest.specs.Births.{births, has}
+use Rattle.sts_forest.specs.Forest.{Forest, any_lives, lives_in, is_of, root}
+use Rattle.sts_forest.specs.declared.record.Task.{Task}
+use Rattle.sts_forest.specs.declared.record.Scope.{Scope}
+use Rattle.sts_forest.proofs.Births.{births_kept}
+use Rattle.sts_forest.proofs.Holding.{map_at, inside_of}
+use Rattle.sts_forest.proofs.Keys.{not_has}
+use Rattle.sts_forest.proofs.Forks.{own_scope, one_scope, not_lives_of}
+use Rattle.sts_forest.proofs.Steps.{at_set, at_more, one_of, no_more, past_none}
+use Rattle.sts_tree.specs.Steps.{is_over, can_go, can_step, unmarked, seen, stands_at, Owned, IsTree, with_task, with_scope}
+
+same_living : (s : ℕ) (x y : Task) → y.scope ≡ x.scope → y.lives ≡ x.lives → lives_in s y ≡ lives_in s x
+same_living s x y e f = rw (e, f) refl
+
+lives_same : (tasks : List (Option Task)) (t s : ℕ) (x y : Task) → get_or tasks t None ≡ Some x → y.scope ≡ x.scope → y.lives ≡ x.lives → any_lives (set tasks t (Some y)) s ≡ any_lives tasks s
+lives_same tasks t s x y is scope lives = ap (λ l. is_some (first_or l None)) (births_kept (lives_in s) 0 tasks t x y is (same_living s x y scope lives))
+
+pub own_stand : (s : ℕ) → stands_at s (AtJoin s) ≡ true
+own_stand s = grind (arith, nat_tests)
+
+pub some_same : (x y : Task) → Some x ≡ Some y → x ≡ y
+some_same x y e = cc
+
+lives_more : (tasks : List (Option Task)) (r s : ℕ) (y : Task) → y.scope ≡ Some s → r ≢ s → any_lives (tasks ++ Some y ∷ []) r ≡ any_lives tasks r
+lives_more tasks r s y scope ne =
+    let own : is_of s y ≡ true = rw scope (own_scope s) in
+    ap (λ l. is_some (first_or l None)) (one_of (lives_in r) tasks y ∙ no_more (births (lives_in r) 0 tasks) (lives_in r y) (length tasks) (not_lives_of r y (one_scope r s y ne own)))
+
+read_more : (tasks : List (Option Task)) (y : Task) (u : ℕ) → u ≢ length tasks → get_or (tasks ++ Some y ∷ []) u None ≡ get_or tasks u None
+read_more tasks y u ne = by (nat_lt u (length tasks)) refl
+  where
+    by : (b : Bool) → nat_lt u (length tasks) ≡ b → get_or (tasks ++ Some y ∷ []) u None ≡ get_or tasks u None
+    by true q = get_or_append_left tasks (Some y ∷ []) None u (grind (arith, nat_tests))
+    by false q =
+        let past : length tasks < u = grind (arith, nat_tests, ne) in
+        past_none tasks (Some y) u None past ∙ sym (get_or_past tasks u None (omega arith))
+
+module _ {E : Type 0} where
+  abbrev pub step_of : (f : Forest E) → Option Task → Bool
+  step_of f o = elim o [ None ↦ false | Some x ↦ x.lives && can_go f x.flag x.stand ]
+
+  -- a task is written that keeps its scope and whether it lives
+  go_task : (f : Forest E) (t : ℕ) (x y : Task) (flag : Bool) (stand : Stand) → get_or f.tasks t None ≡ Some x → y.scope ≡ x.scope → y.lives ≡ x.lives → can_go (with_task f t y) flag stand ≡ can_go f flag stand
+  go_task f t x y flag Free is scope lives = refl
+  go_task f t x y flag (AtJoin s) is scope lives = rw (lives_same f.tasks t s x y is scope lives) refl
+  go_task f t x y flag (AtClose s) is scope lives = rw (lives_same f.tasks t s x y is scope lives) refl
+
+  pub steps_task : (f : Forest E) (t u : ℕ) (x y : Task) → get_or f.tasks t None ≡ Some x → y.scope ≡ x.scope → y.lives ≡ x.lives → u ≢ t → can_step (with_task f t y) u ≡ can_step f u
+  steps_task f t u x y is scope lives ne =
+      ap (step_of (with_task f t y)) (get_or-set_other f.tasks t u (Some y) None ne) ∙ by (get_or f.tasks u None)
+    where
+      by : (o : Option Task) → step_of (with_task f t y) o ≡ step_of f o
+      by None = refl
+      by (Some z) = ap (λ b. z.lives && b) (go_task f t x y z.flag z.stand is scope lives)
+
+  pub owned_task : (f : Forest E) (t : ℕ) (x y : Task) → Owned f → get_or f.tasks t None ≡ Some x → ((s : ℕ) → y.lives ≡ true → stands_at s y.stand ≡ true → (c : Scope E) × (get_or f.scopes s None ≡ Some c) × (c.owner ≡ t)) → Owned (with_task f t y)
+  owned_task f t x y owned is here u s z at lives stands =
+      at_set f.tasks t x y (λ v w. w.lives ≡ true → stands_at s w.stand ≡ true → (c : Scope E) × (get_or f.scopes s None ≡ Some c) × (c.owner ≡ v)) is
+      (λ l st. here s l st) (λ v w ne q l st. owned v s w q l st) u z at lives stands
+
+  -- a scope is written that keeps its owner
+  go_scope : (f : Forest E) (s : ℕ) (d : Scope E) (flag : Bool) (stand : Stand) → stands_at s stand ≡ false → can_go (with_scope f s d) flag stand ≡ can_go f flag stand
+  go_scope f s d flag Free away = refl
+  go_scope f s d flag (AtJoin r) away =
+      let ne : r ≢ s = grind (arith, nat_tests) in
+      ap (λ o. (elim o [ None ↦ false | Some c ↦ c.expired || c.cancelled ]) || not (any_lives f.tasks r) || flag) (get_or-set_other f.scopes s r (Some d) None ne)
+  go_scope f s d flag (AtClose r) away = refl
+
+  pub steps_scope : (f : Forest E) (s u : ℕ) (c d : Scope E) → Owned f → get_or f.scopes s None ≡ Some c → u ≢ c.owner → can_step (with_scope f s d) u ≡ can_step f u
+  steps_scope f s u c d owned is ne = by (get_or f.tasks u None) refl
+    where
+      own : (z : Task) → get_or f.tasks u None ≡ Some z → z.lives ≡ true → stands_at s z.stand ≡ true → ⊥
+      own z at lives st = let o = owned u s z at lives st in let e = o.1 in let q : o.0 ≡ c = cc in ne (rw (← q) (sym o.2))
+
+      by3 : (z : Task) → get_or f.tasks u None ≡ Some z → (a b : Bool) → z.lives ≡ a → stands_at s z.stand ≡ b → step_of (with_scope f s d) (Some z) ≡ step_of f (Some z)
+      by3 z at false b p q = rw p refl
+      by3 z at true false p q = ap (λ b. z.lives && b) (go_scope f s d z.flag z.stand q)
+      by3 z at true true p q = absurd (own z at p q)
+
+      by : (o : Option Task) → get_or f.tasks u None ≡ o → step_of (with_scope f s d) o ≡ step_of f o
+      by None at = refl
+      by (Some z) at = by3 z at z.lives (stands_at s z.stand) refl refl
+
+  pub some_scope : (c d : Scope E) → Some c ≡ Some d → c ≡ d
+  some_scope c d e = cc
+
+  pub owned_scope : (f : Forest E) (s : ℕ) (c d : Scope E) → Owned f → get_or f.scopes s None ≡ Some c → d.owner ≡ c.owner → Owned (with_scope f s d)
+  owned_scope f s c d owned is same u r z at lives stands = by (nat_eq r s) refl (owned u r z at lives stands)
+    where
+      inside : s < Rattle.std.proofs.Common.length f.scopes
+      inside = inside_of f.scopes s (λ n. let q : Some c ≡ None = sym is ∙ n in cc)
+
+      by : (b : Bool) → nat_eq r s ≡ b → (e : Scope E) × (get_or f.scopes r None ≡ Some e) × (e.owner ≡ u) → (e : Scope E) × (get_or (set f.scopes s (Some d)) r None ≡ Some e) × (e.owner ≡ u)
+      by true q o =
+          let k : r ≡ s = grind (arith, nat_tests) in
+          let at_s : get_or f.scopes s None ≡ Some o.0 = rw (← k) o.1 in
+          let e : c ≡ o.0 = some_scope c o.0 (sym is ∙ at_s) in
+          (d, rw k (get_or-set_same f.scopes s (Some d) None inside), same ∙ ap (λ (v : Scope E). v.owner) e ∙ o.2)
+      by false q o = (o.0, get_or-set_other f.scopes s r (Some d) None (grind (arith, nat_tests)) ∙ o.1, o.2)
+
+  -- the ready list doesn't change who owns what
+  pub owned_seen : (f g : Forest E) → seen g ≡ seen f → Owned f → Owned g
+  owned_seen f g same owned u s z at lives stands = by (get_or f.tasks u None) refl (sym (map_at unmarked f.tasks u) ∙ ap (λ (h : Forest E). get_or h.tasks u None) (sym same) ∙ map_at unmarked g.tasks u ∙ ap (option_map unmarked) at)
+    where
+      scopes : g.scopes ≡ f.scopes
+      scopes = ap (λ (h : Forest E). h.scopes) same
+
+      by : (o : Option Task) → get_or f.tasks u None ≡ o → option_map unmarked o ≡ Some (unmarked z) → (c : Scope E) × (get_or g.scopes s None ≡ Some c) × (c.owner ≡ u)
+      by None q e = cc
+      by (Some x) q e =
+          let m = some_same (unmarked x) (unmarked z) e in
+          let l : x.lives ≡ true = ap (λ (y : Task). y.lives) m ∙ lives in
+          let st : stands_at s x.stand ≡ true = ap (λ (y : Task). stands_at s y.stand) m ∙ stands in
+          let o = owned u s x q l st in
+          (o.0, (rw scopes o.1), o.2)
+
+  -- after one task was settled
+  pub settled : (f one new : Forest E) (t : ℕ) → IsTree f → one.ready ≡ f.ready → ((u : ℕ) → u ≢ t → can_step one u ≡ can_step f u) → Owned one → seen new ≡ seen one → ((u : ℕ) → (u ≢ t → has u one.ready ≡ can_step one u) → has u new.ready ≡ can_step new u) → IsTree new
+  settled f one new t is list same owned e ready =
+      record {
+        ready = λ u. ready u (λ ne. ap (has u) list ∙ is.ready u ∙ sym (same u ne));
+        owned = owned_seen one new e owned;
+      }
+
+  -- after two tasks were settled
+  pub settled_two : (f mid one two : Forest E) (t owner : ℕ) → IsTree f → mid.ready ≡ f.ready → ((u : ℕ) → u ≢ t → u ≢ owner → can_step mid u ≡ can_step f u) → Owned mid → seen one ≡ seen mid → ((u : ℕ) → (u ≢ t → has u mid.ready ≡ can_step mid u) → has u one.ready ≡ can_step one u) → seen two ≡ seen one → ((u : ℕ) → (u ≢ owner → has u one.ready ≡ can_step one u) → has u two.ready ≡ can_step two u) → IsTree two
+  settled_two f mid one two t owner is list same owned seen1 ready1 seen2 ready2 =
+      record {
+        ready = λ u. ready2 u (λ ne2. ready1 u (λ ne1. ap (has u) list ∙ is.ready u ∙ sym (same u ne1 ne2)));
+        owned = owned_seen one two seen2 (owned_seen mid one seen1 owned);
+      }
+
+  -- a new scope changes nobody's step
+  over_more : (f : Forest E) (c : Scope E) (keys : List ℕ) (r s : ℕ) → get_or f.scopes s None ≢ None → is_over (record f { scopes = f.scopes ++ Some c ∷ []; scope_keys = keys; scope_room = r }) s ≡ is_over f s
+  over_more f c keys r s there =
+      ap (λ o. elim o [ None ↦ false | Some d ↦ d.expired || d.cancelled ]) (get_or_append_left f.scopes (Some c ∷ []) None s (inside_of f.scopes s there))
+
+  pub opened_tree : (f : Forest E) (c : Scope E) (keys : List ℕ) (r : ℕ) → IsTree f → IsTree (record f { scopes = f.scopes ++ Some c ∷ []; scope_keys = keys; scope_room = r })
+  opened_tree f c keys r is =
+      record {
+        ready = λ u. is.ready u ∙ sym (by u (get_or f.tasks u None) refl);
+        owned = λ u s z at lives stands.
+            let o = is.owned u s z at lives stands in
+            let l = inside_of f.scopes s (λ n. let e = o.1 in cc) in
+            (o.0, get_or_append_left f.scopes (Some c ∷ []) None s l ∙ o.1, o.2);
+      }
+    where
+      more : Forest E
+      more = record f { scopes = f.scopes ++ Some c ∷ []; scope_keys = keys; scope_room = r }
+
+      by2 : (u : ℕ) (z : Task) → get_or f.tasks u None ≡ Some z → (a : Bool) (st : Stand) → z.lives ≡ a → z.stand ≡ st → step_of (record f { scopes = f.scopes ++ Some c ∷ []; scope_keys = keys; scope_room = r }) (Some z) ≡ step_of f (Some z)
+      by2 u z at false st p q = rw p refl
+      by2 u z at true Free p q = rw q refl
+      by2 u z at true (AtClose s) p q = rw q refl
+      by2 u z at true (AtJoin s) p q =
+          let o = is.owned u s z at p (rw q (own_stand s)) in
+          let there : get_or f.scopes s None ≢ None = λ n. let e = o.1 in cc in
+          rw q (ap (λ b. z.lives && (b || not (any_lives f.tasks s) || z.flag)) (over_more f c keys r s there))
+
+      by : (u : ℕ) (o : Option Task) → get_or f.tasks u None ≡ o → step_of (record f { scopes = f.scopes ++ Some c ∷ []; scope_keys = keys; scope_room = r }) o ≡ step_of f o
+      by u None at = refl
+      by u (Some z) at = by2 u z at z.lives z.stand refl refl
+
+  -- the root alone
+  pub root_tree : (keys : List ℕ) (a b : ℕ) → IsTree {E = E} (record { tasks = Some root ∷ []; scopes = []; ready = 0 ∷ []; task_keys = keys; scope_keys = []; task_room = a; scope_room = b })
+  root_tree keys a b =
+      record {
+        ready = λ t. step t;
+        owned = λ t s z at lives stands. absurd (by t s z at stands);
+      }
+    where
+      step : (t : ℕ) → has t (0 ∷ []) ≡ can_step {E = E} (record { tasks = Some root ∷ []; scopes = []; ready = 0 ∷ []; task_keys = keys; scope_keys = []; task_room = a; scope_room = b }) t
+      step zero = refl
+      step (suc k) = not_has (suc k) (0 ∷ []) ((λ e. absurd (omega (arith, e))), tt)
+
+      some_root : (z : Task) → Some root ≡ Some z → z.stand ≡ Free
+      some_root z e = let q : root ≡ z = cc in rw (← q) refl
+
+      by : (t s : ℕ) (z : Task) → get_or (Some root ∷ []) t None ≡ Some z → stands_at s z.stand ≡ true → ⊥
+      by zero s z e st = let q = some_root z e in let w : stands_at s Free ≡ true = rw q at st in cc
+      by (suc k) s z e st = cc
+
+  -- a new subtask of s: only it and the owner of s are to be settled
+  abbrev with_more : Forest E → Task → List ℕ → ℕ → Forest E
+  with_more f y keys room = record f { tasks = f.tasks ++ Some y ∷ []; task_keys = keys; task_room = room }
+
+  go_more : (f : Forest E) (keys : List ℕ) (s room : ℕ) (y : Task) (flag : Bool) (stand : Stand) → y.scope ≡ Some s → stands_at s stand ≡ false → can_go (with_more f y keys room) flag stand ≡ can_go f flag stand
+  go_more f keys s room y flag Free scope away = refl
+  go_more f keys s room y flag (AtJoin r) scope away = rw (lives_more f.tasks r s y scope (grind (arith, nat_tests))) refl
+  go_more f keys s room y flag (AtClose r) scope away = rw (lives_more f.tasks r s y scope (grind (arith, nat_tests))) refl
+
+  steps_more : (f : Forest E) (keys : List ℕ) (s room u : ℕ) (c : Scope E) (y : Task) → Owned f → get_or f.scopes s None ≡ Some c → y.scope ≡ Some s → u ≢ length f.tasks → u ≢ c.owner → can_step (with_more f y keys room) u ≡ can_step f u
+  steps_more f keys s room u c y owned is scope new ne = ap (step_of (with_more f y keys room)) (read_more f.tasks y u new) ∙ by (get_or f.tasks u None) refl
+    where
+      own : (z : Task) → get_or f.tasks u None ≡ Some z → z.lives ≡ true → stands_at s z.stand ≡ true → ⊥
+      own z at lives st = let o = owned u s z at lives st in let e = o.1 in let q : o.0 ≡ c = cc in ne (rw (← q) (sym o.2))
+
+      by3 : (z : Task) → get_or f.tasks u None ≡ Some z → (a b : Bool) → z.lives ≡ a → stands_at s z.stand ≡ b → step_of (with_more f y keys room) (Some z) ≡ step_of f (Some z)
+      by3 z at false b p q = rw p refl
+      by3 z at true false p q = ap (λ b. z.lives && b) (go_more f keys s room y z.flag z.stand scope q)
+      by3 z at true true p q = absurd (own z at p q)
+
+      by : (o : Option Task) → get_or f.tasks u None ≡ o → step_of (with_more f y keys room) o ≡ step_of f o
+      by None at = refl
+      by (Some z) at = by3 z at z.lives (stands_at s z.stand) refl refl
+
+  owned_more : (f : Forest E) (keys : List ℕ) (room : ℕ) (y : Task) → Owned f → y.stand ≡ Free → Owned (with_more f y keys room)
+  owned_more f keys room y owned free u s z at lives stands =
+      at_more f.tasks y (λ v w. w.lives ≡ true → stands_at s w.stand ≡ true → (c : Scope E) × (get_or f.scopes s None ≡ Some c) × (c.owner ≡ v))
+      (λ l st. let n : stands_at s Free ≡ true = rw free at st in cc) (λ v w q l st. owned v s w q l st) u z at lives stands
+
+  pub added_tree : (f mid one two : Forest E) (keys : List ℕ) (s room n owner : ℕ) (c : Scope E) (y : Task) → IsTree f → get_or f.scopes s None ≡ Some c → y.scope ≡ Some s → y.stand ≡ Free → mid ≡ with_more f y keys room → n ≡ length f.tasks → owner ≡ c.owner → seen one ≡ seen mid → ((u : ℕ) → (u ≢ n → has u mid.ready ≡ can_step mid u) → has u one.ready ≡ can_step one u) → seen two ≡ seen one → ((u : ℕ) → (u ≢ owner → has u one.ready ≡ can_step one u) → has u two.ready ≡ can_step two u) → IsTree two
+  added_tree f mid one two keys s room n owner c y is at scope free e size own seen1 ready1 seen2 ready2 =
+      record {
+        ready = λ u.
+            ready2 u (λ ne2.
+            ready1 u (λ ne1.
+            ap (λ (h : Forest E). has u h.ready) e ∙ is.ready u
+            ∙ sym (steps_more f keys s room u c y is.owned at scope (λ q. ne1 (q ∙ sym size)) (λ q. ne2 (q ∙ sym own)))
+            ∙ sym (ap (λ (h : Forest E). can_step h u) e)));
+        owned = owned_seen one two seen2 (owned_seen (with_more f y keys room) one (seen1 ∙ ap (λ (h : Forest E). seen h) e) (owned_more f keys room y is.owned free));
+      }

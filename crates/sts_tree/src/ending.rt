@@ -1,0 +1,44 @@
+//! The end of a task, beside the ready list.
+
+ghost use Rattle.std.specs.Prelude.{◌≡◌, Some, None, true, slice_index_or};
+ghost use Rattle.sts_forest.specs.declared.record.Task.{Task as AnyTask};
+ghost use Rattle.sts_tree.specs.Ending as ending;
+
+use sts_forest::forest::Forest;
+use sts_model::event::End;
+
+/// Who may wait for the end of a task: the owner of its scope, or for the root itself.
+pub(crate) fn waiter<E: Drop>(forest: &Forest<E>, t: u32) -> u32
+    requires { (x : AnyTask)
+        × (slice_index_or forest.now.tasks t None ≡ Some x) × (x.lives ≡ true) }
+    ensures { (x : AnyTask) → slice_index_or forest.now.tasks t None ≡ Some x →
+        result ≡ ending.waiter forest.now t x }
+{
+    match forest.task(t).unwrap().scope {
+        None => t,
+        Some(s) => forest.scope(s).unwrap().owner,
+    }
+}
+
+/// Ends a task, tells its scope unless that is cancelled, and answers whether the joiner now asks
+/// to cancel.
+pub(crate) fn end_told<E: Drop>(forest: &mut Forest<E>, t: u32, end: End) -> bool
+    requires { (x : AnyTask)
+        × (slice_index_or forest.old.tasks t None ≡ Some x) × (x.lives ≡ true) }
+    ensures ended { (x : AnyTask) → slice_index_or forest.old.tasks t None ≡ Some x →
+        forest.new ≡ ending.ended forest.old t x end }
+    ensures asks { (x : AnyTask) → slice_index_or forest.old.tasks t None ≡ Some x →
+        result ≡ ending.asks_ended forest.old x end }
+{
+    let task = *forest.task(t).unwrap();
+    let Some(s) = task.scope else {
+        forest.end_task(t, task.state);
+        return false;
+    };
+    if forest.scope(s).unwrap().cancelled {
+        forest.end_task(t, task.state);
+        return false;
+    }
+    forest.end_task(t, Some(end));
+    forest.tell(s, end)
+}

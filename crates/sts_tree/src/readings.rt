@@ -1,0 +1,285 @@
+//! What is read of the tasks and scopes that stand.
+
+ghost use Rattle.std.specs.Prelude.{◌≡◌, ◌≢◌, ◌++◌, ◌∷◌, ◌≤◌, ℕ, List, length, Some, None, true};
+ghost use Rattle.std.specs.Prelude.{slice_index_or, option_copied};
+ghost use Rattle.sts_forest.specs.Births.{births};
+ghost use Rattle.sts_forest.specs.Forest.{any_lives, is_of, lives_in};
+ghost use Rattle.sts_held.specs.Holes.{key_at};
+ghost use Rattle.sts_forest.specs.declared.record.Task.{Task as AnyTask};
+ghost use Rattle.sts_links.specs.Lists.{first_or};
+ghost use Rattle.sts_model.specs.Told.{result_told};
+ghost use Rattle.sts_tree.specs.Reading.{count_of, lives_at};
+ghost use Rattle.sts_tree.specs.Steps as steps;
+
+use crate::tree::Tree;
+use sts_code::instr::{Joiner, Kind};
+use sts_forest::record::{Scope, Task};
+use sts_model::event::{End, Phase, Verdict};
+
+impl<E: Drop> Tree<E> {
+    ghost use Rattle.sts_forest.specs.declared.record.Scope.{Scope as AnyScope};
+
+    /// The task of a birth, if it stands.
+    pub fn task(&self, t: u32) -> Option<&Task>
+        ensures value { option_copied result ≡ slice_index_or self.now.tasks t None }
+        ensures home { (x : AnyTask) (s : ℕ) → slice_index_or self.now.tasks t None ≡ Some x →
+            x.scope ≡ Some s → slice_index_or self.now.scopes s None ≢ None }
+    {
+        self.forest.task(t)
+    }
+
+    /// The scope of a birth, if it stands.
+    pub fn scope(&self, s: u32) -> Option<&Scope<E>>
+        ensures { option_copied result ≡ slice_index_or self.now.scopes s None }
+    {
+        self.forest.scope(s)
+    }
+
+    /// The owner of a scope.
+    pub fn owner(&self, s: u32) -> u32
+        requires { slice_index_or self.now.scopes s None ≢ None }
+        ensures { (c : AnyScope E) → slice_index_or self.now.scopes s None ≡ Some c →
+            result ≡ c.owner }
+    {
+        self.forest.scope(s).unwrap().owner
+    }
+
+    /// A scope's joiner.
+    pub fn joiner(&self, s: u32) -> Joiner
+        requires { slice_index_or self.now.scopes s None ≢ None }
+        ensures { (c : AnyScope E) → slice_index_or self.now.scopes s None ≡ Some c →
+            result ≡ c.tally.joiner }
+    {
+        self.forest.scope(s).unwrap().tally.joiner()
+    }
+
+    /// Has the scope a timeout?
+    pub fn timed(&self, s: u32) -> bool
+        requires { slice_index_or self.now.scopes s None ≢ None }
+        ensures { (c : AnyScope E) → slice_index_or self.now.scopes s None ≡ Some c →
+            result ≡ c.timed }
+    {
+        self.forest.scope(s).unwrap().timed
+    }
+
+    /// How far the scope is.
+    pub fn phase(&self, s: u32) -> Phase
+        requires { slice_index_or self.now.scopes s None ≢ None }
+        ensures { (c : AnyScope E) → slice_index_or self.now.scopes s None ≡ Some c →
+            result ≡ c.phase }
+    {
+        self.forest.scope(s).unwrap().phase
+    }
+
+    /// Is the scope cancelled?
+    pub fn cancelled(&self, s: u32) -> bool
+        requires { slice_index_or self.now.scopes s None ≢ None }
+        ensures { (c : AnyScope E) → slice_index_or self.now.scopes s None ≡ Some c →
+            result ≡ c.cancelled }
+    {
+        self.forest.scope(s).unwrap().cancelled
+    }
+
+    /// Has the scope expired?
+    pub fn expired(&self, s: u32) -> bool
+        requires { slice_index_or self.now.scopes s None ≢ None }
+        ensures { (c : AnyScope E) → slice_index_or self.now.scopes s None ≡ Some c →
+            result ≡ c.expired }
+    {
+        self.forest.scope(s).unwrap().expired
+    }
+
+    /// What is kept for the scope.
+    pub fn env(&self, s: u32) -> &E
+        requires { slice_index_or self.now.scopes s None ≢ None }
+        ensures { (c : AnyScope E) → slice_index_or self.now.scopes s None ≡ Some c →
+            result.now ≡ c.environment }
+    {
+        &self.forest.scope(s).unwrap().environment
+    }
+
+    /// How many subtasks a scope has.
+    pub fn subtasks(&self, s: u32) -> u32
+        ensures { result ≡ length (births (is_of s) 0 self.now.tasks) }
+    {
+        self.forest.subtasks(s)
+    }
+
+    /// Does a subtask of the scope live?
+    pub fn any_lives(&self, s: u32) -> bool
+        ensures { result ≡ any_lives self.now.tasks s }
+    {
+        self.forest.any_lives(s)
+    }
+
+    /// The joiner's result as it stands.
+    pub fn result(&self, s: u32) -> Verdict
+        requires { slice_index_or self.now.scopes s None ≢ None }
+        ensures { (c : AnyScope E) → slice_index_or self.now.scopes s None ≡ Some c →
+            result ≡ result_told c.tally.joiner c.tally.told
+            (length (births (is_of s) 0 self.now.tasks)) }
+    {
+        let subtasks = self.forest.subtasks(s);
+        self.forest.scope(s).unwrap().tally.result(subtasks)
+    }
+
+    /// How many subtasks are in a state.
+    pub fn count(&self, s: u32, kind: Kind) -> u32
+        requires { slice_index_or self.now.scopes s None ≢ None }
+        ensures { (c : AnyScope E) → slice_index_or self.now.scopes s None ≡ Some c →
+            result ≡ count_of self.now s c kind }
+    {
+        let tally = &self.forest.scope(s).unwrap().tally;
+        match kind {
+            Kind::S => tally.successes(),
+            Kind::F => tally.failures(),
+            Kind::U => self.forest.subtasks(s) - tally.successes() - tally.failures(),
+        }
+    }
+
+    /// The sum of the values of the successes that were told.
+    pub fn total(&self, s: u32) -> i64
+        requires { slice_index_or self.now.scopes s None ≢ None }
+        ensures { (c : AnyScope E) → slice_index_or self.now.scopes s None ≡ Some c →
+            result ≡ c.tally.told.total }
+    {
+        self.forest.scope(s).unwrap().tally.total()
+    }
+
+    /// Does the task live?
+    pub fn lives(&self, t: u32) -> bool
+        ensures { result ≡ lives_at self.now t }
+    {
+        match self.forest.task(t) {
+            None => false,
+            Some(task) => task.lives,
+        }
+    }
+
+    /// A task's flag.
+    pub fn flag(&self, t: u32) -> bool
+        requires { slice_index_or self.now.tasks t None ≢ None }
+        ensures { (x : AnyTask) → slice_index_or self.now.tasks t None ≡ Some x → result ≡ x.flag }
+    {
+        self.forest.task(t).unwrap().flag
+    }
+
+    /// The scope that a task is a subtask of; none for the root.
+    pub fn scope_of(&self, t: u32) -> Option<u32>
+        requires { slice_index_or self.now.tasks t None ≢ None }
+        ensures { (x : AnyTask) → slice_index_or self.now.tasks t None ≡ Some x → result ≡ x.scope }
+    {
+        self.forest.task(t).unwrap().scope
+    }
+
+    /// A task's state as a subtask; none is unavailable.
+    pub fn state(&self, t: u32) -> Option<End>
+        requires { slice_index_or self.now.tasks t None ≢ None }
+        ensures { (x : AnyTask) → slice_index_or self.now.tasks t None ≡ Some x → result ≡ x.state }
+    {
+        self.forest.task(t).unwrap().state
+    }
+
+    /// The first subtask in fork order.
+    pub fn fork_front(&self, s: u32) -> Option<u32>
+        ensures { result ≡ first_or (births (is_of s) 0 self.now.tasks) None }
+    {
+        self.forest.fork_front(s)
+    }
+
+    /// The next subtask of its scope in fork order.
+    pub fn fork_after(&self, t: u32) -> Option<u32>
+        requires { (s : ℕ) × (front : List ℕ) × (back : List ℕ)
+            × (births (is_of s) 0 self.now.tasks ≡ front ++ t ∷ back) }
+        ensures { (s : ℕ) (front back : List ℕ) →
+            births (is_of s) 0 self.now.tasks ≡ front ++ t ∷ back → result ≡ first_or back None }
+    {
+        self.forest.fork_after(t)
+    }
+
+    /// The first living subtask in fork order.
+    pub fn living_front(&self, s: u32) -> Option<u32>
+        ensures { result ≡ first_or (births (lives_in s) 0 self.now.tasks) None }
+    {
+        self.forest.living_front(s)
+    }
+
+    /// The next living subtask of its scope in fork order.
+    pub fn living_after(&self, t: u32) -> Option<u32>
+        requires { (s : ℕ) × (front : List ℕ) × (back : List ℕ)
+            × (births (lives_in s) 0 self.now.tasks ≡ front ++ t ∷ back) }
+        ensures { (s : ℕ) (front back : List ℕ) →
+            births (lives_in s) 0 self.now.tasks ≡ front ++ t ∷ back → result ≡ first_or back None }
+    {
+        self.forest.living_after(t)
+    }
+
+    /// The key under which the record of a task stands, if it does.
+    pub fn key_of(&self, t: u32) -> Option<usize>
+        ensures { result ≡ key_at self.now.tasks self.now.task_keys t }
+    {
+        self.forest.key_of(t)
+    }
+
+    /// The task whose record stands under a key.
+    pub fn birth(&self, key: usize) -> u32
+        requires { (t : ℕ) × (key_at self.now.tasks self.now.task_keys t ≡ Some key) }
+        ensures { (t : ℕ) → key_at self.now.tasks self.now.task_keys t ≡ Some key → result ≡ t }
+    {
+        self.forest.birth(key)
+    }
+
+    /// The key under which the record of a scope stands, if it does.
+    pub fn scope_key_of(&self, s: u32) -> Option<usize>
+        ensures { result ≡ key_at self.now.scopes self.now.scope_keys s }
+    {
+        self.forest.scope_key_of(s)
+    }
+
+    /// The scope whose record stands under a key.
+    pub fn scope_birth(&self, key: usize) -> u32
+        requires { (s : ℕ) × (key_at self.now.scopes self.now.scope_keys s ≡ Some key) }
+        ensures { (s : ℕ) → key_at self.now.scopes self.now.scope_keys s ≡ Some key → result ≡ s }
+    {
+        self.forest.scope_birth(key)
+    }
+
+    /// The next task that can step.
+    pub fn ready_after(&self, t: u32) -> Option<u32>
+        requires { steps.can_step self.now t ≡ true }
+        ensures { (front back : List ℕ) →
+            self.now.ready ≡ front ++ t ∷ back → result ≡ first_or back None }
+    {
+        self.forest.ready_after(t)
+    }
+
+    /// How many more tasks fit.
+    pub fn task_room(&self) -> u32
+        ensures { result ≡ self.now.task_room }
+    {
+        self.forest.task_room()
+    }
+
+    /// How many more scopes fit.
+    pub fn scope_room(&self) -> u32
+        ensures { result ≡ self.now.scope_room }
+    {
+        self.forest.scope_room()
+    }
+
+    /// How many tasks were born.
+    pub fn tasks_born(&self) -> usize
+        ensures value { result ≡ length self.now.tasks }
+        ensures few { result ≤ 1000000 }
+    {
+        self.forest.tasks_born()
+    }
+
+    /// How many scopes were born.
+    pub fn scopes_born(&self) -> usize
+        ensures value { result ≡ length self.now.scopes }
+        ensures few { result ≤ 1000000 }
+    {
+        self.forest.scopes_born()
+    }
+}

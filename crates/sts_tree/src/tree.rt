@@ -1,0 +1,226 @@
+//! The tree: every call leaves the ready list with the tasks that can step.
+
+ghost use Rattle.std.specs.Prelude.{◌≡◌, ◌≢◌, ℕ, ◌∷◌, ◌++◌, length, ◌<◌, ◌≤◌, ◌-◌, [], IfOk};
+ghost use Rattle.std.specs.Prelude.{Some, None, true, false, not, slice_index_or};
+ghost use Rattle.sts_forest.specs.Births.{has};
+ghost use Rattle.sts_forest.specs.Forest.{any_lives, closed, opened, root, subtask};
+ghost use Rattle.sts_forest.specs.declared.record.Task.{Task as AnyTask};
+ghost use Rattle.sts_links.specs.Lists.{AreDistinct, first_or};
+ghost use Rattle.sts_model.specs.declared.event.Stand.TheVariants.{Free};
+ghost use Rattle.sts_tree.specs.Ending.{asks_ended, ended};
+ghost use Rattle.sts_tree.specs.Steps as steps;
+ghost use Rattle.sts_tree.specs.Steps.{seen, with_task, with_scope, stands_at};
+
+use crate::ending::{end_told, waiter};
+use crate::settling::settle;
+use std::alloc::{AllocError, Global};
+use std::marker::Model;
+use sts_code::instr::Joiner;
+use sts_forest::forest::Forest;
+use sts_model::event::{End, Phase, Stand};
+
+/// Tasks and scopes that stand. Contracts see them as a forest whose ready list has the tasks that
+/// can step.
+#[derive(Drop)]
+pub struct Tree<E> {
+    pub(crate) forest: Forest<E>,
+}
+
+impl<E> Model for Tree<E> {
+    ghost use Rattle.sts_forest.specs.Forest.{Forest as Records};
+
+    ghost Value = { Records E };
+
+    ghost use Rattle.sts_tree.specs.Steps.{IsTree};
+
+    ghost view = { λ t. t.forest };
+
+    ghost invariant = { λ t. IsTree t.forest };
+}
+
+impl<E: Drop> Tree<E> {
+    ghost use Rattle.sts_forest.specs.declared.record.Scope.{Scope as AnyScope};
+
+    /// The root task alone, which can step, with room for so many tasks and scopes. No other call
+    /// takes memory.
+    pub fn with_room(alloc: Global, tasks: u32, scopes: u32) -> Result<Tree<E>, AllocError>
+        requires some { 0 < tasks }
+        requires few { tasks ≤ 65536 }
+        ensures value { IfOk result (λ t. t ≡ record {
+          tasks = Some root ∷ [];
+          scopes = [];
+          ready = 0 ∷ [];
+          task_keys = t.task_keys;
+          scope_keys = [];
+          task_room = tasks - 1;
+          scope_room = scopes;
+        }) }
+        ensures keys { IfOk result (λ t. (key : ℕ) × (t.task_keys ≡ key ∷ [])) }
+    {
+        let forest = Forest::with_room(alloc, tasks, scopes)?;
+        Ok(Tree { forest })
+    }
+
+    /// Opens a scope without subtasks.
+    pub fn open_scope(&mut self, owner: u32, joiner: Joiner, timed: bool, environment: E) -> u32
+        requires room { 0 < self.old.scope_room }
+        requires born { length self.old.scopes < 1000000 }
+        ensures birth { result ≡ length self.old.scopes }
+        ensures opened { self.new ≡ record self.old {
+          scopes = self.old.scopes ++ Some (opened owner joiner timed environment) ∷ [];
+          scope_keys = self.new.scope_keys;
+          scope_room = self.old.scope_room - 1;
+        } }
+        ensures keys { (key : ℕ) × (self.new.scope_keys ≡ self.old.scope_keys ++ key ∷ []) }
+    {
+        self.forest.open_scope(owner, joiner, timed, environment)
+    }
+
+    /// Adds a subtask, and answers its birth and whether it lives: in a scope that is cancelled it
+    /// never runs. An owner that stands at the scope may have to wait again.
+    pub fn add_subtask(&mut self, s: u32) -> (u32, bool)
+        requires stands { slice_index_or self.old.scopes s None ≢ None }
+        requires room { 0 < self.old.task_room }
+        requires born { length self.old.tasks < 1000000 }
+        ensures birth { result.0 ≡ length self.old.tasks }
+        ensures lives { (c : AnyScope E) → slice_index_or self.old.scopes s None ≡ Some c →
+            result.1 ≡ not c.cancelled }
+        ensures added { (c : AnyScope E) → slice_index_or self.old.scopes s None ≡ Some c →
+            seen self.new ≡ seen (record self.old {
+              tasks = self.old.tasks ++ Some (subtask s (not c.cancelled)) ∷ [];
+              task_keys = self.new.task_keys;
+              task_room = self.old.task_room - 1;
+            }) }
+        ensures keys { (key : ℕ) × (self.new.task_keys ≡ self.old.task_keys ++ key ∷ []) }
+    {
+        let scope = self.forest.scope(s).unwrap();
+        let (owner, lives) = (scope.owner, !scope.cancelled);
+        let t = self.forest.add_subtask(s, lives);
+        settle(&mut self.forest, t);
+        settle(&mut self.forest, owner);
+        (t, lives)
+    }
+
+    /// Takes out a scope and its subtasks, of which none lives.
+    pub fn close_scope(&mut self, s: u32)
+        requires stands { slice_index_or self.old.scopes s None ≢ None }
+        requires ended { any_lives self.old.tasks s ≡ false }
+        requires free { (c : AnyScope E) (x : AnyTask) →
+            slice_index_or self.old.scopes s None ≡ Some c →
+            slice_index_or self.old.tasks c.owner None ≡ Some x → x.stand ≡ Free }
+        ensures { self.new ≡ closed self.old s }
+    {
+        self.forest.close_scope(s);
+    }
+
+    /// Ends a task. Its scope is told unless that is cancelled; the answer is whether the joiner
+    /// now asks to cancel.
+    pub fn end_task(&mut self, t: u32, end: End) -> bool
+        requires { (x : AnyTask)
+            × (slice_index_or self.old.tasks t None ≡ Some x) × (x.lives ≡ true) }
+        ensures ended { (x : AnyTask) → slice_index_or self.old.tasks t None ≡ Some x →
+            seen self.new ≡ seen (ended self.old t x end) }
+        ensures asks { (x : AnyTask) → slice_index_or self.old.tasks t None ≡ Some x →
+            result ≡ asks_ended self.old x end }
+    {
+        let owner = waiter(&self.forest, t);
+        let asks = end_told(&mut self.forest, t, end);
+        settle(&mut self.forest, t);
+        settle(&mut self.forest, owner);
+        asks
+    }
+
+    /// Can the task step?
+    pub fn can_step(&self, t: u32) -> bool
+        ensures { result ≡ steps.can_step self.now t }
+    {
+        self.forest.is_ready(t)
+    }
+
+    /// Some task that can step.
+    pub fn ready_front(&self) -> Option<u32>
+        ensures front { result ≡ first_or self.now.ready None }
+        ensures once { AreDistinct self.now.ready }
+        ensures list { (t : ℕ) → has t self.now.ready ≡ steps.can_step self.now t }
+    {
+        self.forest.ready_front()
+    }
+
+    /// Sets a task's flag.
+    pub fn raise(&mut self, t: u32)
+        requires { slice_index_or self.old.tasks t None ≢ None }
+        ensures { (x : AnyTask) → slice_index_or self.old.tasks t None ≡ Some x →
+            seen self.new ≡ seen (with_task self.old t (record x { flag = true })) }
+    {
+        self.forest.set_flag(t, true);
+        settle(&mut self.forest, t);
+    }
+
+    /// Clears a task's flag.
+    pub fn clear_flag(&mut self, t: u32)
+        requires { slice_index_or self.old.tasks t None ≢ None }
+        ensures { (x : AnyTask) → slice_index_or self.old.tasks t None ≡ Some x →
+            seen self.new ≡ seen (with_task self.old t (record x { flag = false })) }
+    {
+        self.forest.set_flag(t, false);
+        settle(&mut self.forest, t);
+    }
+
+    /// A task's flag, which is cleared.
+    pub fn take_flag(&mut self, t: u32) -> bool
+        requires { slice_index_or self.old.tasks t None ≢ None }
+        ensures flag { (x : AnyTask) → slice_index_or self.old.tasks t None ≡ Some x →
+            result ≡ x.flag }
+        ensures cleared { (x : AnyTask) → slice_index_or self.old.tasks t None ≡ Some x →
+            seen self.new ≡ seen (with_task self.old t (record x { flag = false })) }
+    {
+        let flag = self.flag(t);
+        self.clear_flag(t);
+        flag
+    }
+
+    /// Says where a task stands.
+    pub fn stand(&mut self, t: u32, stand: Stand)
+        requires stands { slice_index_or self.old.tasks t None ≢ None }
+        requires owner { (s : ℕ) → stands_at s stand ≡ true →
+            (c : AnyScope E) × (slice_index_or self.old.scopes s None ≡ Some c) × (c.owner ≡ t) }
+        ensures { (x : AnyTask) → slice_index_or self.old.tasks t None ≡ Some x →
+            seen self.new ≡ seen (with_task self.old t (record x { stand = stand })) }
+    {
+        self.forest.set_stand(t, stand);
+        settle(&mut self.forest, t);
+    }
+
+    /// Marks a scope as cancelled, and wakes its owner.
+    pub fn mark_cancelled(&mut self, s: u32)
+        requires { slice_index_or self.old.scopes s None ≢ None }
+        ensures { (c : AnyScope E) → slice_index_or self.old.scopes s None ≡ Some c →
+            seen self.new ≡ seen (with_scope self.old s (record c { cancelled = true })) }
+    {
+        let owner = self.forest.scope(s).unwrap().owner;
+        self.forest.mark_cancelled(s);
+        settle(&mut self.forest, owner);
+    }
+
+    /// Marks a scope as expired, and wakes its owner.
+    pub fn mark_expired(&mut self, s: u32)
+        requires { slice_index_or self.old.scopes s None ≢ None }
+        ensures { (c : AnyScope E) → slice_index_or self.old.scopes s None ≡ Some c →
+            seen self.new ≡ seen (with_scope self.old s (record c { expired = true })) }
+    {
+        let owner = self.forest.scope(s).unwrap().owner;
+        self.forest.mark_expired(s);
+        settle(&mut self.forest, owner);
+    }
+
+    /// Sets a scope's phase.
+    pub fn set_phase(&mut self, s: u32, phase: Phase)
+        requires { slice_index_or self.old.scopes s None ≢ None }
+        ensures { (c : AnyScope E) → slice_index_or self.old.scopes s None ≡ Some c →
+            seen self.new ≡ seen (with_scope self.old s (record c { phase = phase })) }
+    {
+        let owner = self.forest.scope(s).unwrap().owner;
+        self.forest.set_phase(s, phase);
+        settle(&mut self.forest, owner);
+    }
+}

@@ -1,0 +1,35 @@
+-- A place of a function that is being typed, and the edges behind the first (this project's own).
+use Rattle.std.specs.Prelude.{◌≡◌, ℕ, ◌<◌, List, [], ◌∷◌, ◌++◌, length, Option, option_to_list}
+use Rattle.sts_code.specs.Program.{routine}
+use Rattle.sts_rules.specs.declared.typing.Known.TheVariants as known
+use Rattle.sts_rules.specs.declared.typing.TypedPhase.TheVariants.{Late, Attempted, Joined}
+use Rattle.sts_rules.specs.TypeState.{TypeState}
+use Rattle.sts_rules.specs.Around.{skipped_to}
+use Rattle.sts_rules.specs.Edges.{follows, to_optional, raised, with_phase, with_known}
+use Rattle.sts_states.specs.Room.{HasRoom}
+use Rattle.sts_types.specs.declared.site.Site.{Site}
+
+-- the site is a place of the function, and its parts are of that place
+pub record IsSite (s : Site) : Type 0 where
+  pub code : s.loops.now ≡ (routine s.program.now s.function).code
+  pub inside : s.pc < length s.loops.now
+  pub skip : option_to_list s.skip ≡ skipped_to s.loops.now s.pc s.instr
+
+-- the edges of the instruction there, where no cause holds
+abbrev pub follows_at : Site → TypeState → List (ℕ × TypeState)
+follows_at s state = follows s.program.now s.loops.now s.pc s.instr state
+
+-- there is room for what the instruction adds
+abbrev pub HasRoomAt : Site → TypeState → Type 0
+HasRoomAt s state = HasRoom s.program.now s.instr state
+
+-- the edges of `join` behind that of ok
+abbrev pub outcomes : ℕ → Option ℕ → Option ℕ → ℕ → TypeState → List (ℕ × TypeState)
+outcomes x failed timeout interrupted s =
+    to_optional failed (raised 1 (with_phase x Joined s))
+    ++ to_optional timeout (with_phase x Late s)
+    ++ (interrupted, with_phase x Attempted s) ∷ []
+
+-- the edges of `case` behind that of a subtask in neither state
+abbrev pub states : ℕ → ℕ → ℕ → TypeState → List (ℕ × TypeState)
+states h success failed s = (success, with_known h known.Success s) ∷ (failed, with_known h known.Failed s) ∷ []

@@ -1,0 +1,17 @@
+//! A place of a function that is being typed.
+
+use sts_code::instr::Instr;
+use sts_code::program::Program;
+use sts_loops::loops::CodeLoops;
+
+/// A place of one of a program's functions, with the instruction there.
+#[derive(Clone, Copy)]
+pub(crate) struct Site<'c> {
+    pub(crate) program: &'c Program,
+    pub(crate) function: u32,
+    pub(crate) loops: &'c CodeLoops<'c>,
+    pub(crate) pc: u32,
+    pub(crate) instr: Instr,
+    /// Where a `times` goes that makes no turn.
+    pub(crate) skip: Option<u32>,
+}

@@ -1,0 +1,32 @@
+//! Laws of live views that stand at a list of events: what a machine that is seen as one may rely
+//! on, of programs that no list of events leads to a fault.
+#![tactic(auto)]
+
+ghost use Rattle.sts_code.specs.Program.{Program};
+ghost use Rattle.sts_runs.specs.Runs.{NeverFaults};
+ghost use Rattle.sts_views.specs.Fine.{TurnsAreSafe};
+ghost use Rattle.sts_views.specs.Order.{SeenInOrder};
+ghost use Rattle.sts_views.specs.Waking.{OthersStay, ReadyStays};
+
+/// What a live view names stands, who owns it has it as an entry, and environments are those of the
+/// bindings; of every program.
+pub fn seen_in_order()
+    ensures { SeenInOrder }
+{}
+
+/// An event changes who can step among few: the task that steps or is interrupted, the owner and
+/// the subtasks of a scope that is told of an end or expires, the subtasks of one that is being
+/// closed, and a task that is forked.
+pub fn others_stay()
+    ensures { (p : Program) → NeverFaults p → OthersStay p }
+{}
+
+/// A task that can step still can after any event but its own step.
+pub fn ready_stays()
+    ensures { (p : Program) → NeverFaults p → ReadyStays p }
+{}
+
+/// Each task that can step is at an instruction that is no misuse, as the view shows it.
+pub fn turns_are_safe()
+    ensures { (p : Program) → NeverFaults p → TurnsAreSafe p }
+{}

@@ -1,0 +1,89 @@
+-- Environments that share their bindings, where there are more links.
+use Rattle.std.proofs.Common.{◌≡◌, ◌≢◌, take, reverse, get_or, ℕ, zero, suc, ◌+◌, ◌<◌, ◌≤◌, List, [], ◌∷◌, ◌++◌, length, Bool, true, false, Option, Some, None, eqb, refl, ap, sym, ◌∙◌, arith, append_assoc}
+use Rattle.std.proofs.Math.Seq.{get_or-append_seam}
+use Rattle.std.proofs.lemmas.Bool.{eqb-true, eqb-false, eq-eqb, ne_eqb, ltb-true, lt-ltb}
+use Rattle.std.proofs.lemmas.List.{get_or_append_left, length-append, append-nil, take_more, reverse-append}
+use Rattle.sts_model.specs.declared.record.Bound.{Bound}
+use Rattle.sts_model.specs.Environment.{read}
+use Rattle.sts_world.specs.declared.chains.Link.{Link}
+use Rattle.sts_world.specs.Chains.{chain, link_at, no_link, bindings_of, is_within, Grows}
+
+pub chain_none : (links : List Link) (n : ℕ) → chain links n None ≡ []
+chain_none links zero = refl
+chain_none links (suc n) = chain_none links n
+
+-- a link that isn't among them
+pub chain_past : (links : List Link) (n i : ℕ) → n ≤ i → chain links n (Some i) ≡ []
+chain_past links zero i h = refl
+chain_past links (suc n) i h = rw (ne_eqb i n (λ e. absurd (omega (arith, e)))) (chain_past links n i (omega arith))
+
+-- a link that is
+pub chain_link : (links : List Link) (n i : ℕ) → i < n → chain links n (Some i) ≡ (link_at links i).bound ∷ chain links i (link_at links i).behind
+chain_link links zero i h = absurd (omega arith)
+chain_link links (suc n) i h = by_test (eqb i n) refl (λ less. chain_link links n i less)
+  where
+    by_test : (b : Bool) → eqb i n ≡ b → (i < n → chain links n (Some i) ≡ (link_at links i).bound ∷ chain links i (link_at links i).behind) → chain links (suc n) (Some i) ≡ (link_at links i).bound ∷ chain links i (link_at links i).behind
+    by_test true e rest = let same : i ≡ n = eqb-true i n e in rw (e, same) refl
+    by_test false e rest = let apart : i ≢ n = eqb-false i n e in rw e (rest (omega arith))
+
+-- more links change nothing
+chain_more : (links more : List Link) (n : ℕ) (front : Option ℕ) → n ≤ length links → chain (links ++ more) n front ≡ chain links n front
+chain_more links more zero front h = refl
+chain_more links more (suc n) front h =
+    rw (get_or_append_left links more no_link n (omega arith), chain_more links more n front (omega arith), chain_more links more n (link_at links n).behind (omega arith)) refl
+
+pub chain_within : (links : List Link) (m n : ℕ) (front : Option ℕ) → is_within m front ≡ true → m ≤ n → chain links n front ≡ chain links m front
+chain_within links m n None h le = chain_none links n ∙ sym (chain_none links m)
+chain_within links m n (Some i) h le =
+    let less : i < m = ltb-true i m h in
+    chain_link links n i (omega arith) ∙ sym (chain_link links m i less)
+
+pub within_more : (m n : ℕ) (front : Option ℕ) → is_within m front ≡ true → m ≤ n → is_within n front ≡ true
+within_more m n None h le = refl
+within_more m n (Some i) h le = let less : i < m = ltb-true i m h in lt-ltb i n (omega arith)
+
+pub grows_longer : (old new : List Link) → Grows old new → length old ≤ length new
+grows_longer old new g = omega (arith, ap length g.same, length-append old g.more)
+
+pub bindings_grown : (old new : List Link) (front : Option ℕ) → is_within (length old) front ≡ true → Grows old new → bindings_of new front ≡ bindings_of old front
+bindings_grown old new front h g =
+    rw g.same (chain_within (old ++ g.more) (length old) (length (old ++ g.more)) front h (omega (arith, length-append old g.more)) ∙ chain_more old g.more (length old) front (omega arith))
+
+-- the link that was put last
+bindings_last : (links : List Link) (l : Link) → is_within (length links) l.behind ≡ true → bindings_of (links ++ l ∷ []) (Some (length links)) ≡ l.bound ∷ bindings_of links l.behind
+bindings_last links l h =
+    let longer : length links < length (links ++ l ∷ []) = simp length-append (omega arith) in
+    chain_link (links ++ l ∷ []) (length (links ++ l ∷ [])) (length links) longer
+    ∙ rw (get_or-append_seam links l [] no_link, chain_more links (l ∷ []) (length links) l.behind (omega arith)) refl
+
+pub bindings_put : (links : List Link) (l : Link) (place : ℕ) → place ≡ length links → is_within (length links) l.behind ≡ true → bindings_of (links ++ l ∷ []) (Some place) ≡ l.bound ∷ bindings_of links l.behind
+bindings_put links l place e h = rw e (bindings_last links l h)
+
+-- a link that was there
+pub bindings_found : (links : List Link) (place : ℕ) (bound : Bound) (behind : Option ℕ) → place < length links → link_at links place ≡ record { bound = bound; behind = behind } → is_within place behind ≡ true → bindings_of links (Some place) ≡ bound ∷ bindings_of links behind
+bindings_found links place bound behind h e older =
+    chain_link links (length links) place h ∙ rw (e, chain_within links place (length links) behind older (omega arith)) refl
+
+pub grows_same : (links : List Link) → Grows links links
+grows_same links = record { more = []; same = sym (simp append-nil) }
+
+pub grows_twice : (a b c : List Link) → Grows a b → Grows b c → Grows a c
+grows_twice a b c g h = record { more = g.more ++ h.more; same = rw (h.same, g.same) (append_assoc a g.more h.more) }
+
+-- one more of a list, in reverse
+pub reverse_more : {X : Type 0} (xs : List X) (i : ℕ) (d : X) → i < length xs → reverse (take (i + 1) xs) ≡ get_or xs i d ∷ reverse (take i xs)
+reverse_more xs i d h = rw (take_more xs i d h, reverse-append) refl
+
+-- ---- reading a key from a link on
+
+pub read_past : (links : List Link) (n i k : ℕ) (at : Option ℕ) → at ≡ Some i → n ≤ i → read (chain links n at) k ≡ None
+read_past links n i k at e h = rw (e, chain_past links n i h) refl
+
+pub read_none : (links : List Link) (n k : ℕ) (at : Option ℕ) → at ≡ None → read (chain links n at) k ≡ None
+read_none links n k at e = rw (e, chain_none links n) refl
+
+pub read_here : (links : List Link) (n i k : ℕ) (at : Option ℕ) → at ≡ Some i → i < n → (link_at links i).bound.key ≡ k → read (chain links n at) k ≡ Some (link_at links i).bound.value
+read_here links n i k at e h same = rw (e, chain_link links n i h, eq-eqb (link_at links i).bound.key k same) refl
+
+pub read_next : (links : List Link) (n i k : ℕ) (at : Option ℕ) → at ≡ Some i → i < n → (link_at links i).bound.key ≢ k → read (chain links n at) k ≡ read (chain links i (link_at links i).behind) k
+read_next links n i k at e h apart = rw (e, chain_link links n i h, ne_eqb (link_at links i).bound.key k apart) refl

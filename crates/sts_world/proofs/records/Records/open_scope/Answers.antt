@@ -1,0 +1,41 @@
+use Rattle.std.proofs.Common.{◌≡◌, ◌<◌, ◌≤◌, ◌∙◌, sym, ap, length, ◌++◌, arith, List, map, refl, subst, slice_index_or}
+use Rattle.std.proofs.lemmas.Result.{err_from_is_err_and}
+use Rattle.std.proofs.lemmas.List.{get_or_default, length-map, length-set, length-append}
+use Rattle.sts_model.specs.Environment.{own_bindings}
+use Rattle.sts_model.specs.World.{World, no_task}
+use Rattle.sts_model.specs.declared.record.Scope.{Scope}
+use Rattle.sts_world.specs.Chains.{bindings_of}
+use Rattle.sts_world.specs.Scopes.{front_of, shown}
+use Rattle.sts_world.proofs.Scoping.{shown_grown, within_grown, within_push, opened}
+use Rattle.sts_world.proofs.records.Records.open_scope.Goals as goal
+
+pub returns-in_err-front-clause-err : goal.returns-in_err-front-clause-err
+returns-in_err-front-clause-err c =
+    let p = err_from_is_err_and c.from_residual.result c.from_residual.ensures.1 in
+    rw (p.1, ← c.self.view_is) (ap (λ (ss : List Scope). record { tasks = c.self.inside.tasks.items; scopes = ss }) (shown_grown c.self.inside.chains c.environment.new.chains c.self.inside.scopes.items c.self.invariant.2 c.environment.ensures.grows))
+
+pub returns-in_err-push-clause-err : goal.returns-in_err-push-clause-err
+returns-in_err-push-clause-err c =
+    let p = err_from_is_err_and c.from_residual-in_err-push.result c.from_residual-in_err-push.ensures.1 in
+    rw (p.1, ← c.self.view_is, c.in_err-push.ensures.items) (ap (λ (ss : List Scope). record { tasks = c.self.inside.tasks.items; scopes = ss }) (shown_grown c.self.inside.chains c.environment.new.chains c.self.inside.scopes.items c.self.invariant.2 c.environment.ensures.grows))
+
+pub invariant_of-self-2 : goal.invariant_of-self-2
+invariant_of-self-2 c =
+    let room : length (map (shown c.self.inside.chains) c.self.inside.scopes.items) < 1000000 = subst (λ (w : World). length w.scopes < 1000000) (sym c.self.view_is) c.requires.room in
+    let few : length c.self.inside.scopes.items < 1000000 = omega (arith, room, length-map c.self.inside.scopes.items (shown c.self.inside.chains)) in (
+      simp length-set c.self.invariant.0,
+      rw c.in_ok-push.ensures.items (simp length-append (omega arith)),
+      rw c.in_ok-push.ensures.items (within_push c.environment.new.chains c.self.inside.scopes.items _ (within_grown c.self.inside.chains c.environment.new.chains c.self.inside.scopes.items c.self.invariant.2 c.environment.ensures.grows) c.in_ok-front.ensures.within),
+    )
+
+pub returns-clause-ok : goal.returns-clause-ok
+returns-clause-ok c =
+    let bound : c.args.t < length c.self.inside.tasks.items = subst (λ (w : World). c.args.t < length w.tasks) (sym c.self.view_is) c.requires.born in
+    let first : c.index.result.now ≡ slice_index_or c.self.inside.tasks.items c.args.t no_task = c.index.ensures ∙ get_or_default c.self.inside.tasks.items c.args.t _ no_task bound in
+    let second : c.index-2.result.now ≡ slice_index_or c.self.inside.tasks.items c.args.t no_task = c.index-2.ensures ∙ get_or_default c.self.inside.tasks.items c.args.t _ no_task bound in
+    let third : c.index_mut.result.now ≡ slice_index_or c.self.inside.tasks.items c.args.t no_task = c.index_mut.ensures.value ∙ get_or_default c.self.inside.tasks.items c.args.t _ no_task bound in
+    let rest : c.front_of-rest.result ≡ front_of c.self.inside.scopes.items (slice_index_or c.self.inside.tasks.items c.args.t no_task).scope = rw (c.front_of-rest.ensures, c.deref.ensures.value, c.scope.ensures, first) refl in
+    let list : bindings_of c.environment.new.chains c.in_ok-front.front ≡ own_bindings c.index-2.result.now ++ bindings_of c.self.inside.chains c.front_of-rest.result = c.in_ok-front.ensures.list in
+    let born : c.len-s.result ≡ length c.self.inside.scopes.items = omega (arith, c.len-s.ensures, c.self.inside.scopes.ok) in
+    rw (← c.self.view_is, c.in_ok-push.ensures.items, c.new.ensures, c.leave_open.ensures, third)
+    (opened c.self.inside.tasks.items c.self.inside.chains c.environment.new.chains c.self.inside.scopes.items c.args.t c.len-s.result c.args.slot c.args.joiner c.args.timed c.in_ok-front.front c.front_of-rest.result c.self.invariant.2 c.environment.ensures.grows born rest (rw second at list))

@@ -1,0 +1,118 @@
+//! A frame as it is held: in full while its task lives, and at rest in what is used of it.
+
+ghost use Rattle.std.specs.Prelude.{◌≡◌, ◌≤◌, ◌<◌, length, reverse, take, replicate, ◌∷◌, [], IfSome, IfOk};
+ghost use Rattle.std.specs.List.{list_all};
+ghost use Rattle.sts_model.specs.Misuse as misuse;
+ghost use Rattle.sts_model.specs.World as def;
+ghost use Rattle.sts_model.specs.declared.record.Slot.TheVariants.{Empty, Lent};
+ghost use Rattle.sts_world.specs.Held.{slot_of, whole};
+
+use std::alloc::{AllocError, Global};
+use sts_model::record::{Frame, Slot};
+
+/// What is used of a frame at which no loop and no entry is open.
+#[derive(Drop)]
+pub struct RestingFrame {
+    pub function: u32,
+    pub pc: u32,
+    /// The scope in the first slot; the other slots are empty.
+    pub scope: Option<u32>,
+    /// The operands, the top last.
+    pub operands: Vec<i64>,
+    /// The locals; those after them are 0.
+    pub locals: Vec<i64>,
+}
+
+/// A frame in full, or at rest.
+#[derive(Drop)]
+pub enum HeldFrame {
+    Living(Box<Frame>),
+    Resting(RestingFrame),
+}
+
+/// The locals up to the last that isn't 0.
+fn used(locals: &[i64; 16]) -> &[i64]
+    ensures { def.entry_locals result.now ≡ locals.now }
+{
+    let mut n = 16;
+    while n > 0 && locals[n - 1] == 0 {
+        n -= 1;
+    }
+    &locals[..n]
+}
+
+fn is_empty(slot: Slot) -> bool
+    ensures { result ≡ misuse.is_empty slot }
+{
+    matches!(slot, Slot::Empty)
+}
+
+fn are_empty(slots: &[Slot]) -> bool
+    ensures { result ≡ list_all misuse.is_empty slots.now }
+{
+    slots.iter().all(|slot| is_empty(*slot))
+}
+
+/// The scope in the first slot, or none; none at all where another slot is used.
+fn sole_scope(slots: &[Slot; 16]) -> Option<Option<u32>>
+    ensures { IfSome result (λ s. slots.now ≡ slot_of s ∷ replicate 15 Empty) }
+{
+    if !are_empty(&slots[1..]) {
+        return None;
+    }
+    let first = slots[0];
+    match first {
+        Slot::Empty => Some(None),
+        Slot::Lent(s) => Some(Some(s)),
+        _ => None,
+    }
+}
+
+/// What is used of a frame, if it can be at rest and there is memory for it.
+pub fn resting(alloc: Global, frame: &Frame) -> Option<RestingFrame>
+    ensures { IfSome result (λ r. whole r ≡ frame.now) }
+{
+    if frame.loops.len() > 0 || frame.entries.len() > 0 {
+        return None;
+    }
+    let scope = sole_scope(&frame.slots)?;
+    let operands = Vec::from_slice(alloc, frame.operands.as_slice()).ok()?;
+    let locals = Vec::from_slice(alloc, used(&frame.locals)).ok()?;
+    Some(RestingFrame {
+        function: frame.function,
+        pc: frame.pc,
+        scope,
+        operands,
+        locals,
+    })
+}
+
+/// The topmost operands as arguments, the top last.
+fn arguments(alloc: Global, count: usize, forker: &Frame) -> Result<Vec<i64>, AllocError>
+    requires { count ≤ length forker.now.operands }
+    ensures { IfOk result (λ args. args.items ≡ reverse (take count forker.now.operands)) }
+{
+    let operands = forker.operands.as_slice();
+    Vec::from_slice(alloc, &operands[operands.len() - count..])
+}
+
+/// The frame at the beginning of a function that never runs.
+pub fn resting_entry(
+    alloc: Global,
+    function: u32,
+    args: u8,
+    forker: &Frame,
+    scope: u32,
+) -> Result<RestingFrame, AllocError>
+    requires { args ≤ length forker.now.operands }
+    ensures { IfOk result (λ r. whole r ≡ def.entry_frame function (reverse (take args forker.now.operands)) (Lent scope)) }
+{
+    let locals = arguments(alloc, args as usize, forker)?;
+    Ok(RestingFrame {
+        function,
+        pc: 0,
+        scope: Some(scope),
+        operands: Vec::new(alloc),
+        locals,
+    })
+}

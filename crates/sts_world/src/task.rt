@@ -1,0 +1,352 @@
+//! A task as it is kept.
+
+ghost use Rattle.std.specs.Prelude.{◌≡◌, ◌<◌, ◌≤◌, ◌+◌, ◌-◌, ◌^◌, length, [], ◌∷◌, IfOk, Some, None, true, false, drop, slice_set};
+ghost use Rattle.std.specs.Prelude.{reverse, take, ◌++◌};
+ghost use Rattle.sts_model.specs.Cancelling as cancelling;
+ghost use Rattle.sts_model.specs.Effect as effect;
+ghost use Rattle.sts_model.specs.Environment as scoped;
+ghost use Rattle.sts_model.specs.Living as living;
+ghost use Rattle.sts_model.specs.Local as frames;
+ghost use Rattle.sts_model.specs.Misuse as misuse;
+ghost use Rattle.sts_model.specs.World as def;
+ghost use Rattle.sts_world.specs.Chains.{bindings_of, is_within, Grows};
+ghost use Rattle.sts_model.specs.declared.record.Entry.TheVariants as entries;
+ghost use Rattle.sts_model.specs.declared.record.Slot.TheVariants.{Empty, Own, Lent};
+
+use crate::chains::Chains;
+use crate::code::code;
+use crate::frames::{
+    bind, entry_frame, forget, leave_close, leave_fork, leave_open, root_frame, unbind,
+};
+use crate::held::{HeldFrame, resting, resting_entry};
+use crate::reading::own_value;
+use std::alloc::{AllocError, Global};
+use std::marker::Model;
+use sts_code::instr::Instr;
+use sts_code::program::Program;
+use sts_model::event::End;
+use sts_model::frame::local;
+use sts_model::record::{Frame, Slot};
+
+/// A task: contracts see its record with the frame in full.
+///
+/// The frame is held in full while the task lives. One that never runs, and one that has ended, is
+/// held at rest, in what is used of it.
+#[derive(Drop)]
+pub struct TaskRecord {
+    frame: HeldFrame,
+    started: bool,
+    flag: bool,
+    scope: Option<u32>,
+    outcome: Option<End>,
+    /// The place of its environment when it last opened a scope, as a hint for the next one.
+    opened: usize,
+}
+
+impl Model for TaskRecord {
+    ghost use Rattle.sts_model.specs.declared.record.Task.{Task};
+
+    ghost Value = { Task };
+
+    ghost use Rattle.sts_world.specs.Held.{frame_of, is_living};
+    ghost use Rattle.std.specs.Prelude.{◌≡◌, true, ◌&&◌, is_none};
+
+    ghost view = { λ t. record { frame = frame_of t.frame; started = t.started; flag = t.flag; scope = t.scope; outcome = t.outcome } };
+
+    ghost invariant = { λ t. t.started && is_none t.outcome ≡ true → is_living t.frame ≡ true };
+}
+
+// ---- births
+
+impl TaskRecord {
+    /// The root task, at the beginning of a function.
+    pub fn root(alloc: Global, function: u32) -> Result<TaskRecord, AllocError>
+        ensures { IfOk result (λ t. t ≡ record { frame = def.entry_frame function [] Empty; started = true; flag = false; scope = None; outcome = None }) }
+    {
+        let frame = Box::new(alloc, root_frame(function))?;
+        Ok(TaskRecord {
+            frame: HeldFrame::Living(frame),
+            started: true,
+            flag: false,
+            scope: None,
+            outcome: None,
+            opened: 0,
+        })
+    }
+
+    /// A subtask of a scope, at the beginning of a function, with the forker's topmost operands as its arguments.
+    pub fn subtask(
+        alloc: Global,
+        function: u32,
+        args: u8,
+        forker: &Frame,
+        scope: u32,
+        started: bool,
+    ) -> Result<TaskRecord, AllocError>
+        requires few { args ≤ 16 }
+        requires enough { args ≤ length forker.now.operands }
+        ensures { IfOk result (λ t. t ≡ record { frame = def.entry_frame function (reverse (take args forker.now.operands)) (Lent scope); started = started; flag = false; scope = Some scope; outcome = None }) }
+    {
+        let frame = if started {
+            let frame = entry_frame(function, args, forker, Slot::Lent(scope));
+            HeldFrame::Living(Box::new(alloc, frame)?)
+        } else {
+            HeldFrame::Resting(resting_entry(alloc, function, args, forker, scope)?)
+        };
+        Ok(TaskRecord {
+            frame,
+            started,
+            flag: false,
+            scope: Some(scope),
+            outcome: None,
+            opened: 0,
+        })
+    }
+}
+
+// ---- what is read
+
+impl TaskRecord {
+    pub fn lives(&self) -> bool
+        ensures { result ≡ living.lives self.now }
+    {
+        self.started && self.outcome.is_none()
+    }
+
+    pub fn flag(&self) -> bool
+        ensures { result ≡ self.now.flag }
+    {
+        self.flag
+    }
+
+    /// The scope that it is a subtask of.
+    pub fn scope(&self) -> Option<u32>
+        ensures { result ≡ self.now.scope }
+    {
+        self.scope
+    }
+
+    pub fn outcome(&self) -> Option<End>
+        ensures { result ≡ self.now.outcome }
+    {
+        self.outcome
+    }
+
+    /// The frame of a task that lives.
+    pub fn frame(&self) -> &Frame
+        requires lives { living.lives self.now ≡ true }
+        ensures { result.now ≡ self.now.frame }
+    {
+        match &self.frame {
+            HeldFrame::Living(frame) => frame,
+            HeldFrame::Resting(_) => unreachable!(),
+        }
+    }
+}
+
+impl TaskRecord {
+    /// The value of its own innermost binding of a key.
+    pub fn own_value(&self, k: u8) -> Option<i64>
+        ensures { result ≡ scoped.read (scoped.own_bindings self.now) k }
+    {
+        match &self.frame {
+            HeldFrame::Living(frame) => own_value(frame, k),
+            HeldFrame::Resting(_) => None,
+        }
+    }
+
+    /// The place of its own bindings in front of an environment.
+    pub fn environment(
+        &self,
+        chains: &mut Chains,
+        rest: Option<usize>,
+    ) -> Result<Option<usize>, AllocError>
+        requires { is_within (length chains.old) rest ≡ true }
+        ensures list { IfOk result (λ front. bindings_of chains.new front ≡ scoped.own_bindings self.now ++ bindings_of chains.old rest) }
+        ensures within { IfOk result (λ front. is_within (length chains.new) front ≡ true) }
+        ensures grows { Grows chains.old chains.new }
+    {
+        match &self.frame {
+            HeldFrame::Living(frame) => chains.extend(frame, rest, self.opened),
+            HeldFrame::Resting(_) => Ok(rest),
+        }
+    }
+}
+
+// ---- what is written
+
+impl TaskRecord {
+    /// Pops `n` operands and goes to `to`.
+    pub fn goes(&mut self, to: u32, n: usize)
+        requires lives { living.lives self.old ≡ true }
+        ensures { self.new ≡ record self.old { frame = frames.goes self.old.frame to n [] } }
+    {
+        if let HeldFrame::Living(frame) = &mut self.frame {
+            frame.goes(to, n);
+        }
+    }
+
+    /// Pops `n` operands, pushes a value and goes to `to`.
+    pub fn goes_with(&mut self, to: u32, n: usize, value: i64)
+        requires lives { living.lives self.old ≡ true }
+        requires room { length self.old.frame.operands - n < 32 }
+        ensures { self.new ≡ record self.old { frame = frames.goes self.old.frame to n (value ∷ []) } }
+    {
+        if let HeldFrame::Living(frame) = &mut self.frame {
+            frame.goes_with(to, n, value);
+        }
+    }
+
+    /// Does a local instruction.
+    pub fn local(&mut self, program: &Program, instr: Instr)
+        requires lives { living.lives self.old ≡ true }
+        requires at { def.instr_at program.now self.old.frame ≡ Some instr }
+        requires more { self.old.frame.pc + 1 < 2 ^ 32 }
+        requires short { length (def.code program.now self.old.frame) < 2 ^ 32 }
+        requires is_local { frames.is_local instr ≡ true }
+        requires room { misuse.overflows program.now self.old.frame instr ≡ false }
+        requires loops { misuse.breaks_loop program.now self.old.frame instr ≡ false }
+        ensures { self.new ≡ record self.old { frame = frames.local (def.code program.now self.old.frame) instr self.old.frame } }
+    {
+        if let HeldFrame::Living(frame) = &mut self.frame {
+            let instructions = code(program, frame);
+            local(frame, program, instructions, instr);
+        }
+    }
+
+    /// Empties a slot.
+    pub fn forget(&mut self, x: u8)
+        requires lives { living.lives self.old ≡ true }
+        requires more { self.old.frame.pc + 1 < 2 ^ 32 }
+        ensures { self.new ≡ record self.old { frame = record (frames.steps self.old.frame 0 []) { slots = slice_set self.old.frame.slots x Empty } } }
+    {
+        if let HeldFrame::Living(frame) = &mut self.frame {
+            forget(frame, x);
+        }
+    }
+
+    /// Binds a key to the popped operand.
+    pub fn bind(&mut self, k: u8)
+        requires lives { living.lives self.old ≡ true }
+        requires more { self.old.frame.pc + 1 < 2 ^ 32 }
+        requires entries { length self.old.frame.entries < 16 }
+        ensures { self.new ≡ record self.old { frame = record (frames.steps self.old.frame 1 []) { entries = entries.Binding k (frames.operand self.old.frame 0) ∷ self.old.frame.entries } } }
+    {
+        if let HeldFrame::Living(frame) = &mut self.frame {
+            bind(frame, k);
+        }
+    }
+
+    /// Ends the innermost binding.
+    pub fn unbind(&mut self)
+        requires lives { living.lives self.old ≡ true }
+        requires more { self.old.frame.pc + 1 < 2 ^ 32 }
+        ensures { self.new ≡ record self.old { frame = record (frames.steps self.old.frame 0 []) { entries = drop 1 self.old.frame.entries } } }
+    {
+        if let HeldFrame::Living(frame) = &mut self.frame {
+            unbind(frame);
+        }
+    }
+
+    /// Pushes the flag and clears it.
+    pub fn take_flag(&mut self)
+        requires lives { living.lives self.old ≡ true }
+        requires more { self.old.frame.pc + 1 < 2 ^ 32 }
+        requires room { length self.old.frame.operands < 32 }
+        ensures { self.new ≡ record self.old { frame = frames.steps self.old.frame 0 (frames.truth self.old.flag ∷ []); flag = false } }
+    {
+        if let HeldFrame::Living(frame) = &mut self.frame {
+            let next = frame.pc + 1;
+            frame.goes_with(next, 0, i64::from(self.flag));
+            self.flag = false;
+        }
+    }
+
+    /// Leaves a `join` that was interrupted.
+    pub fn leave_join(&mut self, to: u32)
+        requires lives { living.lives self.old ≡ true }
+        ensures { self.new ≡ record self.old { frame = frames.goes self.old.frame to 0 []; flag = false } }
+    {
+        if let HeldFrame::Living(frame) = &mut self.frame {
+            frame.goes(to, 0);
+            self.flag = false;
+        }
+    }
+
+    /// Leaves a `close` that has ended, with these slots.
+    pub fn leave_close(&mut self, slots: [Slot; 16])
+        requires lives { living.lives self.old ≡ true }
+        requires more { self.old.frame.pc + 1 < 2 ^ 32 }
+        ensures { self.new ≡ record self.old { frame = record (frames.steps self.old.frame 0 []) { entries = drop 1 self.old.frame.entries; slots = slots } } }
+    {
+        if let HeldFrame::Living(frame) = &mut self.frame {
+            leave_close(frame, slots);
+        }
+    }
+
+    /// Leaves an `open`, with the scope in a slot.
+    pub fn leave_open(&mut self, slot: u8, s: u32, front: Option<usize>)
+        requires lives { living.lives self.old ≡ true }
+        requires more { self.old.frame.pc + 1 < 2 ^ 32 }
+        requires entries { length self.old.frame.entries < 16 }
+        ensures { self.new ≡ record self.old { frame = record (frames.steps self.old.frame 0 []) { entries = entries.Scope s ∷ self.old.frame.entries; slots = slice_set self.old.frame.slots slot (Own s) } } }
+    {
+        if let HeldFrame::Living(frame) = &mut self.frame {
+            leave_open(frame, slot, s);
+            self.opened = front.unwrap_or(0);
+        }
+    }
+
+    /// Leaves a `fork`, with the subtask in a slot.
+    pub fn leave_fork(&mut self, args: usize, handle: Option<u8>, child: u32)
+        requires lives { living.lives self.old ≡ true }
+        requires more { self.old.frame.pc + 1 < 2 ^ 32 }
+        ensures { self.new ≡ record self.old { frame = effect.forked self.old.frame args handle child } }
+    {
+        if let HeldFrame::Living(frame) = &mut self.frame {
+            leave_fork(frame, args, handle, child);
+        }
+    }
+
+    /// Sets the flag.
+    pub fn interrupt(&mut self)
+        ensures { self.new ≡ record self.old { flag = true } }
+    {
+        self.flag = true;
+    }
+
+    /// Sets the flag, if the task is a living subtask of the scope.
+    pub fn raise(&mut self, s: u32)
+        ensures { self.new ≡ cancelling.raise s self.old }
+    {
+        if self.scope == Some(s) && self.lives() {
+            self.flag = true;
+        }
+    }
+
+    /// Ends the task.
+    pub fn end(&mut self, alloc: Global, end: End)
+        requires lives { living.lives self.old ≡ true }
+        requires more { self.old.frame.pc + 1 < 2 ^ 32 }
+        ensures { self.new ≡ record self.old { frame = frames.steps self.old.frame 1 []; outcome = Some end } }
+    {
+        if let HeldFrame::Living(frame) = &mut self.frame {
+            let next = frame.pc + 1;
+            frame.goes(next, 1);
+        }
+        self.outcome = Some(end);
+        self.rest(alloc);
+    }
+
+    /// Holds the frame of a task that doesn't live in what is used of it, where there is memory for that.
+    fn rest(&mut self, alloc: Global)
+        requires { living.lives self.old ≡ false }
+        ensures { self.new ≡ self.old }
+    {
+        if let HeldFrame::Living(frame) = &self.frame {
+            if let Some(frame) = resting(alloc, frame) {
+                self.frame = HeldFrame::Resting(frame);
+            }
+        }
+    }
+}
