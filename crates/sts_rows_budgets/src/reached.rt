@@ -180,15 +180,23 @@ static REACHES: [Reach; 5] = [
     },
 ];
 
+/// The bindings that a task has open; none once it has ended.
+fn open_binds(world: &World, t: u32) -> usize {
+    if !world.records().lives(t) {
+        return 0;
+    }
+    let entries = world.records().frame(t).entries.as_slice();
+    let own = entries
+        .iter()
+        .filter(|entry| matches!(entry, Entry::Binding(..)));
+    own.count()
+}
+
 /// The bindings that stand.
 fn standing_binds(world: &World) -> usize {
     let mut count = 0usize;
     for t in 0..world.records().tasks_born() as u32 {
-        let entries = world.records().frame(t).entries.as_slice();
-        let own = entries
-            .iter()
-            .filter(|entry| matches!(entry, Entry::Binding(..)));
-        count = count.saturating_add(own.count());
+        count = count.saturating_add(open_binds(world, t));
     }
     count
 }
