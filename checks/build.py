@@ -35,14 +35,25 @@ def needed(below, name, found):
     return found
 
 
+def side_by_side():
+    """Returns how many crates to prove at a time: one for each processor, where there are 4 GiB for each."""
+    with open("/proc/meminfo") as memory:
+        free = next(int(line.split()[1]) for line in memory if line.startswith("MemAvailable:"))
+    return max(1, min(len(os.sched_getaffinity(0)), free >> 22))
+
+
 def start():
-    """Starts the build; the program of an earlier one goes first, so that it is there only if this one ends well."""
+    """Starts the build; the program of an earlier one goes first, so that it is there only if this one ends well.
+
+    The crates are proved side by side, and what is left for `rt run` is to build the program and to run it once.
+    """
     folder = f"{ROOT}/crates/{PROGRAM}"
     os.makedirs(os.path.dirname(LOG), exist_ok=True)
     if os.path.exists(BUILT):
         os.remove(BUILT)
-    log, given = open(LOG, "wb"), open(f"{folder}/stdin", "rb")
-    return subprocess.Popen(["rt", "run"], cwd=folder, stdin=given, stdout=log, stderr=log, start_new_session=True)
+    log = open(LOG, "wb")
+    build = f"rt all check --jobs {side_by_side()} < /dev/null && exec rt run < stdin"
+    return subprocess.Popen(["sh", "-c", build], cwd=folder, stdout=log, stderr=log, start_new_session=True)
 
 
 def progress(total, since):

@@ -4,6 +4,10 @@
 #[cfg(test)]
 mod behaviour;
 #[cfg(test)]
+mod documents;
+#[cfg(test)]
+mod examples;
+#[cfg(test)]
 mod faults;
 #[cfg(test)]
 mod joiners;

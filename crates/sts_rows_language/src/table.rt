@@ -4,7 +4,7 @@
 //!
 //! - `# WORDS` names what follows and says why, where that isn't plain;
 //! - `? verify`, `? list` or `? TRACE` asks something of the text above it, a trace in the notation of `events`;
-//! - `= STATUS LINES` is the answer to what was asked last;
+//! - `= STATUS LINES` is the answer to what was asked last, `= STATUS` alone the status of `verify`;
 //! - any other line belongs to the text. ` / ` stands between two lines of it, and so does the end of the line. A line
 //!   `3 * push 1, bind 0` stands for `push 1` and `bind 0` three times over. A word in capitals stands for the lines
 //!   that `meaning` gives.
@@ -14,6 +14,7 @@ use std::alloc::Global;
 use std::process::Abort;
 use std::test::Fail;
 use sts_cli::mode::Mode;
+use sts_cli::play::play;
 
 /// The lines that a word in capitals stands for.
 ///
@@ -107,6 +108,20 @@ pub fn push_text(text: &mut String, short: &str) -> Result<(), Fail> {
     Ok(())
 }
 
+/// Verifies a text, and compares the status alone.
+fn ends_as<R: Abort>(
+    rt: &R,
+    alloc: Global,
+    name: &str,
+    text: &str,
+    status: &str,
+) -> Result<(), Fail> {
+    let mut printed = Vec::new(alloc);
+    let ended = play(alloc, Mode::Verify, text.as_bytes(), b"", &mut printed)?;
+    assert_eq!(rt; ended, status.parse::<u8>()?, "the status at {name:?}");
+    Ok(())
+}
+
 /// Asks what is asked of a text, and compares the answer.
 pub fn answers<R: Abort>(
     rt: &R,
@@ -116,7 +131,10 @@ pub fn answers<R: Abort>(
     asked: &str,
     answer: &str,
 ) -> Result<(), Fail> {
-    let (status, output) = answer.split_once(" ").ok_or("no answer")?;
+    let (status, output) = match answer.split_once(" ") {
+        Some(both) => both,
+        None => return ends_as(rt, alloc, name, text, answer),
+    };
     let output = lines(alloc, output)?;
     let want = (output.as_str(), status.parse::<u8>()?);
     let text = text.as_bytes();

@@ -1,0 +1,244 @@
+#!/usr/bin/env python3
+"""Keeps what the documents show and what the tests run the same.
+
+    checks/documents.py          says whether the tables of tests have what the documents show now; status 1 if not
+    checks/documents.py write    writes these tables, documents.rt and examples.rt of crates/sts_rows_language/src
+
+Each text and output of README.md, docs/LANGUAGE.md, docs/VERIFIER.md and examples/README.md becomes a row:
+
+- a block of LANGUAGE.md with a comment `<!-- run: TEXT ? ASKED = STATUS LINES -->` above it, where `@` stands for the
+  block, and what is asked is `verify`, `list` or a trace (`0*5` is five steps of task 0, `i0` an interrupt, `x0` an
+  expiry); a block that is no example begins with "```text";
+- a line of its tables of faults whose text is written in full;
+- what VERIFIER.md says of each cause that is refused or accepted;
+- each command of README.md and examples/README.md, with the files that it names.
+
+It also says where a document names a file that isn't there, or shows a line of a contract that no source has.
+"""
+import itertools
+import os
+import re
+import sys
+
+ROOT = os.path.dirname(os.path.dirname(os.path.realpath(__file__)))
+FOLDER = "crates/sts_rows_language/src"
+DOCUMENTS = ["README.md", "examples/README.md", *(f"docs/{it}" for it in sorted(os.listdir(f"{ROOT}/docs")) if it.endswith(".md"))]
+STATUS = {"success": 0, "failed": 1, "error": 3, "refused": 4, "fault": 5, "running": 5}
+# What tables of LANGUAGE.md describe in words: other tests have these rows.
+IN_WORDS = [
+    "a byte 128 in a comment of line 2",
+    "`func main 0` and a newline",
+    "1,048,577 newlines",
+    "no byte at all",
+    "65 functions",
+    "`main` with 4,097",
+    "`func kid 0 / push 0 / ret / end` twice, then `main`",
+    "`step`, `Step 0`, an empty line, `step  0` with two spaces",
+    "`step 01`, `step -0`, `step 4294967296`",
+    "`step 0` and no newline",
+]
+
+
+def read(path):
+    return open(f"{ROOT}/{path}").read()
+
+
+def fail(what):
+    sys.exit(f"checks/documents.py: {what}")
+
+
+def events(trace):
+    """Returns the lines of a trace in the notation of the tests."""
+    words = []
+    for line, same in itertools.groupby(trace.splitlines()):
+        kind, number = line.split(" ")
+        count = len(list(same))
+        words += [f"{number}*{count}"] if kind == "step" else [f"{kind[0].replace('e', 'x')}{number}"] * count
+    return " ".join(words)
+
+
+def row(name, text, asked):
+    """Returns a row: its name, the lines of its text, and the questions with their answers."""
+    lines = [line for line in text.split("\n") if line.strip()]
+    for line in lines:
+        if re.match(r"[#?=] ", line) or (" * " in line and not re.match(r"\d+ \* ", line)):
+            fail(f"{name}: the notation of rows can't hold the line {line!r}")
+    answers = [line for question, answer in asked for line in (f"? {question}", f"= {answer}")]
+    return "\n".join([f"# {name}", *lines, *answers])
+
+
+def questions(words):
+    """Returns the pairs of ` ? ASKED = STATUS LINES`."""
+    return [tuple(part.split(" = ", 1)) for part in words.split(" ? ")]
+
+
+def of_block(name, harness, block):
+    """Returns the row of a block of LANGUAGE.md with what is written above it."""
+    if harness.startswith("@ = "):
+        text, trace = block.split("%\n")
+        return row(name, text, [(events(trace), harness[4:])])
+    text, asked = harness.split(" ? ", 1)
+    pairs = questions(asked)
+    if pairs[0][0] == "@":
+        return row(name, text, [(events(block), pairs[0][1])])
+    before, after = text.split("@")
+    parts = [before.strip(" /"), block.rstrip("\n"), after.strip(" /")]
+    return row(name, "\n".join(part for part in parts if part), pairs)
+
+
+def blocks(path):
+    """Returns a row for each block of a document, and fails where one has nothing written above it."""
+    found, heading, harness, lines = [], "", [], iter(read(path).splitlines())
+    for line in lines:
+        if line.startswith("#"):
+            heading = line.strip("# ")
+        elif line.startswith("<!-- run: "):
+            harness.append(line[len("<!-- run: "):-len(" -->")])
+        elif line.startswith("```"):
+            block = "".join(f"{it}\n" for it in itertools.takewhile(lambda it: it != "```", lines))
+            if line == "```" and not harness:
+                fail(f"{path}: nothing says how the block of {heading!r} is run")
+            found += [of_block(heading, it, block) for it in harness]
+            harness = []
+    return found
+
+
+def cells(path, first, second):
+    """Returns the rows of a table's lines: a cell with a text, another with what is printed of it."""
+    found, columns = [], []
+    for line in read(path).splitlines():
+        cut = [cell.strip() for cell in line.strip("|").split("|")]
+        if not line.startswith("|"):
+            columns = []
+        elif not columns:
+            columns = cut
+        elif any(it.startswith(first) for it in columns) and second in columns:
+            text = cut[[it.startswith(first) for it in columns].index(True)]
+            printed = cut[columns.index(second)].strip("`")
+            whole = re.fullmatch(r"`([^`]*)`", text)
+            if whole and text not in IN_WORDS:
+                name = f"{cut[0].strip('`')} of a text" if columns[0] == "Code" else printed
+                found.append(row(name, whole[1], [("list", f"{STATUS['error']} {printed}")]))
+            elif text not in IN_WORDS and printed.startswith("error ") and printed != "error memory":
+                fail(f"{path}: {text!r} is written neither in full nor in words that are known")
+    return found
+
+
+def spelled(words):
+    """Returns the lines of a text like "`func main 0` / 33 times `push 1` / `ret / end`"."""
+    lines = []
+    for times, code in re.findall(r"(?:(\d+) times )?`([^`]*)`", words):
+        lines.append(f"{times} * {code.replace(' / ', ', ')}" if times else code)
+    return "\n".join(lines)
+
+
+def causes(path):
+    """Returns the rows of each cause: a text that is refused, and one that is accepted."""
+    found, heading = [], ""
+    for line in read(path).splitlines():
+        refused = re.fullmatch(r"- Refused: (.*) with `([^`]*)`", line)
+        accepted = re.fullmatch(r"- Accepted: (.*)", line)
+        if line.startswith("### "):
+            heading = line[4:]
+        elif refused:
+            found.append(row(f"{heading}, refused", spelled(refused[1]), [("verify", f"4 {refused[2]}")]))
+        elif accepted:
+            found.append(row(f"{heading}, accepted", spelled(accepted[1]), [("verify", "0")]))
+    return found
+
+
+def shown_commands(path):
+    """Returns the commands with files that a document shows: mode, text, trace, and the lines that are printed."""
+    shown = r"`?\./sts (verify|plain) (examples/\S+?)(?: (examples/\S+?))?`?"
+    for mode, text, trace, printed in re.findall(rf"^\| {shown} \| (.*?) \|", read(path), re.M):
+        yield mode, text, trace, printed.replace("`", "").replace("<br>", " / ")
+    block = rf"{shown}(?:[^\S\n]|,|\n\n)[^\n]*prints\n\n((?:    .*\n)+)"
+    for mode, text, trace, printed in re.findall(block, read(path)):
+        yield mode, text, trace, " / ".join(line.strip() for line in printed.strip().splitlines())
+
+
+def commands(paths):
+    """Returns a row for each command with files that the documents show, once."""
+    rows = []
+    for mode, text, trace, printed in dict.fromkeys(it for path in paths for it in shown_commands(path)):
+        status = STATUS.get(printed.split(" ")[0], 0)
+        asked = "verify" if mode == "verify" else events(read(trace))
+        rows.append(row(text, read(text), [(asked, f"{status} {printed}")]))
+    return rows
+
+
+def text_of(name, rows):
+    table = "\n\n".join(rows).replace("\\", "\\\\").replace('"', '\\"')
+    return f'const {name}: &str = "\n{table}\n";\n'
+
+
+def table_of(what, tables):
+    """Returns a file of tests: tables by name, and the test that walks them."""
+    asked = {name: sum(it.count("\n= ") for it in rows) for name, rows in tables.items()}
+    walks = "".join(
+        f"    assert_eq!(rt; walk_table(&rt, alloc, {name})?, {count});\n" for name, count in asked.items()
+    )
+    return (
+        f"//! {what}, as rows: written by checks/documents.py, which says where each comes from.\n\n"
+        "use crate::table::walk_table;\nuse std::test::Fail;\n\n"
+        + "\n".join(text_of(name, rows) for name, rows in tables.items())
+        + "\n#[test]\nfn what_is_shown_holds(rt: HostRuntime) -> Result<(), Fail> {\n    let alloc = rt.alloc();\n"
+        + walks
+        + "    Ok(())\n}\n"
+    )
+
+
+def files():
+    """Returns the two files of tests by name."""
+    language = "docs/LANGUAGE.md"
+    tables = {
+        "BLOCKS": blocks(language),
+        "TEXTS": cells(language, "Text", "Printed") + cells(language, "Example", "Printed"),
+        "CAUSES": causes("docs/VERIFIER.md"),
+    }
+    examples = {"COMMANDS": commands(["README.md", "examples/README.md"])}
+    for name, rows in [*tables.items(), *examples.items()]:
+        if len(rows) < 5:
+            fail(f"only {len(rows)} rows were found for {name}")
+    return {
+        "documents.rt": table_of("What the documents show", tables),
+        "examples.rt": table_of("The examples", examples),
+    }
+
+
+def named_files():
+    """Fails where a document names a file that isn't there."""
+    for path in DOCUMENTS:
+        here = os.path.dirname(path)
+        text = read(path)
+        links = [os.path.join(here, it) for it in re.findall(r"\]\(([^)#:]+)(?:#[^)]*)?\)", text)]
+        sources = re.findall(r"`((?:sts|tree)\w*/[\w/]+\.(?:rt|antt))`", text)
+        for name in [*links, *(f"crates/{it}" for it in sources)]:
+            if not os.path.exists(f"{ROOT}/{name}"):
+                fail(f"{path} names {name}, which isn't there")
+
+
+def shown_contracts(path):
+    """Fails where a contract that a document shows has a line that no source has."""
+    folders = [f"{ROOT}/crates/{it}/src" for it in os.listdir(f"{ROOT}/crates")]
+    files = [f"{at}/{it}" for folder in folders for at, _, names in os.walk(folder) for it in names]
+    sources = {line.strip() for it in files for line in open(it)}
+    for block in re.findall(r"```text\n(.*?)```", read(path), re.S):
+        for line in block.splitlines():
+            if line.strip() not in sources:
+                fail(f"{path} shows a contract with the line {line.strip()!r}, which no source has")
+
+
+def main():
+    named_files()
+    shown_contracts("docs/PROOFS.md")
+    for name, table in files().items():
+        path = f"{ROOT}/{FOLDER}/{name}"
+        if sys.argv[1:] == ["write"]:
+            open(path, "w").write(table)
+        elif not os.path.exists(path) or open(path).read() != table:
+            fail(f"{FOLDER}/{name} isn't what the documents show: checks/documents.py write")
+
+
+if __name__ == "__main__":
+    main()
