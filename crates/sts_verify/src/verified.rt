@@ -98,7 +98,9 @@ fn verify_function(
     requires in_program { function < length program.now.routines }
     requires long { length budgets.old.items ≡ function }
     requires right { AreBudgets program.now budgets.old.items }
-    ensures { MatchResult result (λ _. IsSound program.now function × (length budgets.new.items ≡ function + 1) × AreBudgets program.now budgets.new.items) (def.TellsOf program.now function) }
+    ensures { MatchResult result (λ _. IsSound program.now function ×
+        (length budgets.new.items ≡ function + 1) × AreBudgets program.now budgets.new.items)
+        (def.TellsOf program.now function) }
 {
     if let Err(error) = type_function(alloc, program, function) {
         return Err(error);
@@ -115,7 +117,8 @@ fn verify_function(
 
 /// Verifies a program: it is accepted, or refused at its least place with a cause, by the least cause there.
 pub fn verify(alloc: Global, program: Program) -> Result<Verified, VerifyError>
-    ensures { MatchResult result (λ verified. (verified ≡ program) × IsAccepted program) (def.Tells program) }
+    ensures { MatchResult result (λ verified. (verified ≡ program) ×
+        IsAccepted program) (def.Tells program) }
 {
     let mut budgets = Vec::new(alloc);
     for function in 0..program.functions().len() as u32 {
