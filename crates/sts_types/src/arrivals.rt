@@ -46,7 +46,10 @@ impl Model for Arrivals {
 
     ghost view = { λ a. record { table = map (arrival_of a.kept.items) a.marks.items; state = a.state; start = state_of a.kept.items a.start } };
 
-    ghost invariant = { λ a. All (IsMarked (length a.kept.items)) a.marks.items × (a.like < length a.kept.items) × (a.state ≡ state_of a.kept.items (record { height = a.state.height; like = a.like })) × IsMarked (length a.kept.items) (Arrival.One a.start) };
+    ghost invariant = { λ a. All (IsMarked (length a.kept.items)) a.marks.items
+        × (a.like < length a.kept.items)
+        × (a.state ≡ state_of a.kept.items (record { height = a.state.height; like = a.like }))
+        × IsMarked (length a.kept.items) (Arrival.One a.start) };
 }
 
 /// Is it the same typestate that these stand for?

@@ -32,7 +32,9 @@ impl Model for Verified {
 
     ghost view = { λ v. v.program };
 
-    ghost invariant = { λ v. IsAccepted v.program × (length v.budgets.items ≡ length v.program.routines) × AreBudgets v.program v.budgets.items };
+    ghost invariant = { λ v. IsAccepted v.program
+        × (length v.budgets.items ≡ length v.program.routines)
+        × AreBudgets v.program v.budgets.items };
 }
 
 impl Verified {
