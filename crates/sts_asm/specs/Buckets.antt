@@ -6,12 +6,15 @@ use Rattle.std.specs.Ordering.{nat_cmp}
 use Rattle.std.specs.Cmp.Lexicographic.{slice_cmp}
 use Rattle.std.specs.BTreeMap.{BTreeMap, get_by}
 
--- the bucket of a name with one more byte
+-- the number that a name's bytes are mixed into, with one byte more
 abbrev pub with_byte : ℕ → ℕ → ℕ
-with_byte bucket byte = (bucket * 31 % 256 + byte) % 256
+with_byte mixed byte = (mixed * 31 % 65536 + byte) % 65536
+
+abbrev pub mixed : List ℕ → ℕ
+mixed name = fold with_byte 0 name
 
 abbrev pub bucket_of : List ℕ → ℕ
-bucket_of name = fold with_byte 0 name
+bucket_of name = mixed name % 1024
 
 -- what a bucket says of a name; nothing where there is no such bucket
 abbrev pub found_at : Option (BTreeMap (Bor (List ℕ)) ℕ) → List ℕ → Option ℕ

@@ -2,7 +2,7 @@
 
 ghost use Rattle.std.specs.Prelude.{◌≡◌, ◌≤◌, ◌++◌, ◌∷◌, [], List, ℕ, length, None, OnOk, OnErr};
 ghost use Rattle.std.specs.Option.{option_copied};
-ghost use Rattle.sts_asm.specs.Buckets.{with_byte, bucket_of, found_in};
+ghost use Rattle.sts_asm.specs.Buckets.{with_byte, mixed, bucket_of, found_in};
 ghost use Rattle.sts_asm.specs.Marks.{Mark, marked, label_in, function_in};
 
 use std::alloc::{AllocError, Global};
@@ -25,24 +25,31 @@ impl<'a> Model for Mark<'a> {
 }
 
 /// How many buckets the names are spread over.
-const BUCKETS: usize = 256;
+const BUCKETS: usize = 1024;
 
-/// The bucket of a name with one more byte.
-fn with_byte(bucket: u8, byte: u8) -> u8
-    ensures { result ≡ with_byte bucket byte }
+/// The number that a name's bytes are mixed into, with one byte more.
+fn with_byte(mixed: u16, byte: u8) -> u16
+    ensures { result ≡ with_byte mixed byte }
 {
-    bucket.wrapping_mul(31).wrapping_add(byte)
+    mixed.wrapping_mul(31).wrapping_add(u16::from(byte))
+}
+
+/// The number that a name's bytes are mixed into.
+fn mixed(name: &[u8]) -> u16
+    ensures { result ≡ mixed name.now }
+{
+    let mut mixed = 0;
+    for byte in name {
+        mixed = with_byte(mixed, *byte);
+    }
+    mixed
 }
 
 /// The bucket of a name.
-fn bucket_of(name: &[u8]) -> u8
+fn bucket_of(name: &[u8]) -> usize
     ensures { result ≡ bucket_of name.now }
 {
-    let mut bucket = 0;
-    for byte in name {
-        bucket = with_byte(bucket, *byte);
-    }
-    bucket
+    usize::from(mixed(name)) % BUCKETS
 }
 
 /// Makes the buckets that are not there yet.
@@ -93,7 +100,7 @@ impl<'a> Marks<'a> {
     pub fn find(&self, name: &[u8]) -> Option<u32>
         ensures { result ≡ marked self.now name.now }
     {
-        match self.buckets.get(usize::from(bucket_of(name))) {
+        match self.buckets.get(bucket_of(name)) {
             None => None,
             Some(bucket) => bucket.get(name).copied(),
         }
@@ -107,7 +114,7 @@ impl<'a> Marks<'a> {
     {
         fill(&mut self.buckets, self.alloc)?;
         self.list.push(Mark { name, at })?;
-        match self.buckets[usize::from(bucket_of(name))].insert(name, at) {
+        match self.buckets[bucket_of(name)].insert(name, at) {
             Ok(_) => Ok(()),
             Err(_) => {
                 let _ = self.list.pop();

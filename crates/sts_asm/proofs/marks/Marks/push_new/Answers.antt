@@ -13,7 +13,7 @@ use Rattle.sts_asm.proofs.marks.Marks.push_new.Goals as goal
 pub invariant_of-self-in-Ok : goal.invariant_of-self-in-Ok
 invariant_of-self-in-Ok c = λ q.
     let name = c.args.name.now in
-    let i = c.from.result in
+    let i = c.bucket_of.result in
     let buckets = c.fill.new.buckets.items in
     let at : i ≡ bucket_of name = search rules in
     let inside : i < length buckets = search rules in
@@ -30,7 +30,7 @@ invariant_of-self-in-Ok c = λ q.
 
 pub invariant_of-self-in-Err : goal.invariant_of-self-in-Err
 invariant_of-self-in-Err c = λ q.
-    let i = c.from.result in
+    let i = c.bucket_of.result in
     let buckets = c.fill.new.buckets.items in
     let inside : i < length buckets = search rules in
     let old = slice_get_read buckets (length buckets) i c.index_mut.result.now refl inside c.index_mut.ensures.value in
