@@ -49,10 +49,10 @@ fn top(records: &Records, t: u32) -> i64
 }
 
 /// Where `case` goes for this subtask.
-fn case_target(records: &Records, sub: u32, success: u32, failed: u32, otherwise: u32) -> u32
-    ensures { result ≡ effect.case_target (living.sub_state records.now sub) success failed otherwise }
+fn case_target(world: &World, sub: u32, success: u32, failed: u32, otherwise: u32) -> u32
+    ensures { result ≡ effect.case_target (living.sub_state world.now sub) success failed otherwise }
 {
-    match records.sub_state(sub) {
+    match world.sub_state(sub) {
         None => otherwise,
         Some(End::Success(_)) => success,
         Some(End::Failed(_)) => failed,
@@ -60,10 +60,10 @@ fn case_target(records: &Records, sub: u32, success: u32, failed: u32, otherwise
 }
 
 /// The value or code that a subtask ended with, or 0.
-fn value_or_zero(records: &Records, sub: u32) -> i64
-    ensures { result ≡ effect.value_or_zero (living.sub_state records.now sub) }
+fn value_or_zero(world: &World, sub: u32) -> i64
+    ensures { result ≡ effect.value_or_zero (living.sub_state world.now sub) }
 {
-    match records.sub_state(sub) {
+    match world.sub_state(sub) {
         None => 0,
         Some(End::Success(value)) => value,
         Some(End::Failed(code)) => code,
@@ -199,12 +199,12 @@ fn change(world: &mut World, program: &Program, t: u32, instr: Instr)
         } => {
             let sub = at_slot(world.records(), t, handle);
             let next = world.records().frame(t).pc + 1;
-            let to = case_target(world.records(), sub, success, failed, next);
+            let to = case_target(world, sub, success, failed, next);
             world.goes(t, to, 0);
         }
         Instr::Get(h) | Instr::Except(h) => {
             let sub = at_slot(world.records(), t, h);
-            let value = value_or_zero(world.records(), sub);
+            let value = value_or_zero(world, sub);
             push_value(world, t, 0, value);
         }
         Instr::Tally(x, kind) => {

@@ -28,13 +28,14 @@ use sts_model::record::Slot;
 
 /// The tasks and scopes: contracts see the two lists of all that were ever born.
 ///
-/// Beside them it keeps of each scope its subtasks, how many of them live and its joiner's tally, and how many tasks and
-/// scopes stand, so that no call walks over all tasks.
+/// Beside them it keeps of each scope its subtasks, how many of them live and its joiner's tally, of each task whether its
+/// scope was told of its end, and how many tasks and scopes stand, so that no call walks over all tasks or all completions.
 #[derive(Drop)]
 pub struct World {
     records: Records,
     families: Vec<Family>,
     tallies: Vec<Tally>,
+    was_told: Vec<bool>,
     standing_tasks: usize,
     standing_scopes: usize,
 }
@@ -46,10 +47,11 @@ impl Model for World {
 
     ghost view = { λ w. w.records };
 
+    ghost use Rattle.sts_world.specs.Ends.{KnowsEnds};
     ghost use Rattle.sts_world.specs.Kept.{IsKept};
     ghost use Rattle.sts_world.specs.Lines.{lines};
 
-    ghost invariant = { λ w. IsKept (lines w.records) w.families.items w.tallies.items w.standing_tasks w.standing_scopes };
+    ghost invariant = { λ w. IsKept (lines w.records) w.families.items w.tallies.items w.standing_tasks w.standing_scopes × KnowsEnds w.records w.was_told.items };
 }
 
 /// The number, or 0 where the scope is closed.
@@ -83,6 +85,13 @@ fn any_lives(families: &[Family], s: u32) -> bool
         Some(family) => family.any_lives(),
         None => false,
     }
+}
+
+/// Was this task's scope told of its end?
+fn is_told(was_told: &[bool], t: u32) -> bool
+    ensures { result ≡ slice_index_or was_told.now t false }
+{
+    was_told.get(t as usize).copied().unwrap_or(false)
 }
 
 // ---- what is read
@@ -135,6 +144,17 @@ impl World {
         ensures { result ≡ living.any_lives self.now s }
     {
         any_lives(&self.families, s)
+    }
+
+    /// The end of a subtask, where its scope was told of it.
+    pub fn sub_state(&self, t: u32) -> Option<End>
+        ensures { result ≡ living.sub_state self.now t }
+    {
+        if self.records.parent(t).is_some() && is_told(&self.was_told, t) {
+            self.records.outcome(t)
+        } else {
+            None
+        }
     }
 
     /// How many subtasks completed as successes, and how many as failures.
@@ -334,6 +354,7 @@ impl World {
     {
         let parent = self.records.parent(t);
         self.records.set_end(alloc, t, end);
+        self.was_told[t as usize] = false;
         match parent {
             None => {}
             Some(s) => self.families[s as usize].lose(),
@@ -352,6 +373,7 @@ impl World {
     {
         self.records.tell(s, t, end)?;
         self.records.set_end(alloc, t, end);
+        self.was_told[t as usize] = true;
         self.families[s as usize].lose();
         Ok(self.tallies[s as usize].on_complete(end))
     }
@@ -498,10 +520,13 @@ impl World {
         ensures { IfOk result (λ w. def.opening program.now ≡ def.Running w) }
     {
         let records = Records::opening(alloc, program)?;
+        let mut was_told = Vec::new(alloc);
+        was_told.push(false)?;
         Ok(World {
             records,
             families: Vec::new(alloc),
             tallies: Vec::new(alloc),
+            was_told,
             standing_tasks: 1,
             standing_scopes: 0,
         })
@@ -557,6 +582,7 @@ impl World {
         let child = self.records.tasks_born() as u32;
         let started = !self.records.is_cancelled(s);
         let tasks = self.standing_tasks();
+        self.was_told.reserve(1)?;
         self.families[s as usize].add(child, started)?;
         if let Err(error) = self
             .records
@@ -565,6 +591,7 @@ impl World {
             self.families[s as usize].take_back(started);
             return Err(error);
         }
+        self.was_told.push(false)?;
         self.standing_tasks = tasks + 1;
         Ok(())
     }
