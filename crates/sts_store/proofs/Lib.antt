@@ -7,3 +7,7 @@ pub mod Opening
 pub mod Unsharing
 pub mod Housed
 pub mod Beginning
+pub mod Local
+pub mod Writing
+pub mod Flags
+pub mod Bindings
