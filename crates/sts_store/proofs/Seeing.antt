@@ -1,5 +1,9 @@
 -- What is read of tasks and scopes, in the tree and in the view.
-use Rattle.std.proofs.Common.{◌≡◌, ℕ, ◌+◌, ◌-◌, length, true, false, ◌&&◌, Option, Some, None, refl, sym, ◌∙◌, ap, get_or}
+use Rattle.std.proofs.Common.{◌≡◌, ℕ, ◌+◌, ◌-◌, length, true, false, ◌&&◌, Option, Some, None, refl, sym, ◌∙◌, ap, get_or, List, [], ◌∷◌, cond, nat_eq, arith}
+use Rattle.std.proofs.lemmas.Bool.Decides.{nat_tests}
+use Rattle.sts_forest.specs.Births.{has}
+use Rattle.sts_held.specs.Holes.{key_at}
+use Rattle.sts_links.specs.Lists.{first_or}
 use Rattle.std.specs.Prelude.{option_map, is_some, unwrap_or}
 use Rattle.sts_code.specs.declared.instr.Kind.{Kind}
 use Rattle.sts_code.specs.declared.instr.Kind.TheVariants.{S, F, U}
@@ -8,18 +12,18 @@ use Rattle.sts_forest.specs.declared.record.Task.{Task}
 use Rattle.sts_forest.specs.declared.record.Scope.{Scope}
 use Rattle.sts_forest.specs.Births.{births}
 use Rattle.sts_forest.specs.Forest.{is_of}
-use Rattle.sts_forest.proofs.Holding.{map_at}
+use Rattle.sts_forest.proofs.Holding.{map_at, key_seen}
 use Rattle.sts_tree.specs.Reading.{count_of}
 use Rattle.sts_tree.specs.Steps.{can_step, can_go}
 use Rattle.sts_model.specs.declared.event.Stand.TheVariants.{Free}
-use Rattle.sts_model.specs.Live.{LiveScope}
+use Rattle.sts_model.specs.Live.{LiveTask, LiveScope}
 use Rattle.sts_seen.specs.Reading.{scope_in, live_scope_at, lives_in, no_live_task, no_live_scope}
 use Rattle.sts_seen.specs.Effect.{live_state, live_tally}
 use Rattle.sts_seen.specs.Waiting.{live_can_go}
 use Rattle.sts_agree.specs.View.{scope_seen, task_seen}
 use Rattle.sts_agree.proofs.Viewing.{task_is, scope_is, scope_there, words}
 use Rattle.sts_store.specs.Parts.{Parts, live_of, beside, stand_of, stand_in, unseen_of, can_go_on}
-use Rattle.sts_store.proofs.Views.{lives_is, lives_of}
+use Rattle.sts_store.proofs.Views.{just, lives_is, lives_of}
 
 -- ---- tasks
 
@@ -74,3 +78,26 @@ tally_is m s c U e =
 
 pub total_is : (m : Parts) (s : ℕ) (c : Scope Env) → get_or m.tree.scopes s None ≡ Some c → (live_scope_at (live_of m) s).told.total ≡ c.tally.told.total
 total_is m s c e = ap (λ (x : LiveScope). x.told.total) (scope_there (beside m) m.tree s c e)
+
+-- ---- the front of the ready list
+
+pub front_has : (ks : List ℕ) (t : ℕ) → first_or ks None ≡ Some t → has t ks ≡ true
+front_has [] t e = cc
+front_has (k ∷ ks) t e = let same : t ≡ k = sym (just k t e) in let is : nat_eq t k ≡ true = grind (arith, nat_tests) in rw is refl
+
+pub none_has : (ks : List ℕ) (t : ℕ) → first_or ks None ≡ None → has t ks ≡ false
+none_has [] t e = refl
+none_has (k ∷ ks) t e = cc
+
+-- ---- keys
+
+-- who stands in the tree stands in the view
+pub task_key : (m : Parts) (t : ℕ) → key_at m.tree.tasks m.tree.task_keys t ≡ key_at (live_of m).tasks m.tree.task_keys t
+task_key m t = sym (ap (λ (o : Option LiveTask). cond (is_some o) (Some (get_or m.tree.task_keys t 0)) None) (task_is (beside m) m.tree t) ∙ by (get_or m.tree.tasks t None))
+  where
+    by : (o : Option Task) → cond (is_some (option_map (task_seen (beside m) t) o)) (Some (get_or m.tree.task_keys t 0)) None ≡ cond (is_some o) (Some (get_or m.tree.task_keys t 0)) None
+    by None = refl
+    by (Some x) = refl
+
+pub scope_key : (m : Parts) (s : ℕ) → key_at m.tree.scopes m.tree.scope_keys s ≡ key_at (live_of m).scopes m.tree.scope_keys s
+scope_key m s = sym (key_seen (scope_seen (beside m)) m.tree.scopes m.tree.scope_keys s)

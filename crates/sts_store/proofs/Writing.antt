@@ -1,5 +1,9 @@
 -- The frame of a living task is written: what each call that does so has to show.
-use Rattle.std.proofs.Common.{◌≡◌, ◌≢◌, ℕ, List, true, Some, None, refl, sym, ◌∙◌, ap, subst, get_or}
+use mir.Val.{SFits, bool_byte, to_z, of_z}
+use Rattle.std.proofs.lemmas.Int.{to_z-of_z}
+use Rattle.sts_model.specs.Local.{goes, steps, truth}
+use Rattle.std.proofs.Common.{◌≡◌, ◌≢◌, ℕ, List, true, Some, None, refl, sym, ◌∙◌, ap, subst, get_or, ◌+◌, ℤ, [], ◌∷◌, Bool, false, pos, w64}
+use Rattle.sts_model.specs.Live.{Live}
 use Rattle.sts_model.specs.declared.record.Frame.{Frame}
 use Rattle.sts_model.specs.declared.record.Entry.{Entry}
 use Rattle.sts_seen.specs.Reading.{lives_in, with_live_frame}
@@ -38,3 +42,20 @@ module _ (m now : Parts) (t : ℕ) (r : Running) (l : Lived m t) (at : get_or m.
 -- another frame with the same structure list keeps the store in order
 pub frame_kept : (m : Parts) (t : ℕ) (r : Running) (f : Frame) → IsStore m → get_or m.frames.slots t None ≡ Some r → f.entries ≡ r.frame.entries → IsStore (with_running m t (record r { frame = f }) m.chains)
 frame_kept m t r f is at entries = kept_frame m t r (record r { frame = f }) is at (ap (λ (es : List Entry). record { env = r.env; entries = es }) entries)
+
+-- ---- what was looked up is written
+
+as_truth : (b : Bool) → pos (bool_byte b) ≡ truth b
+as_truth true = refl
+as_truth false = refl
+
+-- a truth value that is pushed
+pub truth_pushed : (z : ℤ) (a b : Bool) → SFits w64 z → z ≡ pos (bool_byte a) → a ≡ b → to_z w64 (of_z w64 z) ≡ truth b
+truth_pushed z a b fits is same = to_z-of_z w64 z fits ∙ is ∙ as_truth a ∙ ap truth same
+
+-- a task that pushed what was looked up, and went on
+pub went_on : (now : Parts) (new : Live) (t n : ℕ) (f : Frame) (v w : ℤ) → new ≡ with_live_frame (live_of now) t (goes (frame_of now t) (f.pc + 1) n (v ∷ [])) → f ≡ frame_of now t → v ≡ w → new ≡ with_live_frame (live_of now) t (steps (frame_of now t) n (w ∷ []))
+went_on now new t n f v w is same value =
+    is
+    ∙ ap (λ z. with_live_frame (live_of now) t (goes (frame_of now t) (f.pc + 1) n (z ∷ []))) value
+    ∙ ap (λ (g : Frame). with_live_frame (live_of now) t (goes (frame_of now t) (g.pc + 1) n (w ∷ []))) same

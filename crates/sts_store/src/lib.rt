@@ -8,6 +8,8 @@
 
 mod binding;
 mod frames;
+mod lookups;
 mod readings;
 pub mod running;
+mod standing;
 pub mod store;

@@ -4,7 +4,7 @@ ghost use Rattle.std.specs.Prelude.{◌≡◌, true, is_some};
 ghost use Rattle.sts_seen.specs.Effect.{live_read, live_state, live_tally};
 ghost use Rattle.sts_seen.specs.Outside.{live_can_expire};
 ghost use Rattle.sts_seen.specs.Reading.{alive_at, lives_in, live_scope_at, scope_in};
-ghost use Rattle.sts_store.specs.Parts.{can_go_on, live_of};
+ghost use Rattle.sts_store.specs.Parts.{live_of};
 
 use crate::store::Store;
 use sts_code::instr::Kind;
@@ -91,12 +91,5 @@ impl Store {
         ensures { result ≡ (live_of self.now).root_end }
     {
         self.root_end
-    }
-
-    /// May the task step, from where it was last said to stand?
-    pub fn can_step(&self, t: u32) -> bool
-        ensures { result ≡ can_go_on self.now t }
-    {
-        self.tree.can_step(t)
     }
 }
