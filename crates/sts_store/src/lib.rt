@@ -13,3 +13,5 @@ mod readings;
 pub mod running;
 mod standing;
 pub mod store;
+#[cfg(test)]
+mod tests;
