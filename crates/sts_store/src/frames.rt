@@ -1,6 +1,7 @@
 //! What is written into the frame of a task, and its flag.
 
-ghost use Rattle.std.specs.Prelude.{◌≡◌, ◌<◌, ◌+◌, ◌-◌, ◌^◌, [], ◌∷◌, length, slice_set, true, false};
+ghost use Rattle.std.specs.Prelude.{◌≡◌, ◌<◌, ◌+◌, ◌-◌, ◌^◌, [], ◌∷◌, length, slice_set};
+ghost use Rattle.std.specs.Prelude.{true, false};
 ghost use Rattle.sts_model.specs.Local as frames;
 ghost use Rattle.sts_model.specs.Misuse.{breaks_loop, overflows};
 ghost use Rattle.sts_model.specs.World as world;
@@ -80,7 +81,8 @@ impl Store {
     pub fn forget(&mut self, t: u32, slot: u8)
         requires lives { lives_in (live_of self.old) t ≡ true }
         requires more { (frame_of self.old t).pc + 1 < 2 ^ 32 }
-        ensures live { live_of self.new ≡ live_forget (live_of self.old) t (frame_of self.old t) slot }
+        ensures live { live_of self.new ≡ live_forget (live_of self.old) t
+            (frame_of self.old t) slot }
         ensures unseen { unseen_of self.new ≡ unseen_of self.old }
     {
         forget(&mut self.frames.at(t as usize).frame, slot);
@@ -91,7 +93,8 @@ impl Store {
         requires lives { lives_in (live_of self.old) t ≡ true }
         requires more { (frame_of self.old t).pc + 1 < 2 ^ 32 }
         requires room { length (frame_of self.old t).operands < 32 }
-        ensures live { live_of self.new ≡ live_take_flag (live_of self.old) t (frame_of self.old t) }
+        ensures live { live_of self.new ≡ live_take_flag (live_of self.old) t
+            (frame_of self.old t) }
         ensures unseen { unseen_of self.new ≡ unseen_of self.old }
     {
         let flag = self.tree.take_flag(t);

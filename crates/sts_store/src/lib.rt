@@ -2,8 +2,8 @@
 //! bindings.
 //!
 //! Contracts see the parts. They speak of the live view that these make up: each call does to that
-//! view what an instruction, an interrupt or an expiry does to it, and says what becomes of what the
-//! view doesn't show. No call but the first takes memory, and none can fail.
+//! view what an instruction, an interrupt or an expiry does to it, and says what becomes of what
+//! the view doesn't show. No call but the first takes memory, and none can fail.
 #![tactic(auto)]
 
 mod binding;

@@ -71,8 +71,8 @@ impl Store {
         self.goes(t, case_target(state, success, failed, next), 0);
     }
 
-    /// Pushes the value or the code of the subtask in a slot, 0 where its end wasn't told: `get`, and
-    /// `except` likewise.
+    /// Pushes the value or the code of the subtask in a slot, 0 where its end wasn't told: `get`,
+    /// and `except` likewise.
     pub fn push_value(&mut self, t: u32, handle: u8)
         requires lives { lives_in (live_of self.old) t ≡ true }
         requires more { (frame_of self.old t).pc + 1 < 2 ^ 32 }
@@ -166,8 +166,8 @@ impl Store {
         self.goes_with(t, next, 0, i64::from(is_bound));
     }
 
-    /// Puts what a key is bound to in the place of the top operand, which stays where the key is not
-    /// bound.
+    /// Puts what a key is bound to in the place of the top operand, which stays where the key is
+    /// not bound.
     pub fn or_else(&mut self, t: u32, key: u8)
         requires lives { lives_in (live_of self.old) t ≡ true }
         requires more { (frame_of self.old t).pc + 1 < 2 ^ 32 }
