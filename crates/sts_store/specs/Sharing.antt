@@ -1,5 +1,6 @@
 -- Which environments in use share which records of bindings, over the parts of a store.
--- Restates "Description" of JEP 506: a subtask inherits the bindings of its scope, and binds in front of them.
+-- Restates "Description" of JEP 506: a subtask inherits the bindings of its scope, and binds in front
+-- of them.
 -- That environments share records is this project's own.
 use Rattle.std.specs.Prelude.{◌≡◌, ◌≢◌, ℕ, List, [], ◌∷◌, ◌++◌, length, map, count_by}
 use Rattle.std.specs.Prelude.{Option, Some, None, option_map, ◌==◌, if◌then◌else◌, slice_index_or}
@@ -71,7 +72,8 @@ Keeps ks s k = slice_index_or ks s None ≡ Some k
 
 -- each environment in use is made of own records in front of what the scope keeps, and no record is
 -- two tasks' own
-pub record Shares (c : Records) (hs : List (Option Holder)) (ks : List (Option Keeper)) (os : List (Option (Option ℕ))) (own outside : ℕ → List ℕ) : Type 0 where
+pub record Shares (c : Records) (hs : List (Option Holder)) (ks : List (Option Keeper))
+    (os : List (Option (Option ℕ))) (own outside : ℕ → List ℕ) : Type 0 where
   -- all records of a living task's environment stand
   pub whole : (t : ℕ) (h : Holder) → Holds hs t h → IsWhole c h.env
   -- all records of the environment that a scope keeps stand
@@ -95,7 +97,8 @@ pub record Shares (c : Records) (hs : List (Option Holder)) (ks : List (Option K
       length (outside s) ≡ count_by is_binding (behind s h.entries)
 
 -- there are own records, and records outside of each scope, so that it is so
-pub record AreShared (c : Records) (hs : List (Option Holder)) (ks : List (Option Keeper)) (os : List (Option (Option ℕ))) : Type 0 where
+pub record AreShared (c : Records) (hs : List (Option Holder)) (ks : List (Option Keeper))
+    (os : List (Option (Option ℕ))) : Type 0 where
   pub own : ℕ → List ℕ
   pub outside : ℕ → List ℕ
   pub shares : Shares c hs ks os own outside
