@@ -1,0 +1,13 @@
+pub mod Views
+pub mod Seeing
+pub mod Keeping
+pub mod Environments
+pub mod Shared
+pub mod Opening
+pub mod Unsharing
+pub mod Housed
+pub mod Beginning
+pub mod Local
+pub mod Writing
+pub mod Flags
+pub mod Bindings
