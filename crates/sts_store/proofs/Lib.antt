@@ -1,0 +1,9 @@
+pub mod Views
+pub mod Seeing
+pub mod Keeping
+pub mod Environments
+pub mod Shared
+pub mod Opening
+pub mod Unsharing
+pub mod Housed
+pub mod Beginning
