@@ -7,3 +7,4 @@ pub mod Opening
 pub mod Unsharing
 pub mod Housed
 pub mod Beginning
+pub mod Scoping

@@ -8,4 +8,5 @@
 
 mod readings;
 pub mod running;
+mod scopes;
 pub mod store;
