@@ -8,3 +8,4 @@ pub mod Unsharing
 pub mod Housed
 pub mod Beginning
 pub mod Scoping
+pub mod Entering
