@@ -9,3 +9,7 @@ pub mod Housed
 pub mod Beginning
 pub mod Scoping
 pub mod Entering
+pub mod Local
+pub mod Writing
+pub mod Flags
+pub mod Bindings

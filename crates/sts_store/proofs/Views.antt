@@ -13,7 +13,7 @@ use Rattle.sts_tree.specs.Reading.{lives_at}
 use Rattle.sts_model.specs.Live.{LiveTask, Alive}
 use Rattle.sts_model.specs.declared.record.Frame.{Frame}
 use Rattle.sts_model.specs.declared.record.Bound.{Bound}
-use Rattle.sts_seen.specs.Reading.{lives_in, alive_at, with_alive, live_task_at, no_live_task, no_alive}
+use Rattle.sts_seen.specs.Reading.{lives_in, alive_at, with_alive, live_task_at, task_in, no_live_task, no_alive}
 use Rattle.sts_agree.specs.View.{Beside, task_seen, scope_seen, tasks_from}
 use Rattle.sts_agree.proofs.Viewing.{task_is, lives_same}
 use Rattle.sts_store.specs.declared.running.Running.{Running}
@@ -128,6 +128,7 @@ pub record Lived (m : Parts) (t : ℕ) : Type 0 where
   pub runs : get_or m.frames.slots t None ≡ Some run
   pub stands : get_or m.tree.tasks t None ≡ Some task
   pub lives : task.lives ≡ true
+  pub seen : task_in (live_of m) t ≡ Some (record { scope = task.scope; state = task.state; alive = Some (alive_of m.chains task.flag run) })
   pub at : alive_at (live_of m) t ≡ alive_of m.chains task.flag run
   pub scope : (live_task_at (live_of m) t).scope ≡ task.scope
 
@@ -135,11 +136,11 @@ pub running_is : (m : Parts) (t : ℕ) (r : Running) → get_or m.frames.slots t
 running_is m t r e = ap (λ o. unwrap_or o no_running) e
 
 -- what is seen of a task that lives
-task_seen_is : (m : Parts) (t : ℕ) (x : Task) (r : Running) → get_or m.tree.tasks t None ≡ Some x → x.lives ≡ true → get_or m.frames.slots t None ≡ Some r → live_task_at (live_of m) t ≡ task_with x (Some (alive_of m.chains x.flag r))
+task_seen_is : (m : Parts) (t : ℕ) (x : Task) (r : Running) → get_or m.tree.tasks t None ≡ Some x → x.lives ≡ true → get_or m.frames.slots t None ≡ Some r → task_in (live_of m) t ≡ Some (task_with x (Some (alive_of m.chains x.flag r)))
 task_seen_is m t x r stands lives runs =
-    ap (λ o. unwrap_or o no_live_task) (task_is (beside m) m.tree t ∙ ap (option_map (task_seen (beside m) t)) stands)
-    ∙ ap (λ l. task_with x (cond l (Some (alive_of m.chains x.flag (running_at m t))) None)) lives
-    ∙ ap (λ q. task_with x (Some (alive_of m.chains x.flag q))) (running_is m t r runs)
+    task_is (beside m) m.tree t ∙ ap (option_map (task_seen (beside m) t)) stands
+    ∙ ap (λ l. Some (task_with x (cond l (Some (alive_of m.chains x.flag (running_at m t))) None))) lives
+    ∙ ap (λ q. Some (task_with x (Some (alive_of m.chains x.flag q)))) (running_is m t r runs)
 
 -- does a task live?
 abbrev pub lives_of : Option Task → Bool
@@ -170,8 +171,9 @@ lived m is t lives = by (get_or m.tree.tasks t None) refl (get_or m.frames.slots
           runs = f;
           stands = e;
           lives = alive;
-          at = ap (λ (y : LiveTask). unwrap_or y.alive no_alive) seen;
-          scope = ap (λ (y : LiveTask). y.scope) seen;
+          seen = seen;
+          at = ap (λ o. unwrap_or (unwrap_or o no_live_task).alive no_alive) seen;
+          scope = ap (λ o. (unwrap_or o no_live_task).scope) seen;
         }
 
 -- the frame that is at hand is the one that is seen

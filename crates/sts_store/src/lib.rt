@@ -6,6 +6,8 @@
 //! view doesn't show. No call but the first takes memory, and none can fail.
 #![tactic(auto)]
 
+mod binding;
+mod frames;
 mod readings;
 pub mod running;
 mod scopes;
