@@ -38,14 +38,12 @@ use Rattle.sts_store.proofs.Shared.{instead}
 -- a living task, by what stands in its slot
 abbrev pub with_run : (m : Parts) (t : ℕ) (r : Running) → Lived m t → get_or m.frames.slots t None ≡ Some r → Lived m t
 with_run m t r l at =
-    record {
+    let same : l.run ≡ r = just l.run r (sym l.runs ∙ at) in
+    record l {
       run = r;
-      task = l.task;
       runs = at;
-      stands = l.stands;
-      lives = l.lives;
-      at = l.at ∙ ap (alive_of m.chains l.task.flag) (just l.run r (sym l.runs ∙ at));
-      scope = l.scope;
+      seen = l.seen ∙ ap (λ q. Some (record { scope = l.task.scope; state = l.task.state; alive = Some (alive_of m.chains l.task.flag q) })) same;
+      at = l.at ∙ ap (alive_of m.chains l.task.flag) same;
     }
 
 -- the frame after a scope was opened

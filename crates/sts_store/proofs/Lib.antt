@@ -9,6 +9,8 @@ pub mod Housed
 pub mod Beginning
 pub mod Scoping
 pub mod Entering
+pub mod Verdicts
+pub mod Phases
 pub mod Local
 pub mod Writing
 pub mod Flags

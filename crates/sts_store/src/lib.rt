@@ -8,6 +8,7 @@
 
 mod binding;
 mod frames;
+mod joining;
 mod readings;
 pub mod running;
 mod scopes;

@@ -1,4 +1,4 @@
-//! Scopes of a store: they open, fork, are cancelled, join and close.
+//! Scopes open and expire.
 
 ghost use Rattle.std.specs.Prelude.{◌≡◌, ◌<◌, ◌+◌, ◌-◌, ◌^◌, ℕ, [], ◌∷◌, ◌++◌, length, slice_set, true};
 ghost use Rattle.sts_model.specs.Local.{steps};
@@ -6,10 +6,11 @@ ghost use Rattle.sts_model.specs.declared.record.Entry.TheVariants as entry;
 ghost use Rattle.sts_model.specs.declared.record.Slot.TheVariants.{Own};
 ghost use Rattle.sts_seen.specs.Effect.{live_open};
 ghost use Rattle.sts_seen.specs.Outside.{live_can_expire, live_expire};
-ghost use Rattle.sts_seen.specs.Reading.{lives_in, live_scope_at};
+ghost use Rattle.sts_seen.specs.Reading.{live_scope_at, lives_in};
 ghost use Rattle.sts_store.specs.Parts.{frame_of, live_of, unseen_of};
 ghost use Rattle.sts_views.specs.Order.{InOrder};
 
+use crate::frames::set_slot;
 use crate::store::Store;
 use sts_cancel::cancel::expire;
 use sts_code::instr::Joiner;
@@ -28,15 +29,6 @@ fn enter_scope(frame: &mut Frame, slot: u8, s: u32)
     frame.goes(next, 0);
     frame.entries.push(Entry::Scope(s));
     set_slot(&mut frame.slots, slot, Slot::Own(s));
-}
-
-fn set_slot(slots: &mut [Slot; 16], x: u8, slot: Slot)
-    ensures { slots.new ≡ slice_set slots.old x slot }
-{
-    let x = x as usize;
-    if x < 16 {
-        slots[x] = slot;
-    }
 }
 
 impl Store {
