@@ -11,6 +11,8 @@ pub mod Scoping
 pub mod Entering
 pub mod Verdicts
 pub mod Phases
+pub mod Finishing
+pub mod Leaving
 pub mod Local
 pub mod Writing
 pub mod Flags

@@ -43,7 +43,7 @@ kept_scope m s c d is at same = record { born = is.born; alive = is.alive; share
 -- ---- flags
 
 -- what no flag changes
-raised_read : {Y : Type 0} (p : Task → Y) → ((x : Task) → p (record x { flag = true }) ≡ p x) → (s : ℕ) (xs : List (Option Task)) → map (option_map p) (map (option_map (raise s)) xs) ≡ map (option_map p) xs
+pub raised_read : {Y : Type 0} (p : Task → Y) → ((x : Task) → p (record x { flag = true }) ≡ p x) → (s : ℕ) (xs : List (Option Task)) → map (option_map p) (map (option_map (raise s)) xs) ≡ map (option_map p) xs
 raised_read p same s [] = refl
 raised_read p same s (None ∷ xs) = ap (λ l. None ∷ l) (raised_read p same s xs)
 raised_read p same s (Some x ∷ xs) =
@@ -54,7 +54,7 @@ raised_read p same s (Some x ∷ xs) =
     by false = refl
 
 -- it lives as it did
-raised_lives : (s : ℕ) (o : Option Task) → lives_of (option_map (raise s) o) ≡ lives_of o
+pub raised_lives : (s : ℕ) (o : Option Task) → lives_of (option_map (raise s) o) ≡ lives_of o
 raised_lives s None = refl
 raised_lives s (Some x) = by (lives_in s x)
   where

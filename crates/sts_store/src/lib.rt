@@ -7,6 +7,7 @@
 #![tactic(auto)]
 
 mod binding;
+mod ending;
 mod frames;
 mod joining;
 mod readings;
