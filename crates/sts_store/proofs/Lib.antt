@@ -13,6 +13,7 @@ pub mod Verdicts
 pub mod Phases
 pub mod Finishing
 pub mod Leaving
+pub mod Forks
 pub mod Local
 pub mod Writing
 pub mod Flags

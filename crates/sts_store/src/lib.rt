@@ -8,6 +8,7 @@
 
 mod binding;
 mod ending;
+mod forking;
 mod frames;
 mod joining;
 mod readings;
