@@ -7,6 +7,13 @@ pub mod Opening
 pub mod Unsharing
 pub mod Housed
 pub mod Beginning
+pub mod Scoping
+pub mod Entering
+pub mod Verdicts
+pub mod Phases
+pub mod Finishing
+pub mod Leaving
+pub mod Forks
 pub mod Local
 pub mod Writing
 pub mod Flags

@@ -1,3 +1,4 @@
 pub mod Parts
 pub mod Sharing
 pub mod Stored
+pub mod Ending

@@ -17,7 +17,7 @@ use sts_code::program::Program;
 use sts_model::frame::local;
 use sts_model::record::{Frame, Slot};
 
-fn set_slot(slots: &mut [Slot; 16], x: u8, slot: Slot)
+pub(crate) fn set_slot(slots: &mut [Slot; 16], x: u8, slot: Slot)
     ensures { slots.new ≡ slice_set slots.old x slot }
 {
     let x = x as usize;

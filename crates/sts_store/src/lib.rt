@@ -7,10 +7,14 @@
 #![tactic(auto)]
 
 mod binding;
+mod ending;
+mod forking;
 mod frames;
+mod joining;
 mod lookups;
 mod readings;
 pub mod running;
+mod scopes;
 mod standing;
 pub mod store;
 #[cfg(test)]
