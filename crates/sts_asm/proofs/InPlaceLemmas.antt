@@ -18,7 +18,8 @@ moved : {B : Type 0} (front : List B) (y : B) (r : Result (List B) AsmError) →
 moved front y (Ok ys) = ap (λ (zs : List _). Ok zs) (append_assoc front (y ∷ []) ys)
 moved front y (Err e) = refl
 
-next_read : {A B : Type 0} (read : A → Result B AsmError) (front : List B) (x : A) (y : B) (rest : List A) (whole : Result (List B) AsmError) → with_front front (each read (x ∷ rest)) ≡ whole → read x ≡ Ok y → with_front (front ++ y ∷ []) (each read rest) ≡ whole
+-- what is read next goes behind what was read so far
+pub next_read : {A B : Type 0} (read : A → Result B AsmError) (front : List B) (x : A) (y : B) (rest : List A) (whole : Result (List B) AsmError) → with_front front (each read (x ∷ rest)) ≡ whole → read x ≡ Ok y → with_front (front ++ y ∷ []) (each read rest) ≡ whole
 next_read read front x y rest whole e h =
     moved front y (each read rest) ∙ sym (ap (with_front front) (ok_bind (read x) (λ z. each read rest >>= λ ys. Ok (z ∷ ys)) y h)) ∙ e
 

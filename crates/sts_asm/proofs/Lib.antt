@@ -1,6 +1,7 @@
 pub mod EachLemmas
 pub mod InPlaceLemmas
 pub mod MarkLemmas
+pub mod BucketLemmas
 pub mod NameLemmas
 pub mod NamelessLemmas
 pub mod PlainLemmas

@@ -1,5 +1,6 @@
 pub mod Fault
 pub mod Marks
+pub mod Buckets
 pub mod Operand
 pub mod Line
 pub mod Table

@@ -1,7 +1,8 @@
 //! The names that a text gives to instructions and functions.
 
-ghost use Rattle.std.specs.Prelude.{◌≡◌, ◌++◌, ◌∷◌, [], None, OnOk, OnErr};
+ghost use Rattle.std.specs.Prelude.{◌≡◌, ◌≤◌, ◌++◌, ◌∷◌, [], List, ℕ, length, None, OnOk, OnErr};
 ghost use Rattle.std.specs.Option.{option_copied};
+ghost use Rattle.sts_asm.specs.Buckets.{with_byte, bucket_of, found_in};
 ghost use Rattle.sts_asm.specs.Marks.{Mark, marked, label_in, function_in};
 
 use std::alloc::{AllocError, Global};
@@ -23,26 +24,57 @@ impl<'a> Model for Mark<'a> {
     ghost view = { λ m. record { name = m.name.now; at = m.at } };
 }
 
-/// Names in the order of the text, each found among n by some log n comparisons, whatever they are.
+/// How many buckets the names are spread over.
+const BUCKETS: usize = 256;
+
+/// The bucket of a name with one more byte.
+fn with_byte(bucket: u8, byte: u8) -> u8
+    ensures { result ≡ with_byte bucket byte }
+{
+    bucket.wrapping_mul(31).wrapping_add(byte)
+}
+
+/// The bucket of a name.
+fn bucket_of(name: &[u8]) -> u8
+    ensures { result ≡ bucket_of name.now }
+{
+    let mut bucket = 0;
+    for byte in name {
+        bucket = with_byte(bucket, *byte);
+    }
+    bucket
+}
+
+/// Makes the buckets that are not there yet.
+fn fill<'a>(buckets: &mut Vec<BTreeMap<&'a [u8], u32>>, alloc: Global) -> Result<(), AllocError>
+    ensures same { (q : List ℕ) → found_in buckets.new.items q ≡ found_in buckets.old.items q }
+    ensures all { OnOk result (BUCKETS ≤ length buckets.new.items) }
+{
+    for _ in buckets.len()..BUCKETS {
+        buckets.push(BTreeMap::new(alloc))?;
+    }
+    Ok(())
+}
+
+/// Names in the order of the text. Each is found among the few of its bucket, and where all are of
+/// one bucket among n by some log n comparisons.
 #[derive(Drop)]
 pub struct Marks<'a> {
     list: Vec<Mark<'a>>,
-    index: BTreeMap<&'a [u8], u32>,
+    buckets: Vec<BTreeMap<&'a [u8], u32>>,
+    alloc: Global,
 }
 
 impl<'a> Model for Marks<'a> {
     ghost use Rattle.std.specs.Prelude.{List, ℕ, ◌≡◌};
-    ghost use Rattle.std.specs.Ordering.{nat_cmp};
-    ghost use Rattle.std.specs.BTreeMap.{get_by};
-    ghost use Rattle.std.specs.Cmp.Lexicographic.{slice_cmp};
     ghost use Rattle.sts_asm.specs.Marks.{Mark, marked};
+    ghost use Rattle.sts_asm.specs.Buckets.{found_in};
 
     ghost Value = { List Mark };
 
     ghost view = { λ l. l.list.items };
 
-    ghost invariant = { λ l. (q : List ℕ)
-        → get_by (λ k. slice_cmp nat_cmp q k.now) l.index ≡ marked l.list.items q };
+    ghost invariant = { λ l. (q : List ℕ) → found_in l.buckets.items q ≡ marked l.list.items q };
 }
 
 impl<'a> Marks<'a> {
@@ -52,7 +84,8 @@ impl<'a> Marks<'a> {
     {
         Marks {
             list: Vec::new(alloc),
-            index: BTreeMap::new(alloc),
+            buckets: Vec::new(alloc),
+            alloc,
         }
     }
 
@@ -60,7 +93,10 @@ impl<'a> Marks<'a> {
     pub fn find(&self, name: &[u8]) -> Option<u32>
         ensures { result ≡ marked self.now name.now }
     {
-        self.index.get(name).copied()
+        match self.buckets.get(usize::from(bucket_of(name))) {
+            None => None,
+            Some(bucket) => bucket.get(name).copied(),
+        }
     }
 
     /// Adds a name that doesn't stand yet.
@@ -69,8 +105,9 @@ impl<'a> Marks<'a> {
         ensures ok { OnOk result (self.new ≡ self.old ++ record { name = name.now; at = at } ∷ []) }
         ensures err { OnErr result (self.new ≡ self.old) }
     {
+        fill(&mut self.buckets, self.alloc)?;
         self.list.push(Mark { name, at })?;
-        match self.index.insert(name, at) {
+        match self.buckets[usize::from(bucket_of(name))].insert(name, at) {
             Ok(_) => Ok(()),
             Err(_) => {
                 let _ = self.list.pop();

@@ -138,7 +138,8 @@ pub fn maybe_target_at(
     words: &mut Words<'_>,
     names: Option<&Names<'_, '_>>,
 ) -> Result<Option<u32>, AsmKind>
-    ensures { Reads (λ to. to) result words.new (maybe_target_at (option_copied names.entry) words.old) }
+    ensures { Reads (λ to. to) result words.new (maybe_target_at
+        (option_copied names.entry) words.old) }
 {
     let Some(word) = words.word() else {
         return Err(AsmKind::BadOperands);

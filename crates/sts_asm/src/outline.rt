@@ -72,7 +72,8 @@ impl<'a> Lines<'a> {
 
     fn push(&mut self, at: u32, text: &'a [u8], unnamed: Instr) -> Result<(), AllocError>
         requires { instr_of None (words_in text.now) ≡ Ok unnamed }
-        ensures { OnOk result (self.new ≡ self.old ++ record { line = at; words = words_in text.now } ∷ []) }
+        ensures { OnOk result (self.new ≡ self.old ++
+            record { line = at; words = words_in text.now } ∷ []) }
     {
         self.sentences.push(Sentence { line: at, text })?;
         match self.unnamed.push(unnamed) {
@@ -227,7 +228,8 @@ impl<'a> Draft<'a> {
     ) -> Result<(), AsmKind>
         requires size { length self.old.code < 2 ^ 32 }
         requires words { words_in text.now ≡ word.now ∷ rest.old }
-        ensures steps { Steps result self.new (def.inner at self.old (label_of word.now) word.now rest.old) }
+        ensures steps { Steps result self.new (def.inner at self.old
+            (label_of word.now) word.now rest.old) }
         ensures grows { OnOk result (length self.new.code ≤ length self.old.code + 1) }
     {
         if let Some(name) = label_of(word) {
@@ -356,7 +358,8 @@ impl<'a> Outline<'a> {
     ) -> Result<(), AsmKind>
         requires size { size_of self.old < 2 ^ 32 }
         requires words { words_in text.now ≡ word.now ∷ rest.old }
-        ensures steps { Steps result self.new (def.inside at self.old self.old.current word.now rest.old) }
+        ensures steps { Steps result self.new (def.inside at self.old
+            self.old.current word.now rest.old) }
         ensures grows { OnOk result (size_of self.new ≤ size_of self.old + 1) }
     {
         let Some(draft) = &mut self.current else {

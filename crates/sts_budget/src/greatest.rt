@@ -82,9 +82,11 @@ fn open_loop(bases: &mut Vec<u64>, instr: Instr, pc: usize, own: u32, full: u64,
 fn turn_end<const N: usize>(pass: &Pass<'_>, best: &[Row<N>], pc: usize, depth: usize) -> u32
     requires in_code { pc < length pass.now.code.now }
     requires mates { pc < length pass.now.layout.now.mates.items }
-    requires inside { (n : ℕ) → instr_at pass.now.code.now pc ≡ Instr.Times n → get_or pass.now.layout.now.mates.items pc 0 < length best.now }
+    requires inside { (n : ℕ) → instr_at pass.now.code.now pc ≡ Instr.Times n →
+        get_or pass.now.layout.now.mates.items pc 0 < length best.now }
     requires few { depth < N }
-    ensures { (n : ℕ) → instr_at pass.now.code.now pc ≡ Instr.Times n → result ≡ read best.now (get_or pass.now.layout.now.mates.items pc 0) depth }
+    ensures { (n : ℕ) → instr_at pass.now.code.now pc ≡ Instr.Times n →
+        result ≡ read best.now (get_or pass.now.layout.now.mates.items pc 0) depth }
 {
     match pass.code[pc] {
         Instr::Times(_) => sum_at(best, pass.layout.mates[pc] as usize, depth),

@@ -166,10 +166,14 @@ fn write_on(
     list: usize,
 )
     requires short { pc < MAX_INSTRUCTIONS }
-    requires heads_inside { All (λ to. to < vec_len heads.old) (facts.targets instr ++ around.next_place pc instr) }
-    requires which_inside { All (λ to. to < vec_len which.old) (facts.targets instr ++ around.next_place pc instr) }
-    ensures heads { Writes (facts.targets instr ++ around.next_place pc instr) head None heads.old.items heads.new.items }
-    ensures which { Writes (facts.targets instr ++ around.next_place pc instr) list 0 which.old.items which.new.items }
+    requires heads_inside { All (λ to. to < vec_len heads.old)
+        (facts.targets instr ++ around.next_place pc instr) }
+    requires which_inside { All (λ to. to < vec_len which.old)
+        (facts.targets instr ++ around.next_place pc instr) }
+    ensures heads { Writes (facts.targets instr ++ around.next_place pc instr) head
+        None heads.old.items heads.new.items }
+    ensures which { Writes (facts.targets instr ++ around.next_place pc instr) list
+        0 which.old.items which.new.items }
 {
     if goes_straight_on(instr) {
         heads[pc + 1] = head;

@@ -45,7 +45,8 @@ fn raise_at<const N: usize>(
     requires named { length pass.now.layout.now.which.items ≡ length best.old.items }
     requires listed { AreListed pass.now.layout.now.lists.items pass.now.layout.now.which.items }
     requires fits { (pc : ℕ) → low_at pass.now pc < N }
-    ensures raised { IsTrue result → IsRaisedAt values.now (low_at pass.now to) pass.now.most to best.old.items best.new.items }
+    ensures raised { IsTrue result →
+        IsRaisedAt values.now (low_at pass.now to) pass.now.most to best.old.items best.new.items }
     ensures over { IsFalse result → IsOver values.now (low_at pass.now to) pass.now.most }
 {
     let low = depth_of(pass.resource, names_at(pass.layout, to));
@@ -63,8 +64,10 @@ fn send<const N: usize>(
     requires named { length pass.now.layout.now.which.items ≡ length best.old.items }
     requires listed { AreListed pass.now.layout.now.lists.items pass.now.layout.now.which.items }
     requires fits { (pc : ℕ) → low_at pass.now pc < N }
-    ensures sent { IsTrue result → IsSent values.now (low_at pass.now) pass.now.most places.now best.old.items best.new.items }
-    ensures over { IsFalse result → IsStopped values.now (low_at pass.now) pass.now.most places.now }
+    ensures sent { IsTrue result →
+        IsSent values.now (low_at pass.now) pass.now.most places.now best.old.items best.new.items }
+    ensures over { IsFalse result →
+        IsStopped values.now (low_at pass.now) pass.now.most places.now }
 {
     for i in 0..places.len() {
         if !raise_at(best, places[i] as usize, values, pass) {
@@ -87,8 +90,11 @@ fn send_on<const N: usize>(
     requires named { length pass.now.layout.now.which.items ≡ length best.old.items }
     requires listed { AreListed pass.now.layout.now.lists.items pass.now.layout.now.which.items }
     requires fits { (q : ℕ) → low_at pass.now q < N }
-    ensures sent { IsTrue result → IsSent values.now (low_at pass.now) pass.now.most (leads pc instr) best.old.items best.new.items }
-    ensures over { IsFalse result → IsStopped values.now (low_at pass.now) pass.now.most (leads pc instr) }
+    ensures sent { IsTrue result →
+        IsSent values.now (low_at pass.now) pass.now.most
+        (leads pc instr) best.old.items best.new.items }
+    ensures over { IsFalse result →
+        IsStopped values.now (low_at pass.now) pass.now.most (leads pc instr) }
 {
     if goes_straight_on(instr) {
         return raise_at(best, pc + 1, values, pass);
@@ -130,7 +136,11 @@ fn loop_values<const N: usize>(pass: &Pass<'_>, best: &[Row<N>], pc: usize) -> V
     requires head { head_in pass.now.layout.now pc < length pass.now.code.now }
     requires heads { length pass.now.layout.now.heads.items ≡ length pass.now.code.now }
     requires rows { length best.now ≡ length pass.now.code.now }
-    ensures { (d : ℕ) → d < N → get_or result d 0 ≡ min (read best.now (head_in pass.now.layout.now pc) d + own_step pass.now.resource + turns_of (instr_at pass.now.code.now (head_in pass.now.layout.now pc)) * (read best.now pc d + own_step pass.now.resource)) 18446744073709551615 }
+    ensures { (d : ℕ) → d < N →
+        get_or result d 0 ≡
+        min (read best.now (head_in pass.now.layout.now pc) d + own_step pass.now.resource +
+        turns_of (instr_at pass.now.code.now (head_in pass.now.layout.now pc)) *
+        (read best.now pc d + own_step pass.now.resource)) 18446744073709551615 }
 {
     let head = match pass.layout.heads[pc] {
         Some(at) => at as usize,
@@ -150,7 +160,10 @@ fn values_of<const N: usize>(pass: &Pass<'_>, best: &[Row<N>], pc: usize) -> Val
     requires fits { (q : ℕ) → low_at pass.now q < N }
     requires in_code { pc < length pass.now.code.now }
     requires rows { length best.now ≡ length pass.now.code.now }
-    ensures { (d : ℕ) → d < N → get_or result d 0 ≡ min (handed_value pass.now.resource pass.now.earlier.now pass.now.code.now pass.now.layout.now (read best.now) pc d) 18446744073709551615 }
+    ensures { (d : ℕ) → d < N →
+        get_or result d 0 ≡
+        min (handed_value pass.now.resource pass.now.earlier.now pass.now.code.now
+        pass.now.layout.now (read best.now) pc d) 18446744073709551615 }
 {
     match pass.code[pc] {
         Instr::Next => loop_values(pass, best, pc),
@@ -170,8 +183,12 @@ fn hand_on<const N: usize>(pass: &Pass<'_>, best: &mut Vec<Row<N>>, pc: usize) -
     requires fits { (q : ℕ) → low_at pass.now q < N }
     requires in_code { pc < length pass.now.code.now }
     requires rows { length best.old.items ≡ length pass.now.code.now }
-    ensures spread { IsTrue result → IsSpread (paths pass.now) (flow pass.now) (head_in pass.now.layout.now) pc best.old.items best.new.items }
-    ensures over { IsFalse result → HandsTooMuch (paths pass.now) (flow pass.now) (head_in pass.now.layout.now) pc (read best.old.items) pass.now.most }
+    ensures spread { IsTrue result →
+        IsSpread (paths pass.now) (flow pass.now)
+        (head_in pass.now.layout.now) pc best.old.items best.new.items }
+    ensures over { IsFalse result →
+        HandsTooMuch (paths pass.now) (flow pass.now) (head_in pass.now.layout.now) pc
+        (read best.old.items) pass.now.most }
 {
     let instr = pass.code[pc];
     if is_quiet(instr) {
@@ -190,7 +207,9 @@ pub(crate) fn table<const N: usize>(
     requires most { pass.now.most ≡ limit_of pass.now.resource - own_of pass.now.resource }
     requires small { N ≤ 17 }
     requires fits { (q : ℕ) → low_at pass.now q < N }
-    ensures { IfOk result (λ o. MatchOption o (Passes (paths pass.now) (flow pass.now) pass.now.most) (λ t. IsPartial (paths pass.now) (flow pass.now) (length pass.now.code.now) t.items)) }
+    ensures { IfOk result
+        (λ o. MatchOption o (Passes (paths pass.now) (flow pass.now) pass.now.most)
+        (λ t. IsPartial (paths pass.now) (flow pass.now) (length pass.now.code.now) t.items)) }
 {
     let mut best = filled(alloc, pass.code.len(), [0; N])?;
     for pc in 0..pass.code.len() {

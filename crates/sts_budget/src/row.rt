@@ -14,7 +14,8 @@ pub(crate) type Values<const N: usize> = [u64; N];
 
 /// The sums of a row, each risen by so much.
 fn risen<const N: usize>(amount: u64, row: &Row<N>) -> Values<N>
-    ensures { (d : ℕ) → d < N → get_or result d 0 ≡ min (get_or row.now d 0 + amount) 18446744073709551615 }
+    ensures { (d : ℕ) → d < N →
+        get_or result d 0 ≡ min (get_or row.now d 0 + amount) 18446744073709551615 }
 {
     let mut values = [0; N];
     for d in 0..N {
@@ -30,7 +31,10 @@ pub(crate) fn values_after<const N: usize>(
     row: &Row<N>,
 ) -> Values<N>
     requires { depth < N }
-    ensures { (d : ℕ) → d < N → get_or result d 0 ≡ min (get_or row.now (source_of change depth d) 0 + added_of change depth d) 18446744073709551615 }
+    ensures { (d : ℕ) → d < N →
+        get_or result d 0 ≡
+        min (get_or row.now (source_of change depth d) 0 + added_of change depth d)
+        18446744073709551615 }
 {
     if let SumChange::Rises(amount) = change {
         return risen(amount, row);
@@ -51,7 +55,9 @@ pub(crate) fn values_of_loop<const N: usize>(
     head: &Row<N>,
     end: &Row<N>,
 ) -> Values<N>
-    ensures { (d : ℕ) → d < N → get_or result d 0 ≡ min (get_or head.now d 0 + own + turns * (get_or end.now d 0 + own)) 18446744073709551615 }
+    ensures { (d : ℕ) → d < N →
+        get_or result d 0 ≡ min (get_or head.now d 0 + own + turns * (get_or end.now d 0 + own))
+        18446744073709551615 }
 {
     let mut values = [0; N];
     for d in 0..N {

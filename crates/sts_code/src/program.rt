@@ -51,14 +51,18 @@ impl Model for Program {
 impl Program {
     /// A program of profile one, or the first check that the functions fail. A refusal drops the functions.
     pub fn new(functions: Vec<Function>) -> Result<Program, CodeError>
-        ensures { MatchResult result (λ p. (fault_of functions.items ≡ None) × (p ≡ record { profile = Profile.One; routines = functions.items })) (λ e. fault_of functions.items ≡ Some e) }
+        ensures { MatchResult result (λ p. (fault_of functions.items ≡ None) ×
+            (p ≡ record { profile = Profile.One; routines = functions.items }))
+            (λ e. fault_of functions.items ≡ Some e) }
     {
         Program::new_in(Profile::One, functions)
     }
 
     /// A program of this profile, or the first check that the functions fail. A refusal drops the functions.
     pub fn new_in(profile: Profile, functions: Vec<Function>) -> Result<Program, CodeError>
-        ensures { MatchResult result (λ p. (fault_of functions.items ≡ None) × (p ≡ record { profile = profile; routines = functions.items })) (λ e. fault_of functions.items ≡ Some e) }
+        ensures { MatchResult result (λ p. (fault_of functions.items ≡ None) ×
+            (p ≡ record { profile = profile; routines = functions.items }))
+            (λ e. fault_of functions.items ≡ Some e) }
     {
         match program_fault(functions.as_slice()) {
             Some(error) => Err(error),

@@ -59,7 +59,8 @@ impl Chains {
         requires room { 0 < self.old.room }
         requires whole { IsWhole self.old env }
         ensures whole { IsWhole self.new result }
-        ensures list { list_of self.new result ≡ record { key = key; value = value } ∷ list_of self.old env }
+        ensures list { list_of self.new result ≡
+            record { key = key; value = value } ∷ list_of self.old env }
         ensures puts { PutsRecord self.old self.new env result }
         ensures others { (other : Env) → IsWhole self.old other → Stays self.old self.new other }
         ensures room { self.new.room + 1 ≡ self.old.room }
@@ -93,7 +94,8 @@ impl Chains {
         ensures whole { IsWhole self.new result }
         ensures list { (b : Binding) × (list_of self.old env ≡ b ∷ list_of self.new result) }
         ensures takes { TakesRecord self.old self.new env result }
-        ensures others { (other : Env) → IsWhole self.old other → KeepsWithout self.old self.new env other }
+        ensures others { (other : Env) → IsWhole self.old other →
+            KeepsWithout self.old self.new env other }
         ensures room { self.new.room ≡ self.old.room + 1 }
     {
         let front = env.front.unwrap();

@@ -31,7 +31,8 @@ impl Env {
     /// The environment in which nothing is bound.
     pub fn empty() -> Env
         ensures value { result ≡ record { front = None; length = 0 } }
-        ensures list { (records : Records) → IsWhole records result × (list_of records result ≡ []) }
+        ensures list { (records : Records) →
+            IsWhole records result × (list_of records result ≡ []) }
     {
         Env {
             front: None,

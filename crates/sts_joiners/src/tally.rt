@@ -68,8 +68,10 @@ impl Tally {
         requires { ends_told self.old < 65536 }
         ensures kept { self.new ≡ with_end self.old end }
         ensures asks { result ≡ cancels_told self.new.joiner self.new.told }
-        ensures stands { (ends : List AnyEnd) → StandsFor self.old ends → StandsFor self.new (ends ++ end ∷ []) }
-        ensures cancels { (ends : List AnyEnd) → StandsFor self.old ends → result ≡ joining.cancels self.old.joiner (ends ++ end ∷ []) }
+        ensures stands { (ends : List AnyEnd) → StandsFor self.old ends →
+            StandsFor self.new (ends ++ end ∷ []) }
+        ensures cancels { (ends : List AnyEnd) → StandsFor self.old ends →
+            result ≡ joining.cancels self.old.joiner (ends ++ end ∷ []) }
     {
         self.tell(end);
         self.cancels()
@@ -125,7 +127,8 @@ impl Tally {
     /// The answer of `join` for a scope of so many subtasks, those included that never ran or weren't told.
     pub fn result(&self, subtasks: u32) -> Verdict
         ensures kept { result ≡ result_told self.now.joiner self.now.told subtasks }
-        ensures ends { (ends : List AnyEnd) → StandsFor self.now ends → result ≡ joining.result_of self.now.joiner ends subtasks }
+        ensures ends { (ends : List AnyEnd) → StandsFor self.now ends →
+            result ≡ joining.result_of self.now.joiner ends subtasks }
     {
         let count = Verdict::Ok(Some(i64::from(subtasks)));
         match self.joiner {
@@ -150,7 +153,8 @@ impl Tally {
     /// How many of the ends are successes.
     pub fn successes(&self) -> u32
         ensures kept { result ≡ self.now.told.successes }
-        ensures ends { (ends : List AnyEnd) → StandsFor self.now ends → result ≡ count_by joining.is_success ends }
+        ensures ends { (ends : List AnyEnd) → StandsFor self.now ends →
+            result ≡ count_by joining.is_success ends }
     {
         self.successes
     }
@@ -158,7 +162,8 @@ impl Tally {
     /// How many of the ends are failures.
     pub fn failures(&self) -> u32
         ensures kept { result ≡ self.now.told.failures }
-        ensures ends { (ends : List AnyEnd) → StandsFor self.now ends → result ≡ count_by joining.is_failure ends }
+        ensures ends { (ends : List AnyEnd) → StandsFor self.now ends →
+            result ≡ count_by joining.is_failure ends }
     {
         self.failures
     }
@@ -166,7 +171,8 @@ impl Tally {
     /// The sum of the values of the successes, wrapping.
     pub fn total(&self) -> i64
         ensures kept { result ≡ self.now.told.total }
-        ensures ends { (ends : List AnyEnd) → StandsFor self.now ends → result ≡ joining.total_of ends }
+        ensures ends { (ends : List AnyEnd) → StandsFor self.now ends →
+            result ≡ joining.total_of ends }
     {
         self.total
     }

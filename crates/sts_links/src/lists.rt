@@ -46,7 +46,8 @@ fn if_none(neighbour: Option<usize>, none: Option<usize>, some: Option<usize>) -
 pub fn push_back<S: Links>(store: &mut S, layer: u8, list: Ends, key: usize) -> Ends
     requires list { (keys : List ℕ) × IsList (S.at store.old layer) list keys × NotIn key keys }
     requires key { S.at store.old layer key ≢ None }
-    ensures list { (keys : List ℕ) → IsList (S.at store.old layer) list keys → NotIn key keys → BecomesList (S.at store.old) (S.at store.new) layer result (keys ++ key ∷ []) }
+    ensures list { (keys : List ℕ) → IsList (S.at store.old layer) list keys → NotIn key keys →
+        BecomesList (S.at store.old) (S.at store.new) layer result (keys ++ key ∷ []) }
     ensures rest { S.alike store.old store.new }
 {
     set_after(store, layer, list.last, Some(key));
@@ -68,8 +69,11 @@ pub fn push_back<S: Links>(store: &mut S, layer: u8, list: Ends, key: usize) -> 
 ///
 /// The link of the key itself stays as it was.
 pub fn unlink<S: Links>(store: &mut S, layer: u8, list: Ends, key: usize) -> Ends
-    requires { (front : List ℕ) × (back : List ℕ) × IsList (S.at store.old layer) list (front ++ key ∷ back) }
-    ensures list { (front back : List ℕ) → IsList (S.at store.old layer) list (front ++ key ∷ back) → BecomesList (S.at store.old) (S.at store.new) layer result (front ++ back) }
+    requires { (front : List ℕ) × (back : List ℕ) ×
+        IsList (S.at store.old layer) list (front ++ key ∷ back) }
+    ensures list { (front back : List ℕ) →
+        IsList (S.at store.old layer) list (front ++ key ∷ back) →
+        BecomesList (S.at store.old) (S.at store.new) layer result (front ++ back) }
     ensures rest { S.alike store.old store.new }
 {
     let link = store.link(layer, key);
@@ -84,7 +88,8 @@ pub fn unlink<S: Links>(store: &mut S, layer: u8, list: Ends, key: usize) -> End
 /// The first key of a list; none where the list is empty.
 pub fn front(list: Ends) -> Option<usize>
     ensures value { result ≡ list.first }
-    ensures key { (at : ℕ → Option Link) (keys : List ℕ) → IsList at list keys → result ≡ first_or keys None }
+    ensures key { (at : ℕ → Option Link) (keys : List ℕ) → IsList at list keys →
+        result ≡ first_or keys None }
 {
     list.first
 }
@@ -93,7 +98,8 @@ pub fn front(list: Ends) -> Option<usize>
 pub fn after<S: Links>(store: &S, layer: u8, key: usize) -> Option<usize>
     requires { S.at store.now layer key ≢ None }
     ensures value { result ≡ chain.after_of (S.at store.now layer key) }
-    ensures key { (list : Ends) (front back : List ℕ) → IsList (S.at store.now layer) list (front ++ key ∷ back) → result ≡ first_or back None }
+    ensures key { (list : Ends) (front back : List ℕ) →
+        IsList (S.at store.now layer) list (front ++ key ∷ back) → result ≡ first_or back None }
 {
     store.link(layer, key).after
 }

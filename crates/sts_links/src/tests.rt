@@ -24,7 +24,8 @@ impl Links for Store {
 
     ghost at = { λ s l k. option_and_then (λ r. if nat_lt l 3 then Some (slice_index_or r.links l (record { before = None; after = None })) else None) (get s.records k) };
 
-    ghost alike = { λ a b. (k : ℕ) → option_map (λ r. r.body) (get b.records k) ≡ option_map (λ r. r.body) (get a.records k) };
+    ghost alike = { λ a b. (k : ℕ) →
+        option_map (λ r. r.body) (get b.records k) ≡ option_map (λ r. r.body) (get a.records k) };
 
     fn link(&self, layer: u8, key: usize) -> Link {
         self.records.get(key).unwrap().links[layer as usize]

@@ -23,7 +23,8 @@ fn needs_any(needs: &[bool; 16]) -> bool
 }
 
 fn write_keys(out: &mut String, needs: &[bool; 16]) -> Result<(), AllocError>
-    ensures { OnOk result (string_bytes out.new ≡ string_bytes out.old ++ keys_text (keys_from 0 needs.now)) }
+    ensures { OnOk result (string_bytes out.new ≡
+        string_bytes out.old ++ keys_text (keys_from 0 needs.now)) }
 {
     for key in 0..needs.len() {
         if needs[key] {
@@ -34,7 +35,8 @@ fn write_keys(out: &mut String, needs: &[bool; 16]) -> Result<(), AllocError>
 }
 
 fn write_needs(out: &mut String, needs: &[bool; 16]) -> Result<(), AllocError>
-    ensures text { OnOk result (string_bytes out.new ≡ string_bytes out.old ++ needs_text needs.now) }
+    ensures text { OnOk result (string_bytes out.new ≡
+        string_bytes out.old ++ needs_text needs.now) }
     ensures keys { length needs.now ≡ 16 }
 {
     if needs_any(needs) {
@@ -45,7 +47,8 @@ fn write_needs(out: &mut String, needs: &[bool; 16]) -> Result<(), AllocError>
 }
 
 fn write_header(out: &mut String, function: &Function) -> Result<(), AllocError>
-    ensures line { OnOk result (string_bytes out.new ≡ string_bytes out.old ++ header function.now) }
+    ensures line { OnOk result (string_bytes out.new ≡
+        string_bytes out.old ++ header function.now) }
     ensures keys { OnOk result (length function.now.needs ≡ 16) }
 {
     write!(out, "func {} {}", function.name.as_str(), function.args)?;
@@ -64,7 +67,8 @@ fn write_label(out: &mut String, is_target: bool, pc: usize) -> Result<(), Alloc
 }
 
 fn write_line(out: &mut String, instr: Instr, program: &Program) -> Result<(), AllocError>
-    ensures line { OnOk result (string_bytes out.new ≡ string_bytes out.old ++ instr_line program.now instr) }
+    ensures line { OnOk result (string_bytes out.new ≡
+        string_bytes out.old ++ instr_line program.now instr) }
     ensures fits { FitsInstr instr }
 {
     out.push_str("  ")?;
@@ -78,7 +82,8 @@ fn write_code(
     code: &[Instr],
     program: &Program,
 ) -> Result<(), AllocError>
-    ensures lines { OnOk result (string_bytes out.new ≡ string_bytes out.old ++ code_lines program.now code.now 0 code.now) }
+    ensures lines { OnOk result (string_bytes out.new ≡
+        string_bytes out.old ++ code_lines program.now code.now 0 code.now) }
     ensures fits { OnOk result (AllByRecursion FitsInstr code.now) }
 {
     let marks = target_marks(alloc, code)?;
@@ -95,7 +100,8 @@ fn write_function(
     function: &Function,
     program: &Program,
 ) -> Result<(), AllocError>
-    ensures lines { OnOk result (string_bytes out.new ≡ string_bytes out.old ++ function_lines program.now function.now) }
+    ensures lines { OnOk result (string_bytes out.new ≡
+        string_bytes out.old ++ function_lines program.now function.now) }
     ensures fits { OnOk result (FitsRoutine function.now) }
 {
     write_header(out, function)?;
@@ -117,7 +123,8 @@ pub fn list(alloc: Global, program: &Program) -> Result<String, AllocError>
     ensures listing { IfOk result (λ text. string_bytes text ≡ listing program.now) }
 
     // A listing that is no longer than a text may be is assembled to the same program.
-    ensures again { IfOk result (λ text. length (string_bytes text) ≤ 1048576 → judged (string_bytes text) ≡ Ok program.now) }
+    ensures again { IfOk result (λ text. length (string_bytes text) ≤ 1048576 →
+        judged (string_bytes text) ≡ Ok program.now) }
 {
     let mut out = String::new(alloc);
     write_profile(&mut out, program.profile())?;

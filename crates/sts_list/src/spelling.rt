@@ -53,7 +53,8 @@ fn keyword(instr: &Instr) -> &'static str
 }
 
 fn write_maybe_label(out: &mut String, to: Option<u32>) -> Result<(), AllocError>
-    ensures { OnOk result (string_bytes out.new ≡ string_bytes out.old ++ (32 ∷ def.maybe_label to)) }
+    ensures { OnOk result (string_bytes out.new ≡
+        string_bytes out.old ++ (32 ∷ def.maybe_label to)) }
 {
     match to {
         None => write!(out, " -"),
@@ -62,7 +63,8 @@ fn write_maybe_label(out: &mut String, to: Option<u32>) -> Result<(), AllocError
 }
 
 fn write_handle(out: &mut String, handle: Option<u8>) -> Result<(), AllocError>
-    ensures { OnOk result (string_bytes out.new ≡ string_bytes out.old ++ (32 ∷ def.handle handle)) }
+    ensures { OnOk result (string_bytes out.new ≡
+        string_bytes out.old ++ (32 ∷ def.handle handle)) }
 {
     match handle {
         None => write!(out, " _"),
@@ -71,7 +73,8 @@ fn write_handle(out: &mut String, handle: Option<u8>) -> Result<(), AllocError>
 }
 
 fn write_kind(out: &mut String, kind: Kind) -> Result<(), AllocError>
-    ensures { OnOk result (string_bytes out.new ≡ string_bytes out.old ++ (32 ∷ def.kind_word kind)) }
+    ensures { OnOk result (string_bytes out.new ≡
+        string_bytes out.old ++ (32 ∷ def.kind_word kind)) }
 {
     match kind {
         Kind::S => write!(out, " S"),
@@ -81,7 +84,8 @@ fn write_kind(out: &mut String, kind: Kind) -> Result<(), AllocError>
 }
 
 fn write_joiner(out: &mut String, joiner: Joiner) -> Result<(), AllocError>
-    ensures { OnOk result (string_bytes out.new ≡ string_bytes out.old ++ after_spaces (def.joiner_words joiner)) }
+    ensures { OnOk result (string_bytes out.new ≡
+        string_bytes out.old ++ after_spaces (def.joiner_words joiner)) }
 {
     match joiner {
         Joiner::AllSucceed => write!(out, " all"),
@@ -95,7 +99,8 @@ fn write_joiner(out: &mut String, joiner: Joiner) -> Result<(), AllocError>
 }
 
 fn write_timed(out: &mut String, timed: bool) -> Result<(), AllocError>
-    ensures { OnOk result (string_bytes out.new ≡ string_bytes out.old ++ after_spaces (def.timed_words timed)) }
+    ensures { OnOk result (string_bytes out.new ≡
+        string_bytes out.old ++ after_spaces (def.timed_words timed)) }
 {
     if timed { write!(out, " timed") } else { Ok(()) }
 }
@@ -110,7 +115,9 @@ fn name_of(program: &Program, function: u32) -> &str
 }
 
 fn write_open(out: &mut String, slot: u8, joiner: Joiner, timed: bool) -> Result<(), AllocError>
-    ensures { OnOk result (string_bytes out.new ≡ string_bytes out.old ++ ((32 ∷ def.slot slot) ++ (after_spaces (def.joiner_words joiner) ++ after_spaces (def.timed_words timed)))) }
+    ensures { OnOk result (string_bytes out.new ≡
+        string_bytes out.old ++ ((32 ∷ def.slot slot) ++
+        (after_spaces (def.joiner_words joiner) ++ after_spaces (def.timed_words timed)))) }
 {
     write!(out, " s{slot}")?;
     write_joiner(out, joiner)?;
@@ -118,7 +125,9 @@ fn write_open(out: &mut String, slot: u8, joiner: Joiner, timed: bool) -> Result
 }
 
 fn write_fork(out: &mut String, slot: u8, name: &str, handle: Option<u8>) -> Result<(), AllocError>
-    ensures { OnOk result (string_bytes out.new ≡ string_bytes out.old ++ after_spaces (def.slot slot ∷ name.now ∷ def.handle handle ∷ [])) }
+    ensures { OnOk result (string_bytes out.new ≡
+        string_bytes out.old ++
+        after_spaces (def.slot slot ∷ name.now ∷ def.handle handle ∷ [])) }
 {
     write!(out, " s{slot} {name}")?;
     write_handle(out, handle)
@@ -131,7 +140,9 @@ fn write_join(
     timeout: Option<u32>,
     interrupted: u32,
 ) -> Result<(), AllocError>
-    ensures { OnOk result (string_bytes out.new ≡ string_bytes out.old ++ after_spaces (def.slot slot ∷ def.maybe_label failed ∷ def.maybe_label timeout ∷ def.label interrupted ∷ [])) }
+    ensures { OnOk result (string_bytes out.new ≡
+        string_bytes out.old ++ after_spaces (def.slot slot ∷ def.maybe_label failed ∷
+        def.maybe_label timeout ∷ def.label interrupted ∷ [])) }
 {
     write!(out, " s{slot}")?;
     write_maybe_label(out, failed)?;
@@ -140,7 +151,8 @@ fn write_join(
 }
 
 fn write_operands(out: &mut String, instr: Instr, program: &Program) -> Result<(), AllocError>
-    ensures { OnOk result (string_bytes out.new ≡ string_bytes out.old ++ after_spaces (operands program.now instr)) }
+    ensures { OnOk result (string_bytes out.new ≡
+        string_bytes out.old ++ after_spaces (operands program.now instr)) }
 {
     match instr {
         Instr::Push(value) => write!(out, " {value}"),
@@ -189,7 +201,8 @@ fn write_operands(out: &mut String, instr: Instr, program: &Program) -> Result<(
 
 /// Appends the words of an instruction.
 pub fn write_instr(out: &mut String, instr: Instr, program: &Program) -> Result<(), AllocError>
-    ensures { OnOk result (string_bytes out.new ≡ string_bytes out.old ++ spelled program.now instr) }
+    ensures { OnOk result (string_bytes out.new ≡
+        string_bytes out.old ++ spelled program.now instr) }
 {
     out.push_str(keyword(&instr))?;
     write_operands(out, instr, program)

@@ -26,7 +26,8 @@ fn mark_maybe(marks: &mut Vec<bool>, to: Option<u32>)
 }
 
 fn mark_join(marks: &mut Vec<bool>, failed: Option<u32>, timeout: Option<u32>, interrupted: u32)
-    ensures { marks.new.items ≡ with_marks marks.old.items (option_to_list failed ++ option_to_list timeout ++ interrupted ∷ []) }
+    ensures { marks.new.items ≡ with_marks marks.old.items
+        (option_to_list failed ++ option_to_list timeout ++ interrupted ∷ []) }
 {
     mark_maybe(marks, failed);
     mark_maybe(marks, timeout);
@@ -59,7 +60,8 @@ fn mark_targets(marks: &mut Vec<bool>, instr: Instr)
 /// For each instruction, is it named by one of these?
 pub fn target_marks(alloc: Global, code: &[Instr]) -> Result<Vec<bool>, AllocError>
     ensures length { IfOk result (λ marks. length marks.items ≡ length code.now) }
-    ensures named { IfOk result (λ marks. (pc : ℕ) → pc < length code.now → slice_index_or marks.items pc false ≡ is_target code.now pc) }
+    ensures named { IfOk result (λ marks. (pc : ℕ) → pc < length code.now →
+        slice_index_or marks.items pc false ≡ is_target code.now pc) }
 {
     let mut marks = vec![in alloc; false; code.len()]?;
     for instr in code {

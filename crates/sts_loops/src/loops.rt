@@ -47,7 +47,8 @@ impl<'c> Model for CodeLoops<'c> {
 
     ghost view = { λ l. l.code.now };
 
-    ghost invariant = { λ l. (length l.code.now ≤ MAX_INSTRUCTIONS) × IfSome l.tables (λ t. AreTablesOf l.code.now t.now) };
+    ghost invariant = { λ l. (length l.code.now ≤ MAX_INSTRUCTIONS)
+        × IfSome l.tables (λ t. AreTablesOf l.code.now t.now) };
 }
 
 impl<'c> CodeLoops<'c> {

@@ -27,7 +27,8 @@ fn end_at(code: &[Instr], at: usize) -> Option<u32>
 /// The match of each `times`, by place.
 fn ends_of(alloc: Global, code: &[Instr]) -> Result<Vec<Option<u32>>, AllocError>
     requires { length code.now ≤ MAX_INSTRUCTIONS }
-    ensures { IfOk result (λ ends. ends.items ≡ map (table.end_at code.now) (range_with_len 0 (length code.now))) }
+    ensures { IfOk result (λ ends. ends.items ≡ map (table.end_at code.now)
+        (range_with_len 0 (length code.now))) }
 {
     let mut ends = Vec::with_capacity(alloc, code.len())?;
     for at in 0..code.len() {
@@ -41,7 +42,9 @@ fn mark(heads: &mut Vec<Option<u32>>, at: u32, end: u32)
     requires inside { end < vec_len heads.old }
     requires after { at ≤ end }
     ensures len { vec_len heads.new ≡ vec_len heads.old }
-    ensures marked { (q : ℕ) → slice_index_or heads.new.items q None ≡ (if nat_lt at q && nat_le q end then Some at else slice_index_or heads.old.items q None) }
+    ensures marked { (q : ℕ) →
+        slice_index_or heads.new.items q None ≡
+        (if nat_lt at q && nat_le q end then Some at else slice_index_or heads.old.items q None) }
 {
     for place in at as usize + 1..end as usize + 1 {
         heads[place] = Some(at);

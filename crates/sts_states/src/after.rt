@@ -118,7 +118,8 @@ fn is_all_success(joiner: Joiner) -> bool
 impl TypeState {
     /// The operands are popped and pushed.
     pub fn move_operands(&mut self, program: &Program, instr: Instr)
-        requires { self.old.height - facts.pops program.now instr + facts.pushes instr ≤ MAX_OPERANDS }
+        requires { self.old.height - facts.pops program.now instr + facts.pushes instr
+            ≤ MAX_OPERANDS }
         ensures { self.new ≡ def.moved program.now instr self.old }
     {
         self.height = self.height.saturating_sub(pops(program, instr)) + pushes(instr);
@@ -158,8 +159,10 @@ impl TypeState {
 
     /// The ok outcome of the `join` of the scope in this slot.
     fn join_ok(&mut self, slot: u8)
-        requires { self.old.height + def.ok_pushes (def.joiner_of (typed.scope_in self.old.entries slot)) ≤ MAX_OPERANDS }
-        ensures { self.new ≡ def.after_ok slot (def.joiner_of (typed.scope_in self.old.entries slot)) self.old }
+        requires { self.old.height
+            + def.ok_pushes (def.joiner_of (typed.scope_in self.old.entries slot)) ≤ MAX_OPERANDS }
+        ensures { self.new ≡
+            def.after_ok slot (def.joiner_of (typed.scope_in self.old.entries slot)) self.old }
     {
         let joiner = joiner_of(self.scope_in(slot));
         self.set_phase(slot, TypedPhase::Joined);
@@ -181,9 +184,11 @@ impl TypeState {
 
     /// A `times` at `pc` makes a turn.
     fn enter(&mut self, program: &Program, pc: u32, instr: Instr)
-        requires room { self.old.height - facts.pops program.now instr + facts.pushes instr ≤ MAX_OPERANDS }
+        requires room { self.old.height - facts.pops program.now instr + facts.pushes instr
+            ≤ MAX_OPERANDS }
         requires loops { length self.old.loops < MAX_LOOPS }
-        ensures { self.new ≡ record (def.moved program.now instr self.old) { loops = record { at = pc; entries = length self.old.entries } ∷ self.old.loops } }
+        ensures { self.new ≡ record (def.moved program.now instr self.old)
+            { loops = record { at = pc; entries = length self.old.entries } ∷ self.old.loops } }
     {
         self.move_operands(program, instr);
         let entries = self.entries.len() as u8;
@@ -192,7 +197,13 @@ impl TypeState {
 
     fn open_scope(&mut self, slot: u8, joiner: Joiner, timed: bool)
         requires { length self.old.entries < MAX_ENTRIES }
-        ensures { self.new ≡ record self.old { entries = TypedEntry.Scope (record { slot = slot; joiner = joiner; timed = timed; phase = TypedPhase.Opened }) ∷ self.old.entries; slots = slice_set self.old.slots slot SlotKind.Own } }
+        ensures { self.new ≡
+            record self.old {
+              entries = TypedEntry.Scope
+                  (record { slot = slot; joiner = joiner; timed = timed; phase = TypedPhase.Opened })
+                  ∷ self.old.entries;
+              slots = slice_set self.old.slots slot SlotKind.Own;
+            } }
     {
         self.entries.push(TypedEntry::Scope(TypedScope {
             slot,
@@ -204,8 +215,10 @@ impl TypeState {
     }
 
     fn fork(&mut self, program: &Program, instr: Instr, slot: u8, handle: Option<u8>)
-        requires { self.old.height - facts.pops program.now instr + facts.pushes instr ≤ MAX_OPERANDS }
-        ensures { self.new ≡ def.with_slot handle (SlotKind.Sub slot Known.Unknown) (def.moved program.now instr self.old) }
+        requires { self.old.height - facts.pops program.now instr + facts.pushes instr
+            ≤ MAX_OPERANDS }
+        ensures { self.new ≡ def.with_slot handle (SlotKind.Sub slot Known.Unknown)
+            (def.moved program.now instr self.old) }
     {
         self.move_operands(program, instr);
         if let Some(handle) = handle {
@@ -215,7 +228,10 @@ impl TypeState {
 
     /// The innermost entry, a scope, is closed.
     fn close_scope(&mut self, slot: u8)
-        ensures { self.new ≡ record self.old { entries = drop 1 self.old.entries; slots = def.cleared slot self.old.slots } }
+        ensures { self.new ≡ record self.old {
+          entries = drop 1 self.old.entries;
+          slots = def.cleared slot self.old.slots;
+        } }
     {
         self.entries.drop_top(1);
         let slots = forgotten(slot, &self.slots);
@@ -224,9 +240,11 @@ impl TypeState {
     }
 
     fn bind(&mut self, program: &Program, instr: Instr, key: u8)
-        requires room { self.old.height - facts.pops program.now instr + facts.pushes instr ≤ MAX_OPERANDS }
+        requires room { self.old.height - facts.pops program.now instr + facts.pushes instr
+            ≤ MAX_OPERANDS }
         requires entries { length self.old.entries < MAX_ENTRIES }
-        ensures { self.new ≡ record (def.moved program.now instr self.old) { entries = TypedEntry.Binding key ∷ self.old.entries } }
+        ensures { self.new ≡ record (def.moved program.now instr self.old)
+            { entries = TypedEntry.Binding key ∷ self.old.entries } }
     {
         self.move_operands(program, instr);
         self.entries.push(TypedEntry::Binding(key));
@@ -236,7 +254,8 @@ impl TypeState {
     pub fn step(&mut self, program: &Program, pc: u32, instr: Instr)
         requires falls { facts.falls_through instr ≡ true }
         requires room { HasRoom program.now instr self.old }
-        ensures { (code : List Instr) → slice_get (def.follows program.now code pc instr self.old) 0 ≡ Some (pc + 1, self.new) }
+        ensures { (code : List Instr) →
+            slice_get (def.follows program.now code pc instr self.old) 0 ≡ Some (pc + 1, self.new) }
     {
         match instr {
             Instr::Div(_) => self.pop(1),
@@ -263,7 +282,9 @@ impl TypeState {
     pub fn moves_to(&self, program: &Program, pc: u32, instr: Instr) -> Option<(u32, u8)>
         requires pc { pc < MAX_INSTRUCTIONS }
         requires room { HasRoom program.now instr self.now }
-        ensures edge { (code : List Instr) → IfSome result (λ e. def.follows program.now code pc instr self.now ≡ (e.0, record self.now { height = e.1 }) ∷ []) }
+        ensures edge { (code : List Instr) →
+            IfSome result (λ e. def.follows program.now code pc instr self.now ≡
+            (e.0, record self.now { height = e.1 }) ∷ []) }
         ensures few { IfSome result (λ e. e.1 ≤ MAX_OPERANDS) }
     {
         match instr {

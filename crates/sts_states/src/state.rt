@@ -94,7 +94,8 @@ impl TypeState {
 
     /// Are all parts of the two the same but for the number of operands?
     pub fn is_like(&self, other: &TypeState) -> bool
-        ensures { IsTrue result ↔ (record self.now { height = 0 } ≡ record other.now { height = 0 }) }
+        ensures { IsTrue result ↔ (record self.now { height = 0 } ≡
+            record other.now { height = 0 }) }
     {
         are_same_loops(&self.loops, &other.loops)
             && are_same_entries(&self.entries, &other.entries)

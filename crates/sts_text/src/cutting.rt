@@ -31,7 +31,8 @@ fn blank_in(line: &[u8]) -> Option<usize>
 /// The first line and the text after its newline, or None where the text has no newline.
 #[tactic(auto, using(crate::proofs::WordLemmas::cuts))]
 pub fn cut_at_newline(text: &[u8]) -> Option<(&[u8], &[u8])>
-    ensures lines { MatchOption result (lines text.now ≡ text.now ∷ []) (λ cut. lines text.now ≡ cut.0.now ∷ lines cut.1.now) }
+    ensures lines { MatchOption result (lines text.now ≡ text.now ∷ [])
+        (λ cut. lines text.now ≡ cut.0.now ∷ lines cut.1.now) }
     ensures shorter { IfSome result (λ cut. length cut.1.now < length text.now) }
 {
     match newline_in(text) {
@@ -43,7 +44,8 @@ pub fn cut_at_newline(text: &[u8]) -> Option<(&[u8], &[u8])>
 /// The first field and the line after its space, or None where the line has no space.
 #[tactic(auto, using(crate::proofs::WordLemmas::cuts))]
 pub fn cut_at_space(line: &[u8]) -> Option<(&[u8], &[u8])>
-    ensures fields { MatchOption result (fields line.now ≡ line.now ∷ []) (λ cut. fields line.now ≡ cut.0.now ∷ fields cut.1.now) }
+    ensures fields { MatchOption result (fields line.now ≡ line.now ∷ [])
+        (λ cut. fields line.now ≡ cut.0.now ∷ fields cut.1.now) }
     ensures shorter { IfSome result (λ cut. length cut.1.now < length line.now) }
 {
     match space_in(line) {
@@ -67,7 +69,8 @@ fn cut_at_blank(line: &[u8]) -> (&[u8], &[u8])
 /// The first word of a line and the line after it, or None where the line has no words.
 #[tactic(auto, using(crate::proofs::WordLemmas::words_first))]
 pub(crate) fn next_word(line: &[u8]) -> Option<(&[u8], &[u8])>
-    ensures { MatchOption result (words line.now ≡ []) (λ cut. words line.now ≡ cut.0.now ∷ words cut.1.now) }
+    ensures { MatchOption result (words line.now ≡ [])
+        (λ cut. words line.now ≡ cut.0.now ∷ words cut.1.now) }
 {
     let mut rest = line;
     while !rest.is_empty() {

@@ -34,7 +34,9 @@ fn text_of(word: &[u8]) -> &str
 /// The number that one more digit makes of the number before it, where that is below 2^64.
 fn with_digit(value: u64, digit: u8) -> Option<u64>
     requires { is_ascii_digit digit ≡ true }
-    ensures { result ≡ (if nat_lt (value * 10 + digit_value digit) (2 ^ 64) then Some (value * 10 + digit_value digit) else None) }
+    ensures { result ≡
+        (if nat_lt (value * 10 + digit_value digit) (2 ^ 64)
+        then Some (value * 10 + digit_value digit) else None) }
 {
     value.checked_mul(10)?.checked_add(u64::from(digit - b'0'))
 }
@@ -42,7 +44,9 @@ fn with_digit(value: u64, digit: u8) -> Option<u64>
 /// The number that digits write, where it is below 2^64.
 fn value_of(word: &[u8]) -> Option<u64>
     requires { list_all is_ascii_digit word.now ≡ true }
-    ensures { result ≡ (if nat_lt (digits_value 10 word.now) (2 ^ 64) then Some (digits_value 10 word.now) else None) }
+    ensures { result ≡
+        (if nat_lt (digits_value 10 word.now) (2 ^ 64)
+        then Some (digits_value 10 word.now) else None) }
 {
     let mut value = 0;
     for digit in word {
@@ -100,7 +104,9 @@ pub fn numeral(word: &[u8]) -> Option<u32>
 
 fn positive(word: &[u8]) -> Option<i64>
     requires { is_digits word.now ≡ true }
-    ensures { result ≡ (if nat_lt (digits_value 10 word.now) (2 ^ 63) then Some (pos (digits_value 10 word.now)) else None) }
+    ensures { result ≡
+        (if nat_lt (digits_value 10 word.now) (2 ^ 63)
+        then Some (pos (digits_value 10 word.now)) else None) }
 {
     match value_of(word) {
         Some(n) => i64::try_from(n).ok(),
@@ -111,7 +117,9 @@ fn positive(word: &[u8]) -> Option<i64>
 fn negative(word: &[u8]) -> Option<i64>
     requires minus { slice_index word.now 0 ≡ 45 }
     requires digits { is_digits (drop 1 word.now) ≡ true }
-    ensures { result ≡ (if nat_le (digits_value 10 (drop 1 word.now)) (2 ^ 63) then Some (neg_ℤ (pos (digits_value 10 (drop 1 word.now)))) else None) }
+    ensures { result ≡
+        (if nat_le (digits_value 10 (drop 1 word.now)) (2 ^ 63)
+        then Some (neg_ℤ (pos (digits_value 10 (drop 1 word.now)))) else None) }
 {
     text_of(word).parse::<i64>().ok()
 }

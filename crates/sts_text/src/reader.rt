@@ -31,7 +31,8 @@ impl<'a> Words<'a> {
 
     /// Takes the next word, or answers None where none is left.
     pub fn word(&mut self) -> Option<&'a [u8]>
-        ensures { MatchOption result ((self.old ≡ []) × (self.new ≡ [])) (λ word. self.old ≡ word.now ∷ self.new) }
+        ensures { MatchOption result ((self.old ≡ []) × (self.new ≡ []))
+            (λ word. self.old ≡ word.now ∷ self.new) }
     {
         let (word, rest) = next_word(self.line)?;
         self.line = rest;

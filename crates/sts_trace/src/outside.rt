@@ -60,7 +60,8 @@ fn due_said(
     word: &[u8],
     number: &[u8],
 ) -> Result<Due, TraceError>
-    ensures { Gives (λ due. due) result (due_said at (first.now ∷ time.now ∷ word.now ∷ number.now ∷ [])) }
+    ensures { Gives (λ due. due) result (due_said at
+        (first.now ∷ time.now ∷ word.now ∷ number.now ∷ [])) }
 {
     if first != b"at".as_slice() || time.is_empty() || !is_outside_word(word) || number.is_empty() {
         return Err(TraceError::BadLine(at));
@@ -102,9 +103,11 @@ fn read_dues(alloc: Global, text: &[u8]) -> Result<Vec<Due>, TraceError>
 #[tactic(auto, using(crate::proofs::Found::dues_found, crate::proofs::Only::outside_only))]
 pub fn read_outside(alloc: Global, text: &[u8]) -> Result<Vec<Due>, TraceError>
     // What is read is what the text spells.
-    ensures found { IfOk result (λ dues. AreDues dues.items × (text.now ≡ outside_text dues.items)) }
+    ensures found { IfOk result (λ dues. AreDues dues.items ×
+        (text.now ≡ outside_text dues.items)) }
     // Whatever the text spells is read.
-    ensures only { (dues : List Due) → AreDues dues → text.now ≡ outside_text dues → Gives (λ read. read.items) result (Ok dues) }
+    ensures only { (dues : List Due) → AreDues dues → text.now ≡ outside_text dues →
+        Gives (λ read. read.items) result (Ok dues) }
     // What is wrong is the first fault.
     ensures exact { Gives (λ dues. dues.items) result (outside_read text.now) }
 {

@@ -67,9 +67,11 @@ fn read_events(alloc: Global, text: &[u8]) -> Result<Vec<Event>, TraceError>
 #[tactic(auto, using(crate::proofs::Found::events_found, crate::proofs::Only::trace_only))]
 pub fn read_trace(alloc: Global, text: &[u8]) -> Result<Vec<Event>, TraceError>
     // What is read is what the text spells.
-    ensures found { IfOk result (λ events. All IsEvent events.items × (text.now ≡ trace_text events.items)) }
+    ensures found { IfOk result (λ events. All IsEvent events.items ×
+        (text.now ≡ trace_text events.items)) }
     // Whatever the text spells is read.
-    ensures only { (events : List Event) → All IsEvent events → text.now ≡ trace_text events → Gives (λ read. read.items) result (Ok events) }
+    ensures only { (events : List Event) → All IsEvent events → text.now ≡ trace_text events →
+        Gives (λ read. read.items) result (Ok events) }
     // What is wrong is the first fault.
     ensures exact { Gives (λ events. events.items) result (trace_read text.now) }
 {

@@ -9,7 +9,8 @@ use std::io::Write;
 use sts_model::event::Event;
 
 fn write_event<W: Write>(event: Event, writer: &mut W) -> io::Result<()>
-    ensures { OnOk result (Appends (W.contents writer.old) (W.contents writer.new) (event_text event ++ codes "\n")) }
+    ensures { OnOk result (Appends (W.contents writer.old) (W.contents writer.new)
+        (event_text event ++ codes "\n")) }
 {
     match event {
         Event::Step(n) => writeln!(writer, "step {n}"),
@@ -24,7 +25,8 @@ fn write_event<W: Write>(event: Event, writer: &mut W) -> io::Result<()>
 ///
 /// What the writer answers where a write fails; some of the text may then have been written.
 pub fn write_trace<W: Write>(events: &[Event], writer: &mut W) -> io::Result<()>
-    ensures { OnOk result (Appends (W.contents writer.old) (W.contents writer.new) (trace_text events.now)) }
+    ensures { OnOk result (Appends (W.contents writer.old)
+        (W.contents writer.new) (trace_text events.now)) }
 {
     for event in events {
         write_event(*event, writer)?;

@@ -46,7 +46,10 @@ impl Model for Arrivals {
 
     ghost view = { λ a. record { table = map (arrival_of a.kept.items) a.marks.items; state = a.state; start = state_of a.kept.items a.start } };
 
-    ghost invariant = { λ a. All (IsMarked (length a.kept.items)) a.marks.items × (a.like < length a.kept.items) × (a.state ≡ state_of a.kept.items (record { height = a.state.height; like = a.like })) × IsMarked (length a.kept.items) (Arrival.One a.start) };
+    ghost invariant = { λ a. All (IsMarked (length a.kept.items)) a.marks.items
+        × (a.like < length a.kept.items)
+        × (a.state ≡ state_of a.kept.items (record { height = a.state.height; like = a.like }))
+        × IsMarked (length a.kept.items) (Arrival.One a.start) };
 }
 
 /// Is it the same typestate that these stand for?
@@ -62,7 +65,8 @@ fn are_same(kept: &[TypeState], a: Mark, b: Mark) -> bool
 fn merged(kept: &[TypeState], before: Arrival<Mark>, mark: Mark) -> Arrival<Mark>
     requires before { IsMarked (length kept.now) before }
     requires mark { IsMarked (length kept.now) (Arrival.One mark) }
-    ensures merged { Merged (arrival_of kept.now before) (state_of kept.now mark) (arrival_of kept.now result) }
+    ensures merged { Merged (arrival_of kept.now before) (state_of kept.now mark)
+        (arrival_of kept.now result) }
     ensures marked { IsMarked (length kept.now) result }
 {
     match before {
@@ -75,7 +79,9 @@ fn merged(kept: &[TypeState], before: Arrival<Mark>, mark: Mark) -> Arrival<Mark
 /// A typestate is kept, if the one that it may be like isn't: answers which is like it.
 fn keep(kept: &mut Vec<TypeState>, like: usize, state: &TypeState) -> Result<usize, AllocError>
     requires { like < length kept.old.items }
-    ensures like { IfOk result (λ at. (at < length kept.new.items) × (state_of kept.new.items (record { height = state.now.height; like = at }) ≡ state.now)) }
+    ensures like { IfOk result (λ at. (at < length kept.new.items) ×
+        (state_of kept.new.items (record { height = state.now.height; like = at }) ≡
+        state.now)) }
     ensures more { (added : List TypeState) × (kept.new.items ≡ kept.old.items ++ added) }
 {
     if kept[like].is_like(state) {
@@ -89,7 +95,8 @@ fn keep(kept: &mut Vec<TypeState>, like: usize, state: &TypeState) -> Result<usi
 /// The typestate for which a mark stands comes to hand, where that at hand is like the one that is told.
 fn come_to(state: &mut TypeState, like: &mut usize, kept: &[TypeState], mark: Mark)
     requires mark { IsMarked (length kept.now) (Arrival.One mark) }
-    requires hand { state.old ≡ state_of kept.now (record { height = state.old.height; like = like.old }) }
+    requires hand { state.old ≡ state_of kept.now
+        (record { height = state.old.height; like = like.old }) }
     ensures state { state.new ≡ state_of kept.now mark }
     ensures like { like.new ≡ mark.like }
 {
@@ -108,7 +115,9 @@ impl Arrivals {
         first: TypeState,
     ) -> Result<Arrivals, AllocError>
         requires { 0 < places }
-        ensures { IfOk result (λ a. (a.table ≡ slice_set (replicate places Arrival.Nothing) 0 (Arrival.One first)) × (a.state ≡ first)) }
+        ensures { IfOk result
+            (λ a. (a.table ≡ slice_set (replicate places Arrival.Nothing) 0 (Arrival.One first)) ×
+            (a.state ≡ first)) }
     {
         // Room for one a place, so that what is kept need not move.
         let mut kept = Vec::with_capacity(alloc, places)?;
@@ -139,7 +148,8 @@ impl Arrivals {
     pub(crate) fn load(&mut self, place: u32) -> Arrival<()>
         requires { place < length self.old.table }
         ensures table { self.new.table ≡ self.old.table }
-        ensures loaded { slice_index_or self.old.table place Arrival.Nothing ≡ filled self.new.state result }
+        ensures loaded { slice_index_or self.old.table place Arrival.Nothing ≡
+            filled self.new.state result }
         ensures start { (result ≡ Arrival.One (record {})) → self.new.start ≡ self.new.state }
     {
         match self.marks[place as usize] {
@@ -169,7 +179,10 @@ impl Arrivals {
     pub(crate) fn arrive_moved(&mut self, place: u32, height: u8)
         requires place { place < length self.old.table }
         requires few { height ≤ MAX_OPERANDS }
-        ensures table { (b : Arrival TypeState) × (Merged (slice_index_or self.old.table place Arrival.Nothing) (at_height height self.old.state) b × (self.new.table ≡ slice_set self.old.table place b)) }
+        ensures table { (b : Arrival TypeState) ×
+            (Merged (slice_index_or self.old.table place Arrival.Nothing)
+            (at_height height self.old.state) b ×
+            (self.new.table ≡ slice_set self.old.table place b)) }
         ensures state { self.new.state ≡ self.old.state }
         ensures start { self.new.start ≡ self.old.start }
     {
@@ -186,8 +199,10 @@ impl Arrivals {
     pub(crate) fn arrive_along(&mut self, site: &Site<'_>, number: usize) -> Result<(), AllocError>
         requires site { IsSite site.now }
         requires room { HasRoomAt site.now self.old.state }
-        requires places { All (λ e. e.0 < length self.old.table) (follows_at site.now self.old.state) }
-        ensures table { OnOk result (ArriveAt self.old.table (slice_get (follows_at site.now self.old.state) number) self.new.table) }
+        requires places { All (λ e. e.0 < length self.old.table)
+            (follows_at site.now self.old.state) }
+        ensures table { OnOk result (ArriveAt self.old.table
+            (slice_get (follows_at site.now self.old.state) number) self.new.table) }
         ensures start { self.new.start ≡ self.old.start }
     {
         if let Some(to) = edge(site, &mut self.state, number) {
@@ -213,7 +228,8 @@ impl Arrivals {
     /// Is the typestate at hand the only one that arrived at a place?
     pub(crate) fn is_one(&self, place: u32) -> bool
         requires { place < length self.now.table }
-        ensures { IsTrue result ↔ (slice_index_or self.now.table place Arrival.Nothing ≡ Arrival.One self.now.state) }
+        ensures { IsTrue result ↔ (slice_index_or self.now.table place Arrival.Nothing
+            ≡ Arrival.One self.now.state) }
     {
         let here = Mark {
             height: self.state.height(),

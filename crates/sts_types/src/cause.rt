@@ -67,7 +67,8 @@ pub(crate) fn is_too_deep(instr: Instr, state: &TypeState) -> bool
 
 /// Does the slot that only an owner may use hold no scope?
 fn has_no_scope(instr: Instr, state: &TypeState) -> bool
-    ensures { result ≡ def.at_slot state.now (facts.owners_slot instr) (λ k. not (def.is_own k || def.is_lent k)) }
+    ensures { result ≡ def.at_slot state.now (facts.owners_slot instr)
+        (λ k. not (def.is_own k || def.is_lent k)) }
 {
     match owners_slot(instr) {
         None => false,
@@ -244,13 +245,15 @@ fn is_bound(program: &Program, function: u32, state: &TypeState, key: u8) -> boo
 
 /// Does the child need this key, which may be unbound here?
 fn lacks(program: &Program, function: u32, child: u32, state: &TypeState, key: u8) -> bool
-    ensures { result ≡ (def.needs program.now child key && not (def.is_bound program.now function state.now key)) }
+    ensures { result ≡ (def.needs program.now child key &&
+        not (def.is_bound program.now function state.now key)) }
 {
     needs(program, child, key) && !is_bound(program, function, state, key)
 }
 
 fn lacks_key(program: &Program, function: u32, child: u32, state: &TypeState) -> bool
-    ensures { result ≡ list_any (λ k. def.needs program.now child k && not (def.is_bound program.now function state.now k)) (range_with_len 0 16) }
+    ensures { result ≡ list_any (λ k. def.needs program.now child k &&
+        not (def.is_bound program.now function state.now k)) (range_with_len 0 16) }
 {
     for key in 0..16u8 {
         if lacks(program, function, child, state, key) {
@@ -275,7 +278,9 @@ pub(crate) fn is_unbound(program: &Program, function: u32, instr: Instr, state: 
 
 /// Do the targets not fit the scope?
 fn misfits(failed: Option<u32>, timeout: Option<u32>, scope: Option<TypedScope>) -> bool
-    ensures { result ≡ def.passes (λ scope. not (facts.same (is_some failed) (facts.can_fail scope.joiner)) || not (facts.same (is_some timeout) scope.timed)) scope }
+    ensures { result ≡
+        def.passes (λ scope. not (facts.same (is_some failed) (facts.can_fail scope.joiner)) ||
+        not (facts.same (is_some timeout) scope.timed)) scope }
 {
     match scope {
         None => false,

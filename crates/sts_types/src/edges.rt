@@ -20,7 +20,8 @@ use sts_states::state::TypeState;
 pub fn edges(program: &Program, function: u32, pc: u32, state: &TypeState) -> Result<Edges, Cause>
     requires function { function < length program.now.routines }
     requires pc { pc < size program.now function }
-    ensures { MatchResult result (λ edges. def.edges program.now function pc state.now ≡ Ok edges) (λ cause. def.edges program.now function pc state.now ≡ Err cause) }
+    ensures { MatchResult result (λ edges. def.edges program.now function pc state.now ≡ Ok edges)
+        (λ cause. def.edges program.now function pc state.now ≡ Err cause) }
 {
     let code = code_of(program, function as usize);
     let loops = CodeLoops::new(code);

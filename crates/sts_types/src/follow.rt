@@ -66,7 +66,8 @@ fn join_edge(
     number: usize,
 ) -> Option<u32>
     requires { IfSome failed (λ _. state.old.height < MAX_OPERANDS) }
-    ensures { Goes (slice_get (outcomes slot failed timeout interrupted state.old) number) state.old result state.new }
+    ensures { Goes (slice_get (outcomes slot failed timeout interrupted state.old) number)
+        state.old result state.new }
 {
     let mut number = number;
     if let Some(to) = failed {
@@ -99,7 +100,8 @@ fn case_edge(
     failed: u32,
     number: usize,
 ) -> Option<u32>
-    ensures { Goes (slice_get (states handle success failed state.old) number) state.old result state.new }
+    ensures { Goes (slice_get (states handle success failed state.old) number)
+        state.old result state.new }
 {
     match number {
         0 => {
@@ -118,7 +120,8 @@ fn case_edge(
 fn later_edge(site: &Site<'_>, state: &mut TypeState, number: usize) -> Option<u32>
     requires site { IsSite site.now }
     requires room { HasRoomAt site.now state.old }
-    ensures { Goes (slice_get (follows_at site.now state.old) (number + 1)) state.old result state.new }
+    ensures { Goes (slice_get (follows_at site.now state.old) (number + 1))
+        state.old result state.new }
 {
     match site.instr {
         Instr::Div(to) if number == 0 => {
@@ -164,7 +167,8 @@ pub(crate) fn edge(site: &Site<'_>, state: &mut TypeState, number: usize) -> Opt
 
 /// How many edges an instruction has at most.
 pub(crate) fn edge_count(instr: Instr) -> usize
-    ensures { (p : Program) (code : List Instr) (pc : ℕ) (s : TypeState) → length (def.follows p code pc instr s) ≤ result }
+    ensures { (p : Program) (code : List Instr) (pc : ℕ) (s : TypeState) →
+        length (def.follows p code pc instr s) ≤ result }
 {
     match instr {
         Instr::Ret | Instr::Fail => 0,

@@ -81,7 +81,8 @@ fn any_other(loops: &CodeLoops<'_>, now: &Stack<TypedLoop, 8>, places: &[u32]) -
 }
 
 fn is_other(loops: &CodeLoops<'_>, now: &Stack<TypedLoop, 8>, place: Option<u32>) -> bool
-    ensures { result ≡ list_any (def.is_other_loop loops.now (heads now.now)) (option_to_list place) }
+    ensures { result ≡ list_any (def.is_other_loop loops.now (heads now.now))
+        (option_to_list place) }
 {
     match place {
         None => false,
@@ -92,7 +93,10 @@ fn is_other(loops: &CodeLoops<'_>, now: &Stack<TypedLoop, 8>, place: Option<u32>
 /// Are other loops around the next place than those that are then open?
 fn next_differs(site: &Site<'_>, state: &TypeState) -> bool
     requires { IsSite site.now }
-    ensures { result ≡ list_any (def.is_other_loop site.now.loops.now (around.open_after site.now.pc site.now.instr (heads state.now.loops))) (around.next_place site.now.pc site.now.instr) }
+    ensures { result ≡
+        list_any (def.is_other_loop site.now.loops.now
+        (around.open_after site.now.pc site.now.instr (heads state.now.loops)))
+        (around.next_place site.now.pc site.now.instr) }
 {
     let loops = site.loops;
     match site.instr {

@@ -19,7 +19,11 @@ use sts_states::state::TypeState;
 /// The least cause from V3 to V5.
 fn lead_cause(site: &Site<'_>, state: &TypeState) -> Option<Cause>
     requires { IsSite site.now }
-    ensures { result ≡ (if def.falls_off site.now.loops.now site.now.pc site.now.instr then Some Cause.FallsOff else (if def.jumps_back site.now.pc site.now.instr then Some Cause.BackJump else (if def.mismatches site.now.loops.now site.now.pc site.now.instr state.now then Some Cause.LoopMismatch else None))) }
+    ensures { result ≡
+        (if def.falls_off site.now.loops.now site.now.pc site.now.instr then Some Cause.FallsOff
+        else (if def.jumps_back site.now.pc site.now.instr then Some Cause.BackJump else
+        (if def.mismatches site.now.loops.now site.now.pc site.now.instr state.now
+        then Some Cause.LoopMismatch else None))) }
 {
     let targets = targets(site.instr);
     let targets = targets.as_slice();
@@ -36,7 +40,10 @@ fn lead_cause(site: &Site<'_>, state: &TypeState) -> Option<Cause>
 
 /// The least cause from V9 to V11.
 fn slot_cause(instr: Instr, state: &TypeState) -> Option<Cause>
-    ensures { result ≡ (if def.has_wrong_slot instr state.now then Some Cause.SlotKind else (if def.has_busy_slot instr state.now then Some Cause.SlotBusy else (if def.is_strangers instr state.now then Some Cause.WrongThread else None))) }
+    ensures { result ≡
+        (if def.has_wrong_slot instr state.now then Some Cause.SlotKind else
+        (if def.has_busy_slot instr state.now then Some Cause.SlotBusy else
+        (if def.is_strangers instr state.now then Some Cause.WrongThread else None))) }
 {
     if has_wrong_slot(instr, state) {
         Some(Cause::SlotKind)
@@ -51,7 +58,10 @@ fn slot_cause(instr: Instr, state: &TypeState) -> Option<Cause>
 
 /// The least cause from V14 to V16.
 fn late_cause(program: &Program, function: u32, instr: Instr, state: &TypeState) -> Option<Cause>
-    ensures { result ≡ (if def.is_nested instr state.now then Some Cause.Nesting else (if def.is_unbound program.now function instr state.now then Some Cause.Unbound else (if def.misjoins instr state.now then Some Cause.JoinEdges else None))) }
+    ensures { result ≡
+        (if def.is_nested instr state.now then Some Cause.Nesting else
+        (if def.is_unbound program.now function instr state.now then Some Cause.Unbound else
+        (if def.misjoins instr state.now then Some Cause.JoinEdges else None))) }
 {
     if is_nested(instr, state) {
         Some(Cause::Nesting)
@@ -67,7 +77,8 @@ fn late_cause(program: &Program, function: u32, instr: Instr, state: &TypeState)
 /// The least cause that holds at the instruction, if one does.
 pub(crate) fn least_cause(site: &Site<'_>, state: &TypeState) -> Option<Cause>
     requires site { IsSite site.now }
-    ensures { result ≡ def.least_cause site.now.program.now site.now.function site.now.pc site.now.instr state.now }
+    ensures { result ≡ def.least_cause site.now.program.now site.now.function
+        site.now.pc site.now.instr state.now }
 {
     if lacks_operands(site.program, site.instr, state) {
         return Some(Cause::StackUnder);

@@ -60,8 +60,10 @@ fn spread(site: &Site<'_>, arrivals: &mut Arrivals) -> Result<(), AllocError>
     requires site { IsSite site.now }
     requires start { arrivals.old.start ≡ arrivals.old.state }
     requires room { HasRoomAt site.now arrivals.old.state }
-    requires places { All (λ e. e.0 < length arrivals.old.table) (follows_at site.now arrivals.old.state) }
-    ensures { OnOk result (Arrive arrivals.old.table (follows_at site.now arrivals.old.state) arrivals.new.table) }
+    requires places { All (λ e. e.0 < length arrivals.old.table)
+        (follows_at site.now arrivals.old.state) }
+    ensures { OnOk result (Arrive arrivals.old.table
+        (follows_at site.now arrivals.old.state) arrivals.new.table) }
 {
     for number in 0..edge_count(site.instr) {
         arrivals.go_back();
@@ -77,8 +79,10 @@ fn follow(site: &Site<'_>, arrivals: &mut Arrivals) -> Result<(), AllocError>
     requires small { site.now.pc < MAX_INSTRUCTIONS }
     requires start { arrivals.old.start ≡ arrivals.old.state }
     requires room { HasRoomAt site.now arrivals.old.state }
-    requires places { All (λ e. e.0 < length arrivals.old.table) (follows_at site.now arrivals.old.state) }
-    ensures { OnOk result (Arrive arrivals.old.table (follows_at site.now arrivals.old.state) arrivals.new.table) }
+    requires places { All (λ e. e.0 < length arrivals.old.table)
+        (follows_at site.now arrivals.old.state) }
+    ensures { OnOk result (Arrive arrivals.old.table
+        (follows_at site.now arrivals.old.state) arrivals.new.table) }
 {
     match arrivals.state().moves_to(site.program, site.pc, site.instr) {
         Some((to, height)) => {
@@ -93,7 +97,8 @@ fn follow(site: &Site<'_>, arrivals: &mut Arrivals) -> Result<(), AllocError>
 /// place that has a cause, with the least cause there.
 pub fn type_function(alloc: Global, program: &Program, function: u32) -> Result<(), TypeError>
     requires { function < length program.now.routines }
-    ensures { MatchResult result (λ _. IsWellTyped program.now function) (Tells program.now function) }
+    ensures { MatchResult result (λ _. IsWellTyped program.now function)
+        (Tells program.now function) }
 {
     let code = code_of(program, function as usize);
     let tables = Tables::new(alloc, code)?;

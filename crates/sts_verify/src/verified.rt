@@ -32,7 +32,9 @@ impl Model for Verified {
 
     ghost view = { λ v. v.program };
 
-    ghost invariant = { λ v. IsAccepted v.program × (length v.budgets.items ≡ length v.program.routines) × AreBudgets v.program v.budgets.items };
+    ghost invariant = { λ v. IsAccepted v.program
+        × (length v.budgets.items ≡ length v.program.routines)
+        × AreBudgets v.program v.budgets.items };
 }
 
 impl Verified {
@@ -98,7 +100,9 @@ fn verify_function(
     requires in_program { function < length program.now.routines }
     requires long { length budgets.old.items ≡ function }
     requires right { AreBudgets program.now budgets.old.items }
-    ensures { MatchResult result (λ _. IsSound program.now function × (length budgets.new.items ≡ function + 1) × AreBudgets program.now budgets.new.items) (def.TellsOf program.now function) }
+    ensures { MatchResult result (λ _. IsSound program.now function ×
+        (length budgets.new.items ≡ function + 1) × AreBudgets program.now budgets.new.items)
+        (def.TellsOf program.now function) }
 {
     if let Err(error) = type_function(alloc, program, function) {
         return Err(error);
@@ -115,7 +119,8 @@ fn verify_function(
 
 /// Verifies a program: it is accepted, or refused at its least place with a cause, by the least cause there.
 pub fn verify(alloc: Global, program: Program) -> Result<Verified, VerifyError>
-    ensures { MatchResult result (λ verified. (verified ≡ program) × IsAccepted program) (def.Tells program) }
+    ensures { MatchResult result (λ verified. (verified ≡ program) ×
+        IsAccepted program) (def.Tells program) }
 {
     let mut budgets = Vec::new(alloc);
     for function in 0..program.functions().len() as u32 {
