@@ -159,7 +159,11 @@ impl World {
 
     /// How many subtasks completed as successes, and how many as failures.
     fn completed(&self, s: u32) -> (u32, u32)
-        ensures { result ≡ (count_by joining.is_success (living.ends (def.scope_at self.now s)), count_by joining.is_failure (living.ends (def.scope_at self.now s))) }
+        ensures { result ≡ (
+          count_by joining.is_success (living.ends (def.scope_at self.now s)),
+          count_by
+              joining.is_failure (living.ends (def.scope_at self.now s)),
+        ) }
     {
         match self.tallies.get(s as usize) {
             Some(tally) => (tally.successes(), tally.failures()),
@@ -198,7 +202,8 @@ impl World {
 
     /// The joiner's answer.
     fn verdict(&self, s: u32) -> Verdict
-        ensures { result ≡ joining.result_of (def.scope_at self.now s).joiner (living.ends (def.scope_at self.now s)) (living.subtask_count self.now s) }
+        ensures { result ≡ joining.result_of (def.scope_at self.now s).joiner
+            (living.ends (def.scope_at self.now s)) (living.subtask_count self.now s) }
     {
         let count = self.subtask_count(s) as u32;
         match self.tallies.get(s as usize) {
@@ -215,7 +220,8 @@ impl World {
     pub fn goes(&mut self, t: u32, to: u32, n: usize)
         requires born { t < length self.old.tasks }
         requires lives { living.lives (def.task_at self.old t) ≡ true }
-        ensures { self.new ≡ def.with_frame self.old t (frames.goes (def.task_at self.old t).frame to n []) }
+        ensures { self.new ≡ def.with_frame self.old t
+            (frames.goes (def.task_at self.old t).frame to n []) }
     {
         self.records.goes(t, to, n);
     }
@@ -225,7 +231,8 @@ impl World {
         requires born { t < length self.old.tasks }
         requires lives { living.lives (def.task_at self.old t) ≡ true }
         requires room { length (def.task_at self.old t).frame.operands - n < 32 }
-        ensures { self.new ≡ def.with_frame self.old t (frames.goes (def.task_at self.old t).frame to n (value ∷ [])) }
+        ensures { self.new ≡ def.with_frame self.old t
+            (frames.goes (def.task_at self.old t).frame to n (value ∷ [])) }
     {
         self.records.goes_with(t, to, n, value);
     }
@@ -239,8 +246,11 @@ impl World {
         requires short { length (def.code program.now (def.task_at self.old t).frame) < 2 ^ 32 }
         requires is_local { frames.is_local instr ≡ true }
         requires room { misuse.overflows program.now (def.task_at self.old t).frame instr ≡ false }
-        requires loops { misuse.breaks_loop program.now (def.task_at self.old t).frame instr ≡ false }
-        ensures { self.new ≡ def.with_frame self.old t (frames.local (def.code program.now (def.task_at self.old t).frame) instr (def.task_at self.old t).frame) }
+        requires loops { misuse.breaks_loop program.now
+            (def.task_at self.old t).frame instr ≡ false }
+        ensures { self.new ≡ def.with_frame self.old t
+            (frames.local (def.code program.now (def.task_at self.old t).frame) instr
+            (def.task_at self.old t).frame) }
     {
         self.records.local(program, t, instr);
     }
@@ -316,7 +326,8 @@ impl World {
     }
 
     fn set_expired(&mut self, s: u32)
-        ensures { self.new ≡ def.with_scope self.old s (record (def.scope_at self.old s) { expired = true }) }
+        ensures { self.new ≡ def.with_scope self.old s
+            (record (def.scope_at self.old s) { expired = true }) }
     {
         self.records.set_expired(s);
     }
@@ -367,8 +378,12 @@ impl World {
         requires lives { living.lives (def.task_at self.old t) ≡ true }
         requires in_scope { (def.task_at self.old t).scope ≡ Some s }
         requires more { (def.task_at self.old t).frame.pc + 1 < 2 ^ 32 }
-        ensures ok { OnOk result (self.new ≡ effect.ended (def.with_scope self.old s (effect.told (def.scope_at self.old s) t end)) t (def.task_at self.old t).frame end) }
-        ensures asks { IfOk result (λ asks. asks ≡ joining.cancels (def.scope_at self.new s).joiner (living.ends (def.scope_at self.new s))) }
+        ensures ok { OnOk result (self.new ≡ effect.ended
+            (def.with_scope self.old s (effect.told (def.scope_at self.old s) t end)) t
+            (def.task_at self.old t).frame end) }
+        ensures asks { IfOk result (λ asks. asks ≡
+            joining.cancels (def.scope_at self.new s).joiner
+            (living.ends (def.scope_at self.new s))) }
         ensures err { OnErr result (self.new ≡ self.old) }
     {
         self.records.tell(s, t, end)?;
@@ -384,7 +399,8 @@ impl World {
         requires born { t < length self.old.tasks }
         requires lives { living.lives (def.task_at self.old t) ≡ true }
         requires more { (def.task_at self.old t).frame.pc + 1 < 2 ^ 32 }
-        ensures ok { OnOk result (self.new ≡ effect.end_task self.old t (def.task_at self.old t).frame end) }
+        ensures ok { OnOk result (self.new ≡ effect.end_task self.old t
+            (def.task_at self.old t).frame end) }
         ensures err { OnErr result (self.new ≡ self.old) }
     {
         match self.records.parent(t) {
@@ -412,7 +428,8 @@ impl World {
     fn joined(&mut self, t: u32, s: u32, to: u32)
         requires born { t < length self.old.tasks }
         requires lives { living.lives (def.task_at self.old t) ≡ true }
-        ensures { self.new ≡ effect.joined self.old t s (frames.goes (def.task_at self.old t).frame to 0 []) }
+        ensures { self.new ≡ effect.joined self.old t s
+            (frames.goes (def.task_at self.old t).frame to 0 []) }
     {
         self.set_phase(s, Phase::Joined);
         self.goes(t, to, 0);
@@ -423,7 +440,8 @@ impl World {
         requires born { t < length self.old.tasks }
         requires lives { living.lives (def.task_at self.old t) ≡ true }
         requires room { length (def.task_at self.old t).frame.operands < 32 }
-        ensures { self.new ≡ effect.joined self.old t s (frames.goes (def.task_at self.old t).frame to 0 (value ∷ [])) }
+        ensures { self.new ≡ effect.joined self.old t s
+            (frames.goes (def.task_at self.old t).frame to 0 (value ∷ [])) }
     {
         self.set_phase(s, Phase::Joined);
         self.goes_with(t, to, 0, value);
@@ -433,7 +451,12 @@ impl World {
     fn attempted(&mut self, t: u32, s: u32, to: u32)
         requires born { t < length self.old.tasks }
         requires lives { living.lives (def.task_at self.old t) ≡ true }
-        ensures { self.new ≡ def.with_task (effect.with_phase self.old s Attempted) t (record (def.task_at self.old t) { frame = frames.goes (def.task_at self.old t).frame to 0 []; flag = false }) }
+        ensures { self.new ≡ def.with_task (effect.with_phase self.old s Attempted) t
+            (record (def.task_at self.old t) {
+              frame = frames.goes
+                  (def.task_at self.old t).frame to 0 [];
+              flag = false;
+            }) }
     {
         self.set_phase(s, Phase::Attempted);
         self.leave_join(t, to);
@@ -442,7 +465,12 @@ impl World {
     fn leave_join(&mut self, t: u32, to: u32)
         requires born { t < length self.old.tasks }
         requires lives { living.lives (def.task_at self.old t) ≡ true }
-        ensures { self.new ≡ def.with_task self.old t (record (def.task_at self.old t) { frame = frames.goes (def.task_at self.old t).frame to 0 []; flag = false }) }
+        ensures { self.new ≡ def.with_task self.old t
+            (record (def.task_at self.old t) {
+              frame = frames.goes
+                  (def.task_at self.old t).frame to 0 [];
+              flag = false;
+            }) }
     {
         self.records.leave_join(t, to);
     }
@@ -453,8 +481,10 @@ impl World {
         requires born { t < length self.old.tasks }
         requires lives { living.lives (def.task_at self.old t) ≡ true }
         requires more { (def.task_at self.old t).frame.pc + 1 < 2 ^ 32 }
-        requires room { (nat_le 32 (length (def.task_at self.old t).frame.operands) && not (facts.is_await_all (def.scope_at self.old s).joiner)) ≡ false }
-        ensures { self.new ≡ effect.join_scope self.old t (def.task_at self.old t).frame s failed timeout interrupted }
+        requires room { (nat_le 32 (length (def.task_at self.old t).frame.operands) &&
+            not (facts.is_await_all (def.scope_at self.old s).joiner)) ≡ false }
+        ensures { self.new ≡ effect.join_scope self.old t
+            (def.task_at self.old t).frame s failed timeout interrupted }
     {
         if self.records.is_expired(s) {
             self.joined(t, s, timeout);
@@ -506,7 +536,9 @@ impl World {
         requires born { t < length self.old.tasks }
         requires lives { living.lives (def.task_at self.old t) ≡ true }
         requires more { (def.task_at self.old t).frame.pc + 1 < 2 ^ 32 }
-        ensures { self.new ≡ def.with_frame self.old t (record (frames.steps (def.task_at self.old t).frame 0 []) { entries = drop 1 (def.task_at self.old t).frame.entries; slots = slots }) }
+        ensures { self.new ≡ def.with_frame self.old t
+            (record (frames.steps (def.task_at self.old t).frame 0 [])
+            { entries = drop 1 (def.task_at self.old t).frame.entries; slots = slots }) }
     {
         self.records.leave_close(t, slots);
     }
@@ -546,7 +578,8 @@ impl World {
         requires more { (def.task_at self.old t).frame.pc + 1 < 2 ^ 32 }
         requires room { length self.old.scopes < 1000000 }
         requires entries { length (def.task_at self.old t).frame.entries < 16 }
-        ensures ok { OnOk result (self.new ≡ effect.open_scope self.old t (def.task_at self.old t).frame slot joiner timed) }
+        ensures ok { OnOk result (self.new ≡ effect.open_scope self.old t
+            (def.task_at self.old t).frame slot joiner timed) }
         ensures err { OnErr result (self.new ≡ self.old) }
     {
         self.families.reserve(1)?;
@@ -573,10 +606,12 @@ impl World {
         requires lives { living.lives (def.task_at self.old t) ≡ true }
         requires more { (def.task_at self.old t).frame.pc + 1 < 2 ^ 32 }
         requires room { length self.old.tasks < 1000000 }
-        requires enough { (routine program.now function).args ≤ length (def.task_at self.old t).frame.operands }
+        requires enough { (routine program.now function).args ≤
+            length (def.task_at self.old t).frame.operands }
         requires opened { living.is_closed (def.scope_at self.old s).phase ≡ false }
         requires few { standing.standing_tasks self.old < 65536 }
-        ensures ok { OnOk result (self.new ≡ effect.fork_task program.now self.old t (def.task_at self.old t).frame s function handle) }
+        ensures ok { OnOk result (self.new ≡ effect.fork_task program.now self.old t
+            (def.task_at self.old t).frame s function handle) }
         ensures err { OnErr result (self.new ≡ self.old) }
     {
         let child = self.records.tasks_born() as u32;
