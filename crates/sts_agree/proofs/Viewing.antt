@@ -56,7 +56,7 @@ module _ {E : Type 0} (b : Beside E) where
   task_from n (o ∷ xs) zero = rw (zero_more n) refl
   task_from n (o ∷ xs) (suc k) = rw (suc_more n k) (task_from (suc n) xs k)
 
-  task_is : (f : Forest E) (t : ℕ) → task_in (view_of b f) t ≡ option_map (task_seen b t) (get_or f.tasks t None)
+  pub task_is : (f : Forest E) (t : ℕ) → task_in (view_of b f) t ≡ option_map (task_seen b t) (get_or f.tasks t None)
   task_is f t = let z = from_zero t in rw z at (task_from 0 f.tasks t)
 
   set_from : (n : ℕ) (xs : List (Option Task)) (k : ℕ) (y : Task) → tasks_from b n (set xs k (Some y)) ≡ set (tasks_from b n xs) k (Some (task_seen b (n + k) y))
@@ -85,7 +85,7 @@ module _ {E : Type 0} (b : Beside E) where
       ap (λ l. record { tasks = l; scopes = map (option_map (scope_seen b)) f.scopes; root_end = b.root_end })
       (set_is f.tasks t y ∙ ap (λ o. set (tasks_from b 0 f.tasks) t o) (ap (λ z. Some z) same ∙ sym (ap (option_map change) (task_is f t ∙ ap (option_map (task_seen b t)) is))))
 
-  scope_is : (f : Forest E) (s : ℕ) → scope_in (view_of b f) s ≡ option_map (scope_seen b) (get_or f.scopes s None)
+  pub scope_is : (f : Forest E) (s : ℕ) → scope_in (view_of b f) s ≡ option_map (scope_seen b) (get_or f.scopes s None)
   scope_is f s = map_at (scope_seen b) f.scopes s
 
   pub view_scope : (f : Forest E) (s : ℕ) (c d : Scope E) (change : LiveScope → LiveScope) → ScopeAt f s c → scope_seen b d ≡ change (scope_seen b c) → view_of b (with_scope f s d) ≡ with_live_scope (view_of b f) s change
@@ -119,7 +119,7 @@ module _ {E : Type 0} (b : Beside E) where
       ap (λ l. record { tasks = l; scopes = map (option_map (scope_seen b)) f.scopes; root_end = b.root_end })
       (map_from 0 (option_map (raise s)) (option_map (live_raise s)) (raise_option s) f.tasks)
 
-  scope_there : (f : Forest E) (s : ℕ) (c : Scope E) → ScopeAt f s c → live_scope_at (view_of b f) s ≡ scope_seen b c
+  pub scope_there : (f : Forest E) (s : ℕ) (c : Scope E) → ScopeAt f s c → live_scope_at (view_of b f) s ≡ scope_seen b c
   scope_there f s c is = ap (λ o. unwrap_or o no_live_scope) (scope_is f s ∙ ap (option_map (scope_seen b)) is)
 
   pub cancelled_is : (f : Forest E) (s : ℕ) (c : Scope E) → ScopeAt f s c → view_of b (cancel f s c) ≡ live_cancel (view_of b f) s

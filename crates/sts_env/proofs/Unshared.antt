@@ -10,7 +10,7 @@ not_both : (k : ℕ) (xs ys : List ℕ) → NotIn k xs → NotIn k ys → NotIn 
 not_both k [] ys h l = l
 not_both k (x ∷ xs) ys h l = (h.0, not_both k xs ys h.1 l)
 
-not_front : (k : ℕ) (xs ys : List ℕ) → NotIn k (xs ++ ys) → NotIn k xs
+pub not_front : (k : ℕ) (xs ys : List ℕ) → NotIn k (xs ++ ys) → NotIn k xs
 not_front k [] ys h = tt
 not_front k (x ∷ xs) ys h = (h.0, not_front k xs ys h.1)
 

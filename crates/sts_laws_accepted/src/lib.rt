@@ -6,10 +6,12 @@ ghost use Rattle.sts_code.specs.Checks.{program_fault};
 ghost use Rattle.sts_runs.specs.Runs.{NeverFaults};
 ghost use Rattle.sts_laws_accepted.specs.Accepted.{main_of, BudgetsArePrinted, LivingTasksAreFine, AStepIsLeft, RoomIsLeft, LimitsHold};
 ghost use Rattle.sts_laws_accepted.specs.EveryRun.{RunsWell};
+ghost use Rattle.sts_laws_accepted.specs.Views.{BindingsAreSeen, ViewsAreWithin, ViewsHaveRoom};
 ghost use Rattle.sts_rules.specs.Refusal.{IsAccepted, IsBudgetOf};
 ghost use Rattle.sts_model.specs.declared.event.Event.{Event};
 ghost use Rattle.sts_seen.specs.Seen.{TurnsAreSeen};
 ghost use Rattle.sts_views.specs.Fine.{TurnsAreSafe};
+ghost use Rattle.sts_views.specs.Stands.{StandsStay};
 ghost use Rattle.sts_views.specs.Waking.{OthersStay, ReadyStays};
 
 use sts_laws::{closed_is_empty, root_ends_last, some_task_steps};
@@ -128,4 +130,44 @@ pub fn ready_stays(verified: &Verified)
 {
     never_faults(verified);
     sts_views::ready_stays();
+}
+
+/// An event moves no task but the one whose step it is: who lives goes on living, and stands where it
+/// stood.
+pub fn stands_stay(verified: &Verified)
+    ensures { StandsStay verified.now }
+{
+    never_faults(verified);
+    sts_views::stands_stay();
+}
+
+/// As many bindings are open in the living tasks of a view as stand: a record for each of them is all
+/// that a machine keeps of bindings.
+pub fn bindings_are_seen(verified: &Verified)
+    ensures { BindingsAreSeen verified.now }
+{
+    main_budgets(verified);
+    sts_laws_costs::idle_have_no_entries();
+}
+
+/// No more tasks, scopes and bindings stand in a view than the budgets of `main`.
+pub fn views_are_within(verified: &Verified)
+    ensures { ViewsAreWithin verified.now }
+{
+    main_budgets(verified);
+    bindings_are_seen(verified);
+    sts_seen::standing_is_seen();
+    sts_laws_costs::tasks_are_within();
+    sts_laws_costs::scopes_are_within();
+    sts_laws_costs::binds_are_within();
+}
+
+/// Where the next instruction of a living task opens a scope, binds or forks, less stands in the view
+/// than the budgets of `main`: so records that were made by the budget are never all in use.
+pub fn views_have_room(verified: &Verified)
+    ensures { ViewsHaveRoom verified.now }
+{
+    bindings_are_seen(verified);
+    room_is_left(verified);
+    sts_seen::standing_is_seen();
 }

@@ -140,13 +140,13 @@ fn is_illegal(world: &World, program: &Program, frame: &Frame, instr: Instr) -> 
         },
         Instr::Get(x) => match slot(frame, x) {
             Slot::Sub(t) => {
-                !(is_readable_of(records, program.profile(), t) && is_success(records.sub_state(t)))
+                !(is_readable_of(records, program.profile(), t) && is_success(world.sub_state(t)))
             }
             _ => false,
         },
         Instr::Except(x) => match slot(frame, x) {
             Slot::Sub(t) => {
-                !(is_readable_of(records, program.profile(), t) && is_failed(records.sub_state(t)))
+                !(is_readable_of(records, program.profile(), t) && is_failed(world.sub_state(t)))
             }
             _ => false,
         },

@@ -49,10 +49,11 @@ fn top(records: &Records, t: u32) -> i64
 }
 
 /// Where `case` goes for this subtask.
-fn case_target(records: &Records, sub: u32, success: u32, failed: u32, otherwise: u32) -> u32
-    ensures { result ≡ effect.case_target (living.sub_state records.now sub) success failed otherwise }
+fn case_target(world: &World, sub: u32, success: u32, failed: u32, otherwise: u32) -> u32
+    ensures { result ≡ effect.case_target (living.sub_state world.now sub)
+        success failed otherwise }
 {
-    match records.sub_state(sub) {
+    match world.sub_state(sub) {
         None => otherwise,
         Some(End::Success(_)) => success,
         Some(End::Failed(_)) => failed,
@@ -60,10 +61,10 @@ fn case_target(records: &Records, sub: u32, success: u32, failed: u32, otherwise
 }
 
 /// The value or code that a subtask ended with, or 0.
-fn value_or_zero(records: &Records, sub: u32) -> i64
-    ensures { result ≡ effect.value_or_zero (living.sub_state records.now sub) }
+fn value_or_zero(world: &World, sub: u32) -> i64
+    ensures { result ≡ effect.value_or_zero (living.sub_state world.now sub) }
 {
-    match records.sub_state(sub) {
+    match world.sub_state(sub) {
         None => 0,
         Some(End::Success(value)) => value,
         Some(End::Failed(code)) => code,
@@ -76,7 +77,8 @@ fn push_value(world: &mut World, t: u32, n: usize, value: i64)
     requires lives { living.lives (def.task_at world.old t) ≡ true }
     requires more { (def.task_at world.old t).frame.pc + 1 < 2 ^ 32 }
     requires room { length (def.task_at world.old t).frame.operands - n < 32 }
-    ensures { world.new ≡ def.with_frame world.old t (frames.steps (def.task_at world.old t).frame n (value ∷ [])) }
+    ensures { world.new ≡ def.with_frame world.old t
+        (frames.steps (def.task_at world.old t).frame n (value ∷ [])) }
 {
     let next = world.records().frame(t).pc + 1;
     world.goes_with(t, next, n, value);
@@ -88,7 +90,9 @@ pub fn act(world: &mut World, alloc: Global, program: &Program, t: u32) -> Resul
     requires born { t < length world.old.tasks }
     requires lives { living.lives (def.task_at world.old t) ≡ true }
     requires fine { misuse.misuse program.now world.old t ≡ None }
-    ensures ok { OnOk result (world.new ≡ run.perform program.now world.old t (def.task_at world.old t).frame (def.instr_at program.now (def.task_at world.old t).frame)) }
+    ensures ok { OnOk result (world.new ≡ run.perform program.now world.old t
+        (def.task_at world.old t).frame (def.instr_at program.now
+        (def.task_at world.old t).frame)) }
     ensures err { OnErr result (world.new ≡ world.old) }
 {
     match instr_at(program, world.records().frame(t)) {
@@ -112,7 +116,8 @@ fn perform(
     requires more { (def.task_at world.old t).frame.pc + 1 < 2 ^ 32 }
     requires short { length (def.code program.now (def.task_at world.old t).frame) < 2 ^ 32 }
     requires fine { IsFine program.now world.old t (def.task_at world.old t).frame instr }
-    ensures ok { OnOk result (world.new ≡ effect.effect program.now world.old t (def.task_at world.old t).frame instr) }
+    ensures ok { OnOk result (world.new ≡ effect.effect program.now world.old t
+        (def.task_at world.old t).frame instr) }
     ensures err { OnErr result (world.new ≡ world.old) }
 {
     match instr {
@@ -153,7 +158,8 @@ fn change(world: &mut World, program: &Program, t: u32, instr: Instr)
     requires short { length (def.code program.now (def.task_at world.old t).frame) < 2 ^ 32 }
     requires fine { IsFine program.now world.old t (def.task_at world.old t).frame instr }
     requires fixed { effect.takes_memory instr ≡ false }
-    ensures { world.new ≡ effect.effect program.now world.old t (def.task_at world.old t).frame instr }
+    ensures { world.new ≡ effect.effect program.now world.old t
+        (def.task_at world.old t).frame instr }
 {
     match instr {
         Instr::Push(_)
@@ -199,12 +205,12 @@ fn change(world: &mut World, program: &Program, t: u32, instr: Instr)
         } => {
             let sub = at_slot(world.records(), t, handle);
             let next = world.records().frame(t).pc + 1;
-            let to = case_target(world.records(), sub, success, failed, next);
+            let to = case_target(world, sub, success, failed, next);
             world.goes(t, to, 0);
         }
         Instr::Get(h) | Instr::Except(h) => {
             let sub = at_slot(world.records(), t, h);
-            let value = value_or_zero(world.records(), sub);
+            let value = value_or_zero(world, sub);
             push_value(world, t, 0, value);
         }
         Instr::Tally(x, kind) => {

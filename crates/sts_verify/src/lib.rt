@@ -3,6 +3,8 @@
 
 #[cfg(test)]
 mod alone;
+#[cfg(test)]
+mod costs;
 pub mod error;
 pub mod laws;
 #[cfg(test)]

@@ -61,7 +61,7 @@ pub(crate) const OPEN: Instr = Instr::Open {
     timed: false,
 };
 
-const FORK: Instr = Instr::Fork {
+pub(crate) const FORK: Instr = Instr::Fork {
     slot: 0,
     function: 0,
     handle: None,
@@ -144,7 +144,7 @@ fn budgets(alloc: Global, code: &[Instr]) -> Result<Option<Budgets>, Fail> {
     }
 }
 
-static SCOPE_IN_A_LOOP: [Instr; 11] = [
+pub(crate) static SCOPE_IN_A_LOOP: [Instr; 11] = [
     Instr::Push(1000),
     Instr::Times(1000),
     OPEN,
@@ -234,7 +234,7 @@ fn too_much_is_told_behind_the_last_instruction(rt: HostRuntime) -> Result<(), F
 }
 
 /// A child that opens 15 scopes, each in the one before it; slot 0 has the scope in which it is forked.
-fn scopes_in_scopes(alloc: Global) -> Result<Vec<Instr>, Fail> {
+pub(crate) fn scopes_in_scopes(alloc: Global) -> Result<Vec<Instr>, Fail> {
     let mut code = Vec::new(alloc);
     for slot in 1..16u8 {
         code.push(Instr::Open {
@@ -262,7 +262,7 @@ fn scopes_in_scopes(alloc: Global) -> Result<Vec<Instr>, Fail> {
 }
 
 /// A child that binds 16 keys, each in the binding before it.
-fn bindings_in_bindings(alloc: Global) -> Result<Vec<Instr>, Fail> {
+pub(crate) fn bindings_in_bindings(alloc: Global) -> Result<Vec<Instr>, Fail> {
     let mut code = Vec::new(alloc);
     for key in 0..16u8 {
         code.push(Instr::Push(1))?;

@@ -6,6 +6,7 @@ ghost use Rattle.sts_code.specs.Program.{Program};
 ghost use Rattle.sts_runs.specs.Runs.{NeverFaults};
 ghost use Rattle.sts_views.specs.Fine.{TurnsAreSafe};
 ghost use Rattle.sts_views.specs.Order.{SeenInOrder};
+ghost use Rattle.sts_views.specs.Stands.{EffectsMoveOne, InterruptsMoveNone, ExpiriesMoveNone, IdleStandFree, StandsAreOwned, StandsStay};
 ghost use Rattle.sts_views.specs.Waking.{OthersStay, ReadyStays};
 
 /// What a live view names stands, who owns it has it as an entry, and environments are those of the
@@ -29,4 +30,36 @@ pub fn ready_stays()
 /// Each task that can step is at an instruction that is no misuse, as the view shows it.
 pub fn turns_are_safe()
     ensures { (p : Program) → NeverFaults p → TurnsAreSafe p }
+{}
+
+/// In a view in order an instruction that is no misuse moves its own task alone: each other task
+/// stands where it stood, and one that the instruction brings to life stands at no scope.
+pub fn effects_move_one()
+    ensures { EffectsMoveOne }
+{}
+
+/// In a view in order an interrupt moves no task.
+pub fn interrupts_move_none()
+    ensures { InterruptsMoveNone }
+{}
+
+/// In a view in order an expiry moves no task.
+pub fn expiries_move_none()
+    ensures { ExpiriesMoveNone }
+{}
+
+/// A task that doesn't live stands at no scope.
+pub fn idle_stand_free()
+    ensures { IdleStandFree }
+{}
+
+/// In a view in order a task stands at scopes of its own alone.
+pub fn stands_are_owned()
+    ensures { StandsAreOwned }
+{}
+
+/// An event moves no task but the one whose step it is: who lives goes on living, and stands where it
+/// stood.
+pub fn stands_stay()
+    ensures { (p : Program) → NeverFaults p → StandsStay p }
 {}

@@ -1,5 +1,6 @@
 pub mod Chaining
 pub mod Counting
+pub mod Ends
 pub mod Environments
 pub mod Finds
 pub mod Keeping

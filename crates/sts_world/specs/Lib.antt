@@ -1,4 +1,5 @@
 pub mod Chains
+pub mod Ends
 pub mod Held
 pub mod Kept
 pub mod Lines

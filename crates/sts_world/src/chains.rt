@@ -74,7 +74,8 @@ impl Chains {
     #[tactic(auto, using(crate::proofs::Chaining::bindings_found))]
     fn is_at(&self, place: usize, bound: Bound, behind: Option<usize>) -> bool
         ensures within { result ≡ true → place < length self.now }
-        ensures link { result ≡ true → link_at self.now place ≡ record { bound = bound; behind = behind } }
+        ensures link { result ≡ true →
+            link_at self.now place ≡ record { bound = bound; behind = behind } }
         ensures older { result ≡ true → is_within place behind ≡ true }
     {
         match self.links.get(place) {
@@ -87,7 +88,8 @@ impl Chains {
     /// given as a hint already.
     fn put(&mut self, bound: Bound, behind: Option<usize>, hint: usize) -> Result<usize, AllocError>
         requires { is_within (length self.old) behind ≡ true }
-        ensures list { IfOk result (λ place. bindings_of self.new (Some place) ≡ bound ∷ bindings_of self.old behind) }
+        ensures list { IfOk result (λ place. bindings_of self.new (Some place) ≡
+            bound ∷ bindings_of self.old behind) }
         ensures within { IfOk result (λ place. place < length self.new) }
         ensures grows { Grows self.old self.new }
     {
@@ -135,7 +137,8 @@ impl Chains {
         hint: usize,
     ) -> Result<Option<usize>, AllocError>
         requires { is_within (length self.old) rest ≡ true }
-        ensures list { IfOk result (λ front. bindings_of self.new front ≡ filter_map scoped.bound_of frame.now.entries ++ bindings_of self.old rest) }
+        ensures list { IfOk result (λ front. bindings_of self.new front ≡
+            filter_map scoped.bound_of frame.now.entries ++ bindings_of self.old rest) }
         ensures within { IfOk result (λ front. is_within (length self.new) front ≡ true) }
         ensures grows { Grows self.old self.new }
     {

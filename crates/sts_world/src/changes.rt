@@ -33,7 +33,8 @@ impl Records {
     pub(crate) fn goes(&mut self, t: u32, to: u32, n: usize)
         requires born { t < length self.old.tasks }
         requires lives { living.lives (def.task_at self.old t) ≡ true }
-        ensures { self.new ≡ def.with_frame self.old t (frames.goes (def.task_at self.old t).frame to n []) }
+        ensures { self.new ≡ def.with_frame self.old t
+            (frames.goes (def.task_at self.old t).frame to n []) }
     {
         self.tasks[t as usize].goes(to, n);
     }
@@ -43,7 +44,8 @@ impl Records {
         requires born { t < length self.old.tasks }
         requires lives { living.lives (def.task_at self.old t) ≡ true }
         requires room { length (def.task_at self.old t).frame.operands - n < 32 }
-        ensures { self.new ≡ def.with_frame self.old t (frames.goes (def.task_at self.old t).frame to n (value ∷ [])) }
+        ensures { self.new ≡ def.with_frame self.old t
+            (frames.goes (def.task_at self.old t).frame to n (value ∷ [])) }
     {
         self.tasks[t as usize].goes_with(to, n, value);
     }
@@ -57,8 +59,11 @@ impl Records {
         requires short { length (def.code program.now (def.task_at self.old t).frame) < 2 ^ 32 }
         requires is_local { frames.is_local instr ≡ true }
         requires room { misuse.overflows program.now (def.task_at self.old t).frame instr ≡ false }
-        requires loops { misuse.breaks_loop program.now (def.task_at self.old t).frame instr ≡ false }
-        ensures { self.new ≡ def.with_frame self.old t (frames.local (def.code program.now (def.task_at self.old t).frame) instr (def.task_at self.old t).frame) }
+        requires loops { misuse.breaks_loop program.now
+            (def.task_at self.old t).frame instr ≡ false }
+        ensures { self.new ≡ def.with_frame self.old t
+            (frames.local (def.code program.now (def.task_at self.old t).frame) instr
+            (def.task_at self.old t).frame) }
     {
         self.tasks[t as usize].local(program, instr);
     }
@@ -109,7 +114,12 @@ impl Records {
     pub(crate) fn leave_join(&mut self, t: u32, to: u32)
         requires born { t < length self.old.tasks }
         requires lives { living.lives (def.task_at self.old t) ≡ true }
-        ensures { self.new ≡ def.with_task self.old t (record (def.task_at self.old t) { frame = frames.goes (def.task_at self.old t).frame to 0 []; flag = false }) }
+        ensures { self.new ≡ def.with_task self.old t
+            (record (def.task_at self.old t) {
+              frame = frames.goes
+                  (def.task_at self.old t).frame to 0 [];
+              flag = false;
+            }) }
     {
         self.tasks[t as usize].leave_join(to);
     }
@@ -119,7 +129,9 @@ impl Records {
         requires born { t < length self.old.tasks }
         requires lives { living.lives (def.task_at self.old t) ≡ true }
         requires more { (def.task_at self.old t).frame.pc + 1 < 2 ^ 32 }
-        ensures { self.new ≡ def.with_frame self.old t (record (frames.steps (def.task_at self.old t).frame 0 []) { entries = drop 1 (def.task_at self.old t).frame.entries; slots = slots }) }
+        ensures { self.new ≡ def.with_frame self.old t
+            (record (frames.steps (def.task_at self.old t).frame 0 [])
+            { entries = drop 1 (def.task_at self.old t).frame.entries; slots = slots }) }
     {
         self.tasks[t as usize].leave_close(slots);
     }
@@ -185,7 +197,8 @@ impl Records {
     }
 
     pub(crate) fn set_expired(&mut self, s: u32)
-        ensures { self.new ≡ def.with_scope self.old s (record (def.scope_at self.old s) { expired = true }) }
+        ensures { self.new ≡ def.with_scope self.old s
+            (record (def.scope_at self.old s) { expired = true }) }
     {
         let s = s as usize;
         if s < self.scopes.len() {
@@ -195,7 +208,8 @@ impl Records {
 
     /// Tells a scope of an end.
     pub(crate) fn tell(&mut self, s: u32, t: u32, end: End) -> Result<(), AllocError>
-        ensures ok { OnOk result (self.new ≡ def.with_scope self.old s (effect.told (def.scope_at self.old s) t end)) }
+        ensures ok { OnOk result (self.new ≡ def.with_scope self.old s
+            (effect.told (def.scope_at self.old s) t end)) }
         ensures err { OnErr result (self.new ≡ self.old) }
     {
         let s = s as usize;
@@ -208,7 +222,8 @@ impl Records {
     }
 
     fn set_cancelled(&mut self, s: u32)
-        ensures { self.new ≡ def.with_scope self.old s (record (def.scope_at self.old s) { cancelled = true }) }
+        ensures { self.new ≡ def.with_scope self.old s
+            (record (def.scope_at self.old s) { cancelled = true }) }
     {
         let s = s as usize;
         if s < self.scopes.len() {
@@ -288,7 +303,8 @@ impl Records {
         requires more { (def.task_at self.old t).frame.pc + 1 < 2 ^ 32 }
         requires room { length self.old.scopes < 1000000 }
         requires entries { length (def.task_at self.old t).frame.entries < 16 }
-        ensures ok { OnOk result (self.new ≡ effect.open_scope self.old t (def.task_at self.old t).frame slot joiner timed) }
+        ensures ok { OnOk result (self.new ≡ effect.open_scope self.old t
+            (def.task_at self.old t).frame slot joiner timed) }
         ensures err { OnErr result (self.new ≡ self.old) }
     {
         let s = self.scopes.len() as u32;
@@ -323,8 +339,10 @@ impl Records {
         requires lives { living.lives (def.task_at self.old t) ≡ true }
         requires more { (def.task_at self.old t).frame.pc + 1 < 2 ^ 32 }
         requires room { length self.old.tasks < 1000000 }
-        requires enough { (routine program.now function).args ≤ length (def.task_at self.old t).frame.operands }
-        ensures ok { OnOk result (self.new ≡ effect.fork_task program.now self.old t (def.task_at self.old t).frame s function handle) }
+        requires enough { (routine program.now function).args ≤
+            length (def.task_at self.old t).frame.operands }
+        ensures ok { OnOk result (self.new ≡ effect.fork_task program.now self.old t
+            (def.task_at self.old t).frame s function handle) }
         ensures err { OnErr result (self.new ≡ self.old) }
     {
         let child = self.tasks.len() as u32;

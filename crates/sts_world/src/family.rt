@@ -73,7 +73,10 @@ impl Family {
     pub fn take_back(&mut self, lives: bool)
         requires some { 0 < length self.old.births }
         requires fits { self.old.living - (if lives then 1 else 0) ≤ length self.old.births - 1 }
-        ensures { self.new ≡ record { births = take (length self.old.births - 1) self.old.births; living = self.old.living - (if lives then 1 else 0) } }
+        ensures { self.new ≡ record {
+          births = take (length self.old.births - 1) self.old.births;
+          living = self.old.living - (if lives then 1 else 0);
+        } }
     {
         self.births.truncate(self.births.len() - 1);
         self.living = self.living.saturating_sub(usize::from(lives));

@@ -61,7 +61,10 @@ pub fn leave_fork(frame: &mut Frame, args: usize, handle: Option<u8>, child: u32
 pub fn leave_open(frame: &mut Frame, slot: u8, s: u32)
     requires more { frame.old.pc + 1 < 2 ^ 32 }
     requires entries { length frame.old.entries < 16 }
-    ensures { frame.new ≡ record (local.steps frame.old 0 []) { entries = entries.Scope s ∷ frame.old.entries; slots = slice_set frame.old.slots slot (slots.Own s) } }
+    ensures { frame.new ≡ record (local.steps frame.old 0 []) {
+      entries = entries.Scope s ∷ frame.old.entries;
+      slots = slice_set frame.old.slots slot (slots.Own s);
+    } }
 {
     let next = frame.pc + 1;
     frame.goes(next, 0);
@@ -72,7 +75,8 @@ pub fn leave_open(frame: &mut Frame, slot: u8, s: u32)
 /// The frame after a `close` has ended, with these slots.
 pub fn leave_close(frame: &mut Frame, slots: [Slot; 16])
     requires { frame.old.pc + 1 < 2 ^ 32 }
-    ensures { frame.new ≡ record (local.steps frame.old 0 []) { entries = drop 1 frame.old.entries; slots = slots } }
+    ensures { frame.new ≡ record (local.steps frame.old 0 [])
+        { entries = drop 1 frame.old.entries; slots = slots } }
 {
     let next = frame.pc + 1;
     frame.goes(next, 0);
@@ -83,7 +87,8 @@ pub fn leave_close(frame: &mut Frame, slots: [Slot; 16])
 /// Empties a slot.
 pub fn forget(frame: &mut Frame, x: u8)
     requires { frame.old.pc + 1 < 2 ^ 32 }
-    ensures { frame.new ≡ record (local.steps frame.old 0 []) { slots = slice_set frame.old.slots x slots.Empty } }
+    ensures { frame.new ≡ record (local.steps frame.old 0 [])
+        { slots = slice_set frame.old.slots x slots.Empty } }
 {
     let next = frame.pc + 1;
     frame.goes(next, 0);
@@ -94,7 +99,8 @@ pub fn forget(frame: &mut Frame, x: u8)
 pub fn bind(frame: &mut Frame, k: u8)
     requires more { frame.old.pc + 1 < 2 ^ 32 }
     requires entries { length frame.old.entries < 16 }
-    ensures { frame.new ≡ record (local.steps frame.old 1 []) { entries = entries.Binding k (local.operand frame.old 0) ∷ frame.old.entries } }
+    ensures { frame.new ≡ record (local.steps frame.old 1 [])
+        { entries = entries.Binding k (local.operand frame.old 0) ∷ frame.old.entries } }
 {
     let value = frame.operand(0);
     let next = frame.pc + 1;
@@ -105,7 +111,8 @@ pub fn bind(frame: &mut Frame, k: u8)
 /// Ends the innermost binding.
 pub fn unbind(frame: &mut Frame)
     requires { frame.old.pc + 1 < 2 ^ 32 }
-    ensures { frame.new ≡ record (local.steps frame.old 0 []) { entries = drop 1 frame.old.entries } }
+    ensures { frame.new ≡ record (local.steps frame.old 0 [])
+        { entries = drop 1 frame.old.entries } }
 {
     let next = frame.pc + 1;
     frame.goes(next, 0);

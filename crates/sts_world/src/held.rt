@@ -105,7 +105,8 @@ pub fn resting_entry(
     scope: u32,
 ) -> Result<RestingFrame, AllocError>
     requires { args ≤ length forker.now.operands }
-    ensures { IfOk result (λ r. whole r ≡ def.entry_frame function (reverse (take args forker.now.operands)) (Lent scope)) }
+    ensures { IfOk result (λ r. whole r ≡ def.entry_frame function
+        (reverse (take args forker.now.operands)) (Lent scope)) }
 {
     let locals = arguments(alloc, args as usize, forker)?;
     Ok(RestingFrame {

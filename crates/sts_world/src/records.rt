@@ -14,7 +14,7 @@ use crate::task::TaskRecord;
 use std::marker::Model;
 use sts_code::instr::Joiner;
 use sts_model::event::{End, Phase};
-use sts_model::record::{Completion, Frame};
+use sts_model::record::Frame;
 
 /// The tasks and the scopes by birth number: contracts see the two lists.
 #[derive(Drop)]
@@ -42,13 +42,6 @@ pub fn can_join(phase: Phase) -> bool
     ensures { result ≡ misuse.can_join phase }
 {
     matches!(phase, Phase::Opened | Phase::Attempted)
-}
-
-/// The end of a subtask, as these completions have it.
-fn completion_of(completions: &[Completion], t: u32) -> Option<End>
-    ensures { result ≡ living.completion_of completions.now t }
-{
-    completions.iter().find(|c| c.task == t).map(|c| c.end)
 }
 
 impl Records {
@@ -105,14 +98,21 @@ impl Records {
         }
     }
 
+    /// How a task ended, if it has.
+    pub fn outcome(&self, t: u32) -> Option<End>
+        ensures { result ≡ (def.task_at self.now t).outcome }
+    {
+        match self.tasks.get(t as usize) {
+            Some(task) => task.outcome(),
+            None => None,
+        }
+    }
+
     /// The root's end.
     pub fn root_end(&self) -> Option<End>
         ensures { result ≡ (def.task_at self.now 0).outcome }
     {
-        match self.tasks.get(0) {
-            Some(task) => task.outcome(),
-            None => None,
-        }
+        self.outcome(0)
     }
 
     /// A scope as it is kept.
@@ -173,26 +173,6 @@ impl Records {
         ensures { result ≡ outside.can_expire (def.scope_at self.now s) }
     {
         self.is_timed(s) && !self.is_expired(s) && can_join(self.phase(s))
-    }
-
-    /// The completions of a scope, in their order.
-    fn completions(&self, s: u32) -> &[Completion]
-        ensures { result.now ≡ (def.scope_at self.now s).completions }
-    {
-        match self.scope(s) {
-            Some(scope) => scope.completions.as_slice(),
-            None => &[],
-        }
-    }
-
-    /// The end of a subtask, where its scope was told of it.
-    pub fn sub_state(&self, t: u32) -> Option<End>
-        ensures { result ≡ living.sub_state self.now t }
-    {
-        match self.parent(t) {
-            Some(s) => completion_of(self.completions(s), t),
-            None => None,
-        }
     }
 
     fn value_kept(&self, scope: Option<u32>, k: u8) -> Option<i64>

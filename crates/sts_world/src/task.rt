@@ -61,7 +61,14 @@ impl Model for TaskRecord {
 impl TaskRecord {
     /// The root task, at the beginning of a function.
     pub fn root(alloc: Global, function: u32) -> Result<TaskRecord, AllocError>
-        ensures { IfOk result (λ t. t ≡ record { frame = def.entry_frame function [] Empty; started = true; flag = false; scope = None; outcome = None }) }
+        ensures { IfOk result
+            (λ t. t ≡ record {
+              frame = def.entry_frame function [] Empty;
+              started = true;
+              flag = false;
+              scope = None;
+              outcome = None;
+            }) }
     {
         let frame = Box::new(alloc, root_frame(function))?;
         Ok(TaskRecord {
@@ -85,7 +92,16 @@ impl TaskRecord {
     ) -> Result<TaskRecord, AllocError>
         requires few { args ≤ 16 }
         requires enough { args ≤ length forker.now.operands }
-        ensures { IfOk result (λ t. t ≡ record { frame = def.entry_frame function (reverse (take args forker.now.operands)) (Lent scope); started = started; flag = false; scope = Some scope; outcome = None }) }
+        ensures { IfOk result
+            (λ t. t ≡
+            record {
+              frame = def.entry_frame function (reverse (take args forker.now.operands))
+                  (Lent scope);
+              started = started;
+              flag = false;
+              scope = Some scope;
+              outcome = None;
+            }) }
     {
         let frame = if started {
             let frame = entry_frame(function, args, forker, Slot::Lent(scope));
@@ -162,7 +178,8 @@ impl TaskRecord {
         rest: Option<usize>,
     ) -> Result<Option<usize>, AllocError>
         requires { is_within (length chains.old) rest ≡ true }
-        ensures list { IfOk result (λ front. bindings_of chains.new front ≡ scoped.own_bindings self.now ++ bindings_of chains.old rest) }
+        ensures list { IfOk result (λ front. bindings_of chains.new front ≡
+            scoped.own_bindings self.now ++ bindings_of chains.old rest) }
         ensures within { IfOk result (λ front. is_within (length chains.new) front ≡ true) }
         ensures grows { Grows chains.old chains.new }
     {
@@ -190,7 +207,8 @@ impl TaskRecord {
     pub fn goes_with(&mut self, to: u32, n: usize, value: i64)
         requires lives { living.lives self.old ≡ true }
         requires room { length self.old.frame.operands - n < 32 }
-        ensures { self.new ≡ record self.old { frame = frames.goes self.old.frame to n (value ∷ []) } }
+        ensures { self.new ≡
+            record self.old { frame = frames.goes self.old.frame to n (value ∷ []) } }
     {
         if let HeldFrame::Living(frame) = &mut self.frame {
             frame.goes_with(to, n, value);
@@ -206,7 +224,11 @@ impl TaskRecord {
         requires is_local { frames.is_local instr ≡ true }
         requires room { misuse.overflows program.now self.old.frame instr ≡ false }
         requires loops { misuse.breaks_loop program.now self.old.frame instr ≡ false }
-        ensures { self.new ≡ record self.old { frame = frames.local (def.code program.now self.old.frame) instr self.old.frame } }
+        ensures { self.new ≡
+            record self.old {
+              frame = frames.local
+                  (def.code program.now self.old.frame) instr self.old.frame;
+            } }
     {
         if let HeldFrame::Living(frame) = &mut self.frame {
             let instructions = code(program, frame);
@@ -218,7 +240,11 @@ impl TaskRecord {
     pub fn forget(&mut self, x: u8)
         requires lives { living.lives self.old ≡ true }
         requires more { self.old.frame.pc + 1 < 2 ^ 32 }
-        ensures { self.new ≡ record self.old { frame = record (frames.steps self.old.frame 0 []) { slots = slice_set self.old.frame.slots x Empty } } }
+        ensures { self.new ≡
+            record self.old {
+              frame = record (frames.steps self.old.frame 0 [])
+                  { slots = slice_set self.old.frame.slots x Empty };
+            } }
     {
         if let HeldFrame::Living(frame) = &mut self.frame {
             forget(frame, x);
@@ -230,7 +256,13 @@ impl TaskRecord {
         requires lives { living.lives self.old ≡ true }
         requires more { self.old.frame.pc + 1 < 2 ^ 32 }
         requires entries { length self.old.frame.entries < 16 }
-        ensures { self.new ≡ record self.old { frame = record (frames.steps self.old.frame 1 []) { entries = entries.Binding k (frames.operand self.old.frame 0) ∷ self.old.frame.entries } } }
+        ensures { self.new ≡
+            record self.old {
+              frame = record (frames.steps self.old.frame 1 []) {
+                entries = entries.Binding k (frames.operand self.old.frame 0) ∷
+                    self.old.frame.entries;
+              };
+            } }
     {
         if let HeldFrame::Living(frame) = &mut self.frame {
             bind(frame, k);
@@ -241,7 +273,11 @@ impl TaskRecord {
     pub fn unbind(&mut self)
         requires lives { living.lives self.old ≡ true }
         requires more { self.old.frame.pc + 1 < 2 ^ 32 }
-        ensures { self.new ≡ record self.old { frame = record (frames.steps self.old.frame 0 []) { entries = drop 1 self.old.frame.entries } } }
+        ensures { self.new ≡
+            record self.old {
+              frame = record (frames.steps self.old.frame 0 [])
+                  { entries = drop 1 self.old.frame.entries };
+            } }
     {
         if let HeldFrame::Living(frame) = &mut self.frame {
             unbind(frame);
@@ -253,7 +289,12 @@ impl TaskRecord {
         requires lives { living.lives self.old ≡ true }
         requires more { self.old.frame.pc + 1 < 2 ^ 32 }
         requires room { length self.old.frame.operands < 32 }
-        ensures { self.new ≡ record self.old { frame = frames.steps self.old.frame 0 (frames.truth self.old.flag ∷ []); flag = false } }
+        ensures { self.new ≡
+            record self.old {
+              frame = frames.steps self.old.frame 0
+                  (frames.truth self.old.flag ∷ []);
+              flag = false;
+            } }
     {
         if let HeldFrame::Living(frame) = &mut self.frame {
             let next = frame.pc + 1;
@@ -265,7 +306,10 @@ impl TaskRecord {
     /// Leaves a `join` that was interrupted.
     pub fn leave_join(&mut self, to: u32)
         requires lives { living.lives self.old ≡ true }
-        ensures { self.new ≡ record self.old { frame = frames.goes self.old.frame to 0 []; flag = false } }
+        ensures { self.new ≡ record self.old {
+          frame = frames.goes self.old.frame to 0 [];
+          flag = false;
+        } }
     {
         if let HeldFrame::Living(frame) = &mut self.frame {
             frame.goes(to, 0);
@@ -277,7 +321,11 @@ impl TaskRecord {
     pub fn leave_close(&mut self, slots: [Slot; 16])
         requires lives { living.lives self.old ≡ true }
         requires more { self.old.frame.pc + 1 < 2 ^ 32 }
-        ensures { self.new ≡ record self.old { frame = record (frames.steps self.old.frame 0 []) { entries = drop 1 self.old.frame.entries; slots = slots } } }
+        ensures { self.new ≡
+            record self.old {
+              frame = record (frames.steps self.old.frame 0 [])
+                  { entries = drop 1 self.old.frame.entries; slots = slots };
+            } }
     {
         if let HeldFrame::Living(frame) = &mut self.frame {
             leave_close(frame, slots);
@@ -289,7 +337,13 @@ impl TaskRecord {
         requires lives { living.lives self.old ≡ true }
         requires more { self.old.frame.pc + 1 < 2 ^ 32 }
         requires entries { length self.old.frame.entries < 16 }
-        ensures { self.new ≡ record self.old { frame = record (frames.steps self.old.frame 0 []) { entries = entries.Scope s ∷ self.old.frame.entries; slots = slice_set self.old.frame.slots slot (Own s) } } }
+        ensures { self.new ≡
+            record self.old {
+              frame = record (frames.steps self.old.frame 0 []) {
+                entries = entries.Scope s ∷ self.old.frame.entries;
+                slots = slice_set self.old.frame.slots slot (Own s);
+              };
+            } }
     {
         if let HeldFrame::Living(frame) = &mut self.frame {
             leave_open(frame, slot, s);
@@ -301,7 +355,8 @@ impl TaskRecord {
     pub fn leave_fork(&mut self, args: usize, handle: Option<u8>, child: u32)
         requires lives { living.lives self.old ≡ true }
         requires more { self.old.frame.pc + 1 < 2 ^ 32 }
-        ensures { self.new ≡ record self.old { frame = effect.forked self.old.frame args handle child } }
+        ensures { self.new ≡
+            record self.old { frame = effect.forked self.old.frame args handle child } }
     {
         if let HeldFrame::Living(frame) = &mut self.frame {
             leave_fork(frame, args, handle, child);
@@ -328,7 +383,10 @@ impl TaskRecord {
     pub fn end(&mut self, alloc: Global, end: End)
         requires lives { living.lives self.old ≡ true }
         requires more { self.old.frame.pc + 1 < 2 ^ 32 }
-        ensures { self.new ≡ record self.old { frame = frames.steps self.old.frame 1 []; outcome = Some end } }
+        ensures { self.new ≡ record self.old {
+          frame = frames.steps self.old.frame 1 [];
+          outcome = Some end;
+        } }
     {
         if let HeldFrame::Living(frame) = &mut self.frame {
             let next = frame.pc + 1;

@@ -28,13 +28,14 @@ use sts_model::record::Slot;
 
 /// The tasks and scopes: contracts see the two lists of all that were ever born.
 ///
-/// Beside them it keeps of each scope its subtasks, how many of them live and its joiner's tally, and how many tasks and
-/// scopes stand, so that no call walks over all tasks.
+/// Beside them it keeps of each scope its subtasks, how many of them live and its joiner's tally, of each task whether its
+/// scope was told of its end, and how many tasks and scopes stand, so that no call walks over all tasks or all completions.
 #[derive(Drop)]
 pub struct World {
     records: Records,
     families: Vec<Family>,
     tallies: Vec<Tally>,
+    was_told: Vec<bool>,
     standing_tasks: usize,
     standing_scopes: usize,
 }
@@ -46,10 +47,11 @@ impl Model for World {
 
     ghost view = { λ w. w.records };
 
+    ghost use Rattle.sts_world.specs.Ends.{KnowsEnds};
     ghost use Rattle.sts_world.specs.Kept.{IsKept};
     ghost use Rattle.sts_world.specs.Lines.{lines};
 
-    ghost invariant = { λ w. IsKept (lines w.records) w.families.items w.tallies.items w.standing_tasks w.standing_scopes };
+    ghost invariant = { λ w. IsKept (lines w.records) w.families.items w.tallies.items w.standing_tasks w.standing_scopes × KnowsEnds w.records w.was_told.items };
 }
 
 /// The number, or 0 where the scope is closed.
@@ -83,6 +85,13 @@ fn any_lives(families: &[Family], s: u32) -> bool
         Some(family) => family.any_lives(),
         None => false,
     }
+}
+
+/// Was this task's scope told of its end?
+fn is_told(was_told: &[bool], t: u32) -> bool
+    ensures { result ≡ slice_index_or was_told.now t false }
+{
+    was_told.get(t as usize).copied().unwrap_or(false)
 }
 
 // ---- what is read
@@ -137,9 +146,24 @@ impl World {
         any_lives(&self.families, s)
     }
 
+    /// The end of a subtask, where its scope was told of it.
+    pub fn sub_state(&self, t: u32) -> Option<End>
+        ensures { result ≡ living.sub_state self.now t }
+    {
+        if self.records.parent(t).is_some() && is_told(&self.was_told, t) {
+            self.records.outcome(t)
+        } else {
+            None
+        }
+    }
+
     /// How many subtasks completed as successes, and how many as failures.
     fn completed(&self, s: u32) -> (u32, u32)
-        ensures { result ≡ (count_by joining.is_success (living.ends (def.scope_at self.now s)), count_by joining.is_failure (living.ends (def.scope_at self.now s))) }
+        ensures { result ≡ (
+          count_by joining.is_success (living.ends (def.scope_at self.now s)),
+          count_by
+              joining.is_failure (living.ends (def.scope_at self.now s)),
+        ) }
     {
         match self.tallies.get(s as usize) {
             Some(tally) => (tally.successes(), tally.failures()),
@@ -178,7 +202,8 @@ impl World {
 
     /// The joiner's answer.
     fn verdict(&self, s: u32) -> Verdict
-        ensures { result ≡ joining.result_of (def.scope_at self.now s).joiner (living.ends (def.scope_at self.now s)) (living.subtask_count self.now s) }
+        ensures { result ≡ joining.result_of (def.scope_at self.now s).joiner
+            (living.ends (def.scope_at self.now s)) (living.subtask_count self.now s) }
     {
         let count = self.subtask_count(s) as u32;
         match self.tallies.get(s as usize) {
@@ -195,7 +220,8 @@ impl World {
     pub fn goes(&mut self, t: u32, to: u32, n: usize)
         requires born { t < length self.old.tasks }
         requires lives { living.lives (def.task_at self.old t) ≡ true }
-        ensures { self.new ≡ def.with_frame self.old t (frames.goes (def.task_at self.old t).frame to n []) }
+        ensures { self.new ≡ def.with_frame self.old t
+            (frames.goes (def.task_at self.old t).frame to n []) }
     {
         self.records.goes(t, to, n);
     }
@@ -205,7 +231,8 @@ impl World {
         requires born { t < length self.old.tasks }
         requires lives { living.lives (def.task_at self.old t) ≡ true }
         requires room { length (def.task_at self.old t).frame.operands - n < 32 }
-        ensures { self.new ≡ def.with_frame self.old t (frames.goes (def.task_at self.old t).frame to n (value ∷ [])) }
+        ensures { self.new ≡ def.with_frame self.old t
+            (frames.goes (def.task_at self.old t).frame to n (value ∷ [])) }
     {
         self.records.goes_with(t, to, n, value);
     }
@@ -219,8 +246,11 @@ impl World {
         requires short { length (def.code program.now (def.task_at self.old t).frame) < 2 ^ 32 }
         requires is_local { frames.is_local instr ≡ true }
         requires room { misuse.overflows program.now (def.task_at self.old t).frame instr ≡ false }
-        requires loops { misuse.breaks_loop program.now (def.task_at self.old t).frame instr ≡ false }
-        ensures { self.new ≡ def.with_frame self.old t (frames.local (def.code program.now (def.task_at self.old t).frame) instr (def.task_at self.old t).frame) }
+        requires loops { misuse.breaks_loop program.now
+            (def.task_at self.old t).frame instr ≡ false }
+        ensures { self.new ≡ def.with_frame self.old t
+            (frames.local (def.code program.now (def.task_at self.old t).frame) instr
+            (def.task_at self.old t).frame) }
     {
         self.records.local(program, t, instr);
     }
@@ -296,7 +326,8 @@ impl World {
     }
 
     fn set_expired(&mut self, s: u32)
-        ensures { self.new ≡ def.with_scope self.old s (record (def.scope_at self.old s) { expired = true }) }
+        ensures { self.new ≡ def.with_scope self.old s
+            (record (def.scope_at self.old s) { expired = true }) }
     {
         self.records.set_expired(s);
     }
@@ -334,6 +365,7 @@ impl World {
     {
         let parent = self.records.parent(t);
         self.records.set_end(alloc, t, end);
+        self.was_told[t as usize] = false;
         match parent {
             None => {}
             Some(s) => self.families[s as usize].lose(),
@@ -346,12 +378,17 @@ impl World {
         requires lives { living.lives (def.task_at self.old t) ≡ true }
         requires in_scope { (def.task_at self.old t).scope ≡ Some s }
         requires more { (def.task_at self.old t).frame.pc + 1 < 2 ^ 32 }
-        ensures ok { OnOk result (self.new ≡ effect.ended (def.with_scope self.old s (effect.told (def.scope_at self.old s) t end)) t (def.task_at self.old t).frame end) }
-        ensures asks { IfOk result (λ asks. asks ≡ joining.cancels (def.scope_at self.new s).joiner (living.ends (def.scope_at self.new s))) }
+        ensures ok { OnOk result (self.new ≡ effect.ended
+            (def.with_scope self.old s (effect.told (def.scope_at self.old s) t end)) t
+            (def.task_at self.old t).frame end) }
+        ensures asks { IfOk result (λ asks. asks ≡
+            joining.cancels (def.scope_at self.new s).joiner
+            (living.ends (def.scope_at self.new s))) }
         ensures err { OnErr result (self.new ≡ self.old) }
     {
         self.records.tell(s, t, end)?;
         self.records.set_end(alloc, t, end);
+        self.was_told[t as usize] = true;
         self.families[s as usize].lose();
         Ok(self.tallies[s as usize].on_complete(end))
     }
@@ -362,7 +399,8 @@ impl World {
         requires born { t < length self.old.tasks }
         requires lives { living.lives (def.task_at self.old t) ≡ true }
         requires more { (def.task_at self.old t).frame.pc + 1 < 2 ^ 32 }
-        ensures ok { OnOk result (self.new ≡ effect.end_task self.old t (def.task_at self.old t).frame end) }
+        ensures ok { OnOk result (self.new ≡ effect.end_task self.old t
+            (def.task_at self.old t).frame end) }
         ensures err { OnErr result (self.new ≡ self.old) }
     {
         match self.records.parent(t) {
@@ -390,7 +428,8 @@ impl World {
     fn joined(&mut self, t: u32, s: u32, to: u32)
         requires born { t < length self.old.tasks }
         requires lives { living.lives (def.task_at self.old t) ≡ true }
-        ensures { self.new ≡ effect.joined self.old t s (frames.goes (def.task_at self.old t).frame to 0 []) }
+        ensures { self.new ≡ effect.joined self.old t s
+            (frames.goes (def.task_at self.old t).frame to 0 []) }
     {
         self.set_phase(s, Phase::Joined);
         self.goes(t, to, 0);
@@ -401,7 +440,8 @@ impl World {
         requires born { t < length self.old.tasks }
         requires lives { living.lives (def.task_at self.old t) ≡ true }
         requires room { length (def.task_at self.old t).frame.operands < 32 }
-        ensures { self.new ≡ effect.joined self.old t s (frames.goes (def.task_at self.old t).frame to 0 (value ∷ [])) }
+        ensures { self.new ≡ effect.joined self.old t s
+            (frames.goes (def.task_at self.old t).frame to 0 (value ∷ [])) }
     {
         self.set_phase(s, Phase::Joined);
         self.goes_with(t, to, 0, value);
@@ -411,7 +451,12 @@ impl World {
     fn attempted(&mut self, t: u32, s: u32, to: u32)
         requires born { t < length self.old.tasks }
         requires lives { living.lives (def.task_at self.old t) ≡ true }
-        ensures { self.new ≡ def.with_task (effect.with_phase self.old s Attempted) t (record (def.task_at self.old t) { frame = frames.goes (def.task_at self.old t).frame to 0 []; flag = false }) }
+        ensures { self.new ≡ def.with_task (effect.with_phase self.old s Attempted) t
+            (record (def.task_at self.old t) {
+              frame = frames.goes
+                  (def.task_at self.old t).frame to 0 [];
+              flag = false;
+            }) }
     {
         self.set_phase(s, Phase::Attempted);
         self.leave_join(t, to);
@@ -420,7 +465,12 @@ impl World {
     fn leave_join(&mut self, t: u32, to: u32)
         requires born { t < length self.old.tasks }
         requires lives { living.lives (def.task_at self.old t) ≡ true }
-        ensures { self.new ≡ def.with_task self.old t (record (def.task_at self.old t) { frame = frames.goes (def.task_at self.old t).frame to 0 []; flag = false }) }
+        ensures { self.new ≡ def.with_task self.old t
+            (record (def.task_at self.old t) {
+              frame = frames.goes
+                  (def.task_at self.old t).frame to 0 [];
+              flag = false;
+            }) }
     {
         self.records.leave_join(t, to);
     }
@@ -431,8 +481,10 @@ impl World {
         requires born { t < length self.old.tasks }
         requires lives { living.lives (def.task_at self.old t) ≡ true }
         requires more { (def.task_at self.old t).frame.pc + 1 < 2 ^ 32 }
-        requires room { (nat_le 32 (length (def.task_at self.old t).frame.operands) && not (facts.is_await_all (def.scope_at self.old s).joiner)) ≡ false }
-        ensures { self.new ≡ effect.join_scope self.old t (def.task_at self.old t).frame s failed timeout interrupted }
+        requires room { (nat_le 32 (length (def.task_at self.old t).frame.operands) &&
+            not (facts.is_await_all (def.scope_at self.old s).joiner)) ≡ false }
+        ensures { self.new ≡ effect.join_scope self.old t
+            (def.task_at self.old t).frame s failed timeout interrupted }
     {
         if self.records.is_expired(s) {
             self.joined(t, s, timeout);
@@ -484,7 +536,9 @@ impl World {
         requires born { t < length self.old.tasks }
         requires lives { living.lives (def.task_at self.old t) ≡ true }
         requires more { (def.task_at self.old t).frame.pc + 1 < 2 ^ 32 }
-        ensures { self.new ≡ def.with_frame self.old t (record (frames.steps (def.task_at self.old t).frame 0 []) { entries = drop 1 (def.task_at self.old t).frame.entries; slots = slots }) }
+        ensures { self.new ≡ def.with_frame self.old t
+            (record (frames.steps (def.task_at self.old t).frame 0 [])
+            { entries = drop 1 (def.task_at self.old t).frame.entries; slots = slots }) }
     {
         self.records.leave_close(t, slots);
     }
@@ -498,10 +552,13 @@ impl World {
         ensures { IfOk result (λ w. def.opening program.now ≡ def.Running w) }
     {
         let records = Records::opening(alloc, program)?;
+        let mut was_told = Vec::new(alloc);
+        was_told.push(false)?;
         Ok(World {
             records,
             families: Vec::new(alloc),
             tallies: Vec::new(alloc),
+            was_told,
             standing_tasks: 1,
             standing_scopes: 0,
         })
@@ -521,7 +578,8 @@ impl World {
         requires more { (def.task_at self.old t).frame.pc + 1 < 2 ^ 32 }
         requires room { length self.old.scopes < 1000000 }
         requires entries { length (def.task_at self.old t).frame.entries < 16 }
-        ensures ok { OnOk result (self.new ≡ effect.open_scope self.old t (def.task_at self.old t).frame slot joiner timed) }
+        ensures ok { OnOk result (self.new ≡ effect.open_scope self.old t
+            (def.task_at self.old t).frame slot joiner timed) }
         ensures err { OnErr result (self.new ≡ self.old) }
     {
         self.families.reserve(1)?;
@@ -548,15 +606,18 @@ impl World {
         requires lives { living.lives (def.task_at self.old t) ≡ true }
         requires more { (def.task_at self.old t).frame.pc + 1 < 2 ^ 32 }
         requires room { length self.old.tasks < 1000000 }
-        requires enough { (routine program.now function).args ≤ length (def.task_at self.old t).frame.operands }
+        requires enough { (routine program.now function).args ≤
+            length (def.task_at self.old t).frame.operands }
         requires opened { living.is_closed (def.scope_at self.old s).phase ≡ false }
         requires few { standing.standing_tasks self.old < 65536 }
-        ensures ok { OnOk result (self.new ≡ effect.fork_task program.now self.old t (def.task_at self.old t).frame s function handle) }
+        ensures ok { OnOk result (self.new ≡ effect.fork_task program.now self.old t
+            (def.task_at self.old t).frame s function handle) }
         ensures err { OnErr result (self.new ≡ self.old) }
     {
         let child = self.records.tasks_born() as u32;
         let started = !self.records.is_cancelled(s);
         let tasks = self.standing_tasks();
+        self.was_told.reserve(1)?;
         self.families[s as usize].add(child, started)?;
         if let Err(error) = self
             .records
@@ -565,6 +626,7 @@ impl World {
             self.families[s as usize].take_back(started);
             return Err(error);
         }
+        self.was_told.push(false)?;
         self.standing_tasks = tasks + 1;
         Ok(())
     }

@@ -1,0 +1,107 @@
+-- A store with the root task alone.
+use Rattle.std.proofs.Common.{◌≡◌, ℕ, zero, suc, List, [], ◌∷◌, length, Option, Some, None, refl, sym, ◌∙◌, ap, get_or, subst, ◌++◌, false, true}
+use Rattle.std.specs.Prelude.{is_some, count_by}
+use Rattle.sts_env.specs.Environments.{Records, IsWhole, keys_of}
+use Rattle.sts_forest.specs.Forest.{root}
+use Rattle.sts_forest.specs.declared.record.Task.{Task}
+use Rattle.std.specs.Prelude.{filter_map, replicate, slice_index_or}
+use Rattle.std.specs.List.{list_any}
+use Rattle.sts_model.specs.Environment.{bound_of}
+use Rattle.sts_model.specs.Live.{Live}
+use Rattle.sts_model.specs.Misuse.{is_binding, is_entry_of, slot}
+use Rattle.sts_model.specs.declared.record.Bound.{Bound}
+use Rattle.sts_model.specs.declared.record.Slot.TheVariants.{Empty}
+use Rattle.sts_seen.specs.Reading.{live_task_at, lives_in}
+use Rattle.sts_views.specs.Order.{InOrder, IsInside, LivesInOrder}
+use Rattle.sts_model.specs.declared.record.Entry.{Entry}
+use Rattle.sts_model.specs.declared.record.Frame.{Frame}
+use Rattle.sts_store.specs.declared.running.Running.{Running}
+use Rattle.sts_store.specs.Parts.{Parts, no_running}
+use Rattle.sts_store.specs.Sharing.{Shares, Holder, holder_of, home_at, inherited, Holds}
+use Rattle.sts_store.specs.Stored.{IsStore}
+use Rattle.sts_store.proofs.Views.{just, lives_of}
+
+-- the root task at a frame, with nothing bound
+abbrev pub root_running : Frame → Running
+root_running frame = record { frame = frame; env = no_running.env }
+
+module _ (frame : Frame) (fresh : frame.entries ≡ []) where
+  abbrev pub root_held : List (Option Holder)
+  root_held = Some (holder_of (root_running frame)) ∷ []
+
+  -- what is so of the root is so of every task that lives
+  alone : (P : ℕ → Holder → Type 0) → P zero (holder_of (root_running frame)) → (t : ℕ) (h : Holder) → Holds root_held t h → P t h
+  alone P one zero h e = subst (P zero) (just (holder_of (root_running frame)) h e) one
+  alone P one (suc t) h e = cc
+
+  pub root_shares : (c : Records) → Shares c root_held [] (Some None ∷ []) (λ _. []) (λ _. [])
+  root_shares c =
+      record {
+        whole = alone (λ t h. IsWhole c h.env) refl;
+        kept = λ s k e. cc;
+        tasks = alone (λ t h. keys_of c h.env ≡ [] ++ inherited c [] (home_at (Some None ∷ []) t)) refl;
+        scopes = λ s k e. cc;
+        nested = λ s k e. cc;
+        apart = λ t u k h l e f ne held. tt;
+        count = alone (λ t h. length {A = ℕ} [] ≡ count_by is_binding h.entries) (sym (ap (λ (l : List Entry). count_by is_binding l) fresh));
+        behind = λ s k h e f. cc;
+      }
+
+  -- a tree with the root alone, its frame, and no bindings
+  pub root_store : (m : Parts) → m.tree.tasks ≡ Some root ∷ [] → m.tree.scopes ≡ [] → m.frames.slots ≡ Some (root_running frame) ∷ [] → IsStore m
+  root_store m tasks scopes slots =
+      record {
+        born = ap (λ (l : List (Option Running)). length l) slots ∙ sym (ap (λ (l : List (Option Task)). length l) tasks);
+        alive = λ t. ap (λ (l : List (Option Running)). is_some (get_or l t None)) slots ∙ by t ∙ sym (ap (λ (l : List (Option Task)). lives_of (get_or l t None)) tasks);
+        shared = rw (slots, scopes, tasks) (record { own = λ _. []; outside = λ _. []; shares = root_shares m.chains });
+      }
+    where
+      by : (t : ℕ) → is_some (get_or (Some (root_running frame) ∷ []) t None) ≡ lives_of (get_or (Some root ∷ []) t None)
+      by zero = refl
+      by (suc t) = refl
+
+-- ---- the view of a root task alone
+
+-- the root task with these bindings, and nothing else
+abbrev pub root_bound : Frame → List Bound → Live
+root_bound f env =
+    record {
+      tasks = Some (record { scope = None; state = None; alive = Some (record { frame = f; flag = false; environment = env }) }) ∷ [];
+      scopes = [];
+      root_end = None;
+    }
+
+empty_slot : (n x : ℕ) → slice_index_or (replicate n Empty) x Empty ≡ Empty
+empty_slot zero x = refl
+empty_slot (suc n) zero = refl
+empty_slot (suc n) (suc x) = empty_slot n x
+
+-- it is in order where its slots are empty and its entries are those bindings
+pub root_in_order : (f : Frame) (env : List Bound) (n : ℕ) → f.slots ≡ replicate n Empty → ((s : ℕ) → list_any (is_entry_of s) f.entries ≡ false) → env ≡ filter_map bound_of f.entries ++ [] → InOrder (root_bound f env)
+root_in_order f env n slots entries bound =
+    record {
+      alive = alive;
+      held = λ s e. cc;
+      inside = inside;
+      root = refl;
+    }
+  where
+    nothing : (x : ℕ) → slot f x ≡ Empty
+    nothing x = ap (λ l. slice_index_or l x Empty) slots ∙ empty_slot n x
+
+    inside : (u s : ℕ) → (live_task_at (root_bound f env) u).scope ≡ Some s → IsInside (root_bound f env) u s
+    inside zero s e = cc
+    inside (suc u) s e = cc
+
+    alive : (t : ℕ) → lives_in (root_bound f env) t ≡ true → LivesInOrder (root_bound f env) t
+    alive zero e =
+        record {
+          own = λ x s q. let h = nothing x in cc;
+          lent = λ x s q. let h = nothing x in cc;
+          sub = λ x u q. let h = nothing x in cc;
+          entered = λ s q. let h = entries s in cc;
+          once = λ s q. let h = entries s in cc;
+          environment = bound;
+          state = refl;
+        }
+    alive (suc t) e = cc

@@ -1,0 +1,205 @@
+-- A subtask is forked: what is seen, and what keeps the parts in order.
+use Rattle.std.proofs.Common.{◌≡◌, ◌≢◌, ℕ, zero, suc, ◌+◌, arith, List, [], ◌∷◌, ◌++◌, length, Bool, true, false, Option, Some, None, refl, sym, ◌∙◌, ap, get_or, cond, not, nat_eq, is_some, take, length-append}
+use Rattle.std.proofs.lemmas.Bool.Decides.{nat_tests}
+use Rattle.std.proofs.lemmas.List.{length-map, map-append}
+use Rattle.std.specs.Prelude.{option_map, unwrap_or, reverse}
+use Rattle.sts_code.specs.Program.{Program, routine}
+use Rattle.sts_env.specs.Environments.{Records}
+use Rattle.sts_env.specs.declared.env.Env.{Env}
+use Rattle.sts_forest.specs.Forest.{Forest, subtask}
+use Rattle.sts_forest.specs.declared.record.Task.{Task}
+use Rattle.sts_forest.specs.declared.record.Scope.{Scope}
+use Rattle.sts_forest.proofs.Holding.{map_at, inside_of}
+use Rattle.sts_held.specs.Holes.{Holes}
+use Rattle.sts_model.specs.Effect.{forked}
+use Rattle.sts_model.specs.World.{entry_frame}
+use Rattle.sts_model.specs.Live.{Live, LiveScope, Alive}
+use Rattle.sts_model.specs.declared.event.Stand.TheVariants.{Free}
+use Rattle.sts_model.specs.declared.record.Frame.{Frame}
+use Rattle.sts_model.specs.declared.record.Slot.TheVariants.{Lent}
+use Rattle.sts_tree.specs.Steps.{seen}
+use Rattle.sts_tree.specs.Reading.{lives_at}
+use Rattle.sts_seen.specs.Effect.{live_fork, live_child}
+use Rattle.sts_seen.specs.Reading.{live_scope_at, with_live_frame}
+use Rattle.sts_views.specs.Order.{InOrder}
+use Rattle.sts_agree.specs.View.{Beside, view_of, tasks_from, scope_seen, alive_of}
+use Rattle.sts_agree.proofs.Viewing.{words, scope_there, same_view}
+use Rattle.sts_store.specs.declared.running.Running.{Running}
+use Rattle.sts_store.specs.Parts.{Parts, live_of, beside, bound_in, frame_of, running_at, no_running, stand_of, unseen_of}
+use Rattle.sts_store.specs.Sharing.{Holder, Keeper, holder_of, keeper_of, home_of, holders, keepers}
+use Rattle.sts_store.specs.Stored.{IsStore}
+use Rattle.sts_store.proofs.Views.{Lived, Same, lives_of, same_frame, frame_seen, with_running, tasks_same}
+use Rattle.sts_store.proofs.Keeping.{kept_frame, store_seen, rest_seen}
+use Rattle.sts_store.proofs.Housed.{housed}
+use Rattle.sts_store.proofs.Opening.{fork_shares}
+use Rattle.sts_store.proofs.Shared.{instead}
+
+-- ---- a list with one more
+
+before : {X : Type 0} (xs : List X) (y d : X) (u : ℕ) → u ≢ length xs → get_or (xs ++ y ∷ []) u d ≡ get_or xs u d
+before [] y d zero ne = absurd (ne refl)
+before [] y d (suc u) ne = refl
+before (x ∷ xs) y d zero ne = refl
+before (x ∷ xs) y d (suc u) ne = before xs y d u (λ e. ne (ap suc e))
+
+last : {X : Type 0} (xs : List X) (y d : X) → get_or (xs ++ y ∷ []) (length xs) d ≡ y
+last [] y d = refl
+last (x ∷ xs) y d = last xs y d
+
+length_from : {E : Type 0} (b : Beside E) (n : ℕ) (xs : List (Option Task)) → length (tasks_from b n xs) ≡ length xs
+length_from b n [] = refl
+length_from b n (x ∷ xs) = ap suc (length_from b (suc n) xs)
+
+-- the tree with a subtask more
+abbrev pub with_subtask : Forest Env → ℕ → Bool → List ℕ → ℕ → Forest Env
+with_subtask f s lives keys room = record f { tasks = f.tasks ++ Some (subtask s lives) ∷ []; task_keys = keys; task_room = room }
+
+-- what stands at the next birth
+abbrev pub born_if : Bool → Running → Option Running
+born_if lives child = cond lives (Some child) None
+
+-- what it has, if it lives
+abbrev pub alive_if : Bool → Alive → Option Alive
+alive_if lives alive = cond lives (Some alive) None
+
+-- what a subtask begins with
+abbrev pub fresh_alive : Records → Running → Alive
+fresh_alive c child = record { frame = child.frame; flag = false; environment = bound_in c child.env }
+
+module _ (m : Parts) (is : IsStore m) (s : ℕ) (c : Scope Env) (at : get_or m.tree.scopes s None ≡ Some c) (child : Running) (lives : Bool) (keys : List ℕ) (room : ℕ) (h : Holes Running) (slots : h.slots ≡ m.frames.slots ++ born_if lives child ∷ []) where
+  -- the parts with a subtask more
+  abbrev pub more : Parts
+  more = record m { tree = with_subtask m.tree s lives keys room; frames = h }
+
+  -- the slots of the others are as they were
+  others : (u : ℕ) → u ≢ length m.frames.slots → get_or h.slots u None ≡ get_or m.frames.slots u None
+  others u ne = ap (λ l. get_or l u None) slots ∙ before m.frames.slots (born_if lives child) None u ne
+
+  newest : get_or h.slots (length m.tree.tasks) None ≡ born_if lives child
+  newest = ap (λ l. get_or l (length m.tree.tasks) None) slots ∙ ap (λ n. get_or (m.frames.slots ++ born_if lives child ∷ []) n None) (sym is.born) ∙ last m.frames.slots (born_if lives child) None
+
+  -- what is seen of the old tasks is the same
+  old_seen : view_of (beside more) m.tree ≡ live_of m
+  old_seen = ap (λ l. record { tasks = l; scopes = (live_of m).scopes; root_end = m.root_end }) (tasks_same (beside m) (beside more) m.tree same)
+    where
+      same : (u : ℕ) (x : Task) → get_or m.tree.tasks u None ≡ Some x → x.lives ≡ true → Same (beside m) (beside more) u
+      same u x e l =
+          let less = inside_of m.tree.tasks u (λ none. let never : Some x ≡ None = sym e ∙ none in cc) in
+          let b = is.born in
+          let kept = others u (λ q. absurd (omega (arith, less, b, q))) in
+          record {
+            frame = ap (λ o. (unwrap_or o no_running).frame) kept;
+            bindings = ap (λ o. bound_in m.chains (unwrap_or o no_running).env) kept;
+          }
+
+  alive_new : alive_of (beside more) (length m.tree.tasks) (subtask s lives) ≡ alive_if lives (fresh_alive m.chains child)
+  alive_new = by lives refl
+    where
+      by : (b : Bool) → lives ≡ b → alive_if b (fresh_alive m.chains (running_at more (length m.tree.tasks))) ≡ alive_if b (fresh_alive m.chains child)
+      by true e =
+          let r : running_at more (length m.tree.tasks) ≡ child = ap (λ o. unwrap_or o no_running) (newest ∙ ap (λ b. born_if b child) e) in
+          ap (λ (q : Running). Some (fresh_alive m.chains q)) r
+      by false e = refl
+
+  pub more_seen : live_of more ≡ record (live_of m) { tasks = (live_of m).tasks ++ Some (record { scope = Some s; state = None; alive = alive_if lives (fresh_alive m.chains child) }) ∷ [] }
+  more_seen =
+      words.fork_is (beside more) m.tree s lives keys room
+      ∙ ap (λ a. record (view_of (beside more) m.tree) { tasks = (view_of (beside more) m.tree).tasks ++ Some (record { scope = Some s; state = None; alive = a }) ∷ [] }) alive_new
+      ∙ ap (λ (v : Live). record v { tasks = v.tasks ++ Some (record { scope = Some s; state = None; alive = alive_if lives (fresh_alive m.chains child) }) ∷ [] }) old_seen
+
+  -- ---- the order of the parts
+
+  more_alive : (u : ℕ) → is_some (get_or h.slots u None) ≡ lives_at more.tree u
+  more_alive u = by (nat_eq u (length m.tree.tasks)) refl
+    where
+      some_if : (b : Bool) → is_some (born_if b child) ≡ b
+      some_if true = refl
+      some_if false = refl
+
+      by : (b : Bool) → nat_eq u (length m.tree.tasks) ≡ b → is_some (get_or h.slots u None) ≡ lives_at more.tree u
+      by true q =
+          let e : u ≡ length m.tree.tasks = grind (arith, nat_tests) in
+          rw e (ap (λ (o : Option Running). is_some o) newest ∙ some_if lives ∙ sym (ap lives_of (last m.tree.tasks (Some (subtask s lives)) None)))
+      by false q =
+          let ne : u ≢ length m.tree.tasks = grind (arith, nat_tests) in
+          ap (λ (o : Option Running). is_some o) (others u (λ e. ne (e ∙ is.born))) ∙ is.alive u ∙ sym (ap lives_of (before m.tree.tasks (Some (subtask s lives)) None u ne))
+
+  pub more_kept : InOrder (live_of m) → child.env ≡ c.environment → child.frame.entries ≡ [] → IsStore more
+  more_kept order env entries =
+      record {
+        born = ap (λ (l : List (Option Running)). length l) slots ∙ length-append m.frames.slots (born_if lives child ∷ []) ∙ ap (λ n. n + 1) is.born ∙ sym (length-append m.tree.tasks (Some (subtask s lives) ∷ []));
+        alive = more_alive;
+        shared = rw (slots, map-append (option_map holder_of) m.frames.slots (born_if lives child ∷ []), map-append (option_map home_of) m.tree.tasks (Some (subtask s lives) ∷ [])) (record {
+          own = instead is.shared.own (length (holders m)) [];
+          outside = is.shared.outside;
+          shares = fork_shares is.shared.shares s (keeper_of c) (option_map holder_of (born_if lives child)) (map_at keeper_of m.tree.scopes s ∙ ap (option_map keeper_of) at)
+              (length-map m.tree.tasks (option_map home_of) ∙ sym is.born ∙ sym (length-map m.frames.slots (option_map holder_of)))
+              (fresh lives) owners;
+        });
+      }
+    where
+      fresh : (b : Bool) → (g : Holder) → option_map holder_of (born_if b child) ≡ Some g → (g.env ≡ (keeper_of c).kept) × (g.entries ≡ [])
+      fresh true g e = let is_g : holder_of child ≡ g = cc in (ap (λ (z : Holder). z.env) (sym is_g) ∙ env, ap (λ (z : Holder). z.entries) (sym is_g) ∙ entries)
+      fresh false g e = cc
+
+      owners : (r : ℕ) (x : Keeper) → get_or (keepers m) r None ≡ Some x → x.owner ≢ length (holders m)
+      owners r x e q =
+          let some = (housed m is order).owners r x e in
+          let less = inside_of (holders m) x.owner (λ none. let no : is_some (get_or (holders m) x.owner None) ≡ false = ap (λ (o : Option Holder). is_some o) none in let never : true ≡ false = sym some ∙ no in cc) in
+          absurd (omega (arith, less, q))
+
+-- ---- the forker goes on
+
+-- the view with a subtask more, and another frame
+abbrev forks : Live → ℕ → ℕ → Option Alive → Frame → Live
+forks v t s alive f = with_live_frame (record v { tasks = v.tasks ++ Some (record { scope = Some s; state = None; alive = alive }) ∷ [] }) t f
+
+-- what the subtask has in it
+abbrev forked_alive : Program → LiveScope → Frame → ℕ → ℕ → Option Alive
+forked_alive p scope f s g = cond scope.cancelled None (Some (live_child p scope f s g))
+
+forks_is : (p : Program) (v : Live) (t : ℕ) (f : Frame) (s g : ℕ) (handle : Option ℕ) → live_fork p v t f s g handle ≡ forks v t s (forked_alive p (live_scope_at v s) f s g) (forked f (routine p g).args handle (length v.tasks))
+unfolding live_fork
+forks_is p v t f s g handle = refl
+
+alive_same : (cancelled : Bool) (a b : Alive) → a ≡ b → alive_if (not cancelled) a ≡ cond cancelled None (Some b)
+alive_same true a b e = refl
+alive_same false a b e = ap (λ x. Some x) e
+
+module _ (m : Parts) (is : IsStore m) (order : InOrder (live_of m)) (t s : ℕ) (c : Scope Env) (at : get_or m.tree.scopes s None ≡ Some c) (child : Running) (keys : List ℕ) (room : ℕ) (h : Holes Running) (slots : h.slots ≡ m.frames.slots ++ born_if (not c.cancelled) child ∷ []) (l : Lived m t) (g : Forest Env) (same : seen g ≡ seen (with_subtask m.tree s (not c.cancelled) keys room)) where
+  pub still_there : get_or h.slots t None ≡ Some l.run
+  still_there =
+      let less = inside_of m.frames.slots t (λ none. let runs = l.runs in let never : Some l.run ≡ None = sym runs ∙ none in cc) in
+      others m is s c at child (not c.cancelled) keys room h slots t (λ q. absurd (omega (arith, less, q))) ∙ l.runs
+
+  pub fork_kept : (f : Frame) → child.env ≡ c.environment → child.frame.entries ≡ [] → f.entries ≡ l.run.frame.entries → IsStore (with_running (record m { tree = g; frames = h }) t (record l.run { frame = f }) m.chains)
+  fork_kept f env entries kept =
+      let m2 : Parts = more m is s c at child (not c.cancelled) keys room h slots in
+      store_seen (with_running m2 t (record l.run { frame = f }) m.chains) g (with_subtask m.tree s (not c.cancelled) keys room) same
+      (kept_frame m2 t l.run (record l.run { frame = f }) (more_kept m is s c at child (not c.cancelled) keys room h slots order env entries) still_there (ap (λ es. record { env = l.run.env; entries = es }) kept))
+
+  pub fork_unseen : (f : Frame) → unseen_of (with_running (record m { tree = g; frames = h }) t (record l.run { frame = f }) m.chains) ≡ record (unseen_of m) { stands = (unseen_of m).stands ++ Some Free ∷ []; task_keys = keys; task_room = room; frame_room = h.room }
+  fork_unseen f =
+      rest_seen (with_running (record m { tree = g; frames = h }) t (record l.run { frame = f }) m.chains) g (with_subtask m.tree s (not c.cancelled) keys room) same
+      ∙ ap (λ st. record (unseen_of m) { stands = st; task_keys = keys; task_room = room; frame_room = h.room }) (map-append (option_map stand_of) m.tree.tasks (Some (subtask s (not c.cancelled)) ∷ []))
+
+  pub fork_live : (p : Program) (function : ℕ) (handle : Option ℕ) → child.env ≡ c.environment → child.frame ≡ entry_frame function (reverse (take (routine p function).args l.run.frame.operands)) (Lent s) → live_of (with_running (record m { tree = g; frames = h }) t (record l.run { frame = forked l.run.frame (routine p function).args handle (length m.tree.tasks) }) m.chains) ≡ live_fork p (live_of m) t (frame_of m t) s function handle
+  fork_live p function handle env frame =
+      frame_seen (record m { tree = g; frames = h }) t l.run (record l.run { frame = next }) (λ alive. record alive { frame = next }) still_there (λ flag. refl)
+      ∙ ap (λ v. with_live_frame v t next) (same_view (beside (more m is s c at child (not c.cancelled) keys room h slots)) g (with_subtask m.tree s (not c.cancelled) keys room) same ∙ more_seen m is s c at child (not c.cancelled) keys room h slots)
+      ∙ ap (λ a. forks (live_of m) t s a next) (alive_same c.cancelled (fresh_alive m.chains child) (live_child p (scope_seen (beside m) c) l.run.frame s function) begins)
+      ∙ sym (forks_is p (live_of m) t (frame_of m t) s function handle
+      ∙ ap (λ f. forks (live_of m) t s (forked_alive p (live_scope_at (live_of m) s) f s function) (forked f (routine p function).args handle (length (live_of m).tasks))) (same_frame m t l.run l l.runs)
+      ∙ ap (λ scope. forks (live_of m) t s (forked_alive p scope l.run.frame s function) (forked l.run.frame (routine p function).args handle (length (live_of m).tasks))) (scope_there (beside m) m.tree s c at)
+      ∙ ap (λ n. forks (live_of m) t s (forked_alive p (scope_seen (beside m) c) l.run.frame s function) (forked l.run.frame (routine p function).args handle n)) (length_from (beside m) 0 m.tree.tasks))
+    where
+      next : Frame
+      next = forked l.run.frame (routine p function).args handle (length m.tree.tasks)
+
+      begins : fresh_alive m.chains child ≡ live_child p (scope_seen (beside m) c) l.run.frame s function
+      begins =
+          ap (λ f. record { frame = f; flag = false; environment = bound_in m.chains child.env }) frame
+          ∙ ap (λ e. record { frame = entry_frame function (reverse (take (routine p function).args l.run.frame.operands)) (Lent s); flag = false; environment = bound_in m.chains e }) env
+
+pub tasks_born : (m : Parts) → length (live_of m).tasks ≡ length m.tree.tasks
+tasks_born m = length_from (beside m) 0 m.tree.tasks

@@ -1,0 +1,69 @@
+-- Of a view in order: the owner of a scope lives, and the home of a living task stands.
+use Rattle.std.proofs.Common.{◌≡◌, ℕ, ◌<◌, true, false, Option, Some, None, refl, sym, ◌∙◌, ap, subst, get_or}
+use Rattle.std.specs.Prelude.{option_map, is_some, unwrap_or}
+use Rattle.sts_env.specs.declared.env.Env.{Env}
+use Rattle.sts_forest.specs.declared.record.Task.{Task}
+use Rattle.sts_forest.specs.declared.record.Scope.{Scope}
+use Rattle.sts_forest.proofs.Holding.{map_at}
+use Rattle.sts_model.specs.Live.{LiveScope}
+use Rattle.sts_seen.specs.Reading.{lives_in, scope_in, live_task_at, live_scope_at, no_live_task}
+use Rattle.sts_views.specs.Order.{InOrder}
+use Rattle.sts_agree.specs.View.{scope_seen, task_seen}
+use Rattle.sts_agree.proofs.Viewing.{task_is, scope_is, scope_there}
+use Rattle.sts_store.specs.Parts.{Parts, live_of, beside}
+use Rattle.sts_store.specs.Sharing.{Holder, Keeper, holder_of, keeper_of, home_of, holders, keepers, homes, home_at}
+use Rattle.sts_store.specs.Stored.{IsStore}
+use Rattle.sts_store.proofs.Views.{lives_is, just}
+use Rattle.sts_store.proofs.Unsharing.{AreHoused}
+
+some_seen : {A B : Type 0} (f : A → B) (o : Option A) → is_some (option_map f o) ≡ is_some o
+some_seen f None = refl
+some_seen f (Some x) = refl
+
+-- what is kept of a scope that stands
+kept_of : (m : Parts) (s : ℕ) (x : Scope Env) → get_or m.tree.scopes s None ≡ Some x → get_or (keepers m) s None ≡ Some (keeper_of x)
+kept_of m s x e = map_at keeper_of m.tree.scopes s ∙ ap (option_map keeper_of) e
+
+-- the scope of a task
+pub home_seen : (m : Parts) (t : ℕ) → (live_task_at (live_of m) t).scope ≡ home_at (homes m) t
+home_seen m t =
+    ap (λ y. (unwrap_or y no_live_task).scope) (task_is (beside m) m.tree t)
+    ∙ by (get_or m.tree.tasks t None)
+    ∙ sym (ap (λ y. elim y [ None ↦ None | Some o ↦ o ]) (map_at home_of m.tree.tasks t))
+  where
+    by : (x : Option Task) → (unwrap_or (option_map (task_seen (beside m) t) x) no_live_task).scope ≡ (elim (option_map home_of x) [ None ↦ None | Some o ↦ o ])
+    by None = refl
+    by (Some x) = refl
+
+module _ (m : Parts) (is : IsStore m) (order : InOrder (live_of m)) where
+  holds : (u : ℕ) → is_some (get_or (holders m) u None) ≡ lives_in (live_of m) u
+  holds u = ap (λ (o : Option Holder). is_some o) (map_at holder_of m.frames.slots u) ∙ some_seen holder_of (get_or m.frames.slots u None) ∙ is.alive u ∙ sym (lives_is m u)
+
+  owner_seen : (s : ℕ) (x : Scope Env) → get_or m.tree.scopes s None ≡ Some x → (live_scope_at (live_of m) s).owner ≡ x.owner
+  owner_seen s x e = ap (λ (y : LiveScope). y.owner) (scope_there (beside m) m.tree s x e)
+
+  owners : (s : ℕ) (k : Keeper) → get_or (keepers m) s None ≡ Some k → is_some (get_or (holders m) k.owner None) ≡ true
+  owners s k e = by (get_or m.tree.scopes s None) refl
+    where
+      by : (o : Option (Scope Env)) → get_or m.tree.scopes s None ≡ o → is_some (get_or (holders m) k.owner None) ≡ true
+      by None f =
+          let none : get_or (keepers m) s None ≡ None = map_at keeper_of m.tree.scopes s ∙ ap (option_map keeper_of) f in
+          cc
+      by (Some x) f =
+          let same : k ≡ keeper_of x = just k (keeper_of x) (sym e ∙ kept_of m s x f) in
+          let stands : is_some (scope_in (live_of m) s) ≡ true = ap (λ (o : Option LiveScope). is_some o) (scope_is (beside m) m.tree s ∙ ap (option_map (scope_seen (beside m))) f) in
+          holds k.owner ∙ ap (lives_in (live_of m)) (ap (λ (z : Keeper). z.owner) same ∙ sym (owner_seen s x f)) ∙ (order.held s stands).alive
+
+  inside : (t s : ℕ) → is_some (get_or (holders m) t None) ≡ true → home_at (homes m) t ≡ Some s → (k : Keeper) × ((get_or (keepers m) s None ≡ Some k) × (k.owner < t))
+  inside t s lives e = by (get_or m.tree.scopes s None) refl
+    where
+      by : (o : Option (Scope Env)) → get_or m.tree.scopes s None ≡ o → (k : Keeper) × ((get_or (keepers m) s None ≡ Some k) × (k.owner < t))
+      by None f =
+          let gone : is_some (scope_in (live_of m) s) ≡ false = ap (λ (o : Option LiveScope). is_some o) (scope_is (beside m) m.tree s ∙ ap (option_map (scope_seen (beside m))) f) in
+          let stands = (order.inside t s (home_seen m t ∙ e)).stands in
+          cc
+      by (Some x) f =
+          (keeper_of x, (kept_of m s x f, subst (λ n. n < t) (owner_seen s x f) (order.inside t s (home_seen m t ∙ e)).before))
+
+  pub housed : AreHoused (holders m) (keepers m) (homes m)
+  housed = record { owners = owners; homes = inside }

@@ -1,0 +1,36 @@
+-- A local instruction leaves the structure list as it is.
+use Rattle.std.proofs.Common.{◌≡◌, List, [], ◌∷◌, Bool, true, false, refl, nat_eq, cond, nat_le}
+use Rattle.sts_code.specs.declared.instr.Instr.{Instr}
+use Rattle.sts_code.specs.declared.instr.Instr.TheVariants.{Push, Pop, Dup, Swap, Load, Store, Add, Sub, Mul, Lt, Eq, Div, Jmp, Jz, Times, Next}
+use Rattle.std.specs.Ordering.{int_eq}
+use Rattle.std.proofs.Common.{pos}
+use Rattle.sts_model.specs.Local.{local, turns, clipped, operand}
+use Rattle.sts_model.specs.declared.record.Frame.{Frame}
+use Rattle.sts_model.specs.declared.record.Loop.{Loop}
+
+either_entries : (b : Bool) (f g : Frame) (h : Frame) → f.entries ≡ h.entries → g.entries ≡ h.entries → (cond b f g).entries ≡ h.entries
+either_entries true f g h x y = x
+either_entries false f g h x y = y
+
+turns_entries : (f : Frame) (ls : List Loop) → (turns f ls).entries ≡ f.entries
+turns_entries f [] = refl
+turns_entries f (l ∷ ls) = either_entries (nat_le l.left 1) _ _ f refl refl
+
+pub local_entries : (code : List Instr) (i : Instr) (f : Frame) → (local code i f).entries ≡ f.entries
+local_entries code (Push k) f = refl
+local_entries code Pop f = refl
+local_entries code Dup f = refl
+local_entries code Swap f = refl
+local_entries code (Load x) f = refl
+local_entries code (Store x) f = refl
+local_entries code Add f = refl
+local_entries code Sub f = refl
+local_entries code Mul f = refl
+local_entries code Lt f = refl
+local_entries code Eq f = refl
+local_entries code (Div to) f = either_entries (int_eq (operand f 0) (pos 0)) _ _ f refl refl
+local_entries code (Jmp to) f = refl
+local_entries code (Jz to) f = refl
+local_entries code (Times n) f = either_entries (nat_eq (clipped n (operand f 0)) 0) _ _ f refl refl
+local_entries code Next f = turns_entries f f.loops
+local_entries code _ f = refl

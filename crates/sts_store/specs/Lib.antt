@@ -1,0 +1,4 @@
+pub mod Parts
+pub mod Sharing
+pub mod Stored
+pub mod Ending

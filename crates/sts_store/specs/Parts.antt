@@ -1,0 +1,110 @@
+-- The parts of a store, the live view that they make up together, and what that view doesn't show
+-- (this project's own).
+use Rattle.std.specs.Prelude.{ℕ, List, [], ◌∷◌, map, Option, Some, None, option_map, unwrap_or}
+use Rattle.std.specs.Prelude.{Bool, false, ◌&&◌, slice_index_or}
+use Rattle.sts_env.specs.Environments.{Records, list_of}
+use Rattle.sts_env.specs.declared.env.Binding.{Binding}
+use Rattle.sts_env.specs.declared.env.Env.{Env}
+use Rattle.sts_forest.specs.Forest.{Forest}
+use Rattle.sts_forest.specs.declared.record.Task.{Task}
+use Rattle.sts_held.specs.Holes.{Holes}
+use Rattle.sts_model.specs.declared.event.End.{End}
+use Rattle.sts_model.specs.declared.event.Stand.{Stand}
+use Rattle.sts_model.specs.declared.event.Stand.TheVariants.{Free}
+use Rattle.sts_model.specs.declared.record.Bound.{Bound}
+use Rattle.sts_model.specs.declared.record.Frame.{Frame}
+use Rattle.sts_model.specs.Live.{Live}
+use Rattle.sts_seen.specs.Reading.{alive_at, lives_in, no_alive}
+use Rattle.sts_seen.specs.Waiting.{live_can_go}
+use Rattle.sts_agree.specs.View.{Beside, view_of}
+use Rattle.sts_store.specs.declared.running.Running.{Running}
+
+-- the tree, the frames of the living tasks by birth, the records of bindings, and the root's end
+pub record Parts : Type 0 where
+  pub tree : Forest Env
+  pub frames : Holes Running
+  pub chains : Records
+  pub root_end : Option End
+
+-- ---- the live view
+
+abbrev pub bound : Binding → Bound
+bound b = record { key = b.key; value = b.value }
+
+-- the bindings of an environment, innermost first
+abbrev pub bound_in : Records → Env → List Bound
+bound_in c env = map bound (list_of c env)
+
+-- what is read where no living task has a frame
+abbrev pub no_running : Running
+no_running = record { frame = no_alive.frame; env = record { front = None; length = 0 } }
+
+-- what the task of this birth has
+abbrev pub running_at : Parts → ℕ → Running
+running_at m t = unwrap_or (slice_index_or m.frames.slots t None) no_running
+
+-- what is kept beside the tree
+abbrev pub beside : Parts → Beside Env
+beside m =
+    record {
+      frame = λ t. (running_at m t).frame;
+      bindings = λ t. bound_in m.chains (running_at m t).env;
+      kept = bound_in m.chains;
+      root_end = m.root_end;
+    }
+
+-- what can be asked of the parts
+abbrev pub live_of : Parts → Live
+live_of m = view_of (beside m) m.tree
+
+-- the frame of a living task
+abbrev pub frame_of : Parts → ℕ → Frame
+frame_of m t = (alive_at (live_of m) t).frame
+
+-- the root task at this frame, with nothing bound, and nothing else
+abbrev pub root_alone : Frame → Live
+root_alone frame =
+    record {
+      tasks = Some (record {
+        scope = None;
+        state = None;
+        alive = Some (record { frame = frame; flag = false; environment = [] });
+      }) ∷ [];
+      scopes = [];
+      root_end = None;
+    }
+
+-- ---- what the view doesn't show
+
+abbrev pub stand_of : Task → Stand
+stand_of x = x.stand
+
+-- where each task was last said to stand, the keys that births were given, and how many more fit
+pub record Unseen : Type 0 where
+  pub stands : List (Option Stand)
+  pub task_keys : List ℕ
+  pub scope_keys : List ℕ
+  pub task_room : ℕ
+  pub frame_room : ℕ
+  pub scope_room : ℕ
+  pub binding_room : ℕ
+
+abbrev pub unseen_of : Parts → Unseen
+unseen_of m =
+    record {
+      stands = map (option_map stand_of) m.tree.tasks;
+      task_keys = m.tree.task_keys;
+      scope_keys = m.tree.scope_keys;
+      task_room = m.tree.task_room;
+      frame_room = m.frames.room;
+      scope_room = m.tree.scope_room;
+      binding_room = m.chains.room;
+    }
+
+-- where a task was last said to stand; free where it doesn't stand
+abbrev pub stand_in : Unseen → ℕ → Stand
+stand_in u t = unwrap_or (slice_index_or u.stands t None) Free
+
+-- may the task go on from where it was last said to stand?
+abbrev pub can_go_on : Parts → ℕ → Bool
+can_go_on m t = lives_in (live_of m) t && live_can_go (live_of m) t (stand_in (unseen_of m) t)

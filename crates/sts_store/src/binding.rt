@@ -1,0 +1,72 @@
+//! Bindings of a task.
+
+ghost use Rattle.std.specs.Prelude.{◌≡◌, ◌<◌, ◌+◌, ◌-◌, ◌^◌, [], ◌∷◌, drop, length, true};
+ghost use Rattle.sts_model.specs.Local.{operand, steps};
+ghost use Rattle.sts_model.specs.Misuse.{innermost, is_binding};
+ghost use Rattle.sts_model.specs.declared.record.Entry.TheVariants as entry;
+ghost use Rattle.sts_seen.specs.Effect.{live_bind, live_unbind};
+ghost use Rattle.sts_seen.specs.Reading.{lives_in};
+ghost use Rattle.sts_store.specs.Parts.{frame_of, live_of, unseen_of};
+ghost use Rattle.sts_views.specs.Order.{InOrder};
+
+use crate::store::Store;
+use sts_model::record::{Entry, Frame};
+
+/// Pops the top operand, which is bound to a key from now on, and goes on.
+fn enter_binding(frame: &mut Frame, key: u8)
+    requires more { frame.old.pc + 1 < 2 ^ 32 }
+    requires room { length frame.old.entries < 16 }
+    ensures { frame.new ≡ record (steps frame.old 1 []) {
+      entries = entry.Binding key (operand frame.old 0) ∷ frame.old.entries;
+    } }
+{
+    let value = frame.operand(0);
+    let next = frame.pc + 1;
+    frame.goes(next, 1);
+    frame.entries.push(Entry::Binding(key, value));
+}
+
+/// Leaves the innermost entry, and goes on.
+fn leave_entry(frame: &mut Frame)
+    requires { frame.old.pc + 1 < 2 ^ 32 }
+    ensures { frame.new ≡ record (steps frame.old 0 []) { entries = drop 1 frame.old.entries } }
+{
+    let next = frame.pc + 1;
+    frame.goes(next, 0);
+    frame.entries.drop_top(1);
+}
+
+impl Store {
+    /// Binds a key to the popped operand, and goes on.
+    pub fn bind(&mut self, t: u32, key: u8)
+        requires lives { lives_in (live_of self.old) t ≡ true }
+        requires more { (frame_of self.old t).pc + 1 < 2 ^ 32 }
+        requires entries { length (frame_of self.old t).entries < 16 }
+        requires room { 0 < (unseen_of self.old).binding_room }
+        ensures live { live_of self.new ≡ live_bind (live_of self.old) t (frame_of self.old t) key }
+        ensures unseen { unseen_of self.new ≡ record (unseen_of self.old) {
+          binding_room = (unseen_of self.old).binding_room - 1;
+        } }
+    {
+        let running = self.frames.at(t as usize);
+        let value = running.frame.operand(0);
+        running.env = self.chains.bind(running.env, key, value);
+        enter_binding(&mut running.frame, key);
+    }
+
+    /// Ends the innermost binding of a task, whose last entry it is, and goes on.
+    pub fn unbind(&mut self, t: u32)
+        requires lives { lives_in (live_of self.old) t ≡ true }
+        requires more { (frame_of self.old t).pc + 1 < 2 ^ 32 }
+        requires bound { innermost is_binding (frame_of self.old t).entries ≡ true }
+        requires order { InOrder (live_of self.old) }
+        ensures live { live_of self.new ≡ live_unbind (live_of self.old) t (frame_of self.old t) }
+        ensures unseen { unseen_of self.new ≡ record (unseen_of self.old) {
+          binding_room = (unseen_of self.old).binding_room + 1;
+        } }
+    {
+        let running = self.frames.at(t as usize);
+        running.env = self.chains.unbind(running.env);
+        leave_entry(&mut running.frame);
+    }
+}

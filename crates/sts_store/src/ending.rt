@@ -1,0 +1,57 @@
+//! The end of a task.
+
+ghost use Rattle.std.specs.Prelude.{◌≡◌, ◌≢◌, ◌+◌, ◌==◌, ℕ, true, Some, None, slice_index_or};
+ghost use Rattle.std.specs.Prelude.{if◌then◌else◌};
+ghost use Rattle.sts_forest.specs.declared.record.Task.{Task as AnyTask};
+ghost use Rattle.sts_seen.specs.Effect.{live_end};
+ghost use Rattle.sts_seen.specs.Reading.{lives_in};
+ghost use Rattle.sts_store.specs.Ending.{finished};
+ghost use Rattle.sts_store.specs.Parts.{live_of, unseen_of};
+ghost use Rattle.sts_tree.specs.Steps.{seen};
+
+use crate::store::Store;
+use sts_cancel::cancel::cancel;
+use sts_env::env::Env;
+use sts_model::event::End;
+use sts_tree::tree::Tree;
+
+/// Ends a living task, tells its scope, and cancels that where the joiner asks for it.
+fn finish(tree: &mut Tree<Env>, t: u32, end: End)
+    requires { (x : AnyTask)
+        × (slice_index_or tree.old.tasks t None ≡ Some x) × (x.lives ≡ true) }
+    ensures finished { (x : AnyTask) → slice_index_or tree.old.tasks t None ≡ Some x →
+        seen tree.new ≡ seen (finished tree.old t x end) }
+    ensures home { (x : AnyTask) (s : ℕ) → slice_index_or tree.old.tasks t None ≡ Some x →
+        x.scope ≡ Some s → slice_index_or tree.old.scopes s None ≢ None }
+{
+    let home = tree.task(t).unwrap().scope;
+    let asks = tree.end_task(t, end);
+    if asks {
+        if let Some(s) = home {
+            cancel(tree, s);
+        }
+    }
+}
+
+/// How the root ended, once a task has.
+fn root_end_after(root_end: Option<End>, t: u32, end: End) -> Option<End>
+    ensures { result ≡ (if t == 0 then Some end else root_end) }
+{
+    if t == 0 { Some(end) } else { root_end }
+}
+
+impl Store {
+    /// Ends a living task: its scope is told, unless that is cancelled, and is cancelled where its
+    /// joiner asks for it.
+    pub fn end(&mut self, t: u32, end: End)
+        requires { lives_in (live_of self.old) t ≡ true }
+        ensures live { live_of self.new ≡ live_end (live_of self.old) t end }
+        ensures unseen { unseen_of self.new ≡ record (unseen_of self.old) {
+          frame_room = (unseen_of self.old).frame_room + 1;
+        } }
+    {
+        finish(&mut self.tree, t, end);
+        self.frames.remove(t as usize);
+        self.root_end = root_end_after(self.root_end, t, end);
+    }
+}

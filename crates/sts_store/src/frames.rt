@@ -1,0 +1,114 @@
+//! What is written into the frame of a task, and its flag.
+
+ghost use Rattle.std.specs.Prelude.{◌≡◌, ◌<◌, ◌+◌, ◌-◌, ◌^◌, [], ◌∷◌, length, slice_set};
+ghost use Rattle.std.specs.Prelude.{true, false};
+ghost use Rattle.sts_model.specs.Local as frames;
+ghost use Rattle.sts_model.specs.Misuse.{breaks_loop, overflows};
+ghost use Rattle.sts_model.specs.World as world;
+ghost use Rattle.sts_model.specs.declared.record.Slot.TheVariants.{Empty};
+ghost use Rattle.sts_seen.specs.Effect.{live_forget, live_take_flag};
+ghost use Rattle.sts_seen.specs.Outside.{live_interrupt};
+ghost use Rattle.sts_seen.specs.Reading.{lives_in, with_live_frame};
+ghost use Rattle.sts_store.specs.Parts.{frame_of, live_of, unseen_of};
+
+use crate::store::Store;
+use sts_code::instr::Instr;
+use sts_code::program::Program;
+use sts_model::frame::local;
+use sts_model::record::{Frame, Slot};
+
+pub(crate) fn set_slot(slots: &mut [Slot; 16], x: u8, slot: Slot)
+    ensures { slots.new ≡ slice_set slots.old x slot }
+{
+    let x = x as usize;
+    if x < 16 {
+        slots[x] = slot;
+    }
+}
+
+/// Empties a slot, and goes on.
+fn forget(frame: &mut Frame, slot: u8)
+    requires more { frame.old.pc + 1 < 2 ^ 32 }
+    ensures { frame.new ≡ record (frames.steps frame.old 0 []) {
+      slots = slice_set frame.old.slots slot Empty;
+    } }
+{
+    let next = frame.pc + 1;
+    frame.goes(next, 0);
+    set_slot(&mut frame.slots, slot, Slot::Empty);
+}
+
+impl Store {
+    /// Does a local instruction of a task, whose function has this code.
+    pub fn local(&mut self, program: &Program, code: &[Instr], t: u32, instr: Instr)
+        requires lives { lives_in (live_of self.old) t ≡ true }
+        requires own_code { code.now ≡ world.code program.now (frame_of self.old t) }
+        requires is_local { frames.is_local instr ≡ true }
+        requires room { overflows program.now (frame_of self.old t) instr ≡ false }
+        requires more { (frame_of self.old t).pc + 1 < 2 ^ 32 }
+        requires inside { (frame_of self.old t).pc < length code.now }
+        requires short { length code.now < 2 ^ 32 }
+        requires loops { breaks_loop program.now (frame_of self.old t) instr ≡ false }
+        ensures live { live_of self.new ≡ with_live_frame (live_of self.old) t
+            (frames.local code.now instr (frame_of self.old t)) }
+        ensures unseen { unseen_of self.new ≡ unseen_of self.old }
+    {
+        local(&mut self.frames.at(t as usize).frame, program, code, instr);
+    }
+
+    /// Pops `n` operands and goes to `to`.
+    pub fn goes(&mut self, t: u32, to: u32, n: usize)
+        requires lives { lives_in (live_of self.old) t ≡ true }
+        ensures live { live_of self.new ≡ with_live_frame (live_of self.old) t
+            (frames.goes (frame_of self.old t) to n []) }
+        ensures unseen { unseen_of self.new ≡ unseen_of self.old }
+    {
+        self.frames.at(t as usize).frame.goes(to, n);
+    }
+
+    /// Pops `n` operands, pushes a value and goes to `to`.
+    pub fn goes_with(&mut self, t: u32, to: u32, n: usize, value: i64)
+        requires lives { lives_in (live_of self.old) t ≡ true }
+        requires room { length (frame_of self.old t).operands - n < 32 }
+        ensures live { live_of self.new ≡ with_live_frame (live_of self.old) t
+            (frames.goes (frame_of self.old t) to n (value ∷ [])) }
+        ensures unseen { unseen_of self.new ≡ unseen_of self.old }
+    {
+        self.frames.at(t as usize).frame.goes_with(to, n, value);
+    }
+
+    /// Empties a slot, and goes on.
+    pub fn forget(&mut self, t: u32, slot: u8)
+        requires lives { lives_in (live_of self.old) t ≡ true }
+        requires more { (frame_of self.old t).pc + 1 < 2 ^ 32 }
+        ensures live { live_of self.new ≡ live_forget (live_of self.old) t
+            (frame_of self.old t) slot }
+        ensures unseen { unseen_of self.new ≡ unseen_of self.old }
+    {
+        forget(&mut self.frames.at(t as usize).frame, slot);
+    }
+
+    /// Pushes the task's flag and clears it.
+    pub fn take_flag(&mut self, t: u32)
+        requires lives { lives_in (live_of self.old) t ≡ true }
+        requires more { (frame_of self.old t).pc + 1 < 2 ^ 32 }
+        requires room { length (frame_of self.old t).operands < 32 }
+        ensures live { live_of self.new ≡ live_take_flag (live_of self.old) t
+            (frame_of self.old t) }
+        ensures unseen { unseen_of self.new ≡ unseen_of self.old }
+    {
+        let flag = self.tree.take_flag(t);
+        let frame = &mut self.frames.at(t as usize).frame;
+        let next = frame.pc + 1;
+        frame.goes_with(next, 0, i64::from(flag));
+    }
+
+    /// Sets the flag of a living task.
+    pub fn interrupt(&mut self, t: u32)
+        requires { lives_in (live_of self.old) t ≡ true }
+        ensures live { live_of self.new ≡ live_interrupt (live_of self.old) t }
+        ensures unseen { unseen_of self.new ≡ unseen_of self.old }
+    {
+        self.tree.raise(t);
+    }
+}

@@ -1,0 +1,185 @@
+//! Instructions that look something up, and write it into the frame of their task.
+
+ghost use Rattle.std.specs.Prelude.{◌≡◌, ◌<◌, ◌+◌, ◌-◌, ◌^◌, length, is_some, slice_index_or, true};
+ghost use Rattle.sts_code.specs.Program.{Program as AnyProgram};
+ghost use Rattle.sts_code.specs.declared.instr.Instr.TheVariants as instr;
+ghost use Rattle.sts_model.specs.Effect as effect;
+ghost use Rattle.sts_model.specs.Misuse.{slot};
+ghost use Rattle.sts_model.specs.declared.record.Slot.TheVariants.{Empty};
+ghost use Rattle.sts_seen.specs.Effect.{live_effect};
+ghost use Rattle.sts_seen.specs.Reading.{lives_in, scope_in};
+ghost use Rattle.sts_store.specs.Parts.{frame_of, live_of, unseen_of};
+
+use crate::store::Store;
+use sts_code::instr::Kind;
+use sts_model::event::End;
+use sts_model::record::{Frame, Slot};
+
+fn slot_at(slots: &[Slot; 16], x: u8) -> Slot
+    ensures { result ≡ slice_index_or slots.now x Empty }
+{
+    let x = x as usize;
+    if x < 16 { slots[x] } else { Slot::Empty }
+}
+
+/// The birth that a slot names; 0 where it is empty.
+fn named(frame: &Frame, x: u8) -> u32
+    ensures { result ≡ effect.named (slot frame.now x) }
+{
+    match slot_at(&frame.slots, x) {
+        Slot::Empty => 0,
+        Slot::Own(s) => s,
+        Slot::Lent(s) => s,
+        Slot::Sub(t) => t,
+    }
+}
+
+/// Where a state leads to.
+fn case_target(state: Option<End>, success: u32, failed: u32, otherwise: u32) -> u32
+    ensures { result ≡ effect.case_target state success failed otherwise }
+{
+    match state {
+        None => otherwise,
+        Some(End::Success(_)) => success,
+        Some(End::Failed(_)) => failed,
+    }
+}
+
+/// The value of a success or the code of a failure; 0 where there is none.
+fn value_or_zero(state: Option<End>) -> i64
+    ensures { result ≡ effect.value_or_zero state }
+{
+    match state {
+        None => 0,
+        Some(End::Success(value)) => value,
+        Some(End::Failed(code)) => code,
+    }
+}
+
+impl Store {
+    /// Goes to where the state of the subtask in a slot leads.
+    pub fn case(&mut self, t: u32, handle: u8, success: u32, failed: u32)
+        requires lives { lives_in (live_of self.old) t ≡ true }
+        requires more { (frame_of self.old t).pc + 1 < 2 ^ 32 }
+        ensures live { (p : AnyProgram) → live_of self.new ≡ live_effect p (live_of self.old) t
+            (frame_of self.old t) (instr.Case handle success failed) }
+        ensures unseen { unseen_of self.new ≡ unseen_of self.old }
+    {
+        let frame = self.frame(t);
+        let next = frame.pc + 1;
+        let state = self.state(named(frame, handle));
+        self.goes(t, case_target(state, success, failed, next), 0);
+    }
+
+    /// Pushes the value or the code of the subtask in a slot, 0 where its end wasn't told: `get`,
+    /// and `except` likewise.
+    pub fn push_value(&mut self, t: u32, handle: u8)
+        requires lives { lives_in (live_of self.old) t ≡ true }
+        requires more { (frame_of self.old t).pc + 1 < 2 ^ 32 }
+        requires room { length (frame_of self.old t).operands < 32 }
+        ensures get { (p : AnyProgram) → live_of self.new ≡ live_effect p (live_of self.old) t
+            (frame_of self.old t) (instr.Get handle) }
+        ensures except { (p : AnyProgram) → live_of self.new ≡ live_effect p (live_of self.old) t
+            (frame_of self.old t) (instr.Except handle) }
+        ensures unseen { unseen_of self.new ≡ unseen_of self.old }
+    {
+        let frame = self.frame(t);
+        let next = frame.pc + 1;
+        let state = self.state(named(frame, handle));
+        self.goes_with(t, next, 0, value_or_zero(state));
+    }
+
+    /// Pushes whether the scope in a slot is cancelled.
+    pub fn push_cancelled(&mut self, t: u32, scope: u8)
+        requires lives { lives_in (live_of self.old) t ≡ true }
+        requires more { (frame_of self.old t).pc + 1 < 2 ^ 32 }
+        requires room { length (frame_of self.old t).operands < 32 }
+        ensures live { (p : AnyProgram) → live_of self.new ≡ live_effect p (live_of self.old) t
+            (frame_of self.old t) (instr.Cancelled scope) }
+        ensures unseen { unseen_of self.new ≡ unseen_of self.old }
+    {
+        let frame = self.frame(t);
+        let next = frame.pc + 1;
+        let cancelled = self.cancelled(named(frame, scope));
+        self.goes_with(t, next, 0, i64::from(cancelled));
+    }
+
+    /// Pushes how many subtasks of the scope in a slot are in a state.
+    pub fn push_tally(&mut self, t: u32, scope: u8, kind: Kind)
+        requires lives { lives_in (live_of self.old) t ≡ true }
+        requires more { (frame_of self.old t).pc + 1 < 2 ^ 32 }
+        requires room { length (frame_of self.old t).operands < 32 }
+        requires stands { is_some (scope_in (live_of self.old)
+            (effect.named (slot (frame_of self.old t) scope))) ≡ true }
+        ensures live { (p : AnyProgram) → live_of self.new ≡ live_effect p (live_of self.old) t
+            (frame_of self.old t) (instr.Tally scope kind) }
+        ensures unseen { unseen_of self.new ≡ unseen_of self.old }
+    {
+        let frame = self.frame(t);
+        let next = frame.pc + 1;
+        let tally = self.tally(named(frame, scope), kind);
+        self.goes_with(t, next, 0, i64::from(tally));
+    }
+
+    /// Pushes the sum of the values of the successes that the scope in a slot was told of.
+    pub fn push_total(&mut self, t: u32, scope: u8)
+        requires lives { lives_in (live_of self.old) t ≡ true }
+        requires more { (frame_of self.old t).pc + 1 < 2 ^ 32 }
+        requires room { length (frame_of self.old t).operands < 32 }
+        requires stands { is_some (scope_in (live_of self.old)
+            (effect.named (slot (frame_of self.old t) scope))) ≡ true }
+        ensures live { (p : AnyProgram) → live_of self.new ≡ live_effect p (live_of self.old) t
+            (frame_of self.old t) (instr.Total scope) }
+        ensures unseen { unseen_of self.new ≡ unseen_of self.old }
+    {
+        let frame = self.frame(t);
+        let next = frame.pc + 1;
+        let total = self.total(named(frame, scope));
+        self.goes_with(t, next, 0, total);
+    }
+
+    /// Pushes what a key is bound to, 0 where it is not bound.
+    pub fn push_bound(&mut self, t: u32, key: u8)
+        requires lives { lives_in (live_of self.old) t ≡ true }
+        requires more { (frame_of self.old t).pc + 1 < 2 ^ 32 }
+        requires room { length (frame_of self.old t).operands < 32 }
+        ensures live { (p : AnyProgram) → live_of self.new ≡ live_effect p (live_of self.old) t
+            (frame_of self.old t) (instr.Read key) }
+        ensures unseen { unseen_of self.new ≡ unseen_of self.old }
+    {
+        let next = self.frame(t).pc + 1;
+        let value = self.read(t, key).unwrap_or(0);
+        self.goes_with(t, next, 0, value);
+    }
+
+    /// Pushes whether a key is bound.
+    pub fn push_is_bound(&mut self, t: u32, key: u8)
+        requires lives { lives_in (live_of self.old) t ≡ true }
+        requires more { (frame_of self.old t).pc + 1 < 2 ^ 32 }
+        requires room { length (frame_of self.old t).operands < 32 }
+        ensures live { (p : AnyProgram) → live_of self.new ≡ live_effect p (live_of self.old) t
+            (frame_of self.old t) (instr.Bound key) }
+        ensures unseen { unseen_of self.new ≡ unseen_of self.old }
+    {
+        let next = self.frame(t).pc + 1;
+        let is_bound = self.read(t, key).is_some();
+        self.goes_with(t, next, 0, i64::from(is_bound));
+    }
+
+    /// Puts what a key is bound to in the place of the top operand, which stays where the key is
+    /// not bound.
+    pub fn or_else(&mut self, t: u32, key: u8)
+        requires lives { lives_in (live_of self.old) t ≡ true }
+        requires more { (frame_of self.old t).pc + 1 < 2 ^ 32 }
+        requires room { length (frame_of self.old t).operands - 1 < 32 }
+        ensures live { (p : AnyProgram) → live_of self.new ≡ live_effect p (live_of self.old) t
+            (frame_of self.old t) (instr.OrElse key) }
+        ensures unseen { unseen_of self.new ≡ unseen_of self.old }
+    {
+        let frame = self.frame(t);
+        let next = frame.pc + 1;
+        let top = frame.operand(0);
+        let value = self.read(t, key).unwrap_or(top);
+        self.goes_with(t, next, 1, value);
+    }
+}

@@ -1,0 +1,95 @@
+//! What is read of a store.
+
+ghost use Rattle.std.specs.Prelude.{◌≡◌, true, is_some};
+ghost use Rattle.sts_seen.specs.Effect.{live_read, live_state, live_tally};
+ghost use Rattle.sts_seen.specs.Outside.{live_can_expire};
+ghost use Rattle.sts_seen.specs.Reading.{alive_at, lives_in, live_scope_at, scope_in};
+ghost use Rattle.sts_store.specs.Parts.{live_of};
+
+use crate::store::Store;
+use sts_code::instr::Kind;
+use sts_model::event::{End, Phase};
+use sts_model::record::Frame;
+
+impl Store {
+    /// Does the task live?
+    pub fn lives(&self, t: u32) -> bool
+        ensures { result ≡ lives_in (live_of self.now) t }
+    {
+        self.tree.lives(t)
+    }
+
+    /// The frame of a living task.
+    pub fn frame(&self, t: u32) -> &Frame
+        requires { lives_in (live_of self.now) t ≡ true }
+        ensures { result.now ≡ (alive_at (live_of self.now) t).frame }
+    {
+        &self.frames.get(t as usize).unwrap().frame
+    }
+
+    /// What a living task reads under a key: none where it is not bound.
+    pub fn read(&self, t: u32, key: u8) -> Option<i64>
+        requires { lives_in (live_of self.now) t ≡ true }
+        ensures { result ≡ live_read (live_of self.now) t key }
+    {
+        self.chains
+            .read(self.frames.get(t as usize).unwrap().env, key)
+    }
+
+    /// A task's state as a subtask; none is unavailable.
+    pub fn state(&self, t: u32) -> Option<End>
+        ensures { result ≡ live_state (live_of self.now) t }
+    {
+        match self.tree.task(t) {
+            None => None,
+            Some(task) => task.state,
+        }
+    }
+
+    /// Is the scope cancelled? One that doesn't stand isn't.
+    pub fn cancelled(&self, s: u32) -> bool
+        ensures { result ≡ (live_scope_at (live_of self.now) s).cancelled }
+    {
+        match self.tree.scope(s) {
+            None => false,
+            Some(scope) => scope.cancelled,
+        }
+    }
+
+    /// May the scope expire now?
+    pub fn can_expire(&self, s: u32) -> bool
+        ensures { result ≡ live_can_expire (live_scope_at (live_of self.now) s) }
+    {
+        match self.tree.scope(s) {
+            None => false,
+            Some(scope) => {
+                scope.timed
+                    && !scope.expired
+                    && matches!(scope.phase, Phase::Opened | Phase::Attempted)
+            }
+        }
+    }
+
+    /// How many subtasks of a scope that stands are in a state.
+    pub fn tally(&self, s: u32, kind: Kind) -> u32
+        requires { is_some (scope_in (live_of self.now) s) ≡ true }
+        ensures { result ≡ live_tally (live_of self.now) s kind }
+    {
+        self.tree.count(s, kind)
+    }
+
+    /// The sum of the values of the successes that a scope that stands was told of.
+    pub fn total(&self, s: u32) -> i64
+        requires { is_some (scope_in (live_of self.now) s) ≡ true }
+        ensures { result ≡ (live_scope_at (live_of self.now) s).told.total }
+    {
+        self.tree.total(s)
+    }
+
+    /// How the root ended, if it did.
+    pub fn root_end(&self) -> Option<End>
+        ensures { result ≡ (live_of self.now).root_end }
+    {
+        self.root_end
+    }
+}

@@ -1,0 +1,64 @@
+//! Scopes open and expire.
+
+ghost use Rattle.std.specs.Prelude.{◌≡◌, ◌<◌, ◌+◌, ◌-◌, ◌^◌, ℕ, [], ◌∷◌, ◌++◌, length, slice_set, true};
+ghost use Rattle.sts_model.specs.Local.{steps};
+ghost use Rattle.sts_model.specs.declared.record.Entry.TheVariants as entry;
+ghost use Rattle.sts_model.specs.declared.record.Slot.TheVariants.{Own};
+ghost use Rattle.sts_seen.specs.Effect.{live_open};
+ghost use Rattle.sts_seen.specs.Outside.{live_can_expire, live_expire};
+ghost use Rattle.sts_seen.specs.Reading.{live_scope_at, lives_in};
+ghost use Rattle.sts_store.specs.Parts.{frame_of, live_of, unseen_of};
+ghost use Rattle.sts_views.specs.Order.{InOrder};
+
+use crate::frames::set_slot;
+use crate::store::Store;
+use sts_cancel::cancel::expire;
+use sts_code::instr::Joiner;
+use sts_model::record::{Entry, Frame, Slot};
+
+/// Enters a scope that the slot owns from now on, and goes on.
+fn enter_scope(frame: &mut Frame, slot: u8, s: u32)
+    requires more { frame.old.pc + 1 < 2 ^ 32 }
+    requires room { length frame.old.entries < 16 }
+    ensures { frame.new ≡ record (steps frame.old 0 []) {
+      entries = entry.Scope s ∷ frame.old.entries;
+      slots = slice_set frame.old.slots slot (Own s);
+    } }
+{
+    let next = frame.pc + 1;
+    frame.goes(next, 0);
+    frame.entries.push(Entry::Scope(s));
+    set_slot(&mut frame.slots, slot, Slot::Own(s));
+}
+
+impl Store {
+    /// Opens a scope, which the slot owns from now on, and goes on.
+    pub fn open(&mut self, t: u32, slot: u8, joiner: Joiner, timed: bool)
+        requires lives { lives_in (live_of self.old) t ≡ true }
+        requires more { (frame_of self.old t).pc + 1 < 2 ^ 32 }
+        requires entries { length (frame_of self.old t).entries < 16 }
+        requires room { 0 < (unseen_of self.old).scope_room }
+        requires born { length (live_of self.old).scopes < 1000000 }
+        requires order { InOrder (live_of self.old) }
+        ensures live { live_of self.new
+            ≡ live_open (live_of self.old) t (frame_of self.old t) slot joiner timed }
+        ensures unseen { (key : ℕ) × (unseen_of self.new ≡ record (unseen_of self.old) {
+          scope_keys = (unseen_of self.old).scope_keys ++ key ∷ [];
+          scope_room = (unseen_of self.old).scope_room - 1;
+        }) }
+    {
+        let running = self.frames.at(t as usize);
+        let env = running.env;
+        let s = self.tree.open_scope(t, joiner, timed, env);
+        enter_scope(&mut running.frame, slot, s);
+    }
+
+    /// Marks a scope that may expire as expired, and cancels it.
+    pub fn expire(&mut self, s: u32)
+        requires { live_can_expire (live_scope_at (live_of self.old) s) ≡ true }
+        ensures live { live_of self.new ≡ live_expire (live_of self.old) s }
+        ensures unseen { unseen_of self.new ≡ unseen_of self.old }
+    {
+        expire(&mut self.tree, s);
+    }
+}

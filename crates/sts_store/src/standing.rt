@@ -1,0 +1,77 @@
+//! Where tasks are said to stand, which tasks may step, keys and room.
+
+ghost use Rattle.std.specs.Prelude.{◌≡◌, ℕ, Some, None, slice_set, is_some, true, false};
+ghost use Rattle.sts_held.specs.Holes.{key_at};
+ghost use Rattle.sts_seen.specs.Reading.{live_scope_at, lives_in, scope_in};
+ghost use Rattle.sts_store.specs.Parts.{can_go_on, live_of, unseen_of};
+ghost use Rattle.sts_tree.specs.Steps.{stands_at};
+
+use crate::store::Store;
+use sts_model::event::Stand;
+
+impl Store {
+    /// Says where a living task stands: at a scope only if it owns that scope.
+    pub fn stand(&mut self, t: u32, stand: Stand)
+        requires lives { lives_in (live_of self.old) t ≡ true }
+        requires stands { (s : ℕ) → stands_at s stand ≡ true →
+            is_some (scope_in (live_of self.old) s) ≡ true }
+        requires owner { (s : ℕ) → stands_at s stand ≡ true →
+            (live_scope_at (live_of self.old) s).owner ≡ t }
+        ensures live { live_of self.new ≡ live_of self.old }
+        ensures unseen { unseen_of self.new ≡ record (unseen_of self.old) {
+          stands = slice_set (unseen_of self.old).stands t (Some stand);
+        } }
+    {
+        self.tree.stand(t, stand);
+    }
+
+    /// May the task step, from where it was last said to stand?
+    pub fn can_step(&self, t: u32) -> bool
+        ensures { result ≡ can_go_on self.now t }
+    {
+        self.tree.can_step(t)
+    }
+
+    /// Some task that may step: none only where there is none.
+    pub fn ready_front(&self) -> Option<u32>
+        ensures some { (t : ℕ) → result ≡ Some t → can_go_on self.now t ≡ true }
+        ensures none { (t : ℕ) → result ≡ None → can_go_on self.now t ≡ false }
+    {
+        self.tree.ready_front()
+    }
+
+    /// The key under which the record of a task stands, if it does.
+    pub fn key_of(&self, t: u32) -> Option<usize>
+        ensures { result ≡ key_at (live_of self.now).tasks (unseen_of self.now).task_keys t }
+    {
+        self.tree.key_of(t)
+    }
+
+    /// The key under which the record of a scope stands, if it does.
+    pub fn scope_key_of(&self, s: u32) -> Option<usize>
+        ensures { result ≡ key_at (live_of self.now).scopes (unseen_of self.now).scope_keys s }
+    {
+        self.tree.scope_key_of(s)
+    }
+
+    /// How many more tasks fit.
+    pub fn task_room(&self) -> u32
+        ensures { result ≡ (unseen_of self.now).task_room }
+    {
+        self.tree.task_room()
+    }
+
+    /// How many more scopes fit.
+    pub fn scope_room(&self) -> u32
+        ensures { result ≡ (unseen_of self.now).scope_room }
+    {
+        self.tree.scope_room()
+    }
+
+    /// How many more bindings fit.
+    pub fn binding_room(&self) -> u32
+        ensures { result ≡ (unseen_of self.now).binding_room }
+    {
+        self.chains.room()
+    }
+}

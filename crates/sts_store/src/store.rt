@@ -1,0 +1,86 @@
+//! The store, and how it begins.
+
+ghost use Rattle.std.specs.Prelude.{◌≡◌, ◌<◌, ◌≤◌, ◌-◌, ◌∷◌, ℕ, [], Some, IfOk};
+ghost use Rattle.sts_store.specs.Parts.{live_of, root_alone, unseen_of};
+ghost use Rattle.sts_model.specs.declared.event.Stand.TheVariants.{Free};
+
+use crate::running::Running;
+use std::alloc::{AllocError, Global};
+use std::marker::Model;
+use sts_env::chains::Chains;
+use sts_env::env::Env;
+use sts_held::held::Held;
+use sts_model::event::End;
+use sts_model::record::Frame;
+use sts_tree::tree::Tree;
+
+/// How many tasks, scopes and bindings there is room for at once.
+#[derive(Clone, Copy, Debug, PartialEq, Eq)]
+pub struct Room {
+    pub tasks: u32,
+    pub scopes: u32,
+    pub bindings: u32,
+}
+
+/// Tasks and scopes that stand, with the frames of the living ones and all bindings. Contracts see
+/// the parts, and speak of the live view that these make up.
+#[derive(Drop)]
+pub struct Store {
+    pub(crate) tree: Tree<Env>,
+    pub(crate) frames: Held<Running>,
+    pub(crate) chains: Chains,
+    pub(crate) root_end: Option<End>,
+}
+
+impl Model for Store {
+    ghost use Rattle.sts_store.specs.Parts.{Parts};
+    ghost use Rattle.sts_store.specs.Stored.{IsStore};
+
+    ghost Value = { Parts };
+
+    ghost view = { λ m. record {
+      tree = m.tree;
+      frames = m.frames;
+      chains = m.chains;
+      root_end = m.root_end;
+    } };
+
+    ghost invariant = { λ m. IsStore (record {
+      tree = m.tree;
+      frames = m.frames;
+      chains = m.chains;
+      root_end = m.root_end;
+    }) };
+}
+
+impl Store {
+    /// The root task alone, at this frame, with nothing bound, and this much room. No other call
+    /// takes memory.
+    pub fn with_room(alloc: Global, room: Room, frame: Frame) -> Result<Store, AllocError>
+        requires some { 0 < room.tasks }
+        requires few { room.tasks ≤ 65536 }
+        requires fresh { frame.entries ≡ [] }
+        ensures live { IfOk result (λ m. live_of m ≡ root_alone frame) }
+        ensures unseen { IfOk result (λ m. (key : ℕ) × (unseen_of m ≡ record {
+          stands = Some Free ∷ [];
+          task_keys = key ∷ [];
+          scope_keys = [];
+          task_room = room.tasks - 1;
+          frame_room = room.tasks - 1;
+          scope_room = room.scopes;
+          binding_room = room.bindings;
+        })) }
+    {
+        let tree = Tree::with_room(alloc, room.tasks, room.scopes)?;
+        let mut frames = Held::with_room(alloc, room.tasks)?;
+        let chains = Chains::with_room(alloc, room.bindings)?;
+        let env = Env::empty();
+        frames.push(Running { frame, env });
+        Ok(Store {
+            tree,
+            frames,
+            chains,
+            root_end: None,
+        })
+    }
+}

@@ -1,0 +1,59 @@
+//! A root task that binds a key, reads it and ends the binding.
+
+ghost use Rattle.std.specs.Prelude.{◌≡◌, ◌∷◌, [], pos, replicate};
+ghost use Rattle.sts_model.specs.declared.record.Slot.TheVariants.{Empty};
+
+use crate::store::{Room, Store};
+use std::process::Abort;
+use std::test::Fail;
+use sts_model::record::{Entry, Frame, Slot};
+use sts_model::stack::Stack;
+
+/// The frame at the beginning of function 0, with 7 on top.
+fn beginning() -> Frame
+    ensures pc { result.pc ≡ 0 }
+    ensures operands { result.operands ≡ pos 7 ∷ [] }
+    ensures entries { result.entries ≡ [] }
+    ensures slots { result.slots ≡ replicate 16 Empty }
+{
+    let mut operands = Stack::new();
+    operands.push(7);
+    Frame {
+        function: 0,
+        pc: 0,
+        operands,
+        locals: [0; 16],
+        loops: Stack::new(),
+        entries: Stack::new(),
+        slots: [Slot::Empty; 16],
+    }
+}
+
+#[test]
+fn a_key_is_bound_for_a_while(rt: HostRuntime) -> Result<(), Fail> {
+    let room = Room {
+        tasks: 2,
+        scopes: 1,
+        bindings: 1,
+    };
+    let mut store = Store::with_room(rt.alloc(), room, beginning())?;
+    assert!(rt; store.lives(0) && !store.lives(1) && store.ready_front() == Some(0));
+    assert!(rt; store.task_room() == 1 && store.scope_room() == 1);
+    assert!(rt; store.binding_room() == 1 && store.frame(0).pc == 0);
+    assert_eq!(rt; store.read(0, 3), None);
+
+    assert!(rt; store.frame(0).entries.len() < 16);
+    store.bind(0, 3);
+    assert!(rt; store.lives(0) && store.binding_room() == 0);
+    assert_eq!(rt; store.read(0, 3), Some(7));
+    assert_eq!(rt;
+        store.frame(0).entries.get_or(0, Entry::Scope(0)),
+        Entry::Binding(3, 7)
+    );
+
+    store.unbind(0);
+    assert!(rt; store.lives(0) && store.binding_room() == 1);
+    assert_eq!(rt; store.read(0, 3), None);
+    assert_eq!(rt; store.frame(0).pc, 2);
+    Ok(())
+}
