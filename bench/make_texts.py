@@ -167,6 +167,25 @@ def colliding_names(count):
     raise SystemExit(f"only {len(names)} names")
 
 
+def one_bucket_names(count):
+    """Names that the assembler's own mixing puts into one bucket of its 1,024, as many as wanted."""
+    letters = b"abcdefghijklmnopqrstuvwxyz0123456789"
+    ends = {}
+    for a in letters:
+        for b in letters:
+            ends.setdefault((a * 31 + b) % 1024, bytes([a, b]))
+    names, number = [], 0
+    while len(names) < count:
+        name = b"x" + bytes(letters[number // 36**k % 36] for k in range(4))
+        mixed = 0
+        for byte in name:
+            mixed = (mixed * 31 + byte) % 1024
+        end = ends.get(-mixed * 31 * 31 % 1024)
+        names += [(name + end).decode()] if end else []
+        number += 1
+    return names
+
+
 def alike_names(count):
     """Names of 32 bytes, the longest that there are, that differ in their last bytes alone."""
     return [f"{'x' * 26}{i:06}" for i in range(count)]
@@ -185,13 +204,16 @@ TIMES = (1, 2, 4, 8)
 
 def growing(folder):
     """Texts of labels that are hard to tell apart, 1, 2, 4 and 8 times as many."""
-    colliding, alike = colliding_names(10_000), alike_names(24_000)
+    colliding, alike, bucket = colliding_names(10_000), alike_names(24_000), one_bucket_names(96_000)
     for times in TIMES:
         write(folder, f"colliding{times}.sts", labels(colliding[: times * len(colliding) // 8]))
         write(folder, f"alike{times}.sts", labels(alike[: times * len(alike) // 8]))
+        write(folder, f"bucket{times}.sts", labels(bucket[: times * len(bucket) // 8]))
 
 
 def main():
+    if len(sys.argv) != 2 or sys.argv[1].startswith("-"):
+        raise SystemExit(__doc__)
     folder = sys.argv[1]
     os.makedirs(folder, exist_ok=True)
     write(folder, "straight.sts", straight())
