@@ -158,13 +158,13 @@ def shown_commands(path):
 
 
 def commands(paths):
-    """Returns a row for each command with files that the documents show, once."""
-    rows = []
+    """Returns a row for each text whose commands the documents show, with what each of them prints."""
+    asked = {}
     for mode, text, trace, printed in dict.fromkeys(it for path in paths for it in shown_commands(path)):
         status = STATUS.get(printed.split(" ")[0], 0)
-        asked = "verify" if mode == "verify" else events(read(trace))
-        rows.append(row(text, read(text), [(asked, f"{status} {printed}")]))
-    return rows
+        question = "verify" if mode == "verify" else events(read(trace))
+        asked.setdefault(text, []).append((question, f"{status} {printed}"))
+    return [row(text, read(text), questions) for text, questions in asked.items()]
 
 
 def text_of(name, rows):

@@ -50,40 +50,6 @@ intr:                   ; main itself was interrupted
 end
 ? verify
 = 0 square steps 4 / square tasks 1 / square scopes 0 / square binds 0 / main steps 25 / main tasks 4 / main scopes 1 / main binds 0
-
-# examples/sum.sts
-; Fan-out and sum: three subtasks square a number each, and all of them have to succeed.
-; The trace forks tasks 1, 2 and 3, lets task 3 end first, and then steps task 0. It is at `join` and waits, so this
-; step changes nothing and isn't counted. Tasks 1 and 2 end, and task 0 goes on.
-; See: the sum doesn't depend on the order in which the subtasks end.
-; Prints: success 50 (9 + 16 + 25), steps 24.
-func square 1
-  load 0
-  dup
-  mul
-  ret
-end
-func main 0
-  open s0 all
-  push 3
-  fork s0 square _
-  push 4
-  fork s0 square _
-  push 5
-  fork s0 square _
-  join s0 bad - intr    ; ok: the number of subtasks is on the stack
-  pop
-  total s0              ; the sum of their values
-  close s0
-  ret
-bad:                    ; a subtask failed: its code is on the stack
-  close s0
-  fail
-intr:                   ; main itself was interrupted
-  close s0
-  push 0
-  fail
-end
 ? 0*7 3*4 0*1 1*4 2*4 0*5
 = 0 success 50 / steps 24
 
