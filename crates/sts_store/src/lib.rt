@@ -7,6 +7,7 @@
 #![tactic(auto)]
 
 mod binding;
+mod closing;
 mod ending;
 mod forking;
 mod frames;
@@ -14,4 +15,5 @@ mod joining;
 mod readings;
 pub mod running;
 mod scopes;
+mod standing;
 pub mod store;
