@@ -90,7 +90,7 @@ open_live m t x joiner timed keys room l =
 behind_here : (s : ℕ) (es : List Entry) → behind s (entry.Scope s ∷ es) ≡ es
 behind_here s es = let same : nat_eq s s ≡ true = grind (arith, nat_tests) in rw same refl
 
-behind_there : (s r : ℕ) (es : List Entry) → r ≢ s → behind r (entry.Scope s ∷ es) ≡ behind r es
+pub behind_there : (s r : ℕ) (es : List Entry) → r ≢ s → behind r (entry.Scope s ∷ es) ≡ behind r es
 behind_there s r es ne = let other : nat_eq s r ≡ false = grind (arith, nat_tests) in rw other refl
 
 -- no task that stands is in a scope that was never opened

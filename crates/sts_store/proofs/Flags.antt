@@ -15,7 +15,7 @@ use Rattle.sts_store.proofs.Views.{Lived, changed, alive_of, with_running, frame
 use Rattle.sts_store.proofs.Keeping.{kept_task, live_seen, store_seen, rest_seen, same_stand}
 use Rattle.sts_store.proofs.Shared.{here}
 
-set_again : {T : Type 0} (xs : List T) (k : ℕ) (x y : T) → set (set xs k x) k y ≡ set xs k y
+pub set_again : {T : Type 0} (xs : List T) (k : ℕ) (x y : T) → set (set xs k x) k y ≡ set xs k y
 set_again [] k x y = refl
 set_again (z ∷ xs) zero x y = refl
 set_again (z ∷ xs) (suc k) x y = ap (λ l. z ∷ l) (set_again xs k x y)

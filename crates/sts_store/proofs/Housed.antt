@@ -1,19 +1,20 @@
 -- Of a view in order: the owner of a scope lives, and the home of a living task stands.
 use Rattle.std.proofs.Common.{◌≡◌, ℕ, ◌<◌, true, false, Option, Some, None, refl, sym, ◌∙◌, ap, subst, get_or}
-use Rattle.std.specs.Prelude.{option_map, is_some, unwrap_or}
+use Rattle.std.specs.Prelude.{option_map, is_some}
 use Rattle.sts_env.specs.declared.env.Env.{Env}
 use Rattle.sts_forest.specs.declared.record.Task.{Task}
 use Rattle.sts_forest.specs.declared.record.Scope.{Scope}
 use Rattle.sts_forest.proofs.Holding.{map_at}
 use Rattle.sts_model.specs.Live.{LiveScope}
-use Rattle.sts_seen.specs.Reading.{lives_in, scope_in, live_task_at, live_scope_at, no_live_task}
+use Rattle.sts_seen.specs.Reading.{lives_in, scope_in, live_task_at, live_scope_at}
 use Rattle.sts_views.specs.Order.{InOrder}
-use Rattle.sts_agree.specs.View.{scope_seen, task_seen}
-use Rattle.sts_agree.proofs.Viewing.{task_is, scope_is, scope_there}
+use Rattle.sts_agree.specs.View.{scope_seen}
+use Rattle.sts_agree.proofs.Viewing.{scope_is, scope_there}
 use Rattle.sts_store.specs.Parts.{Parts, live_of, beside}
 use Rattle.sts_store.specs.Sharing.{Holder, Keeper, holder_of, keeper_of, home_of, holders, keepers, homes, home_at}
 use Rattle.sts_store.specs.Stored.{IsStore}
 use Rattle.sts_store.proofs.Views.{lives_is, just}
+use Rattle.sts_store.proofs.Seeing.{home_is, scope_of}
 use Rattle.sts_store.proofs.Unsharing.{AreHoused}
 
 some_seen : {A B : Type 0} (f : A → B) (o : Option A) → is_some (option_map f o) ≡ is_some o
@@ -27,16 +28,16 @@ kept_of m s x e = map_at keeper_of m.tree.scopes s ∙ ap (option_map keeper_of)
 -- the scope of a task
 pub home_seen : (m : Parts) (t : ℕ) → (live_task_at (live_of m) t).scope ≡ home_at (homes m) t
 home_seen m t =
-    ap (λ y. (unwrap_or y no_live_task).scope) (task_is (beside m) m.tree t)
+    home_is m t (get_or m.tree.tasks t None) refl
     ∙ by (get_or m.tree.tasks t None)
     ∙ sym (ap (λ y. elim y [ None ↦ None | Some o ↦ o ]) (map_at home_of m.tree.tasks t))
   where
-    by : (x : Option Task) → (unwrap_or (option_map (task_seen (beside m) t) x) no_live_task).scope ≡ (elim (option_map home_of x) [ None ↦ None | Some o ↦ o ])
+    by : (x : Option Task) → scope_of x ≡ (elim (option_map home_of x) [ None ↦ None | Some o ↦ o ])
     by None = refl
     by (Some x) = refl
 
 module _ (m : Parts) (is : IsStore m) (order : InOrder (live_of m)) where
-  holds : (u : ℕ) → is_some (get_or (holders m) u None) ≡ lives_in (live_of m) u
+  pub holds : (u : ℕ) → is_some (get_or (holders m) u None) ≡ lives_in (live_of m) u
   holds u = ap (λ (o : Option Holder). is_some o) (map_at holder_of m.frames.slots u) ∙ some_seen holder_of (get_or m.frames.slots u None) ∙ is.alive u ∙ sym (lives_is m u)
 
   owner_seen : (s : ℕ) (x : Scope Env) → get_or m.tree.scopes s None ≡ Some x → (live_scope_at (live_of m) s).owner ≡ x.owner

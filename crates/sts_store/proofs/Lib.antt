@@ -18,3 +18,6 @@ pub mod Local
 pub mod Writing
 pub mod Flags
 pub mod Bindings
+pub mod Stands
+pub mod Closes
+pub mod Gone

@@ -14,7 +14,7 @@ use Rattle.sts_seen.specs.Reading.{live_scope_at, no_live_scope, with_live_scope
 use Rattle.sts_seen.specs.Cancelling.{live_cancel}
 use Rattle.sts_seen.specs.Outside.{live_can_expire, live_expire}
 use Rattle.sts_agree.specs.View.{scope_seen}
-use Rattle.sts_agree.proofs.Viewing.{scope_is, expired_seen}
+use Rattle.sts_agree.proofs.Viewing.{scope_is, cancelled_is, expired_seen}
 use Rattle.sts_store.specs.Parts.{Parts, live_of, beside, stand_of, unseen_of}
 use Rattle.sts_store.specs.Sharing.{keeper_of, home_of}
 use Rattle.sts_store.specs.Stored.{IsStore}
@@ -88,6 +88,17 @@ rest_cancel m s c = by c.cancelled
     by : (b : Bool) → unseen_of (record m { tree = cond b m.tree (raise_all (with_scope m.tree s (record c { cancelled = true })) s) }) ≡ unseen_of m
     by true = refl
     by false = rest_raised (record m { tree = with_scope m.tree s (record c { cancelled = true }) }) s
+
+-- a scope, once the tree has cancelled it
+module _ (m : Parts) (s : ℕ) (c : Scope Env) (at : get_or m.tree.scopes s None ≡ Some c) (f : Forest Env) (same : seen f ≡ seen (cancel m.tree s c)) where
+  pub cancel_live : live_of (record m { tree = f }) ≡ live_cancel (live_of m) s
+  cancel_live = live_seen m f (cancel m.tree s c) same ∙ cancelled_is (beside m) m.tree s c at
+
+  pub cancel_unseen : unseen_of (record m { tree = f }) ≡ unseen_of m
+  cancel_unseen = rest_seen m f (cancel m.tree s c) same ∙ rest_cancel m s c
+
+  pub cancel_store : IsStore m → IsStore (record m { tree = f })
+  cancel_store is = store_seen m f (cancel m.tree s c) same (kept_cancel m s c is at)
 
 -- the scope as it is once it is marked
 pub written : (m : Parts) (s : ℕ) (c d : Scope Env) → get_or m.tree.scopes s None ≡ Some c → get_or (with_scope m.tree s d).scopes s None ≡ Some d

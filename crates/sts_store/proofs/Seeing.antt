@@ -17,7 +17,7 @@ use Rattle.sts_tree.specs.Reading.{count_of}
 use Rattle.sts_tree.specs.Steps.{can_step, can_go}
 use Rattle.sts_model.specs.declared.event.Stand.TheVariants.{Free}
 use Rattle.sts_model.specs.Live.{LiveTask, LiveScope}
-use Rattle.sts_seen.specs.Reading.{scope_in, live_scope_at, lives_in, no_live_task, no_live_scope}
+use Rattle.sts_seen.specs.Reading.{scope_in, live_scope_at, live_task_at, lives_in, no_live_task, no_live_scope}
 use Rattle.sts_seen.specs.Effect.{live_state, live_tally}
 use Rattle.sts_seen.specs.Waiting.{live_can_go}
 use Rattle.sts_agree.specs.View.{scope_seen, task_seen}
@@ -35,8 +35,20 @@ state_is m t o e = ap (λ y. (unwrap_or y no_live_task).state) (task_is (beside 
     by None = refl
     by (Some x) = refl
 
+-- the scope that a task is a subtask of
+abbrev pub scope_of : Option Task → Option ℕ
+scope_of o = elim o [ None ↦ None | Some x ↦ x.scope ]
+
+-- by what stands at its birth
+pub home_is : (m : Parts) (t : ℕ) (o : Option Task) → get_or m.tree.tasks t None ≡ o → (live_task_at (live_of m) t).scope ≡ scope_of o
+home_is m t o e = ap (λ y. (unwrap_or y no_live_task).scope) (task_is (beside m) m.tree t ∙ ap (option_map (task_seen (beside m) t)) e) ∙ by o
+  where
+    by : (x : Option Task) → (unwrap_or (option_map (task_seen (beside m) t) x) no_live_task).scope ≡ scope_of x
+    by None = refl
+    by (Some x) = refl
+
 -- where a task was said to stand
-stand_is : (m : Parts) (t : ℕ) (x : Task) → get_or m.tree.tasks t None ≡ Some x → stand_in (unseen_of m) t ≡ x.stand
+pub stand_is : (m : Parts) (t : ℕ) (x : Task) → get_or m.tree.tasks t None ≡ Some x → stand_in (unseen_of m) t ≡ x.stand
 stand_is m t x e = ap (λ o. unwrap_or o Free) (map_at stand_of m.tree.tasks t ∙ ap (option_map stand_of) e)
 
 -- who can step in the tree may go on in the view

@@ -2,3 +2,4 @@ pub mod Parts
 pub mod Sharing
 pub mod Stored
 pub mod Ending
+pub mod Closing

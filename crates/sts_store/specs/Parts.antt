@@ -1,7 +1,7 @@
 -- The parts of a store, the live view that they make up together, and what that view doesn't show
 -- (this project's own).
 use Rattle.std.specs.Prelude.{ℕ, List, [], ◌∷◌, map, Option, Some, None, option_map, unwrap_or}
-use Rattle.std.specs.Prelude.{Bool, false, ◌&&◌, slice_index_or}
+use Rattle.std.specs.Prelude.{Bool, false, ◌&&◌, slice_index_or, slice_set}
 use Rattle.sts_env.specs.Environments.{Records, list_of}
 use Rattle.sts_env.specs.declared.env.Binding.{Binding}
 use Rattle.sts_env.specs.declared.env.Env.{Env}
@@ -104,6 +104,10 @@ unseen_of m =
 -- where a task was last said to stand; free where it doesn't stand
 abbrev pub stand_in : Unseen → ℕ → Stand
 stand_in u t = unwrap_or (slice_index_or u.stands t None) Free
+
+-- a task was said to stand here
+abbrev pub stood_unseen : Unseen → ℕ → Stand → Unseen
+stood_unseen u t stand = record u { stands = slice_set u.stands t (Some stand) }
 
 -- may the task go on from where it was last said to stand?
 abbrev pub can_go_on : Parts → ℕ → Bool

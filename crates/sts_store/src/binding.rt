@@ -27,7 +27,7 @@ fn enter_binding(frame: &mut Frame, key: u8)
 }
 
 /// Leaves the innermost entry, and goes on.
-fn leave_entry(frame: &mut Frame)
+pub(crate) fn leave_entry(frame: &mut Frame)
     requires { frame.old.pc + 1 < 2 ^ 32 }
     ensures { frame.new ≡ record (steps frame.old 0 []) { entries = drop 1 frame.old.entries } }
 {

@@ -51,7 +51,7 @@ impl Store {
 }
 
 impl Store {
-    fn set_phase(&mut self, s: u32, phase: Phase)
+    pub(crate) fn set_phase(&mut self, s: u32, phase: Phase)
         requires { is_some (scope_in (live_of self.old) s) ≡ true }
         ensures live { live_of self.new ≡ with_live_phase (live_of self.old) s phase }
         ensures unseen { unseen_of self.new ≡ unseen_of self.old }

@@ -7,6 +7,7 @@
 #![tactic(auto)]
 
 mod binding;
+mod closing;
 mod ending;
 mod forking;
 mod frames;

@@ -1,26 +1,22 @@
 //! Where tasks are said to stand, which tasks may step, keys and room.
 
-ghost use Rattle.std.specs.Prelude.{◌≡◌, ℕ, Some, None, slice_set, is_some, true, false};
+ghost use Rattle.std.specs.Prelude.{◌≡◌, ℕ, Some, None, true, false};
 ghost use Rattle.sts_held.specs.Holes.{key_at};
-ghost use Rattle.sts_seen.specs.Reading.{live_scope_at, lives_in, scope_in};
-ghost use Rattle.sts_store.specs.Parts.{can_go_on, live_of, unseen_of};
-ghost use Rattle.sts_tree.specs.Steps.{stands_at};
+ghost use Rattle.sts_seen.specs.Reading.{lives_in};
+ghost use Rattle.sts_store.specs.Parts.{can_go_on, live_of, stood_unseen, unseen_of};
+ghost use Rattle.sts_views.specs.Order.{IsOwned};
+ghost use Rattle.sts_views.specs.Stands.{is_stand_at};
 
 use crate::store::Store;
 use sts_model::event::Stand;
 
 impl Store {
-    /// Says where a living task stands: at a scope only if it owns that scope.
+    /// Says where a living task stands: free, or at a scope that is its own.
     pub fn stand(&mut self, t: u32, stand: Stand)
         requires lives { lives_in (live_of self.old) t ≡ true }
-        requires stands { (s : ℕ) → stands_at s stand ≡ true →
-            is_some (scope_in (live_of self.old) s) ≡ true }
-        requires owner { (s : ℕ) → stands_at s stand ≡ true →
-            (live_scope_at (live_of self.old) s).owner ≡ t }
+        requires owned { (s : ℕ) → is_stand_at s stand ≡ true → IsOwned (live_of self.old) t s }
         ensures live { live_of self.new ≡ live_of self.old }
-        ensures unseen { unseen_of self.new ≡ record (unseen_of self.old) {
-          stands = slice_set (unseen_of self.old).stands t (Some stand);
-        } }
+        ensures unseen { unseen_of self.new ≡ stood_unseen (unseen_of self.old) t stand }
     {
         self.tree.stand(t, stand);
     }

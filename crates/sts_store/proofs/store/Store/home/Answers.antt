@@ -1,0 +1,17 @@
+use Rattle.std.proofs.Common.{Some, None, ap, sym, ◌∙◌}
+use Rattle.std.specs.Prelude.{option_copied}
+use Rattle.sts_seen.specs.Reading.{live_task_at}
+use Rattle.sts_store.specs.Parts.{live_of}
+use Rattle.sts_store.specs.contracts.store.Store.{the_view}
+use Rattle.sts_store.proofs.Seeing.{home_is}
+use Rattle.sts_store.proofs.store.Store.home.Goals as goal
+
+pub returns-in-None : goal.returns-in-None
+returns-in-None c =
+    sym (home_is (the_view c.self.inside) c.args.t None (sym c.task.ensures.value ∙ ap option_copied c.in-None.is))
+    ∙ ap (λ m. (live_task_at (live_of m) c.args.t).scope) c.self.view_is
+
+pub returns-in-Some : goal.returns-in-Some
+returns-in-Some c =
+    sym (home_is (the_view c.self.inside) c.args.t (Some c.in-Some.task.now) (sym c.task.ensures.value ∙ ap option_copied c.in-Some.is))
+    ∙ ap (λ m. (live_task_at (live_of m) c.args.t).scope) c.self.view_is

@@ -1,0 +1,146 @@
+//! Scopes are closed.
+
+ghost use Rattle.std.specs.Prelude.{◌≡◌, ◌<◌, ◌+◌, ◌^◌, [], drop, true, false, is_some};
+ghost use Rattle.sts_model.specs.Local.{steps};
+ghost use Rattle.sts_model.specs.Misuse.{innermost, is_entry_of};
+ghost use Rattle.sts_model.specs.declared.event.Phase.TheVariants.{Closing};
+ghost use Rattle.sts_model.specs.declared.event.Stand.TheVariants.{AtClose, Free};
+ghost use Rattle.sts_seen.specs.Cancelling.{live_cancel};
+ghost use Rattle.sts_seen.specs.Effect.{is_live_of, live_cleared, live_close, live_closed};
+ghost use Rattle.sts_seen.specs.Reading.{live_any_lives, live_task_at, lives_in, scope_in};
+ghost use Rattle.sts_seen.specs.Reading.{with_live_phase};
+ghost use Rattle.sts_store.specs.Closing.{close_unseen, gone_unseen};
+ghost use Rattle.sts_store.specs.Parts.{frame_of, live_of, stand_in, stood_unseen, unseen_of};
+ghost use Rattle.sts_views.specs.Order.{InOrder, IsOwned};
+
+use crate::binding::leave_entry;
+use crate::store::Store;
+use sts_cancel::cancel::cancel;
+use sts_model::event::{Phase, Stand};
+use sts_model::record::{Frame, Slot};
+
+/// Leaves the innermost entry, with these slots, and goes on.
+fn leave_scope(frame: &mut Frame, slots: [Slot; 16])
+    requires { frame.old.pc + 1 < 2 ^ 32 }
+    ensures { frame.new ≡ record (steps frame.old 0 []) {
+      entries = drop 1 frame.old.entries;
+      slots = slots;
+    } }
+{
+    leave_entry(frame);
+    frame.slots = slots;
+}
+
+impl Store {
+    /// The scope that a task is a subtask of, if it stands and has one.
+    fn home(&self, t: u32) -> Option<u32>
+        ensures { result ≡ (live_task_at (live_of self.now) t).scope }
+    {
+        match self.tree.task(t) {
+            None => None,
+            Some(task) => task.scope,
+        }
+    }
+
+    /// Does the slot own the scope, or name a subtask of it?
+    fn is_of(&self, s: u32, slot: Slot) -> bool
+        ensures { result ≡ is_live_of (live_of self.now) s slot }
+    {
+        match slot {
+            Slot::Own(r) => r == s,
+            Slot::Sub(t) => self.home(t) == Some(s),
+            _ => false,
+        }
+    }
+
+    /// The slots of a living task, those emptied that own the scope or name a subtask of it.
+    fn cleared(&self, t: u32, s: u32) -> [Slot; 16]
+        requires { lives_in (live_of self.now) t ≡ true }
+        ensures { result ≡ live_cleared (live_of self.now) s (frame_of self.now t).slots }
+    {
+        let mut slots = self.frame(t).slots;
+        for x in slots.iter_mut() {
+            if self.is_of(s, *x) {
+                *x = Slot::Empty;
+            }
+        }
+        slots
+    }
+}
+
+impl Store {
+    fn cancel(&mut self, s: u32)
+        requires { is_some (scope_in (live_of self.old) s) ≡ true }
+        ensures live { live_of self.new ≡ live_cancel (live_of self.old) s }
+        ensures unseen { unseen_of self.new ≡ unseen_of self.old }
+    {
+        cancel(&mut self.tree, s);
+    }
+
+    /// Cancels a scope, at which its owner waits from now on.
+    fn begin_close(&mut self, t: u32, s: u32)
+        requires lives { lives_in (live_of self.old) t ≡ true }
+        requires owned { IsOwned (live_of self.old) t s }
+        ensures live { live_of self.new
+            ≡ with_live_phase (live_cancel (live_of self.old) s) s Closing }
+        ensures unseen { unseen_of self.new ≡ stood_unseen (unseen_of self.old) t (AtClose s) }
+    {
+        self.cancel(s);
+        self.stand(t, Stand::AtClose(s));
+        self.set_phase(s, Phase::Closing);
+    }
+
+    /// Takes out a scope and its subtasks, of which none lives. The owner, which stands free, goes
+    /// on.
+    fn take_out(&mut self, t: u32, s: u32)
+        requires lives { lives_in (live_of self.old) t ≡ true }
+        requires more { (frame_of self.old t).pc + 1 < 2 ^ 32 }
+        requires entry { innermost (is_entry_of s) (frame_of self.old t).entries ≡ true }
+        requires order { InOrder (live_of self.old) }
+        requires ended { live_any_lives (live_of self.old) s ≡ false }
+        requires free { stand_in (unseen_of self.old) t ≡ Free }
+        ensures live { live_of self.new
+            ≡ live_closed (live_of self.old) t (frame_of self.old t) s }
+        ensures unseen { unseen_of self.new
+            ≡ gone_unseen (live_of self.old) (unseen_of self.old) s }
+    {
+        let slots = self.cleared(t, s);
+        self.tree.close_scope(s);
+        leave_scope(&mut self.frames.at(t as usize).frame, slots);
+    }
+
+    /// Ends a close.
+    fn finish_close(&mut self, t: u32, s: u32)
+        requires lives { lives_in (live_of self.old) t ≡ true }
+        requires more { (frame_of self.old t).pc + 1 < 2 ^ 32 }
+        requires entry { innermost (is_entry_of s) (frame_of self.old t).entries ≡ true }
+        requires order { InOrder (live_of self.old) }
+        requires ended { live_any_lives (live_of self.old) s ≡ false }
+        ensures live { live_of self.new
+            ≡ live_closed (live_of self.old) t (frame_of self.old t) s }
+        ensures unseen { unseen_of self.new ≡ gone_unseen (live_of self.old)
+            (stood_unseen (unseen_of self.old) t Free) s }
+    {
+        self.stand(t, Stand::Free);
+        self.take_out(t, s);
+    }
+
+    /// A step of the close of a scope, the innermost entry of its owner. While a subtask lives, the
+    /// scope is cancelled and the owner waits; else the scope and its subtasks are taken out, and
+    /// the owner goes on. A cancel would change nothing of what is left then.
+    pub fn close(&mut self, t: u32, s: u32)
+        requires lives { lives_in (live_of self.old) t ≡ true }
+        requires more { (frame_of self.old t).pc + 1 < 2 ^ 32 }
+        requires entry { innermost (is_entry_of s) (frame_of self.old t).entries ≡ true }
+        requires order { InOrder (live_of self.old) }
+        ensures live { live_of self.new ≡ live_close (live_of self.old) t (frame_of self.old t) s }
+        ensures unseen { unseen_of self.new
+            ≡ close_unseen (live_of self.old) (unseen_of self.old) t s }
+    {
+        if self.any_lives(s) {
+            self.begin_close(t, s);
+        } else {
+            self.finish_close(t, s);
+        }
+    }
+}
