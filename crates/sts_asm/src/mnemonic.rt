@@ -19,6 +19,7 @@ pub enum Numbered {
 }
 
 impl Numbered {
+    /// The instruction with this number as its local or key.
     pub fn with(self, x: u8) -> Instr
         ensures { result ≡ with_number self x }
     {
@@ -45,6 +46,7 @@ pub enum Slotted {
 }
 
 impl Slotted {
+    /// The instruction with this slot.
     pub fn with(self, slot: u8) -> Instr
         ensures { result ≡ with_slot self slot }
     {
@@ -68,6 +70,7 @@ pub enum Targeted {
 }
 
 impl Targeted {
+    /// The instruction with this target.
     pub fn with(self, to: u32) -> Instr
         ensures { result ≡ with_target self to }
     {

@@ -70,12 +70,14 @@ impl Program {
         }
     }
 
+    /// The profile that the program is of.
     pub fn profile(&self) -> Profile
         ensures { result ≡ self.now.profile }
     {
         self.profile
     }
 
+    /// The functions, in order; no program check fails on them.
     pub fn functions(&self) -> &[Function]
         ensures value { result.now ≡ self.now.routines }
         ensures checked { fault_of self.now.routines ≡ None }

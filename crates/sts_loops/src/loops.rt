@@ -72,6 +72,7 @@ impl<'c> CodeLoops<'c> {
         }
     }
 
+    /// How many places the function has.
     pub fn len(&self) -> u32
         ensures value { result ≡ length self.now }
         ensures short { result ≤ MAX_INSTRUCTIONS }

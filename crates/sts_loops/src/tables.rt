@@ -52,6 +52,11 @@ fn mark(heads: &mut Vec<Option<u32>>, at: u32, end: u32)
 }
 
 impl Tables {
+    /// The tables of a function's code.
+    ///
+    /// # Errors
+    ///
+    /// Want of memory.
     pub fn new(alloc: Global, code: &[Instr]) -> Result<Tables, AllocError>
         requires { length code.now ≤ MAX_INSTRUCTIONS }
         ensures { IfOk result (table.AreTablesOf code.now) }

@@ -14,12 +14,14 @@ use sts_code::program::Program;
 use sts_model::record::{Entry, Frame, Slot};
 use sts_world::code::code;
 
+/// Does the instruction pop more operands than there are?
 pub fn lacks_operands(program: &Program, frame: &Frame, instr: Instr) -> bool
     ensures { result ≡ misuse.lacks_operands program.now frame.now instr }
 {
     frame.operands.len() < pops(program, instr) as usize
 }
 
+/// Would more operands be on the stack afterwards than it holds?
 pub fn overflows(program: &Program, frame: &Frame, instr: Instr) -> bool
     ensures { result ≡ misuse.overflows program.now frame.now instr }
 {
@@ -44,6 +46,7 @@ fn closes_loop(code: &[Instr], frame: &Frame) -> bool
     }
 }
 
+/// Is a `times` without a match or one loop too many, or a `next` that isn't the match of the innermost loop?
 pub fn breaks_loop(program: &Program, frame: &Frame, instr: Instr) -> bool
     ensures { result ≡ misuse.breaks_loop program.now frame.now instr }
 {
@@ -111,6 +114,7 @@ fn filled_slot(instr: Instr) -> Option<u8>
     }
 }
 
+/// Does a slot that the instruction names not hold what it is about?
 pub fn has_wrong_slot(frame: &Frame, instr: Instr) -> bool
     ensures { result ≡ misuse.has_wrong_slot frame.now instr }
 {
@@ -132,6 +136,7 @@ pub fn has_wrong_slot(frame: &Frame, instr: Instr) -> bool
     owners || subtasks || filled
 }
 
+/// Does the instruction do what only the owner of a scope may do, to the parent scope?
 pub fn is_strangers(frame: &Frame, instr: Instr) -> bool
     ensures { result ≡ misuse.is_strangers frame.now instr }
 {
@@ -182,6 +187,7 @@ fn is_innermost(frame: &Frame, s: u32) -> bool
     }
 }
 
+/// Is the instruction against the order in which scopes and bindings were opened?
 pub fn breaks_structure(frame: &Frame, instr: Instr) -> bool
     ensures { (w : def.World) → result ≡ misuse.breaks_structure w frame.now instr }
 {

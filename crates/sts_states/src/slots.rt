@@ -12,24 +12,28 @@ use sts_code::profile::Profile;
 use sts_model::stack::Stack;
 use sts_rules::typing::{Known, SlotKind, TypedEntry, TypedLoop, TypedPhase, TypedScope};
 
+/// Does the slot hold nothing?
 pub fn is_empty(kind: SlotKind) -> bool
     ensures { result ≡ def.is_empty kind }
 {
     matches!(kind, SlotKind::Empty)
 }
 
+/// Does the slot hold a scope of the task's own?
 pub fn is_own(kind: SlotKind) -> bool
     ensures { result ≡ def.is_own kind }
 {
     matches!(kind, SlotKind::Own)
 }
 
+/// Does the slot hold the scope that the task is a subtask of?
 pub fn is_lent(kind: SlotKind) -> bool
     ensures { result ≡ def.is_lent kind }
 {
     matches!(kind, SlotKind::Lent)
 }
 
+/// Does the slot hold a subtask?
 pub fn is_sub(kind: SlotKind) -> bool
     ensures { result ≡ def.is_sub kind }
 {
@@ -68,6 +72,7 @@ fn scope_in(entries: &Stack<TypedEntry, 16>, slot: u8) -> Option<TypedScope>
     None
 }
 
+/// Was no `join` of the scope tried yet?
 pub fn is_opened(scope: TypedScope) -> bool
     ensures { result ≡ def.is_opened scope }
 {
@@ -92,24 +97,28 @@ pub fn is_readable(profile: Profile, scope: TypedScope) -> bool
     }
 }
 
+/// Is the subtask known to be a success?
 pub fn is_success(known: Known) -> bool
     ensures { result ≡ def.is_success known }
 {
     matches!(known, Known::Success)
 }
 
+/// Is the subtask known to have failed?
 pub fn is_failed(known: Known) -> bool
     ensures { result ≡ def.is_failed known }
 {
     matches!(known, Known::Failed)
 }
 
+/// Is the entry a binding?
 pub fn is_binding(entry: TypedEntry) -> bool
     ensures { result ≡ def.is_binding entry }
 {
     matches!(entry, TypedEntry::Binding(_))
 }
 
+/// Is the entry the scope of this slot?
 pub fn is_scope_in(slot: u8, entry: TypedEntry) -> bool
     ensures { result ≡ def.is_scope_in slot entry }
 {
@@ -119,6 +128,7 @@ pub fn is_scope_in(slot: u8, entry: TypedEntry) -> bool
     }
 }
 
+/// Is the entry a binding of this key?
 pub fn binds(key: u8, entry: TypedEntry) -> bool
     ensures { result ≡ def.binds key entry }
 {

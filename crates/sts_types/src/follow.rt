@@ -33,6 +33,7 @@ impl Model for Edges {
 }
 
 impl Edges {
+    /// The places that follow, each with its typestate, in order.
     pub fn as_slice(&self) -> &[(u32, TypeState)]
         ensures { result.now ≡ self.now }
     {

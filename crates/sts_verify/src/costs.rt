@@ -4,7 +4,8 @@
 //! `fork` also those of its child; a turn of a loop is its body and its `next`.
 
 use crate::tests::{
-    FORK, FORKS, LONG, OPEN, SCOPE_IN_A_LOOP, bindings_in_bindings, program_with, scopes_in_scopes,
+    FORK, FORKS, LONG, OPEN, SCOPE_IN_A_LOOP, bindings_in_bindings, crowd, program_with,
+    scopes_in_scopes,
 };
 use std::alloc::Global;
 use std::test::Fail;
@@ -162,33 +163,6 @@ fn a_child_is_part_of_the_budgets(rt: HostRuntime) -> Result<(), Fail> {
         found(9004, 2, 1, 0)
     );
     Ok(())
-}
-
-/// Forks the child `outer` times `inner` times in one scope. Of steps these are 3 before the loops,
-/// in each outer turn 3 beside the inner ones, in each inner turn 2 and the child's, and 5 behind.
-fn crowd(outer: u16, inner: u16) -> [Instr; 15] {
-    [
-        OPEN,
-        Instr::Push(outer as i64),
-        Instr::Times(outer),
-        Instr::Push(inner as i64),
-        Instr::Times(inner),
-        FORK,
-        Instr::Next,
-        Instr::Next,
-        Instr::Join {
-            slot: 0,
-            failed: None,
-            timeout: None,
-            interrupted: 12,
-        },
-        Instr::Close(0),
-        Instr::Push(1),
-        Instr::Ret,
-        Instr::Push(0),
-        Instr::Close(0),
-        Instr::Fail,
-    ]
 }
 
 /// `crowd(15, 4369)`, and one `fork` more.

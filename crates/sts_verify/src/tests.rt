@@ -177,28 +177,32 @@ static BINDING_IN_LOOPS: [Instr; 11] = [
     Instr::Ret,
 ];
 
-static CROWD: [Instr; 15] = [
-    OPEN,
-    Instr::Push(7),
-    Instr::Times(7),
-    Instr::Push(10000),
-    Instr::Times(10000),
-    FORK,
-    Instr::Next,
-    Instr::Next,
-    Instr::Join {
-        slot: 0,
-        failed: None,
-        timeout: None,
-        interrupted: 12,
-    },
-    Instr::Close(0),
-    Instr::Push(1),
-    Instr::Ret,
-    Instr::Push(0),
-    Instr::Close(0),
-    Instr::Fail,
-];
+/// Forks the child `outer` times `inner` times in one scope. Of steps these are 3 before the loops,
+/// in each outer turn 3 beside the inner ones, in each inner turn 2 and the child's, and 5 behind.
+pub(crate) fn crowd(outer: u16, inner: u16) -> [Instr; 15] {
+    [
+        OPEN,
+        Instr::Push(outer as i64),
+        Instr::Times(outer),
+        Instr::Push(inner as i64),
+        Instr::Times(inner),
+        FORK,
+        Instr::Next,
+        Instr::Next,
+        Instr::Join {
+            slot: 0,
+            failed: None,
+            timeout: None,
+            interrupted: 12,
+        },
+        Instr::Close(0),
+        Instr::Push(1),
+        Instr::Ret,
+        Instr::Push(0),
+        Instr::Close(0),
+        Instr::Fail,
+    ]
+}
 
 #[test]
 fn budgets_are_the_most_at_a_time(rt: HostRuntime) -> Result<(), Fail> {
@@ -229,7 +233,10 @@ fn budgets_are_the_most_at_a_time(rt: HostRuntime) -> Result<(), Fail> {
 #[test]
 fn too_much_is_told_behind_the_last_instruction(rt: HostRuntime) -> Result<(), Fail> {
     let alloc = rt.alloc();
-    assert_eq!(rt; refusal(alloc, CROWD.as_slice())?, Some((1, 15, 18)));
+    assert_eq!(rt;
+        refusal(alloc, crowd(7, 10000).as_slice())?,
+        Some((1, 15, 18))
+    );
     Ok(())
 }
 

@@ -38,6 +38,7 @@ impl Model for Verified {
 }
 
 impl Verified {
+    /// The program that was accepted.
     pub fn program(&self) -> &Program
         ensures value { result.now ≡ self.now }
         ensures accepted { IsAccepted self.now }
@@ -53,6 +54,7 @@ impl Verified {
         self.budgets[function]
     }
 
+    /// The program that was accepted, given back.
     pub fn into_program(self) -> Program
         ensures value { result ≡ self }
         ensures accepted { IsAccepted self }

@@ -42,6 +42,7 @@ fn is_older(front: Option<usize>, place: usize) -> bool
 }
 
 impl Chains {
+    /// No links yet.
     pub fn new(alloc: Global) -> Chains
         ensures { result ≡ [] }
     {

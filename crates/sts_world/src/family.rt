@@ -26,6 +26,7 @@ impl Model for Family {
 }
 
 impl Family {
+    /// No subtasks yet.
     pub fn new(alloc: Global) -> Family
         ensures { result ≡ no_family }
     {
@@ -42,6 +43,7 @@ impl Family {
         self.births.as_slice()
     }
 
+    /// Does one of the subtasks live?
     pub fn any_lives(&self) -> bool
         ensures { result ≡ nat_lt 0 self.now.living }
     {

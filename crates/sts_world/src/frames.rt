@@ -132,6 +132,7 @@ fn entry_locals(args: usize, forker: &Frame) -> [i64; 16]
     locals
 }
 
+/// Fills a slot; one above the last changes nothing.
 pub fn set_slot(slots: &mut [Slot; 16], x: u8, slot: Slot)
     ensures { slots.new ≡ slice_set slots.old x slot }
 {

@@ -61,6 +61,7 @@ impl Records {
         self.scopes.len()
     }
 
+    /// Does the task live? No task lives that was never born.
     pub fn lives(&self, t: u32) -> bool
         ensures value { result ≡ living.lives (def.task_at self.now t) }
         ensures born { result ≡ true → t < length self.now.tasks }
@@ -71,6 +72,7 @@ impl Records {
         }
     }
 
+    /// The frame of a task that lives.
     pub fn frame(&self, t: u32) -> &Frame
         requires born { t < length self.now.tasks }
         requires lives { living.lives (def.task_at self.now t) ≡ true }
@@ -79,6 +81,7 @@ impl Records {
         self.tasks[t as usize].frame()
     }
 
+    /// The interrupt flag of a task.
     pub fn flag(&self, t: u32) -> bool
         ensures { result ≡ (def.task_at self.now t).flag }
     {
@@ -123,6 +126,7 @@ impl Records {
         self.scopes.get(s as usize)
     }
 
+    /// The phase of a scope.
     pub fn phase(&self, s: u32) -> Phase
         ensures { result ≡ (def.scope_at self.now s).phase }
     {
@@ -132,6 +136,7 @@ impl Records {
         }
     }
 
+    /// The joiner of a scope.
     pub fn joiner(&self, s: u32) -> Joiner
         ensures { result ≡ (def.scope_at self.now s).joiner }
     {
@@ -141,6 +146,7 @@ impl Records {
         }
     }
 
+    /// Was the scope opened with a timeout?
     pub fn is_timed(&self, s: u32) -> bool
         ensures { result ≡ (def.scope_at self.now s).timed }
     {
@@ -150,6 +156,7 @@ impl Records {
         }
     }
 
+    /// Is the scope cancelled?
     pub fn is_cancelled(&self, s: u32) -> bool
         ensures { result ≡ (def.scope_at self.now s).cancelled }
     {
@@ -159,6 +166,7 @@ impl Records {
         }
     }
 
+    /// Has the scope expired?
     pub fn is_expired(&self, s: u32) -> bool
         ensures { result ≡ (def.scope_at self.now s).expired }
     {

@@ -123,12 +123,14 @@ impl TaskRecord {
 // ---- what is read
 
 impl TaskRecord {
+    /// Does the task live?
     pub fn lives(&self) -> bool
         ensures { result ≡ living.lives self.now }
     {
         self.started && self.outcome.is_none()
     }
 
+    /// Its interrupt flag.
     pub fn flag(&self) -> bool
         ensures { result ≡ self.now.flag }
     {
@@ -142,6 +144,7 @@ impl TaskRecord {
         self.scope
     }
 
+    /// How it ended, if it has.
     pub fn outcome(&self) -> Option<End>
         ensures { result ≡ self.now.outcome }
     {
