@@ -52,6 +52,10 @@ fn outline_of<'a>(alloc: Global, text: &'a [u8]) -> Result<Outline<'a>, AsmError
 }
 
 /// The program that a text spells, or its first fault.
+///
+/// # Errors
+///
+/// The kind and the line of the first fault; or want of memory, as A10 at line 0.
 pub fn assemble(alloc: Global, text: &[u8]) -> Result<Program, AsmError>
     ensures { Judges (λ p. p) result (judged text.now) }
 {

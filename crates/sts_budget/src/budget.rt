@@ -40,6 +40,10 @@ impl From<AllocError> for BudgetError {
 }
 
 /// The budgets of a well-typed function, where the functions before it have these budgets.
+///
+/// # Errors
+///
+/// The least cause from V17 to V20 that holds; or want of memory.
 pub fn budget(
     alloc: Global,
     program: &Program,

@@ -221,6 +221,10 @@ fn write_mate(mates: &mut Vec<u32>, instr: Instr, pc: u32, head: Option<u32>)
 }
 
 /// What is open at each place of a well-typed function.
+///
+/// # Errors
+///
+/// Want of memory.
 pub fn lay_out(alloc: Global, program: &Program, function: usize) -> Result<Layout, AllocError>
     requires in_program { function < length program.now.routines }
     requires typed { IsWellTyped program.now function }

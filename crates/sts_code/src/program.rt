@@ -50,6 +50,10 @@ impl Model for Program {
 
 impl Program {
     /// A program of profile one, or the first check that the functions fail. A refusal drops the functions.
+    ///
+    /// # Errors
+    ///
+    /// The first program check that the functions fail, with its place.
     pub fn new(functions: Vec<Function>) -> Result<Program, CodeError>
         ensures { MatchResult result (λ p. (fault_of functions.items ≡ None) ×
             (p ≡ record { profile = Profile.One; routines = functions.items }))
@@ -59,6 +63,10 @@ impl Program {
     }
 
     /// A program of this profile, or the first check that the functions fail. A refusal drops the functions.
+    ///
+    /// # Errors
+    ///
+    /// The first program check that the functions fail, with its place.
     pub fn new_in(profile: Profile, functions: Vec<Function>) -> Result<Program, CodeError>
         ensures { MatchResult result (λ p. (fault_of functions.items ≡ None) ×
             (p ≡ record { profile = profile; routines = functions.items }))

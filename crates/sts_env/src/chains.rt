@@ -38,6 +38,10 @@ fn binding(key: u8, value: i64) -> Binding
 
 impl Chains {
     /// No records, and room for so many bindings at once. No other call takes memory.
+    ///
+    /// # Errors
+    ///
+    /// Want of memory.
     pub fn with_room(alloc: Global, binds: u32) -> Result<Chains, AllocError>
         ensures room { IfOk result (λ c. c.room ≡ binds) }
         ensures empty { IfOk result (λ c. (k : ℕ) → record_at c k ≡ None) }

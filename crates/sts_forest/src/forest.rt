@@ -109,6 +109,10 @@ impl<E: Drop> Forest<E> {
 
     /// The root task alone, ready, with room for so many tasks and scopes. No other call takes
     /// memory.
+    ///
+    /// # Errors
+    ///
+    /// Want of memory.
     pub fn with_room(alloc: Global, tasks: u32, scopes: u32) -> Result<Forest<E>, AllocError>
         requires some { 0 < tasks }
         requires few { tasks ≤ 65536 }

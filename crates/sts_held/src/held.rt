@@ -53,6 +53,10 @@ impl<T> Model for Held<T> {
 
 impl<T: Drop> Held<T> {
     /// No records, room for so many at once, and for 1,000,000 births. No other call takes memory.
+    ///
+    /// # Errors
+    ///
+    /// Want of memory.
     pub fn with_room(alloc: Global, room: u32) -> Result<Held<T>, AllocError>
         ensures { IfOk result (λ h. h ≡ record { slots = []; keys = []; room = room }) }
     {

@@ -119,6 +119,10 @@ fn write_profile(out: &mut String, profile: Profile) -> Result<(), AllocError>
 }
 
 /// The listing of a program.
+///
+/// # Errors
+///
+/// Want of memory.
 pub fn list(alloc: Global, program: &Program) -> Result<String, AllocError>
     ensures listing { IfOk result (λ text. string_bytes text ≡ listing program.now) }
 

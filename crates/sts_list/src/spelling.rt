@@ -200,6 +200,10 @@ fn write_operands(out: &mut String, instr: Instr, program: &Program) -> Result<(
 }
 
 /// Appends the words of an instruction.
+///
+/// # Errors
+///
+/// Want of memory; some of the words may be written then.
 pub fn write_instr(out: &mut String, instr: Instr, program: &Program) -> Result<(), AllocError>
     ensures { OnOk result (string_bytes out.new ≡
         string_bytes out.old ++ spelled program.now instr) }
@@ -209,6 +213,10 @@ pub fn write_instr(out: &mut String, instr: Instr, program: &Program) -> Result<
 }
 
 /// The words of one instruction of a program, one space apart, as they stand in its listing.
+///
+/// # Errors
+///
+/// Want of memory.
 pub fn spell(alloc: Global, instr: &Instr, program: &Program) -> Result<String, AllocError>
     ensures { IfOk result (λ text. string_bytes text ≡ spelled program.now instr.now) }
 {

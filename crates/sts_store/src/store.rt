@@ -56,6 +56,10 @@ impl Model for Store {
 impl Store {
     /// The root task alone, at this frame, with nothing bound, and this much room. No other call
     /// takes memory.
+    ///
+    /// # Errors
+    ///
+    /// Want of memory.
     pub fn with_room(alloc: Global, room: Room, frame: Frame) -> Result<Store, AllocError>
         requires some { 0 < room.tasks }
         requires few { room.tasks ≤ 65536 }

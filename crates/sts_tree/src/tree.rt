@@ -43,6 +43,10 @@ impl<E: Drop> Tree<E> {
 
     /// The root task alone, which can step, with room for so many tasks and scopes. No other call
     /// takes memory.
+    ///
+    /// # Errors
+    ///
+    /// Want of memory.
     pub fn with_room(alloc: Global, tasks: u32, scopes: u32) -> Result<Tree<E>, AllocError>
         requires some { 0 < tasks }
         requires few { tasks ≤ 65536 }

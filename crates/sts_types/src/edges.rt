@@ -17,6 +17,10 @@ use sts_states::state::TypeState;
 /// The edges of the instruction at a place of one of the program's functions, or the least cause that holds there.
 ///
 /// Causes that compare typestates or look for dead code aren't tested: they speak of a whole function.
+///
+/// # Errors
+///
+/// The least cause from V1 to V16 that holds there.
 pub fn edges(program: &Program, function: u32, pc: u32, state: &TypeState) -> Result<Edges, Cause>
     requires function { function < length program.now.routines }
     requires pc { pc < size program.now function }

@@ -95,6 +95,10 @@ fn follow(site: &Site<'_>, arrivals: &mut Arrivals) -> Result<(), AllocError>
 
 /// Whether each place of one of the program's functions has one typestate and no cause from V1 to V16; else the least
 /// place that has a cause, with the least cause there.
+///
+/// # Errors
+///
+/// The least place that has a cause and the least cause there; or want of memory.
 pub fn type_function(alloc: Global, program: &Program, function: u32) -> Result<(), TypeError>
     requires { function < length program.now.routines }
     ensures { MatchResult result (λ _. IsWellTyped program.now function)

@@ -120,6 +120,10 @@ fn verify_function(
 }
 
 /// Verifies a program: it is accepted, or refused at its least place with a cause, by the least cause there.
+///
+/// # Errors
+///
+/// The refusal, or want of memory; both give the program back.
 pub fn verify(alloc: Global, program: Program) -> Result<Verified, VerifyError>
     ensures { MatchResult result (λ verified. (verified ≡ program) ×
         IsAccepted program) (def.Tells program) }

@@ -548,6 +548,10 @@ impl World {
 
 impl World {
     /// The root task alone.
+    ///
+    /// # Errors
+    ///
+    /// Want of memory.
     pub fn opening(alloc: Global, program: &Program) -> Result<World, AllocError>
         ensures { IfOk result (λ w. def.opening program.now ≡ def.Running w) }
     {
