@@ -13,11 +13,13 @@ Each text and output of README.md, docs/LANGUAGE.md, docs/VERIFIER.md and exampl
 - what VERIFIER.md says of each cause that is refused or accepted;
 - each command of README.md and examples/README.md, with the files that it names.
 
-It also says where a document names a file that isn't there, or shows a line of a contract that no source has.
+It also says where a document names a file that isn't there, where it shows a line of a contract that no source has or
+a part of a program that no example has, and where a picture isn't what its script draws.
 """
 import itertools
 import os
 import re
+import subprocess
 import sys
 
 ROOT = os.path.dirname(os.path.dirname(os.path.realpath(__file__)))
@@ -229,9 +231,25 @@ def shown_contracts(path):
                 fail(f"{path} shows a contract with the line {line.strip()!r}, which no source has")
 
 
+def shown_programs(path):
+    """Fails where a document shows a part of a program that stands so in no example."""
+    texts = [read(f"examples/{it}") for it in os.listdir(f"{ROOT}/examples") if it.endswith(".sts")]
+    for block in re.findall(r"```text\n(.*?)```", read(path), re.S):
+        if not any(block in text for text in texts):
+            fail(f"{path} shows a part of a program that no example has: {block.splitlines()[0]!r}")
+
+
+def pictures():
+    """Fails where a picture isn't what its script draws."""
+    if subprocess.run([sys.executable, f"{ROOT}/docs/pictures/draw.py", "--check"], stdout=subprocess.DEVNULL).returncode:
+        fail("a picture isn't what docs/pictures/draw.py draws: run it")
+
+
 def main():
     named_files()
     shown_contracts("docs/PROOFS.md")
+    shown_programs("README.md")
+    pictures()
     for name, table in files().items():
         path = f"{ROOT}/{FOLDER}/{name}"
         if sys.argv[1:] == ["write"]:

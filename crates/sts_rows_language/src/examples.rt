@@ -4,17 +4,6 @@ use crate::table::walk_table;
 use std::test::Fail;
 
 const COMMANDS: &str = "
-# examples/seven.sts
-; The smallest program: one task, which ends with the value 7.
-; The trace lets the root task, task 0, do its two steps.
-; Prints: success 7, steps 2. With one line less in the trace: running, steps 1.
-func main 0
-  push 7
-  ret
-end
-? 0*2
-= 0 success 7 / steps 2
-
 # examples/sum.sts
 ; Fan-out and sum: three subtasks square a number each, and all of them have to succeed.
 ; The trace forks tasks 1, 2 and 3, lets task 3 end first, and then steps task 0. It is at `join` and waits, so this
@@ -48,10 +37,21 @@ intr:                   ; main itself was interrupted
   push 0
   fail
 end
-? verify
-= 0 square steps 4 / square tasks 1 / square scopes 0 / square binds 0 / main steps 25 / main tasks 4 / main scopes 1 / main binds 0
 ? 0*7 3*4 0*1 1*4 2*4 0*5
 = 0 success 50 / steps 24
+? verify
+= 0 square steps 4 / square tasks 1 / square scopes 0 / square binds 0 / main steps 25 / main tasks 4 / main scopes 1 / main binds 0
+
+# examples/seven.sts
+; The smallest program: one task, which ends with the value 7.
+; The trace lets the root task, task 0, do its two steps.
+; Prints: success 7, steps 2. With one line less in the trace: running, steps 1.
+func main 0
+  push 7
+  ret
+end
+? 0*2
+= 0 success 7 / steps 2
 
 # examples/first_answer.sts
 ; The first answer wins: two mirrors are asked, and the faster one counts.
