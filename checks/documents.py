@@ -8,7 +8,7 @@ Each text and output of README.md, docs/LANGUAGE.md, docs/VERIFIER.md and exampl
 
 - a block of LANGUAGE.md with a comment `<!-- run: TEXT ? ASKED = STATUS LINES -->` above it, where `@` stands for the
   block, and what is asked is `verify`, `list` or a trace (`0*5` is five steps of task 0, `i0` an interrupt, `x0` an
-  expiry); a block that is no example begins with "```text";
+  expiry); where nothing is said of `verify` it accepts the text; a block that is no example begins with "```text";
 - a line of its tables of faults whose text is written in full;
 - what VERIFIER.md says of each cause that is refused or accepted;
 - each command of README.md and examples/README.md, with the files that it names.
@@ -75,14 +75,15 @@ def questions(words):
 
 
 def of_block(name, harness, block):
-    """Returns the row of a block of LANGUAGE.md with what is written above it."""
+    """Returns the row of a block of LANGUAGE.md with what is written above it; it is accepted, unless that says otherwise."""
+    accepted = [] if "verify = " in harness else [("verify", "0")]
     if harness.startswith("@ = "):
         text, trace = block.split("%\n")
-        return row(name, text, [(events(trace), harness[4:])])
+        return row(name, text, [(events(trace), harness[4:]), *accepted])
     text, asked = harness.split(" ? ", 1)
-    pairs = questions(asked)
+    pairs = questions(asked) + accepted
     if pairs[0][0] == "@":
-        return row(name, text, [(events(block), pairs[0][1])])
+        return row(name, text, [(events(block), pairs[0][1]), *accepted])
     before, after = text.split("@")
     parts = [before.strip(" /"), block.rstrip("\n"), after.strip(" /")]
     return row(name, "\n".join(part for part in parts if part), pairs)
