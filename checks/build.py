@@ -20,7 +20,8 @@ ROOT = os.path.dirname(os.path.dirname(os.path.realpath(__file__)))
 PROGRAM = "sts"
 BUILT = f"{ROOT}/crates/{PROGRAM}/out/{PROGRAM}"
 LOG = f"{ROOT}/crates/{PROGRAM}/out/build.log"
-PROVED = re.compile(r"^fn (?:<)?(sts\w*)\b.*: proved$", re.M)
+PROVED = re.compile(r"^fn .*: proved$", re.M)
+HEADING = re.compile(r"^== (\w+)$", re.M)
 
 
 def crates():
@@ -101,24 +102,25 @@ def stop(process):
     process.wait()
 
 
-def progress(process, total, since):
-    """Returns the crates at work, and a line that says how far the build is."""
-    proved = PROVED.findall(open(LOG, errors="replace").read())
-    done, now = len(set(proved)), at_work(process.pid)
+def progress(process, names, since):
+    """Returns what the build is at, and a line that says how far it is. A crate that is done has a heading in the log."""
+    log, now = open(LOG, errors="replace").read(), at_work(process.pid)
+    headings = set(HEADING.findall(log))
+    done = headings.intersection(names).difference(now)
     minutes, seconds = divmod(int(time.time() - since), 60)
-    line = f"sts: {done} of {total} crates proved, {len(proved)} functions, {minutes} min {seconds:02} s"
-    if done == total:
-        return {PROGRAM}, f"{line}; the program is built"
-    if not done and now in ([], [PROGRAM]):
+    line = f"sts: {len(done)} of {len(names)} crates proved, {len(set(PROVED.findall(log)))} functions in {minutes} min {seconds:02} s"
+    if "summary" in headings:
+        return {"program"}, f"{line}; building the program"
+    if not headings:
         return {"sources"}, f"{line}; reading all sources"
     return set(now), f"{line}; at {', '.join(now) or 'the next'}"
 
 
-def watch(process, total, since):
+def watch(process, names, since):
     """Says how far the build is until it ends."""
     said, is_terminal = set(), sys.stderr.isatty()
     while process.poll() is None:
-        doing, line = progress(process, total, since)
+        doing, line = progress(process, names, since)
         if is_terminal:
             sys.stderr.write(f"\r\x1b[K{line[:shutil.get_terminal_size().columns - 1]}")
         elif not doing <= said:
@@ -136,7 +138,7 @@ def build(log):
     since = time.time()
     process = start(log)
     try:
-        watch(process, len(needed(crates(), PROGRAM, [])), since)
+        watch(process, needed(crates(), PROGRAM, []), since)
     except KeyboardInterrupt:
         stop(process)
         print("\nsts: interrupted; what was proved is kept, and the next call goes on from there", file=sys.stderr)
