@@ -141,6 +141,51 @@ end
 ? 0*3 1*2 2*2 1*2 3*4 1*3 0*3
 = 1 failed 8 / steps 19
 
+# examples/fallback.sts
+; A fallback: a failure takes nobody along, and a value stands in for the one that is missing.
+; The trace forks task 1, which divides 100 by 0 and fails, and task 2, which divides it by 5. Under `awaitall` the
+; failure cancels nothing, so task 2 goes on and gives 20. `main` joins both, asks how task 1 ended, and adds 1000 for it.
+; See: `case` has a way for each end. What `verify` knows of slot 1 is different on each, so each forgets the subtask
+; before they meet.
+; Prints: success 1020, steps 22.
+func share 1
+  push 100
+  load 0
+  div zero
+  ret
+zero:
+  push 404
+  fail
+end
+func main 0
+  open s0 awaitall
+  push 0
+  fork s0 share s1
+  push 5
+  fork s0 share _
+  join s0 - - intr
+  total s0              ; what came: 20
+  case s1 came failed
+  forget s1             ; unavailable: never, where all were awaited
+  jmp done
+came:
+  forget s1
+  jmp done
+failed:
+  forget s1
+  push 1000
+  add
+done:
+  close s0
+  ret
+intr:                   ; main itself was interrupted
+  close s0
+  push 0
+  fail
+end
+? 0*5 1*5 2*4 0*8
+= 0 success 1020 / steps 22
+
 # examples/deadline.sts
 ; A deadline, in profile 1: after a timeout no subtask may be read.
 ; The trace forks task 1 (it gives 20) and task 2 (it gives 22), lets task 1 end in time, and then the scope expires. The
@@ -304,6 +349,6 @@ end
 #[test]
 fn what_is_shown_holds(rt: HostRuntime) -> Result<(), Fail> {
     let alloc = rt.alloc();
-    assert_eq!(rt; walk_table(&rt, alloc, COMMANDS)?, 9);
+    assert_eq!(rt; walk_table(&rt, alloc, COMMANDS)?, 10);
     Ok(())
 }
