@@ -49,16 +49,26 @@ def side_by_side():
 
 
 def log_alone():
-    """Returns the log, held by this build alone, and whether another build was waited for."""
+    """Returns the log, held by this call alone."""
     os.makedirs(os.path.dirname(LOG), exist_ok=True)
-    log, waited = open(LOG, "ab"), False
+    log = open(LOG, "ab")
     try:
         fcntl.flock(log, fcntl.LOCK_EX | fcntl.LOCK_NB)
     except BlockingIOError:
-        waited = True
         print("sts: another call proves and builds the program; this one waits for it", file=sys.stderr)
         fcntl.flock(log, fcntl.LOCK_EX)
-    return log, waited
+    return log
+
+
+def is_current(names):
+    """Tells whether the program is there and newer than all that it is built of; then its time is set to now."""
+    now, folders = time.time(), [f"{ROOT}/crates/{name}/{it}" for name in names for it in ("src", "specs", "proofs")]
+    files = [f"{at}/{it}" for folder in folders for at, _, found in os.walk(folder) for it in found]
+    newest = max(os.path.getmtime(it) for it in [f"{ROOT}/crates.txt", *files])
+    if not os.path.exists(BUILT) or os.path.getmtime(BUILT) <= newest:
+        return False
+    os.utime(BUILT, (now, now))
+    return True
 
 
 def start(log):
@@ -132,13 +142,13 @@ def watch(process, names, since):
         sys.stderr.write("\n")
 
 
-def build(log):
+def build(log, names):
     """Builds the program, and returns whether it is there. Its time is that of the start: what is edited since is newer."""
     print(f"sts: proving and building the program, once; what is said of it goes to {LOG}", file=sys.stderr)
     since = time.time()
     process = start(log)
     try:
-        watch(process, needed(crates(), PROGRAM, []), since)
+        watch(process, names, since)
     except KeyboardInterrupt:
         stop(process)
         print("\nsts: interrupted; what was proved is kept, and the next call goes on from there", file=sys.stderr)
@@ -162,10 +172,10 @@ def main():
     for number in (signal.SIGTERM, signal.SIGHUP):
         signal.signal(number, interrupt)
     try:
-        log, waited = log_alone()
+        log, names = log_alone(), needed(crates(), PROGRAM, [])
+        is_there = is_current(names) or build(log, names)
     except KeyboardInterrupt:
         return 6
-    is_there = waited and os.path.exists(BUILT) or build(log)
     if is_there and sys.argv[1:]:
         os.execv(sys.argv[1], sys.argv[1:])
     return 0 if is_there else 6
