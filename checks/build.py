@@ -144,7 +144,8 @@ def watch(process, names, since):
 
 def build(log, names):
     """Builds the program, and returns whether it is there. Its time is that of the start: what is edited since is newer."""
-    print(f"sts: proving and building the program, once; what is said of it goes to {LOG}", file=sys.stderr)
+    print("sts: proving and building the program, in 10 to 25 minutes where nothing was proved before; "
+          f"what is said of it goes to {LOG}", file=sys.stderr)
     since = time.time()
     process = start(log)
     try:

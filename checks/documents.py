@@ -14,7 +14,8 @@ Each text and output of README.md, docs/LANGUAGE.md, docs/VERIFIER.md and exampl
 - each command of README.md and examples/README.md, with the files that it names.
 
 It also says where a document names a file that isn't there, where it shows a line of a contract that no source has or
-a part of a program that no example has, and where a picture isn't what its script draws.
+a part of a program that no example has, where an example isn't shown or says that it prints something else, and where a
+picture isn't what its script draws.
 """
 import itertools
 import os
@@ -25,6 +26,7 @@ import sys
 ROOT = os.path.dirname(os.path.dirname(os.path.realpath(__file__)))
 FOLDER = "crates/sts_rows_language/src"
 DOCUMENTS = ["README.md", "examples/README.md", *(f"docs/{it}" for it in sorted(os.listdir(f"{ROOT}/docs")) if it.endswith(".md"))]
+SHOW_COMMANDS = ["README.md", "examples/README.md"]
 STATUS = {"success": 0, "failed": 1, "error": 3, "refused": 4, "fault": 5, "running": 5}
 # What tables of LANGUAGE.md describe in words: other tests have these rows.
 IN_WORDS = [
@@ -199,13 +201,13 @@ def files():
         "TEXTS": cells(language, "Text", "Printed") + cells(language, "Example", "Printed"),
         "CAUSES": causes("docs/VERIFIER.md"),
     }
-    examples = {"COMMANDS": commands(["README.md", "examples/README.md"])}
-    for name, rows in [*tables.items(), *examples.items()]:
+    shown = {"COMMANDS": commands(SHOW_COMMANDS)}
+    for name, rows in [*tables.items(), *shown.items()]:
         if len(rows) < 5:
             fail(f"only {len(rows)} rows were found for {name}")
     return {
         "documents.rt": table_of("What the documents show", tables),
-        "examples.rt": table_of("The examples", examples),
+        "examples.rt": table_of("The examples", shown),
     }
 
 
@@ -240,6 +242,15 @@ def shown_programs(path):
             fail(f"{path} shows a part of a program that no example has: {block.splitlines()[0]!r}")
 
 
+def examples(paths):
+    """Fails where an example has no command in the documents, or says of itself that it prints something else."""
+    shown = {text: printed for path in paths for mode, text, _, printed in shown_commands(path) if mode == "plain"}
+    for text in (f"examples/{it}" for it in sorted(os.listdir(f"{ROOT}/examples")) if it.endswith(".sts")):
+        said = re.search(r"^; Prints: ([^(,.]*\d)[^,]*, (steps \d+)\.", read(text), re.M)
+        if text not in shown or not said or f"{said[1]} / {said[2]}" != shown[text]:
+            fail(f"{text}: what it says that it prints isn't what a document shows")
+
+
 def pictures():
     """Fails where a picture isn't what its script draws."""
     if subprocess.run([sys.executable, f"{ROOT}/docs/pictures/draw.py", "--check"], stdout=subprocess.DEVNULL).returncode:
@@ -250,6 +261,7 @@ def main():
     named_files()
     shown_contracts("docs/PROOFS.md")
     shown_programs("README.md")
+    examples(SHOW_COMMANDS)
     pictures()
     for name, table in files().items():
         path = f"{ROOT}/{FOLDER}/{name}"
