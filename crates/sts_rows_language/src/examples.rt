@@ -37,6 +37,8 @@ intr:                   ; main itself was interrupted
   push 0
   fail
 end
+? verify
+= 0
 ? 0*7 3*4 0*1 1*4 2*4 0*5
 = 0 success 50 / steps 24
 ? verify
@@ -50,6 +52,8 @@ func main 0
   push 7
   ret
 end
+? verify
+= 0
 ? 0*2
 = 0 success 7 / steps 2
 
@@ -86,6 +90,8 @@ intr:
   push 0
   fail
 end
+? verify
+= 0
 ? 0*5 2*4 0*3 1*4 0*2
 = 0 success 9 / steps 17
 
@@ -138,6 +144,8 @@ intr:
   push 0
   fail
 end
+? verify
+= 0
 ? 0*3 1*2 2*2 1*2 3*4 1*3 0*3
 = 1 failed 8 / steps 19
 
@@ -183,6 +191,8 @@ intr:                   ; main itself was interrupted
   push 0
   fail
 end
+? verify
+= 0
 ? 0*5 1*5 2*4 0*8
 = 0 success 1020 / steps 22
 
@@ -215,6 +225,8 @@ intr:
   push 0
   fail
 end
+? verify
+= 0
 ? 0*5 1*2 x0 0*2 2*2 0*3
 = 0 success 0 / steps 14
 
@@ -249,6 +261,8 @@ intr:
   push 0
   fail
 end
+? verify
+= 0
 ? 0*5 1*2 x0 0*3 2*2 0*2
 = 0 success 20 / steps 14
 
@@ -281,6 +295,8 @@ giveup:                 ; interrupted a second time
   push 0
   fail
 end
+? verify
+= 0
 ? 0*2 i0 0*2 1*2 0*3
 = 0 success 7 / steps 8
 
@@ -342,6 +358,8 @@ intr:
   push 0
   fail
 end
+? verify
+= 0
 ? 0*6 1*4 2*4 1*6 0*5
 = 0 success 40 / steps 25
 ";
@@ -349,6 +367,6 @@ end
 #[test]
 fn what_is_shown_holds(rt: HostRuntime) -> Result<(), Fail> {
     let alloc = rt.alloc();
-    assert_eq!(rt; walk_table(&rt, alloc, COMMANDS)?, 10);
+    assert_eq!(rt; walk_table(&rt, alloc, COMMANDS)?, 19);
     Ok(())
 }
