@@ -114,12 +114,14 @@ def stop(process):
 
 def progress(process, names, since):
     """Returns what the build is at, and a line that says how far it is. A crate that is done has a heading in the log."""
-    log, now = open(LOG, errors="replace").read(), at_work(process.pid)
+    log = open(LOG, errors="replace").read()
     headings = set(HEADING.findall(log))
+    is_proved = "summary" in headings
+    now = [] if is_proved else at_work(process.pid)
     done = headings.intersection(names).difference(now)
     minutes, seconds = divmod(int(time.time() - since), 60)
     line = f"sts: {len(done)} of {len(names)} crates proved, {len(set(PROVED.findall(log)))} functions in {minutes} min {seconds:02} s"
-    if "summary" in headings:
+    if is_proved:
         return {"program"}, f"{line}; building the program"
     if not headings:
         return {"sources"}, f"{line}; reading all sources"
