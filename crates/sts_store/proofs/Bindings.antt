@@ -1,5 +1,5 @@
 -- The store after a task bound a key, and after it ended its innermost binding.
-use Rattle.std.proofs.Common.{◌≡◌, ◌≢◌, ℕ, suc, ◌+◌, ◌≤◌, ℤ, List, [], ◌∷◌, ◌++◌, drop, map, length, Bool, true, false, Option, Some, None, refl, sym, ◌∙◌, ap, subst, get_or, set, nat_eq, cond, arith}
+use Rattle.std.proofs.Common.{◌≡◌, ◌≢◌, ℕ, suc, ◌+◌, ◌≤◌, ℤ, List, [], ◌∷◌, ◌++◌, drop, length, Bool, true, false, Option, Some, None, refl, sym, ◌∙◌, ap, subst, get_or, set, nat_eq, cond, arith}
 use Rattle.std.proofs.lemmas.List.{map-set}
 use Rattle.std.proofs.lemmas.List.Sums.{sum_by-cons}
 use Rattle.std.specs.Prelude.{option_map, is_some, unwrap_or, count_by}

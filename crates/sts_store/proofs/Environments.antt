@@ -1,5 +1,5 @@
 -- What is read of the records of an environment.
-use Rattle.std.proofs.Common.{◌≡◌, ◌≢◌, ℕ, zero, suc, List, [], ◌∷◌, map, Bool, true, false, Option, Some, None, refl, sym, ◌∙◌, nat_eq}
+use Rattle.std.proofs.Common.{◌≡◌, ◌≢◌, ℕ, zero, suc, List, [], ◌∷◌, Option, Some, None, sym, ◌∙◌}
 use Rattle.sts_env.specs.Environments.{Records, AreWhole, keys, bindings, keys_of, list_of, IsWhole, record_at}
 use Rattle.sts_env.specs.declared.env.Env.{Env}
 use Rattle.sts_env.specs.declared.env.Record.{Record}

@@ -1,4 +1,4 @@
-use Rattle.std.proofs.Common.{◌≡◌, ◌+◌, ◌<◌, ◌^◌, drop, map, true, ap, sym, subst, ◌∙◌}
+use Rattle.std.proofs.Common.{◌≡◌, ◌+◌, ◌<◌, ◌^◌, drop, true, ap, sym, subst, ◌∙◌}
 use Rattle.sts_env.specs.Environments.{list_of}
 use Rattle.sts_model.specs.Misuse.{innermost, is_binding}
 use Rattle.sts_model.specs.declared.record.Frame.{Frame}
