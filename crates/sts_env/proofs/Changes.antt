@@ -2,7 +2,7 @@
 use Rattle.std.proofs.Common.{◌≡◌, ◌≢◌, ℕ, suc, List, [], ◌∷◌, length, set, Some, None, refl, ap, sym, ◌∙◌, arith}
 use Rattle.sts_env.specs.Environments.{NotIn, AreWhole, keys, Records, record_at, Stays, PutsRecord, TakesRecord, KeepsWithout, keys_of, list_of, IsWhole}
 use Rattle.sts_env.specs.declared.env.Env.{Env}
-use Rattle.sts_env.specs.declared.env.Binding.{Binding}
+use Rattle.sts_model.specs.declared.record.Bound.{Bound}
 use Rattle.sts_env.specs.declared.env.Record.{Record}
 use Rattle.sts_env.proofs.Walks.{Same, front_of, keys_cons, bindings_cons, same, vacant, longer}
 
@@ -10,7 +10,7 @@ staying : (old new : Records) (e : Env) → Same (record_at old) (record_at new)
 staying old new e s = record { whole = s.whole; keys = s.keys; list = s.list }
 
 -- what `bind` promises
-pub record Binds (old new : Records) (env result : Env) (b : Binding) : Type 0 where
+pub record Binds (old new : Records) (env result : Env) (b : Bound) : Type 0 where
   pub whole : IsWhole new result
   pub list : list_of new result ≡ b ∷ list_of old env
   pub puts : PutsRecord old new env result
@@ -19,16 +19,16 @@ pub record Binds (old new : Records) (env result : Env) (b : Binding) : Type 0 w
 -- what `unbind` promises
 pub record Unbinds (old new : Records) (env result : Env) : Type 0 where
   pub whole : IsWhole new result
-  pub list : (b : Binding) × (list_of old env ≡ b ∷ list_of new result)
+  pub list : (b : Bound) × (list_of old env ≡ b ∷ list_of new result)
   pub takes : TakesRecord old new env result
   pub others : (other : Env) → IsWhole old other → KeepsWithout old new env other
 
-pub binds : (old new : Records) (env result : Env) (b : Binding) (k : ℕ) → record_at old k ≡ None → record_at new k ≡ Some (record { binding = b; rest = env }) → ((j : ℕ) → j ≢ k → record_at new j ≡ record_at old j) → IsWhole old env → result.front ≡ Some k → result.length ≡ suc env.length → Binds old new env result b
+pub binds : (old new : Records) (env result : Env) (b : Bound) (k : ℕ) → record_at old k ≡ None → record_at new k ≡ Some (record { bound = b; rest = env }) → ((j : ℕ) → j ≢ k → record_at new j ≡ record_at old j) → IsWhole old env → result.front ≡ Some k → result.length ≡ suc env.length → Binds old new env result b
 binds old new env result b k none set others w front length =
     let rest : Same (record_at old) (record_at new) env.length env.front = same (record_at old) (record_at new) k others env.length env.front w (vacant (record_at old) k none env.length env.front w) in
     record {
       whole = rw (front, length) (k, _, refl, set, refl, rest.whole);
-      list = rw (front, length) (bindings_cons (record_at new) env.length k _ set ∙ ap (λ (l : List Binding). b ∷ l) rest.list);
+      list = rw (front, length) (bindings_cons (record_at new) env.length k _ set ∙ ap (λ (l : List Bound). b ∷ l) rest.list);
       puts = record { key = k; front = front; vacant = none; keys = rw (front, length) (keys_cons (record_at new) env.length k _ set ∙ ap (λ (l : List ℕ). k ∷ l) rest.keys) };
       others = λ e v. staying old new e (same (record_at old) (record_at new) k others e.length e.front v (vacant (record_at old) k none e.length e.front v));
     }
@@ -45,7 +45,7 @@ unbinds old new env k n r front length is gone others w =
     let long : env.length ≡ suc r.rest.length = rw size length in
     record {
       whole = rest.whole;
-      list = (r.binding, rw (front, long) (bindings_cons (record_at old) r.rest.length k r is ∙ ap (λ (l : List Binding). r.binding ∷ l) (sym rest.list)));
+      list = (r.bound, rw (front, long) (bindings_cons (record_at old) r.rest.length k r is ∙ ap (λ (l : List Bound). r.bound ∷ l) (sym rest.list)));
       takes = record { key = k; front = front; gone = gone; keys = rw (front, long) (keys_cons (record_at old) r.rest.length k r is ∙ ap (λ (l : List ℕ). k ∷ l) (sym rest.keys)) };
       others = λ e u j at h.
           let same_key : k ≡ j = cc in

@@ -2,7 +2,8 @@
 use Rattle.std.proofs.Common.{◌≡◌, ◌≢◌, ℕ, zero, suc, ◌≤◌, List, ◌∷◌, length, Option, Some, None, false, refl, ap, sym, ◌∙◌, arith, subst}
 use Rattle.std.specs.Prelude.{nat_eq}
 use Rattle.std.proofs.lemmas.Bool.Decides.{nat_tests}
-use Rattle.sts_env.specs.Environments.{NotIn, AreWhole, keys, bindings, value_of}
+use Rattle.sts_env.specs.Environments.{NotIn, AreWhole, keys, bindings}
+use Rattle.sts_model.specs.Environment.{read}
 use Rattle.sts_env.specs.declared.env.Record.{Record}
 
 -- the front record of a list
@@ -20,7 +21,7 @@ front_of at n x (k, r, e, is, length, rest) =
 pub keys_cons : (at : ℕ → Option Record) (n x : ℕ) (r : Record) → at x ≡ Some r → keys at (suc n) (Some x) ≡ x ∷ keys at n r.rest.front
 keys_cons at n x r is = rw (is, keys) refl
 
-pub bindings_cons : (at : ℕ → Option Record) (n x : ℕ) (r : Record) → at x ≡ Some r → bindings at (suc n) (Some x) ≡ r.binding ∷ bindings at n r.rest.front
+pub bindings_cons : (at : ℕ → Option Record) (n x : ℕ) (r : Record) → at x ≡ Some r → bindings at (suc n) (Some x) ≡ r.bound ∷ bindings at n r.rest.front
 bindings_cons at n x r is = rw (is, bindings) refl
 
 pub record Same (old new : ℕ → Option Record) (n : ℕ) (front : Option ℕ) : Type 0 where
@@ -40,7 +41,7 @@ same old new k others (suc n) (Some x) w h =
     record {
       whole = (x, f.r, refl, is, f.length, s.whole);
       keys = keys_cons new n x f.r is ∙ ap (λ (l : List ℕ). x ∷ l) s.keys ∙ sym (keys_cons old n x f.r f.is);
-      list = bindings_cons new n x f.r is ∙ ap (λ (l : List _). f.r.binding ∷ l) s.list ∙ sym (bindings_cons old n x f.r f.is);
+      list = bindings_cons new n x f.r is ∙ ap (λ (l : List _). f.r.bound ∷ l) s.list ∙ sym (bindings_cons old n x f.r f.is);
     }
 
 -- a vacant key is in no list
@@ -67,10 +68,10 @@ longer at k r is (suc n) (Some x) less w =
     )
 
 -- one record further
-pub further : (at : ℕ → Option Record) (m n x : ℕ) (front : Option ℕ) (r : Record) (k : ℕ) → m ≡ suc n → front ≡ Some x → at x ≡ Some r → r.binding.key ≢ k → AreWhole at m front → AreWhole at n r.rest.front × (value_of (bindings at n r.rest.front) k ≡ value_of (bindings at m front) k)
+pub further : (at : ℕ → Option Record) (m n x : ℕ) (front : Option ℕ) (r : Record) (k : ℕ) → m ≡ suc n → front ≡ Some x → at x ≡ Some r → r.bound.key ≢ k → AreWhole at m front → AreWhole at n r.rest.front × (read (bindings at n r.rest.front) k ≡ read (bindings at m front) k)
 further at m n x front r k length is there other w =
     let v : AreWhole at (suc n) (Some x) = rw (is, length) at w in
     let f = front_of at n x v in
     let q : f.r ≡ r = let p = f.is in cc in
-    let none : nat_eq r.binding.key k ≡ false = grind (arith, nat_tests) in
+    let none : nat_eq r.bound.key k ≡ false = grind (arith, nat_tests) in
     (rw (← q) f.rest, rw (is, length, bindings_cons at n x r there) (rw none refl))

@@ -1,10 +1,10 @@
 -- Environments of scoped values as chains of records: which binding is innermost, and what stays of those that share records.
 -- Restates "Description" of JEP 506: the innermost binding is read, and a subtask inherits those in force when its scope was opened.
 -- That environments share records is this project's own.
-use Rattle.std.specs.Prelude.{◌≡◌, ◌≢◌, ℕ, zero, suc, ℤ, List, [], ◌∷◌, Option, Some, None, option_map, find, ◌==◌, slice_index_or}
-use Rattle.sts_env.specs.declared.env.Binding.{Binding}
+use Rattle.std.specs.Prelude.{◌≡◌, ◌≢◌, ℕ, zero, suc, List, [], ◌∷◌, Option, Some, None, slice_index_or}
 use Rattle.sts_env.specs.declared.env.Env.{Env}
 use Rattle.sts_env.specs.declared.env.Record.{Record}
+use Rattle.sts_model.specs.declared.record.Bound.{Bound}
 
 -- the record or nothing at each key from 0 on, and how many more records fit
 pub record Records : Type 0 where
@@ -27,10 +27,10 @@ keys at (suc n) None = []
 keys at (suc n) (Some k) = k ∷ elim (at k) [ None ↦ [] | Some r ↦ keys at n r.rest.front ]
 
 -- the bindings of so many records, from the front
-abbrev pub bindings : (ℕ → Option Record) → ℕ → Option ℕ → List Binding
+abbrev pub bindings : (ℕ → Option Record) → ℕ → Option ℕ → List Bound
 bindings at zero front = []
 bindings at (suc n) None = []
-bindings at (suc n) (Some k) = elim (at k) [ None ↦ [] | Some r ↦ r.binding ∷ bindings at n r.rest.front ]
+bindings at (suc n) (Some k) = elim (at k) [ None ↦ [] | Some r ↦ r.bound ∷ bindings at n r.rest.front ]
 
 -- all records of the environment stand
 abbrev pub IsWhole : Records → Env → Type 0
@@ -41,12 +41,8 @@ abbrev pub keys_of : Records → Env → List ℕ
 keys_of records env = keys (record_at records) env.length env.front
 
 -- the environment's bindings, innermost first
-abbrev pub list_of : Records → Env → List Binding
+abbrev pub list_of : Records → Env → List Bound
 list_of records env = bindings (record_at records) env.length env.front
-
--- the value of the innermost binding of a key
-abbrev pub value_of : List Binding → ℕ → Option ℤ
-value_of list key = option_map (λ (b : Binding). b.value) (find (λ (b : Binding). b.key == key) list)
 
 -- the key is none of these
 abbrev pub NotIn : ℕ → List ℕ → Type 0

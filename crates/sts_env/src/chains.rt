@@ -1,14 +1,16 @@
 //! The records of all environments, and the calls on them.
 
 ghost use Rattle.std.specs.Prelude.{◌≡◌, ◌≢◌, ℕ, ◌+◌, ◌<◌, ◌^◌, [], ◌∷◌, Option, Some, None, IfOk};
-ghost use Rattle.sts_env.specs.Environments.{list_of, value_of, IsWhole, record_at, Stays, PutsRecord, TakesRecord, KeepsWithout};
-ghost use Rattle.sts_env.specs.declared.env.Binding.{Binding};
+ghost use Rattle.sts_env.specs.Environments.{list_of, IsWhole, record_at, Stays, PutsRecord, TakesRecord, KeepsWithout};
 ghost use Rattle.sts_env.specs.declared.env.Env.{Env};
+ghost use Rattle.sts_model.specs.Environment as scoped;
+ghost use Rattle.sts_model.specs.declared.record.Bound.{Bound};
 
-use crate::env::{Binding, Env, Record};
+use crate::env::{Env, Record};
 use slab::Slab;
 use std::alloc::{AllocError, Global};
 use std::marker::Model;
+use sts_model::record::Bound;
 
 /// The records of all environments. Records are made in room that was reserved at the start, and a
 /// record that was taken out leaves its key to a later one.
@@ -28,12 +30,6 @@ impl Model for Chains {
     ghost view = { λ c. record { slots = c.slab.slots; room = c.left } };
 
     ghost invariant = { λ c. HasRoomFor c.slab c.left × (slab_len c.slab + c.left < 2 ^ 32) };
-}
-
-fn binding(key: u8, value: i64) -> Binding
-    ensures { result ≡ record { key = key; value = value } }
-{
-    Binding { key, value }
 }
 
 impl Chains {
@@ -69,19 +65,19 @@ impl Chains {
         ensures others { (other : Env) → IsWhole self.old other → Stays self.old self.new other }
         ensures room { self.new.room + 1 ≡ self.old.room }
     {
-        self.put(env, binding(key, value))
+        self.put(env, Bound { key, value })
     }
 
-    fn put(&mut self, env: Env, binding: Binding) -> Env
+    fn put(&mut self, env: Env, bound: Bound) -> Env
         requires room { 0 < self.old.room }
         requires whole { IsWhole self.old env }
         ensures whole { IsWhole self.new result }
-        ensures list { list_of self.new result ≡ binding ∷ list_of self.old env }
+        ensures list { list_of self.new result ≡ bound ∷ list_of self.old env }
         ensures puts { PutsRecord self.old self.new env result }
         ensures others { (other : Env) → IsWhole self.old other → Stays self.old self.new other }
         ensures room { self.new.room + 1 ≡ self.old.room }
     {
-        let front = self.slab.insert_reserved(Record { binding, rest: env });
+        let front = self.slab.insert_reserved(Record { bound, rest: env });
         self.left -= 1;
         Env {
             front: Some(front),
@@ -96,7 +92,7 @@ impl Chains {
         requires some { list_of self.old env ≢ [] }
         requires whole { IsWhole self.old env }
         ensures whole { IsWhole self.new result }
-        ensures list { (b : Binding) × (list_of self.old env ≡ b ∷ list_of self.new result) }
+        ensures list { (b : Bound) × (list_of self.old env ≡ b ∷ list_of self.new result) }
         ensures takes { TakesRecord self.old self.new env result }
         ensures others { (other : Env) → IsWhole self.old other →
             KeepsWithout self.old self.new env other }
@@ -111,13 +107,13 @@ impl Chains {
     /// The value of the innermost binding of this key; none where it is not bound.
     pub fn read(&self, env: Env, key: u8) -> Option<i64>
         requires whole { IsWhole self.now env }
-        ensures { result ≡ value_of (list_of self.now env) key }
+        ensures { result ≡ scoped.read (list_of self.now env) key }
     {
         let mut at = env.front;
         for _ in 0..env.length {
             let record = *self.slab.get(at.unwrap()).unwrap();
-            if record.binding.key == key {
-                return Some(record.binding.value);
+            if record.bound.key == key {
+                return Some(record.bound.value);
             }
             at = record.rest.front;
         }

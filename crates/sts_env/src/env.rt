@@ -1,11 +1,6 @@
 //! What an environment is made of.
 
-/// A scoped value's key, and the value that it is bound to.
-#[derive(Clone, Copy, Debug, PartialEq, Eq)]
-pub struct Binding {
-    pub key: u8,
-    pub value: i64,
-}
+use sts_model::record::Bound;
 
 /// An environment: a list of bindings, innermost first, whose records stand in a `Chains`.
 #[derive(Clone, Copy, Debug, PartialEq, Eq)]
@@ -19,7 +14,7 @@ pub struct Env {
 /// The record of a binding.
 #[derive(Clone, Copy, Debug, PartialEq, Eq)]
 pub struct Record {
-    pub binding: Binding,
+    pub bound: Bound,
     /// The environment in which it was bound.
     pub rest: Env,
 }

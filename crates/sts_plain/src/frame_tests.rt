@@ -3,16 +3,16 @@
 ghost use Rattle.std.specs.Prelude.{◌≡◌, ◌≤◌, length};
 ghost use Rattle.sts_code.specs.Loops as matching;
 ghost use Rattle.sts_model.specs.Misuse as misuse;
-ghost use Rattle.sts_code.specs.Facts as facts;
 ghost use Rattle.sts_model.specs.World as def;
 
-use sts_code::facts::{pops, pushes};
+use sts_code::facts::{filled_slot, owners_slot, pops, pushes, subtask_slot};
 use sts_code::instr::Instr;
 use sts_code::limits::MAX_INSTRUCTIONS;
 use sts_code::loops::match_of;
 use sts_code::program::Program;
+use sts_frames::code::code;
+use sts_frames::slots::{is_empty, slot};
 use sts_model::record::{Entry, Frame, Slot};
-use sts_world::code::code;
 
 /// Does the instruction pop more operands than there are?
 pub fn lacks_operands(program: &Program, frame: &Frame, instr: Instr) -> bool
@@ -59,13 +59,6 @@ pub fn breaks_loop(program: &Program, frame: &Frame, instr: Instr) -> bool
     }
 }
 
-/// What a slot holds.
-pub fn slot(frame: &Frame, x: u8) -> Slot
-    ensures { result ≡ misuse.slot frame.now x }
-{
-    frame.slots.get(x as usize).copied().unwrap_or(Slot::Empty)
-}
-
 fn is_scope(slot: Slot) -> bool
     ensures { result ≡ misuse.is_scope slot }
 {
@@ -76,42 +69,6 @@ fn is_sub(slot: Slot) -> bool
     ensures { result ≡ misuse.is_sub slot }
 {
     matches!(slot, Slot::Sub(_))
-}
-
-fn is_empty(slot: Slot) -> bool
-    ensures { result ≡ misuse.is_empty slot }
-{
-    matches!(slot, Slot::Empty)
-}
-
-fn owners_slot(instr: Instr) -> Option<u8>
-    ensures { result ≡ facts.owners_slot instr }
-{
-    match instr {
-        Instr::Fork { slot, .. } | Instr::Join { slot, .. } => Some(slot),
-        Instr::Close(slot) | Instr::Tally(slot, _) | Instr::Total(slot) => Some(slot),
-        _ => None,
-    }
-}
-
-fn subtask_slot(instr: Instr) -> Option<u8>
-    ensures { result ≡ facts.subtask_slot instr }
-{
-    match instr {
-        Instr::Case { handle, .. } => Some(handle),
-        Instr::Get(handle) | Instr::Except(handle) | Instr::Forget(handle) => Some(handle),
-        _ => None,
-    }
-}
-
-fn filled_slot(instr: Instr) -> Option<u8>
-    ensures { result ≡ facts.filled_slot instr }
-{
-    match instr {
-        Instr::Open { slot, .. } => Some(slot),
-        Instr::Fork { handle, .. } => handle,
-        _ => None,
-    }
 }
 
 /// Does a slot that the instruction names not hold what it is about?

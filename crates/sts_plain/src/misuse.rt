@@ -3,29 +3,21 @@
 ghost use Rattle.std.specs.Prelude.{◌≡◌, ◌<◌, length, true};
 ghost use Rattle.sts_model.specs.Living as living;
 ghost use Rattle.sts_model.specs.Misuse as misuse;
-ghost use Rattle.sts_code.specs.Facts as facts;
 ghost use Rattle.sts_model.specs.World as def;
 
 use crate::frame_tests::{
-    breaks_loop, breaks_structure, has_wrong_slot, is_strangers, lacks_operands, overflows, slot,
+    breaks_loop, breaks_structure, has_wrong_slot, is_strangers, lacks_operands, overflows,
 };
+use sts_code::facts::can_fail;
 use sts_code::instr::{Instr, Joiner};
 use sts_code::profile::Profile;
 use sts_code::program::Program;
+use sts_frames::code::instr_at;
+use sts_frames::slots::slot;
 use sts_model::event::{End, Fault, Phase};
 use sts_model::record::{Frame, Slot};
-use sts_world::code::instr_at;
 use sts_world::records::{Records, can_join};
 use sts_world::world::World;
-
-fn can_fail(joiner: Joiner) -> bool
-    ensures { result ≡ facts.can_fail joiner }
-{
-    matches!(
-        joiner,
-        Joiner::AllSucceed | Joiner::AwaitOk | Joiner::AnySucceeds
-    )
-}
 
 /// Does the form of a `join` not fit the scope?
 fn joins_wrongly(

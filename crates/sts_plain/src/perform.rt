@@ -9,26 +9,15 @@ ghost use Rattle.sts_model.specs.Misuse.{IsFine};
 ghost use Rattle.sts_model.specs.Run as run;
 ghost use Rattle.sts_model.specs.World as def;
 
-use crate::frame_tests::slot;
 use std::alloc::{AllocError, Global};
 use sts_code::instr::Instr;
 use sts_code::program::Program;
+use sts_frames::code::instr_at;
+use sts_frames::ends::{case_target, value_or_zero};
+use sts_frames::slots::named;
 use sts_model::event::End;
-use sts_model::record::Slot;
-use sts_world::code::instr_at;
 use sts_world::records::Records;
 use sts_world::world::World;
-
-/// The scope or subtask that a slot holds.
-fn named(slot: Slot) -> u32
-    ensures { result ≡ effect.named slot }
-{
-    match slot {
-        Slot::Empty => 0,
-        Slot::Own(s) | Slot::Lent(s) => s,
-        Slot::Sub(t) => t,
-    }
-}
 
 /// The scope or subtask that a slot of a task holds.
 fn at_slot(records: &Records, t: u32, x: u8) -> u32
@@ -36,7 +25,7 @@ fn at_slot(records: &Records, t: u32, x: u8) -> u32
     requires lives { living.lives (def.task_at records.now t) ≡ true }
     ensures { result ≡ effect.named (misuse.slot (def.task_at records.now t).frame x) }
 {
-    named(slot(records.frame(t), x))
+    named(records.frame(t), x)
 }
 
 /// The top operand.
@@ -46,29 +35,6 @@ fn top(records: &Records, t: u32) -> i64
     ensures { result ≡ frames.operand (def.task_at records.now t).frame 0 }
 {
     records.frame(t).operand(0)
-}
-
-/// Where `case` goes for this subtask.
-fn case_target(world: &World, sub: u32, success: u32, failed: u32, otherwise: u32) -> u32
-    ensures { result ≡ effect.case_target (living.sub_state world.now sub)
-        success failed otherwise }
-{
-    match world.sub_state(sub) {
-        None => otherwise,
-        Some(End::Success(_)) => success,
-        Some(End::Failed(_)) => failed,
-    }
-}
-
-/// The value or code that a subtask ended with, or 0.
-fn value_or_zero(world: &World, sub: u32) -> i64
-    ensures { result ≡ effect.value_or_zero (living.sub_state world.now sub) }
-{
-    match world.sub_state(sub) {
-        None => 0,
-        Some(End::Success(value)) => value,
-        Some(End::Failed(code)) => code,
-    }
 }
 
 /// Pops `n` operands, pushes a value and goes on.
@@ -205,12 +171,12 @@ fn change(world: &mut World, program: &Program, t: u32, instr: Instr)
         } => {
             let sub = at_slot(world.records(), t, handle);
             let next = world.records().frame(t).pc + 1;
-            let to = case_target(world, sub, success, failed, next);
+            let to = case_target(world.sub_state(sub), success, failed, next);
             world.goes(t, to, 0);
         }
         Instr::Get(h) | Instr::Except(h) => {
             let sub = at_slot(world.records(), t, h);
-            let value = value_or_zero(world, sub);
+            let value = value_or_zero(world.sub_state(sub));
             push_value(world, t, 0, value);
         }
         Instr::Tally(x, kind) => {

@@ -6,13 +6,13 @@ ghost use Rattle.sts_model.specs.Waiting as waiting;
 ghost use Rattle.sts_model.specs.World as def;
 ghost use Rattle.sts_model.specs.declared.record.Slot.TheVariants.{Own};
 
-use crate::frame_tests::slot;
 use crate::misuse::misuse;
 use sts_code::instr::Instr;
 use sts_code::program::Program;
+use sts_frames::code::instr_at;
+use sts_frames::slots::slot;
 use sts_model::event::{Phase, Stand};
 use sts_model::record::Slot;
-use sts_world::code::instr_at;
 use sts_world::world::World;
 
 /// Where the task stands.

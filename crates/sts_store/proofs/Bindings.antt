@@ -1,5 +1,5 @@
 -- The store after a task bound a key, and after it ended its innermost binding.
-use Rattle.std.proofs.Common.{◌≡◌, ◌≢◌, ℕ, suc, ◌+◌, ◌≤◌, ℤ, List, [], ◌∷◌, ◌++◌, drop, map, length, Bool, true, false, Option, Some, None, refl, sym, ◌∙◌, ap, subst, get_or, set, nat_eq, cond, arith}
+use Rattle.std.proofs.Common.{◌≡◌, ◌≢◌, ℕ, suc, ◌+◌, ◌≤◌, ℤ, List, [], ◌∷◌, ◌++◌, drop, length, Bool, true, false, Option, Some, None, refl, sym, ◌∙◌, ap, subst, get_or, set, nat_eq, cond, arith}
 use Rattle.std.proofs.lemmas.List.{map-set}
 use Rattle.std.proofs.lemmas.List.Sums.{sum_by-cons}
 use Rattle.std.specs.Prelude.{option_map, is_some, unwrap_or, count_by}
@@ -17,7 +17,7 @@ use Rattle.sts_model.specs.declared.record.Entry.{Entry}
 use Rattle.sts_model.specs.declared.record.Entry.TheVariants as entry
 use Rattle.sts_views.specs.Order.{InOrder}
 use Rattle.sts_store.specs.declared.running.Running.{Running}
-use Rattle.sts_store.specs.Parts.{Parts, live_of, bound}
+use Rattle.sts_store.specs.Parts.{Parts, live_of}
 use Rattle.sts_store.specs.Sharing.{AreShared, Holder, Keeper, holder_of, keeper_of, holders, keepers, homes, home_at, inherited, behind}
 use Rattle.sts_store.specs.Stored.{IsStore}
 use Rattle.sts_store.proofs.Views.{with_running, Elsewhere}
@@ -95,8 +95,8 @@ module _ (m : Parts) (is : IsStore m) (t : ℕ) (r q : Running) (d : Records) (a
   pub bound_elsewhere : ((other : Env) → IsWhole m.chains other → Stays m.chains d other) → Elsewhere m t d
   bound_elsewhere others =
       record {
-        tasks = λ u l ne e. ap (map bound) (others l.env (is.shared.shares.whole u (holder_of l) (held_of u l e))).list;
-        scopes = λ s k e. ap (map bound) (others k.environment (is.shared.shares.kept s (keeper_of k) (kept_of s k e))).list;
+        tasks = λ u l ne e. (others l.env (is.shared.shares.whole u (holder_of l) (held_of u l e))).list;
+        scopes = λ s k e. (others k.environment (is.shared.shares.kept s (keeper_of k) (kept_of s k e))).list;
       }
 
   pub bound_store : (key : ℕ) (value : ℤ) → IsWhole d q.env → PutsRecord m.chains d r.env q.env → ((other : Env) → IsWhole m.chains other → Stays m.chains d other) → q.frame.entries ≡ entry.Binding key value ∷ r.frame.entries → IsStore (with_running m t q d)
@@ -180,8 +180,8 @@ module _ (m : Parts) (is : IsStore m) (t : ℕ) (r q : Running) (d : Records) (a
     pub unbound_elsewhere : Elsewhere m t d
     unbound_elsewhere =
         record {
-          tasks = λ v l ne e. ap (map bound) (tasks_stay v (holder_of l) ne (held_of v l e)).list;
-          scopes = λ s k e. ap (map bound) (scopes_stay s (keeper_of k) (kept_of s k e)).list;
+          tasks = λ v l ne e. (tasks_stay v (holder_of l) ne (held_of v l e)).list;
+          scopes = λ s k e. (scopes_stay s (keeper_of k) (kept_of s k e)).list;
         }
 
     pub unbound_store : IsStore (with_running m t q d)

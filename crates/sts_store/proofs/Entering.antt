@@ -4,6 +4,7 @@ use Rattle.std.proofs.lemmas.Bool.Decides.{nat_tests}
 use Rattle.std.proofs.lemmas.List.{length-map, map-set, map-append, length-set}
 use Rattle.std.proofs.lemmas.List.Sums.{sum_by-cons}
 use Rattle.std.specs.Prelude.{option_map, slice_set, count_by}
+use Rattle.sts_env.specs.Environments.{list_of}
 use Rattle.sts_code.specs.declared.instr.Joiner.{Joiner}
 use Rattle.sts_env.specs.declared.env.Env.{Env}
 use Rattle.sts_forest.specs.Forest.{Forest, opened}
@@ -25,7 +26,7 @@ use Rattle.sts_views.specs.Order.{InOrder}
 use Rattle.sts_agree.proofs.Viewing.{words}
 use Rattle.sts_agree.specs.View.{scope_seen}
 use Rattle.sts_store.specs.declared.running.Running.{Running}
-use Rattle.sts_store.specs.Parts.{Parts, live_of, beside, bound_in, frame_of}
+use Rattle.sts_store.specs.Parts.{Parts, live_of, beside, frame_of}
 use Rattle.sts_store.specs.Sharing.{AreShared, Holder, holder_of, keeper_of, holders, keepers, homes, home_at, behind}
 use Rattle.sts_store.specs.Stored.{IsStore}
 use Rattle.sts_store.proofs.Views.{Lived, alive_of, just, same_frame, frame_seen, with_running}
@@ -80,7 +81,7 @@ open_live m t x joiner timed keys room l =
     ∙ sym (opens_is (live_of m) t (frame_of m t) x joiner timed
     ∙ ap (λ f. opens (live_of m) t f x (alive_at (live_of m) t).environment (length (live_of m).scopes) joiner timed) (same_frame m t l.run l l.runs)
     ∙ ap (λ (a : Alive). opens (live_of m) t l.run.frame x a.environment (length (live_of m).scopes) joiner timed) l.at
-    ∙ ap (λ s. opens (live_of m) t l.run.frame x (bound_in m.chains l.run.env) s joiner timed) (length-map m.tree.scopes (option_map (scope_seen (beside m)))))
+    ∙ ap (λ s. opens (live_of m) t l.run.frame x (list_of m.chains l.run.env) s joiner timed) (length-map m.tree.scopes (option_map (scope_seen (beside m)))))
   where
     n : ℕ
     n = length m.tree.scopes

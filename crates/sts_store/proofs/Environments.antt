@@ -1,21 +1,9 @@
 -- What is read of the records of an environment.
-use Rattle.std.proofs.Common.{◌≡◌, ◌≢◌, ℕ, zero, suc, List, [], ◌∷◌, map, Bool, true, false, Option, Some, None, refl, sym, ◌∙◌, nat_eq}
-use Rattle.sts_env.specs.Environments.{Records, AreWhole, keys, bindings, keys_of, list_of, IsWhole, record_at, value_of}
-use Rattle.sts_env.specs.declared.env.Binding.{Binding}
+use Rattle.std.proofs.Common.{◌≡◌, ◌≢◌, ℕ, zero, suc, List, [], ◌∷◌, Option, Some, None, sym, ◌∙◌}
+use Rattle.sts_env.specs.Environments.{Records, AreWhole, keys, bindings, keys_of, list_of, IsWhole, record_at}
 use Rattle.sts_env.specs.declared.env.Env.{Env}
 use Rattle.sts_env.specs.declared.env.Record.{Record}
 use Rattle.sts_env.proofs.Walks.{front_of, bindings_cons}
-use Rattle.sts_model.specs.Environment as model
-use Rattle.sts_store.specs.Parts.{bound}
-
--- what is read of records is what is read of bindings
-pub read_bound : (l : List Binding) (k : ℕ) → value_of l k ≡ model.read (map bound l) k
-read_bound [] k = refl
-read_bound (b ∷ bs) k = by (read_bound bs k) (nat_eq b.key k) refl
-  where
-    by : value_of bs k ≡ model.read (map bound bs) k → (t : Bool) → nat_eq b.key k ≡ t → value_of (b ∷ bs) k ≡ model.read (map bound (b ∷ bs)) k
-    by later true e = rw e refl
-    by later false e = rw e later
 
 -- an environment with a record has a binding
 has_binding : (at : ℕ → Option Record) (n : ℕ) (front : Option ℕ) (k : ℕ) (rest : List ℕ) → AreWhole at n front → keys at n front ≡ k ∷ rest → bindings at n front ≢ []

@@ -4,7 +4,7 @@ use Rattle.std.proofs.lemmas.Bool.Decides.{nat_tests}
 use Rattle.std.proofs.lemmas.List.{length-map, map-append}
 use Rattle.std.specs.Prelude.{option_map, unwrap_or, reverse}
 use Rattle.sts_code.specs.Program.{Program, routine}
-use Rattle.sts_env.specs.Environments.{Records}
+use Rattle.sts_env.specs.Environments.{Records, list_of}
 use Rattle.sts_env.specs.declared.env.Env.{Env}
 use Rattle.sts_forest.specs.Forest.{Forest, subtask}
 use Rattle.sts_forest.specs.declared.record.Task.{Task}
@@ -25,7 +25,7 @@ use Rattle.sts_views.specs.Order.{InOrder}
 use Rattle.sts_agree.specs.View.{Beside, view_of, tasks_from, scope_seen, alive_of}
 use Rattle.sts_agree.proofs.Viewing.{words, scope_there, same_view}
 use Rattle.sts_store.specs.declared.running.Running.{Running}
-use Rattle.sts_store.specs.Parts.{Parts, live_of, beside, bound_in, frame_of, running_at, no_running, stand_of, unseen_of}
+use Rattle.sts_store.specs.Parts.{Parts, live_of, beside, frame_of, running_at, no_running, stand_of, unseen_of}
 use Rattle.sts_store.specs.Sharing.{Holder, Keeper, holder_of, keeper_of, home_of, holders, keepers}
 use Rattle.sts_store.specs.Stored.{IsStore}
 use Rattle.sts_store.proofs.Views.{Lived, Same, lives_of, same_frame, frame_seen, with_running, tasks_same}
@@ -64,7 +64,7 @@ alive_if lives alive = cond lives (Some alive) None
 
 -- what a subtask begins with
 abbrev pub fresh_alive : Records → Running → Alive
-fresh_alive c child = record { frame = child.frame; flag = false; environment = bound_in c child.env }
+fresh_alive c child = record { frame = child.frame; flag = false; environment = list_of c child.env }
 
 module _ (m : Parts) (is : IsStore m) (s : ℕ) (c : Scope Env) (at : get_or m.tree.scopes s None ≡ Some c) (child : Running) (lives : Bool) (keys : List ℕ) (room : ℕ) (h : Holes Running) (slots : h.slots ≡ m.frames.slots ++ born_if lives child ∷ []) where
   -- the parts with a subtask more
@@ -89,7 +89,7 @@ module _ (m : Parts) (is : IsStore m) (s : ℕ) (c : Scope Env) (at : get_or m.t
           let kept = others u (λ q. absurd (omega (arith, less, b, q))) in
           record {
             frame = ap (λ o. (unwrap_or o no_running).frame) kept;
-            bindings = ap (λ o. bound_in m.chains (unwrap_or o no_running).env) kept;
+            bindings = ap (λ o. list_of m.chains (unwrap_or o no_running).env) kept;
           }
 
   alive_new : alive_of (beside more) (length m.tree.tasks) (subtask s lives) ≡ alive_if lives (fresh_alive m.chains child)
@@ -198,8 +198,8 @@ module _ (m : Parts) (is : IsStore m) (order : InOrder (live_of m)) (t s : ℕ) 
 
       begins : fresh_alive m.chains child ≡ live_child p (scope_seen (beside m) c) l.run.frame s function
       begins =
-          ap (λ f. record { frame = f; flag = false; environment = bound_in m.chains child.env }) frame
-          ∙ ap (λ e. record { frame = entry_frame function (reverse (take (routine p function).args l.run.frame.operands)) (Lent s); flag = false; environment = bound_in m.chains e }) env
+          ap (λ f. record { frame = f; flag = false; environment = list_of m.chains child.env }) frame
+          ∙ ap (λ e. record { frame = entry_frame function (reverse (take (routine p function).args l.run.frame.operands)) (Lent s); flag = false; environment = list_of m.chains e }) env
 
 pub tasks_born : (m : Parts) → length (live_of m).tasks ≡ length m.tree.tasks
 tasks_born m = length_from (beside m) 0 m.tree.tasks

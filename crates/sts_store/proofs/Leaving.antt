@@ -3,6 +3,7 @@ use Rattle.std.proofs.Common.{◌≡◌, ◌≢◌, ℕ, zero, suc, ◌+◌, ari
 use Rattle.std.proofs.lemmas.Bool.Decides.{nat_tests}
 use Rattle.std.proofs.lemmas.List.{length-set, length-map, map-set}
 use Rattle.std.specs.Prelude.{option_map, unwrap_or}
+use Rattle.sts_env.specs.Environments.{list_of}
 use Rattle.sts_env.specs.declared.env.Env.{Env}
 use Rattle.sts_forest.specs.Forest.{Forest}
 use Rattle.sts_forest.specs.declared.record.Task.{Task}
@@ -20,7 +21,7 @@ use Rattle.sts_agree.specs.Agreeing.{at_end}
 use Rattle.sts_agree.proofs.Viewing.{same_view}
 use Rattle.sts_store.specs.declared.running.Running.{Running}
 use Rattle.sts_store.specs.Ending.{finished}
-use Rattle.sts_store.specs.Parts.{Parts, live_of, beside, stand_of, unseen_of, no_running, bound_in}
+use Rattle.sts_store.specs.Parts.{Parts, live_of, beside, stand_of, unseen_of, no_running}
 use Rattle.sts_store.specs.Sharing.{keeper_of, home_of, holder_of}
 use Rattle.sts_store.specs.Stored.{IsStore}
 use Rattle.sts_store.proofs.Views.{Lived, Same, lives_of, tasks_same}
@@ -186,7 +187,7 @@ unframed m t g room end e = ap (λ l. record { tasks = l; scopes = (view_of b g)
         let kept = get_or-set_other m.frames.slots t u None None ne in
         record {
           frame = ap (λ o. (unwrap_or o no_running).frame) kept;
-          bindings = ap (λ o. bound_in m.chains (unwrap_or o no_running).env) kept;
+          bindings = ap (λ o. list_of m.chains (unwrap_or o no_running).env) kept;
         }
 
 pub end_live : (m : Parts) (t : ℕ) (g : Forest Env) (room : ℕ) (end : End) (l : Lived m t) → seen g ≡ seen (finished m.tree t l.task end) → ((s : ℕ) → l.task.scope ≡ Some s → get_or m.tree.scopes s None ≢ None) → live_of (with_ended m t g room (at_end (beside m) t end).root_end) ≡ live_end (live_of m) t end

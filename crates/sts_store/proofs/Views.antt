@@ -4,7 +4,7 @@ use Rattle.std.proofs.lemmas.Bool.Decides.{nat_tests}
 use Rattle.std.proofs.lemmas.List.{ext_get_or, length-set, get_or-set_same, get_or-set_other}
 use Rattle.std.specs.Prelude.{option_map, option_copied, is_some, unwrap_or, IsSome}
 use Rattle.std.specs.Borrow.{Bor}
-use Rattle.sts_env.specs.Environments.{Records}
+use Rattle.sts_env.specs.Environments.{Records, list_of}
 use Rattle.sts_env.specs.declared.env.Env.{Env}
 use Rattle.sts_forest.specs.Forest.{Forest}
 use Rattle.sts_forest.specs.declared.record.Task.{Task}
@@ -17,7 +17,7 @@ use Rattle.sts_seen.specs.Reading.{lives_in, alive_at, with_alive, live_task_at,
 use Rattle.sts_agree.specs.View.{Beside, task_seen, scope_seen, tasks_from}
 use Rattle.sts_agree.proofs.Viewing.{task_is, lives_same}
 use Rattle.sts_store.specs.declared.running.Running.{Running}
-use Rattle.sts_store.specs.Parts.{Parts, live_of, beside, bound_in, running_at, no_running}
+use Rattle.sts_store.specs.Parts.{Parts, live_of, beside, running_at, no_running}
 use Rattle.sts_store.specs.Stored.{IsStore}
 
 pub just : {X : Type 0} (x y : X) → Some x ≡ Some y → x ≡ y
@@ -119,7 +119,7 @@ module _ {E : Type 0} (b d : Beside E) where
 
 -- what it has
 abbrev pub alive_of : Records → Bool → Running → Alive
-alive_of c flag r = record { frame = r.frame; flag = flag; environment = bound_in c r.env }
+alive_of c flag r = record { frame = r.frame; flag = flag; environment = list_of c r.env }
 
 -- its records, and what is seen of it
 pub record Lived (m : Parts) (t : ℕ) : Type 0 where
@@ -188,8 +188,8 @@ with_running m t q c = record m { frames = record m.frames { slots = set m.frame
 
 -- bindings elsewhere stay as they are
 pub record Elsewhere (m : Parts) (t : ℕ) (c : Records) : Type 0 where
-  pub tasks : (u : ℕ) (l : Running) → u ≢ t → get_or m.frames.slots u None ≡ Some l → bound_in c l.env ≡ bound_in m.chains l.env
-  pub scopes : (s : ℕ) (k : Scope Env) → get_or m.tree.scopes s None ≡ Some k → bound_in c k.environment ≡ bound_in m.chains k.environment
+  pub tasks : (u : ℕ) (l : Running) → u ≢ t → get_or m.frames.slots u None ≡ Some l → list_of c l.env ≡ list_of m.chains l.env
+  pub scopes : (s : ℕ) (k : Scope Env) → get_or m.tree.scopes s None ≡ Some k → list_of c k.environment ≡ list_of m.chains k.environment
 
 pub nowhere : (m : Parts) (t : ℕ) → Elsewhere m t m.chains
 nowhere m t = record { tasks = λ u l ne e. refl; scopes = λ s k e. refl }
@@ -219,7 +219,7 @@ running_seen m t r q c change at same others =
     here : (flag : Bool) → kept_alive d t flag ≡ change (kept_alive b t flag)
     here flag = ap (alive_of c flag) now ∙ same flag ∙ ap (λ z. change (alive_of m.chains flag z)) (sym (running_is m t r at))
 
-    stays : (u : ℕ) → u ≢ t → (o : Option Running) → get_or m.frames.slots u None ≡ o → bound_in c (unwrap_or o no_running).env ≡ bound_in m.chains (unwrap_or o no_running).env
+    stays : (u : ℕ) → u ≢ t → (o : Option Running) → get_or m.frames.slots u None ≡ o → list_of c (unwrap_or o no_running).env ≡ list_of m.chains (unwrap_or o no_running).env
     stays u ne None e = refl
     stays u ne (Some l) e = others.tasks u l ne e
 
@@ -228,7 +228,7 @@ running_seen m t r q c change at same others =
         let kept : get_or slots u None ≡ get_or m.frames.slots u None = get_or-set_other m.frames.slots t u (Some q) None ne in
         record {
           frame = ap (λ o. (unwrap_or o no_running).frame) kept;
-          bindings = ap (λ o. bound_in c (unwrap_or o no_running).env) kept ∙ stays u ne (get_or m.frames.slots u None) refl;
+          bindings = ap (λ o. list_of c (unwrap_or o no_running).env) kept ∙ stays u ne (get_or m.frames.slots u None) refl;
         }
 
 -- the frame of a living task is written

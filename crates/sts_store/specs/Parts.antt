@@ -3,7 +3,6 @@
 use Rattle.std.specs.Prelude.{ℕ, List, [], ◌∷◌, map, Option, Some, None, option_map, unwrap_or}
 use Rattle.std.specs.Prelude.{Bool, false, ◌&&◌, slice_index_or, slice_set}
 use Rattle.sts_env.specs.Environments.{Records, list_of}
-use Rattle.sts_env.specs.declared.env.Binding.{Binding}
 use Rattle.sts_env.specs.declared.env.Env.{Env}
 use Rattle.sts_forest.specs.Forest.{Forest}
 use Rattle.sts_forest.specs.declared.record.Task.{Task}
@@ -11,7 +10,6 @@ use Rattle.sts_held.specs.Holes.{Holes}
 use Rattle.sts_model.specs.declared.event.End.{End}
 use Rattle.sts_model.specs.declared.event.Stand.{Stand}
 use Rattle.sts_model.specs.declared.event.Stand.TheVariants.{Free}
-use Rattle.sts_model.specs.declared.record.Bound.{Bound}
 use Rattle.sts_model.specs.declared.record.Frame.{Frame}
 use Rattle.sts_model.specs.Live.{Live}
 use Rattle.sts_seen.specs.Reading.{alive_at, lives_in, no_alive}
@@ -28,13 +26,6 @@ pub record Parts : Type 0 where
 
 -- ---- the live view
 
-abbrev pub bound : Binding → Bound
-bound b = record { key = b.key; value = b.value }
-
--- the bindings of an environment, innermost first
-abbrev pub bound_in : Records → Env → List Bound
-bound_in c env = map bound (list_of c env)
-
 -- what is read where no living task has a frame
 abbrev pub no_running : Running
 no_running = record { frame = no_alive.frame; env = record { front = None; length = 0 } }
@@ -48,8 +39,8 @@ abbrev pub beside : Parts → Beside Env
 beside m =
     record {
       frame = λ t. (running_at m t).frame;
-      bindings = λ t. bound_in m.chains (running_at m t).env;
-      kept = bound_in m.chains;
+      bindings = λ t. list_of m.chains (running_at m t).env;
+      kept = list_of m.chains;
       root_end = m.root_end;
     }
 

@@ -1,40 +1,14 @@
 //! Bindings of a task.
 
-ghost use Rattle.std.specs.Prelude.{◌≡◌, ◌<◌, ◌+◌, ◌-◌, ◌^◌, [], ◌∷◌, drop, length, true};
-ghost use Rattle.sts_model.specs.Local.{operand, steps};
+ghost use Rattle.std.specs.Prelude.{◌≡◌, ◌<◌, ◌+◌, ◌-◌, ◌^◌, length, true};
 ghost use Rattle.sts_model.specs.Misuse.{innermost, is_binding};
-ghost use Rattle.sts_model.specs.declared.record.Entry.TheVariants as entry;
 ghost use Rattle.sts_seen.specs.Effect.{live_bind, live_unbind};
 ghost use Rattle.sts_seen.specs.Reading.{lives_in};
 ghost use Rattle.sts_store.specs.Parts.{frame_of, live_of, unseen_of};
 ghost use Rattle.sts_views.specs.Order.{InOrder};
 
 use crate::store::Store;
-use sts_model::record::{Entry, Frame};
-
-/// Pops the top operand, which is bound to a key from now on, and goes on.
-fn enter_binding(frame: &mut Frame, key: u8)
-    requires more { frame.old.pc + 1 < 2 ^ 32 }
-    requires room { length frame.old.entries < 16 }
-    ensures { frame.new ≡ record (steps frame.old 1 []) {
-      entries = entry.Binding key (operand frame.old 0) ∷ frame.old.entries;
-    } }
-{
-    let value = frame.operand(0);
-    let next = frame.pc + 1;
-    frame.goes(next, 1);
-    frame.entries.push(Entry::Binding(key, value));
-}
-
-/// Leaves the innermost entry, and goes on.
-pub(crate) fn leave_entry(frame: &mut Frame)
-    requires { frame.old.pc + 1 < 2 ^ 32 }
-    ensures { frame.new ≡ record (steps frame.old 0 []) { entries = drop 1 frame.old.entries } }
-{
-    let next = frame.pc + 1;
-    frame.goes(next, 0);
-    frame.entries.drop_top(1);
-}
+use sts_frames::steps::{enter_binding, leave_entry};
 
 impl Store {
     /// Binds a key to the popped operand, and goes on.

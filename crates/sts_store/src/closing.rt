@@ -1,7 +1,6 @@
 //! Scopes are closed.
 
-ghost use Rattle.std.specs.Prelude.{◌≡◌, ◌<◌, ◌+◌, ◌^◌, [], drop, true, false, is_some};
-ghost use Rattle.sts_model.specs.Local.{steps};
+ghost use Rattle.std.specs.Prelude.{◌≡◌, ◌<◌, ◌+◌, ◌^◌, true, false, is_some};
 ghost use Rattle.sts_model.specs.Misuse.{innermost, is_entry_of};
 ghost use Rattle.sts_model.specs.declared.event.Phase.TheVariants.{Closing};
 ghost use Rattle.sts_model.specs.declared.event.Stand.TheVariants.{AtClose, Free};
@@ -13,23 +12,11 @@ ghost use Rattle.sts_store.specs.Closing.{close_unseen, gone_unseen};
 ghost use Rattle.sts_store.specs.Parts.{frame_of, live_of, stand_in, stood_unseen, unseen_of};
 ghost use Rattle.sts_views.specs.Order.{InOrder, IsOwned};
 
-use crate::binding::leave_entry;
 use crate::store::Store;
 use sts_cancel::cancel::cancel;
+use sts_frames::steps::leave_scope;
 use sts_model::event::{Phase, Stand};
-use sts_model::record::{Frame, Slot};
-
-/// Leaves the innermost entry, with these slots, and goes on.
-fn leave_scope(frame: &mut Frame, slots: [Slot; 16])
-    requires { frame.old.pc + 1 < 2 ^ 32 }
-    ensures { frame.new ≡ record (steps frame.old 0 []) {
-      entries = drop 1 frame.old.entries;
-      slots = slots;
-    } }
-{
-    leave_entry(frame);
-    frame.slots = slots;
-}
+use sts_model::record::Slot;
 
 impl Store {
     /// The scope that a task is a subtask of, if it stands and has one.

@@ -1,11 +1,10 @@
 //! What is written into the frame of a task, and its flag.
 
-ghost use Rattle.std.specs.Prelude.{◌≡◌, ◌<◌, ◌+◌, ◌-◌, ◌^◌, [], ◌∷◌, length, slice_set};
+ghost use Rattle.std.specs.Prelude.{◌≡◌, ◌<◌, ◌+◌, ◌-◌, ◌^◌, [], ◌∷◌, length};
 ghost use Rattle.std.specs.Prelude.{true, false};
 ghost use Rattle.sts_model.specs.Local as frames;
 ghost use Rattle.sts_model.specs.Misuse.{breaks_loop, overflows};
 ghost use Rattle.sts_model.specs.World as world;
-ghost use Rattle.sts_model.specs.declared.record.Slot.TheVariants.{Empty};
 ghost use Rattle.sts_seen.specs.Effect.{live_forget, live_take_flag};
 ghost use Rattle.sts_seen.specs.Outside.{live_interrupt};
 ghost use Rattle.sts_seen.specs.Reading.{lives_in, with_live_frame};
@@ -14,29 +13,8 @@ ghost use Rattle.sts_store.specs.Parts.{frame_of, live_of, unseen_of};
 use crate::store::Store;
 use sts_code::instr::Instr;
 use sts_code::program::Program;
+use sts_frames::steps::forget;
 use sts_model::frame::local;
-use sts_model::record::{Frame, Slot};
-
-pub(crate) fn set_slot(slots: &mut [Slot; 16], x: u8, slot: Slot)
-    ensures { slots.new ≡ slice_set slots.old x slot }
-{
-    let x = x as usize;
-    if x < 16 {
-        slots[x] = slot;
-    }
-}
-
-/// Empties a slot, and goes on.
-fn forget(frame: &mut Frame, slot: u8)
-    requires more { frame.old.pc + 1 < 2 ^ 32 }
-    ensures { frame.new ≡ record (frames.steps frame.old 0 []) {
-      slots = slice_set frame.old.slots slot Empty;
-    } }
-{
-    let next = frame.pc + 1;
-    frame.goes(next, 0);
-    set_slot(&mut frame.slots, slot, Slot::Empty);
-}
 
 impl Store {
     /// Does a local instruction of a task, whose function has this code.

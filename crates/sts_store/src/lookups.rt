@@ -1,60 +1,18 @@
 //! Instructions that look something up, and write it into the frame of their task.
 
-ghost use Rattle.std.specs.Prelude.{◌≡◌, ◌<◌, ◌+◌, ◌-◌, ◌^◌, length, is_some, slice_index_or, true};
+ghost use Rattle.std.specs.Prelude.{◌≡◌, ◌<◌, ◌+◌, ◌-◌, ◌^◌, length, is_some, true};
 ghost use Rattle.sts_code.specs.Program.{Program as AnyProgram};
 ghost use Rattle.sts_code.specs.declared.instr.Instr.TheVariants as instr;
 ghost use Rattle.sts_model.specs.Effect as effect;
 ghost use Rattle.sts_model.specs.Misuse.{slot};
-ghost use Rattle.sts_model.specs.declared.record.Slot.TheVariants.{Empty};
 ghost use Rattle.sts_seen.specs.Effect.{live_effect};
 ghost use Rattle.sts_seen.specs.Reading.{lives_in, scope_in};
 ghost use Rattle.sts_store.specs.Parts.{frame_of, live_of, unseen_of};
 
 use crate::store::Store;
 use sts_code::instr::Kind;
-use sts_model::event::End;
-use sts_model::record::{Frame, Slot};
-
-fn slot_at(slots: &[Slot; 16], x: u8) -> Slot
-    ensures { result ≡ slice_index_or slots.now x Empty }
-{
-    let x = x as usize;
-    if x < 16 { slots[x] } else { Slot::Empty }
-}
-
-/// The birth that a slot names; 0 where it is empty.
-fn named(frame: &Frame, x: u8) -> u32
-    ensures { result ≡ effect.named (slot frame.now x) }
-{
-    match slot_at(&frame.slots, x) {
-        Slot::Empty => 0,
-        Slot::Own(s) => s,
-        Slot::Lent(s) => s,
-        Slot::Sub(t) => t,
-    }
-}
-
-/// Where a state leads to.
-fn case_target(state: Option<End>, success: u32, failed: u32, otherwise: u32) -> u32
-    ensures { result ≡ effect.case_target state success failed otherwise }
-{
-    match state {
-        None => otherwise,
-        Some(End::Success(_)) => success,
-        Some(End::Failed(_)) => failed,
-    }
-}
-
-/// The value of a success or the code of a failure; 0 where there is none.
-fn value_or_zero(state: Option<End>) -> i64
-    ensures { result ≡ effect.value_or_zero state }
-{
-    match state {
-        None => 0,
-        Some(End::Success(value)) => value,
-        Some(End::Failed(code)) => code,
-    }
-}
+use sts_frames::ends::{case_target, value_or_zero};
+use sts_frames::slots::named;
 
 impl Store {
     /// Goes to where the state of the subtask in a slot leads.

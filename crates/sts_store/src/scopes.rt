@@ -1,35 +1,16 @@
 //! Scopes open and expire.
 
-ghost use Rattle.std.specs.Prelude.{◌≡◌, ◌<◌, ◌+◌, ◌-◌, ◌^◌, ℕ, [], ◌∷◌, ◌++◌, length, slice_set, true};
-ghost use Rattle.sts_model.specs.Local.{steps};
-ghost use Rattle.sts_model.specs.declared.record.Entry.TheVariants as entry;
-ghost use Rattle.sts_model.specs.declared.record.Slot.TheVariants.{Own};
+ghost use Rattle.std.specs.Prelude.{◌≡◌, ◌<◌, ◌+◌, ◌-◌, ◌^◌, ℕ, [], ◌∷◌, ◌++◌, length, true};
 ghost use Rattle.sts_seen.specs.Effect.{live_open};
 ghost use Rattle.sts_seen.specs.Outside.{live_can_expire, live_expire};
 ghost use Rattle.sts_seen.specs.Reading.{live_scope_at, lives_in};
 ghost use Rattle.sts_store.specs.Parts.{frame_of, live_of, unseen_of};
 ghost use Rattle.sts_views.specs.Order.{InOrder};
 
-use crate::frames::set_slot;
 use crate::store::Store;
 use sts_cancel::cancel::expire;
 use sts_code::instr::Joiner;
-use sts_model::record::{Entry, Frame, Slot};
-
-/// Enters a scope that the slot owns from now on, and goes on.
-fn enter_scope(frame: &mut Frame, slot: u8, s: u32)
-    requires more { frame.old.pc + 1 < 2 ^ 32 }
-    requires room { length frame.old.entries < 16 }
-    ensures { frame.new ≡ record (steps frame.old 0 []) {
-      entries = entry.Scope s ∷ frame.old.entries;
-      slots = slice_set frame.old.slots slot (Own s);
-    } }
-{
-    let next = frame.pc + 1;
-    frame.goes(next, 0);
-    frame.entries.push(Entry::Scope(s));
-    set_slot(&mut frame.slots, slot, Slot::Own(s));
-}
+use sts_frames::steps::enter_scope;
 
 impl Store {
     /// Opens a scope, which the slot owns from now on, and goes on.

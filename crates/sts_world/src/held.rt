@@ -8,6 +8,7 @@ ghost use Rattle.sts_model.specs.declared.record.Slot.TheVariants.{Empty, Lent};
 ghost use Rattle.sts_world.specs.Held.{slot_of, whole};
 
 use std::alloc::{AllocError, Global};
+use sts_frames::slots::is_empty;
 use sts_model::record::{Frame, Slot};
 
 /// What is used of a frame at which no loop and no entry is open.
@@ -39,12 +40,6 @@ fn used(locals: &[i64; 16]) -> &[i64]
         n -= 1;
     }
     &locals[..n]
-}
-
-fn is_empty(slot: Slot) -> bool
-    ensures { result ≡ misuse.is_empty slot }
-{
-    matches!(slot, Slot::Empty)
 }
 
 fn are_empty(slots: &[Slot]) -> bool

@@ -3,9 +3,7 @@
 
 pub mod chains;
 mod changes;
-pub mod code;
 mod family;
-mod frames;
 mod held;
 mod reading;
 pub mod records;

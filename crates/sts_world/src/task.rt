@@ -14,16 +14,17 @@ ghost use Rattle.sts_model.specs.declared.record.Entry.TheVariants as entries;
 ghost use Rattle.sts_model.specs.declared.record.Slot.TheVariants.{Empty, Own, Lent};
 
 use crate::chains::Chains;
-use crate::code::code;
-use crate::frames::{
-    bind, entry_frame, forget, leave_close, leave_fork, leave_open, root_frame, unbind,
-};
 use crate::held::{HeldFrame, resting, resting_entry};
 use crate::reading::own_value;
 use std::alloc::{AllocError, Global};
 use std::marker::Model;
 use sts_code::instr::Instr;
 use sts_code::program::Program;
+use sts_frames::beginning::{entry_frame, root_frame};
+use sts_frames::code::code;
+use sts_frames::steps::{
+    enter_binding, enter_scope, forget, leave_entry, leave_fork, leave_scope, steps,
+};
 use sts_model::event::End;
 use sts_model::frame::local;
 use sts_model::record::{Frame, Slot};
@@ -268,7 +269,7 @@ impl TaskRecord {
             } }
     {
         if let HeldFrame::Living(frame) = &mut self.frame {
-            bind(frame, k);
+            enter_binding(frame, k);
         }
     }
 
@@ -283,7 +284,7 @@ impl TaskRecord {
             } }
     {
         if let HeldFrame::Living(frame) = &mut self.frame {
-            unbind(frame);
+            leave_entry(frame);
         }
     }
 
@@ -331,7 +332,7 @@ impl TaskRecord {
             } }
     {
         if let HeldFrame::Living(frame) = &mut self.frame {
-            leave_close(frame, slots);
+            leave_scope(frame, slots);
         }
     }
 
@@ -349,7 +350,7 @@ impl TaskRecord {
             } }
     {
         if let HeldFrame::Living(frame) = &mut self.frame {
-            leave_open(frame, slot, s);
+            enter_scope(frame, slot, s);
             self.opened = front.unwrap_or(0);
         }
     }
@@ -392,8 +393,7 @@ impl TaskRecord {
         } }
     {
         if let HeldFrame::Living(frame) = &mut self.frame {
-            let next = frame.pc + 1;
-            frame.goes(next, 1);
+            steps(frame, 1);
         }
         self.outcome = Some(end);
         self.rest(alloc);

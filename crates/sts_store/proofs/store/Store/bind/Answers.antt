@@ -1,12 +1,13 @@
-use Rattle.std.proofs.Common.{◌≡◌, ◌+◌, ◌<◌, ◌^◌, ◌∷◌, map, length, ap, sym, ◌∙◌, rules, w64}
+use Rattle.std.proofs.Common.{◌≡◌, ◌+◌, ◌<◌, ◌^◌, ◌∷◌, length, ap, sym, ◌∙◌, rules, w64}
 use mir.Val.{SFits}
 use Rattle.std.proofs.lemmas.Int.{to_z-of_z}
+use Rattle.sts_env.specs.Environments.{list_of}
 use Rattle.sts_seen.specs.Effect.{live_bind}
 use Rattle.sts_model.specs.Local.{operand}
 use Rattle.sts_model.specs.declared.record.Frame.{Frame}
 use Rattle.sts_store.specs.contracts.store.Store.{the_view}
 use Rattle.sts_store.specs.declared.running.Running.{Running}
-use Rattle.sts_store.specs.Parts.{live_of, frame_of, bound, bound_in}
+use Rattle.sts_store.specs.Parts.{live_of, frame_of}
 use Rattle.sts_store.proofs.Views.{running_seen}
 use Rattle.sts_store.proofs.Bindings.{whole_here, bound_store, bound_elsewhere, bound_frame, bound_here}
 use Rattle.sts_store.proofs.Writing.{living, has_frame, at_hand, frame_is}
@@ -48,13 +49,13 @@ returns-clause-live c =
     let l = living m now c.self.invariant c.self.view_is c.args.t c.requires.lives in
     let fits : SFits w64 c.operand-value.result = search rules in
     let value = to_z-of_z w64 c.operand-value.result fits ∙ c.operand-value.ensures in
-    let list : bound_in d q.env ≡ bound_here r.frame c.args.key ∷ bound_in m.chains r.env =
-    ap (λ bs. map bound bs) c.bind-running.ensures.list
-    ∙ ap (λ v. record { key = c.args.key; value = v } ∷ bound_in m.chains r.env) value in
+    let list : list_of d q.env ≡ bound_here r.frame c.args.key ∷ list_of m.chains r.env =
+    c.bind-running.ensures.list
+    ∙ ap (λ v. record { key = c.args.key; value = v } ∷ list_of m.chains r.env) value in
     running_seen m c.args.t r q d
     (λ alive. record alive { frame = bound_frame r.frame c.args.key; environment = bound_here r.frame c.args.key ∷ alive.environment }) at
     (λ flag.
-    ap (λ f. record { frame = f; flag = flag; environment = bound_in d q.env }) c.enter_binding.ensures
+    ap (λ f. record { frame = f; flag = flag; environment = list_of d q.env }) c.enter_binding.ensures
     ∙ ap (λ e. record { frame = bound_frame r.frame c.args.key; flag = flag; environment = e }) list)
     (bound_elsewhere m c.self.invariant c.args.t r q d at c.bind-running.ensures.others)
     ∙ ap (λ f. live_bind (live_of m) c.args.t f c.args.key) (sym (frame_is m now c.args.t r l at c.self.view_is))

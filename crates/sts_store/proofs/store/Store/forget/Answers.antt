@@ -13,7 +13,7 @@ at-requires c = has_frame (living (the_view c.self.inside) c.args.self.now c.sel
 pub forget-requires : goal.forget-requires
 forget-requires c =
     let l = living (the_view c.self.inside) c.args.self.now c.self.invariant c.self.view_is c.args.t c.requires.lives in
-    record { more = at_hand (the_view c.self.inside) c.args.self.now c.args.t c.at.result.now l c.at.ensures.value c.self.view_is (λ f. f.pc + 1 < 2 ^ 32) c.requires.more }
+    at_hand (the_view c.self.inside) c.args.self.now c.args.t c.at.result.now l c.at.ensures.value c.self.view_is (λ f. f.pc + 1 < 2 ^ 32) c.requires.more
 
 pub invariant_of-self : goal.invariant_of-self
 invariant_of-self c = frame_kept (the_view c.self.inside) c.args.t c.at.result.now c.forget.new.frame c.self.invariant c.at.ensures.value (ap (λ (f : Frame). f.entries) c.forget.ensures)

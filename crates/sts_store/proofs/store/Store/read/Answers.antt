@@ -1,6 +1,6 @@
 use Rattle.std.proofs.Common.{sym, ◌∙◌, ap, subst}
 use Rattle.std.specs.Prelude.{option_map}
-use Rattle.sts_env.specs.Environments.{IsWhole, value_of, list_of}
+use Rattle.sts_env.specs.Environments.{IsWhole, list_of}
 use Rattle.sts_forest.proofs.Holding.{map_at}
 use Rattle.sts_model.specs.Environment as model
 use Rattle.sts_model.specs.Live.{Alive}
@@ -9,7 +9,6 @@ use Rattle.sts_store.specs.contracts.store.Store.{the_view}
 use Rattle.sts_store.specs.declared.running.Running.{Running}
 use Rattle.sts_store.specs.Sharing.{holder_of}
 use Rattle.sts_store.proofs.Views.{lived, got}
-use Rattle.sts_store.proofs.Environments.{read_bound}
 use Rattle.sts_store.proofs.store.Store.read.Goals as goal
 
 pub unwrap-requires : goal.unwrap-requires
@@ -28,4 +27,4 @@ pub returns : goal.returns
 returns c =
     let l = lived (the_view c.self.inside) c.self.invariant c.args.t (rw (← c.self.view_is) at c.requires) in
     let now = copied c.get.result c.unwrap.result l.run c.unwrap.ensures (c.get.ensures ∙ l.runs) in
-    rw (← c.self.view_is) (c.read.ensures ∙ ap (λ (r : Running). value_of (list_of c.self.inside.chains r.env) c.args.key) now ∙ read_bound (list_of c.self.inside.chains l.run.env) c.args.key ∙ ap (λ (a : Alive). model.read a.environment c.args.key) (sym l.at))
+    rw (← c.self.view_is) (c.read.ensures ∙ ap (λ (r : Running). model.read (list_of c.self.inside.chains r.env) c.args.key) now ∙ ap (λ (a : Alive). model.read a.environment c.args.key) (sym l.at))

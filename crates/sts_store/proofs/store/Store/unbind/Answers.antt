@@ -1,11 +1,12 @@
-use Rattle.std.proofs.Common.{◌≡◌, ◌+◌, ◌<◌, ◌^◌, drop, map, true, ap, sym, subst, ◌∙◌}
+use Rattle.std.proofs.Common.{◌≡◌, ◌+◌, ◌<◌, ◌^◌, drop, true, ap, sym, subst, ◌∙◌}
+use Rattle.sts_env.specs.Environments.{list_of}
 use Rattle.sts_model.specs.Misuse.{innermost, is_binding}
 use Rattle.sts_model.specs.declared.record.Frame.{Frame}
 use Rattle.sts_seen.specs.Effect.{live_unbind}
 use Rattle.sts_views.specs.Order.{InOrder}
 use Rattle.sts_store.specs.contracts.store.Store.{the_view}
 use Rattle.sts_store.specs.declared.running.Running.{Running}
-use Rattle.sts_store.specs.Parts.{live_of, frame_of, bound, bound_in}
+use Rattle.sts_store.specs.Parts.{live_of, frame_of}
 use Rattle.sts_store.proofs.Views.{running_seen}
 use Rattle.sts_store.proofs.Bindings.{bound_first, innermost_of, is_bound, whole_here, unbound_store, unbound_elsewhere, left_frame}
 use Rattle.sts_store.proofs.Writing.{living, has_frame, at_hand, frame_is}
@@ -69,10 +70,10 @@ returns-clause-live c =
       takes = c.unbind-running.ensures.takes;
       others = c.unbind-running.ensures.others;
     }) in
-    let list : drop 1 (bound_in m.chains r.env) ≡ bound_in d q.env = ap (λ bs. drop 1 (map bound bs)) c.unbind-running.ensures.list.1 in
+    let list : drop 1 (list_of m.chains r.env) ≡ list_of d q.env = ap (drop 1) c.unbind-running.ensures.list.1 in
     running_seen m t r q d (λ alive. record alive { frame = left_frame r.frame; environment = drop 1 alive.environment }) at
     (λ flag.
-    ap (λ f. record { frame = f; flag = flag; environment = bound_in d q.env }) c.leave_entry.ensures
+    ap (λ f. record { frame = f; flag = flag; environment = list_of d q.env }) c.leave_entry.ensures
     ∙ ap (λ e. record { frame = left_frame r.frame; flag = flag; environment = e }) (sym list))
     elsewhere
     ∙ ap (λ f. live_unbind (live_of m) t f) (sym (frame_is m now t r l at c.self.view_is))

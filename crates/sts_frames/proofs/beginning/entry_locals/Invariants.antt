@@ -1,5 +1,5 @@
 use Rattle.std.proofs.Common.{◌≡◌, ◌++◌, ◌-◌, take, reverse, replicate, pos}
-use Rattle.sts_store.proofs.forking.entry_locals.Given as goal
+use Rattle.sts_frames.proofs.beginning.entry_locals.Given as goal
 
 -- the arguments so far
 abbrev pub invariant-loop-i : goal.invariant-loop-i

@@ -2,7 +2,7 @@ use Rattle.std.proofs.Common.{◌≡◌, ℕ, suc, ◌+◌, ◌-◌, ◌<◌, �
 use mir.Val.{SFits}
 use Rattle.std.proofs.lemmas.List.{set_at, take_more, append_assoc, get_or-reverse, get_or-take, length-take, length-reverse}
 use Rattle.std.proofs.lemmas.Int.{to_z-of_z}
-use Rattle.sts_world.proofs.frames.entry_locals.Goals as goal
+use Rattle.sts_frames.proofs.beginning.entry_locals.Goals as goal
 
 -- the i-th argument of n is the operand n - 1 - i
 argument : (xs : List ℤ) (n i : ℕ) → n ≤ length xs → i < n → get_or (reverse (take n xs)) i (pos 0) ≡ get_or xs (n - 1 - i) (pos 0)

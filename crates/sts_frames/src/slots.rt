@@ -1,0 +1,42 @@
+//! The slots of a frame.
+
+ghost use Rattle.std.specs.Prelude.{◌≡◌, slice_set};
+ghost use Rattle.sts_model.specs.Effect as effect;
+ghost use Rattle.sts_model.specs.Misuse as misuse;
+
+use sts_model::record::{Frame, Slot};
+
+/// What a slot holds; nothing above the last.
+pub fn slot(frame: &Frame, x: u8) -> Slot
+    ensures { result ≡ misuse.slot frame.now x }
+{
+    frame.slots.get(x as usize).copied().unwrap_or(Slot::Empty)
+}
+
+/// Does a slot hold nothing?
+pub fn is_empty(slot: Slot) -> bool
+    ensures { result ≡ misuse.is_empty slot }
+{
+    matches!(slot, Slot::Empty)
+}
+
+/// The birth of the scope or subtask that a slot names; 0 where it is empty.
+pub fn named(frame: &Frame, x: u8) -> u32
+    ensures { result ≡ effect.named (misuse.slot frame.now x) }
+{
+    match slot(frame, x) {
+        Slot::Empty => 0,
+        Slot::Own(s) | Slot::Lent(s) => s,
+        Slot::Sub(t) => t,
+    }
+}
+
+/// Fills a slot; one above the last changes nothing.
+pub fn set_slot(slots: &mut [Slot; 16], x: u8, slot: Slot)
+    ensures { slots.new ≡ slice_set slots.old x slot }
+{
+    let x = x as usize;
+    if x < 16 {
+        slots[x] = slot;
+    }
+}
