@@ -1,0 +1,7 @@
+//! The machine that tests nothing: it runs a verified program, and stands where the plain machine
+//! stands.
+#![tactic(auto)]
+
+pub mod machine;
+mod outside;
+mod perform;
