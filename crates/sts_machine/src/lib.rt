@@ -2,6 +2,9 @@
 //! stands.
 #![tactic(auto)]
 
+mod code;
+mod effect;
 pub mod machine;
 mod outside;
 mod perform;
+mod standing;
