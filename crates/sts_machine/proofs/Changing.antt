@@ -52,8 +52,8 @@ pub living : (v : Live) (t : ℕ) → lives_in v t ≡ true → Living v t
 living v t lives = by (task_in v t) refl lives
   where
     by2 : (task : LiveTask) → task_in v t ≡ Some task → (a : Option Alive) → task.alive ≡ a → is_some a ≡ true → Living v t
-    by2 task e None h yes = cc
-    by2 task e (Some a) h yes =
+    by2 task e None h is = cc
+    by2 task e (Some a) h is =
         record {
           task = task;
           alive = a;
@@ -63,8 +63,8 @@ living v t lives = by (task_in v t) refl lives
         }
 
     by : (o : Option LiveTask) → task_in v t ≡ o → is_some (unwrap_or o no_live_task).alive ≡ true → Living v t
-    by None e yes = cc
-    by (Some task) e yes = by2 task e task.alive refl yes
+    by None e is = cc
+    by (Some task) e is = by2 task e task.alive refl is
 
 -- ---- nothing is brought to life, and nothing ends
 
@@ -191,9 +191,9 @@ module _ (v : Live) (u : Unseen) (t s : ℕ) (keys : List ℕ) (begins : Alive) 
       by : (b : Bool) → nat_lt i (length v.tasks) ≡ b → unwrap_or (get_or (u.stands ++ Some Free ∷ []) i None) Free ≡ said v u i
       by true e =
           let less : i < length v.tasks = grind (arith, nat_tests) in
-          let old : get_or (v.tasks ++ Some (child_of s begins cancelled) ∷ []) i None ≡ get_or v.tasks i None = get_or_append_left v.tasks (Some (child_of s begins cancelled) ∷ []) i None less in
+          let old : get_or (v.tasks ++ Some (child_of s begins cancelled) ∷ []) i None ≡ get_or v.tasks i None = get_or_append_left v.tasks (Some (child_of s begins cancelled) ∷ []) None i less in
           let was : lives_in v i ≡ true = ap (λ o. is_some (unwrap_or o no_live_task).alive) (sym old) ∙ alive in
-          ap (λ o. unwrap_or o Free) (get_or_append_left u.stands (Some Free ∷ []) i None (omega (arith, less, same))) ∙ still_said v u i was
+          ap (λ o. unwrap_or o Free) (get_or_append_left u.stands (Some Free ∷ []) None i (omega (arith, less, same))) ∙ still_said v u i was
       by false e =
           let late : length v.tasks ≤ i = grind (arith, nat_tests) in
           let idle : lives_in v i ≡ false = ap (λ o. is_some (unwrap_or o no_live_task).alive) (past v.tasks i None late) in
@@ -224,7 +224,7 @@ module _ (v : Live) (u : Unseen) (t s : ℕ) (keys : List ℕ) (begins : Alive) 
       }
 
   forker : alive_at (record v { tasks = v.tasks ++ Some (child_of s begins cancelled) ∷ [] }) t ≡ alive_at v t
-  forker = ap (λ o. unwrap_or (unwrap_or o no_live_task).alive no_alive) (get_or_append_left v.tasks (Some (child_of s begins cancelled) ∷ []) t None (inside v t lives))
+  forker = ap (λ o. unwrap_or (unwrap_or o no_live_task).alive no_alive) (get_or_append_left v.tasks (Some (child_of s begins cancelled) ∷ []) None t (inside v t lives))
 
   pub forks_child : (f : Frame) → f.entries ≡ (alive_at v t).frame.entries → Changes v u (with_live_frame (record v { tasks = v.tasks ++ Some (child_of s begins cancelled) ∷ [] }) t f) (record u { stands = u.stands ++ Some Free ∷ []; task_keys = keys; task_room = u.task_room - 1; frame_room = room_less cancelled u.frame_room }) t
   forks_child f entries =

@@ -59,6 +59,16 @@ left_lives s (Some task) e = by (is_in s task.scope) e
 counted : (o : Option LiveTask) (ys : List (Option LiveTask)) → count_by is_some (o ∷ ys) ≡ cond (is_some o) 1 0 + count_by is_some ys
 counted o ys = sum_by-cons (λ (q : Option LiveTask). cond (is_some q) 1 0) o ys
 
+fewer_by : (s n : ℕ) (task : LiveTask) (xs : List (Option LiveTask)) (b : Bool) → count_by is_some (map (without s) xs) + length (filter_map (subtask_in s) (enumerate_from (n + 1) xs)) ≡ count_by is_some xs → count_by is_some (cond b None (Some task) ∷ map (without s) xs) + length (cons_option (cond b (Some (n, task)) None) (filter_map (subtask_in s) (enumerate_from (n + 1) xs))) ≡ count_by is_some (Some task ∷ xs)
+fewer_by s n task xs true rest =
+    let a = counted (Some task) xs in
+    let b = counted None (map (without s) xs) in
+    omega (arith, rest, a, b)
+fewer_by s n task xs false rest =
+    let a = counted (Some task) xs in
+    let b = counted (Some task) (map (without s) xs) in
+    omega (arith, rest, a, b)
+
 -- as many tasks stand less as there are subtasks
 fewer : (s n : ℕ) (xs : List (Option LiveTask)) → count_by is_some (map (without s) xs) + length (filter_map (subtask_in s) (enumerate_from n xs)) ≡ count_by is_some xs
 fewer s n [] = refl
@@ -67,19 +77,7 @@ fewer s n (None ∷ xs) =
     let a = counted None xs in
     let b = counted None (map (without s) xs) in
     omega (arith, rest, a, b)
-fewer s n (Some task ∷ xs) = by (is_in s task.scope)
-  where
-    by : (b : Bool) → count_by is_some (cond b None (Some task) ∷ map (without s) xs) + length (cons_option (cond b (Some (n, task)) None) (filter_map (subtask_in s) (enumerate_from (n + 1) xs))) ≡ count_by is_some (Some task ∷ xs)
-    by true =
-        let rest = fewer s (n + 1) xs in
-        let a = counted (Some task) xs in
-        let b = counted None (map (without s) xs) in
-        omega (arith, rest, a, b)
-    by false =
-        let rest = fewer s (n + 1) xs in
-        let a = counted (Some task) xs in
-        let b = counted (Some task) (map (without s) xs) in
-        omega (arith, rest, a, b)
+fewer s n (Some task ∷ xs) = fewer_by s n task xs (is_in s task.scope) (fewer s (n + 1) xs)
 
 -- where none of the subtasks lives
 none_ends : (s : ℕ) (xs : List (Option LiveTask)) (f : Option LiveTask → ℕ) → ((task : LiveTask) → task.alive ≡ None → f (Some task) ≡ 0) → f None ≡ 0 → list_any (is_live_living s) xs ≡ false → sum_by f (map (without s) xs) ≡ sum_by f xs

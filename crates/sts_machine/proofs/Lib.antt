@@ -3,4 +3,4 @@ pub mod Quiet
 pub mod Changing
 pub mod Closing
 pub mod Fine
-pub mod Standing
+pub mod Stood

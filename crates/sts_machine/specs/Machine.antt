@@ -1,5 +1,5 @@
 -- What contracts see of a machine, and where it stands (this project's own).
-use Rattle.std.specs.Prelude.{◌≡◌, ℕ, List}
+use Rattle.std.specs.Prelude.{◌≡◌, ℕ, List, Bool, if◌then◌else◌}
 use Rattle.sts_code.specs.Program.{Program}
 use Rattle.sts_rules.specs.declared.budget.Budgets.{Budgets}
 use Rattle.sts_rules.specs.Refusal.{IsBudgetOf}
@@ -10,6 +10,8 @@ use Rattle.sts_laws_accepted.specs.Accepted.{main_of}
 use Rattle.sts_store.specs.Parts.{Parts, Unseen, live_of, unseen_of}
 use Rattle.sts_machine.specs.Standing.{AreStanding}
 use Rattle.sts_machine.specs.Room.{HasRoomOf}
+use Rattle.sts_machine.specs.declared.machine.Turned.{Turned}
+use Rattle.sts_machine.specs.declared.machine.Turned.TheVariants.{Stepped, Idle}
 
 -- its program, what can be asked of its tasks and scopes, what that doesn't show, and the steps that
 -- it took

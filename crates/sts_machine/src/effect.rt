@@ -3,8 +3,6 @@
 ghost use Rattle.std.specs.Prelude.{◌≡◌, ◌<◌, ◌≤◌, ◌+◌, ◌^◌, length, true};
 ghost use Rattle.sts_machine.specs.Changing.{Changes, is_quiet};
 ghost use Rattle.sts_machine.specs.Room.{HasRoomLeft};
-ghost use Rattle.sts_model.specs.Effect as def;
-ghost use Rattle.sts_model.specs.Misuse as misuse;
 ghost use Rattle.sts_model.specs.World as world;
 ghost use Rattle.sts_seen.specs.Effect.{live_effect};
 ghost use Rattle.sts_seen.specs.Reading.{lives_in};
@@ -12,23 +10,11 @@ ghost use Rattle.sts_store.specs.Parts.{frame_of, live_of, unseen_of};
 ghost use Rattle.sts_views.specs.Fine.{IsLiveFine};
 ghost use Rattle.sts_views.specs.Order.{InOrder};
 
-use crate::code::slot;
+use crate::slots::named;
 use sts_code::instr::Instr;
 use sts_code::program::Program;
 use sts_model::event::End;
-use sts_model::record::{Frame, Slot};
 use sts_store::store::Store;
-
-/// The scope or subtask that a slot holds.
-fn named(frame: &Frame, x: u8) -> u32
-    ensures { result ≡ def.named (misuse.slot frame.now x) }
-{
-    match slot(frame, x) {
-        Slot::Empty => 0,
-        Slot::Own(s) | Slot::Lent(s) => s,
-        Slot::Sub(t) => t,
-    }
-}
 
 /// Does the instruction that a living task is at, which is no misuse and for which there is room.
 pub(crate) fn effect(
@@ -129,7 +115,8 @@ fn quiet(store: &mut Store, program: &Program, code: &[Instr], t: u32, instr: In
             success,
             failed,
         } => store.case(t, handle, success, failed),
-        Instr::Get(h) | Instr::Except(h) => store.push_value(t, h),
+        Instr::Get(h) => store.push_value(t, h),
+        Instr::Except(h) => store.push_value(t, h),
         Instr::Tally(x, kind) => store.push_tally(t, x, kind),
         Instr::Total(x) => store.push_total(t, x),
         Instr::Forget(h) => store.forget(t, h),

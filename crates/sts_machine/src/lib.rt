@@ -7,4 +7,5 @@ mod effect;
 pub mod machine;
 mod outside;
 mod perform;
-mod standing;
+mod slots;
+mod stands;

@@ -11,9 +11,9 @@ ghost use Rattle.sts_store.specs.Parts.{frame_of, live_of, unseen_of};
 ghost use Rattle.sts_views.specs.Fine.{IsLiveFine};
 ghost use Rattle.sts_views.specs.Order.{InOrder};
 
-use crate::code::code;
 use crate::effect::effect;
-use crate::standing::say_stand;
+use crate::stands::say_stand;
+use sts_code::code::code_of;
 use sts_code::instr::Instr;
 use sts_code::program::Program;
 use sts_store::store::Store;
@@ -37,7 +37,7 @@ pub(crate) fn perform(store: &mut Store, program: &Program, t: u32, instr: Instr
 {
     effects_move_one();
     idle_stand_free();
-    let code = code(program, store.frame(t));
+    let code = code_of(program, store.frame(t).function as usize);
     effect(store, program, code, t, instr);
     say_stand(store, program, t);
 }

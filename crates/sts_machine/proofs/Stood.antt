@@ -18,7 +18,7 @@ use Rattle.sts_machine.specs.Room.{HasRoomOf}
 use Rattle.sts_machine.specs.Standing.{AreStanding, AreStandingBut}
 use Rattle.sts_machine.proofs.Lists.{apart}
 use Rattle.sts_machine.proofs.Quiet.{IsQuiet}
-use Rattle.sts_machine.proofs.Changing.{inside, lives_quiet, changes-quiet}
+use Rattle.sts_machine.proofs.Changing.{inside, lives_quiet, changes-quiet, as_are}
 
 -- ---- as many tasks are said to stand somewhere as were born
 
@@ -68,21 +68,14 @@ stands_anew p m t others lives i alive = by (i == t) refl
         ∙ ap (live_stand_at p v) (sym same)
     by false e = ap (λ o. unwrap_or o Free) (get_or-set_other u.stands t i (Some (live_stand_at p v t)) None (apart i t e)) ∙ others i e alive
 
--- who doesn't live needn't
-pub stands_without : (p : Program) (v : Live) (u : Unseen) (t : ℕ) → AreStandingBut p v u t → lives_in v t ≡ false → AreStanding p v u
-stands_without p v u t others idle i alive = by (i == t) refl
-  where
-    by : (b : Bool) → (i == t) ≡ b → stand_in u i ≡ live_stand_at p v i
-    by true e =
-        let same : i ≡ t = grind (arith, nat_tests) in
-        let never : true ≡ false = sym alive ∙ ap (lives_in v) same ∙ idle in
-        cc
-    by false e = others i e alive
-
 -- ---- from outside
 
-pub still_standing : (p : Program) (v x : Live) (u : Unseen) → IsQuiet v x → ((i : ℕ) → IsUnmoved p v x i) → AreStanding p v u → AreStanding p x u
-still_standing p v x u h moved standing i alive = standing i (sym (lives_quiet v x i h) ∙ alive) ∙ sym (moved i).stand
+module _ (v x y : Live) (u w : Unseen) (same : y ≡ x) (rest : w ≡ u) (quiet : IsQuiet v x) where
+  pub still_standing : (p : Program) → ((i : ℕ) → IsUnmoved p v x i) → AreStanding p v u → AreStanding p y w
+  still_standing p moved standing =
+      subst (λ (q : Live). AreStanding p q w) (sym same)
+      (subst (λ (q : Unseen). AreStanding p x q) (sym rest)
+      (λ i alive. standing i (sym (lives_quiet v x i quiet) ∙ alive) ∙ sym (moved i).stand))
 
-pub room_same : (v x : Live) (u : Unseen) (b : Budgets) → IsQuiet v x → HasRoomOf b v u → HasRoomOf b x u
-room_same v x u b h = room_kept v x u u 0 b (changes-quiet v x u 0 h)
+  pub same_room : (b : Budgets) → HasRoomOf b v u → HasRoomOf b y w
+  same_room b = room_kept v y u w 0 b (as_are v x y u u w 0 same rest (changes-quiet v x u 0 quiet))
