@@ -1,10 +1,9 @@
 -- What instructions change of what the view doesn't show.
-use Rattle.std.proofs.Common.{◌≡◌, ◌≢◌, ℕ, zero, suc, ◌+◌, ◌-◌, ◌<◌, ◌≤◌, List, [], ◌∷◌, ◌++◌, length, map, drop, Bool, true, false, not, Option, Some, None, refl, sym, ◌∙◌, ap, subst, get_or, set, cond, is_some, arith, nat_lt, get_or-set_same, get_or-set_other}
-use Rattle.std.proofs.Math.Seq.{get_or-append_seam}
+use Rattle.std.proofs.Common.{◌≡◌, ℕ, ◌+◌, ◌-◌, ◌<◌, ◌≤◌, List, [], ◌∷◌, ◌++◌, length, drop, Bool, true, false, Option, Some, None, refl, sym, ◌∙◌, ap, subst, get_or, set, cond, is_some, arith, nat_lt, get_or-set_other}
 use Rattle.std.proofs.lemmas.Bool.Decides.{nat_tests}
-use Rattle.std.proofs.lemmas.List.{length-map, get_or_append_left}
+use Rattle.std.proofs.lemmas.List.{get_or_append_left}
 use Rattle.std.proofs.lemmas.List.Sums.{sum_by-cons, sum_by-set, sum_by_push}
-use Rattle.std.specs.Prelude.{option_map, unwrap_or, count_by, sum_by, ◌==◌, nat_le}
+use Rattle.std.specs.Prelude.{option_map, unwrap_or, count_by, sum_by, ◌==◌}
 use Rattle.sts_code.specs.Program.{Program, routine}
 use Rattle.sts_code.specs.declared.instr.Joiner.{Joiner}
 use Rattle.sts_model.specs.declared.event.End.{End}
@@ -13,13 +12,13 @@ use Rattle.sts_model.specs.declared.event.Stand.TheVariants.{Free}
 use Rattle.sts_model.specs.declared.record.Entry.{Entry}
 use Rattle.sts_model.specs.declared.record.Entry.TheVariants as entry
 use Rattle.sts_model.specs.declared.record.Frame.{Frame}
-use Rattle.sts_model.specs.Local.{operand, steps}
+use Rattle.sts_model.specs.Local.{operand}
 use Rattle.sts_model.specs.Misuse.{is_binding, innermost}
 use Rattle.sts_model.specs.Effect.{forked}
 use Rattle.sts_model.specs.Live.{Live, LiveTask, LiveScope, Alive}
 use Rattle.sts_runs.proofs.ListLemmas.{at_more, past, within}
 use Rattle.sts_seen.specs.Reading.{task_in, no_live_task, no_alive, live_task_at, live_scope_at, alive_at, lives_in, with_alive, with_live_frame}
-use Rattle.sts_seen.specs.Effect.{opened_scope, live_open, live_child, live_fork, live_bind, live_unbind, live_tell, live_ended, live_end}
+use Rattle.sts_seen.specs.Effect.{opened_scope, live_open, live_child, live_fork, live_bind, live_unbind, live_ended, live_end}
 use Rattle.sts_laws_accepted.specs.Views.{bindings_in, live_tasks, live_scopes, live_bindings}
 use Rattle.sts_store.specs.Parts.{Unseen, stand_in, stood_unseen}
 use Rattle.sts_machine.specs.Changing.{Changes}

@@ -1,10 +1,9 @@
 -- What a step of a close changes of what the view doesn't show.
-use Rattle.std.proofs.Common.{◌≡◌, ℕ, zero, suc, ◌+◌, ◌-◌, ◌<◌, List, [], ◌∷◌, length, map, drop, Bool, true, false, ◌&&◌, Option, Some, None, refl, sym, ◌∙◌, ap, subst, get_or, set, cond, is_some, arith, get_or-set_other}
+use Rattle.std.proofs.Common.{◌≡◌, ℕ, zero, suc, ◌+◌, List, [], ◌∷◌, length, map, drop, Bool, true, false, ◌&&◌, Option, Some, None, refl, sym, ◌∙◌, ap, subst, get_or, cond, is_some, arith}
 use Rattle.std.proofs.lemmas.Bool.{or_parts}
-use Rattle.std.proofs.lemmas.List.{length-map, length-set}
 use Rattle.std.proofs.lemmas.List.Sums.{sum_by-cons, sum_by-set}
 use Rattle.std.specs.List.{list_any, enumerate_from, cons_option}
-use Rattle.std.specs.Prelude.{unwrap_or, count_by, sum_by, filter_map, ◌==◌}
+use Rattle.std.specs.Prelude.{unwrap_or, count_by, sum_by, filter_map}
 use Rattle.sts_model.specs.declared.event.Phase.TheVariants.{Closing}
 use Rattle.sts_model.specs.declared.event.Stand.{Stand}
 use Rattle.sts_model.specs.declared.event.Stand.TheVariants.{Free, AtClose}
@@ -17,16 +16,16 @@ use Rattle.sts_model.specs.Local.{steps}
 use Rattle.sts_model.specs.Misuse.{is_binding, is_entry_of, innermost}
 use Rattle.sts_model.specs.Live.{Live, LiveTask, LiveScope, Alive, subtask_in}
 use Rattle.sts_runs.proofs.ListLemmas.{within}
-use Rattle.sts_seen.specs.Reading.{scope_in, task_in, no_live_task, no_alive, live_scope_at, alive_at, lives_in, is_live_living, live_any_lives, live_count, with_live_frame, with_live_phase}
+use Rattle.sts_seen.specs.Reading.{scope_in, task_in, no_live_task, no_alive, alive_at, lives_in, is_live_living, live_any_lives, with_live_frame, with_live_phase}
 use Rattle.sts_seen.specs.Cancelling.{live_cancel}
 use Rattle.sts_seen.specs.Effect.{without, live_cleared, live_gone, live_closed, live_close}
-use Rattle.sts_laws_accepted.specs.Views.{open_bindings, bindings_in, live_tasks, live_scopes, live_bindings}
+use Rattle.sts_laws_accepted.specs.Views.{open_bindings, bindings_in, live_scopes}
 use Rattle.sts_store.specs.Closing.{stand_left, stands_left, gone_unseen, close_unseen}
 use Rattle.sts_store.specs.Parts.{Unseen, stand_in, stood_unseen}
-use Rattle.sts_store.proofs.Closes.{close_begins, close_ends}
+use Rattle.sts_store.proofs.CloseLemmas.{close_begins, close_ends}
 use Rattle.sts_machine.specs.Changing.{Changes}
-use Rattle.sts_machine.specs.Room.{is_living, living_tasks}
-use Rattle.sts_machine.proofs.Lists.{apart, mapped}
+use Rattle.sts_machine.specs.Room.{is_living}
+use Rattle.sts_machine.proofs.Lists.{mapped}
 use Rattle.sts_machine.proofs.Quiet.{quiet-trans, quiet-scope, quiet-cancel, quiet-alive}
 use Rattle.sts_machine.proofs.Changing.{life_is, changes-quiet, then-quiet, stood_before, stood_after}
 

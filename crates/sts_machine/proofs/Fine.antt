@@ -1,7 +1,6 @@
 -- What an instruction that is no misuse may rely on.
-use Rattle.std.proofs.Common.{◌≡◌, ℕ, ◌+◌, ◌-◌, ◌<◌, ◌≤◌, List, length, Bool, true, false, ◌&&◌, ◌||◌, not, Option, Some, None, refl, sym, ◌∙◌, ap, is_some, arith}
-use Rattle.std.proofs.lemmas.Bool.Decides.{nat_tests}
-use Rattle.std.specs.Prelude.{nat_le, unwrap_or}
+use Rattle.std.proofs.Common.{◌≡◌, ℕ, length, Bool, true, false, ◌&&◌, not, Option, refl, sym, ◌∙◌, is_some}
+use Rattle.std.specs.Prelude.{nat_le}
 use Rattle.sts_code.specs.Program.{Program}
 use Rattle.sts_code.specs.Facts.{is_await_all}
 use Rattle.sts_code.specs.declared.instr.Instr.{Instr}
@@ -20,7 +19,7 @@ use Rattle.sts_runs.proofs.FrameLemmas.{own_slot}
 use Rattle.sts_seen.specs.Reading.{lives_in, alive_at, scope_in, live_scope_at, with_live_frame}
 use Rattle.sts_seen.specs.Effect.{live_effect}
 use Rattle.sts_views.specs.Fine.{IsLiveFine, live_at_own, live_joins_wrongly}
-use Rattle.sts_views.specs.Order.{InOrder, IsOwned}
+use Rattle.sts_views.specs.Order.{InOrder}
 
 -- a test of the scope that a slot owns
 own_test : (v : Live) (y : Slot) (test : ℕ → LiveScope → Bool) → y ≡ Own (named y) → live_at_own v y test ≡ test (named y) (live_scope_at v (named y))

@@ -1,11 +1,9 @@
 -- Effects that leave as many tasks, scopes and bindings as there were.
-use Rattle.std.proofs.Common.{◌≡◌, ℕ, List, [], ◌∷◌, length, map, Bool, true, false, ◌||◌, not, Option, Some, None, refl, sym, ◌∙◌, ap, get_or, set, cond, is_some}
+use Rattle.std.proofs.Common.{◌≡◌, ℕ, List, [], ◌∷◌, length, Bool, true, false, ◌||◌, not, Option, Some, None, refl, ◌∙◌, ap, set, cond, is_some}
 use Rattle.std.proofs.lemmas.List.{length-set, length-map}
-use Rattle.std.specs.Int.{int_wrapping_div, w64}
 use Rattle.std.specs.Ordering.{int_eq}
-use Rattle.std.specs.Prelude.{option_map, unwrap_or, count_by, nat_le, pos, ◌+◌, ◌-◌, ◌==◌}
+use Rattle.std.specs.Prelude.{option_map, unwrap_or, count_by, nat_le, pos, ◌==◌}
 use Rattle.sts_code.specs.Program.{Program}
-use Rattle.sts_code.specs.Loops.{match_of}
 use Rattle.sts_code.specs.declared.instr.Instr.{Instr}
 use Rattle.sts_code.specs.declared.instr.Instr.TheVariants.{Div, Times, Next, Open, Fork, Join, Close, Bind, Unbind, Interrupted, Ret, Fail}
 use Rattle.sts_model.specs.declared.event.End.{End}
@@ -17,7 +15,7 @@ use Rattle.sts_model.specs.declared.record.Frame.{Frame}
 use Rattle.sts_model.specs.declared.record.Loop.{Loop}
 use Rattle.sts_model.specs.World.{code}
 use Rattle.sts_model.specs.Living.{is_in}
-use Rattle.sts_model.specs.Local.{local, operand, goes, steps, turns, enters, clipped}
+use Rattle.sts_model.specs.Local.{local, operand, goes, turns, clipped}
 use Rattle.sts_model.specs.Misuse.{slot, is_binding}
 use Rattle.sts_model.specs.Effect.{named}
 use Rattle.sts_model.specs.Told.{tell, cancels_told, result_told}

@@ -17,13 +17,7 @@ use sts_model::event::End;
 use sts_store::store::Store;
 
 /// Does the instruction that a living task is at, which is no misuse and for which there is room.
-pub(crate) fn effect(
-    store: &mut Store,
-    program: &Program,
-    code: &[Instr],
-    t: u32,
-    instr: Instr,
-)
+pub(crate) fn effect(store: &mut Store, program: &Program, code: &[Instr], t: u32, instr: Instr)
     requires lives { lives_in (live_of store.old) t ≡ true }
     requires own_code { code.now ≡ world.code program.now (frame_of store.old t) }
     requires inside { (frame_of store.old t).pc < length code.now }

@@ -1,10 +1,9 @@
-use Rattle.std.proofs.Common.{ap, sym, ◌∙◌, subst, ◌≡◌, ◌<◌, length}
+use Rattle.std.proofs.Common.{ap, sym, ◌∙◌, subst}
 use Rattle.std.proofs.lemmas.Option.{slice_get_within}
-use Rattle.sts_code.specs.Program.{routine}
 use Rattle.sts_model.specs.World.{code}
 use Rattle.sts_model.specs.declared.record.Frame.{Frame}
 use Rattle.sts_model.specs.Live.{Live}
-use Rattle.sts_store.specs.Parts.{frame_of, live_of, unseen_of}
+use Rattle.sts_store.specs.Parts.{live_of}
 use Rattle.sts_views.specs.Order.{InOrder}
 use Rattle.sts_views.specs.Stands.{IsUnmoved}
 use Rattle.sts_machine.proofs.Stood.{others_stand, room_kept}
