@@ -236,6 +236,10 @@ forks p v u t s g h keys lives same task_room frame_room =
     let f : Frame = (alive_at v t).frame in
     forks_child v u t s keys (live_child p (live_scope_at v s) f s g) (live_scope_at v s).cancelled refl lives same task_room frame_room (forked f (routine p g).args h (length v.tasks)) refl
 
+-- where the forker is said to stand
+pub forker_stands : (v : Live) (u : Unseen) (t : ℕ) → lives_in v t ≡ true → length u.stands ≡ length v.tasks → unwrap_or (get_or (u.stands ++ Some Free ∷ []) t None) Free ≡ stand_in u t
+forker_stands v u t lives same = let less = inside v t lives in ap (λ o. unwrap_or o Free) (get_or_append_left u.stands (Some Free ∷ []) None t (omega (arith, less, same)))
+
 -- ---- a task is written
 
 -- what it may have

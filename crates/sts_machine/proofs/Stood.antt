@@ -5,14 +5,17 @@ use Rattle.std.specs.Prelude.{option_map, unwrap_or, ◌==◌}
 use Rattle.sts_code.specs.Program.{Program}
 use Rattle.sts_forest.specs.declared.record.Task.{Task}
 use Rattle.sts_rules.specs.declared.budget.Budgets.{Budgets}
+use Rattle.sts_code.specs.declared.instr.Instr.{Instr}
+use Rattle.sts_code.specs.declared.instr.Instr.TheVariants.{Join, Close}
+use Rattle.sts_model.specs.World.{instr_at}
 use Rattle.sts_model.specs.declared.event.Stand.TheVariants.{Free}
 use Rattle.sts_model.specs.Live.{Live}
-use Rattle.sts_seen.specs.Reading.{lives_in}
-use Rattle.sts_seen.specs.Waiting.{live_stand_at}
+use Rattle.sts_seen.specs.Reading.{lives_in, alive_at}
+use Rattle.sts_seen.specs.Waiting.{live_stand_at, live_stand_at_instr}
 use Rattle.sts_agree.specs.View.{Beside, tasks_from}
 use Rattle.sts_views.specs.Stands.{IsUnmoved, IdleStandFree}
 use Rattle.sts_store.specs.Parts.{Parts, Unseen, live_of, unseen_of, beside, stand_in, stand_of, stood_unseen}
-use Rattle.sts_machine.specs.Changing.{Changes}
+use Rattle.sts_machine.specs.Changing.{Changes, may_wait}
 use Rattle.sts_machine.specs.Room.{HasRoomOf}
 use Rattle.sts_machine.specs.Standing.{AreStanding, AreStandingBut}
 use Rattle.sts_machine.proofs.Lists.{apart}
@@ -66,6 +69,15 @@ stands_anew p m t others lives i alive = by (i == t) refl
         ∙ ap (λ o. unwrap_or o Free) (get_or-set_same u.stands t (Some (live_stand_at p v t)) None (omega (arith, born, less)))
         ∙ ap (live_stand_at p v) (sym same)
     by false e = ap (λ o. unwrap_or o Free) (get_or-set_other u.stands t i (Some (live_stand_at p v t)) None (apart i t e)) ∙ others i e alive
+
+-- who is at no `join` and no `close` stands at no scope
+pub unwaiting : (p : Program) (v : Live) (t : ℕ) (i : Instr) → instr_at p (alive_at v t).frame ≡ Some i → may_wait i ≡ false → live_stand_at p v t ≡ Free
+unwaiting p v t i at e = ap (live_stand_at_instr v t) at ∙ by i e
+  where
+    by : (j : Instr) → may_wait j ≡ false → live_stand_at_instr v t (Some j) ≡ Free
+    by (Join x failed timeout interrupted) e = cc
+    by (Close x) e = cc
+    by j e = refl
 
 -- ---- from outside
 

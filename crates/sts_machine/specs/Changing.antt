@@ -1,7 +1,7 @@
 -- What an instruction of one task may change of what the view doesn't show (this project's own).
 use Rattle.std.specs.Prelude.{◌≡◌, ℕ, ◌+◌, Bool, true, false, ◌==◌, if◌then◌else◌}
 use Rattle.sts_code.specs.declared.instr.Instr.{Instr}
-use Rattle.sts_code.specs.declared.instr.Instr.TheVariants.{Open, Fork, Close, Bind, Unbind, Ret, Fail}
+use Rattle.sts_code.specs.declared.instr.Instr.TheVariants.{Open, Fork, Join, Close, Bind, Unbind, Ret, Fail}
 use Rattle.sts_model.specs.declared.event.Stand.TheVariants.{Free}
 use Rattle.sts_model.specs.Live.{Live}
 use Rattle.sts_seen.specs.Reading.{lives_in}
@@ -19,6 +19,12 @@ is_quiet Unbind = false
 is_quiet Ret = false
 is_quiet Fail = false
 is_quiet _ = true
+
+-- may its task have been said to stand at a scope, before it or after it?
+abbrev pub may_wait : Instr → Bool
+may_wait (Join x failed timeout interrupted) = true
+may_wait (Close x) = true
+may_wait _ = false
 
 -- an instruction of t made x of the view v, and w of u, what v doesn't show
 pub record Changes (v : Live) (u : Unseen) (x : Live) (w : Unseen) (t : ℕ) : Type 0 where

@@ -1,12 +1,12 @@
 //! What an instruction does to a store, but for where its task stands afterwards.
 
-ghost use Rattle.std.specs.Prelude.{◌≡◌, ◌<◌, ◌≤◌, ◌+◌, ◌^◌, length, true};
-ghost use Rattle.sts_machine.specs.Changing.{Changes, is_quiet};
+ghost use Rattle.std.specs.Prelude.{◌≡◌, ◌<◌, ◌≤◌, ◌+◌, ◌^◌, length, true, false};
+ghost use Rattle.sts_machine.specs.Changing.{Changes, is_quiet, may_wait};
 ghost use Rattle.sts_machine.specs.Room.{HasRoomLeft};
 ghost use Rattle.sts_model.specs.World as world;
 ghost use Rattle.sts_seen.specs.Effect.{live_effect};
 ghost use Rattle.sts_seen.specs.Reading.{lives_in};
-ghost use Rattle.sts_store.specs.Parts.{frame_of, live_of, unseen_of};
+ghost use Rattle.sts_store.specs.Parts.{frame_of, live_of, stand_in, unseen_of};
 ghost use Rattle.sts_views.specs.Fine.{IsLiveFine};
 ghost use Rattle.sts_views.specs.Order.{InOrder};
 
@@ -29,6 +29,8 @@ pub(crate) fn effect(store: &mut Store, program: &Program, code: &[Instr], t: u3
         ≡ live_effect program.now (live_of store.old) t (frame_of store.old t) instr }
     ensures rest { Changes (live_of store.old) (unseen_of store.old)
         (live_of store.new) (unseen_of store.new) t }
+    ensures own { may_wait instr ≡ false
+        → stand_in (unseen_of store.new) t ≡ stand_in (unseen_of store.old) t }
 {
     match instr {
         Instr::Open {

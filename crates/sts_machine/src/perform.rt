@@ -1,6 +1,7 @@
 //! One instruction, done to a store.
 
 ghost use Rattle.std.specs.Prelude.{◌≡◌, true, Some};
+ghost use Rattle.sts_machine.specs.Changing.{may_wait};
 ghost use Rattle.sts_machine.specs.Room.{HasRoomLeft, HasRoomOf};
 ghost use Rattle.sts_machine.specs.Standing.{AreStanding};
 ghost use Rattle.sts_model.specs.World.{instr_at};
@@ -18,6 +19,13 @@ use sts_code::instr::Instr;
 use sts_code::program::Program;
 use sts_store::store::Store;
 use sts_views::{effects_move_one, idle_stand_free};
+
+/// May the task have been said to stand at a scope, before the instruction or after it?
+fn may_wait(instr: Instr) -> bool
+    ensures { result ≡ may_wait instr }
+{
+    matches!(instr, Instr::Join { .. } | Instr::Close(_))
+}
 
 /// Does the instruction that a living task is at, which is no misuse and for which there is room.
 pub(crate) fn perform(store: &mut Store, program: &Program, t: u32, instr: Instr)
@@ -39,5 +47,5 @@ pub(crate) fn perform(store: &mut Store, program: &Program, t: u32, instr: Instr
     idle_stand_free();
     let code = code_of(program, store.frame(t).function as usize);
     effect(store, program, code, t, instr);
-    say_stand(store, program, t);
+    say_stand(store, program, t, may_wait(instr));
 }

@@ -1,12 +1,13 @@
 //! Where a task stands.
 
-ghost use Rattle.std.specs.Prelude.{◌≡◌, true};
+ghost use Rattle.std.specs.Prelude.{◌≡◌, true, false};
 ghost use Rattle.sts_machine.specs.Room.{HasRoomOf};
-ghost use Rattle.sts_machine.specs.Standing.{AreStanding, AreStandingBut};
+ghost use Rattle.sts_machine.specs.Standing.{AreStanding, AreStandingBut, is_free};
+ghost use Rattle.sts_model.specs.declared.event.Stand.TheVariants.{Free as StandsFree};
 ghost use Rattle.sts_rules.specs.declared.budget.Budgets.{Budgets as AnyBudgets};
 ghost use Rattle.sts_seen.specs.Reading.{lives_in};
 ghost use Rattle.sts_seen.specs.Waiting.{live_stand_at, live_stands_at_close, live_stands_at_join};
-ghost use Rattle.sts_store.specs.Parts.{live_of, unseen_of};
+ghost use Rattle.sts_store.specs.Parts.{live_of, stand_in, unseen_of};
 ghost use Rattle.sts_views.specs.Order.{InOrder};
 
 use crate::code::instr_at;
@@ -57,10 +58,19 @@ fn stand_at(store: &Store, program: &Program, t: u32) -> Stand
     }
 }
 
-/// Says where a task stands, if it lives.
-pub(crate) fn say_stand(store: &mut Store, program: &Program, t: u32)
+/// Does the task stand at no scope?
+fn is_free(stand: Stand) -> bool
+    ensures { result ≡ is_free stand }
+{
+    matches!(stand, Stand::Free)
+}
+
+/// Says where a task stands, if it lives. One that can't have waited was last said to stand at no
+/// scope, and needn't say so again.
+pub(crate) fn say_stand(store: &mut Store, program: &Program, t: u32, waited: bool)
     requires order { InOrder (live_of store.old) }
     requires others { AreStandingBut program.now (live_of store.old) (unseen_of store.old) t }
+    requires free { waited ≡ false → stand_in (unseen_of store.old) t ≡ StandsFree }
     ensures live { live_of store.new ≡ live_of store.old }
     ensures standing { AreStanding program.now (live_of store.new) (unseen_of store.new) }
     ensures room { (b : AnyBudgets) → HasRoomOf b (live_of store.old) (unseen_of store.old)
@@ -69,6 +79,8 @@ pub(crate) fn say_stand(store: &mut Store, program: &Program, t: u32)
     if store.lives(t) {
         stands_are_owned();
         let stand = stand_at(store, program, t);
-        store.stand(t, stand);
+        if waited || !is_free(stand) {
+            store.stand(t, stand);
+        }
     }
 }

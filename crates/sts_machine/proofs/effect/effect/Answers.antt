@@ -1,12 +1,13 @@
-use Rattle.std.proofs.Common.{◌≡◌, ◌++◌, ◌∷◌, [], sym, ◌∙◌, ap, subst, rules, true, is_some, ℕ}
+use Rattle.std.proofs.Common.{◌≡◌, ◌++◌, ◌∷◌, [], sym, ◌∙◌, ap, subst, rules, true, false, is_some, ℕ}
 use Rattle.sts_model.specs.declared.record.Frame.{Frame}
 use Rattle.sts_model.specs.Effect.{named}
 use Rattle.sts_model.specs.Misuse.{slot, innermost, is_entry_of, is_binding}
 use Rattle.sts_seen.specs.Reading.{scope_in}
-use Rattle.sts_store.specs.Parts.{frame_of, live_of, unseen_of}
+use Rattle.sts_store.specs.Parts.{Unseen, frame_of, live_of, stand_in, unseen_of}
 use Rattle.sts_views.specs.Fine.{IsLiveFine}
+use Rattle.sts_machine.specs.Changing.{may_wait}
 use Rattle.sts_machine.specs.Room.{HasRoomLeft}
-use Rattle.sts_machine.proofs.Changing.{as_are, changes-quiet, living, opens, forks, unbinds, ends, none_bound}
+use Rattle.sts_machine.proofs.Changing.{as_are, changes-quiet, living, opens, forks, forker_stands, unbinds, ends, none_bound}
 use Rattle.sts_machine.proofs.Closing.{closes}
 use Rattle.sts_machine.proofs.Fine.{holds, scope_at, fork_own, close_stands, close_entry}
 use Rattle.sts_machine.proofs.Quiet.{quiet-effect}
@@ -35,7 +36,7 @@ returns-in-Fork-clause-rest c =
     let left = room (scope_at v t c.in-Fork.slot) own in
     let q = c.fork.ensures.unseen in
     as_are v _ _ u _ _ t c.fork.ensures.live q.1
-    (forks p v u t c.named-s.result c.in-Fork.function c.in-Fork.handle (u.task_keys ++ q.0 ∷ []) c.requires.lives (stands_born m) left.0 left.1)
+    (forks p v u t c.named-s.result c.in-Fork.function _ (u.task_keys ++ q.0 ∷ []) c.requires.lives (stands_born m) left.0 left.1)
 
 pub returns-in-Close-clause-rest : goal.returns-in-Close-clause-rest
 returns-in-Close-clause-rest c =
@@ -85,3 +86,30 @@ returns-in_default-clause-rest c =
     let t = c.args.t in
     as_are v _ _ (unseen_of m) _ _ t c.quiet.ensures.live c.quiet.ensures.unseen
     (changes-quiet v _ (unseen_of m) t (quiet-effect c.args.program.now v t c.args.instr (search rules)))
+
+pub returns-in-Open-clause-own : goal.returns-in-Open-clause-own
+returns-in-Open-clause-own c = λ e. ap (λ (u : Unseen). stand_in u c.args.t) c.open.ensures.unseen.1
+
+pub returns-in-Fork-clause-own : goal.returns-in-Fork-clause-own
+returns-in-Fork-clause-own c = λ e.
+    let m = c.args.store.now in
+    ap (λ (u : Unseen). stand_in u c.args.t) c.fork.ensures.unseen.1
+    ∙ forker_stands (live_of m) (unseen_of m) c.args.t c.requires.lives (stands_born m)
+
+pub returns-in-Close-clause-own : goal.returns-in-Close-clause-own
+returns-in-Close-clause-own c = λ e. let never : true ≡ false = ap may_wait (sym c.in-Close.is) ∙ e in cc
+
+pub returns-in-Bind-clause-own : goal.returns-in-Bind-clause-own
+returns-in-Bind-clause-own c = λ e. ap (λ (u : Unseen). stand_in u c.args.t) c.bind.ensures.unseen
+
+pub returns-in-Unbind-clause-own : goal.returns-in-Unbind-clause-own
+returns-in-Unbind-clause-own c = λ e. ap (λ (u : Unseen). stand_in u c.args.t) c.unbind.ensures.unseen
+
+pub returns-in-Ret-clause-own : goal.returns-in-Ret-clause-own
+returns-in-Ret-clause-own c = λ e. ap (λ (u : Unseen). stand_in u c.args.t) c.end.ensures.unseen
+
+pub returns-in-Fail-clause-own : goal.returns-in-Fail-clause-own
+returns-in-Fail-clause-own c = λ e. ap (λ (u : Unseen). stand_in u c.args.t) c.end-in-Fail.ensures.unseen
+
+pub returns-in_default-clause-own : goal.returns-in_default-clause-own
+returns-in_default-clause-own c = λ e. ap (λ (u : Unseen). stand_in u c.args.t) c.quiet.ensures.unseen

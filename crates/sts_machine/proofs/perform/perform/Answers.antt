@@ -6,7 +6,7 @@ use Rattle.sts_model.specs.Live.{Live}
 use Rattle.sts_store.specs.Parts.{live_of}
 use Rattle.sts_views.specs.Order.{InOrder}
 use Rattle.sts_views.specs.Stands.{IsUnmoved}
-use Rattle.sts_machine.proofs.Stood.{others_stand, room_kept}
+use Rattle.sts_machine.proofs.Stood.{others_stand, room_kept, unwaiting}
 use Rattle.sts_machine.proofs.perform.perform.Goals as goal
 
 pub effect-requires-clause-own_code : goal.effect-requires-clause-own_code
@@ -31,3 +31,9 @@ say_stand-requires-clause-others c =
 
 pub returns-clause-room : goal.returns-clause-room
 returns-clause-room c = λ b h. c.say_stand.ensures.room b (room_kept _ _ _ _ _ b c.effect.ensures.rest h)
+
+pub say_stand-requires-clause-free : goal.say_stand-requires-clause-free
+say_stand-requires-clause-free c = λ e.
+    let quiet = sym c.may_wait.ensures ∙ e in
+    c.effect.ensures.own quiet ∙ c.requires.standing c.args.t c.requires.lives
+    ∙ unwaiting c.args.program.now (live_of c.args.store.now) c.args.t c.args.instr c.requires.at quiet

@@ -12,8 +12,8 @@ stand-requires-clause-owned c = λ s e.
     c.stands_are_owned.ensures c.args.program.now (live_of c.args.store.now) c.requires.order c.args.t s
     (subst (λ (q : Stand). is_stand_at s q ≡ true) c.stand_at-stand.ensures e)
 
-pub returns-then-lives-clause-standing : goal.returns-then-lives-clause-standing
-returns-then-lives-clause-standing c =
+pub returns-then-waited-clause-standing : goal.returns-then-waited-clause-standing
+returns-then-waited-clause-standing c =
     let m = c.args.store.now in
     let p = c.args.program.now in
     let t = c.args.t in
