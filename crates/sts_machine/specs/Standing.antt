@@ -1,0 +1,22 @@
+-- What is said of where tasks stand agrees with the view (this project's own).
+use Rattle.std.specs.Prelude.{◌≡◌, ℕ, Bool, true, false, ◌==◌}
+use Rattle.sts_code.specs.Program.{Program}
+use Rattle.sts_model.specs.declared.event.Stand.{Stand}
+use Rattle.sts_model.specs.declared.event.Stand.TheVariants.{Free}
+use Rattle.sts_model.specs.Live.{Live}
+use Rattle.sts_seen.specs.Reading.{lives_in}
+use Rattle.sts_seen.specs.Waiting.{live_stand_at}
+use Rattle.sts_store.specs.Parts.{Unseen, stand_in}
+
+-- each living task was last said to stand where its next instruction says
+abbrev pub AreStanding : Program → Live → Unseen → Type 0
+AreStanding p v u = (t : ℕ) → lives_in v t ≡ true → stand_in u t ≡ live_stand_at p v t
+
+-- the same of each but t
+abbrev pub AreStandingBut : Program → Live → Unseen → ℕ → Type 0
+AreStandingBut p v u t =
+    (i : ℕ) → (i == t) ≡ false → lives_in v i ≡ true → stand_in u i ≡ live_stand_at p v i
+
+abbrev pub is_free : Stand → Bool
+is_free Free = true
+is_free _ = false

@@ -1,0 +1,51 @@
+//! One instruction, done to a store.
+
+ghost use Rattle.std.specs.Prelude.{◌≡◌, true, Some};
+ghost use Rattle.sts_machine.specs.Changing.{may_wait};
+ghost use Rattle.sts_machine.specs.Room.{HasRoomLeft, HasRoomOf};
+ghost use Rattle.sts_machine.specs.Standing.{AreStanding};
+ghost use Rattle.sts_model.specs.World.{instr_at};
+ghost use Rattle.sts_rules.specs.declared.budget.Budgets.{Budgets as AnyBudgets};
+ghost use Rattle.sts_seen.specs.Effect.{live_effect};
+ghost use Rattle.sts_seen.specs.Reading.{lives_in};
+ghost use Rattle.sts_store.specs.Parts.{frame_of, live_of, unseen_of};
+ghost use Rattle.sts_views.specs.Fine.{IsLiveFine};
+ghost use Rattle.sts_views.specs.Order.{InOrder};
+
+use crate::effect::effect;
+use crate::stands::say_stand;
+use sts_code::code::code_of;
+use sts_code::instr::Instr;
+use sts_code::program::Program;
+use sts_store::store::Store;
+use sts_views::{effects_move_one, idle_stand_free};
+
+/// May the task have been said to stand at a scope, before the instruction or after it?
+fn may_wait(instr: Instr) -> bool
+    ensures { result ≡ may_wait instr }
+{
+    matches!(instr, Instr::Join { .. } | Instr::Close(_))
+}
+
+/// Does the instruction that a living task is at, which is no misuse and for which there is room.
+pub(crate) fn perform(store: &mut Store, program: &Program, t: u32, instr: Instr)
+    requires lives { lives_in (live_of store.old) t ≡ true }
+    requires at { instr_at program.now (frame_of store.old t) ≡ Some instr }
+    requires fine { IsLiveFine program.now (live_of store.old) t (frame_of store.old t) instr }
+    requires room { HasRoomLeft (unseen_of store.old) (frame_of store.old t) instr }
+    requires order { InOrder (live_of store.old) }
+    requires after { InOrder
+        (live_effect program.now (live_of store.old) t (frame_of store.old t) instr) }
+    requires standing { AreStanding program.now (live_of store.old) (unseen_of store.old) }
+    ensures live { live_of store.new
+        ≡ live_effect program.now (live_of store.old) t (frame_of store.old t) instr }
+    ensures standing { AreStanding program.now (live_of store.new) (unseen_of store.new) }
+    ensures room { (b : AnyBudgets) → HasRoomOf b (live_of store.old) (unseen_of store.old)
+        → HasRoomOf b (live_of store.new) (unseen_of store.new) }
+{
+    effects_move_one();
+    idle_stand_free();
+    let code = code_of(program, store.frame(t).function as usize);
+    effect(store, program, code, t, instr);
+    say_stand(store, program, t, may_wait(instr));
+}
