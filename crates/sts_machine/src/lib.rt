@@ -2,6 +2,11 @@
 //! stands.
 #![tactic(auto)]
 
+mod code;
+mod laws;
 pub mod machine;
 mod outside;
 mod perform;
+pub mod runs;
+pub mod standing;
+pub mod turned;
