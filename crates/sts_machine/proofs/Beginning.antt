@@ -7,6 +7,7 @@ use Rattle.sts_rules.specs.declared.budget.Budgets.{Budgets}
 use Rattle.sts_rules.specs.Refusal.{IsBudgetOf}
 use Rattle.sts_model.specs.declared.event.Stand.{Stand}
 use Rattle.sts_model.specs.declared.event.Stand.TheVariants.{Free, AtJoin, AtClose}
+use Rattle.sts_model.specs.Live.{Live}
 use Rattle.sts_runs.proofs.EventLemmas.{main}
 use Rattle.sts_seen.specs.Reading.{scope_in}
 use Rattle.sts_seen.specs.Run.{live_opening}
@@ -23,9 +24,12 @@ use Rattle.sts_machine.specs.Room.{HasRoomOf, living_tasks}
 use Rattle.sts_machine.specs.Standing.{AreStanding}
 use Rattle.sts_machine.proofs.Budgets.{some_task}
 
--- before the first event, with no room used but for the root
-pub stands_first : (p : Program) → RunIsSeen → StandsAt p [] (live_opening p) 0
+-- before the first event
+stands_first : (p : Program) → RunIsSeen → StandsAt p [] (live_opening p) 0
 stands_first p seen = record { world = record { tasks = main p ∷ []; scopes = [] }; runs = refl; view = seen p []; steps = refl }
+
+pub stands_begun : (p : Program) (v : Live) → RunIsSeen → v ≡ live_opening p → StandsAt p [] v 0
+stands_begun p v seen view = subst (λ x. StandsAt p [] x 0) (sym view) (stands_first p seen)
 
 same_stand : (s : ℕ) → is_stand_at s (AtJoin s) ≡ true
 same_stand s = grind (arith, nat_tests)
@@ -75,13 +79,16 @@ has_room p b key some =
 -- a store with the root alone, and room for the rest, is that of a machine
 pub begins : (p : Program) (m : Parts) (b : Budgets) (key : ℕ) → HasLaws p → IsBudgetOf p (main_of p) b → RunIsSeen → StandsAreOwned → live_of m ≡ live_opening p → unseen_of m ≡ begun b key → IsMachine p m 0
 begins p m b key laws printed seen owned view unseen =
-    let first = stands_first p seen in
-    let order = laws.order [] (live_opening p) 0 first in
+    let order = laws.order [] (live_opening p) 0 (stands_first p seen) in
     record {
       events = [];
-      stands = subst (λ v. StandsAt p [] v 0) (sym view) first;
-      standing = rw (view, unseen) (stands_free p b key owned order);
+      stands = stands_begun p (live_of m) seen view;
+      standing = there (AreStanding p) (stands_free p b key owned order);
       room = λ c is.
-          rw (view, unseen, laws.main.alone c is, ← laws.main.alone b printed) (has_room p b key (some_task p b printed));
+          let same : b ≡ c = laws.main.alone b printed ∙ sym (laws.main.alone c is) in
+          there (HasRoomOf c) (subst (λ d. HasRoomOf d (live_opening p) (begun b key)) same (has_room p b key (some_task p b printed)));
       laws = laws;
     }
+  where
+    there : (P : Live → Unseen → Type 0) → P (live_opening p) (begun b key) → P (live_of m) (unseen_of m)
+    there P h = subst (λ v. P v (unseen_of m)) (sym view) (subst (P (live_opening p)) (sym unseen) h)

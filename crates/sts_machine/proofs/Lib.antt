@@ -1,6 +1,6 @@
 pub mod Budgets
 pub mod Beginning
-pub mod Standing
+pub mod CanStep
 pub mod Turning
 pub mod Telling
 pub mod Whole

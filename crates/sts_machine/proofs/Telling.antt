@@ -3,6 +3,7 @@ use Rattle.std.proofs.Common.{◌≡◌, ℕ, ◌+◌, ◌-◌, ◌≤◌, List,
 use Rattle.std.specs.Prelude.{is_some}
 use Rattle.sts_code.specs.Program.{Program}
 use Rattle.sts_rules.specs.declared.budget.Budgets.{Budgets}
+use Rattle.sts_rules.specs.Refusal.{IsBudgetOf}
 use Rattle.sts_model.specs.declared.event.End.{End}
 use Rattle.sts_model.specs.declared.event.Event.{Event}
 use Rattle.sts_model.specs.declared.event.Event.TheVariants as event
@@ -13,15 +14,17 @@ use Rattle.sts_model.specs.World.{World, Running, task_at}
 use Rattle.sts_runs.specs.Runs.{In}
 use Rattle.sts_seen.specs.Seen.{StandingIsSeen, StandsAt}
 use Rattle.sts_seen.specs.Waiting.{live_can_step}
-use Rattle.sts_laws_accepted.specs.Views.{BindingsAreSeen, live_bindings}
+use Rattle.sts_laws_accepted.specs.Accepted.{main_of}
+use Rattle.sts_laws_accepted.specs.Views.{BindingsAreSeen, live_bindings, live_scopes, live_tasks}
 use Rattle.sts_model.specs.Standing.{standing_bindings}
 use Rattle.sts_store.specs.Parts.{Unseen}
 use Rattle.sts_machine.specs.Laws.{HasLaws}
+use Rattle.sts_machine.specs.Machine.{Seen}
 use Rattle.sts_machine.specs.Numbers.{AddUpTo, room_of, standing_in, standing_of}
 use Rattle.sts_machine.specs.Room.{HasRoomOf}
 use Rattle.sts_machine.specs.Turned.{Picks}
 use Rattle.sts_machine.specs.declared.standing.Standing.{Standing}
-use Rattle.sts_machine.proofs.Standing.{picks_alike}
+use Rattle.sts_machine.proofs.CanStep.{picks_alike}
 
 module _ (p : Program) (events : List Event) (v : Live) (n : ℕ) (h : StandsAt p events v n) where
   -- what holds of the world that is seen holds after the events
@@ -50,8 +53,24 @@ module _ (p : Program) (events : List Event) (v : Live) (n : ℕ) (h : StandsAt 
 
 -- ---- numbers
 
-pub taken_off : (b : Budgets) (v : Live) (u : Unseen) → HasRoomOf b v u → record { tasks = b.tasks - u.task_room; scopes = b.scopes - u.scope_room; binds = b.binds - u.binding_room } ≡ standing_of v
-taken_off b v u h = cc
+-- what a machine keeps of its room
+abbrev pub KnowsRoom : Seen → Type 0
+KnowsRoom m = (b : Budgets) → IsBudgetOf m.program (main_of m.program) b → HasRoomOf b m.live m.unseen
+
+-- what stands, where so much of these budgets is left
+abbrev pub rest_of : Budgets → Standing → Standing
+rest_of b room =
+    record { tasks = b.tasks - room.tasks; scopes = b.scopes - room.scopes; binds = b.binds - room.binds }
+
+pub taken_off : (b : Budgets) (v : Live) (u : Unseen) → HasRoomOf b v u → rest_of b (room_of u) ≡ standing_of v
+taken_off b v u h =
+    let all_tasks = h.tasks in
+    let all_scopes = h.scopes in
+    let all_binds = h.binds in
+    let tasks : b.tasks - u.task_room ≡ live_tasks v = omega (arith, all_tasks) in
+    let scopes : b.scopes - u.scope_room ≡ live_scopes v = omega (arith, all_scopes) in
+    let binds : b.binds - u.binding_room ≡ live_bindings v = omega (arith, all_binds) in
+    cc
 
 pub add_up : (b : Budgets) (v : Live) (u : Unseen) (s : Standing) → s ≡ standing_of v → HasRoomOf b v u → AddUpTo b s (room_of u)
 add_up b v u s is h = rw is (record { tasks = h.tasks; scopes = h.scopes; binds = h.binds })

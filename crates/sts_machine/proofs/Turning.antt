@@ -45,6 +45,20 @@ pub if_false : {X : Type 0} (b : Bool) (x y : X) → b ≡ false → cond b x y 
 if_false true x y e = cc
 if_false false x y e = refl
 
+-- what is asked of a machine at an event, said of its fields
+pub asked : (s u : Seen) (e f : Event) → s ≡ u → e ≡ f → live_counts u.program u.live e ≡ true → live_counts s.program s.live f ≡ true
+asked s u e f same is counts =
+    subst (λ x. live_counts s.program s.live x ≡ true) is
+    (subst (λ (x : Seen). live_counts x.program x.live e ≡ true) (sym same) counts)
+
+-- the instruction that was looked up is the one that is next
+pub looked_up : (p q : Program) (f g : Frame) (o : Option Instr) (i : Instr) → q ≡ p → g ≡ f → o ≡ instr_at q g → instr_at p f ≡ Some i → o ≡ Some i
+looked_up p q f g o i same here is at = is ∙ ap (instr_at q) here ∙ ap (λ r. instr_at r f) same ∙ at
+
+pub is_next : (p q : Program) (f g : Frame) (o : Option Instr) (i : Instr) → q ≡ p → g ≡ f → o ≡ instr_at q g → o ≡ Some i → instr_at p f ≡ Some i
+is_next p q f g o i same here is some =
+    ap (λ r. instr_at r f) (sym same) ∙ ap (instr_at q) (sym here) ∙ sym is ∙ some
+
 -- a step of a task that can step
 pub stepped : (p : Program) (v : Live) (t : ℕ) (i : Instr) → live_can_step p v t ≡ true → instr_at p (alive_at v t).frame ≡ Some i → live_apply p v (event.Step t) ≡ live_effect p v t (alive_at v t).frame i
 stepped p v t i can at =

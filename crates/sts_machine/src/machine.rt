@@ -152,7 +152,6 @@ impl<'p> Machine<'p> {
         ensures stands { (events : List AnyEvent) → Stands self.now events
             → In (λ w. Picks (can_step self.now.program w) result) (after self.now.program events) }
     {
-        self.laws();
         self.store.ready_front()
     }
 
