@@ -23,3 +23,8 @@ picks test other None same some none = λ t. sym (same t) ∙ none t refl
 pub picks_alike : (test other : ℕ → Bool) (o : Option ℕ) → ((t : ℕ) → other t ≡ test t) → Picks other o → Picks test o
 picks_alike test other (Some t) same h = sym (same t) ∙ h
 picks_alike test other None same h = λ t. sym (same t) ∙ h t
+
+-- where nothing was picked no test is passed
+pub none_picked : (test : ℕ → Bool) (o : Option ℕ) → Picks test o → ((t : ℕ) → o ≡ Some t → ⊥) → (t : ℕ) → test t ≡ false
+none_picked test (Some t) h never = absurd (never t refl)
+none_picked test None h never = h

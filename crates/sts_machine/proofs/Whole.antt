@@ -30,15 +30,17 @@ one_more p state [] e steps step count = (step, count, tt)
 one_more p state (x ∷ xs) e steps step count = (steps.0, steps.1, one_more p (apply p state x) xs e steps.2 step count)
 
 -- of a task that can step
-pub step_more : (p : Program) → HasLaws p → (events : List Event) (v : Live) (n t : ℕ) → StandsAt p events v n → AreSteps p (opening p) events → live_can_step p v t ≡ true → AreSteps p (opening p) (events ++ event.Step t ∷ [])
-step_more p laws events v n t h steps can =
-    one_more p (opening p) events (event.Step t) steps refl ((laws.turns events v n (event.Step t) h).count ∙ can)
+pub steps_on : (p : Program) (m : Seen) (t : ℕ) → HasLaws p → m.program ≡ p → live_can_step m.program m.live t ≡ true → (events : List Event) → Stands m events → AreSteps p (opening p) events → AreSteps p (opening p) (events ++ event.Step t ∷ [])
+steps_on p m t laws same can events h steps =
+    let there : StandsAt p events m.live m.steps = subst (λ q. StandsAt q events m.live m.steps) same h in
+    let can_there = subst (λ q. live_can_step q m.live t ≡ true) same can in
+    one_more p (opening p) events (event.Step t) steps refl ((laws.turns events m.live m.steps (event.Step t) there).count ∙ can_there)
 
 -- each step takes one of those that are left
-pub step_taken : (p : Program) → HasLaws p → (events : List Event) (v x : Live) (n k t : ℕ) → live_can_step p v t ≡ true → k ≡ n + live_steps_in p v (event.Step t) → StandsAt p events x k → 1000000 - k < 1000000 - n
-step_taken p laws events v x n k t can more h =
-    let one = one_step p v t can in
-    let few = steps_few p laws events x k h in
+pub step_taken : (m x : Seen) (t : ℕ) → HasLaws m.program → x.program ≡ m.program → x.steps ≡ m.steps + live_steps_in m.program m.live (event.Step t) → live_can_step m.program m.live t ≡ true → (events : List Event) → Stands x events → 1000000 - x.steps < 1000000 - m.steps
+step_taken m x t laws same more can events h =
+    let one = one_step m.program m.live t can in
+    let few = steps_few m.program laws events x.live x.steps (subst (λ q. StandsAt q events x.live x.steps) same h) in
     omega (arith, one, few, more)
 
 -- ---- the end
