@@ -1,6 +1,5 @@
 -- Where a machine begins.
-use Rattle.std.proofs.Common.{◌≡◌, ℕ, zero, suc, ◌+◌, ◌-◌, ◌<◌, List, [], ◌∷◌, Bool, true, false, Option, Some, None, refl, sym, ◌∙◌, ap, subst, arith}
-use Rattle.std.specs.Prelude.{slice_index_or, unwrap_or}
+use Rattle.std.proofs.Common.{◌≡◌, ℕ, zero, suc, ◌-◌, ◌<◌, [], ◌∷◌, true, Some, refl, sym, ◌∙◌, ap, subst, arith}
 use Rattle.std.proofs.lemmas.Bool.Decides.{nat_tests}
 use Rattle.sts_code.specs.Program.{Program}
 use Rattle.sts_rules.specs.declared.budget.Budgets.{Budgets}
@@ -9,7 +8,6 @@ use Rattle.sts_model.specs.declared.event.Stand.{Stand}
 use Rattle.sts_model.specs.declared.event.Stand.TheVariants.{Free, AtJoin, AtClose}
 use Rattle.sts_model.specs.Live.{Live}
 use Rattle.sts_runs.proofs.EventLemmas.{main}
-use Rattle.sts_seen.specs.Reading.{scope_in}
 use Rattle.sts_seen.specs.Run.{live_opening}
 use Rattle.sts_seen.specs.Seen.{RunIsSeen, StandsAt}
 use Rattle.sts_seen.specs.Waiting.{live_stand_at}

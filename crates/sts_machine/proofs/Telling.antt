@@ -1,5 +1,5 @@
 -- What a machine tells, in words of the plain state.
-use Rattle.std.proofs.Common.{◌≡◌, ℕ, ◌+◌, ◌-◌, ◌≤◌, List, Bool, true, false, Option, Some, None, refl, sym, ◌∙◌, ap, subst, cond, arith}
+use Rattle.std.proofs.Common.{◌≡◌, ℕ, ◌-◌, List, Option, Some, None, refl, sym, ◌∙◌, ap, subst, cond, arith}
 use Rattle.std.specs.Prelude.{is_some}
 use Rattle.sts_code.specs.Program.{Program}
 use Rattle.sts_rules.specs.declared.budget.Budgets.{Budgets}
@@ -10,7 +10,7 @@ use Rattle.sts_model.specs.declared.event.Event.TheVariants as event
 use Rattle.sts_model.specs.Live.{Live, live}
 use Rattle.sts_model.specs.Run.{after, counts}
 use Rattle.sts_model.specs.Waiting.{can_step}
-use Rattle.sts_model.specs.World.{World, Running, task_at}
+use Rattle.sts_model.specs.World.{World, task_at}
 use Rattle.sts_runs.specs.Runs.{In}
 use Rattle.sts_seen.specs.Seen.{StandingIsSeen, StandsAt}
 use Rattle.sts_seen.specs.Waiting.{live_can_step}

@@ -1,5 +1,5 @@
 -- What the laws of runs give a machine at an event.
-use Rattle.std.proofs.Common.{◌≡◌, ℕ, ◌+◌, ◌-◌, ◌<◌, ◌≤◌, List, [], ◌∷◌, ◌++◌, Bool, true, false, Option, Some, None, refl, sym, ◌∙◌, ap, subst, cond, arith, ◌&&◌}
+use Rattle.std.proofs.Common.{◌≡◌, ℕ, ◌+◌, ◌≤◌, List, [], ◌∷◌, ◌++◌, Bool, true, false, Option, Some, None, refl, sym, ◌∙◌, ap, subst, cond, arith}
 use Rattle.std.specs.Prelude.{count_by, is_some}
 use Rattle.std.proofs.lemmas.Bool.{and_parts}
 use Rattle.std.proofs.lemmas.List.Sums.{sum_by-cons}
@@ -13,11 +13,11 @@ use Rattle.sts_model.specs.declared.event.Event.TheVariants as event
 use Rattle.sts_model.specs.declared.record.Frame.{Frame}
 use Rattle.sts_model.specs.Live.{Live, LiveTask}
 use Rattle.sts_model.specs.Run.{after, counts}
-use Rattle.sts_model.specs.World.{instr_at, Running}
+use Rattle.sts_model.specs.World.{instr_at}
 use Rattle.sts_runs.specs.Runs.{In}
 use Rattle.sts_seen.specs.Effect.{live_effect}
 use Rattle.sts_seen.specs.Reading.{alive_at, lives_in, live_scope_at}
-use Rattle.sts_seen.specs.Outside.{live_can_expire, live_interrupt, live_expire}
+use Rattle.sts_seen.specs.Outside.{live_can_expire}
 use Rattle.sts_seen.specs.Run.{live_apply, live_counts, live_perform, live_steps_in}
 use Rattle.sts_seen.specs.Seen.{StandsAt}
 use Rattle.sts_seen.specs.Waiting.{live_can_go, live_can_step, live_stand_at}

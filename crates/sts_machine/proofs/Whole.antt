@@ -1,5 +1,5 @@
 -- Runs of steps alone, and that the root has ended where no task can step.
-use Rattle.std.proofs.Common.{◌≡◌, ℕ, ◌+◌, ◌-◌, ◌<◌, ◌≤◌, List, [], ◌∷◌, ◌++◌, Bool, true, false, Option, Some, None, refl, sym, ◌∙◌, ap, subst, fold, arith}
+use Rattle.std.proofs.Common.{◌≡◌, ℕ, ◌+◌, ◌-◌, ◌<◌, List, [], ◌∷◌, ◌++◌, Bool, true, false, Some, refl, sym, ◌∙◌, ap, subst, fold, arith}
 use Rattle.sts_code.specs.Program.{Program}
 use Rattle.sts_model.specs.declared.event.End.{End}
 use Rattle.sts_model.specs.declared.event.Event.{Event}
@@ -7,13 +7,12 @@ use Rattle.sts_model.specs.declared.event.Event.TheVariants as event
 use Rattle.sts_model.specs.Live.{Live}
 use Rattle.sts_model.specs.Living.{lives}
 use Rattle.sts_model.specs.Run.{after, apply, counts, is_step}
-use Rattle.sts_model.specs.Waiting.{can_step}
 use Rattle.sts_model.specs.World.{World, State, Running, opening, task_at}
 use Rattle.sts_runs.specs.Runs.{Between}
 use Rattle.sts_runs.proofs.EventLemmas.{main}
 use Rattle.sts_laws.specs.Stays.{KeepsBorn, NothingIsLost}
 use Rattle.sts_laws_scopes.proofs.ScopeLemmas.{has_ended}
-use Rattle.sts_seen.specs.Run.{live_apply, live_steps_in}
+use Rattle.sts_seen.specs.Run.{live_steps_in}
 use Rattle.sts_seen.specs.Seen.{StandsAt}
 use Rattle.sts_seen.specs.Waiting.{live_can_step}
 use Rattle.sts_laws_accepted.specs.EveryRun.{SomeCanStep}

@@ -1,5 +1,6 @@
 pub mod Standing
 pub mod Room
+pub mod Changing
 pub mod Turned
 pub mod Laws
 pub mod Machine

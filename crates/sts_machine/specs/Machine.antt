@@ -1,5 +1,5 @@
 -- What contracts see of a machine, and where it stands (this project's own).
-use Rattle.std.specs.Prelude.{◌≡◌, ℕ, List}
+use Rattle.std.specs.Prelude.{ℕ, List}
 use Rattle.sts_code.specs.Program.{Program}
 use Rattle.sts_rules.specs.declared.budget.Budgets.{Budgets}
 use Rattle.sts_rules.specs.Refusal.{IsBudgetOf}

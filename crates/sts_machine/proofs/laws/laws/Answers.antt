@@ -1,4 +1,4 @@
-use Rattle.std.proofs.Common.{◌≡◌, ◌<◌, None, length, subst}
+use Rattle.std.proofs.Common.{◌≡◌, None, subst}
 use Rattle.sts_code.specs.Checks.{program_fault}
 use Rattle.sts_code.specs.Program.{Program}
 use Rattle.sts_laws_costs.proofs.Ranges.{some_function}

@@ -1,4 +1,4 @@
-use Rattle.std.proofs.Common.{◌≡◌, ◌++◌, ◌∷◌, [], true, false, sym, ◌∙◌, refl, subst}
+use Rattle.std.proofs.Common.{◌++◌, ◌∷◌, [], sym, ◌∙◌, refl, subst}
 use Rattle.sts_model.specs.declared.event.Event.TheVariants as event
 use Rattle.sts_seen.specs.Seen.{StandsAt}
 use Rattle.sts_seen.specs.Waiting.{live_can_step}

@@ -1,4 +1,4 @@
-use Rattle.std.proofs.Common.{◌≡◌, sym, subst}
+use Rattle.std.proofs.Common.{sym, subst}
 use Rattle.sts_model.specs.Run.{after}
 use Rattle.sts_model.specs.Waiting.{can_step}
 use Rattle.sts_runs.specs.Runs.{In}

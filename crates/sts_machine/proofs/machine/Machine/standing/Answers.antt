@@ -1,4 +1,4 @@
-use Rattle.std.proofs.Common.{◌≡◌, ◌∙◌, ap, subst, arith}
+use Rattle.std.proofs.Common.{◌∙◌, ap, subst, arith}
 use Rattle.sts_laws_accepted.specs.Accepted.{main_of}
 use Rattle.sts_laws_accepted.specs.Views.{BindingsAreSeen}
 use Rattle.sts_rules.specs.Refusal.{IsBudgetOf}

@@ -1,7 +1,6 @@
 use Rattle.std.proofs.Common.{◌≡◌, ◌+◌, Some, true, sym, ◌∙◌, ap, refl, subst, arith}
 use Rattle.sts_model.specs.declared.event.Event.TheVariants as event
 use Rattle.sts_model.specs.World.{instr_at}
-use Rattle.sts_seen.specs.Outside.{live_interrupt, live_expire}
 use Rattle.sts_seen.specs.Waiting.{live_can_step}
 use Rattle.sts_store.specs.Parts.{frame_of, live_of}
 use Rattle.sts_views.specs.Order.{InOrder}
