@@ -23,32 +23,54 @@ struct Point {
     room: Standing,
 }
 
-const fn numbers(tasks: u32, scopes: u32, binds: u32) -> Standing {
-    Standing {
-        tasks,
-        scopes,
-        binds,
-    }
-}
+const ROOT_ALONE: Standing = Standing {
+    tasks: 1,
+    scopes: 0,
+    binds: 0,
+};
 
 static POINTS: [Point; 3] = [
     Point {
         text: DOUBLES,
         steps: &[Steps(0, 5), Steps(1, 4), Steps(2, 4), Steps(0, 5)],
-        standing: numbers(3, 1, 0),
-        room: numbers(0, 0, 0),
+        standing: Standing {
+            tasks: 3,
+            scopes: 1,
+            binds: 0,
+        },
+        room: Standing {
+            tasks: 0,
+            scopes: 0,
+            binds: 0,
+        },
     },
     Point {
         text: DOUBLES,
         steps: &[Steps(0, 5), Steps(1, 4), Steps(2, 4), Steps(0, 6)],
-        standing: numbers(1, 0, 0),
-        room: numbers(2, 1, 0),
+        standing: Standing {
+            tasks: 1,
+            scopes: 0,
+            binds: 0,
+        },
+        room: Standing {
+            tasks: 2,
+            scopes: 1,
+            binds: 0,
+        },
     },
     Point {
         text: BOUND,
         steps: &[Steps(0, 4)],
-        standing: numbers(2, 1, 1),
-        room: numbers(0, 0, 0),
+        standing: Standing {
+            tasks: 2,
+            scopes: 1,
+            binds: 1,
+        },
+        room: Standing {
+            tasks: 0,
+            scopes: 0,
+            binds: 0,
+        },
     },
 ];
 
@@ -115,7 +137,7 @@ fn a_thousand_scopes_stand_one_at_a_time(rt: HostRuntime) -> Result<(), Fail> {
             }
             assert_eq!(rt; machine.root_end(), Some(End::Success(5)));
             assert_eq!(rt; machine.steps(), stepped);
-            assert_eq!(rt; machine.standing(), numbers(1, 0, 0));
+            assert_eq!(rt; machine.standing(), ROOT_ALONE);
         }
         Err(_) => assert!(rt; false, "the program is not accepted"),
     }
