@@ -1,9 +1,8 @@
 -- What modes `plain` and `replay` print of an accepted program.
-use Rattle.std.proofs.Common.{◌≡◌, ◌↔◌, ℕ, List, Result, Ok, Err, sym, subst}
+use Rattle.std.proofs.Common.{◌≡◌, ◌↔◌, List, Result, Ok, Err, sym, subst}
 use Rattle.sts_code.specs.Program.{Program}
 use Rattle.sts_model.specs.declared.event.Event.{Event}
 use Rattle.sts_rules.specs.Refusal.{IsAccepted, IsOneVerdict}
-use Rattle.sts_asm.specs.Text.{judged}
 use Rattle.sts_trace.specs.Reading.{trace_read}
 use Rattle.sts_trace.specs.declared.error.TraceError.{TraceError}
 use Rattle.sts_cli.specs.Output.{Output, IsReplay, PrintsAlike, ReplayShows, TracedShows}

@@ -1,5 +1,5 @@
 -- What is printed of what was read.
-use Rattle.std.proofs.Common.{◌≡◌, ◌⊎◌, ℕ, List, [], Option, None, Some, IfSome, take, subst, inl, inr}
+use Rattle.std.proofs.Common.{◌≡◌, ℕ, List, [], Option, None, Some, IfSome, take, subst, inl, inr}
 use Rattle.sts_cli.specs.Joined.{halves_of}
 use Rattle.sts_cli.specs.Output.{Output, IsOutputOf}
 use Rattle.sts_cli.specs.Taking.{Gives, IsTakenOf}
