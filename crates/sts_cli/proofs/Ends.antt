@@ -1,5 +1,5 @@
 -- What is printed of what was read.
-use Rattle.std.proofs.Common.{◌≡◌, ◌⊎◌, ℕ, List, [], Option, None, Some, IfSome, take, subst, inl, inr}
+use Rattle.std.proofs.Common.{◌≡◌, ℕ, List, [], Option, None, Some, IfSome, take, subst, inl, inr}
 use Rattle.sts_cli.specs.Joined.{halves_of}
 use Rattle.sts_cli.specs.Output.{Output, IsOutputOf}
 use Rattle.sts_cli.specs.Taking.{Gives, IsTakenOf}
@@ -12,10 +12,10 @@ pub of_text : (m : Mode) (file : Option (List ℕ)) (text : List ℕ) (o : Outpu
 of_text m file text o taken (inl shows) = shown text taken shows
 of_text m file text o taken (inr memory) = failed Memory memory
 
-pub of_text_and_trace : (file trace_file : Option (List ℕ)) (text trace : List ℕ) (o : Output) → IsTakenOf file most_of_a_text text
-    → IsTakenOf trace_file most_of_a_stream trace → IsOutputOf mode.Plain text trace o → IsOfTextAndTrace file trace_file o
-of_text_and_trace file trace_file text trace o taken traced (inl shows) = shown text trace taken traced shows
-of_text_and_trace file trace_file text trace o taken traced (inr memory) = failed Memory memory
+pub of_text_and_trace : (m : Mode) (file trace_file : Option (List ℕ)) (text trace : List ℕ) (o : Output) → IsTakenOf file most_of_a_text text
+    → IsTakenOf trace_file most_of_a_stream trace → IsOutputOf m text trace o → IsOfTextAndTrace m file trace_file o
+of_text_and_trace m file trace_file text trace o taken traced (inl shows) = shown text trace taken traced shows
+of_text_and_trace m file trace_file text trace o taken traced (inr memory) = failed Memory memory
 
 pub of_input : (input : Option (List ℕ)) (bytes : List ℕ) (o : Output) → IsTakenOf input most_of_a_stream bytes
     → IsOutputOf mode.Plain (halves_of bytes).text (halves_of bytes).trace o → IsOfInput input o

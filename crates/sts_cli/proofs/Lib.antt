@@ -1,3 +1,4 @@
+pub mod Alike
 pub mod Ends
 pub mod Runs
 pub mod Splits

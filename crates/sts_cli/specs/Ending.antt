@@ -3,7 +3,7 @@ use Rattle.std.specs.Prelude.{◌≡◌, ◌-◌, ◌^◌, ℕ, List, [], Option
 use Rattle.std.specs.Prelude.{String, Vec}
 use Rattle.std.specs.String.{string_bytes}
 use Rattle.std.specs.declared.alloc.Global.{Global}
-use Rattle.std.specs.Io.KnownBytes.{Appends, Keeps}
+use Rattle.std.specs.Io.KnownBytes.{Keeps}
 use Rattle.clap.specs.Words.{Text}
 use Rattle.sts_line.specs.Asked.{Asks}
 use Rattle.sts_line.specs.Refused.{AsksForHelp, IsMistaken}
@@ -36,12 +36,14 @@ pub data IsOfText (m : Mode) (file : Option (List ℕ)) (o : Output) : Type 0 wh
       → IsOfText m file o
   failed : (e : TakeError) → o ≡ failure_output e → IsOfText m file o
 
--- what mode `plain` prints of a text and a trace
-pub data IsOfTextAndTrace (file trace_file : Option (List ℕ)) (o : Output) : Type 0 where
-  shown : (text trace : List ℕ) → IsTakenOf file most_of_a_text text
-      → IsTakenOf trace_file most_of_a_stream trace → Shows mode.Plain text trace o
-      → IsOfTextAndTrace file trace_file o
-  failed : (e : TakeError) → o ≡ failure_output e → IsOfTextAndTrace file trace_file o
+-- what is printed of a file's text and another file's trace in a mode, or that memory or a file
+-- failed
+pub data IsOfTextAndTrace (m : Mode) (file trace_file : Option (List ℕ)) (o : Output) : Type 0
+  where
+    shown : (text trace : List ℕ) → IsTakenOf file most_of_a_text text
+        → IsTakenOf trace_file most_of_a_stream trace → Shows m text trace o
+        → IsOfTextAndTrace m file trace_file o
+    failed : (e : TakeError) → o ≡ failure_output e → IsOfTextAndTrace m file trace_file o
 
 -- what mode `plain` prints of a text, a line `%` and a trace
 pub data IsOfInput (input : Option (List ℕ)) (o : Output) : Type 0 where
@@ -54,7 +56,9 @@ abbrev pub IsPlayed : Line → Files → Option (List ℕ) → Output → Type 0
 IsPlayed line.Joined files input o = IsOfInput input o
 IsPlayed (line.Verify file) files input o = IsOfText mode.Verify (files file.now) o
 IsPlayed (line.List file) files input o = IsOfText mode.List (files file.now) o
-IsPlayed (line.Plain file trace) files input o = IsOfTextAndTrace (files file.now)
+IsPlayed (line.Plain file trace) files input o = IsOfTextAndTrace mode.Plain (files file.now)
+    (files trace.now) o
+IsPlayed (line.Replay file trace) files input o = IsOfTextAndTrace mode.Replay (files file.now)
     (files trace.now) o
 
 -- the bytes that the two streams hold before and after, where they are known

@@ -1,5 +1,5 @@
 -- What the program prints and the status that it ends with, for each mode (this project's own).
-use Rattle.std.specs.Prelude.{◌≡◌, ◌⊎◌, ℕ, List, ◌++◌, ◌<◌, length, Option, Result, Ok, Err}
+use Rattle.std.specs.Prelude.{◌≡◌, ◌⊎◌, ◌↔◌, ℕ, List, ◌++◌, ◌<◌, length, Option, Result, Ok, Err}
 use Rattle.std.specs.Io.KnownBytes.{Appends}
 use Rattle.sts_code.specs.Program.{Program}
 use Rattle.sts_model.specs.declared.event.Event.{Event}
@@ -84,10 +84,21 @@ abbrev pub list_output : Result Program AsmError → Output
 list_output (Ok p) = record { bytes = listing p; status = 0 }
 list_output (Err e) = text_fault_output e
 
--- ---- mode verify
+-- ---- refusals
 
 abbrev pub refused_output : Program → ℕ → ℕ → Cause → Output
 refused_output p f pc c = record { bytes = refused_line p f pc c; status = 4 }
+
+-- what is printed of a program that is refused at its least place with a cause, for the least cause
+-- there
+pub record IsRefused (p : Program) (output : Output) : Type 0 where
+  pub function : ℕ
+  pub place : ℕ
+  pub cause : Cause
+  pub refusal : IsRefusal p function place cause
+  pub printed : output ≡ refused_output p function place cause
+
+-- ---- mode verify
 
 abbrev pub accepted_output : Program → List Budgets → Output
 accepted_output p budgets = record { bytes = accepted_lines p.routines budgets; status = 0 }
@@ -97,25 +108,45 @@ pub record AreTold (p : Program) (budgets : List Budgets) : Type 0 where
   pub count : length budgets ≡ length p.routines
   pub each : (f : ℕ) → f < length budgets → IsBudgetOf p f (budget_at budgets f)
 
--- what is printed of a program that is accepted, or refused at its least place with a cause, for
--- the least cause there
+-- what is printed of a program that is accepted, or refused
 pub data IsVerdict (p : Program) (output : Output) : Type 0 where
   accepted : IsAccepted p → (budgets : List Budgets) → AreTold p budgets
       → output ≡ accepted_output p budgets → IsVerdict p output
-  refused : (f pc : ℕ) (c : Cause) → IsRefusal p f pc c → output ≡ refused_output p f pc c
-      → IsVerdict p output
+  refused : IsRefused p output → IsVerdict p output
 
 abbrev pub VerifyShows : Result Program AsmError → Output → Type 0
 VerifyShows (Ok p) output = IsVerdict p output
 VerifyShows (Err e) output = output ≡ text_fault_output e
+
+-- ---- mode replay
+
+-- what is printed of a program that is accepted, after these events, or that is refused
+pub data IsReplay (p : Program) (events : List Event) (output : Output) : Type 0 where
+  accepted : IsAccepted p → output ≡ run_output p events → IsReplay p events output
+  refused : IsRefused p output → IsReplay p events output
+
+-- a fault of the trace comes before the verdict
+abbrev pub TracedShows : Program → Result (List Event) TraceError → Output → Type 0
+TracedShows p (Ok events) output = IsReplay p events output
+TracedShows p (Err e) output = output ≡ trace_fault_output e
+
+abbrev pub ReplayShows : Result Program AsmError → List ℕ → Output → Type 0
+ReplayShows (Ok p) trace output = TracedShows p (trace_read trace) output
+ReplayShows (Err e) trace output = output ≡ text_fault_output e
 
 -- ---- all modes
 
 -- what is printed in a mode
 abbrev pub Shows : Mode → List ℕ → List ℕ → Output → Type 0
 Shows mode.Plain text trace output = output ≡ plain_output (judged text) trace
+Shows mode.Replay text trace output = ReplayShows (judged text) trace output
 Shows mode.List text trace output = output ≡ list_output (judged text)
 Shows mode.Verify text trace output = VerifyShows (judged text) output
+
+-- of this program modes `plain` and `replay` print the same, for every trace
+abbrev pub PrintsAlike : Program → Type 0
+PrintsAlike p = (text trace : List ℕ) (output : Output) → judged text ≡ Ok p
+    → Shows mode.Replay text trace output ↔ Shows mode.Plain text trace output
 
 -- the output of the mode, or that memory was refused
 abbrev pub IsOutputOf : Mode → List ℕ → List ℕ → Output → Type 0

@@ -2,12 +2,14 @@
 #![tactic(auto)]
 
 pub mod joined;
+pub mod laws;
 pub mod mode;
 pub mod modes;
 pub mod output;
 pub mod play;
 pub mod printed;
 pub mod program;
+mod refusal;
 pub mod sources;
 pub mod taking;
 pub mod words;

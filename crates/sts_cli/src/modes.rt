@@ -2,4 +2,5 @@
 
 pub mod list;
 pub mod plain;
+pub mod replay;
 pub mod verify;

@@ -6,7 +6,7 @@ ghost use Rattle.sts_cli.specs.Output as def;
 
 use crate::joined::split;
 use crate::mode::Mode;
-use crate::modes::{list, plain, verify};
+use crate::modes::{list, plain, replay, verify};
 use crate::output::Output;
 use crate::taking::TakeError;
 use std::alloc::{AllocError, Global};
@@ -24,6 +24,7 @@ fn output(alloc: Global, mode: Mode, text: &[u8], trace: &[u8]) -> Result<Output
 {
     match mode {
         Mode::Plain => plain::after_trace(alloc, text, trace),
+        Mode::Replay => replay::replayed(alloc, text, trace),
         Mode::List => list::listed(alloc, text),
         Mode::Verify => verify::verified(alloc, text),
     }

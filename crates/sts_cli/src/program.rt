@@ -46,21 +46,22 @@ fn on_text<S: Sources, W: Write>(
     }
 }
 
-/// Mode `plain`; the text is read before the trace is opened.
+/// A mode that looks at a text and a trace; the text is read before the trace is opened.
 fn on_text_and_trace<S: Sources, W: Write>(
     alloc: Global,
     sources: &S,
+    mode: Mode,
     path: &str,
     trace: &str,
     out: &mut W,
 ) -> Result<u8, WriteFailed>
     ensures { IfOk result (λ s. (o : Output)
-        × def.IsOfTextAndTrace (S.held sources.now path.now) (S.held sources.now trace.now) o
+        × def.IsOfTextAndTrace mode (S.held sources.now path.now) (S.held sources.now trace.now) o
         × Writes (W.contents out.old) (W.contents out.new) s o) }
 {
     match file(alloc, sources, path, MOST_OF_A_TEXT) {
         Ok(text) => match file(alloc, sources, trace, MOST_OF_A_STREAM) {
-            Ok(trace) => play(alloc, Mode::Plain, text.as_slice(), trace.as_slice(), out),
+            Ok(trace) => play(alloc, mode, text.as_slice(), trace.as_slice(), out),
             Err(error) => failed(error, out),
         },
         Err(error) => failed(error, out),
@@ -98,7 +99,12 @@ fn on_line<S: Sources, W: Write>(
         asked::Line::Joined => on_input(alloc, sources, out),
         asked::Line::Verify { file } => on_text(alloc, sources, Mode::Verify, file, out),
         asked::Line::List { file } => on_text(alloc, sources, Mode::List, file, out),
-        asked::Line::Plain { file, trace } => on_text_and_trace(alloc, sources, file, trace, out),
+        asked::Line::Plain { file, trace } => {
+            on_text_and_trace(alloc, sources, Mode::Plain, file, trace, out)
+        }
+        asked::Line::Replay { file, trace } => {
+            on_text_and_trace(alloc, sources, Mode::Replay, file, trace, out)
+        }
     }
 }
 

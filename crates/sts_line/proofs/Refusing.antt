@@ -1,21 +1,12 @@
 -- Why a command line asks for nothing.
-use Rattle.std.proofs.Common.{◌≡◌, ◌⊎◌, ◌&&◌, Bool, true, false, List, [], Some, is_some, codes, length, ◌<◌, refl, sym, subst, inl, inr, ◌∙◌}
-use Rattle.clap.specs.Words.{Text, Row, IsAmong, fault_of, first_of, subcommand_of}
+use Rattle.std.proofs.Common.{◌≡◌, ◌⊎◌, List, [], length, ◌<◌, sym, subst, inl, inr, ◌∙◌}
+use Rattle.clap.specs.Words.{Text, IsAmong, fault_of, subcommand_of}
 use Rattle.clap.specs.declared.error.kind.ErrorKind.{ErrorKind}
 use Rattle.clap.specs.declared.error.kind.ErrorKind.TheVariants as kind
 use Rattle.sts_line.specs.declared.asked.LineError.{LineError}
 use Rattle.sts_line.specs.declared.asked.LineError.TheVariants as error
 use Rattle.sts_line.specs.Command.{program}
 use Rattle.sts_line.specs.Refused.{BlamesUnless, Refuses, TellsKind, is_whole}
-
-and_true : (b : Bool) → (b && true) ≡ b
-and_true true = refl
-and_true false = refl
-
--- `plain` with its text is whole exactly where it has its trace
-pub whole_plain : (name file : Text) (rows : List Row) → name ≡ codes "plain" → first_of (codes "FILE") rows ≡ Some file
-    → is_whole (Some (name, rows)) ≡ is_some (first_of (codes "TRACE") rows)
-whole_plain name file rows n f = rw (n, f) (and_true (is_some (first_of (codes "TRACE") rows)))
 
 -- a command with something missing is refused
 pub refuses_blamed : (words : List Text) (e : LineError) → 1 < length words → fault_of program words ≡ []

@@ -1,8 +1,8 @@
 -- What a command line asks for, read off the words by `clap`'s own definitions (this project's
 -- own).
-use Rattle.std.specs.Prelude.{◌≡◌, ◌<◌, ◌≤◌, ℕ, List, [], ◌∷◌, length, filter_map, Option, Some}
+use Rattle.std.specs.Prelude.{◌≡◌, ◌<◌, ◌≤◌, List, [], ◌∷◌, length, filter_map, Option, Some}
 use Rattle.std.specs.Prelude.{None, IsSomeAnd}
-use Rattle.std.specs.Prelude.{if◌then◌else◌, codes}
+use Rattle.std.specs.Prelude.{Bool, if◌then◌else◌, ◌||◌, codes}
 use Rattle.std.specs.Str.{bytes_eq}
 use Rattle.clap.specs.Words.{Text, Row, fault_of, first_of, subcommand_of}
 use Rattle.sts_line.specs.declared.asked.Line.{Line}
@@ -15,11 +15,14 @@ asked line.Joined = None
 asked (line.Verify file) = Some (codes "verify", file.now ∷ [])
 asked (line.List file) = Some (codes "list", file.now ∷ [])
 asked (line.Plain file trace) = Some (codes "plain", file.now ∷ trace.now ∷ [])
+asked (line.Replay file trace) = Some (codes "replay", file.now ∷ trace.now ∷ [])
+
+abbrev pub takes_trace : Text → Bool
+takes_trace name = bytes_eq name (codes "plain") || bytes_eq name (codes "replay")
 
 -- the files that a command takes
 abbrev pub ids_of : Text → List Text
-ids_of name = if bytes_eq name (codes "plain") then codes "FILE" ∷ codes "TRACE"
-    ∷ [] else codes "FILE" ∷ []
+ids_of name = if takes_trace name then codes "FILE" ∷ codes "TRACE" ∷ [] else codes "FILE" ∷ []
 
 -- the texts under these ids
 abbrev pub texts_at : List Row → List Text → List Text

@@ -8,7 +8,7 @@ use Rattle.clap.specs.declared.error.kind.ErrorKind.{ErrorKind}
 use Rattle.clap.specs.declared.error.kind.ErrorKind.TheVariants as kind
 use Rattle.sts_line.specs.declared.asked.LineError.{LineError}
 use Rattle.sts_line.specs.declared.asked.LineError.TheVariants as error
-use Rattle.sts_line.specs.Asked.{ids_of}
+use Rattle.sts_line.specs.Asked.{ids_of, takes_trace}
 use Rattle.sts_line.specs.Command.{program}
 
 -- an error of `clap` of this kind, as it is told
@@ -21,8 +21,7 @@ TellsKind k (error.Usage text) = (k ≢ kind.DisplayHelp) × (k ≢ kind.OutOfMe
 abbrev pub is_whole : Option (Text × List Row) → Bool
 is_whole None = false
 is_whole (Some (name, rows)) =
-    (bytes_eq name (codes "verify") || (bytes_eq name (codes "list") || bytes_eq name
-    (codes "plain")))
+    (bytes_eq name (codes "verify") || (bytes_eq name (codes "list") || takes_trace name))
     && list_all (λ id. is_some (first_of id rows)) (ids_of name)
 
 -- a usage fault comes only where this doesn't hold

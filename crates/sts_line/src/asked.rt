@@ -10,6 +10,7 @@ pub enum Line<'a> {
     Verify { file: &'a str },
     List { file: &'a str },
     Plain { file: &'a str, trace: &'a str },
+    Replay { file: &'a str, trace: &'a str },
 }
 
 /// Why a command line asks for nothing: the text is for the person who wrote it.

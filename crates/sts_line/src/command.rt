@@ -35,7 +35,7 @@ fn on_file<'a>(alloc: Global, name: &'a str, about: &'a str) -> Result<Command<'
     Command::new(alloc, name).about(about).arg(file(alloc))
 }
 
-/// The command `plain`, which takes a trace too.
+/// A command that takes a trace too.
 fn on_trace<'a>(alloc: Global, name: &'a str, about: &'a str) -> Result<Command<'a>, AllocError>
     ensures app { IfOk result (λ c. app_of c
         ≡ with_rule (with_rule (new_app name.entry.now) def.file_rule) def.trace_rule) }
@@ -67,6 +67,11 @@ pub fn program<'a>(alloc: Global) -> Result<Command<'a>, AllocError>
         "plain",
         "Prints how the machine that tests everything stands after a trace, and the steps taken",
     )?;
+    let replay = on_trace(
+        alloc,
+        "replay",
+        "Prints the same by the machine that tests nothing, or the refused instruction",
+    )?;
     Command::new(alloc, "sts")
         .about("Structured task scopes over a small stack code")
         .after_help(
@@ -76,5 +81,6 @@ pub fn program<'a>(alloc: Global) -> Result<Command<'a>, AllocError>
         .subcommand_required(true)
         .subcommand(verify)?
         .subcommand(list)?
-        .subcommand(plain)
+        .subcommand(plain)?
+        .subcommand(replay)
 }

@@ -1,8 +1,7 @@
 //! Reads a command line.
 
-ghost use Rattle.std.specs.Prelude.{◌≡◌, ◌↔◌, ◌≤◌, Ok, IfOk, IfErr, IsErr, map, option_map};
-ghost use Rattle.std.specs.Prelude.{is_some, Some};
-ghost use Rattle.std.specs.Prelude.{codes, List, ℕ, Bool, false, [], ◌∷◌, length};
+ghost use Rattle.std.specs.Prelude.{◌≡◌, ◌↔◌, ◌≤◌, Ok, IfOk, IfErr, map, option_map, is_some, Some};
+ghost use Rattle.std.specs.Prelude.{codes, Bool, false, length};
 ghost use Rattle.clap.specs.Words.{first_of, rows_of, found_of, kind_of, subcommand_rows_of};
 ghost use Rattle.sts_line.specs.declared.asked.Line.TheVariants.{Joined};
 ghost use Rattle.sts_line.specs.Asked.{Asks, IsLineOf, asked, given};
@@ -13,7 +12,7 @@ use crate::asked::LineError;
 use crate::command::program;
 use clap::error::ErrorKind;
 use clap::{ArgMatches, Error};
-use std::alloc::Global;
+use std::alloc::{AllocError, Global};
 
 fn told(error: &Error, alloc: Global) -> LineError
     ensures { TellsKind (kind_of error.now) result }
@@ -61,16 +60,18 @@ fn chosen<'a>(alloc: Global, matches: &ArgMatches<'a>) -> Result<asked::Line<'a>
 {
     match matches.subcommand() {
         Some((name, inner)) => asked_of(alloc, name, inner),
-        None => unknown(alloc),
+        None => Err(unknown(alloc)),
     }
 }
 
-/// The answer where `clap` found no command of the program, which it never does.
-fn unknown<'a>(alloc: Global) -> Result<asked::Line<'a>, LineError>
-    ensures none { IsErr result }
-    ensures blames { (whole : Bool) → whole ≡ false → IfErr result (BlamesUnless whole) }
+/// What is told where `clap` found no command of the program with its files, which never comes.
+fn unknown(alloc: Global) -> LineError
+    ensures { (whole : Bool) → whole ≡ false → BlamesUnless whole result }
 {
-    Err(LineError::Usage("a command is missing".to_string(alloc)?))
+    match "a command is missing".to_string(alloc) {
+        Ok(text) => LineError::Usage(text),
+        Err(AllocError) => LineError::Memory,
+    }
 }
 
 /// The text that the command was given under an id.
@@ -91,34 +92,34 @@ fn asked_of<'a>(
         (is_whole (Some (name.now, rows_of (found_of inner.now))))) }
 {
     match text_of(inner, "FILE") {
-        None => unknown(alloc),
+        None => Err(unknown(alloc)),
         Some(file) => {
             if name == "verify" {
                 Ok(asked::Line::Verify { file })
             } else if name == "list" {
                 Ok(asked::Line::List { file })
             } else if name == "plain" {
-                with_trace(alloc, file, inner)
+                let trace = trace_of(alloc, inner)?;
+                Ok(asked::Line::Plain { file, trace })
+            } else if name == "replay" {
+                let trace = trace_of(alloc, inner)?;
+                Ok(asked::Line::Replay { file, trace })
             } else {
-                unknown(alloc)
+                Err(unknown(alloc))
             }
         }
     }
 }
 
-fn with_trace<'a>(
-    alloc: Global,
-    file: &'a str,
-    inner: &ArgMatches<'a>,
-) -> Result<asked::Line<'a>, LineError>
-    ensures asked { IfOk result (λ l. (t : List ℕ)
-        × (first_of (codes "TRACE") (rows_of (found_of inner.now)) ≡ Some t)
-        × (asked l ≡ Some (codes "plain", file.now ∷ t ∷ []))) }
+/// The trace that the command was given.
+fn trace_of<'a>(alloc: Global, inner: &ArgMatches<'a>) -> Result<&'a str, LineError>
+    ensures given { IfOk result (λ t.
+        first_of (codes "TRACE") (rows_of (found_of inner.now)) ≡ Some t.now) }
     ensures lacks { IfErr result (BlamesUnless
         (is_some (first_of (codes "TRACE") (rows_of (found_of inner.now))))) }
 {
     match text_of(inner, "TRACE") {
-        Some(trace) => Ok(asked::Line::Plain { file, trace }),
-        None => unknown(alloc),
+        Some(trace) => Ok(trace),
+        None => Err(unknown(alloc)),
     }
 }

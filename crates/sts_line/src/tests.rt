@@ -12,6 +12,7 @@ fn shown<'a>(alloc: Global, words: &'a [&'a str]) -> (&'static str, &'a str, &'a
         Ok(asked::Line::Verify { file }) => ("verify", file, ""),
         Ok(asked::Line::List { file }) => ("list", file, ""),
         Ok(asked::Line::Plain { file, trace }) => ("plain", file, trace),
+        Ok(asked::Line::Replay { file, trace }) => ("replay", file, trace),
         Err(LineError::Memory) => ("memory", "", ""),
         Err(LineError::Help(_)) => ("help", "", ""),
         Err(LineError::Usage(_)) => ("usage", "", ""),
@@ -26,15 +27,21 @@ static LIST: [&str; 3] = ["sts", "list", "a.sts"];
 
 static PLAIN: [&str; 4] = ["sts", "plain", "a.sts", "b.trace"];
 
+static REPLAY: [&str; 4] = ["sts", "replay", "a.sts", "b.trace"];
+
 static HELP: [&str; 2] = ["sts", "--help"];
 
 static HELP_OF_PLAIN: [&str; 3] = ["sts", "plain", "--help"];
 
+static HELP_OF_REPLAY: [&str; 3] = ["sts", "replay", "--help"];
+
 static NO_TRACE: [&str; 3] = ["sts", "plain", "a.sts"];
+
+static NO_TRACE_TO_REPLAY: [&str; 3] = ["sts", "replay", "a.sts"];
 
 static LEFT_OVER: [&str; 4] = ["sts", "verify", "a.sts", "b.trace"];
 
-static UNKNOWN: [&str; 3] = ["sts", "replay", "a.sts"];
+static UNKNOWN: [&str; 3] = ["sts", "play", "a.sts"];
 
 static NO_COMMAND: [&str; 2] = ["sts", "--"];
 
@@ -61,6 +68,7 @@ fn each_command_line_is_read(rt: HostRuntime) {
     assert!(rt; shown(alloc, VERIFY.as_slice()) == ("verify", "a.sts", ""));
     assert!(rt; shown(alloc, LIST.as_slice()) == ("list", "a.sts", ""));
     assert!(rt; shown(alloc, PLAIN.as_slice()) == ("plain", "a.sts", "b.trace"));
+    assert!(rt; shown(alloc, REPLAY.as_slice()) == ("replay", "a.sts", "b.trace"));
 }
 
 #[test]
@@ -76,6 +84,7 @@ fn help_is_no_fault(rt: HostRuntime) {
 fn what_asks_for_nothing_is_a_usage_fault(rt: HostRuntime) {
     let alloc = rt.alloc();
     assert!(rt; shown(alloc, NO_TRACE.as_slice()).0 == "usage");
+    assert!(rt; shown(alloc, NO_TRACE_TO_REPLAY.as_slice()).0 == "usage");
     assert!(rt; shown(alloc, LEFT_OVER.as_slice()).0 == "usage");
     assert!(rt; shown(alloc, UNKNOWN.as_slice()).0 == "usage");
     assert!(rt; shown(alloc, NO_COMMAND.as_slice()).0 == "usage");
@@ -107,6 +116,7 @@ fn help_names_the_commands_their_files_and_what_they_print(rt: HostRuntime) {
         "verify",
         "list",
         "plain",
+        "replay",
         "Prints the budgets",
         "standard input",
     ];
@@ -136,6 +146,8 @@ fn help_names_the_commands_their_files_and_what_they_print(rt: HostRuntime) {
         "Prints how",
     ];
     assert!(rt; names_all(alloc, HELP_OF_PLAIN.as_slice(), plain.as_slice()));
+    let replay = ["sts replay", "FILE", "TRACE", "by the machine"];
+    assert!(rt; names_all(alloc, HELP_OF_REPLAY.as_slice(), replay.as_slice()));
 }
 
 #[test]
@@ -148,7 +160,7 @@ fn a_mistake_names_the_word(rt: HostRuntime) {
             ["frobnicate", "Usage"].as_slice()
         )
     );
-    assert!(rt; names_all(alloc, UNKNOWN.as_slice(), ["replay", "Usage"].as_slice()));
+    assert!(rt; names_all(alloc, UNKNOWN.as_slice(), ["play", "Usage"].as_slice()));
     assert!(rt; names_all(alloc, LEFT_OVER.as_slice(), ["b.trace", "Usage"].as_slice()));
     assert!(rt; names_all(alloc, OPTION.as_slice(), ["--workers", "Usage"].as_slice()));
     assert!(rt; names_all(alloc, NO_TRACE.as_slice(), ["TRACE", "Usage"].as_slice()));

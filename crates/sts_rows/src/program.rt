@@ -75,6 +75,7 @@ impl Sources for Folder {
         match path {
             "seven.sts" => Ok(whole(SEVEN)),
             "fails.sts" => Ok(whole(FAILS)),
+            "endless.sts" => Ok(whole(b"func main 0\nx:\njmp x\nend\n")),
             "two.trace" => Ok(whole(b"step 0\nstep 0\n")),
             "bad.trace" => Ok(whole(b"step 0\nstep\n")),
             "unread.sts" | "unread.trace" => Ok(broken(ErrorKind::Other)),
@@ -153,6 +154,13 @@ fn each_command_prints_its_own_output_once(rt: HostRuntime) -> Result<(), Fail> 
     runs(&rt, alloc, &plain, 0, "success 7\nsteps 2\n", "")?;
     let failed = ["sts", "plain", "fails.sts", "two.trace"];
     runs(&rt, alloc, &failed, 1, "failed 7\nsteps 2\n", "")?;
+    let replay = ["sts", "replay", "seven.sts", "two.trace"];
+    runs(&rt, alloc, &replay, 0, "success 7\nsteps 2\n", "")?;
+    let failed = ["sts", "replay", "fails.sts", "two.trace"];
+    runs(&rt, alloc, &failed, 1, "failed 7\nsteps 2\n", "")?;
+    let refused = ["sts", "replay", "endless.sts", "two.trace"];
+    let refusal = "refused V4 in main at 0: jmp L0\n";
+    runs(&rt, alloc, &refused, 4, refusal, "")?;
     runs(&rt, alloc, &["sts"], 5, "running\nsteps 1\n", "")?;
     let bad = ["sts", "plain", "seven.sts", "bad.trace"];
     runs(&rt, alloc, &bad, 3, "error T1 line 2\n", "")
@@ -207,22 +215,12 @@ fn what_cannot_be_read_is_told_as_what_it_is(rt: HostRuntime) -> Result<(), Fail
             "",
         )?;
     }
-    runs(
-        &rt,
-        alloc,
-        &["sts", "plain", "none.sts", "two.trace"],
-        6,
-        no_file,
-        "",
-    )?;
-    runs(
-        &rt,
-        alloc,
-        &["sts", "plain", "seven.sts", "none.trace"],
-        6,
-        no_file,
-        "",
-    )?;
+    for mode in ["plain", "replay"] {
+        let no_text = ["sts", mode, "none.sts", "two.trace"];
+        runs(&rt, alloc, &no_text, 6, no_file, "")?;
+        let no_trace = ["sts", mode, "seven.sts", "none.trace"];
+        runs(&rt, alloc, &no_trace, 6, no_file, "")?;
+    }
     runs(
         &rt,
         alloc,

@@ -106,6 +106,25 @@ pub fn plays<R: Abort>(
     Ok(())
 }
 
+/// Runs a trace in mode `plain`, and in mode `replay`, which prints the same, or what mode `verify` prints of a program
+/// that is refused; a fault of a text or a trace comes before the verdict.
+pub fn runs<R: Abort>(
+    rt: &R,
+    alloc: Global,
+    name: &str,
+    input: (&[u8], &[u8]),
+    want: (&str, u8),
+) -> Result<(), Fail> {
+    plays(rt, alloc, name, Mode::Plain, input, want)?;
+    let mut verdict = Vec::new(alloc);
+    let status = play(alloc, Mode::Verify, input.0, b"", &mut verdict)?;
+    if status != 4 || want.1 == 3 {
+        return plays(rt, alloc, name, Mode::Replay, input, want);
+    }
+    let refusal = str::from_utf8(verdict.as_slice())?;
+    plays(rt, alloc, name, Mode::Replay, input, (refusal, status))
+}
+
 /// Verifies a text of parts, and compares what is printed and the status.
 pub fn verifies<R: Abort>(
     rt: &R,
@@ -126,20 +145,19 @@ pub fn verifies<R: Abort>(
     )
 }
 
-/// Plays each row.
+/// Plays each row; one in mode `plain` in mode `replay` too.
 pub fn walk<R: Abort>(rt: &R, alloc: Global, rows: &[Row]) -> Result<(), Fail> {
     for row in rows {
         let text = lines(alloc, row.text)?;
         let trace = events(alloc, row.trace)?;
         let output = lines(alloc, row.output)?;
-        plays(
-            rt,
-            alloc,
-            row.name,
-            row.mode,
-            (text.as_bytes(), trace.as_bytes()),
-            (output.as_str(), row.status),
-        )?;
+        let input = (text.as_bytes(), trace.as_bytes());
+        let want = (output.as_str(), row.status);
+        if row.mode == Mode::Plain {
+            runs(rt, alloc, row.name, input, want)?;
+        } else {
+            plays(rt, alloc, row.name, row.mode, input, want)?;
+        }
     }
     Ok(())
 }

@@ -149,7 +149,7 @@ fn a_verification_tells_the_same_faults(rt: HostRuntime) -> Result<(), Fail> {
     same_faults(&rt, rt.alloc(), Mode::Verify)
 }
 
-/// Plays and verifies a text without a trace, and expects the same fault of the text.
+/// Plays a text without a trace in each mode but `list`, and expects the same fault of the text.
 fn refused<R: Abort>(
     rt: &R,
     alloc: Global,
@@ -157,7 +157,7 @@ fn refused<R: Abort>(
     text: &[u8],
     output: &str,
 ) -> Result<(), Fail> {
-    for mode in [Mode::Plain, Mode::Verify] {
+    for mode in [Mode::Plain, Mode::Replay, Mode::Verify] {
         plays(rt, alloc, name, mode, (text, b""), (output, 3))?;
     }
     Ok(())

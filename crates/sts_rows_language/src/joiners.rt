@@ -1,11 +1,10 @@
 //! Joiners: after which end each cancels its scope, what `join` gives, and what is counted then.
 
-use crate::row::plays;
+use crate::row::runs;
 use crate::table::push_text;
 use std::alloc::Global;
 use std::process::Abort;
 use std::test::Fail;
-use sts_cli::mode::Mode;
 
 /// A joiner, the ends of the subtasks in order of completion, and what the root ends with.
 ///
@@ -161,14 +160,7 @@ fn ends_so<R: Abort>(rt: &R, alloc: Global, table: &str) -> Result<u32, Fail> {
         let output = format!(in alloc; "{ended}\nsteps {steps}\n")?;
         let status = u8::from(ended.starts_with("failed"));
         let input = (text.as_bytes(), trace.as_bytes());
-        plays(
-            rt,
-            alloc,
-            row,
-            Mode::Plain,
-            input,
-            (output.as_str(), status),
-        )?;
+        runs(rt, alloc, row, input, (output.as_str(), status))?;
         rows = rows.saturating_add(1);
     }
     Ok(rows)

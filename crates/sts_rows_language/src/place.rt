@@ -1,6 +1,6 @@
 //! An instruction behind some setup: what the plain machine does there, and what the verifier says of it.
 
-use crate::row::{events, plays};
+use crate::row::{events, plays, runs};
 use crate::table::push_text;
 use std::alloc::Global;
 use std::process::Abort;
@@ -111,14 +111,7 @@ impl<'t> Place<'t> {
         let output = format!(in alloc; "{state}\nsteps {steps}\n")?;
         let input = (text.as_bytes(), trace.as_bytes());
         let name = format!(in alloc; "{} after\n{}", self.instruction, self.setup)?;
-        plays(
-            rt,
-            alloc,
-            name.as_str(),
-            Mode::Plain,
-            input,
-            (output.as_str(), status),
-        )
+        runs(rt, alloc, name.as_str(), input, (output.as_str(), status))
     }
 
     /// The instruction is done.

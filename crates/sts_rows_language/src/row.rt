@@ -82,3 +82,22 @@ pub fn plays<R: Abort>(
     assert_eq!(rt; ended, status, "the status at {name:?}");
     Ok(())
 }
+
+/// Runs a trace in mode `plain`, and in mode `replay`, which prints the same, or what mode `verify` prints of a program
+/// that is refused; a fault of a text or a trace comes before the verdict.
+pub fn runs<R: Abort>(
+    rt: &R,
+    alloc: Global,
+    name: &str,
+    input: (&[u8], &[u8]),
+    want: (&str, u8),
+) -> Result<(), Fail> {
+    plays(rt, alloc, name, Mode::Plain, input, want)?;
+    let mut verdict = Vec::new(alloc);
+    let status = play(alloc, Mode::Verify, input.0, b"", &mut verdict)?;
+    if status != 4 || want.1 == 3 {
+        return plays(rt, alloc, name, Mode::Replay, input, want);
+    }
+    let refusal = str::from_utf8(verdict.as_slice())?;
+    plays(rt, alloc, name, Mode::Replay, input, (refusal, status))
+}

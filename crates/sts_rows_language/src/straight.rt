@@ -1,11 +1,10 @@
 //! Instructions of one task in a straight line: each with operands that tell it from its neighbours.
 
-use crate::row::plays;
+use crate::row::runs;
 use crate::table::push_text;
 use std::alloc::Global;
 use std::process::Abort;
 use std::test::Fail;
-use sts_cli::mode::Mode;
 
 /// Instructions without a jump or a wait, ` = `, and the value of a `ret` that follows them.
 const STACK_AND_LOCALS: &str = "
@@ -123,7 +122,7 @@ fn gives<R: Abort>(rt: &R, alloc: Global, table: &str) -> Result<u32, Fail> {
             let trace = "step 0\n".repeat(alloc, steps)?;
             let output = format!(in alloc; "success {value}\nsteps {steps}\n")?;
             let input = (text.as_bytes(), trace.as_bytes());
-            plays(rt, alloc, row, Mode::Plain, input, (output.as_str(), 0))?;
+            runs(rt, alloc, row, input, (output.as_str(), 0))?;
             rows = rows.saturating_add(1);
         }
     }

@@ -3,13 +3,14 @@
 //! A table is one string, so that a row costs its letters and nothing else. An empty line ends a row. In a row
 //!
 //! - `# WORDS` names what follows and says why, where that isn't plain;
-//! - `? verify`, `? list` or `? TRACE` asks something of the text above it, a trace in the notation of `events`;
+//! - `? verify`, `? list` or `? TRACE` asks something of the text above it, a trace in the notation of `events`,
+//!   which modes `plain` and `replay` run;
 //! - `= STATUS LINES` is the answer to what was asked last, `= STATUS` alone the status of `verify`;
 //! - any other line belongs to the text. ` / ` stands between two lines of it, and so does the end of the line. A line
 //!   `3 * push 1, bind 0` stands for `push 1` and `bind 0` three times over. A word in capitals stands for the lines
 //!   that `meaning` gives.
 
-use crate::row::{events, lines, plays};
+use crate::row::{events, lines, plays, runs};
 use std::alloc::Global;
 use std::process::Abort;
 use std::test::Fail;
@@ -143,7 +144,7 @@ pub fn answers<R: Abort>(
         "list" => plays(rt, alloc, name, Mode::List, (text, b""), want),
         _ => {
             let trace = events(alloc, asked)?;
-            plays(rt, alloc, name, Mode::Plain, (text, trace.as_bytes()), want)
+            runs(rt, alloc, name, (text, trace.as_bytes()), want)
         }
     }
 }

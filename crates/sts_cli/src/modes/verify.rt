@@ -5,28 +5,13 @@ ghost use Rattle.sts_asm.specs.Text.{judged};
 ghost use Rattle.sts_cli.specs.Output as def;
 
 use crate::output::Output;
+use crate::refusal::accepted;
 use crate::{output, printed};
 use std::alloc::{AllocError, Global};
 use sts_asm::assemble;
 use sts_code::program::Program;
 use sts_rules::budget::Budgets;
-use sts_rules::typing::Cause;
-use sts_verify::error::VerifyError;
-use sts_verify::verified::{Verified, verify};
-
-fn refused(
-    alloc: Global,
-    program: &Program,
-    function: u32,
-    pc: u32,
-    cause: Cause,
-) -> Result<Output, AllocError>
-    ensures { IfOk result (λ o. o ≡ def.refused_output program.now function pc cause) }
-{
-    let mut text = String::new(alloc);
-    printed::refused_line(alloc, &mut text, program, function, pc, cause)?;
-    Ok(Output { text, status: 4 })
-}
+use sts_verify::verified::Verified;
 
 /// The budgets of the functions, in order.
 fn all_budgets(alloc: Global, verified: &Verified) -> Result<Vec<Budgets>, AllocError>
@@ -39,7 +24,7 @@ fn all_budgets(alloc: Global, verified: &Verified) -> Result<Vec<Budgets>, Alloc
     Ok(budgets)
 }
 
-fn accepted(alloc: Global, verified: &Verified) -> Result<Output, AllocError>
+fn told(alloc: Global, verified: &Verified) -> Result<Output, AllocError>
     ensures { IfOk result (λ o. def.IsVerdict verified.now o) }
 {
     let budgets = all_budgets(alloc, verified)?;
@@ -56,17 +41,9 @@ fn accepted(alloc: Global, verified: &Verified) -> Result<Output, AllocError>
 fn verdict(alloc: Global, program: Program) -> Result<Output, AllocError>
     ensures { IfOk result (λ o. def.IsVerdict program o) }
 {
-    match verify(alloc, program) {
-        Ok(verified) => accepted(alloc, &verified),
-        Err(VerifyError::Memory(_)) => Err(AllocError),
-        Err(
-            VerifyError::Refused {
-                program,
-                function,
-                pc,
-                cause,
-            },
-        ) => refused(alloc, &program, function, pc, cause),
+    match accepted(alloc, program)? {
+        Ok(verified) => told(alloc, &verified),
+        Err(refusal) => Ok(refusal),
     }
 }
 

@@ -11,3 +11,6 @@ returns-in-List g c = rw c.in-List.is c.on_text-in-List.ensures
 
 pub returns-in-Plain : goal.returns-in-Plain
 returns-in-Plain g c = rw c.in-Plain.is c.on_text_and_trace.ensures
+
+pub returns-in-Replay : goal.returns-in-Replay
+returns-in-Replay g c = rw c.in-Replay.is c.on_text_and_trace-in-Replay.ensures

@@ -13,7 +13,7 @@ returns-in-Ok-file g c =
     let taken = subst (λ xs. IsTakenOf file def.most_of_a_text xs) (sym c.as_slice.ensures.value) c.in-Ok.ensures in
     let traced = subst (λ xs. IsTakenOf trace_file def.most_of_a_stream xs) (sym c.as_slice-in-Ok-file.ensures.value) c.in-Ok-file.ensures in
     IfOk-weaker c.play.result _ _
-    (λ s h. (h.0, of_text_and_trace file trace_file _ _ h.0 taken traced h.1, h.2))
+    (λ s h. (h.0, of_text_and_trace c.args.mode file trace_file _ _ h.0 taken traced h.1, h.2))
     c.play.ensures
 
 pub returns-in-Ok : goal.returns-in-Ok

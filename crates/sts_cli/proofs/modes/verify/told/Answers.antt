@@ -3,7 +3,7 @@ use Rattle.std.specs.String.{string_bytes}
 use Rattle.sts_code.specs.Program.{Program}
 use Rattle.sts_cli.specs.Output as def
 use Rattle.sts_cli.specs.Printed.{accepted_lines}
-use Rattle.sts_cli.proofs.modes.verify.accepted.Goals as goal
+use Rattle.sts_cli.proofs.modes.verify.told.Goals as goal
 
 -- the output that these bytes make
 abbrev outputs : List ℕ → def.Output

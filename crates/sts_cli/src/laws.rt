@@ -1,0 +1,13 @@
+//! Laws of what is printed: each stands on a function that does nothing.
+
+ghost use Rattle.sts_cli.specs.Output as def;
+
+use sts_verify::laws::verdict_is_one;
+use sts_verify::verified::Verified;
+
+/// Of an accepted program mode `replay` prints just what mode `plain` prints, for every trace.
+pub fn replay_prints_what_plain_prints(verified: &Verified)
+    ensures { def.PrintsAlike verified.now }
+{
+    verdict_is_one(verified.program());
+}
