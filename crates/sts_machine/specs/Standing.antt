@@ -17,6 +17,7 @@ abbrev pub AreStandingBut : Program → Live → Unseen → ℕ → Type 0
 AreStandingBut p v u t =
     (i : ℕ) → (i == t) ≡ false → lives_in v i ≡ true → stand_in u i ≡ live_stand_at p v i
 
+-- at no scope?
 abbrev pub is_free : Stand → Bool
 is_free Free = true
 is_free _ = false
