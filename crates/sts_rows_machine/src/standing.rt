@@ -114,29 +114,24 @@ fn what_stands_is_told(rt: HostRuntime) -> Result<(), Fail> {
     Ok(())
 }
 
-/// Steps whichever task can step, and interrupts task 1 after each step: the interrupt does
-/// something only while that task lives, and the machine tells what stands at the end.
+/// Whichever task can step steps, until none can: each turn is one step, no more than two tasks and
+/// a scope ever stand, and the root alone does at the end.
 #[test]
 fn a_thousand_scopes_stand_one_at_a_time(rt: HostRuntime) -> Result<(), Fail> {
     let alloc = rt.alloc();
     match verify(alloc, assemble(alloc, THOUSAND.as_bytes())?) {
         Ok(verified) => {
             let mut machine = Machine::prepare(alloc, &verified)?;
-            let mut stepped = 0;
-            for _ in 0..9004 {
+            for step in 0u64..9004 {
                 match machine.ready() {
                     None => break,
-                    Some(task) => {
-                        let turned = machine.turn(Event::Step(task));
-                        assert_eq!(rt; turned, Turned::Stepped);
-                        stepped += (turned == Turned::Stepped) as u64;
-                    }
+                    Some(task) => assert_eq!(rt; machine.turn(Event::Step(task)), Turned::Stepped),
                 }
+                assert_eq!(rt; machine.steps(), step + 1);
                 let room = machine.room();
                 assert!(rt; room.tasks <= 1 && room.scopes <= 1 && room.binds == 0);
             }
             assert_eq!(rt; machine.root_end(), Some(End::Success(5)));
-            assert_eq!(rt; machine.steps(), stepped);
             assert_eq!(rt; machine.standing(), ROOT_ALONE);
         }
         Err(_) => assert!(rt; false, "the program is not accepted"),
