@@ -1,5 +1,5 @@
 -- What contracts see of a machine, and where it stands (this project's own).
-use Rattle.std.specs.Prelude.{◌≡◌, ℕ, List}
+use Rattle.std.specs.Prelude.{ℕ, List}
 use Rattle.sts_code.specs.Program.{Program}
 use Rattle.sts_rules.specs.declared.budget.Budgets.{Budgets}
 use Rattle.sts_rules.specs.Refusal.{IsBudgetOf}
@@ -8,6 +8,7 @@ use Rattle.sts_model.specs.Live.{Live}
 use Rattle.sts_seen.specs.Seen.{StandsAt}
 use Rattle.sts_laws_accepted.specs.Accepted.{main_of}
 use Rattle.sts_store.specs.Parts.{Parts, Unseen, live_of, unseen_of}
+use Rattle.sts_machine.specs.Laws.{HasLaws}
 use Rattle.sts_machine.specs.Standing.{AreStanding}
 use Rattle.sts_machine.specs.Room.{HasRoomOf}
 
@@ -24,13 +25,10 @@ abbrev pub Stands : Seen → List Event → Type 0
 Stands m events = StandsAt m.program events m.live m.steps
 
 -- it stands at some list of events, its store knows where each task stands, and what stands and the
--- room that is left add up to the budgets of `main`
+-- room that is left add up to the budgets of `main`; and the laws of its program hold
 pub record IsMachine (p : Program) (m : Parts) (steps : ℕ) : Type 0 where
   pub events : List Event
   pub stands : StandsAt p events (live_of m) steps
   pub standing : AreStanding p (live_of m) (unseen_of m)
   pub room : (b : Budgets) → IsBudgetOf p (main_of p) b → HasRoomOf b (live_of m) (unseen_of m)
-
--- an event that counts is a step taken
-abbrev pub turned : Bool → Turned
-turned counts = if counts then Stepped else Idle
+  pub laws : HasLaws p

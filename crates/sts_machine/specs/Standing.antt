@@ -1,5 +1,5 @@
 -- What is said of where tasks stand agrees with the view (this project's own).
-use Rattle.std.specs.Prelude.{◌≡◌, ℕ, true}
+use Rattle.std.specs.Prelude.{◌≡◌, ℕ, true, false, ◌==◌}
 use Rattle.sts_code.specs.Program.{Program}
 use Rattle.sts_model.specs.Live.{Live}
 use Rattle.sts_seen.specs.Reading.{lives_in}
@@ -9,3 +9,8 @@ use Rattle.sts_store.specs.Parts.{Unseen, stand_in}
 -- each living task was last said to stand where its next instruction says
 abbrev pub AreStanding : Program → Live → Unseen → Type 0
 AreStanding p v u = (t : ℕ) → lives_in v t ≡ true → stand_in u t ≡ live_stand_at p v t
+
+-- the same of each but t
+abbrev pub AreStandingBut : Program → Live → Unseen → ℕ → Type 0
+AreStandingBut p v u t =
+    (i : ℕ) → (i == t) ≡ false → lives_in v i ≡ true → stand_in u i ≡ live_stand_at p v i

@@ -2,6 +2,14 @@
 //! stands.
 #![tactic(auto)]
 
+mod code;
+mod effect;
+mod laws;
 pub mod machine;
 mod outside;
 mod perform;
+pub mod runs;
+mod slots;
+pub mod standing;
+mod stands;
+pub mod turned;

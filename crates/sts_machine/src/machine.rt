@@ -1,37 +1,40 @@
 //! The machine.
 
-ghost use Rattle.std.specs.Prelude.{◌≡◌, ◌+◌, ◌++◌, ◌∷◌, ℕ, List, [], Some, None, true, false, IfOk};
+ghost use Rattle.std.specs.Prelude.{◌≡◌, ◌+◌, ◌++◌, ◌∷◌, [], ℕ, List, true, IfOk};
 ghost use Rattle.sts_laws_accepted.specs.Accepted.{main_of};
 ghost use Rattle.sts_laws_accepted.specs.EveryRun.{RunsWell};
-ghost use Rattle.sts_machine.specs.Machine.{Stands, turned};
+ghost use Rattle.sts_machine.specs.Laws.{HasLaws};
+ghost use Rattle.sts_machine.specs.Machine.{Stands};
+ghost use Rattle.sts_machine.specs.Turned.{Picks, turned};
+ghost use Rattle.sts_model.specs.Run.{after, counts, taken};
+ghost use Rattle.sts_model.specs.Waiting.{can_step};
+ghost use Rattle.sts_model.specs.World.{task_at};
 ghost use Rattle.sts_model.specs.declared.event.Event.{Event as AnyEvent};
-ghost use Rattle.sts_rules.specs.declared.budget.Budgets.{Budgets as AnyBudgets};
 ghost use Rattle.sts_rules.specs.Refusal.{IsBudgetOf};
+ghost use Rattle.sts_rules.specs.declared.budget.Budgets.{Budgets as AnyBudgets};
+ghost use Rattle.sts_runs.specs.Runs.{In};
 ghost use Rattle.sts_seen.specs.Run.{live_apply, live_counts, live_opening, live_steps_in};
 ghost use Rattle.sts_seen.specs.Waiting.{live_can_step};
 
+use crate::code::{instr_at, root_frame};
+use crate::laws::laws;
+use crate::outside::{expire, interrupt};
+use crate::perform::perform;
+use crate::turned::Turned;
 use std::alloc::{AllocError, Global};
 use std::marker::Model;
 use sts_model::event::{End, Event};
-use sts_store::store::Store;
+use sts_seen::run_is_seen;
+use sts_store::store::{Room, Store};
 use sts_verify::verified::Verified;
-
-/// What an event did.
-#[derive(Clone, Copy, Debug, PartialEq, Eq)]
-pub enum Turned {
-    /// A step of a task that could step, an interrupt of a living task, or an expiry that marked a
-    /// scope.
-    Stepped,
-    /// Nothing.
-    Idle,
-}
+use sts_views::stands_are_owned;
 
 /// A run of a verified program.
 #[derive(Drop)]
 pub struct Machine<'p> {
-    verified: &'p Verified,
-    store: Store,
-    steps: u64,
+    pub(crate) verified: &'p Verified,
+    pub(crate) store: Store,
+    pub(crate) steps: u64,
 }
 
 impl<'p> Model for Machine<'p> {
@@ -50,17 +53,123 @@ impl<'p> Model for Machine<'p> {
     ghost invariant = { λ m. IsMachine m.verified.now m.store m.steps };
 }
 
-// CONTRACTS WANTED (sketch; bodies are yours)
-//
-// prepare(alloc, verified) -> Result<Machine, AllocError>
-//   IfOk: program, live ≡ live_opening program, steps ≡ 0, Stands m []
-// turn(&mut self, event) -> Turned
-//   seen: new.program, new.live ≡ live_apply .., new.steps ≡ old.steps + live_steps_in ..
-//   counts: result ≡ turned (live_counts old.program old.live event)
-//   stands: (events) → Stands old events → Turns old.program events old.live old.steps event
-//           (or in words: Stands new (events ++ event ∷ []), and Stepped exactly where it counts)
-//   idle: Idle → new ≡ old
-//   runs_well: (events) (b) → Stands new events → IsBudgetOf program main b → RunsWell program b events
-// ready(&self) -> Option<u32>   some / none, by live_can_step
-// root_end(&self), steps(&self), standing(&self), room(&self) (+ adds_up with the budget), key_of,
-// scope_key_of
+impl<'p> Machine<'p> {
+    /// The machine before the first event. It has room for as much as the budgets of `main` let stand
+    /// at once, so no other call takes memory.
+    ///
+    /// # Errors
+    ///
+    /// Want of memory.
+    pub fn prepare(alloc: Global, verified: &'p Verified) -> Result<Machine<'p>, AllocError>
+        ensures program { IfOk result (λ m. m.program ≡ verified.now) }
+        ensures live { IfOk result (λ m. m.live ≡ live_opening verified.now) }
+        ensures steps { IfOk result (λ m. m.steps ≡ 0) }
+        ensures stands { IfOk result (λ m. Stands m []) }
+    {
+        let budgets = laws(verified);
+        run_is_seen();
+        stands_are_owned();
+        let room = Room {
+            tasks: budgets.tasks,
+            scopes: budgets.scopes,
+            bindings: budgets.binds,
+        };
+        let store = Store::with_room(alloc, room, root_frame(verified.program()))?;
+        Ok(Machine {
+            verified,
+            store,
+            steps: 0,
+        })
+    }
+
+    /// What the machine's type keeps: the laws of its program.
+    fn laws(&self)
+        ensures { HasLaws self.now.program }
+    {
+        let _ = &self.steps;
+    }
+
+    /// Does the event count?
+    fn counts(&self, event: Event) -> bool
+        ensures { result ≡ live_counts self.now.program self.now.live event }
+    {
+        match event {
+            Event::Step(t) => self.store.can_step(t),
+            Event::Interrupt(t) => self.store.lives(t),
+            Event::Expire(s) => self.store.can_expire(s),
+        }
+    }
+
+    /// Does what an event that counts does.
+    fn take(&mut self, event: Event)
+        requires { live_counts self.old.program self.old.live event ≡ true }
+        ensures program { self.new.program ≡ self.old.program }
+        ensures live { self.new.live ≡ live_apply self.old.program self.old.live event }
+        ensures steps { self.new.steps
+            ≡ self.old.steps + live_steps_in self.old.program self.old.live event }
+    {
+        let program = self.verified.program();
+        match event {
+            Event::Step(t) => {
+                let instr = instr_at(program, self.store.frame(t)).unwrap();
+                perform(&mut self.store, program, t, instr);
+                self.steps += 1;
+            }
+            Event::Interrupt(t) => interrupt(&mut self.store, program, t),
+            Event::Expire(s) => expire(&mut self.store, program, s),
+        }
+    }
+
+    /// One event. At each list of events at which the machine stood, it stands afterwards at that
+    /// list and the event, the answer says whether the event counted there, and the run goes well.
+    pub fn turn(&mut self, event: Event) -> Turned
+        ensures program { self.new.program ≡ self.old.program }
+        ensures live { self.new.live ≡ live_apply self.old.program self.old.live event }
+        ensures steps { self.new.steps
+            ≡ self.old.steps + live_steps_in self.old.program self.old.live event }
+        ensures answer { result ≡ turned (live_counts self.old.program self.old.live event) }
+        ensures idle { result ≡ Turned.Idle → self.new ≡ self.old }
+
+        ensures stands { (events : List AnyEvent) → Stands self.old events
+            → Stands self.new (events ++ event ∷ []) }
+        ensures counted { (events : List AnyEvent) → Stands self.old events
+            → result ≡ turned (counts self.old.program (after self.old.program events) event) }
+        ensures runs_well { (events : List AnyEvent) (budget : AnyBudgets)
+            → Stands self.old events → IsBudgetOf self.old.program (main_of self.old.program) budget
+            → RunsWell self.old.program budget (events ++ event ∷ []) }
+    {
+        self.laws();
+        if !self.counts(event) {
+            return Turned::Idle;
+        }
+        self.take(event);
+        Turned::Stepped
+    }
+
+    /// Some task that can step: none only where there is none.
+    pub fn ready(&self) -> Option<u32>
+        ensures seen { Picks (live_can_step self.now.program self.now.live) result }
+        ensures stands { (events : List AnyEvent) → Stands self.now events
+            → In (λ w. Picks (can_step self.now.program w) result) (after self.now.program events) }
+    {
+        self.store.ready_front()
+    }
+
+    /// How the root ended, if it did.
+    pub fn root_end(&self) -> Option<End>
+        ensures seen { result ≡ self.now.live.root_end }
+        ensures stands { (events : List AnyEvent) → Stands self.now events
+            → In (λ w. result ≡ (task_at w 0).outcome) (after self.now.program events) }
+    {
+        self.store.root_end()
+    }
+
+    /// The steps taken.
+    pub fn steps(&self) -> u64
+        ensures seen { result ≡ self.now.steps }
+        ensures stands { (events : List AnyEvent) → Stands self.now events
+            → result ≡ taken self.now.program events }
+    {
+        self.steps
+    }
+}

@@ -11,6 +11,7 @@ ghost use Rattle.sts_views.specs.Order.{InOrder};
 
 use sts_code::program::Program;
 use sts_store::store::Store;
+use sts_views::{expiries_move_none, interrupts_move_none};
 
 /// Sets the flag of a living task.
 pub(crate) fn interrupt(store: &mut Store, program: &Program, t: u32)
@@ -23,6 +24,7 @@ pub(crate) fn interrupt(store: &mut Store, program: &Program, t: u32)
         → HasRoomOf b (live_of store.new) (unseen_of store.new) }
 {
     let _ = program;
+    interrupts_move_none();
     store.interrupt(t);
 }
 
@@ -37,5 +39,6 @@ pub(crate) fn expire(store: &mut Store, program: &Program, s: u32)
         → HasRoomOf b (live_of store.new) (unseen_of store.new) }
 {
     let _ = program;
+    expiries_move_none();
     store.expire(s);
 }

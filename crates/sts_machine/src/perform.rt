@@ -11,9 +11,13 @@ ghost use Rattle.sts_store.specs.Parts.{frame_of, live_of, unseen_of};
 ghost use Rattle.sts_views.specs.Fine.{IsLiveFine};
 ghost use Rattle.sts_views.specs.Order.{InOrder};
 
+use crate::effect::effect;
+use crate::stands::say_stand;
+use sts_code::code::code_of;
 use sts_code::instr::Instr;
 use sts_code::program::Program;
 use sts_store::store::Store;
+use sts_views::{effects_move_one, idle_stand_free};
 
 /// Does the instruction that a living task is at, which is no misuse and for which there is room.
 pub(crate) fn perform(store: &mut Store, program: &Program, t: u32, instr: Instr)
@@ -31,8 +35,9 @@ pub(crate) fn perform(store: &mut Store, program: &Program, t: u32, instr: Instr
     ensures room { (b : AnyBudgets) → HasRoomOf b (live_of store.old) (unseen_of store.old)
         → HasRoomOf b (live_of store.new) (unseen_of store.new) }
 {
-    let _ = program;
-    match instr {
-        _ => store.take_flag(t),
-    }
+    effects_move_one();
+    idle_stand_free();
+    let code = code_of(program, store.frame(t).function as usize);
+    effect(store, program, code, t, instr);
+    say_stand(store, program, t);
 }

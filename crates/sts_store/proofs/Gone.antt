@@ -38,7 +38,7 @@ use Rattle.sts_store.proofs.Unsharing.{some_of}
 use Rattle.sts_store.proofs.Writing.{living}
 use Rattle.sts_store.proofs.Entering.{behind_there}
 use Rattle.sts_store.proofs.Opening.{close_shares}
-use Rattle.sts_store.proofs.Closes.{innermost_own}
+use Rattle.sts_store.proofs.CloseLemmas.{innermost_own}
 
 -- ---- the structure list
 

@@ -19,5 +19,5 @@ pub mod Writing
 pub mod Flags
 pub mod Bindings
 pub mod Stands
-pub mod Closes
+pub mod CloseLemmas
 pub mod Gone

@@ -1,6 +1,7 @@
 //! What is read of a store.
 
 ghost use Rattle.std.specs.Prelude.{◌≡◌, true, is_some};
+ghost use Rattle.sts_model.specs.Misuse.{is_closing};
 ghost use Rattle.sts_seen.specs.Effect.{live_read, live_state, live_tally};
 ghost use Rattle.sts_seen.specs.Outside.{live_can_expire};
 ghost use Rattle.sts_seen.specs.Reading.{alive_at, lives_in, live_scope_at, scope_in};
@@ -53,6 +54,16 @@ impl Store {
         match self.tree.scope(s) {
             None => false,
             Some(scope) => scope.cancelled,
+        }
+    }
+
+    /// Has the close of the scope begun? That of one that doesn't stand hasn't.
+    pub fn closing(&self, s: u32) -> bool
+        ensures { result ≡ is_closing (live_scope_at (live_of self.now) s).phase }
+    {
+        match self.tree.scope(s) {
+            None => false,
+            Some(scope) => matches!(scope.phase, Phase::Closing),
         }
     }
 

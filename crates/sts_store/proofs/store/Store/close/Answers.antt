@@ -1,6 +1,6 @@
 use Rattle.std.proofs.Common.{◌∙◌, sym}
 use Rattle.sts_store.specs.Parts.{live_of, frame_of}
-use Rattle.sts_store.proofs.Closes.{close_begins, close_ends}
+use Rattle.sts_store.proofs.CloseLemmas.{close_begins, close_ends}
 use Rattle.sts_store.proofs.store.Store.close.Goals as goal
 
 pub returns-then-any_lives-clause-live : goal.returns-then-any_lives-clause-live

@@ -11,7 +11,7 @@ use Rattle.sts_store.specs.declared.running.Running.{Running}
 use Rattle.sts_env.specs.declared.env.Env.{Env}
 use Rattle.sts_forest.specs.Forest.{Forest}
 use Rattle.sts_store.proofs.Views.{some_not, with_running}
-use Rattle.sts_store.proofs.Closes.{gone_on}
+use Rattle.sts_store.proofs.CloseLemmas.{gone_on}
 use Rattle.sts_store.proofs.Gone.{leaves, scope, none_left, free, gone_live, gone_rest, gone_kept}
 use Rattle.sts_store.proofs.Writing.{has_frame, at_hand, frame_is}
 use Rattle.sts_store.proofs.store.Store.take_out.Goals as goal

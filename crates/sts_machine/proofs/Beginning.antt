@@ -1,0 +1,92 @@
+-- Where a machine begins.
+use Rattle.std.proofs.Common.{◌≡◌, ℕ, zero, suc, ◌-◌, ◌<◌, [], ◌∷◌, true, Some, refl, sym, ◌∙◌, ap, subst, arith}
+use Rattle.std.proofs.lemmas.Bool.Decides.{nat_tests}
+use Rattle.sts_code.specs.Program.{Program}
+use Rattle.sts_rules.specs.declared.budget.Budgets.{Budgets}
+use Rattle.sts_rules.specs.Refusal.{IsBudgetOf}
+use Rattle.sts_model.specs.declared.event.Stand.{Stand}
+use Rattle.sts_model.specs.declared.event.Stand.TheVariants.{Free, AtJoin, AtClose}
+use Rattle.sts_model.specs.Live.{Live}
+use Rattle.sts_runs.proofs.EventLemmas.{main}
+use Rattle.sts_seen.specs.Run.{live_opening}
+use Rattle.sts_seen.specs.Seen.{RunIsSeen, StandsAt}
+use Rattle.sts_seen.specs.Waiting.{live_stand_at}
+use Rattle.sts_views.specs.Order.{InOrder}
+use Rattle.sts_views.specs.Stands.{StandsAreOwned, is_stand_at}
+use Rattle.sts_laws_accepted.specs.Accepted.{main_of}
+use Rattle.sts_laws_accepted.specs.Views.{live_tasks, live_scopes, live_bindings}
+use Rattle.sts_store.specs.Parts.{Parts, Unseen, live_of, unseen_of}
+use Rattle.sts_machine.specs.Laws.{HasLaws}
+use Rattle.sts_machine.specs.Machine.{IsMachine}
+use Rattle.sts_machine.specs.Room.{HasRoomOf, living_tasks}
+use Rattle.sts_machine.specs.Standing.{AreStanding}
+use Rattle.sts_machine.proofs.Budgets.{some_task}
+
+-- before the first event
+stands_first : (p : Program) → RunIsSeen → StandsAt p [] (live_opening p) 0
+stands_first p seen = record { world = record { tasks = main p ∷ []; scopes = [] }; runs = refl; view = seen p []; steps = refl }
+
+pub stands_begun : (p : Program) (v : Live) → RunIsSeen → v ≡ live_opening p → StandsAt p [] v 0
+stands_begun p v seen view = subst (λ x. StandsAt p [] x 0) (sym view) (stands_first p seen)
+
+same_stand : (s : ℕ) → is_stand_at s (AtJoin s) ≡ true
+same_stand s = grind (arith, nat_tests)
+
+same_close : (s : ℕ) → is_stand_at s (AtClose s) ≡ true
+same_close s = grind (arith, nat_tests)
+
+-- the root stands at no scope, as there is none
+root_is_free : (p : Program) → StandsAreOwned → InOrder (live_opening p) → live_stand_at p (live_opening p) 0 ≡ Free
+root_is_free p owned order = by (live_stand_at p (live_opening p) 0) refl
+  where
+    by : (x : Stand) → live_stand_at p (live_opening p) 0 ≡ x → x ≡ Free
+    by Free e = refl
+    by (AtJoin s) e = let never = (owned p (live_opening p) order 0 s (ap (is_stand_at s) e ∙ same_stand s)).stands in cc
+    by (AtClose s) e = let never = (owned p (live_opening p) order 0 s (ap (is_stand_at s) e ∙ same_close s)).stands in cc
+
+-- what a store doesn't show at the beginning
+abbrev pub begun : Budgets → ℕ → Unseen
+begun b key =
+    record {
+      stands = Some Free ∷ [];
+      task_keys = key ∷ [];
+      scope_keys = [];
+      task_room = b.tasks - 1;
+      frame_room = b.tasks - 1;
+      scope_room = b.scopes;
+      binding_room = b.binds;
+    }
+
+stands_free : (p : Program) (b : Budgets) (key : ℕ) → StandsAreOwned → InOrder (live_opening p) → AreStanding p (live_opening p) (begun b key)
+stands_free p b key owned order zero alive = sym (root_is_free p owned order)
+stands_free p b key owned order (suc t) alive = cc
+
+has_room : (p : Program) (b : Budgets) (key : ℕ) → 0 < b.tasks → HasRoomOf b (live_opening p) (begun b key)
+has_room p b key some =
+    let tasks : live_tasks (live_opening p) ≡ 1 = refl in
+    let frames : living_tasks (live_opening p) ≡ 1 = refl in
+    let scopes : live_scopes (live_opening p) ≡ 0 = refl in
+    let binds : live_bindings (live_opening p) ≡ 0 = refl in
+    record {
+      tasks = omega (arith, some, tasks);
+      frames = omega (arith, some, frames);
+      scopes = omega (arith, scopes);
+      binds = omega (arith, binds);
+    }
+
+-- a store with the root alone, and room for the rest, is that of a machine
+pub begins : (p : Program) (m : Parts) (b : Budgets) (key : ℕ) → HasLaws p → IsBudgetOf p (main_of p) b → RunIsSeen → StandsAreOwned → live_of m ≡ live_opening p → unseen_of m ≡ begun b key → IsMachine p m 0
+begins p m b key laws printed seen owned view unseen =
+    let order = laws.order [] (live_opening p) 0 (stands_first p seen) in
+    record {
+      events = [];
+      stands = stands_begun p (live_of m) seen view;
+      standing = there (AreStanding p) (stands_free p b key owned order);
+      room = λ c is.
+          let same : b ≡ c = laws.main.alone b printed ∙ sym (laws.main.alone c is) in
+          there (HasRoomOf c) (subst (λ d. HasRoomOf d (live_opening p) (begun b key)) same (has_room p b key (some_task p b printed)));
+      laws = laws;
+    }
+  where
+    there : (P : Live → Unseen → Type 0) → P (live_opening p) (begun b key) → P (live_of m) (unseen_of m)
+    there P h = subst (λ v. P v (unseen_of m)) (sym view) (subst (P (live_opening p)) (sym unseen) h)

@@ -1,0 +1,41 @@
+-- The budget of tasks of `main` is from 1 to the limit.
+use Rattle.std.proofs.Common.{◌≡◌, ℕ, ◌<◌, ◌≤◌, ◌⊎◌, inl, inr, List, length, refl, sym, ◌∙◌, subst, arith}
+use Rattle.std.proofs.lemmas.Bool.{cases_lt}
+use Rattle.sts_code.specs.Program.{Program, routine}
+use Rattle.sts_rules.specs.declared.budget.Budgets.{Budgets}
+use Rattle.sts_rules.specs.declared.typing.Cause.TheVariants.{TooManyTasks}
+use Rattle.sts_rules.specs.ControlPaths.{PointHolds}
+use Rattle.sts_rules.specs.Budget.{AreBudgets, budget_at, no_budget, skeleton, tasks_sum}
+use Rattle.sts_rules.specs.Refusal.{IsAccepted, IsBudgetOf}
+use Rattle.sts_verify.proofs.BudgetLemmas.{budget_is, budget_of-one}
+use Rattle.sts_seen.proofs.Lists.{alike}
+use Rattle.sts_laws_accepted.specs.Accepted.{main_of}
+
+-- the functions before one have one list of budgets
+earlier-one : (p : Program) (bs cs : List Budgets) → length bs ≡ length cs → AreBudgets p bs → AreBudgets p cs → bs ≡ cs
+earlier-one p bs cs long right good =
+    alike bs cs no_budget long
+    (λ f less.
+    budget_of-one p f (budget_at bs f) (budget_at cs f) (budget_is p bs f less right (budget_at bs f) refl)
+    (budget_is p cs f (omega (arith, less, long)) good (budget_at cs f) refl))
+
+not_more : (limit m : ℕ) → (limit < m → ⊥) → m ≤ limit
+not_more limit m never = by (cases_lt limit m)
+  where
+    by : (limit < m) ⊎ (m ≤ limit) → m ≤ limit
+    by (inl less) = absurd (never less)
+    by (inr le) = le
+
+pub few_tasks : (p : Program) (b : Budgets) → IsAccepted p → 0 < length p.routines → IsBudgetOf p (main_of p) b → b.tasks ≤ 65536
+few_tasks p b accepted some (earlier, (long, right, is)) =
+    let s = accepted.sound (main_of p) (omega (arith, some)) in
+    let same : earlier ≡ s.earlier = earlier-one p earlier s.earlier (long ∙ sym s.long) right s.right in
+    let holds : PointHolds (skeleton s.earlier (routine p (main_of p)).code) (tasks_sum s.earlier) b.tasks =
+    subst (λ es. PointHolds (skeleton es (routine p (main_of p)).code) (tasks_sum es) b.tasks) same is.tasks.0 in
+    not_more 65536 b.tasks (λ more. s.within TooManyTasks (b.tasks, (holds, more)))
+
+pub some_task : (p : Program) (b : Budgets) → IsBudgetOf p (main_of p) b → 0 < b.tasks
+some_task p b (earlier, (long, right, is)) = by is.tasks.0
+  where
+    by : PointHolds (skeleton earlier (routine p (main_of p)).code) (tasks_sum earlier) b.tasks → 0 < b.tasks
+    by (pc, (loops, (before, (entries, (comes, same))))) = omega (arith, same)

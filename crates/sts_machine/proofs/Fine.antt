@@ -1,0 +1,101 @@
+-- What an instruction that is no misuse may rely on.
+use Rattle.std.proofs.Common.{◌≡◌, ℕ, length, Bool, true, false, ◌&&◌, not, Option, refl, sym, ◌∙◌, is_some}
+use Rattle.std.specs.Prelude.{nat_le}
+use Rattle.sts_code.specs.Program.{Program}
+use Rattle.sts_code.specs.Facts.{is_await_all}
+use Rattle.sts_code.specs.declared.instr.Instr.{Instr}
+use Rattle.sts_code.specs.declared.instr.Instr.TheVariants.{Open, Fork, Join, Close, Cancelled, Case, Get, Except, Tally, Total, Forget, Bind, Unbind, Read, Bound, OrElse, Interrupted, Ret, Fail}
+use Rattle.sts_code.specs.declared.instr.Kind.{Kind}
+use Rattle.sts_model.specs.declared.record.Slot.{Slot}
+use Rattle.sts_model.specs.declared.record.Slot.TheVariants.{Empty, Own, Lent, Sub}
+use Rattle.sts_model.specs.declared.record.Frame.{Frame}
+use Rattle.sts_model.specs.Local.{is_local, local}
+use Rattle.sts_model.specs.World.{code}
+use Rattle.sts_model.specs.Misuse.{slot, innermost, is_entry_of}
+use Rattle.sts_model.specs.Effect.{named}
+use Rattle.sts_model.specs.Live.{Live, LiveScope}
+use Rattle.sts_runs.proofs.EffectLemmas.{first_no}
+use Rattle.sts_runs.proofs.FrameLemmas.{own_slot}
+use Rattle.sts_seen.specs.Reading.{lives_in, alive_at, scope_in, live_scope_at, with_live_frame}
+use Rattle.sts_seen.specs.Effect.{live_effect}
+use Rattle.sts_views.specs.Fine.{IsLiveFine, live_at_own, live_joins_wrongly}
+use Rattle.sts_views.specs.Order.{InOrder}
+
+-- a test of the scope that a slot owns
+own_test : (v : Live) (y : Slot) (test : ℕ → LiveScope → Bool) → y ≡ Own (named y) → live_at_own v y test ≡ test (named y) (live_scope_at v (named y))
+own_test v Empty test e = cc
+own_test v (Own s) test e = refl
+own_test v (Lent s) test e = cc
+own_test v (Sub s) test e = cc
+
+pub holds : (b : Bool) → not b ≡ false → b ≡ true
+holds true e = refl
+holds false e = cc
+
+-- the frame of a task, and the scope that its slot names
+abbrev pub frame_in : Live → ℕ → Frame
+frame_in v t = (alive_at v t).frame
+
+abbrev pub scope_at : Live → ℕ → ℕ → ℕ
+scope_at v t x = named (slot (frame_in v t) x)
+
+module _ (p : Program) (v : Live) (t x : ℕ) (lives : lives_in v t ≡ true) (order : InOrder v) where
+  stands : slot (frame_in v t) x ≡ Own (scope_at v t x) → is_some (scope_in v (scope_at v t x)) ≡ true
+  stands e = ((order.alive t lives).own x (scope_at v t x) e).stands
+
+  pub fork_own : (g : ℕ) (h : Option ℕ) → IsLiveFine p v t (frame_in v t) (Fork x g h) → slot (frame_in v t) x ≡ Own (scope_at v t x)
+  fork_own g h fine = own_slot (slot (frame_in v t) x) (first_no _ _ (first_no _ _ fine.slots)) fine.own
+
+  pub fork_stands : (g : ℕ) (h : Option ℕ) → IsLiveFine p v t (frame_in v t) (Fork x g h) → is_some (scope_in v (scope_at v t x)) ≡ true
+  fork_stands g h fine = stands (fork_own g h fine)
+
+  join_own : (failed timeout : Option ℕ) (interrupted : ℕ) → IsLiveFine p v t (frame_in v t) (Join x failed timeout interrupted) → slot (frame_in v t) x ≡ Own (scope_at v t x)
+  join_own failed timeout interrupted fine = own_slot (slot (frame_in v t) x) (first_no _ _ (first_no _ _ fine.slots)) fine.own
+
+  pub join_stands : (failed timeout : Option ℕ) (interrupted : ℕ) → IsLiveFine p v t (frame_in v t) (Join x failed timeout interrupted) → is_some (scope_in v (scope_at v t x)) ≡ true
+  join_stands failed timeout interrupted fine = stands (join_own failed timeout interrupted fine)
+
+  pub join_room : (failed timeout : Option ℕ) (interrupted : ℕ) → IsLiveFine p v t (frame_in v t) (Join x failed timeout interrupted) → (nat_le 32 (length (frame_in v t).operands) && not (is_await_all (live_scope_at v (scope_at v t x)).joiner)) ≡ false
+  join_room failed timeout interrupted fine =
+      first_no _ _ (first_no _ _
+      (sym (own_test v (slot (frame_in v t) x) (λ _ scope. live_joins_wrongly (frame_in v t) failed timeout scope) (join_own failed timeout interrupted fine)) ∙ fine.joins))
+
+  close_own : IsLiveFine p v t (frame_in v t) (Close x) → slot (frame_in v t) x ≡ Own (scope_at v t x)
+  close_own fine = own_slot (slot (frame_in v t) x) (first_no _ _ (first_no _ _ fine.slots)) fine.own
+
+  pub close_stands : IsLiveFine p v t (frame_in v t) (Close x) → is_some (scope_in v (scope_at v t x)) ≡ true
+  close_stands fine = stands (close_own fine)
+
+  pub close_entry : IsLiveFine p v t (frame_in v t) (Close x) → innermost (is_entry_of (scope_at v t x)) (frame_in v t).entries ≡ true
+  close_entry fine =
+      holds (innermost (is_entry_of (scope_at v t x)) (frame_in v t).entries)
+      (sym (own_test v (slot (frame_in v t) x) (λ n _. not (innermost (is_entry_of n) (frame_in v t).entries)) (close_own fine)) ∙ fine.structure)
+
+  pub tally_stands : (k : Kind) → IsLiveFine p v t (frame_in v t) (Tally x k) → is_some (scope_in v (scope_at v t x)) ≡ true
+  tally_stands k fine = stands (own_slot (slot (frame_in v t) x) (first_no _ _ (first_no _ _ fine.slots)) fine.own)
+
+  pub total_stands : IsLiveFine p v t (frame_in v t) (Total x) → is_some (scope_in v (scope_at v t x)) ≡ true
+  total_stands fine = stands (own_slot (slot (frame_in v t) x) (first_no _ _ (first_no _ _ fine.slots)) fine.own)
+
+-- a local instruction
+pub local_effect : (p : Program) (v : Live) (t : ℕ) (f : Frame) (i : Instr) → is_local i ≡ true → live_effect p v t f i ≡ with_live_frame v t (local (code p f) i f)
+local_effect p v t f (Open x joiner timed) e = cc
+local_effect p v t f (Fork x g h) e = cc
+local_effect p v t f (Join x failed timeout interrupted) e = cc
+local_effect p v t f (Close x) e = cc
+local_effect p v t f (Cancelled x) e = cc
+local_effect p v t f (Case x success failed) e = cc
+local_effect p v t f (Get x) e = cc
+local_effect p v t f (Except x) e = cc
+local_effect p v t f (Tally x k) e = cc
+local_effect p v t f (Total x) e = cc
+local_effect p v t f (Forget x) e = cc
+local_effect p v t f (Bind k) e = cc
+local_effect p v t f Unbind e = cc
+local_effect p v t f (Read k) e = cc
+local_effect p v t f (Bound k) e = cc
+local_effect p v t f (OrElse k) e = cc
+local_effect p v t f Interrupted e = cc
+local_effect p v t f Ret e = cc
+local_effect p v t f Fail e = cc
+local_effect p v t f i e = refl

@@ -1,0 +1,12 @@
+pub mod Lists
+pub mod Quiet
+pub mod Changing
+pub mod Closing
+pub mod Fine
+pub mod Stood
+pub mod Budgets
+pub mod Beginning
+pub mod CanStep
+pub mod Turning
+pub mod Telling
+pub mod Whole

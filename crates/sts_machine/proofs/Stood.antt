@@ -1,0 +1,80 @@
+-- Where tasks are said to stand, after an instruction of one of them and from outside; and room.
+use Rattle.std.proofs.Common.{◌≡◌, ℕ, suc, List, [], ◌∷◌, length, map, Bool, true, false, Option, Some, None, refl, sym, ◌∙◌, ap, subst, cond, arith, get_or-set_same, get_or-set_other}
+use Rattle.std.proofs.lemmas.Bool.Decides.{nat_tests}
+use Rattle.std.specs.Prelude.{option_map, unwrap_or, ◌==◌}
+use Rattle.sts_code.specs.Program.{Program}
+use Rattle.sts_forest.specs.declared.record.Task.{Task}
+use Rattle.sts_rules.specs.declared.budget.Budgets.{Budgets}
+use Rattle.sts_model.specs.declared.event.Stand.TheVariants.{Free}
+use Rattle.sts_model.specs.Live.{Live}
+use Rattle.sts_seen.specs.Reading.{lives_in}
+use Rattle.sts_seen.specs.Waiting.{live_stand_at}
+use Rattle.sts_agree.specs.View.{Beside, tasks_from}
+use Rattle.sts_views.specs.Stands.{IsUnmoved, IdleStandFree}
+use Rattle.sts_store.specs.Parts.{Parts, Unseen, live_of, unseen_of, beside, stand_in, stand_of, stood_unseen}
+use Rattle.sts_machine.specs.Changing.{Changes}
+use Rattle.sts_machine.specs.Room.{HasRoomOf}
+use Rattle.sts_machine.specs.Standing.{AreStanding, AreStandingBut}
+use Rattle.sts_machine.proofs.Lists.{apart}
+use Rattle.sts_machine.proofs.Quiet.{IsQuiet}
+use Rattle.sts_machine.proofs.Changing.{inside, lives_quiet, changes-quiet, as_are}
+
+-- ---- as many tasks are said to stand somewhere as were born
+
+born_from : {E : Type 0} (b : Beside E) (n : ℕ) (xs : List (Option Task)) → length (map (option_map stand_of) xs) ≡ length (tasks_from b n xs)
+born_from b n [] = refl
+born_from b n (x ∷ xs) = ap suc (born_from b (suc n) xs)
+
+pub stands_born : (m : Parts) → length (unseen_of m).stands ≡ length (live_of m).tasks
+stands_born m = born_from (beside m) 0 m.tree.tasks
+
+-- ---- after an instruction
+
+pub others_stand : (p : Program) (v x : Live) (u w : Unseen) (t : ℕ) → ((i : ℕ) → (i == t) ≡ false → IsUnmoved p v x i) → IdleStandFree → AreStanding p v u → Changes v u x w t → AreStandingBut p x w t
+others_stand p v x u w t moved idle standing c i other lives = by (lives_in v i) refl
+  where
+    by : (b : Bool) → lives_in v i ≡ b → stand_in w i ≡ live_stand_at p x i
+    by true e = c.others i other lives ∙ ap (λ b. cond b (stand_in u i) Free) e ∙ standing i e ∙ sym (moved i other).stand
+    by false e = c.others i other lives ∙ ap (λ b. cond b (stand_in u i) Free) e ∙ sym (idle p v i e) ∙ sym (moved i other).stand
+
+pub room_kept : (v x : Live) (u w : Unseen) (t : ℕ) (b : Budgets) → Changes v u x w t → HasRoomOf b v u → HasRoomOf b x w
+room_kept v x u w t b c h =
+    record {
+      tasks = c.tasks ∙ h.tasks;
+      frames = c.frames ∙ h.frames;
+      scopes = c.scopes ∙ h.scopes;
+      binds = c.binds ∙ h.binds;
+    }
+
+-- ---- a task says where it stands
+
+pub stands_anew : (p : Program) (m : Parts) (t : ℕ) → AreStandingBut p (live_of m) (unseen_of m) t → lives_in (live_of m) t ≡ true → AreStanding p (live_of m) (stood_unseen (unseen_of m) t (live_stand_at p (live_of m) t))
+stands_anew p m t others lives i alive = by (i == t) refl
+  where
+    u : Unseen
+    u = unseen_of m
+
+    v : Live
+    v = live_of m
+
+    by : (b : Bool) → (i == t) ≡ b → stand_in (stood_unseen u t (live_stand_at p v t)) i ≡ live_stand_at p v i
+    by true e =
+        let same : i ≡ t = grind (arith, nat_tests) in
+        let born = stands_born m in
+        let less = inside v t lives in
+        ap (λ n. stand_in (stood_unseen u t (live_stand_at p v t)) n) same
+        ∙ ap (λ o. unwrap_or o Free) (get_or-set_same u.stands t (Some (live_stand_at p v t)) None (omega (arith, born, less)))
+        ∙ ap (live_stand_at p v) (sym same)
+    by false e = ap (λ o. unwrap_or o Free) (get_or-set_other u.stands t i (Some (live_stand_at p v t)) None (apart i t e)) ∙ others i e alive
+
+-- ---- from outside
+
+module _ (v x y : Live) (u w : Unseen) (same : y ≡ x) (rest : w ≡ u) (quiet : IsQuiet v x) where
+  pub still_standing : (p : Program) → ((i : ℕ) → IsUnmoved p v x i) → AreStanding p v u → AreStanding p y w
+  still_standing p moved standing =
+      subst (λ (q : Live). AreStanding p q w) (sym same)
+      (subst (λ (q : Unseen). AreStanding p x q) (sym rest)
+      (λ i alive. standing i (sym (lives_quiet v x i quiet) ∙ alive) ∙ sym (moved i).stand))
+
+  pub same_room : (b : Budgets) → HasRoomOf b v u → HasRoomOf b y w
+  same_room b = room_kept v y u w 0 b (as_are v x y u u w 0 same rest (changes-quiet v x u 0 quiet))

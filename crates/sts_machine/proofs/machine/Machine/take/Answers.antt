@@ -1,0 +1,86 @@
+use Rattle.std.proofs.Common.{◌≡◌, ◌+◌, Some, true, sym, ◌∙◌, ap, refl, subst, arith}
+use Rattle.sts_model.specs.declared.event.Event.TheVariants as event
+use Rattle.sts_model.specs.World.{instr_at}
+use Rattle.sts_seen.specs.Waiting.{live_can_step}
+use Rattle.sts_store.specs.Parts.{frame_of, live_of}
+use Rattle.sts_views.specs.Order.{InOrder}
+use Rattle.sts_machine.proofs.Turning.{asked, looked_up, is_next, stepped, one_step, ordered, ordered_after, next, fine, has_room, few_steps, moved}
+use Rattle.sts_machine.proofs.machine.Machine.take.Goals as goal
+
+pub unwrap-instr-requires : goal.unwrap-instr-requires
+unwrap-instr-requires c =
+    let p = c.self.inside.verified.now in
+    let m = c.self.inside.store in
+    let can : live_can_step p (live_of m) c.in-Step.t ≡ true = asked _ _ _ _ c.self.view_is c.in-Step.is c.requires in
+    let i = next p m c.self.inside.steps c.self.invariant c.in-Step.t can in
+    rw (looked_up p _ (frame_of m c.in-Step.t) _ _ i.0 c.program-program.ensures.value c.frame.ensures c.instr_at.ensures i.1) refl
+
+pub perform-requires-clause-fine : goal.perform-requires-clause-fine
+perform-requires-clause-fine c =
+    let p = c.self.inside.verified.now in
+    let m = c.self.inside.store in
+    let can : live_can_step p (live_of m) c.in-Step.t ≡ true = asked _ _ _ _ c.self.view_is c.in-Step.is c.requires in
+    let at : instr_at p (frame_of m c.in-Step.t) ≡ Some c.unwrap-instr.result =
+    is_next p _ (frame_of m c.in-Step.t) _ _ _ c.program-program.ensures.value c.frame.ensures c.instr_at.ensures c.unwrap-instr.ensures in
+    rw c.program-program.ensures.value (fine p m c.self.inside.steps c.self.invariant c.in-Step.t c.unwrap-instr.result can at)
+
+pub perform-requires-clause-room : goal.perform-requires-clause-room
+perform-requires-clause-room c =
+    let p = c.self.inside.verified.now in
+    let m = c.self.inside.store in
+    let can : live_can_step p (live_of m) c.in-Step.t ≡ true = asked _ _ _ _ c.self.view_is c.in-Step.is c.requires in
+    let at : instr_at p (frame_of m c.in-Step.t) ≡ Some c.unwrap-instr.result =
+    is_next p _ (frame_of m c.in-Step.t) _ _ _ c.program-program.ensures.value c.frame.ensures c.instr_at.ensures c.unwrap-instr.ensures in
+    has_room p m c.self.inside.steps c.self.invariant c.in-Step.t c.unwrap-instr.result can at
+
+pub perform-requires-clause-order : goal.perform-requires-clause-order
+perform-requires-clause-order c = ordered c.self.inside.verified.now c.self.inside.store c.self.inside.steps c.self.invariant
+
+pub perform-requires-clause-after : goal.perform-requires-clause-after
+perform-requires-clause-after c =
+    let p = c.self.inside.verified.now in
+    let m = c.self.inside.store in
+    let t = c.in-Step.t in
+    let can : live_can_step p (live_of m) t ≡ true = asked _ _ _ _ c.self.view_is c.in-Step.is c.requires in
+    let at : instr_at p (frame_of m t) ≡ Some c.unwrap-instr.result =
+    is_next p _ (frame_of m t) _ _ _ c.program-program.ensures.value c.frame.ensures c.instr_at.ensures c.unwrap-instr.ensures in
+    rw c.program-program.ensures.value
+    (subst InOrder (stepped p (live_of m) t c.unwrap-instr.result can at)
+    (ordered_after p m c.self.inside.steps c.self.invariant (event.Step t)))
+
+pub overflow_add-self : goal.overflow_add-self
+overflow_add-self c =
+    let few = few_steps c.self.inside.verified.now c.self.inside.store c.self.inside.steps c.self.invariant in
+    omega (arith, few)
+
+pub invariant_of-self : goal.invariant_of-self
+invariant_of-self c =
+    let p = c.self.inside.verified.now in
+    let m = c.self.inside.store in
+    let t = c.in-Step.t in
+    let same = c.program-program.ensures.value in
+    let can : live_can_step p (live_of m) t ≡ true = asked _ _ _ _ c.self.view_is c.in-Step.is c.requires in
+    let at : instr_at p (frame_of m t) ≡ Some c.unwrap-instr.result =
+    is_next p _ (frame_of m t) _ _ _ same c.frame.ensures c.instr_at.ensures c.unwrap-instr.ensures in
+    moved p m c.self.inside.steps c.self.invariant (event.Step t) c.perform.new.store (c.self.inside.steps + 1)
+    ((rw same at c.perform.ensures.live) ∙ sym (stepped p (live_of m) t c.unwrap-instr.result can at))
+    (sym (ap (λ k. c.self.inside.steps + k) (one_step p (live_of m) t can)))
+    (rw same at c.perform.ensures.standing) c.perform.ensures.room
+
+pub interrupt-requires-clause-order : goal.interrupt-requires-clause-order
+interrupt-requires-clause-order c = ordered c.self.inside.verified.now c.self.inside.store c.self.inside.steps c.self.invariant
+
+pub invariant_of-self-in-Interrupt : goal.invariant_of-self-in-Interrupt
+invariant_of-self-in-Interrupt c =
+    moved c.self.inside.verified.now c.self.inside.store c.self.inside.steps c.self.invariant
+    (event.Interrupt c.in-Interrupt.t) c.interrupt.new.store c.self.inside.steps c.interrupt.ensures.live (omega arith)
+    (rw c.program-program.ensures.value at c.interrupt.ensures.standing) c.interrupt.ensures.room
+
+pub expire-requires-clause-order : goal.expire-requires-clause-order
+expire-requires-clause-order c = ordered c.self.inside.verified.now c.self.inside.store c.self.inside.steps c.self.invariant
+
+pub invariant_of-self-in-Expire : goal.invariant_of-self-in-Expire
+invariant_of-self-in-Expire c =
+    moved c.self.inside.verified.now c.self.inside.store c.self.inside.steps c.self.invariant
+    (event.Expire c.in-Expire.s) c.expire.new.store c.self.inside.steps c.expire.ensures.live (omega arith)
+    (rw c.program-program.ensures.value at c.expire.ensures.standing) c.expire.ensures.room

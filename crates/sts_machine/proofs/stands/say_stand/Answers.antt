@@ -1,0 +1,23 @@
+use Rattle.std.proofs.Common.{◌≡◌, true, sym, ◌∙◌, ap, subst}
+use Rattle.sts_model.specs.declared.event.Stand.{Stand}
+use Rattle.sts_model.specs.Live.{Live}
+use Rattle.sts_store.specs.Parts.{Unseen, live_of, unseen_of, stood_unseen}
+use Rattle.sts_views.specs.Stands.{is_stand_at}
+use Rattle.sts_machine.specs.Standing.{AreStanding}
+use Rattle.sts_machine.proofs.Stood.{stands_anew}
+use Rattle.sts_machine.proofs.stands.say_stand.Goals as goal
+
+pub stand-requires-clause-owned : goal.stand-requires-clause-owned
+stand-requires-clause-owned c = λ s e.
+    c.stands_are_owned.ensures c.args.program.now (live_of c.args.store.now) c.requires.order c.args.t s
+    (subst (λ (q : Stand). is_stand_at s q ≡ true) c.stand_at-stand.ensures e)
+
+pub returns-then-lives-clause-standing : goal.returns-then-lives-clause-standing
+returns-then-lives-clause-standing c =
+    let m = c.args.store.now in
+    let p = c.args.program.now in
+    let t = c.args.t in
+    let said = c.stand.ensures.unseen ∙ ap (λ (q : Stand). stood_unseen (unseen_of m) t q) c.stand_at-stand.ensures in
+    subst (λ (x : Live). AreStanding p x (unseen_of c.stand.new.self)) (sym c.stand.ensures.live)
+    (subst (λ (w : Unseen). AreStanding p (live_of m) w) (sym said)
+    (stands_anew p m t c.requires.others (sym c.lives.ensures ∙ c.if-lives.true)))

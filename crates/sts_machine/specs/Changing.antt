@@ -1,0 +1,32 @@
+-- What an instruction of one task may change of what the view doesn't show (this project's own).
+use Rattle.std.specs.Prelude.{◌≡◌, ℕ, ◌+◌, Bool, true, false, ◌==◌, if◌then◌else◌}
+use Rattle.sts_code.specs.declared.instr.Instr.{Instr}
+use Rattle.sts_code.specs.declared.instr.Instr.TheVariants.{Open, Fork, Close, Bind, Unbind, Ret, Fail}
+use Rattle.sts_model.specs.declared.event.Stand.TheVariants.{Free}
+use Rattle.sts_model.specs.Live.{Live}
+use Rattle.sts_seen.specs.Reading.{lives_in}
+use Rattle.sts_laws_accepted.specs.Views.{live_tasks, live_scopes, live_bindings}
+use Rattle.sts_store.specs.Parts.{Unseen, stand_in}
+use Rattle.sts_machine.specs.Room.{living_tasks}
+
+-- does it leave as many tasks, scopes and bindings as there were, with nothing to say of them?
+abbrev pub is_quiet : Instr → Bool
+is_quiet (Open x joiner timed) = false
+is_quiet (Fork x g h) = false
+is_quiet (Close x) = false
+is_quiet (Bind k) = false
+is_quiet Unbind = false
+is_quiet Ret = false
+is_quiet Fail = false
+is_quiet _ = true
+
+-- an instruction of t made x of the view v, and w of u, what v doesn't show
+pub record Changes (v : Live) (u : Unseen) (x : Live) (w : Unseen) (t : ℕ) : Type 0 where
+  -- who lives but t is said to stand where it was, or at no scope if it has just been born
+  pub others : (i : ℕ) → (i == t) ≡ false → lives_in x i ≡ true →
+      stand_in w i ≡ (if lives_in v i then stand_in u i else Free)
+  -- what stands and the room that is left add up to what they did
+  pub tasks : live_tasks x + w.task_room ≡ live_tasks v + u.task_room
+  pub frames : living_tasks x + w.frame_room ≡ living_tasks v + u.frame_room
+  pub scopes : live_scopes x + w.scope_room ≡ live_scopes v + u.scope_room
+  pub binds : live_bindings x + w.binding_room ≡ live_bindings v + u.binding_room

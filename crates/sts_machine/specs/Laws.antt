@@ -1,0 +1,29 @@
+-- The laws that a machine relies on (this project's own).
+use Rattle.std.specs.Prelude.{◌≡◌, ℕ, List}
+use Rattle.sts_code.specs.Program.{Program}
+use Rattle.sts_rules.specs.declared.budget.Budgets.{Budgets}
+use Rattle.sts_rules.specs.Refusal.{IsBudgetOf}
+use Rattle.sts_model.specs.declared.event.Event.{Event}
+use Rattle.sts_model.specs.Live.{Live}
+use Rattle.sts_seen.specs.Seen.{StandsAt, TurnsAreSeen}
+use Rattle.sts_views.specs.Fine.{TurnsAreSafe}
+use Rattle.sts_views.specs.Order.{InOrder}
+use Rattle.sts_laws_accepted.specs.Accepted.{main_of, LimitsHold}
+use Rattle.sts_laws_accepted.specs.EveryRun.{RunsWell}
+use Rattle.sts_laws_accepted.specs.Views.{ViewsHaveRoom}
+
+-- the budgets that are printed of `main`, with which every run goes well
+pub record MainBudget (p : Program) : Type 0 where
+  pub budget : Budgets
+  pub printed : IsBudgetOf p (main_of p) budget
+  pub alone : (b : Budgets) → IsBudgetOf p (main_of p) b → b ≡ budget
+  pub runs_well : (events : List Event) → RunsWell p budget events
+
+-- laws of a program, which hold of each one that was verified
+pub record HasLaws (p : Program) : Type 0 where
+  pub turns : TurnsAreSeen p
+  pub safe : TurnsAreSafe p
+  pub order : (events : List Event) (v : Live) (n : ℕ) → StandsAt p events v n → InOrder v
+  pub room : ViewsHaveRoom p
+  pub limits : LimitsHold p
+  pub main : MainBudget p

@@ -1,0 +1,129 @@
+//! What an instruction does to a store, but for where its task stands afterwards.
+
+ghost use Rattle.std.specs.Prelude.{◌≡◌, ◌<◌, ◌≤◌, ◌+◌, ◌^◌, length, true};
+ghost use Rattle.sts_machine.specs.Changing.{Changes, is_quiet};
+ghost use Rattle.sts_machine.specs.Room.{HasRoomLeft};
+ghost use Rattle.sts_model.specs.World as world;
+ghost use Rattle.sts_seen.specs.Effect.{live_effect};
+ghost use Rattle.sts_seen.specs.Reading.{lives_in};
+ghost use Rattle.sts_store.specs.Parts.{frame_of, live_of, unseen_of};
+ghost use Rattle.sts_views.specs.Fine.{IsLiveFine};
+ghost use Rattle.sts_views.specs.Order.{InOrder};
+
+use crate::slots::named;
+use sts_code::instr::Instr;
+use sts_code::program::Program;
+use sts_model::event::End;
+use sts_store::store::Store;
+
+/// Does the instruction that a living task is at, which is no misuse and for which there is room.
+pub(crate) fn effect(store: &mut Store, program: &Program, code: &[Instr], t: u32, instr: Instr)
+    requires lives { lives_in (live_of store.old) t ≡ true }
+    requires own_code { code.now ≡ world.code program.now (frame_of store.old t) }
+    requires inside { (frame_of store.old t).pc < length code.now }
+    requires short { length code.now ≤ 4096 }
+    requires fine { IsLiveFine program.now (live_of store.old) t (frame_of store.old t) instr }
+    requires room { HasRoomLeft (unseen_of store.old) (frame_of store.old t) instr }
+    requires order { InOrder (live_of store.old) }
+    ensures live { live_of store.new
+        ≡ live_effect program.now (live_of store.old) t (frame_of store.old t) instr }
+    ensures rest { Changes (live_of store.old) (unseen_of store.old)
+        (live_of store.new) (unseen_of store.new) t }
+{
+    match instr {
+        Instr::Open {
+            slot,
+            joiner,
+            timed,
+        } => store.open(t, slot, joiner, timed),
+        Instr::Fork {
+            slot,
+            function,
+            handle,
+        } => {
+            let s = named(store.frame(t), slot);
+            store.fork(program, t, s, function, handle);
+        }
+        Instr::Close(x) => {
+            let s = named(store.frame(t), x);
+            store.close(t, s);
+        }
+        Instr::Bind(k) => store.bind(t, k),
+        Instr::Unbind => store.unbind(t),
+        Instr::Ret => {
+            let value = store.frame(t).operand(0);
+            store.end(t, End::Success(value));
+        }
+        Instr::Fail => {
+            let code = store.frame(t).operand(0);
+            store.end(t, End::Failed(code));
+        }
+        _ => quiet(store, program, code, t, instr),
+    }
+}
+
+/// Does an instruction that leaves as many tasks, scopes and bindings as there were.
+fn quiet(store: &mut Store, program: &Program, code: &[Instr], t: u32, instr: Instr)
+    requires lives { lives_in (live_of store.old) t ≡ true }
+    requires own_code { code.now ≡ world.code program.now (frame_of store.old t) }
+    requires inside { (frame_of store.old t).pc < length code.now }
+    requires short { length code.now ≤ 4096 }
+    requires fine { IsLiveFine program.now (live_of store.old) t (frame_of store.old t) instr }
+    requires order { InOrder (live_of store.old) }
+    requires is_quiet { is_quiet instr ≡ true }
+    ensures live { live_of store.new
+        ≡ live_effect program.now (live_of store.old) t (frame_of store.old t) instr }
+    ensures unseen { unseen_of store.new ≡ unseen_of store.old }
+{
+    match instr {
+        Instr::Push(_)
+        | Instr::Pop
+        | Instr::Dup
+        | Instr::Swap
+        | Instr::Load(_)
+        | Instr::Store(_)
+        | Instr::Add
+        | Instr::Sub
+        | Instr::Mul
+        | Instr::Lt
+        | Instr::Eq
+        | Instr::Div(_)
+        | Instr::Jmp(_)
+        | Instr::Jz(_)
+        | Instr::Times(_)
+        | Instr::Next => store.local(program, code, t, instr),
+        Instr::Join {
+            slot,
+            failed,
+            timeout,
+            interrupted,
+        } => {
+            let s = named(store.frame(t), slot);
+            let on_failure = failed.unwrap_or(0);
+            let on_timeout = timeout.unwrap_or(0);
+            store.join(t, s, on_failure, on_timeout, interrupted);
+        }
+        Instr::Cancelled(x) => store.push_cancelled(t, x),
+        Instr::Case {
+            handle,
+            success,
+            failed,
+        } => store.case(t, handle, success, failed),
+        Instr::Get(h) => store.push_value(t, h),
+        Instr::Except(h) => store.push_value(t, h),
+        Instr::Tally(x, kind) => store.push_tally(t, x, kind),
+        Instr::Total(x) => store.push_total(t, x),
+        Instr::Forget(h) => store.forget(t, h),
+        Instr::Read(k) => store.push_bound(t, k),
+        Instr::Bound(k) => store.push_is_bound(t, k),
+        Instr::OrElse(k) => store.or_else(t, k),
+        Instr::Interrupted => store.take_flag(t),
+        Instr::Open { .. }
+        | Instr::Fork { .. }
+        | Instr::Close(_)
+        | Instr::Bind(_)
+        | Instr::Unbind
+        | Instr::Ret
+        | Instr::Fail => {}
+    }
+}

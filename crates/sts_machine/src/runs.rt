@@ -1,0 +1,56 @@
+//! Whole runs: of a list of events, and of steps alone.
+
+ghost use Rattle.std.specs.Prelude.{◌≡◌, IfOk};
+ghost use Rattle.sts_laws_accepted.specs.Accepted.{main_of};
+ghost use Rattle.sts_laws_accepted.specs.EveryRun.{RunsWell};
+ghost use Rattle.sts_machine.specs.Machine.{Stands};
+ghost use Rattle.sts_machine.specs.Whole.{RunsTo};
+ghost use Rattle.sts_rules.specs.Refusal.{IsBudgetOf};
+ghost use Rattle.sts_rules.specs.declared.budget.Budgets.{Budgets as AnyBudgets};
+
+use crate::laws::laws;
+use crate::machine::Machine;
+use std::alloc::{AllocError, Global};
+use sts_laws::nothing_is_lost;
+use sts_model::event::{End, Event};
+use sts_verify::verified::Verified;
+
+/// The machine after a list of events; and the run goes well.
+///
+/// # Errors
+///
+/// Want of memory.
+pub fn replay<'p>(
+    alloc: Global,
+    verified: &'p Verified,
+    events: &[Event],
+) -> Result<Machine<'p>, AllocError>
+    ensures program { IfOk result (λ m. m.program ≡ verified.now) }
+    ensures stands { IfOk result (λ m. Stands m events.now) }
+    ensures runs_well { (budget : AnyBudgets) → IsBudgetOf verified.now (main_of verified.now) budget
+        → RunsWell verified.now budget events.now }
+{
+    laws(verified);
+    let mut machine = Machine::prepare(alloc, verified)?;
+    for event in events {
+        machine.turn(*event);
+    }
+    Ok(machine)
+}
+
+/// Steps whichever task can step until the root has ended: how it ended.
+///
+/// # Errors
+///
+/// Want of memory.
+pub fn run_alone(alloc: Global, verified: &Verified) -> Result<End, AllocError>
+    ensures { IfOk result (λ end. RunsTo verified.now end) }
+{
+    laws(verified);
+    nothing_is_lost();
+    let mut machine = Machine::prepare(alloc, verified)?;
+    while let Some(task) = machine.ready() {
+        machine.turn(Event::Step(task));
+    }
+    Ok(machine.root_end().unwrap())
+}

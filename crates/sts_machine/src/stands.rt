@@ -1,0 +1,74 @@
+//! Where a task stands.
+
+ghost use Rattle.std.specs.Prelude.{◌≡◌, true};
+ghost use Rattle.sts_machine.specs.Room.{HasRoomOf};
+ghost use Rattle.sts_machine.specs.Standing.{AreStanding, AreStandingBut};
+ghost use Rattle.sts_rules.specs.declared.budget.Budgets.{Budgets as AnyBudgets};
+ghost use Rattle.sts_seen.specs.Reading.{lives_in};
+ghost use Rattle.sts_seen.specs.Waiting.{live_stand_at, live_stands_at_close, live_stands_at_join};
+ghost use Rattle.sts_store.specs.Parts.{live_of, unseen_of};
+ghost use Rattle.sts_views.specs.Order.{InOrder};
+
+use crate::code::instr_at;
+use crate::slots::slot;
+use sts_code::instr::Instr;
+use sts_code::program::Program;
+use sts_model::event::Stand;
+use sts_model::record::Slot;
+use sts_store::store::Store;
+use sts_views::stands_are_owned;
+
+/// At the `join` of a scope that the slot owns?
+fn stands_at_join(slot: Slot) -> Stand
+    ensures { result ≡ live_stands_at_join slot }
+{
+    match slot {
+        Slot::Own(s) => Stand::AtJoin(s),
+        _ => Stand::Free,
+    }
+}
+
+/// At the `close` of a scope that the slot owns, after the close began?
+fn stands_at_close(store: &Store, slot: Slot) -> Stand
+    ensures { result ≡ live_stands_at_close (live_of store.now) slot }
+{
+    match slot {
+        Slot::Own(s) => {
+            if store.closing(s) {
+                Stand::AtClose(s)
+            } else {
+                Stand::Free
+            }
+        }
+        _ => Stand::Free,
+    }
+}
+
+/// Where the next instruction of a living task says that it stands.
+fn stand_at(store: &Store, program: &Program, t: u32) -> Stand
+    requires { lives_in (live_of store.now) t ≡ true }
+    ensures { result ≡ live_stand_at program.now (live_of store.now) t }
+{
+    let frame = store.frame(t);
+    match instr_at(program, frame) {
+        Some(Instr::Join { slot: x, .. }) => stands_at_join(slot(frame, x)),
+        Some(Instr::Close(x)) => stands_at_close(store, slot(frame, x)),
+        _ => Stand::Free,
+    }
+}
+
+/// Says where a task stands, if it lives.
+pub(crate) fn say_stand(store: &mut Store, program: &Program, t: u32)
+    requires order { InOrder (live_of store.old) }
+    requires others { AreStandingBut program.now (live_of store.old) (unseen_of store.old) t }
+    ensures live { live_of store.new ≡ live_of store.old }
+    ensures standing { AreStanding program.now (live_of store.new) (unseen_of store.new) }
+    ensures room { (b : AnyBudgets) → HasRoomOf b (live_of store.old) (unseen_of store.old)
+        → HasRoomOf b (live_of store.new) (unseen_of store.new) }
+{
+    if store.lives(t) {
+        stands_are_owned();
+        let stand = stand_at(store, program, t);
+        store.stand(t, stand);
+    }
+}

@@ -1,0 +1,11 @@
+//! What an event did.
+
+/// What an event did.
+#[derive(Clone, Copy, Debug, PartialEq, Eq)]
+pub enum Turned {
+    /// A step of a task that could step, an interrupt of a living task, or an expiry that marked a
+    /// scope.
+    Stepped,
+    /// Nothing.
+    Idle,
+}
