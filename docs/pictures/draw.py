@@ -188,7 +188,7 @@ LADDER = [  # floor, its crates, the theorem on the arrow to the next one, is it
     ("text", "sts_text, sts_asm", "assembled exactly where the text spells the program; a listing reads back", True),
     ("program", "sts_code", "accepted exactly where the definitions accept it; four budgets, reached and never passed", True),
     ("accepted", "sts_verify", "no list of events leads to a fault; steps and what stands stay within the budgets", True),
-    ("plain machine", "sts_plain", "the machine that tests nothing stands where the plain machine stands", False),
+    ("plain machine", "sts_plain", "the machine that tests nothing stands where the plain machine stands", True),
     ("machine", "sts_machine", "the workers' journals are lists of events, and lead to the reported end", False),
     ("workers", "sts_pool", None, False),
 ]
