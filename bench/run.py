@@ -3,6 +3,7 @@
 
 Rates are of the whole process less the time that a text of one function takes.
 """
+import itertools
 import os
 import subprocess
 import sys
@@ -77,10 +78,10 @@ def main():
                 megabytes = os.path.getsize(at(name)) / 1e6 / net
                 million = instructions(at(name)) / 1e6 / net
                 print(f"{'assemble and ' + mode + ' ' + name:38}{seconds * 1e3:9.2f}{megabytes:9.1f}{million:11.2f}")
-        for name in ("loop", "fan_out"):
-            seconds, output = least_seconds([program, "plain", at(name + ".sts"), at(name + ".trace")])
+        for mode, name in itertools.product(("plain", "replay"), ("loop", "fan_out")):
+            seconds, output = least_seconds([program, mode, at(name + ".sts"), at(name + ".trace")])
             million = steps_of(output) / 1e6 / max(seconds - base, 1e-6)
-            print(f"{'plain ' + name + ', steps':38}{seconds * 1e3:9.2f}{'':9}{million:11.2f}")
+            print(f"{mode + ' ' + name + ', steps':38}{seconds * 1e3:9.2f}{'':9}{million:11.2f}")
         print(f"\n{'plain, so many times the work':38}{'ms':>9}{'MiB':>9}")
         for name in ("chain", "last_of_many", "fifties", "never_run"):
             for times in (1, 2, 4, 8):
