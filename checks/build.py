@@ -1,11 +1,16 @@
 #!/usr/bin/env python3
-"""Proves and builds the program `sts`, with a word on how far it is.
+"""Proves and builds the program `sts`, with a word on how far it is, and then is the command that it was handed, if any.
 
-What was proved is kept in crates/*/out, so an interrupted build goes on from where it was.
-On a terminal one line is rewritten; elsewhere there is a line for each crate that is begun.
+    checks/build.py [WORD..]
+
+What was proved is kept in crates/*/out, so an interrupted build goes on from where it was. On a terminal one line is
+rewritten; elsewhere there is a line whenever work on a crate begins. A call that finds another one at work waits for it.
 """
+import contextlib
+import fcntl
 import os
 import re
+import shutil
 import signal
 import subprocess
 import sys
@@ -15,7 +20,8 @@ ROOT = os.path.dirname(os.path.dirname(os.path.realpath(__file__)))
 PROGRAM = "sts"
 BUILT = f"{ROOT}/crates/{PROGRAM}/out/{PROGRAM}"
 LOG = f"{ROOT}/crates/{PROGRAM}/out/build.log"
-PROVED = re.compile(r"^fn (?:<)?(sts\w*)\b.*: proved$", re.M)
+PROVED = re.compile(r"^fn .*: proved$", re.M)
+HEADING = re.compile(r"^== (\w+)$", re.M)
 
 
 def crates():
@@ -42,61 +48,140 @@ def side_by_side():
     return max(1, min(len(os.sched_getaffinity(0)), free >> 22))
 
 
-def start():
+def log_alone():
+    """Returns the log, held by this call alone."""
+    os.makedirs(os.path.dirname(LOG), exist_ok=True)
+    log = open(LOG, "ab")
+    try:
+        fcntl.flock(log, fcntl.LOCK_EX | fcntl.LOCK_NB)
+    except BlockingIOError:
+        print("sts: another call proves and builds the program; this one waits for it", file=sys.stderr)
+        fcntl.flock(log, fcntl.LOCK_EX)
+    return log
+
+
+def is_current(names):
+    """Tells whether the program is there and newer than all that it is built of; then its time is set to now."""
+    now, folders = time.time(), [f"{ROOT}/crates/{name}/{it}" for name in names for it in ("src", "specs", "proofs")]
+    files = [f"{at}/{it}" for folder in folders for at, _, found in os.walk(folder) for it in found]
+    newest = max(os.path.getmtime(it) for it in [f"{ROOT}/crates.txt", *files])
+    if not os.path.exists(BUILT) or os.path.getmtime(BUILT) <= newest:
+        return False
+    os.utime(BUILT, (now, now))
+    return True
+
+
+def start(log):
     """Starts the build; the program of an earlier one goes first, so that it is there only if this one ends well.
 
     The crates are proved side by side, and what is left for `rt run` is to build the program and to run it once.
     """
-    folder = f"{ROOT}/crates/{PROGRAM}"
-    os.makedirs(os.path.dirname(LOG), exist_ok=True)
     if os.path.exists(BUILT):
         os.remove(BUILT)
-    log = open(LOG, "wb")
+    log.truncate(0)
     build = f"rt all check --jobs {side_by_side()} < /dev/null && exec rt run < stdin"
-    return subprocess.Popen(["sh", "-c", build], cwd=folder, stdout=log, stderr=log, start_new_session=True)
+    return subprocess.Popen(["sh", "-c", build], cwd=f"{ROOT}/crates/{PROGRAM}", stdout=log, stderr=log, start_new_session=True)
 
 
-def progress(total, since):
-    """Returns the crate at work, and a line that says how far the build is."""
-    proved = PROVED.findall(open(LOG, errors="replace").read())
-    begun = list(dict.fromkeys(proved))
+def words_of(number, session):
+    """Returns the words of a process of the build, and none of another one or one that has ended."""
+    try:
+        return open(f"/proc/{number}/cmdline").read().split("\0") if os.getsid(number) == session else []
+    except OSError:
+        return []
+
+
+def of_build(session):
+    """Returns the processes of the build, with their words."""
+    words = {it: words_of(it, session) for it in map(int, filter(str.isdigit, os.listdir("/proc")))}
+    return {number: it for number, it in words.items() if it}
+
+
+def at_work(session):
+    """Returns the crates that the build is at."""
+    named = [words[words.index("--crate-name") + 1] for words in of_build(session).values() if "--crate-name" in words]
+    return sorted(set(named))
+
+
+def stop(process):
+    """Ends the build and waits for its end; what it doesn't end itself is ended here."""
+    process.terminate()
+    for number in of_build(process.pid):
+        with contextlib.suppress(ProcessLookupError):
+            os.kill(number, signal.SIGTERM)
+    process.wait()
+
+
+def progress(process, names, since):
+    """Returns what the build is at, and a line that says how far it is. A crate that is done has a heading in the log."""
+    log = open(LOG, errors="replace").read()
+    headings = set(HEADING.findall(log))
+    is_proved = "summary" in headings
+    now = [] if is_proved else at_work(process.pid)
+    done = headings.intersection(names).difference(now)
     minutes, seconds = divmod(int(time.time() - since), 60)
-    at = begun[-1] if begun else "what was proved before"
-    line = f"sts: {at} ({len(begun)} of {total} crates), {len(proved)} functions proved, {minutes} min {seconds:02} s"
-    return at, line
+    line = f"sts: {len(done)} of {len(names)} crates proved, {len(set(PROVED.findall(log)))} functions in {minutes} min {seconds:02} s"
+    if is_proved:
+        return {"program"}, f"{line}; building the program"
+    if not headings:
+        return {"sources"}, f"{line}; reading all sources"
+    return set(now), f"{line}; at {', '.join(now) or 'the next'}"
 
 
-def watch(process, total):
+def watch(process, names, since):
     """Says how far the build is until it ends."""
-    since, said, is_terminal = time.time(), None, sys.stderr.isatty()
+    said, is_terminal = set(), sys.stderr.isatty()
     while process.poll() is None:
-        time.sleep(0.5)
-        at, line = progress(total, since)
+        doing, line = progress(process, names, since)
         if is_terminal:
-            sys.stderr.write(f"\r\x1b[K{line}")
-        elif at != said:
+            sys.stderr.write(f"\r\x1b[K{line[:shutil.get_terminal_size().columns - 1]}")
+        elif not doing <= said:
             sys.stderr.write(f"{line}\n")
         sys.stderr.flush()
-        said = at
+        said |= doing
+        time.sleep(0.5)
     if is_terminal:
         sys.stderr.write("\n")
 
 
-def main():
-    total = len(needed(crates(), PROGRAM, []))
-    print(f"sts: proving and building the program, once; what is said of it goes to {LOG}", file=sys.stderr)
-    process = start()
+def build(log, names):
+    """Builds the program, and returns whether it is there. Its time is that of the start: what is edited since is newer."""
+    print("sts: proving and building the program, in 10 to 25 minutes where nothing was proved before; "
+          f"what is said of it goes to {LOG}", file=sys.stderr)
+    since = time.time()
+    process = start(log)
     try:
-        watch(process, total)
+        watch(process, names, since)
     except KeyboardInterrupt:
-        os.killpg(process.pid, signal.SIGTERM)
+        stop(process)
         print("\nsts: interrupted; what was proved is kept, and the next call goes on from there", file=sys.stderr)
-        return 6
+        return False
     if not os.path.exists(BUILT):
         print(f"sts: not built; the end of {LOG}:", file=sys.stderr)
         print("".join(open(LOG, errors="replace").readlines()[-5:]), end="", file=sys.stderr)
+        return False
+    os.utime(BUILT, (since, since))
+    return True
+
+
+def interrupt(number, frame):
+    raise KeyboardInterrupt
+
+
+def main():
+    if not shutil.which("rt"):
+        print("sts: the kit isn't here: there is no command rt", file=sys.stderr)
         return 6
-    return 0
+    for number in (signal.SIGTERM, signal.SIGHUP):
+        signal.signal(number, interrupt)
+    try:
+        log, names = log_alone(), needed(crates(), PROGRAM, [])
+        is_there = is_current(names) or build(log, names)
+    except KeyboardInterrupt:
+        return 6
+    if is_there and sys.argv[1:]:
+        os.execv(sys.argv[1], sys.argv[1:])
+    return 0 if is_there else 6
 
 
 if __name__ == "__main__":

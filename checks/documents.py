@@ -8,21 +8,25 @@ Each text and output of README.md, docs/LANGUAGE.md, docs/VERIFIER.md and exampl
 
 - a block of LANGUAGE.md with a comment `<!-- run: TEXT ? ASKED = STATUS LINES -->` above it, where `@` stands for the
   block, and what is asked is `verify`, `list` or a trace (`0*5` is five steps of task 0, `i0` an interrupt, `x0` an
-  expiry); a block that is no example begins with "```text";
+  expiry); where nothing is said of `verify` it accepts the text; a block that is no example begins with "```text";
 - a line of its tables of faults whose text is written in full;
 - what VERIFIER.md says of each cause that is refused or accepted;
 - each command of README.md and examples/README.md, with the files that it names.
 
-It also says where a document names a file that isn't there, or shows a line of a contract that no source has.
+It also says where a document names a file that isn't there, where it shows a line of a contract that no source has or
+a part of a program that no example has, where an example isn't shown or says that it prints something else, and where a
+picture isn't what its script draws.
 """
 import itertools
 import os
 import re
+import subprocess
 import sys
 
 ROOT = os.path.dirname(os.path.dirname(os.path.realpath(__file__)))
 FOLDER = "crates/sts_rows_language/src"
 DOCUMENTS = ["README.md", "examples/README.md", *(f"docs/{it}" for it in sorted(os.listdir(f"{ROOT}/docs")) if it.endswith(".md"))]
+SHOW_COMMANDS = ["README.md", "examples/README.md"]
 STATUS = {"success": 0, "failed": 1, "error": 3, "refused": 4, "fault": 5, "running": 5}
 # What tables of LANGUAGE.md describe in words: other tests have these rows.
 IN_WORDS = [
@@ -73,14 +77,15 @@ def questions(words):
 
 
 def of_block(name, harness, block):
-    """Returns the row of a block of LANGUAGE.md with what is written above it."""
+    """Returns the row of a block of LANGUAGE.md with what is written above it; it is accepted, unless that says otherwise."""
+    accepted = [] if "verify = " in harness else [("verify", "0")]
     if harness.startswith("@ = "):
         text, trace = block.split("%\n")
-        return row(name, text, [(events(trace), harness[4:])])
+        return row(name, text, [(events(trace), harness[4:]), *accepted])
     text, asked = harness.split(" ? ", 1)
-    pairs = questions(asked)
+    pairs = questions(asked) + accepted
     if pairs[0][0] == "@":
-        return row(name, text, [(events(block), pairs[0][1])])
+        return row(name, text, [(events(block), pairs[0][1]), *accepted])
     before, after = text.split("@")
     parts = [before.strip(" /"), block.rstrip("\n"), after.strip(" /")]
     return row(name, "\n".join(part for part in parts if part), pairs)
@@ -158,12 +163,12 @@ def shown_commands(path):
 
 
 def commands(paths):
-    """Returns a row for each text whose commands the documents show, with what each of them prints."""
+    """Returns a row for each text whose commands the documents show, with what each of them prints; all are accepted."""
     asked = {}
     for mode, text, trace, printed in dict.fromkeys(it for path in paths for it in shown_commands(path)):
         status = STATUS.get(printed.split(" ")[0], 0)
         question = "verify" if mode == "verify" else events(read(trace))
-        asked.setdefault(text, []).append((question, f"{status} {printed}"))
+        asked.setdefault(text, [("verify", "0")]).append((question, f"{status} {printed}"))
     return [row(text, read(text), questions) for text, questions in asked.items()]
 
 
@@ -196,13 +201,13 @@ def files():
         "TEXTS": cells(language, "Text", "Printed") + cells(language, "Example", "Printed"),
         "CAUSES": causes("docs/VERIFIER.md"),
     }
-    examples = {"COMMANDS": commands(["README.md", "examples/README.md"])}
-    for name, rows in [*tables.items(), *examples.items()]:
+    shown = {"COMMANDS": commands(SHOW_COMMANDS)}
+    for name, rows in [*tables.items(), *shown.items()]:
         if len(rows) < 5:
             fail(f"only {len(rows)} rows were found for {name}")
     return {
         "documents.rt": table_of("What the documents show", tables),
-        "examples.rt": table_of("The examples", examples),
+        "examples.rt": table_of("The examples", shown),
     }
 
 
@@ -229,9 +234,35 @@ def shown_contracts(path):
                 fail(f"{path} shows a contract with the line {line.strip()!r}, which no source has")
 
 
+def shown_programs(path):
+    """Fails where a document shows a part of a program that stands so in no example."""
+    texts = [read(f"examples/{it}") for it in os.listdir(f"{ROOT}/examples") if it.endswith(".sts")]
+    for block in re.findall(r"```text\n(.*?)```", read(path), re.S):
+        if not any(block in text for text in texts):
+            fail(f"{path} shows a part of a program that no example has: {block.splitlines()[0]!r}")
+
+
+def examples(paths):
+    """Fails where an example has no command in the documents, or says of itself that it prints something else."""
+    shown = {text: printed for path in paths for mode, text, _, printed in shown_commands(path) if mode == "plain"}
+    for text in (f"examples/{it}" for it in sorted(os.listdir(f"{ROOT}/examples")) if it.endswith(".sts")):
+        said = re.search(r"^; Prints: ([^(,.]*\d)[^,]*, (steps \d+)\.", read(text), re.M)
+        if text not in shown or not said or f"{said[1]} / {said[2]}" != shown[text]:
+            fail(f"{text}: what it says that it prints isn't what a document shows")
+
+
+def pictures():
+    """Fails where a picture isn't what its script draws."""
+    if subprocess.run([sys.executable, f"{ROOT}/docs/pictures/draw.py", "--check"], stdout=subprocess.DEVNULL).returncode:
+        fail("a picture isn't what docs/pictures/draw.py draws: run it")
+
+
 def main():
     named_files()
     shown_contracts("docs/PROOFS.md")
+    shown_programs("README.md")
+    examples(SHOW_COMMANDS)
+    pictures()
     for name, table in files().items():
         path = f"{ROOT}/{FOLDER}/{name}"
         if sys.argv[1:] == ["write"]:

@@ -22,8 +22,7 @@ STYLE = """
   .line { fill: none; stroke: #3a5a85; stroke-width: 1.4 }
   .tip { fill: #3a5a85 }
   .grid { stroke: #d4d8de; stroke-width: 1 }
-  .wait { stroke: #b05a00; stroke-width: 2; stroke-dasharray: 3 3 }
-  .mark { fill: #b05a00 }
+  .wait { fill: #ffffff; stroke: #b05a00; stroke-width: 1.6; stroke-dasharray: 4 3 }
   text { font: 13px 'DejaVu Sans', Verdana, sans-serif; fill: #1c2530 }
   .name { font-weight: bold }
   .small { font-size: 11px; fill: #4a5563 }
@@ -35,8 +34,7 @@ STYLE = """
     .line { stroke: #8fb4e0 }
     .tip { fill: #8fb4e0 }
     .grid { stroke: #343b44 }
-    .wait { stroke: #ffb066 }
-    .mark { fill: #ffb066 }
+    .wait { fill: #14181d; stroke: #ffb066 }
     text { fill: #e8edf2 }
     .small { fill: #b4bec9 }
   }
@@ -90,23 +88,23 @@ def phases():
         arrow("M10 176 L28 176"),
         text(58, 142, "open", "code"),
         arrow("M110 148 C150 90 200 66 260 66"),
-        text(120, 84, "join: interrupted", "code"),
+        text(96, 84, "join: interrupted", "code"),
         arrow("M300 38 C300 4 360 4 360 36"),
         text(432, 18, "join: interrupted", "code"),
         arrow("M392 66 C470 66 540 100 556 148"),
         text(560, 76, "join: ok, failed,\ntimeout", "code"),
         arrow("M160 170 L492 170"),
-        text(326, 162, "join: ok, failed, timeout", "code"),
+        text(418, 148, "join: ok, failed,\ntimeout", "code"),
         arrow("M558 204 L558 288"),
         text(568, 240, "close, and a\nsubtask lives", "code", "start"),
         arrow("M326 94 C326 220 420 300 492 312"),
         text(296, 234, "close, and a\nsubtask lives", "code"),
         arrow("M494 196 C440 300 400 330 362 358"),
-        text(484, 234, "close,\nnone lives", "code", "start"),
+        text(480, 240, "close,\nnone lives", "code", "start"),
         arrow("M262 80 C160 170 200 300 284 358"),
         text(186, 246, "close,\nnone lives", "code", "end"),
         arrow("M494 330 C450 350 420 372 392 380"),
-        text(520, 368, "close, second step: none lives", "code", "start"),
+        text(476, 366, "close, second step: none lives", "code", "start"),
         arrow("M80 204 C80 330 150 386 260 390"),
         text(40, 410, "close, where\nnothing was forked", "code", "start"),
         text(30, 452, "Beside the phase a scope has two marks. It is cancelled by its joiner, by an expiry or by close; "
@@ -142,17 +140,17 @@ def run():
     steps = [int(it.split()[1]) for it in open(f"{ROOT}/examples/sum.trace")]
     tasks = {task: code["main" if task == 0 else "square"] for task in sorted(set(steps))}
     wide, tall, left, top = 34, 70, 92, 58
-    done, ends, born, parts, waits = dict.fromkeys(tasks, 0), {}, {0: 0}, [], []
+    done, ends, born, parts = dict.fromkeys(tasks, 0), {}, {0: 0}, []
     for at, task in enumerate(steps):
         parts.append(text(left + wide * at + wide / 2, 46, str(at + 1), "small"))
         x, y = left + wide * at, top + tall * list(tasks).index(task)
         instruction = tasks[task][done[task]]
-        if task == 0 and instruction.startswith("join") and len(ends) < len(tasks) - 1:
-            waits.append((at, y))
-            continue
-        parts.append(box(x + 3, y + 12, wide - 6, 46))
+        waits = task == 0 and instruction.startswith("join") and len(ends) < len(tasks) - 1
+        parts.append(box(x + 3, y + 12, wide - 6, 46, "wait" if waits else "box"))
         parts.append(f'<text transform="translate({x + wide / 2 + 4} {y + 54}) rotate(-90)" class="code">'
                      f"{escape(instruction.split()[0])}</text>")
+        if waits:
+            continue
         if instruction.startswith("fork"):
             born[len(born)] = at
             below = top + tall * (len(born) - 1)
@@ -170,12 +168,10 @@ def run():
                     f'x2="{left + wide * (lived + 1)}" y2="{y + 35}" class="line"/>')
         if task in ends:
             rows.append(f'<circle cx="{left + wide * (lived + 1) + 2}" cy="{y + 35}" r="5" class="tip"/>')
-    stopped = [f'<line x1="{left + wide * at + 4}" y1="{y + 35}" x2="{left + wide * at + wide - 4}" y2="{y + 35}" class="wait"/>'
-               + text(left + wide * at + wide / 2, y + 28, "waits", "small") for at, y in waits]
     foot = top + tall * len(tasks) + 22
     parts = [text(12, 24, "examples/sum: a row for each task, a column for each event of the trace", "name", "start"),
-             text(12, 46, "event", "small", "start"), *rows, *parts, *stopped,
-             text(12, foot, f"Prints success 50 and steps {sum(done.values())}: the step of task 0 while it waits at join changes "
+             text(12, 46, "event", "small", "start"), *rows, *parts,
+             text(12, foot, f"Prints success 50 and steps {sum(done.values())}: the dashed step of task 0, while it waits at join, changes "
                   "nothing and isn't counted. Dots are ends.", "small", "start")]
     told = (f"{len(steps)} events. Task 0 opens a scope and forks tasks 1, 2 and 3; task 3 ends first, task 0 waits at join, "
             "tasks 1 and 2 end, and task 0 joins, adds, closes the scope and ends.")
@@ -186,7 +182,7 @@ def run():
 
 LADDER = [  # floor, its crates, the theorem on the arrow to the next one, is it there?
     ("text", "sts_text, sts_asm", "assembled exactly where the text spells the program; a listing reads back", True),
-    ("program", "sts_code", "accepted exactly where the definitions accept it; four budgets, reached and never passed", True),
+    ("program", "sts_code", "accepted exactly where the definitions accept it; four budgets, exact over control paths", True),
     ("accepted", "sts_verify", "no list of events leads to a fault; steps and what stands stay within the budgets", True),
     ("plain machine", "sts_plain", "the machine that tests nothing stands where the plain machine stands", False),
     ("machine", "sts_machine", "the workers' journals are lists of events, and lead to the reported end", False),

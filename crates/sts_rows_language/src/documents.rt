@@ -46,6 +46,8 @@ add             ; 5
 ret / end
 ? 0*4
 = 0 success 5 / steps 4
+? verify
+= 0
 
 # `pop`
 func main 0
@@ -55,6 +57,8 @@ pop             ; 7
 ret / end
 ? 0*4
 = 0 success 7 / steps 4
+? verify
+= 0
 
 # `dup`
 func main 0
@@ -64,6 +68,8 @@ mul             ; 49
 ret / end
 ? 0*4
 = 0 success 49 / steps 4
+? verify
+= 0
 
 # `swap`
 func main 0
@@ -73,6 +79,8 @@ swap            ; 8 7
 push 10 / mul / add / ret / end
 ? 0*7
 = 0 success 78 / steps 7
+? verify
+= 0
 
 # `load x`
 func main 0
@@ -82,6 +90,8 @@ load 1          ; 5
 ret / end
 ? 0*4
 = 0 success 5 / steps 4
+? verify
+= 0
 
 # `store x`
 func main 0
@@ -91,6 +101,8 @@ load 0          ; 6
 ret / end
 ? 0*4
 = 0 success 6 / steps 4
+? verify
+= 0
 
 # `add`, `sub`, `mul`
 func main 0
@@ -100,6 +112,8 @@ sub             ; 5
 ret / end
 ? 0*4
 = 0 success 5 / steps 4
+? verify
+= 0
 
 # `lt`, `eq`
 func main 0
@@ -109,6 +123,8 @@ lt              ; 0
 ret / end
 ? 0*4
 = 0 success 0 / steps 4
+? verify
+= 0
 
 # `div L`
 func main 0
@@ -118,6 +134,8 @@ div zero        ; -3
 ret / zero: / push 0 / ret / end
 ? 0*4
 = 0 success -3 / steps 4
+? verify
+= 0
 
 # `jmp L`
 func main 0
@@ -138,6 +156,8 @@ push 1          ; never done
 pop / done: / push 7 / ret / end
 ? 0*4
 = 0 success 7 / steps 4
+? verify
+= 0
 
 # `times n`
 func main 0
@@ -147,6 +167,8 @@ next
 push 7 / ret / end
 ? 0*7
 = 0 success 7 / steps 7
+? verify
+= 0
 
 # `next`
 func main 0 / push 2
@@ -157,6 +179,8 @@ next
 push 7 / ret / end
 ? 0*10
 = 0 success 7 / steps 10
+? verify
+= 0
 
 # `open s J [timed]`
 func kid 0 / push 1 / ret / end / func main 0
@@ -166,6 +190,8 @@ join s0 - late intr
 close s0 / ret / late: / push 0 / close s0 / ret / intr: / push 9 / close s0 / fail / end
 ? 0*2 1*2 0*3
 = 0 success 1 / steps 7
+? verify
+= 0
 
 # `fork s f h`
 func sum 2 / load 0 / load 1 / add / ret / end / func main 0 / open s0 awaitok
@@ -175,6 +201,8 @@ fork s0 sum s1  ; and slot 1 holds the subtask sum(20, 1)
 join s0 bad - intr / get s1 / close s0 / ret / bad: / close s0 / fail / intr: / push 0 / close s0 / fail / end
 ? 0*4 1*4 0*4
 = 0 success 21 / steps 12
+? verify
+= 0
 
 # `join s F T I`
 func kid 0 / push 5 / ret / end / func main 0 / open s0 any / fork s0 kid _
@@ -184,6 +212,8 @@ mul                  ; 50
 close s0 / ret / bad: / close s0 / fail / intr: / push 0 / close s0 / fail / end
 ? 0*2 1*2 0*5
 = 0 success 50 / steps 9
+? verify
+= 0
 
 # `close s`
 func main 0
@@ -193,6 +223,8 @@ close s0        ; and slot 0 is empty
 push 7 / ret / intr: / push 0 / close s0 / fail / end
 ? 0*5
 = 0 success 7 / steps 5
+? verify
+= 0
 
 # `cancelled s`
 func kid 0
@@ -204,15 +236,28 @@ goon: / push 1 / ret / giveup: / push 2 / ret / end / func main 0 / open s0 all 
 = 0 success 1 / steps 11
 ? 0*2 i0 0*3 1*5 0*2
 = 1 failed 0 / steps 12
+? verify
+= 0
 
 # `case h S F`
 func kid 0 / push 5 / fail / end / func main 0 / open s0 awaitall / fork s0 kid s1 / join s0 - - intr
 case s1 yes no
-push -1         ; unavailable
+push -1         ; -1, where it is unavailable
+forget s1
 jmp done
-yes: / push 1 / jmp done / no: / push 2 / done: / close s0 / ret / intr: / push 0 / close s0 / fail / end
-? 0*2 1*2 0*5
-= 0 success 2 / steps 9
+yes:
+get s1          ; its value
+forget s1
+jmp done
+no:
+except s1       ; its code
+forget s1
+done:
+close s0 / ret / intr: / push 0 / close s0 / fail / end
+? 0*2 1*2 0*6
+= 0 success 5 / steps 10
+? verify
+= 0
 
 # `get h`
 func kid 0 / push 40 / ret / end / func main 0 / open s0 awaitok / fork s0 kid s1
@@ -222,15 +267,19 @@ close s0             ; 40
 ret / bad: / close s0 / fail / intr: / push 0 / close s0 / fail / end
 ? 0*2 1*2 0*4
 = 0 success 40 / steps 8
+? verify
+= 0
 
 # `except h`
-func kid 0 / push 5 / fail / end / func main 0 / open s0 awaitall / fork s0 kid s1 / join s0 - - intr / case s1 yes no / yes: / close s0 / push 0 / ret
+func kid 0 / push 5 / fail / end / func main 0 / open s0 awaitall / fork s0 kid s1 / join s0 - - intr / case s1 yes no / close s0 / push -1 / ret / yes: / close s0 / push 0 / ret
 no:
 except s1       ; the code, where `case s1 yes no` came here
 close s0
 ret / intr: / push 0 / close s0 / fail / end
 ? 0*2 1*2 0*5
 = 0 success 5 / steps 9
+? verify
+= 0
 
 # `tally s S`, `tally s F`, `tally s U`
 func kid 0 / push 5 / fail / end / func main 0 / open s0 awaitall / fork s0 kid _ / fork s0 kid _
@@ -240,6 +289,8 @@ close s0             ; 2
 ret / intr: / push 0 / close s0 / fail / end
 ? 0*3 1*2 2*2 0*4
 = 0 success 2 / steps 11
+? verify
+= 0
 
 # `total s`
 func kid 1 / load 0 / ret / end / func main 0 / open s0 all / push 40 / fork s0 kid _ / push 2 / fork s0 kid _
@@ -249,6 +300,8 @@ total s0             ; 42
 close s0 / ret / bad: / close s0 / fail / intr: / push 0 / close s0 / fail / end
 ? 0*5 1*2 2*2 0*5
 = 0 success 42 / steps 14
+? verify
+= 0
 
 # `forget h`
 func kid 0 / push 40 / ret / end / func main 0 / open s0 all
@@ -258,6 +311,8 @@ fork s0 kid s1  ; the slot is free again
 join s0 bad - intr / close s0 / ret / bad: / close s0 / fail / intr: / push 0 / close s0 / fail / end
 ? 0*4 1*2 2*2 0*3
 = 0 success 2 / steps 11
+? verify
+= 0
 
 # `bind k`
 func main 0
@@ -267,6 +322,8 @@ read 2          ; 6
 unbind / ret / end
 ? 0*5
 = 0 success 6 / steps 5
+? verify
+= 0
 
 # `unbind`
 func main 0
@@ -276,6 +333,8 @@ unbind          ; key 2 is as it was before
 bound 2 / ret / end
 ? 0*5
 = 0 success 0 / steps 5
+? verify
+= 0
 
 # `read k`
 func main 0 / push 6 / bind 2
@@ -285,15 +344,19 @@ add             ; 7
 unbind / ret / end
 ? 0*7
 = 0 success 7 / steps 7
+? verify
+= 0
 
 # `bound k`
 func main 0 / push 6 / bind 2
 bound 2         ; 1
 jz missing      ;
 read 2          ; 6
-unbind / ret / missing: / push 0 / ret / end
+unbind / ret / missing: / push 0 / unbind / ret / end
 ? 0*7
 = 0 success 6 / steps 7
+? verify
+= 0
 
 # `orelse k`
 func main 0
@@ -303,6 +366,8 @@ ret
 end
 ? 0*3
 = 0 success 10 / steps 3
+? verify
+= 0
 
 # `orelse k`
 func kid 0
@@ -312,6 +377,8 @@ ret
 end / func main 0 / push 6 / bind 2 / open s0 any / fork s0 kid _ / join s0 bad - intr / close s0 / unbind / ret / bad: / close s0 / unbind / fail / intr: / push 0 / close s0 / unbind / fail / end
 ? 0*4 1*3 0*4
 = 0 success 6 / steps 11
+? verify
+= 0
 
 # `interrupted`
 func main 0
@@ -323,6 +390,8 @@ ret / calm: / push 0 / ret / end
 = 0 success 0 / steps 4
 ? i0 0*4
 = 0 success 1 / steps 4
+? verify
+= 0
 
 # `ret`
 func main 0
@@ -331,6 +400,8 @@ ret
 end
 ? 0*2
 = 0 success 7 / steps 2
+? verify
+= 0
 
 # `fail`
 func main 0
@@ -339,11 +410,15 @@ fail
 end
 ? 0*2
 = 1 failed 8 / steps 2
+? verify
+= 0
 
 # Traces
 func main 0 / push 7 / ret / end
 ? 0*1 i0 x0
 = 5 running / steps 1
+? verify
+= 0
 
 # A text and a trace in one
 func main 0
@@ -352,6 +427,8 @@ func main 0
 end
 ? 0*2
 = 0 success 7 / steps 2
+? verify
+= 0
 ";
 
 const TEXTS: &str = "
@@ -527,6 +604,16 @@ func main 0 / push 1 / jz x / push 2 / pop / x: / push 3 / ret / end
 ? verify
 = 0
 
+# V7 StatesDiffer, refused
+func kid 0 / push 5 / ret / end / func main 0 / open s0 all / fork s0 kid _ / join s0 out - out / close s0 / ret / out: / close s0 / push 0 / fail / end
+? verify
+= 4 refused V7 in main at 5: close s0
+
+# V7 StatesDiffer, accepted
+func kid 0 / push 5 / ret / end / func main 0 / open s0 all / fork s0 kid _ / join s0 bad - intr / close s0 / ret / bad: / close s0 / fail / intr: / close s0 / push 0 / fail / end
+? verify
+= 0
+
 # V8 DeadCode, refused
 func main 0 / jmp x / push 1 / x: / push 2 / ret / end
 ? verify
@@ -574,6 +661,16 @@ func main 0 / open s0 awaitall / close s0 / push 1 / ret / end
 
 # V12 IllegalState, accepted
 func main 0 / open s0 awaitall / join s0 - - intr / close s0 / push 1 / ret / intr: / push 0 / close s0 / fail / end
+? verify
+= 0
+
+# V12 IllegalState, refused
+func kid 0 / push 5 / ret / end / func main 0 / open s0 awaitall / fork s0 kid s1 / join s0 - - intr / get s1 / close s0 / ret / intr: / close s0 / push 0 / fail / end
+? verify
+= 4 refused V12 in main at 3: get s1
+
+# V12 IllegalState, accepted
+func kid 0 / push 5 / ret / end / func main 0 / open s0 awaitall / fork s0 kid s1 / join s0 - - intr / case s1 yes no / close s0 / push -1 / ret / no: / close s0 / push 0 / ret / yes: / get s1 / close s0 / ret / intr: / close s0 / push 0 / fail / end
 ? verify
 = 0
 
@@ -673,8 +770,8 @@ push 0 / ret / end / func main 0 / open s0 awaitall / push 8192 / times 8192 / f
 #[test]
 fn what_is_shown_holds(rt: HostRuntime) -> Result<(), Fail> {
     let alloc = rt.alloc();
-    assert_eq!(rt; walk_table(&rt, alloc, BLOCKS)?, 40);
+    assert_eq!(rt; walk_table(&rt, alloc, BLOCKS)?, 74);
     assert_eq!(rt; walk_table(&rt, alloc, TEXTS)?, 18);
-    assert_eq!(rt; walk_table(&rt, alloc, CAUSES)?, 40);
+    assert_eq!(rt; walk_table(&rt, alloc, CAUSES)?, 44);
     Ok(())
 }

@@ -4,17 +4,6 @@ use crate::table::walk_table;
 use std::test::Fail;
 
 const COMMANDS: &str = "
-# examples/seven.sts
-; The smallest program: one task, which ends with the value 7.
-; The trace lets the root task, task 0, do its two steps.
-; Prints: success 7, steps 2. With one line less in the trace: running, steps 1.
-func main 0
-  push 7
-  ret
-end
-? 0*2
-= 0 success 7 / steps 2
-
 # examples/sum.sts
 ; Fan-out and sum: three subtasks square a number each, and all of them have to succeed.
 ; The trace forks tasks 1, 2 and 3, lets task 3 end first, and then steps task 0. It is at `join` and waits, so this
@@ -49,9 +38,24 @@ intr:                   ; main itself was interrupted
   fail
 end
 ? verify
-= 0 square steps 4 / square tasks 1 / square scopes 0 / square binds 0 / main steps 25 / main tasks 4 / main scopes 1 / main binds 0
+= 0
 ? 0*7 3*4 0*1 1*4 2*4 0*5
 = 0 success 50 / steps 24
+? verify
+= 0 square steps 4 / square tasks 1 / square scopes 0 / square binds 0 / main steps 25 / main tasks 4 / main scopes 1 / main binds 0
+
+# examples/seven.sts
+; The smallest program: one task, which ends with the value 7.
+; The trace lets the root task, task 0, do its two steps.
+; Prints: success 7, steps 2. With one line less in the trace: running, steps 1.
+func main 0
+  push 7
+  ret
+end
+? verify
+= 0
+? 0*2
+= 0 success 7 / steps 2
 
 # examples/first_answer.sts
 ; The first answer wins: two mirrors are asked, and the faster one counts.
@@ -86,6 +90,8 @@ intr:
   push 0
   fail
 end
+? verify
+= 0
 ? 0*5 2*4 0*3 1*4 0*2
 = 0 success 9 / steps 17
 
@@ -138,8 +144,57 @@ intr:
   push 0
   fail
 end
+? verify
+= 0
 ? 0*3 1*2 2*2 1*2 3*4 1*3 0*3
 = 1 failed 8 / steps 19
+
+# examples/fallback.sts
+; A fallback: a failure takes nobody along, and a value stands in for the one that is missing.
+; The trace forks task 1, which divides 100 by 0 and fails, and task 2, which divides it by 5. Under `awaitall` the
+; failure cancels nothing, so task 2 goes on and gives 20. `main` joins both, asks how task 1 ended, and adds 1000 for it.
+; See: `case` has a way for each end. What `verify` knows of slot 1 is different on each, so each forgets the subtask
+; before they meet.
+; Prints: success 1020, steps 22.
+func share 1
+  push 100
+  load 0
+  div zero
+  ret
+zero:
+  push 404
+  fail
+end
+func main 0
+  open s0 awaitall
+  push 0
+  fork s0 share s1
+  push 5
+  fork s0 share _
+  join s0 - - intr
+  total s0              ; what came: 20
+  case s1 came failed
+  forget s1             ; unavailable: never, where all were awaited
+  jmp done
+came:
+  forget s1
+  jmp done
+failed:
+  forget s1
+  push 1000
+  add
+done:
+  close s0
+  ret
+intr:                   ; main itself was interrupted
+  close s0
+  push 0
+  fail
+end
+? verify
+= 0
+? 0*5 1*5 2*4 0*8
+= 0 success 1020 / steps 22
 
 # examples/deadline.sts
 ; A deadline, in profile 1: after a timeout no subtask may be read.
@@ -170,6 +225,8 @@ intr:
   push 0
   fail
 end
+? verify
+= 0
 ? 0*5 1*2 x0 0*2 2*2 0*3
 = 0 success 0 / steps 14
 
@@ -204,6 +261,8 @@ intr:
   push 0
   fail
 end
+? verify
+= 0
 ? 0*5 1*2 x0 0*3 2*2 0*2
 = 0 success 20 / steps 14
 
@@ -236,6 +295,8 @@ giveup:                 ; interrupted a second time
   push 0
   fail
 end
+? verify
+= 0
 ? 0*2 i0 0*2 1*2 0*3
 = 0 success 7 / steps 8
 
@@ -297,6 +358,8 @@ intr:
   push 0
   fail
 end
+? verify
+= 0
 ? 0*6 1*4 2*4 1*6 0*5
 = 0 success 40 / steps 25
 ";
@@ -304,6 +367,6 @@ end
 #[test]
 fn what_is_shown_holds(rt: HostRuntime) -> Result<(), Fail> {
     let alloc = rt.alloc();
-    assert_eq!(rt; walk_table(&rt, alloc, COMMANDS)?, 9);
+    assert_eq!(rt; walk_table(&rt, alloc, COMMANDS)?, 19);
     Ok(())
 }
