@@ -1,3 +1,4 @@
 pub mod Standing
 pub mod Room
 pub mod Machine
+pub mod Slice

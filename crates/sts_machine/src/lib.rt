@@ -2,6 +2,8 @@
 //! stands.
 #![tactic(auto)]
 
+mod copying;
 pub mod machine;
 mod outside;
 mod perform;
+pub mod slice;

@@ -1,0 +1,3 @@
+pub mod Comparing
+pub mod Cutting
+pub mod Slicing
