@@ -1,3 +1,4 @@
 pub mod Comparing
 pub mod Cutting
-pub mod Slicing
+pub mod Instrs
+pub mod LocalSteps

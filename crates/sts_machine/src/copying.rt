@@ -2,6 +2,7 @@
 
 ghost use Rattle.std.specs.Prelude.{◌≡◌, ◌↔◌, IsTrue};
 
+use sts_code::instr::Instr;
 use sts_model::record::{Entry, Frame, Loop, Slot};
 use sts_model::stack::Stack;
 
@@ -73,4 +74,11 @@ pub(crate) fn same_frame(a: &Frame, b: &Frame) -> bool
         && same_loops(&a.loops, &b.loops)
         && same_entries(&a.entries, &b.entries)
         && same_slots(&a.slots, &b.slots)
+}
+
+/// Are two functions' codes the same, by value?
+pub(crate) fn same_code(a: &[Instr], b: &[Instr]) -> bool
+    ensures { IsTrue result ↔ a.now ≡ b.now }
+{
+    a == b
 }

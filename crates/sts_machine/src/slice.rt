@@ -3,7 +3,7 @@
 ghost use Rattle.std.specs.Prelude.{◌≡◌, ◌+◌, ◌<◌, ◌≤◌, Some, None, true, false, is_some, length};
 ghost use Rattle.std.specs.Prelude.{if◌then◌else◌};
 ghost use Rattle.sts_code.specs.declared.limits.TheConstants.{MAX_INSTRUCTIONS};
-ghost use Rattle.sts_machine.specs.Slice.{IsReached, local_at, locals};
+ghost use Rattle.sts_machine.specs.Slice.{IsLawful, IsReached, local_at, locals};
 ghost use Rattle.sts_model.specs.Local as def;
 ghost use Rattle.sts_model.specs.World as world;
 
@@ -11,7 +11,6 @@ use crate::copying::copy_frame;
 use std::marker::Model;
 use sts_code::code::code_of;
 use sts_code::instr::Instr;
-use sts_laws_accepted::{limits_hold, turns_are_safe, turns_are_seen};
 use sts_model::frame::local;
 use sts_model::record::Frame;
 use sts_verify::verified::Verified;
@@ -80,9 +79,11 @@ fn next_local(code: &[Instr], frame: &Frame) -> Option<Instr>
 }
 
 impl<'p> Slice<'p> {
-    /// The slice of a task that lives at this frame, with nothing done yet.
+    /// The slice of a task that lives at this frame, with nothing done yet. The laws of its program
+    /// are handed over, so that no instruction asks for them.
     pub(crate) fn cut(verified: &'p Verified, task: u32, frame: Frame) -> Slice<'p>
-        requires { IsReached verified.now task frame }
+        requires reached { IsReached verified.now task frame }
+        requires lawful { IsLawful verified.now }
         ensures { result ≡ record {
           task = task;
           code = world.code verified.now frame;
@@ -91,9 +92,6 @@ impl<'p> Slice<'p> {
           count = 0;
         } }
     {
-        turns_are_seen(verified);
-        turns_are_safe(verified);
-        limits_hold(verified);
         let start = copy_frame(&frame);
         Slice {
             verified,
