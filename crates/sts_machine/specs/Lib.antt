@@ -6,3 +6,4 @@ pub mod Laws
 pub mod Machine
 pub mod Numbers
 pub mod Whole
+pub mod Slice

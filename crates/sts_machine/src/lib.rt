@@ -3,12 +3,14 @@
 #![tactic(auto)]
 
 mod code;
+mod copying;
 mod effect;
 mod laws;
 pub mod machine;
 mod outside;
 mod perform;
 pub mod runs;
+pub mod slice;
 mod slots;
 pub mod standing;
 mod stands;

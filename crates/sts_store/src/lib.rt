@@ -13,6 +13,7 @@ mod forking;
 mod frames;
 mod joining;
 mod lookups;
+mod putting;
 mod readings;
 pub mod running;
 mod scopes;

@@ -1,0 +1,272 @@
+-- A local instruction is a step of its task that changes its frame alone; so is a slice, step by step.
+use Rattle.std.proofs.Common.{◌≡◌, ℕ, zero, suc, ◌+◌, ◌<◌, ◌≤◌, List, [], ◌∷◌, ◌++◌, Bool, true, false, Option, Some, None, refl, sym, ◌∙◌, ap, subst, length, arith, get_or, set, cond, nat_eq, nat_le, pos, slice_get, append_assoc, append-nil, get_or-set_same}
+use Rattle.std.specs.Prelude.{option_map, unwrap_or, is_some}
+use Rattle.std.specs.Ordering.{int_eq}
+use Rattle.std.proofs.lemmas.List.{set-set, set-get_or}
+use Rattle.sts_code.specs.Program.{Program, routine}
+use Rattle.sts_code.specs.declared.instr.Instr.{Instr}
+use Rattle.sts_code.specs.declared.instr.Instr.TheVariants.{Push, Pop, Dup, Swap, Load, Store, Add, Sub, Mul, Lt, Eq, Div, Jmp, Jz, Times, Next}
+use Rattle.sts_model.specs.declared.event.Event.{Event}
+use Rattle.sts_model.specs.declared.event.Event.TheVariants as event
+use Rattle.sts_model.specs.declared.event.Stand.TheVariants.{Free}
+use Rattle.sts_model.specs.declared.record.Frame.{Frame}
+use Rattle.sts_model.specs.declared.record.Loop.{Loop}
+use Rattle.sts_model.specs.World.{code, instr_at}
+use Rattle.sts_model.specs.Local.{is_local, local, turns, clipped, operand}
+use Rattle.sts_model.specs.Live.{Live, LiveTask, Alive}
+use Rattle.sts_runs.specs.Runs.{In}
+use Rattle.sts_seen.specs.Reading.{alive_at, lives_in, with_live_frame, no_live_task, no_alive}
+use Rattle.sts_seen.specs.Waiting.{live_stand_at_instr, live_stand_at, live_can_step}
+use Rattle.sts_seen.specs.Effect.{live_effect}
+use Rattle.sts_seen.specs.Run.{live_apply, live_perform, live_steps_in}
+use Rattle.sts_seen.specs.Seen.{StandsAt, TurnsAreSeen}
+use Rattle.sts_laws_costs.specs.Costs.{IsModest}
+use Rattle.sts_laws_accepted.specs.Accepted.{LimitsHold}
+use Rattle.sts_machine.specs.Slice.{if_local, and_local, locals, steps_of}
+
+-- ---- what a local instruction leaves as it is
+
+-- the function, and the structure list
+pub record IsBeside (f g : Frame) : Type 0 where
+  pub function : g.function ≡ f.function
+  pub entries : g.entries ≡ f.entries
+
+beside-refl : (f : Frame) → IsBeside f f
+beside-refl f = record { function = refl; entries = refl }
+
+beside-trans : (f g h : Frame) → IsBeside f g → IsBeside g h → IsBeside f h
+beside-trans f g h a b = record { function = b.function ∙ a.function; entries = b.entries ∙ a.entries }
+
+either : (b : Bool) (f g h : Frame) → IsBeside f g → IsBeside f h → IsBeside f (cond b g h)
+either true f g h x y = x
+either false f g h x y = y
+
+beside-turns : (f : Frame) (ls : List Loop) → IsBeside f (turns f ls)
+beside-turns f [] = beside-refl f
+beside-turns f (l ∷ ls) = either (nat_le l.left 1) f _ _ (record { function = refl; entries = refl }) (record { function = refl; entries = refl })
+
+pub beside-local : (is : List Instr) (i : Instr) (f : Frame) → IsBeside f (local is i f)
+beside-local is (Push k) f = record { function = refl; entries = refl }
+beside-local is Pop f = record { function = refl; entries = refl }
+beside-local is Dup f = record { function = refl; entries = refl }
+beside-local is Swap f = record { function = refl; entries = refl }
+beside-local is (Load x) f = record { function = refl; entries = refl }
+beside-local is (Store x) f = record { function = refl; entries = refl }
+beside-local is Add f = record { function = refl; entries = refl }
+beside-local is Sub f = record { function = refl; entries = refl }
+beside-local is Mul f = record { function = refl; entries = refl }
+beside-local is Lt f = record { function = refl; entries = refl }
+beside-local is Eq f = record { function = refl; entries = refl }
+beside-local is (Div to) f = either (int_eq (operand f 0) (pos 0)) f _ _ (record { function = refl; entries = refl }) (record { function = refl; entries = refl })
+beside-local is (Jmp to) f = record { function = refl; entries = refl }
+beside-local is (Jz to) f = record { function = refl; entries = refl }
+beside-local is (Times n) f = either (nat_eq (clipped n (operand f 0)) 0) f _ _ (record { function = refl; entries = refl }) (record { function = refl; entries = refl })
+beside-local is Next f = beside-turns f f.loops
+beside-local is i f = beside-refl f
+
+-- ---- what the last of the local instructions came from
+
+pub record Last (is : List Instr) (o : Option Frame) (g : Frame) : Type 0 where
+  pub frame : Frame
+  pub instr : Instr
+  pub before : o ≡ Some frame
+  pub at : slice_get is frame.pc ≡ Some instr
+  pub is_local : is_local instr ≡ true
+  pub next : g ≡ local is instr frame
+
+just : {X : Type 0} (x y : X) → Some x ≡ Some y → x ≡ y
+just x y e = cc
+
+pub last : (is : List Instr) (o : Option Frame) (g : Frame) → and_local is o ≡ Some g → Last is o g
+last is None g e = absurd (cc)
+last is (Some f) g e = by (slice_get is f.pc) refl e
+  where
+    so : (i : Instr) (b : Bool) → slice_get is f.pc ≡ Some i → is_local i ≡ b → option_map (λ j. local is j f) (cond b (Some i) None) ≡ Some g → Last is (Some f) g
+    so i true at l e = record { frame = f; instr = i; before = refl; at = at; is_local = l; next = sym (just _ _ e) }
+    so i false at l e = absurd (cc)
+
+    by : (q : Option Instr) → slice_get is f.pc ≡ q → option_map (λ j. local is j f) (if_local q) ≡ Some g → Last is (Some f) g
+    by None at e = absurd (cc)
+    by (Some i) at e = so i (is_local i) at refl e
+
+pub beside-locals : (is : List Instr) (f : Frame) (n : ℕ) (g : Frame) → locals is f n ≡ Some g → IsBeside f g
+beside-locals is f zero g e = subst (IsBeside f) (just f g e) (beside-refl f)
+beside-locals is f (suc n) g e =
+    let l = last is (locals is f n) g e in
+    subst (IsBeside f) (sym l.next) (beside-trans f l.frame _ (beside-locals is f n l.frame l.before) (beside-local is l.instr l.frame))
+
+-- ---- a frame in a view
+
+-- what a task that lives has
+record Here (v : Live) (t : ℕ) : Type 0 where
+  pub task : LiveTask
+  pub alive : Alive
+  pub at : get_or v.tasks t None ≡ Some task
+  pub lives : task.alive ≡ Some alive
+
+here : (v : Live) (t : ℕ) → lives_in v t ≡ true → Here v t
+here v t e = by (get_or v.tasks t None) refl e
+  where
+    so : (x : LiveTask) → get_or v.tasks t None ≡ Some x → (a : Option Alive) → x.alive ≡ a → is_some a ≡ true → Here v t
+    so x at None lives e = absurd (cc)
+    so x at (Some a) lives e = record { task = x; alive = a; at = at; lives = lives }
+
+    by : (o : Option LiveTask) → get_or v.tasks t None ≡ o → is_some (unwrap_or o no_live_task).alive ≡ true → Here v t
+    by None at e = absurd (cc)
+    by (Some x) at e = so x at x.alive refl e
+
+inside : {X : Type 0} (xs : List (Option X)) (i : ℕ) (x : X) → get_or xs i None ≡ Some x → i < length xs
+inside [] i x e = absurd (cc)
+inside (o ∷ xs) zero x e = omega arith
+inside (o ∷ xs) (suc i) x e = let h = inside xs i x e in omega (arith, h)
+
+-- the task at another frame
+abbrev framed : LiveTask → Alive → Frame → LiveTask
+framed x a f = record x { alive = Some (record a { frame = f }) }
+
+-- a written frame
+written : (v : Live) (t : ℕ) (f : Frame) (h : Here v t) → with_live_frame v t f ≡ record v { tasks = set v.tasks t (Some (framed h.task h.alive f)) }
+written v t f h =
+    ap (λ o. record v { tasks = set v.tasks t (option_map (λ (x : LiveTask). record x { alive = option_map (λ (a : Alive). record a { frame = f }) x.alive }) o) }) h.at
+    ∙ ap (λ o. record v { tasks = set v.tasks t (Some (record h.task { alive = option_map (λ (a : Alive). record a { frame = f }) o })) }) h.lives
+
+-- what is there afterwards
+there : (v : Live) (t : ℕ) (f : Frame) (h : Here v t) → get_or (with_live_frame v t f).tasks t None ≡ Some (framed h.task h.alive f)
+there v t f h =
+    ap (λ (w : Live). get_or w.tasks t None) (written v t f h)
+    ∙ get_or-set_same v.tasks t (Some (framed h.task h.alive f)) None (inside v.tasks t h.task h.at)
+
+pub lives-framed : (v : Live) (t : ℕ) (f : Frame) → lives_in v t ≡ true → lives_in (with_live_frame v t f) t ≡ true
+lives-framed v t f e = ap (λ o. is_some (unwrap_or o no_live_task).alive) (there v t f (here v t e))
+
+pub frame-framed : (v : Live) (t : ℕ) (f : Frame) → lives_in v t ≡ true → (alive_at (with_live_frame v t f) t).frame ≡ f
+frame-framed v t f e = ap (λ o. (unwrap_or (unwrap_or o no_live_task).alive no_alive).frame) (there v t f (here v t e))
+
+-- the frame that was there
+same-framed : (v : Live) (t : ℕ) → lives_in v t ≡ true → with_live_frame v t (alive_at v t).frame ≡ v
+same-framed v t e =
+    let h = here v t e in
+    let frame : (alive_at v t).frame ≡ h.alive.frame = ap (λ o. (unwrap_or (unwrap_or o no_live_task).alive no_alive).frame) h.at ∙ ap (λ o. (unwrap_or o no_alive).frame) h.lives in
+    let task : framed h.task h.alive (alive_at v t).frame ≡ h.task = ap (framed h.task h.alive) frame ∙ ap (λ o. record h.task { alive = o }) (sym h.lives) in
+    written v t (alive_at v t).frame h
+    ∙ ap (λ x. record v { tasks = set v.tasks t (Some x) }) task
+    ∙ ap (λ o. record v { tasks = set v.tasks t o }) (sym h.at)
+    ∙ ap (λ ts. record v { tasks = ts }) (set-get_or v.tasks t None)
+
+-- the later of two frames
+twice-framed : (v : Live) (t : ℕ) (f g : Frame) → lives_in v t ≡ true → with_live_frame (with_live_frame v t f) t g ≡ with_live_frame v t g
+twice-framed v t f g e =
+    let h = here v t e in
+    let w = with_live_frame v t f in
+    let k : Here w t = record { task = framed h.task h.alive f; alive = record h.alive { frame = f }; at = there v t f h; lives = refl } in
+    written w t g k
+    ∙ ap (λ (x : Live). record x { tasks = set x.tasks t (Some (framed h.task h.alive g)) }) (written v t f h)
+    ∙ ap (λ ts. record v { tasks = ts }) (set-set v.tasks t (Some (framed h.task h.alive f)) (Some (framed h.task h.alive g)))
+    ∙ sym (written v t g h)
+
+-- ---- one step
+
+-- a local instruction stands free, and its effect is on the frame
+free : (v : Live) (t : ℕ) (i : Instr) → is_local i ≡ true → live_stand_at_instr v t (Some i) ≡ Free
+free v t (Push k) e = refl
+free v t Pop e = refl
+free v t Dup e = refl
+free v t Swap e = refl
+free v t (Load x) e = refl
+free v t (Store x) e = refl
+free v t Add e = refl
+free v t Sub e = refl
+free v t Mul e = refl
+free v t Lt e = refl
+free v t Eq e = refl
+free v t (Div to) e = refl
+free v t (Jmp to) e = refl
+free v t (Jz to) e = refl
+free v t (Times n) e = refl
+free v t Next e = refl
+free v t i e = absurd (cc)
+
+effect : (p : Program) (v : Live) (t : ℕ) (f : Frame) (i : Instr) → is_local i ≡ true → live_effect p v t f i ≡ with_live_frame v t (local (code p f) i f)
+effect p v t f (Push k) e = refl
+effect p v t f Pop e = refl
+effect p v t f Dup e = refl
+effect p v t f Swap e = refl
+effect p v t f (Load x) e = refl
+effect p v t f (Store x) e = refl
+effect p v t f Add e = refl
+effect p v t f Sub e = refl
+effect p v t f Mul e = refl
+effect p v t f Lt e = refl
+effect p v t f Eq e = refl
+effect p v t f (Div to) e = refl
+effect p v t f (Jmp to) e = refl
+effect p v t f (Jz to) e = refl
+effect p v t f (Times n) e = refl
+effect p v t f Next e = refl
+effect p v t f i e = absurd (cc)
+
+-- a living task at a local instruction
+pub record AtLocal (p : Program) (v : Live) (t : ℕ) (f : Frame) (i : Instr) : Type 0 where
+  pub lives : lives_in v t ≡ true
+  pub frame : (alive_at v t).frame ≡ f
+  pub at : instr_at p f ≡ Some i
+  pub is_local : is_local i ≡ true
+
+pub can-local : (p : Program) (v : Live) (t : ℕ) (f : Frame) (i : Instr) → AtLocal p v t f i → live_can_step p v t ≡ true
+can-local p v t f i h =
+    let stand : live_stand_at p v t ≡ Free =
+    ap (λ (g : Frame). live_stand_at_instr v t (instr_at p g)) h.frame
+    ∙ ap (live_stand_at_instr v t) h.at
+    ∙ free v t i h.is_local in
+    rw (h.lives, stand) refl
+
+apply-local : (p : Program) (v : Live) (t : ℕ) (f : Frame) (i : Instr) → AtLocal p v t f i → live_apply p v (event.Step t) ≡ with_live_frame v t (local (code p f) i f)
+apply-local p v t f i h =
+    ap (λ b. cond b (live_perform p v t (alive_at v t).frame (instr_at p (alive_at v t).frame)) v) (can-local p v t f i h)
+    ∙ ap (λ (g : Frame). live_perform p v t g (instr_at p g)) h.frame
+    ∙ ap (live_perform p v t f) h.at
+    ∙ effect p v t f i h.is_local
+
+pub step-local : (p : Program) (events : List Event) (v : Live) (n t : ℕ) (f : Frame) (i : Instr) → TurnsAreSeen p → StandsAt p events v n → AtLocal p v t f i → StandsAt p (events ++ event.Step t ∷ []) (with_live_frame v t (local (code p f) i f)) (n + 1)
+step-local p events v n t f i law stands h =
+    let next = (law events v n (event.Step t) stands).stands in
+    let one : live_steps_in p v (event.Step t) ≡ 1 = rw (can-local p v t f i h) refl in
+    subst (λ w. StandsAt p (events ++ event.Step t ∷ []) w (n + 1)) (apply-local p v t f i h)
+    (subst (λ m. StandsAt p (events ++ event.Step t ∷ []) (live_apply p v (event.Step t)) (n + m)) one next)
+
+-- ---- as many steps as a slice has
+
+steps-more : (n t : ℕ) → steps_of n t ++ event.Step t ∷ [] ≡ steps_of (suc n) t
+steps-more zero t = refl
+steps-more (suc n) t = ap (λ es. event.Step t ∷ es) (steps-more n t)
+
+pub slices_are_steps : (p : Program) → TurnsAreSeen p → (events : List Event) (v : Live) (n t : ℕ) → StandsAt p events v n → lives_in v t ≡ true
+    → (count : ℕ) (f : Frame) → locals (code p (alive_at v t).frame) (alive_at v t).frame count ≡ Some f
+    → StandsAt p (events ++ steps_of count t) (with_live_frame v t f) (n + count)
+slices_are_steps p law events v n t stands lives zero f e =
+    let frame : with_live_frame v t f ≡ v = ap (with_live_frame v t) (sym (just _ f e)) ∙ same-framed v t lives in
+    subst (λ es. StandsAt p es (with_live_frame v t f) (n + 0)) (sym (append-nil events))
+    (subst (λ w. StandsAt p events w (n + 0)) (sym frame)
+    (subst (λ m. StandsAt p events v m) (omega arith) stands))
+slices_are_steps p law events v n t stands lives (suc count) f e =
+    let is = code p (alive_at v t).frame in
+    let l = last is (locals is (alive_at v t).frame count) f e in
+    let g = l.frame in
+    let w = with_live_frame v t g in
+    let before = slices_are_steps p law events v n t stands lives count g l.before in
+    let beside = beside-locals is (alive_at v t).frame count g l.before in
+    let same : code p g ≡ is = ap (λ k. (routine p k).code) beside.function in
+    let at : AtLocal p w t g l.instr = record { lives = lives-framed v t g lives; frame = frame-framed v t g lives; at = ap (λ c. slice_get c g.pc) same ∙ l.at; is_local = l.is_local } in
+    let next = step-local p (events ++ steps_of count t) w (n + count) t g l.instr law before at in
+    let frame : with_live_frame w t (local (code p g) l.instr g) ≡ with_live_frame v t f = twice-framed v t g _ lives ∙ ap (λ c. with_live_frame v t (local c l.instr g)) same ∙ ap (with_live_frame v t) (sym l.next) in
+    let list : (events ++ steps_of count t) ++ event.Step t ∷ [] ≡ events ++ steps_of (suc count) t = append_assoc events (steps_of count t) (event.Step t ∷ []) ∙ ap (λ es. events ++ es) (steps-more count t) in
+    subst (λ es. StandsAt p es (with_live_frame v t f) (n + suc count)) list
+    (subst (λ x. StandsAt p ((events ++ steps_of count t) ++ event.Step t ∷ []) x (n + suc count)) frame
+    (subst (λ m. StandsAt p ((events ++ steps_of count t) ++ event.Step t ∷ []) (with_live_frame w t (local (code p g) l.instr g)) m) (omega arith) next))
+
+-- ---- no run is longer than the limit
+
+pub within_limit : (p : Program) → LimitsHold p → (events : List Event) (v : Live) (n : ℕ) → StandsAt p events v n → n ≤ 1000000
+within_limit p limits events v n h =
+    let modest : IsModest p events h.world = subst (In (IsModest p events)) h.runs (limits events) in
+    subst (λ m. m ≤ 1000000) h.steps modest.steps

@@ -1,0 +1,73 @@
+-- The work that a task does by itself, outside of a machine (this project's own).
+use Rattle.std.specs.Prelude.{◌≡◌, ℕ, zero, suc, ◌≤◌, List, true, Option, Some, None, option_map, replicate, slice_get, if◌then◌else◌}
+use Rattle.sts_code.specs.Program.{Program}
+use Rattle.sts_code.specs.declared.instr.Instr.{Instr}
+use Rattle.sts_model.specs.declared.event.Event.{Event}
+use Rattle.sts_model.specs.declared.event.Event.TheVariants as event
+use Rattle.sts_model.specs.declared.record.Frame.{Frame}
+use Rattle.sts_model.specs.World.{code}
+use Rattle.sts_model.specs.Local.{is_local, local}
+use Rattle.sts_model.specs.Live.{Live}
+use Rattle.sts_seen.specs.Reading.{alive_at, lives_in}
+use Rattle.sts_seen.specs.Seen.{StandsAt, TurnsAreSeen}
+use Rattle.sts_views.specs.Fine.{TurnsAreSafe}
+use Rattle.sts_laws_accepted.specs.Accepted.{LimitsHold}
+
+-- ---- local instructions
+
+-- an instruction, if it is a local one
+abbrev pub if_local : Option Instr → Option Instr
+if_local None = None
+if_local (Some i) = if is_local i then Some i else None
+
+-- the next instruction, if it is a local one
+abbrev pub local_at : List Instr → Frame → Option Instr
+local_at is f = if_local (slice_get is f.pc)
+
+-- the frame after one local instruction more
+abbrev pub and_local : List Instr → Option Frame → Option Frame
+and_local is None = None
+and_local is (Some f) = option_map (λ i. local is i f) (local_at is f)
+
+-- the frame after so many local instructions; none where one of them isn't local
+abbrev pub locals : List Instr → Frame → ℕ → Option Frame
+locals is f zero = Some f
+locals is f (suc n) = and_local is (locals is f n)
+
+-- a step of this task, so many times over
+abbrev pub steps_of : ℕ → ℕ → List Event
+steps_of count t = replicate count (event.Step t)
+
+-- ---- slices
+
+-- what contracts see of a slice: its task, the code of its function, the frame that was taken out, the
+-- frame as it is now, and how many instructions lie between the two
+pub record Cut : Type 0 where
+  pub task : ℕ
+  pub code : List Instr
+  pub start : Frame
+  pub frame : Frame
+  pub count : ℕ
+
+-- some list of events leads to a view in which the task lives at this frame
+pub record IsReached (p : Program) (t : ℕ) (f : Frame) : Type 0 where
+  pub events : List Event
+  pub view : Live
+  pub steps : ℕ
+  pub stands : StandsAt p events view steps
+  pub lives : lives_in view t ≡ true
+  pub frame : (alive_at view t).frame ≡ f
+
+-- what an accepted program keeps, as far as local instructions need it
+pub record IsLawful (p : Program) : Type 0 where
+  pub seen : TurnsAreSeen p
+  pub safe : TurnsAreSafe p
+  pub limits : LimitsHold p
+
+-- the frame is the starting one after as many local instructions as were counted, the task may have
+-- got there by as many steps, and the program is an accepted one
+pub record IsSlice (p : Program) (t : ℕ) (start frame : Frame) (count : ℕ) : Type 0 where
+  pub lawful : IsLawful p
+  pub local : locals (code p start) start count ≡ Some frame
+  pub reached : IsReached p t frame
+  pub taken : count ≤ reached.steps

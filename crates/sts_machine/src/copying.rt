@@ -1,0 +1,84 @@
+//! Copies of frames, and frames compared; neither takes memory.
+
+ghost use Rattle.std.specs.Prelude.{◌≡◌, ◌↔◌, IsTrue};
+
+use sts_code::instr::Instr;
+use sts_model::record::{Entry, Frame, Loop, Slot};
+use sts_model::stack::Stack;
+
+/// A copy of a stack.
+fn copy_stack<T: Default + Copy + Drop, const N: usize>(stack: &Stack<T, N>) -> Stack<T, N>
+    ensures { result ≡ stack.now }
+{
+    let mut copy = Stack::new();
+    let len = stack.len();
+    for i in 0..len {
+        copy.push(stack.get_or(len - 1 - i, T::default()));
+    }
+    copy
+}
+
+/// A copy of a frame.
+pub(crate) fn copy_frame(frame: &Frame) -> Frame
+    ensures { result ≡ frame.now }
+{
+    Frame {
+        function: frame.function,
+        pc: frame.pc,
+        operands: copy_stack(&frame.operands),
+        locals: frame.locals,
+        loops: copy_stack(&frame.loops),
+        entries: copy_stack(&frame.entries),
+        slots: frame.slots,
+    }
+}
+
+fn same_operands(a: &Stack<i64, 32>, b: &Stack<i64, 32>) -> bool
+    ensures { IsTrue result ↔ a.now ≡ b.now }
+{
+    a.as_slice() == b.as_slice()
+}
+
+fn same_loops(a: &Stack<Loop, 8>, b: &Stack<Loop, 8>) -> bool
+    ensures { IsTrue result ↔ a.now ≡ b.now }
+{
+    a.as_slice() == b.as_slice()
+}
+
+fn same_entries(a: &Stack<Entry, 16>, b: &Stack<Entry, 16>) -> bool
+    ensures { IsTrue result ↔ a.now ≡ b.now }
+{
+    a.as_slice() == b.as_slice()
+}
+
+fn same_locals(a: &[i64; 16], b: &[i64; 16]) -> bool
+    ensures { IsTrue result ↔ a.now ≡ b.now }
+{
+    a == b
+}
+
+fn same_slots(a: &[Slot; 16], b: &[Slot; 16]) -> bool
+    ensures { IsTrue result ↔ a.now ≡ b.now }
+{
+    a == b
+}
+
+/// Are two frames the same, by value?
+pub(crate) fn same_frame(a: &Frame, b: &Frame) -> bool
+    ensures { IsTrue result ↔ a.now ≡ b.now }
+{
+    a.function == b.function
+        && a.pc == b.pc
+        && same_operands(&a.operands, &b.operands)
+        && same_locals(&a.locals, &b.locals)
+        && same_loops(&a.loops, &b.loops)
+        && same_entries(&a.entries, &b.entries)
+        && same_slots(&a.slots, &b.slots)
+}
+
+/// Are two functions' codes the same, by value?
+pub(crate) fn same_code(a: &[Instr], b: &[Instr]) -> bool
+    ensures { IsTrue result ↔ a.now ≡ b.now }
+{
+    a == b
+}

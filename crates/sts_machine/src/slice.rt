@@ -1,0 +1,182 @@
+//! Slices: a task's frame taken out, on which its local instructions are done without the machine.
+
+ghost use Rattle.std.specs.Prelude.{◌≡◌, ◌+◌, ◌<◌, ◌≤◌, Some, None, true, false, is_some, length};
+ghost use Rattle.std.specs.Prelude.{if◌then◌else◌};
+ghost use Rattle.sts_code.specs.declared.limits.TheConstants.{MAX_INSTRUCTIONS};
+ghost use Rattle.sts_machine.specs.Slice.{IsLawful, IsReached, local_at, locals};
+ghost use Rattle.sts_model.specs.Local as def;
+ghost use Rattle.sts_model.specs.World as world;
+
+use crate::copying::copy_frame;
+use std::marker::Model;
+use sts_code::code::code_of;
+use sts_code::instr::Instr;
+use sts_model::frame::local;
+use sts_model::record::Frame;
+use sts_verify::verified::Verified;
+
+/// A task's frame, taken out of a machine: the one that it was taken out with, and what local
+/// instructions have made of it.
+#[derive(Drop)]
+pub struct Slice<'p> {
+    verified: &'p Verified,
+    task: u32,
+    start: Frame,
+    frame: Frame,
+    count: u32,
+}
+
+impl<'p> Model for Slice<'p> {
+    ghost use Rattle.sts_machine.specs.Slice.{Cut, IsSlice};
+    ghost use Rattle.sts_model.specs.World.{code};
+
+    ghost Value = { Cut };
+
+    ghost view = { λ s. record {
+      task = s.task;
+      code = code s.verified.now s.start;
+      start = s.start;
+      frame = s.frame;
+      count = s.count;
+    } };
+
+    ghost invariant = { λ s. IsSlice s.verified.now s.task s.start s.frame s.count };
+}
+
+/// Is it a local instruction?
+fn is_local(instr: Instr) -> bool
+    ensures { result ≡ def.is_local instr }
+{
+    matches!(
+        instr,
+        Instr::Push(_)
+            | Instr::Pop
+            | Instr::Dup
+            | Instr::Swap
+            | Instr::Load(_)
+            | Instr::Store(_)
+            | Instr::Add
+            | Instr::Sub
+            | Instr::Mul
+            | Instr::Lt
+            | Instr::Eq
+            | Instr::Div(_)
+            | Instr::Jmp(_)
+            | Instr::Jz(_)
+            | Instr::Times(_)
+            | Instr::Next
+    )
+}
+
+/// The next instruction of a frame, if it is a local one.
+fn next_local(code: &[Instr], frame: &Frame) -> Option<Instr>
+    ensures { result ≡ local_at code.now frame.now }
+{
+    match code.get(frame.pc as usize) {
+        Some(instr) if is_local(*instr) => Some(*instr),
+        _ => None,
+    }
+}
+
+impl<'p> Slice<'p> {
+    /// The slice of a task that lives at this frame, with nothing done yet. The laws of its program
+    /// are handed over, so that no instruction asks for them.
+    pub(crate) fn cut(verified: &'p Verified, task: u32, frame: Frame) -> Slice<'p>
+        requires reached { IsReached verified.now task frame }
+        requires lawful { IsLawful verified.now }
+        ensures { result ≡ record {
+          task = task;
+          code = world.code verified.now frame;
+          start = frame;
+          frame = frame;
+          count = 0;
+        } }
+    {
+        let start = copy_frame(&frame);
+        Slice {
+            verified,
+            task,
+            start,
+            frame,
+            count: 0,
+        }
+    }
+
+    /// The task.
+    pub fn task(&self) -> u32
+        ensures { result ≡ self.now.task }
+    {
+        self.task
+    }
+
+    /// How many instructions were done.
+    pub fn count(&self) -> u32
+        ensures value { result ≡ self.now.count }
+        ensures most { result ≤ 1000000 }
+    {
+        self.count
+    }
+
+    /// The code of the task's function.
+    pub fn code(&self) -> &'p [Instr]
+        ensures value { result.now ≡ self.now.code }
+        ensures short { length result.now ≤ MAX_INSTRUCTIONS }
+    {
+        code_of(self.verified.program(), self.start.function as usize)
+    }
+
+    /// The frame that was taken out.
+    pub fn start(&self) -> &Frame
+        ensures { result.now ≡ self.now.start }
+    {
+        &self.start
+    }
+
+    /// The frame as it is now: the one that was taken out, after as many local instructions as were
+    /// done.
+    pub fn frame(&self) -> &Frame
+        ensures value { result.now ≡ self.now.frame }
+        ensures local { locals self.now.code self.now.start self.now.count ≡ Some self.now.frame }
+    {
+        &self.frame
+    }
+
+    /// Does local instructions until the limit or the first other instruction, and answers how many.
+    pub fn run_local(&mut self, limit: u32) -> u32
+        ensures task { self.new.task ≡ self.old.task }
+        ensures code { self.new.code ≡ self.old.code }
+        ensures start { self.new.start ≡ self.old.start }
+        ensures count { self.new.count ≡ self.old.count + result }
+        ensures most { result ≤ limit }
+        ensures stops { result < limit → local_at self.new.code self.new.frame ≡ None }
+    {
+        let code = self.code();
+        let mut done = 0u32;
+        while done < limit {
+            if !self.step(code) {
+                break;
+            }
+            done += 1;
+        }
+        done
+    }
+
+    /// Does the next instruction, if it is a local one.
+    fn step(&mut self, code: &[Instr]) -> bool
+        requires own_code { code.now ≡ self.old.code }
+        requires short { length code.now ≤ MAX_INSTRUCTIONS }
+        ensures task { self.new.task ≡ self.old.task }
+        ensures code { self.new.code ≡ self.old.code }
+        ensures start { self.new.start ≡ self.old.start }
+        ensures count { self.new.count ≡ self.old.count + (if result then 1 else 0) }
+        ensures local { result ≡ is_some (local_at self.old.code self.old.frame) }
+        ensures stays { result ≡ false → self.new ≡ self.old }
+    {
+        let Some(instr) = next_local(code, &self.frame) else {
+            return false;
+        };
+        local(&mut self.frame, self.verified.program(), code, instr);
+        self.count += 1;
+        true
+    }
+}

@@ -1,0 +1,21 @@
+//! A frame put back in the place of a task's.
+
+ghost use Rattle.std.specs.Prelude.{◌≡◌, true};
+ghost use Rattle.sts_seen.specs.Reading.{lives_in, with_live_frame};
+ghost use Rattle.sts_store.specs.Parts.{frame_of, live_of, unseen_of};
+
+use crate::store::Store;
+use sts_model::record::Frame;
+
+impl Store {
+    /// Puts a frame in the place of a living task's. It has the same structure list: local
+    /// instructions keep that.
+    pub fn put_frame(&mut self, t: u32, frame: Frame)
+        requires lives { lives_in (live_of self.old) t ≡ true }
+        requires entries { frame.entries ≡ (frame_of self.old t).entries }
+        ensures live { live_of self.new ≡ with_live_frame (live_of self.old) t frame }
+        ensures unseen { unseen_of self.new ≡ unseen_of self.old }
+    {
+        self.frames.at(t as usize).frame = frame;
+    }
+}
