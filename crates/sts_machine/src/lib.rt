@@ -2,11 +2,11 @@
 //! stands.
 #![tactic(auto)]
 
-mod code;
 mod copying;
 mod effect;
 mod laws;
 pub mod machine;
+mod opening;
 mod outside;
 mod perform;
 pub mod runs;

@@ -16,13 +16,14 @@ ghost use Rattle.sts_runs.specs.Runs.{In};
 ghost use Rattle.sts_seen.specs.Run.{live_apply, live_counts, live_opening, live_steps_in};
 ghost use Rattle.sts_seen.specs.Waiting.{live_can_step};
 
-use crate::code::{instr_at, root_frame};
 use crate::laws::laws;
+use crate::opening::main_frame;
 use crate::outside::{expire, interrupt};
 use crate::perform::perform;
 use crate::turned::Turned;
 use std::alloc::{AllocError, Global};
 use std::marker::Model;
+use sts_frames::code::instr_at;
 use sts_model::event::{End, Event};
 use sts_seen::run_is_seen;
 use sts_store::store::{Room, Store};
@@ -74,7 +75,7 @@ impl<'p> Machine<'p> {
             scopes: budgets.scopes,
             bindings: budgets.binds,
         };
-        let store = Store::with_room(alloc, room, root_frame(verified.program()))?;
+        let store = Store::with_room(alloc, room, main_frame(verified.program()))?;
         Ok(Machine {
             verified,
             store,

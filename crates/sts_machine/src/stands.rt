@@ -10,10 +10,10 @@ ghost use Rattle.sts_seen.specs.Waiting.{live_stand_at, live_stands_at_close, li
 ghost use Rattle.sts_store.specs.Parts.{live_of, stand_in, unseen_of};
 ghost use Rattle.sts_views.specs.Order.{InOrder};
 
-use crate::code::instr_at;
 use crate::slots::slot;
 use sts_code::instr::Instr;
 use sts_code::program::Program;
+use sts_frames::code::instr_at;
 use sts_model::event::Stand;
 use sts_model::record::Slot;
 use sts_store::store::Store;
