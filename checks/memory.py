@@ -1,0 +1,179 @@
+#!/usr/bin/env python3
+"""Refuses what the program asks of the system, one request after the other.  usage: memory.py [PROGRAM]
+
+Each case is a command with the answer that its rules give.  For n = 1, 2, .. until nothing is refused any more:
+- the nth request for memory is refused, or that and all later ones: the answer is `error memory` alone with status
+  6, or the right one;
+- the nth read fails: `error file` alone with status 6;
+- the nth write fails: a beginning of the right answer with status 6.
+And all reads and writes take one byte at a time; or the output is full, closed, or read by nobody: status 6.
+The refusals are those of refuse.c, which `cc` makes a library that is loaded before the program as it was built.
+The last line is `N passed, M failed`, of runs.
+"""
+import collections
+import os
+import subprocess
+import sys
+import tempfile
+
+HERE = os.path.dirname(os.path.realpath(__file__))
+PROGRAM = os.path.join(os.path.dirname(HERE), "crates", "sts", "out", "sts")
+NO_MEMORY, NO_FILE = (b"error memory\n", 6), (b"error file\n", 6)
+
+Case = collections.namedtuple("Case", "name words text trace answer status")
+
+
+def lines(short):
+    """A text or a trace of lines, written with ' / ' between them."""
+    return "".join(f"{it.strip()}\n" for it in short.split(" / ")).encode()
+
+
+def events(short):
+    """A trace: `0*5` is five lines `step 0`, `x0` is `expire 0`."""
+    told = []
+    for word in short.split():
+        task, _, times = word.partition("*")
+        told += [f"expire {word[1:]}"] if word[0] == "x" else [f"step {task}"] * int(times)
+    return "".join(f"{it}\n" for it in told).encode()
+
+
+FAILS = "bad: / close s0 / fail / intr: / push 0 / close s0 / fail / end"
+WORK = (
+    "func work 1 / load 0 / push 2 / mul / ret / end / func main 0 / open s0 all / push 20 / fork s0 work s1 / push 1 / fork s0 work s2 / "
+    f"join s0 bad - intr / pop / get s1 / get s2 / add / close s0 / ret / {FAILS}"
+)
+KID = "func kid 0 / push 0 / ret / end / "
+TIMED = KID + (
+    "func main 0 / open s0 awaitall timed / fork s0 kid _ / join s0 - late intr / close s0 / push 1 / ret / late: / close s0 / push 2 / ret / "
+    "intr: / push 0 / close s0 / fail / end"
+)
+MIDDLE = (
+    "func leaf 0 / interrupted / jz calm / push 1 / push 1 / ret / calm: / push 0 / ret / end / func boom 0 / push 8 / fail / end / "
+    "func mid 0 / open s1 awaitall / fork s1 leaf _ / join s1 - - intr / close s1 / push 1 / ret / intr: / cancelled s1 / close s1 / ret / end / "
+    f"func main 0 / open s0 awaitok / fork s0 mid _ / fork s0 boom _ / join s0 bad - intr / close s0 / push 0 / ret / {FAILS}"
+)
+MANY = KID + (
+    "func main 0 / push 1000 / times 1000 / open s0 awaitall / fork s0 kid _ / join s0 - - intr / close s0 / jmp go / intr: / close s0 / "
+    "go: / next / push 5 / ret / end"
+)
+BOUND = (
+    "func kid 0 needs 2 / read 2 / ret / end / func main 0 / push 6 / bind 2 / open s0 any / fork s0 kid _ / join s0 bad - intr / close s0 / "
+    "unbind / ret / bad: / close s0 / unbind / fail / intr: / push 0 / close s0 / unbind / fail / end"
+)
+RUNS = [
+    ("two subtasks", WORK, "0*5 1*4 2*4 0*7", "success 42 / steps 20", 0),
+    ("a timeout", TIMED, "0*2 1*2 x0 0*4", "success 2 / steps 8", 0),
+    ("a failure", MIDDLE, "0*3 1*3 2*2 3*1 1*3 3*3 1*2 0*3", "failed 8 / steps 19", 1),
+    ("many scopes", MANY, "0*2 " + " ".join(f"0*2 {task}*2 0*4" for task in range(1, 1001)) + " 0*2", "success 5 / steps 8004", 0),
+    ("a binding", BOUND, "0*4 1*2 0*4", "success 6 / steps 10", 0),
+]
+VERDICTS = [
+    ("two subtasks", WORK, "work steps 4 / work tasks 1 / work scopes 0 / work binds 0 / main steps 21 / main tasks 3 / main scopes 1 / main binds 0", 0),
+    ("a binding", BOUND, "kid steps 2 / kid tasks 1 / kid scopes 0 / kid binds 0 / main steps 12 / main tasks 2 / main scopes 1 / main binds 1", 0),
+    ("a way back", "func main 0 / x: / jmp x / end", "refused V4 in main at 0: jmp L0", 4),
+    ("an unknown word", "func main 0 / puhs 7 / ret / end", "error A2 line 2", 3),
+]
+LISTED = "func main 0\n  push 7\n  ret\nend\n"
+
+
+def cases():
+    """Each command on the texts and traces that fit it."""
+    for name, text, trace, answer, status in RUNS:
+        for mode in ("plain", "replay"):
+            yield Case(f"{mode}: {name}", [mode, "text", "trace"], lines(text), events(trace), lines(answer), status)
+        yield Case(f"joined: {name}", [], None, lines(text) + b"%\n" + events(trace), lines(answer), status)
+    for name, text, answer, status in VERDICTS:
+        yield Case(f"verify: {name}", ["verify", "text"], lines(text), None, lines(answer), status)
+    yield Case("list", ["list", "text"], LISTED.encode(), None, LISTED.encode(), 0)
+    for name, words, status in (("help", ["--help"], 0), ("an unknown command", ["plane", "text"], 2), ("a missing file", ["replay", "text"], 2)):
+        yield Case(name, words, None, None, b"", status)
+
+
+class Refusing:
+    """The program behind refuse.c, in a folder with a case's files."""
+
+    def __init__(self, program, folder):
+        self.program, self.folder, self.library = os.path.realpath(program), folder, os.path.join(folder, "refuse.so")
+        subprocess.run(["cc", "-O1", "-shared", "-fPIC", "-o", self.library, os.path.join(HERE, "refuse.c")], check=True)
+
+    def put(self, case):
+        for name, content in (("text", case.text), ("trace", case.trace)):
+            with open(os.path.join(self.folder, name), "wb") as file:
+                file.write(content or b"")
+
+    def run(self, case, refuse, out=subprocess.PIPE):
+        """What is printed, the status, and whether something was refused."""
+        told, tells = os.pipe()
+        with open(os.path.join(self.folder, "trace"), "rb") as file:
+            around = {"LD_PRELOAD": self.library, "REFUSE": refuse, "REFUSED": str(tells)}
+            done = subprocess.run(
+                [self.program, *case.words], stdin=file, stdout=out, stderr=subprocess.PIPE, cwd=self.folder, env=around, pass_fds=[tells], timeout=120
+            )
+        os.close(tells)
+        refused = bool(os.read(told, 1))
+        os.close(told)
+        return (done.stdout, done.returncode), refused
+
+
+def is_right(kind, answer, right):
+    """Is it an answer to a run in which something of this kind was refused?"""
+    if kind.startswith("memory"):
+        return answer in (NO_MEMORY, right)
+    if kind == "read":
+        return answer == NO_FILE
+    return answer[1] == 6 and right[0].startswith(answer[0])
+
+
+def refusals(refusing, case, kind, later=""):
+    """Yields for each n whether the answer is right where the nth request of this kind is refused."""
+    right, n = (case.answer, case.status), 0
+    while True:
+        n += 1
+        answer, refused = refusing.run(case, f"{kind}:{n}{later}")
+        yield (answer == right) if not refused else is_right(kind, answer, right), f"{kind}:{n}{later}", answer
+        if not refused:
+            return
+
+
+def outputs(refusing, case):
+    """Yields the same for one byte at a time, and for an output that is full, closed, or read by nobody."""
+    answer, _ = refusing.run(case, "short")
+    yield answer == (case.answer, case.status), "short", answer
+    if not case.answer:
+        return
+    reader, nobody = os.pipe()
+    os.close(reader)
+    with open("/dev/full", "wb") as full, open("/dev/null", "rb") as closed, open(nobody, "wb") as gone:
+        for what, out in (("full", full), ("closed", closed), ("read by nobody", gone)):
+            (_, status), _ = refusing.run(case, "", out)
+            yield status == 6, what, status
+
+
+def tried(refusing, case):
+    refusing.put(case)
+    for kind, later in (("memory", ""), ("memory", "+"), ("read", ""), ("write", "")):
+        yield from refusals(refusing, case, kind, later)
+    yield from outputs(refusing, case)
+
+
+def main():
+    program = sys.argv[1] if len(sys.argv) > 1 else PROGRAM
+    if not os.access(program, os.X_OK):
+        print(f"memory.py: no program at {program}: ./sts builds it", file=sys.stderr)
+        return 2
+    passed = failed = 0
+    with tempfile.TemporaryDirectory() as folder:
+        refusing = Refusing(program, folder)
+        for case in cases():
+            before = passed + failed
+            for right, what, answer in tried(refusing, case):
+                passed, failed = passed + right, failed + (not right)
+                if not right:
+                    print(f"{case.name}, {what}: {answer}", file=sys.stderr)
+            print(f"{case.name}: {passed + failed - before} runs")
+    print(f"{passed} passed, {failed} failed")
+    return 1 if failed else 0
+
+
+if __name__ == "__main__":
+    sys.exit(main())

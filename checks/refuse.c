@@ -1,0 +1,44 @@
+/* Stands before a program and refuses what it asks of the system, as the environment says:
+     REFUSE=memory:3    the third request for memory; read:3 and write:3 the third read and write
+     REFUSE=memory:3+   the third and all later ones
+     REFUSE=short       nothing, but each read and write takes one byte at a time
+   Where something was refused, a byte goes to the file descriptor that REFUSED names. */
+#define _GNU_SOURCE
+#include <errno.h>
+#include <stdlib.h>
+#include <string.h>
+#include <sys/syscall.h>
+#include <unistd.h>
+
+extern void *__libc_malloc(size_t), *__libc_realloc(void *, size_t);
+
+static int refuses(const char *kind, unsigned long asked, int error) {
+  const char *said = getenv("REFUSE"), *to = getenv("REFUSED");
+  size_t long_ = strlen(kind);
+  if (!said || strncmp(said, kind, long_) || said[long_] != ':') return 0;
+  char *rest;
+  unsigned long at = strtoul(said + long_ + 1, &rest, 10);
+  if (asked != at && !(*rest == '+' && asked > at)) return 0;
+  if (to) syscall(SYS_write, atoi(to), "x", 1);
+  errno = error;
+  return 1;
+}
+
+static size_t taken(size_t count) {
+  const char *said = getenv("REFUSE");
+  return count && said && !strcmp(said, "short") ? 1 : count;
+}
+
+static unsigned long requests, reads, writes;
+
+void *malloc(size_t size) { return refuses("memory", ++requests, ENOMEM) ? 0 : __libc_malloc(size); }
+
+void *realloc(void *old, size_t size) { return refuses("memory", ++requests, ENOMEM) ? 0 : __libc_realloc(old, size); }
+
+ssize_t read(int file, void *to, size_t count) {
+  return refuses("read", ++reads, EIO) ? -1 : syscall(SYS_read, file, to, taken(count));
+}
+
+ssize_t write(int file, const void *from, size_t count) {
+  return refuses("write", ++writes, EIO) ? -1 : syscall(SYS_write, file, from, taken(count));
+}
