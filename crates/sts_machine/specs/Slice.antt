@@ -12,6 +12,7 @@ use Rattle.sts_seen.specs.Reading.{alive_at, lives_in}
 use Rattle.sts_seen.specs.Seen.{StandsAt, TurnsAreSeen}
 use Rattle.sts_views.specs.Fine.{TurnsAreSafe}
 use Rattle.sts_laws_accepted.specs.Accepted.{LimitsHold}
+use Rattle.sts_machine.specs.Machine.{Seen}
 
 -- ---- local instructions
 
@@ -71,3 +72,10 @@ pub record IsSlice (p : Program) (t : ℕ) (start frame : Frame) (count : ℕ) :
   pub local : locals (code p start) start count ≡ Some frame
   pub reached : IsReached p t frame
   pub taken : count ≤ reached.steps
+
+-- the slice was taken from a task that lives in the machine, from the frame at which it is, and is of
+-- the code of its function there
+pub record Fits (m : Seen) (s : Cut) : Type 0 where
+  pub lives : lives_in m.live s.task ≡ true
+  pub start : s.start ≡ (alive_at m.live s.task).frame
+  pub code : s.code ≡ code m.program s.start

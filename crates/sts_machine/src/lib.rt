@@ -2,6 +2,7 @@
 //! stands.
 #![tactic(auto)]
 
+pub mod beside;
 mod copying;
 mod effect;
 mod laws;
@@ -11,6 +12,7 @@ mod outside;
 mod perform;
 pub mod runs;
 pub mod slice;
+pub mod slicing;
 mod slots;
 pub mod standing;
 mod stands;

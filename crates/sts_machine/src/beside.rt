@@ -1,0 +1,18 @@
+//! Which task is next, beside those that are out.
+
+ghost use Rattle.std.specs.Prelude.{not, ◌&&◌, ◌==◌};
+ghost use Rattle.std.specs.List.{list_any};
+ghost use Rattle.sts_machine.specs.Turned.{Picks};
+ghost use Rattle.sts_seen.specs.Waiting.{live_can_step};
+
+use crate::machine::Machine;
+
+impl<'p> Machine<'p> {
+    /// Some task that can step and is not in this list: none only where there is none.
+    pub fn ready_beside(&self, out: &[u32]) -> Option<u32>
+        ensures { Picks (λ t. live_can_step self.now.program self.now.live t
+            && not (list_any (λ o. o == t) out.now)) result }
+    {
+        todo!()
+    }
+}

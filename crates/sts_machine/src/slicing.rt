@@ -1,0 +1,57 @@
+//! Slices taken out of a machine, and put back.
+
+ghost use Rattle.std.specs.Prelude.{◌≡◌, ◌+◌, ◌++◌, ◌↔◌, List, true, false, not, ◌&&◌, ◌==◌, IsTrue};
+ghost use Rattle.std.specs.List.{list_any};
+ghost use Rattle.sts_machine.specs.Machine.{Stands};
+ghost use Rattle.sts_machine.specs.Slice.{Fits, steps_of};
+ghost use Rattle.sts_machine.specs.Turned.{Picks};
+ghost use Rattle.sts_model.specs.World as world;
+ghost use Rattle.sts_model.specs.declared.event.Event.{Event as AnyEvent};
+ghost use Rattle.sts_seen.specs.Reading.{alive_at, with_live_frame};
+ghost use Rattle.sts_seen.specs.Waiting.{live_can_step};
+
+use crate::copying::{copy_frame, same_code, same_frame};
+use crate::machine::Machine;
+use crate::slice::Slice;
+use crate::stands::say_stand;
+
+impl<'p> Machine<'p> {
+    /// A task that can step, taken out: the machine keeps its frame as it is.
+    pub fn slice(&self, task: u32) -> Slice<'p>
+        requires { live_can_step self.now.program self.now.live task ≡ true }
+        ensures { result ≡ record {
+          task = task;
+          code = world.code self.now.program (alive_at self.now.live task).frame;
+          start = (alive_at self.now.live task).frame;
+          frame = (alive_at self.now.live task).frame;
+          count = 0;
+        } }
+    {
+        let frame = copy_frame(self.store.frame(task));
+        Slice::cut(self.verified, task, frame)
+    }
+
+    /// Was the slice taken from a task that lives here, from the frame at which it is, and is the code
+    /// of its function this program's?
+    pub fn fits(&self, slice: &Slice<'p>) -> bool
+        ensures { IsTrue result ↔ Fits self.now slice.now }
+    {
+        todo!()
+    }
+
+    /// Does what as many steps of its task do as the slice has done.
+    pub fn put(&mut self, slice: &Slice<'p>)
+        requires { Fits self.old slice.now }
+        ensures program { self.new.program ≡ self.old.program }
+        ensures live { self.new.live
+            ≡ with_live_frame self.old.live slice.now.task slice.now.frame }
+        ensures steps { self.new.steps ≡ self.old.steps + slice.now.count }
+        ensures stands { (events : List AnyEvent) → Stands self.old events
+            → Stands self.new (events ++ steps_of slice.now.count slice.now.task) }
+    {
+        let task = slice.task();
+        self.store.put_frame(task, copy_frame(slice.frame()));
+        say_stand(&mut self.store, self.verified.program(), task, true);
+        self.steps += u64::from(slice.count());
+    }
+}

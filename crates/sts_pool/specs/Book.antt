@@ -1,0 +1,70 @@
+-- The book of a run: a machine, the journal of its events, and which tasks are out (this project's own).
+use Rattle.std.specs.Prelude.{◌≡◌, ℕ, ◌+◌, ◌≤◌, List, [], length, count_by, Bool, true, not, ◌&&◌, ◌==◌, eqb}
+use Rattle.std.specs.List.{list_any, IsDistinct}
+use Rattle.sts_code.specs.Program.{Program}
+use Rattle.sts_code.specs.declared.profile.Profile.TheVariants.{One}
+use Rattle.sts_rules.specs.declared.budget.Budgets.{Budgets}
+use Rattle.sts_rules.specs.Refusal.{IsBudgetOf}
+use Rattle.sts_model.specs.declared.event.Event.{Event}
+use Rattle.sts_model.specs.Run.{is_step}
+use Rattle.sts_seen.specs.Reading.{lives_in}
+use Rattle.sts_seen.specs.Waiting.{live_can_step}
+use Rattle.sts_views.specs.Stands.{StandsStay}
+use Rattle.sts_laws_accepted.specs.Accepted.{main_of}
+use Rattle.sts_laws_accepted.specs.EveryRun.{RunsWell}
+use Rattle.sts_laws_accepted.specs.Views.{ViewsAreWithin}
+use Rattle.sts_machine.specs.Machine.{Seen, Stands}
+use Rattle.sts_machine.specs.Slice.{Cut, Fits}
+
+-- ---- what contracts see of a book
+
+-- a program of no functions, which stands where none is picked yet
+abbrev pub no_program : Program
+no_program = record { profile = One; routines = [] }
+
+-- its program, its machine, the journal of the machine's events, and the tasks that are out
+pub record BookSeen : Type 0 where
+  pub program : Program
+  pub machine : Seen
+  pub journal : List Event
+  pub out : List ℕ
+
+abbrev pub book_of : Seen → List Event → List ℕ → BookSeen
+book_of m journal out = record { program = m.program; machine = m; journal = journal; out = out }
+
+-- is the task out?
+abbrev pub is_out : BookSeen → ℕ → Bool
+is_out b t = list_any (λ o. o == t) b.out
+
+-- is a turn of the task a step?
+abbrev pub may_turn : BookSeen → ℕ → Bool
+may_turn b t = live_can_step b.program b.machine.live t && not (is_out b t)
+
+-- the slice was taken out of this book, and its task is as it was
+abbrev pub IsOurs : BookSeen → Cut → Type 0
+IsOurs b s = (is_out b s.task ≡ true) × Fits b.machine s
+
+-- the interrupts and expiries among the events
+abbrev pub outside_entries : List Event → ℕ
+outside_entries events = count_by (λ e. not (is_step e)) events
+
+-- ---- what the type of a book keeps
+
+-- the machine stands where the journal leads, each entry is a step that counted or came from outside,
+-- and the tasks that are out live
+pub record IsBook (b : BookSeen) : Type 0 where
+  pub stands : Stands b.machine b.journal
+  pub counted : length b.journal ≡ b.machine.steps + outside_entries b.journal
+  pub most : outside_entries b.journal ≤ 4096
+  pub apart : IsDistinct eqb b.out
+  pub living : (t : ℕ) → is_out b t ≡ true → lives_in b.machine.live t ≡ true
+
+-- the laws of its program, and room in its two lists by the budget of `main`
+pub record HasBookRoom (p : Program) (journal out : ℕ) : Type 0 where
+  pub budget : Budgets
+  pub printed : IsBudgetOf p (main_of p) budget
+  pub runs_well : (events : List Event) → RunsWell p budget events
+  pub stay : StandsStay p
+  pub within : ViewsAreWithin p
+  pub journal_room : budget.steps + 4096 ≤ journal
+  pub out_room : budget.tasks ≤ out

@@ -1,0 +1,250 @@
+//! The book of a run: a machine and the journal of its events.
+
+ghost use Rattle.std.specs.Prelude.{◌≡◌, ◌≢◌, ℕ, ◌+◌, ◌≤◌, ◌++◌, ◌∷◌, [], ◌↔◌, List, IfOk, OnOk, IfErr, OnErr};
+ghost use Rattle.std.specs.Prelude.{IfSome, IfNone, IsErr, IsOk, IsTrue, true, false, filter, not, ◌==◌};
+ghost use Rattle.std.specs.Prelude.{vec_len, vec_capacity};
+ghost use Rattle.sts_machine.specs.Machine.{Stands};
+ghost use Rattle.sts_machine.specs.Slice.{steps_of};
+ghost use Rattle.sts_machine.specs.Turned.{Picks, turned};
+ghost use Rattle.sts_model.specs.Run.{after, counts};
+ghost use Rattle.sts_model.specs.Waiting.{can_step};
+ghost use Rattle.sts_model.specs.World.{code, task_at};
+ghost use Rattle.sts_pool.specs.Book.{IsOurs, is_out, may_turn, outside_entries};
+ghost use Rattle.sts_pool.specs.Outside.{IsOutside};
+ghost use Rattle.sts_pool.specs.Report.{IsReport};
+ghost use Rattle.sts_runs.specs.Runs.{In};
+ghost use Rattle.sts_seen.specs.Reading.{alive_at};
+
+use crate::report::{PoolError, Report};
+use std::alloc::{AllocError, Global};
+use std::marker::Model;
+use sts_laws_accepted::{every_run, stands_stay, views_are_within};
+use sts_machine::machine::Machine;
+use sts_machine::slice::Slice;
+use sts_machine::turned::Turned;
+use sts_model::event::{End, Event};
+use sts_verify::verified::Verified;
+
+/// As many outside events as a book takes.
+pub(crate) const MOST_OUTSIDE: u32 = 4096;
+
+/// A machine, the journal of its events, and the tasks whose frames are out.
+#[derive(Drop)]
+pub struct Book<'p> {
+    machine: Machine<'p>,
+    journal: Vec<Event>,
+    outside: u32,
+    out: Vec<u32>,
+}
+
+impl<'p> Model for Book<'p> {
+    ghost use Rattle.std.specs.Prelude.{◌≡◌, vec_capacity};
+    ghost use Rattle.sts_pool.specs.Book.{BookSeen, HasBookRoom, IsBook, book_of, outside_entries};
+
+    ghost Value = { BookSeen };
+
+    ghost view = { λ b. book_of b.machine b.journal.items b.out.items };
+
+    ghost invariant = { λ b. IsBook (book_of b.machine b.journal.items b.out.items)
+        × (outside_entries b.journal.items ≡ b.outside)
+        × HasBookRoom b.machine.program (vec_capacity b.journal) (vec_capacity b.out) };
+}
+
+/// The book has as many outside events as it takes.
+#[derive(Clone, Copy, Debug, PartialEq, Eq)]
+pub struct OutsideFull;
+
+/// A slice that is not this book's, given back.
+#[derive(Drop)]
+pub struct Stranger<'p> {
+    pub slice: Slice<'p>,
+}
+
+impl<'p> Book<'p> {
+    /// A book before the first event, with room for as many steps as the budget of `main` and 4,096
+    /// outside events, and for as many tasks out as that budget lets stand. No other call takes memory.
+    ///
+    /// # Errors
+    ///
+    /// Want of memory.
+    pub fn start(alloc: Global, verified: &'p Verified) -> Result<Book<'p>, AllocError>
+        ensures program { IfOk result (λ b. b.program ≡ verified.now) }
+        ensures journal { IfOk result (λ b. b.journal ≡ []) }
+        ensures out { IfOk result (λ b. b.out ≡ []) }
+    {
+        stands_stay(verified);
+        views_are_within(verified);
+        let budget = every_run(verified);
+        let machine = Machine::prepare(alloc, verified)?;
+        let entries = budget.steps as usize + MOST_OUTSIDE as usize;
+        let journal = Vec::with_capacity(alloc, entries)?;
+        let out = Vec::with_capacity(alloc, budget.tasks as usize)?;
+        Ok(Book {
+            machine,
+            journal,
+            outside: 0,
+            out,
+        })
+    }
+
+    /// The entries so far, oldest first: the machine stands where they lead.
+    pub fn journal(&self) -> &[Event]
+        ensures value { result.now ≡ self.now.journal }
+        ensures stands { Stands self.now.machine self.now.journal }
+        ensures program { self.now.machine.program ≡ self.now.program }
+    {
+        self.journal.as_slice()
+    }
+
+    /// Some task that can step, out or not: none only where there is none.
+    pub fn ready(&self) -> Option<u32>
+        ensures { In (λ w. Picks (can_step self.now.program w) result)
+            (after self.now.program self.now.journal) }
+    {
+        self.machine.ready()
+    }
+
+    /// How the root ended, if it did.
+    pub fn root_end(&self) -> Option<End>
+        ensures { In (λ w. result ≡ (task_at w 0).outcome) (after self.now.program self.now.journal) }
+    {
+        self.machine.root_end()
+    }
+
+    /// A step of a task that can step and isn't out, recorded; else nothing.
+    pub fn turn(&mut self, task: u32) -> Turned
+        ensures turned { result ≡ turned (may_turn self.old task) }
+        ensures journal { may_turn self.old task ≡ true
+            → self.new.journal ≡ self.old.journal ++ Event.Step task ∷ [] }
+        ensures idle { may_turn self.old task ≡ false → self.new ≡ self.old }
+        ensures program { self.new.program ≡ self.old.program }
+        ensures out { self.new.out ≡ self.old.out }
+    {
+        if self.out.contains(&task) {
+            return Turned::Idle;
+        }
+        match self.machine.turn(Event::Step(task)) {
+            Turned::Idle => Turned::Idle,
+            Turned::Stepped => {
+                self.journal.push_reserved(Event::Step(task));
+                Turned::Stepped
+            }
+        }
+    }
+
+    /// An interrupt or an expiry, recorded also where it is idle.
+    ///
+    /// # Errors
+    ///
+    /// The journal has 4,096 of them: nothing changed.
+    pub fn outside(&mut self, event: Event) -> Result<Turned, OutsideFull>
+        requires { IsOutside event }
+        ensures full { IsErr result ↔ (outside_entries self.old.journal ≡ 4096) }
+        ensures stays { OnErr result (self.new ≡ self.old) }
+        ensures turned { IfOk result (λ t. t
+            ≡ turned (counts self.old.program (after self.old.program self.old.journal) event)) }
+        ensures journal { OnOk result (self.new.journal ≡ self.old.journal ++ event ∷ []) }
+        ensures program { self.new.program ≡ self.old.program }
+        ensures out { self.new.out ≡ self.old.out }
+    {
+        if self.is_full() {
+            return Err(OutsideFull);
+        }
+        let turned = self.machine.turn(event);
+        self.journal.push_reserved(event);
+        self.outside += 1;
+        Ok(turned)
+    }
+
+    /// Takes a task out that can step and isn't out: none only where there is none.
+    pub fn check_out(&mut self) -> Option<Slice<'p>>
+        ensures none { IfNone result ((self.new ≡ self.old)
+            × ((t : ℕ) → may_turn self.old t ≡ false)) }
+        ensures ready { IfSome result (λ s. may_turn self.old s.task ≡ true) }
+        ensures slice { IfSome result (λ s. s ≡ record {
+          task = s.task;
+          code = code self.old.program (alive_at self.old.machine.live s.task).frame;
+          start = (alive_at self.old.machine.live s.task).frame;
+          frame = (alive_at self.old.machine.live s.task).frame;
+          count = 0;
+        }) }
+        ensures out { IfSome result (λ s.
+            self.new ≡ record self.old { out = self.old.out ++ s.task ∷ [] }) }
+    {
+        let task = self.machine.ready_beside(self.out.as_slice())?;
+        self.out.push_reserved(task);
+        Some(self.machine.slice(task))
+    }
+
+    /// Takes a slice back, and records as many steps of its task as it has done.
+    ///
+    /// # Errors
+    ///
+    /// Its task isn't out here, is out from another frame, or the code of its function isn't this
+    /// book's: the slice is given back, and nothing changed.
+    pub fn check_in(&mut self, slice: Slice<'p>) -> Result<(), Stranger<'p>>
+        ensures ours { IsOk result ↔ IsOurs self.old slice.entry }
+        ensures journal { OnOk result (self.new.journal
+            ≡ self.old.journal ++ steps_of slice.entry.count slice.entry.task) }
+        ensures back { OnOk result (is_out self.new slice.entry.task ≡ false) }
+        ensures others { OnOk result ((t : ℕ) → t ≢ slice.entry.task
+            → is_out self.new t ≡ is_out self.old t) }
+        ensures program { OnOk result (self.new.program ≡ self.old.program) }
+        ensures stranger { IfErr result (λ e. e.slice ≡ slice.entry) }
+        ensures stays { OnErr result (self.new ≡ self.old) }
+    {
+        let task = slice.task();
+        if !self.out.contains(&task) || !self.machine.fits(&slice) {
+            return Err(Stranger { slice });
+        }
+        self.machine.put(&slice);
+        record_steps(&mut self.journal, task, slice.count());
+        forget(&mut self.out, task);
+        Ok(())
+    }
+
+    /// What is reported of the book, if its root has ended.
+    ///
+    /// # Errors
+    ///
+    /// The root lives.
+    pub(crate) fn report(self) -> Result<Report, PoolError>
+        ensures { IfOk result (λ r. IsReport self.entry.program r.journal.items r.end) }
+    {
+        let Some(end) = self.machine.root_end() else {
+            return Err(PoolError::Unfinished);
+        };
+        let Book {
+            machine: _,
+            journal,
+            outside: _,
+            out: _,
+        } = self;
+        Ok(Report { end, journal })
+    }
+
+    /// Does the book take no further outside event?
+    pub(crate) fn is_full(&self) -> bool
+        ensures { IsTrue result ↔ outside_entries self.now.journal ≡ 4096 }
+    {
+        self.outside >= MOST_OUTSIDE
+    }
+}
+
+/// As many steps of a task, at the end of a journal.
+fn record_steps(journal: &mut Vec<Event>, task: u32, count: u32)
+    requires { vec_len journal.old + count ≤ vec_capacity journal.old }
+    ensures items { journal.new.items ≡ journal.old.items ++ steps_of count task }
+    ensures capacity { vec_capacity journal.new ≡ vec_capacity journal.old }
+{
+    let entries = journal.len() + count as usize;
+    journal.resize(entries, Event::Step(task)).unwrap();
+}
+
+/// Takes one task out of a list.
+fn forget(out: &mut Vec<u32>, task: u32)
+    ensures items { out.new.items ≡ filter (λ o. not (o == task)) out.old.items }
+    ensures capacity { vec_capacity out.new ≡ vec_capacity out.old }
+{
+    out.retain(|t| *t != task);
+}

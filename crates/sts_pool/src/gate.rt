@@ -1,0 +1,19 @@
+//! What a run asks of its caller: a gate before each piece of work, and the events from outside.
+
+ghost use Rattle.std.specs.Prelude.{IfSome};
+ghost use Rattle.sts_pool.specs.Outside.{IsOutside};
+
+use sts_model::event::Event;
+
+/// Is called with no lock held before a worker works on a task.
+pub trait Gate {
+    fn enter(&self, worker: u32, task: u32);
+}
+
+/// Gives the interrupts and expiries of a run; it never gives a step.
+pub trait Outside {
+    /// The next event, if one is due where the journal has so many entries. It is asked under the
+    /// lock before each turn, until it gives none or 4,096 events were taken.
+    fn next(&mut self, journal_length: u64) -> Option<Event>
+        ensures { IfSome result IsOutside };
+}

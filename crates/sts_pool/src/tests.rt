@@ -1,0 +1,1 @@
+//! Books, and runs with several workers.
