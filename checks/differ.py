@@ -4,6 +4,8 @@
 No single mistake in one mode survives it, since another mode says the same by other code:
 - `replay` prints what `plain` prints where the program is accepted, and what `verify` prints where it isn't;
 - an accepted program comes to no fault, and takes no more steps than its budget;
+- what `run` writes as its journal, `replay` leads to the end and the steps that `run` printed; of the outside events
+  that it was given a beginning stands in the journal, in their order;
 - `list` prints a text of the same program: with the same verdict, the same run, and listed as itself.
 
 Programs are drawn as texts of both profiles: whole ones, which are accepted for the most part, ones with a line
@@ -22,6 +24,7 @@ import time
 ROOT = os.path.dirname(os.path.dirname(os.path.realpath(__file__)))
 SLOTS = 16
 ACCEPTED, REFUSED, BAD_TEXT = 0, 4, 3
+ENDED = (0, 1)
 GIVES_COUNT = ("all", "until")
 
 
@@ -247,6 +250,15 @@ def trace(draw):
     return "".join(f"{it}\n" for it in events)
 
 
+def outside(draw):
+    """Interrupts and expiries, each due at a length of the journal."""
+    lines = []
+    for _ in range(draw.choice([0, 0, 1, 3, 20])):
+        at, kind = draw.choice([0, 1, 2, 5, 10, 40, 200]), draw.choice(["interrupt", "interrupt", "expire"])
+        lines.append(f"at {at} {kind} {draw.randrange(4)}\n")
+    return "".join(lines)
+
+
 # ---- comparisons
 
 
@@ -259,15 +271,27 @@ class Program:
     def __init__(self, path, folder):
         self.path, self.folder = path, folder
 
-    def says(self, mode, text, events=None):
-        paths = [os.path.join(self.folder, name) for name in ("text", "trace")]
-        for path, content in zip(paths, (text, events)):
-            if content is not None:
-                with open(path, "w") as file:
-                    file.write(content)
-        words = [self.path, mode] + paths[: 1 if events is None else 2]
-        done = subprocess.run(words, stdin=subprocess.DEVNULL, capture_output=True, text=True, timeout=120)
+    def put(self, name, content):
+        """The path of a file of this name with this content."""
+        path = os.path.join(self.folder, name)
+        with open(path, "w") as file:
+            file.write(content)
+        return path
+
+    def answers(self, *words):
+        done = subprocess.run([self.path, *words], stdin=subprocess.DEVNULL, capture_output=True, text=True, timeout=120)
         return Said(done.returncode, done.stdout)
+
+    def says(self, mode, text, events=None):
+        traced = [] if events is None else [self.put("trace", events)]
+        return self.answers(mode, self.put("text", text), *traced)
+
+    def runs(self, text, workers, due):
+        """What `run` says, and its journal."""
+        journal = self.put("journal", "")
+        said = self.answers("run", self.put("text", text), "--workers", str(workers), "--outside", self.put("outside", due), "--trace", journal)
+        with open(journal) as file:
+            return said, file.read()
 
 
 def steps_of(said):
@@ -278,7 +302,25 @@ def budget_of(verdict):
     return int(verdict.text.split("main steps ")[1].split("\n")[0])
 
 
-def differences(program, text, events):
+def misrun(program, text, workers, due, verdict):
+    """Yields what is wrong with a run by workers."""
+    said, journal = program.runs(text, workers, due)
+    if verdict.status != ACCEPTED:
+        if (said, journal) != (verdict, ""):
+            yield f"run of what isn't accepted says {said}, wanted {verdict}, and wrote {len(journal)} bytes"
+        return
+    if said.status not in ENDED or program.says("replay", text, journal) != said:
+        yield f"run by {workers} says {said}, not so its journal"
+        return
+    came = [line for line in journal.splitlines() if not line.startswith("step ")]
+    given = [line.split(" ", 2)[2] for line in due.splitlines()]
+    if came != given[: len(came)]:
+        yield f"run by {workers} recorded {came} of {given}"
+    if steps_of(said) > budget_of(verdict) or len(journal.splitlines()) - len(came) > budget_of(verdict):
+        yield f"run by {workers} took more steps than the budget: {said}, {verdict}"
+
+
+def differences(program, text, events, workers, due):
     """Yields what is wrong with the case, and first the verdict's status."""
     verdict, plain = program.says("verify", text), program.says("plain", text, events)
     replay = program.says("replay", text, events)
@@ -290,6 +332,7 @@ def differences(program, text, events):
         yield f"an accepted program comes to a fault: {plain}"
     if verdict.status == ACCEPTED and steps_of(plain) > budget_of(verdict):
         yield f"more steps than the budget: {plain}, {verdict}"
+    yield from misrun(program, text, workers, due, verdict)
     listed = program.says("list", text)
     if verdict.status == BAD_TEXT:
         if not listed == plain == verdict:
@@ -304,15 +347,16 @@ def differences(program, text, events):
 
 
 def drawn(seed, number):
-    """The text and the trace of a case."""
+    """The text and the trace of a case, how many workers run it, and what comes from outside."""
     draw = random.Random(f"{seed} {number}")
     text = draw.choice([whole, whole, whole, broken, soup])(draw)
-    return text, trace(draw)
+    return text, trace(draw), draw.choice([1, 2, 3, 8, 16]), outside(draw)
 
 
-def keep(folder, number, text, events, said):
+def keep(folder, number, case, said):
     os.makedirs(folder, exist_ok=True)
-    for name, content in (("sts", text), ("trace", events), ("said", "\n".join(said) + "\n")):
+    text, events, workers, due = case
+    for name, content in (("sts", text), ("trace", events), ("outside", due), ("said", f"{workers} workers\n" + "\n".join(said) + "\n")):
         with open(os.path.join(folder, f"{number}.{name}"), "w") as file:
             file.write(content)
 
@@ -323,12 +367,12 @@ def compare(program, seed, numbers, folder, until):
     for number in numbers:
         if time.time() > until:
             break
-        text, events = drawn(seed, number)
-        status, *said = differences(program, text, events)
+        case = drawn(seed, number)
+        status, *said = differences(program, *case)
         verdicts[status] += 1
         if said:
             failed += 1
-            keep(folder, number, text, events, said)
+            keep(folder, number, case, said)
             print(f"case {number}: {said[0]}", file=sys.stderr)
     return verdicts, failed
 

@@ -5,7 +5,8 @@ Each case is a command with the answer that its rules give.  For n = 1, 2, .. un
 - the nth request for memory is refused, or that and all later ones: the answer is `error memory` alone with status
   6, or the right one;
 - the nth read fails: `error file` alone with status 6;
-- the nth write fails: a beginning of the right answer with status 6.
+- the nth write fails: a beginning of the right answer with status 6, or `error file` alone where it was the journal's.
+A run by workers may also say `error threads`, where what was refused was a worker's own.
 And all reads and writes take one byte at a time; or the output is full, closed, or read by nobody: status 6.
 The refusals are those of refuse.c, which `cc` makes a library that is loaded before the program as it was built.
 The last line is `N passed, M failed`, of runs.
@@ -18,7 +19,7 @@ import tempfile
 
 HERE = os.path.dirname(os.path.realpath(__file__))
 PROGRAM = os.path.join(os.path.dirname(HERE), "crates", "sts", "out", "sts")
-NO_MEMORY, NO_FILE = (b"error memory\n", 6), (b"error file\n", 6)
+NO_MEMORY, NO_FILE, NO_THREADS = (b"error memory\n", 6), (b"error file\n", 6), (b"error threads\n", 6)
 
 Case = collections.namedtuple("Case", "name words text trace answer status")
 
@@ -67,6 +68,8 @@ RUNS = [
     ("many scopes", MANY, "0*2 " + " ".join(f"0*2 {task}*2 0*4" for task in range(1, 1001)) + " 0*2", "success 5 / steps 8004", 0),
     ("a binding", BOUND, "0*4 1*2 0*4", "success 6 / steps 10", 0),
 ]
+# runs that take the same steps in whichever order the workers take them
+SAME_IN_ANY_ORDER = ("two subtasks", "many scopes", "a binding")
 VERDICTS = [
     ("two subtasks", WORK, "work steps 4 / work tasks 1 / work scopes 0 / work binds 0 / main steps 21 / main tasks 3 / main scopes 1 / main binds 0", 0),
     ("a binding", BOUND, "kid steps 2 / kid tasks 1 / kid scopes 0 / kid binds 0 / main steps 12 / main tasks 2 / main scopes 1 / main binds 1", 0),
@@ -82,6 +85,10 @@ def cases():
         for mode in ("plain", "replay"):
             yield Case(f"{mode}: {name}", [mode, "text", "trace"], lines(text), events(trace), lines(answer), status)
         yield Case(f"joined: {name}", [], None, lines(text) + b"%\n" + events(trace), lines(answer), status)
+        if name in SAME_IN_ANY_ORDER:
+            for workers in ("1", "3"):
+                words = ["run", "text", "--workers", workers, "--trace", "journal"]
+                yield Case(f"run by {workers}: {name}", words, lines(text), None, lines(answer), status)
     for name, text, answer, status in VERDICTS:
         yield Case(f"verify: {name}", ["verify", "text"], lines(text), None, lines(answer), status)
     yield Case("list", ["list", "text"], LISTED.encode(), None, LISTED.encode(), 0)
@@ -115,22 +122,22 @@ class Refusing:
         return (done.stdout, done.returncode), refused
 
 
-def is_right(kind, answer, right):
+def is_right(kind, answer, right, by_workers):
     """Is it an answer to a run in which something of this kind was refused?"""
     if kind.startswith("memory"):
-        return answer in (NO_MEMORY, right)
+        return answer in (NO_MEMORY, right, *([NO_THREADS] if by_workers else []))
     if kind == "read":
         return answer == NO_FILE
-    return answer[1] == 6 and right[0].startswith(answer[0])
+    return (by_workers and answer == NO_FILE) or answer[1] == 6 and right[0].startswith(answer[0])
 
 
 def refusals(refusing, case, kind, later=""):
     """Yields for each n whether the answer is right where the nth request of this kind is refused."""
-    right, n = (case.answer, case.status), 0
+    right, by_workers, n = (case.answer, case.status), case.words[:1] == ["run"], 0
     while True:
         n += 1
         answer, refused = refusing.run(case, f"{kind}:{n}{later}")
-        yield (answer == right) if not refused else is_right(kind, answer, right), f"{kind}:{n}{later}", answer
+        yield (answer == right) if not refused else is_right(kind, answer, right, by_workers), f"{kind}:{n}{later}", answer
         if not refused:
             return
 
