@@ -1,12 +1,14 @@
 //! One task's frame: what the machine that tests everything and the machine that tests nothing both
 //! read of it and make of it.
 //!
-//! The records and their stacks, and local instructions, are in `sts_model`. Here is what begins a
-//! frame, what its program says at it, its slots, and the frame's part of the other instructions.
+//! The records and their stacks, and what local instructions do, are in `sts_model`. Here is what
+//! begins a frame, what its program says at it, its slots, which instructions are local, and the
+//! frame's part of the others.
 #![tactic(auto)]
 
 pub mod beginning;
 pub mod code;
 pub mod ends;
+pub mod local;
 pub mod slots;
 pub mod steps;

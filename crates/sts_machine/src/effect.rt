@@ -13,6 +13,7 @@ ghost use Rattle.sts_views.specs.Order.{InOrder};
 use crate::slots::named;
 use sts_code::instr::Instr;
 use sts_code::program::Program;
+use sts_frames::local::is_local;
 use sts_model::event::End;
 use sts_store::store::Store;
 
@@ -78,22 +79,7 @@ fn quiet(store: &mut Store, program: &Program, code: &[Instr], t: u32, instr: In
     ensures unseen { unseen_of store.new ≡ unseen_of store.old }
 {
     match instr {
-        Instr::Push(_)
-        | Instr::Pop
-        | Instr::Dup
-        | Instr::Swap
-        | Instr::Load(_)
-        | Instr::Store(_)
-        | Instr::Add
-        | Instr::Sub
-        | Instr::Mul
-        | Instr::Lt
-        | Instr::Eq
-        | Instr::Div(_)
-        | Instr::Jmp(_)
-        | Instr::Jz(_)
-        | Instr::Times(_)
-        | Instr::Next => store.local(program, code, t, instr),
+        _ if is_local(instr) => store.local(program, code, t, instr),
         Instr::Join {
             slot,
             failed,
@@ -120,12 +106,7 @@ fn quiet(store: &mut Store, program: &Program, code: &[Instr], t: u32, instr: In
         Instr::Bound(k) => store.push_is_bound(t, k),
         Instr::OrElse(k) => store.or_else(t, k),
         Instr::Interrupted => store.take_flag(t),
-        Instr::Open { .. }
-        | Instr::Fork { .. }
-        | Instr::Close(_)
-        | Instr::Bind(_)
-        | Instr::Unbind
-        | Instr::Ret
-        | Instr::Fail => {}
+        // What isn't quiet is done by `effect`.
+        _ => {}
     }
 }

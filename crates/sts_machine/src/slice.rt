@@ -4,13 +4,13 @@ ghost use Rattle.std.specs.Prelude.{◌≡◌, ◌+◌, ◌<◌, ◌≤◌, Some
 ghost use Rattle.std.specs.Prelude.{if◌then◌else◌};
 ghost use Rattle.sts_code.specs.declared.limits.TheConstants.{MAX_INSTRUCTIONS};
 ghost use Rattle.sts_machine.specs.Slice.{IsLawful, IsReached, local_at, locals};
-ghost use Rattle.sts_model.specs.Local as def;
 ghost use Rattle.sts_model.specs.World as world;
 
 use crate::copying::copy_frame;
 use std::marker::Model;
 use sts_code::code::code_of;
 use sts_code::instr::Instr;
+use sts_frames::local::is_local;
 use sts_model::frame::local;
 use sts_model::record::Frame;
 use sts_verify::verified::Verified;
@@ -41,31 +41,6 @@ impl<'p> Model for Slice<'p> {
     } };
 
     ghost invariant = { λ s. IsSlice s.verified.now s.task s.start s.frame s.count };
-}
-
-/// Is it a local instruction?
-fn is_local(instr: Instr) -> bool
-    ensures { result ≡ def.is_local instr }
-{
-    matches!(
-        instr,
-        Instr::Push(_)
-            | Instr::Pop
-            | Instr::Dup
-            | Instr::Swap
-            | Instr::Load(_)
-            | Instr::Store(_)
-            | Instr::Add
-            | Instr::Sub
-            | Instr::Mul
-            | Instr::Lt
-            | Instr::Eq
-            | Instr::Div(_)
-            | Instr::Jmp(_)
-            | Instr::Jz(_)
-            | Instr::Times(_)
-            | Instr::Next
-    )
 }
 
 /// The next instruction of a frame, if it is a local one.

@@ -14,6 +14,7 @@ use sts_code::instr::Instr;
 use sts_code::program::Program;
 use sts_frames::code::instr_at;
 use sts_frames::ends::{case_target, value_or_zero};
+use sts_frames::local::is_local;
 use sts_frames::slots::named;
 use sts_model::event::End;
 use sts_world::records::Records;
@@ -128,22 +129,7 @@ fn change(world: &mut World, program: &Program, t: u32, instr: Instr)
         (def.task_at world.old t).frame instr }
 {
     match instr {
-        Instr::Push(_)
-        | Instr::Pop
-        | Instr::Dup
-        | Instr::Swap
-        | Instr::Load(_)
-        | Instr::Store(_)
-        | Instr::Add
-        | Instr::Sub
-        | Instr::Mul
-        | Instr::Lt
-        | Instr::Eq
-        | Instr::Div(_)
-        | Instr::Jmp(_)
-        | Instr::Jz(_)
-        | Instr::Times(_)
-        | Instr::Next => world.local(program, t, instr),
+        _ if is_local(instr) => world.local(program, t, instr),
         Instr::Join {
             slot,
             failed,
@@ -206,6 +192,7 @@ fn change(world: &mut World, program: &Program, t: u32, instr: Instr)
             push_value(world, t, 1, value);
         }
         Instr::Interrupted => world.take_flag(t),
-        Instr::Open { .. } | Instr::Fork { .. } | Instr::Ret | Instr::Fail => {}
+        // What takes memory is done by `perform`.
+        _ => {}
     }
 }

@@ -1,4 +1,4 @@
-use Rattle.std.proofs.Common.{sym, ◌∙◌, ap, rules, List}
+use Rattle.std.proofs.Common.{sym, ◌∙◌, ap, List}
 use Rattle.sts_code.specs.declared.instr.Instr.{Instr}
 use Rattle.sts_model.specs.Local.{local}
 use Rattle.sts_seen.specs.Effect.{live_effect}
@@ -7,13 +7,13 @@ use Rattle.sts_store.specs.Parts.{frame_of, live_of}
 use Rattle.sts_machine.proofs.Fine.{local_effect}
 use Rattle.sts_machine.proofs.effect.quiet.Goals as goal
 
-pub returns-in-Push-clause-live : goal.returns-in-Push-clause-live
-returns-in-Push-clause-live c =
+pub returns-then-is_local-clause-live : goal.returns-then-is_local-clause-live
+returns-then-is_local-clause-live c =
     let v = live_of c.args.store.now in
     let f = frame_of c.args.store.now c.args.t in
     c.local.ensures.live
     ∙ ap (λ (is : List Instr). with_live_frame v c.args.t (local is c.args.instr f)) c.requires.own_code
-    ∙ sym (local_effect c.args.program.now v c.args.t f c.args.instr (search rules))
+    ∙ sym (local_effect c.args.program.now v c.args.t f c.args.instr (sym c.is_local.ensures ∙ c.if-is_local.true))
 
 pub returns-in-Cancelled-clause-live : goal.returns-in-Cancelled-clause-live
 returns-in-Cancelled-clause-live c = c.push_cancelled.ensures.live c.args.program.now ∙ ap (live_effect c.args.program.now (live_of c.args.store.now) c.args.t (frame_of c.args.store.now c.args.t)) (sym c.in-Cancelled.is)
