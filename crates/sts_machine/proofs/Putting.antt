@@ -50,20 +50,20 @@ module _ (p : Program) (m : Parts) (n : ℕ) (is : IsMachine p m n) where
 no : false ≡ true → ⊥
 no e = cc
 
+fits_here : {m u : Seen} {s : Cut} → m ≡ u → Fits u s → Fits m s
+fits_here {m} {u} {s} view = subst (λ (x : Seen). Fits x s) (sym view)
+
 -- what a machine is asked of a slice: t is its task
 module _ {m u : Seen} {s : Cut} {t : ℕ} (view : m ≡ u) (task : t ≡ s.task) where
-  here : Fits u s → Fits m s
-  here fits = subst (λ (x : Seen). Fits x s) (sym view) fits
-
   pub of_no_task : {b : Bool} → b ≡ lives_in m.live t → b ≡ false → IsTrue false ↔ Fits u s
-  of_no_task asked off = (λ e. absurd (no e), λ fits. absurd (no (sym off ∙ asked ∙ ap (lives_in m.live) task ∙ (here fits).lives)))
+  of_no_task asked off = (λ e. absurd (no e), λ fits. absurd (no (sym off ∙ asked ∙ ap (lives_in m.live) task ∙ (fits_here view fits).lives)))
 
   -- its starting frame, and the frame of the task
   module _ {f g : Frame} {b : Bool} (start : f ≡ s.start) (at : g ≡ (alive_at m.live t).frame) (asked : IsTrue b ↔ (f ≡ g)) where
     pub of_no_frame : b ≡ false → IsTrue false ↔ Fits u s
     of_no_frame off = (
       λ e. absurd (no e),
-      λ fits. absurd (no (sym off ∙ asked.1 (start ∙ (here fits).start ∙ ap (λ k. (alive_at m.live k).frame) (sym task) ∙ sym at))),
+      λ fits. absurd (no (sym off ∙ asked.1 (start ∙ (fits_here view fits).start ∙ ap (λ k. (alive_at m.live k).frame) (sym task) ∙ sym at))),
     )
 
     pub of_code : {l r : Bool} {h : Frame} {q : Program} {is js : List Instr} → l ≡ lives_in m.live t → l ≡ true → b ≡ true
@@ -77,7 +77,7 @@ module _ {m u : Seen} {s : Cut} {t : ℕ} (view : m ≡ u) (task : t ≡ s.task)
                 start = sym start ∙ asked.0 same ∙ at ∙ ap (λ k. (alive_at m.live k).frame) task;
                 code = sym own ∙ compared.0 e ∙ own_code;
               }),
-          λ fits. compared.1 (own ∙ (here fits).code ∙ sym own_code),
+          λ fits. compared.1 (own ∙ (fits_here view fits).code ∙ sym own_code),
         )
 
 -- ---- a frame of t is written: another task stands where it stood
@@ -111,9 +111,12 @@ module _ (v : Live) (t : ℕ) (f : Frame) (i : ℕ) (other : (i == t) ≡ false)
 
 -- ---- put back
 
+-- how a machine is seen
+abbrev pub seen_of : Program → Parts → ℕ → Seen
+seen_of p m n = record { program = p; live = live_of m; unseen = unseen_of m; steps = n }
+
 -- what may be said of a machine whose task t is put at the frame f, as many steps later
 pub record Puts (p : Program) (m : Parts) (n t : ℕ) (f : Frame) (count : ℕ) : Type 0 where
-  pub lives : lives_in (live_of m) t ≡ true
   pub entries : f.entries ≡ (frame_of m t).entries
   pub few : n + count ≤ 1000000
   pub order : InOrder (with_live_frame (live_of m) t f)
@@ -130,7 +133,6 @@ module _ (p : Program) (m : Parts) (n : ℕ) (is : IsMachine p m n) (t : ℕ) (l
       let here = steps is.events is.stands in
       let entries : f.entries ≡ (frame_of m t).entries = (beside-locals (code p (frame_of m t)) (frame_of m t) count f done).entries in
       record {
-        lives = lives;
         entries = entries;
         few = within_limit p is.laws.limits (is.events ++ steps_of count t) x (n + count) here;
         order = is.laws.order (is.events ++ steps_of count t) x (n + count) here;
@@ -141,10 +143,10 @@ module _ (p : Program) (m : Parts) (n : ℕ) (is : IsMachine p m n) (t : ℕ) (l
 
 -- a slice that fits, of the machine that is seen so
 pub puts : {p : Program} {m : Parts} {n t count : ℕ} {f : Frame} {u : Seen} {s : Cut}
-    → IsMachine p m n → ◌≡◌ {A = Seen} (record { program = p; live = live_of m; unseen = unseen_of m; steps = n }) u
+    → IsMachine p m n → seen_of p m n ≡ u
     → Fits u s → t ≡ s.task → f ≡ s.frame → count ≡ s.count → locals s.code s.start s.count ≡ Some s.frame → Puts p m n t f count
 puts {p} {m} {n} {t} {count} {f} {u} {s} is view fits task frame counted done =
-    let here : Fits (record { program = p; live = live_of m; unseen = unseen_of m; steps = n }) s = subst (λ (x : Seen). Fits x s) (sym view) fits in
+    let here : Fits (seen_of p m n) s = fits_here view fits in
     let g : Frame = frame_of m s.task in
     let own : locals (code p g) g s.count ≡ Some s.frame =
     sym (ap (λ js. locals js s.start s.count) here.code ∙ ap (λ (h : Frame). locals (code p h) h s.count) here.start) ∙ done in
@@ -182,7 +184,7 @@ module _ {p : Program} {m : Parts} {n t count : ℕ} {f : Frame} (x : Parts) (g 
         }
 
     -- at every list of events at which the machine stood
-    pub stands_there : (u : Seen) (s : Cut) → ◌≡◌ {A = Seen} (record { program = p; live = live_of m; unseen = unseen_of m; steps = n }) u
+    pub stands_there : (u : Seen) (s : Cut) → seen_of p m n ≡ u
         → t ≡ s.task → count ≡ s.count → (events : List Event) → Stands u events
         → StandsAt p (events ++ steps_of s.count s.task) (live_of y) (n + count)
     stands_there u s view task counted events h =
