@@ -11,11 +11,10 @@ use Rattle.sts_model.specs.declared.record.Completion.{Completion}
 use Rattle.sts_model.specs.declared.record.Frame.{Frame}
 use Rattle.sts_model.specs.declared.record.Scope.{Scope}
 use Rattle.sts_model.specs.declared.record.Task.{Task}
-use Rattle.sts_model.specs.World.{World, task_at, scope_at, with_task, with_scope, with_frame, no_task, no_scope}
+use Rattle.sts_model.specs.World.{World, task_at, scope_at, with_task, with_scope, no_task, no_scope}
 use Rattle.sts_model.specs.Living.{lives, completion_of, is_living_subtask}
 use Rattle.sts_model.specs.Cancelling.{cancel, marked, raised}
 use Rattle.sts_model.specs.Effect.{open_scope, fork_task, ended, subtask_of, told}
-use Rattle.sts_model.specs.Outside.{interrupt}
 use Rattle.sts_world.specs.Ends.{KnowsEnds, end_in}
 
 -- ---- lists
@@ -54,9 +53,6 @@ ends_task w v bs t x e scope outcome k =
     let same : SameEnds w (with_task w t x) = record { tasks = λ s u b. alike_set (λ (y : Task). end_in s y b) w.tasks t u x no_task (rw (scope, outcome) refl); scopes = λ s. refl } in
     rw e (ends_same w (with_task w t x) bs bs (k.as_many ∙ sym (length-set w.tasks t x)) (λ u. refl) same k)
 
-pub ends_frame : (w v : World) (bs : List Bool) (t : ℕ) (f : Frame) → v ≡ with_frame w t f → KnowsEnds w bs → KnowsEnds v bs
-ends_frame w v bs t f e k = ends_task w v bs t (record (task_at w t) { frame = f }) e refl refl k
-
 pub ends_scope : (w v : World) (bs : List Bool) (s : ℕ) (x : Scope) → v ≡ with_scope w s x → x.completions ≡ (scope_at w s).completions → KnowsEnds w bs → KnowsEnds v bs
 ends_scope w v bs s x e same k =
     rw e (ends_same w (with_scope w s x) bs bs k.as_many (λ u. refl) (record { tasks = λ r u b. refl; scopes = λ r. alike_set (λ (y : Scope). y.completions) w.scopes s r x no_scope same }) k)
@@ -81,13 +77,6 @@ ends_cancel w v bs s e k = rw e (by_test (scope_at w s).cancelled refl)
     by_test : (b : Bool) → (scope_at w s).cancelled ≡ b → KnowsEnds (cancel w s) bs
     by_test true h = rw h k
     by_test false h = rw h (ends_marked w bs s k)
-
-pub ends_interrupt : (w v : World) (bs : List Bool) (t : ℕ) → v ≡ interrupt w t → KnowsEnds w bs → KnowsEnds v bs
-ends_interrupt w v bs t e k = rw e (by_test (lives (task_at w t)) refl)
-  where
-    by_test : (b : Bool) → lives (task_at w t) ≡ b → KnowsEnds (interrupt w t) bs
-    by_test true h = rw h (ends_task w _ bs t (record (task_at w t) { flag = true }) refl refl refl k)
-    by_test false h = rw h k
 
 -- ---- births
 

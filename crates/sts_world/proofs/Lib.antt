@@ -8,5 +8,6 @@ pub mod Raising
 pub mod Resting
 pub mod Same
 pub mod Scoping
+pub mod Staying
 pub mod Verdicts
 pub mod Worlds

@@ -1,10 +1,10 @@
 -- Scopes as they are kept, and what is shown of them.
-use Rattle.std.proofs.Common.{◌≡◌, ℕ, zero, suc, ◌+◌, ◌<◌, ◌≤◌, List, [], ◌∷◌, ◌++◌, length, map, Bool, true, false, Option, Some, None, eqb, inl, inr, ◌⊎◌, refl, ap, sym, ◌∙◌, arith, get_or, set, slice_get}
-use Rattle.std.proofs.lemmas.Bool.{eqb-true, eqb-false, cases_lt}
-use Rattle.std.proofs.lemmas.List.{get_or-map, get_or_past, map-set, map-append, length-map, get_or-set_same, get_or-set_other}
+use Rattle.std.proofs.Common.{◌≡◌, ℕ, zero, suc, ◌<◌, ◌≤◌, List, [], ◌∷◌, ◌++◌, length, map, Bool, true, false, Option, Some, None, inl, inr, ◌⊎◌, refl, ap, sym, ◌∙◌, get_or, set}
+use Rattle.std.proofs.lemmas.Bool.{cases_lt}
+use Rattle.std.proofs.lemmas.List.{get_or-map, get_or_past, map-set, map-append, length-map}
 use Rattle.sts_model.specs.declared.record.Task.{Task}
 use Rattle.sts_model.specs.declared.record.Scope.{Scope}
-use Rattle.sts_model.specs.World.{World, scope_at, with_scope, no_scope, no_task}
+use Rattle.sts_model.specs.World.{World, with_scope, no_scope, no_task}
 use Rattle.sts_code.specs.declared.instr.Joiner.{Joiner}
 use Rattle.sts_model.specs.declared.event.Phase.TheVariants.{Opened}
 use Rattle.sts_model.specs.declared.record.Bound.{Bound}
@@ -17,7 +17,7 @@ use Rattle.sts_model.specs.Local.{steps}
 use Rattle.sts_world.specs.declared.chains.Link.{Link}
 use Rattle.sts_world.specs.declared.scope.ScopeRecord.{ScopeRecord}
 use Rattle.sts_world.specs.Chains.{bindings_of, is_within, Grows}
-use Rattle.sts_world.specs.Scopes.{shown, no_record, front_of, AreWithin, IsShown}
+use Rattle.sts_world.specs.Scopes.{shown, no_record, front_of, AreWithin}
 use Rattle.sts_world.proofs.Chaining.{chain_none, bindings_grown, grows_longer, within_more}
 
 pub shown_at : (links : List Link) (xs : List ScopeRecord) (s : ℕ) → s < length xs → get_or (map (shown links) xs) s no_scope ≡ shown links (get_or xs s no_record)

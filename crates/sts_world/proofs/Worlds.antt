@@ -12,12 +12,12 @@ use Rattle.sts_model.specs.declared.event.End.TheVariants.{Success}
 use Rattle.sts_model.specs.declared.record.Completion.{Completion}
 use Rattle.sts_model.specs.declared.record.Task.{Task}
 use Rattle.sts_model.specs.declared.record.Scope.{Scope}
-use Rattle.sts_model.specs.World.{World, task_at, scope_at, with_task, with_scope, with_frame, no_task, no_scope}
+use Rattle.sts_model.specs.World.{World, task_at, scope_at, with_task, with_scope, no_task, no_scope}
 use Rattle.sts_model.specs.Joining.{is_success, is_failure}
+use Rattle.sts_model.specs.Local.{steps}
 use Rattle.sts_model.specs.Living.{is_closed, lives, subtask_count, any_lives, ends}
 use Rattle.sts_model.specs.Cancelling.{cancel, marked}
 use Rattle.sts_model.specs.Effect.{with_phase, open_scope, fork_task, ended, subtask_of, told}
-use Rattle.sts_model.specs.Outside.{interrupt}
 use Rattle.sts_model.specs.Standing as standing
 use Rattle.sts_joiners.specs.Tallied.{Tallied, tallied, with_end, ends_told}
 use Rattle.sts_joiners.proofs.Tells.{is_enough}
@@ -30,9 +30,6 @@ use Rattle.sts_world.proofs.Same.{same_task, same_scope, same_raised}
 
 pub kept_task : (w v : World) (fs : List Family) (ts : List Tallied) (n m t : ℕ) (x : Task) → v ≡ with_task w t x → line x ≡ line (task_at w t) → IsKept (lines w) fs ts n m → IsKept (lines v) fs ts n m
 kept_task w v fs ts n m t x e same k = kept_same (lines v) (lines w) fs ts n m (ap lines e ∙ same_task w t x same) k
-
-pub kept_frame : (w v : World) (fs : List Family) (ts : List Tallied) (n m t : ℕ) (f : Frame) → v ≡ with_frame w t f → IsKept (lines w) fs ts n m → IsKept (lines v) fs ts n m
-kept_frame w v fs ts n m t f e k = kept_task w v fs ts n m t (record (task_at w t) { frame = f }) e refl k
 
 pub kept_scope : (w v : World) (fs : List Family) (ts : List Tallied) (n m s : ℕ) (x : Scope) → v ≡ with_scope w s x → is_shut x ≡ is_shut (scope_at w s) → tally_of x ≡ tally_of (scope_at w s) → IsKept (lines w) fs ts n m → IsKept (lines v) fs ts n m
 kept_scope w v fs ts n m s x e same tally k = kept_same (lines v) (lines w) fs ts n m (ap lines e ∙ same_scope w s x same tally) k
@@ -107,6 +104,10 @@ alive w t h e = get_or-map line w.tasks t no_task (line no_task) h ∙ rw e refl
 after_end : (w v : World) (t : ℕ) (f : Frame) (end : End) → v ≡ ended w t f end → lines v ≡ record (lines w) { tasks = set (map line w.tasks) t (record { scope = (task_at w t).scope; lives = false }) }
 after_end w v t f end e = ap lines e ∙ rw (map-set, and_false) refl
 
+-- a task's own end is that end in the world
+pub ended_at : (w : World) (t : ℕ) (task x : Task) (end : End) → x ≡ record task { frame = steps task.frame 1 []; outcome = Some end } → task ≡ task_at w t → with_task w t x ≡ ended w t (task_at w t).frame end
+ended_at w t task x end e was = ap (with_task w t) (e ∙ ap (λ (y : Task). record y { frame = steps y.frame 1 []; outcome = Some end }) was)
+
 pub kept_root_end : (w v : World) (fs : List Family) (ts : List Tallied) (n m t : ℕ) (f : Frame) (end : End) → v ≡ ended w t f end → t < length w.tasks → lives (task_at w t) ≡ true → (task_at w t).scope ≡ None → IsKept (lines w) fs ts n m → IsKept (lines v) fs ts n m
 kept_root_end w v fs ts n m t f end e h living root k =
     rw (after_end w v t f end e, root) (kept_end (lines w) fs ts n m t (line no_task) k (rw length-map h) (alive w t h living ∙ rw root refl))
@@ -120,13 +121,6 @@ pub kept_task_end : (w v : World) (fs : List Family) (ts : List Tallied) (n m t 
 kept_task_end w v fs ts n m t s f end e h living in_scope k =
     rw (after_end w v t f end e, in_scope)
     (kept_end_in (lines w) fs ts n m t s (line no_task) k (rw length-map h) (task_family w fs ts n m t s h living in_scope k).0 (alive w t h living ∙ rw in_scope refl))
-
-pub kept_interrupt : (w v : World) (fs : List Family) (ts : List Tallied) (n m t : ℕ) → v ≡ interrupt w t → IsKept (lines w) fs ts n m → IsKept (lines v) fs ts n m
-kept_interrupt w v fs ts n m t e k = kept_same (lines v) (lines w) fs ts n m (ap lines e ∙ by_test (lives (task_at w t)) refl) k
-  where
-    by_test : (b : Bool) → lives (task_at w t) ≡ b → lines (interrupt w t) ≡ lines w
-    by_test true h = rw h (same_task w t (record (task_at w t) { flag = true }) refl)
-    by_test false h = rw h refl
 
 -- a scope that is told of an end
 tally_told : (scope : Scope) (t : ℕ) (end : End) → tally_of (told scope t end) ≡ with_end (tally_of scope) end

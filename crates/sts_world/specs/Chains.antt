@@ -1,5 +1,5 @@
 -- Environments that share their bindings: each binding is a link, and says which older link is behind it (this project's own).
-use Rattle.std.specs.Prelude.{◌≡◌, ℕ, zero, suc, ℤ, pos, List, [], ◌∷◌, ◌++◌, length, nat_lt, slice_index_or, Bool, true, Option, Some, None, if◌then◌else◌}
+use Rattle.std.specs.Prelude.{◌≡◌, ℕ, zero, suc, pos, List, [], ◌∷◌, ◌++◌, length, nat_lt, slice_index_or, Bool, true, Option, Some, None, if◌then◌else◌}
 use Rattle.sts_model.specs.declared.record.Bound.{Bound}
 use Rattle.sts_model.specs.Living.{is_in}
 use Rattle.sts_world.specs.declared.chains.Link.{Link}

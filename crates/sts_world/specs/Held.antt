@@ -1,5 +1,5 @@
 -- A task's frame as it is held: in full while the task lives, and at rest in what is used of it (this project's own).
-use Rattle.std.specs.Prelude.{ℕ, List, [], ◌∷◌, reverse, replicate, Bool, true, false, Option, Some, None}
+use Rattle.std.specs.Prelude.{ℕ, [], ◌∷◌, reverse, replicate, Bool, true, false, Option, Some, None}
 use Rattle.sts_model.specs.declared.record.Frame.{Frame}
 use Rattle.sts_model.specs.declared.record.Slot.{Slot}
 use Rattle.sts_model.specs.declared.record.Slot.TheVariants.{Empty, Lent}

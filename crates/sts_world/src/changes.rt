@@ -26,116 +26,9 @@ use sts_model::event::{End, Phase};
 use sts_model::record::{Completion, Slot};
 use sts_model::stack::Items;
 
-// ---- the frame of one task
+// ---- one task
 
 impl Records {
-    /// Pops `n` operands and goes to `to`.
-    pub(crate) fn goes(&mut self, t: u32, to: u32, n: usize)
-        requires born { t < length self.old.tasks }
-        requires lives { living.lives (def.task_at self.old t) ≡ true }
-        ensures { self.new ≡ def.with_frame self.old t
-            (frames.goes (def.task_at self.old t).frame to n []) }
-    {
-        self.tasks[t as usize].goes(to, n);
-    }
-
-    /// Pops `n` operands, pushes a value and goes to `to`.
-    pub(crate) fn goes_with(&mut self, t: u32, to: u32, n: usize, value: i64)
-        requires born { t < length self.old.tasks }
-        requires lives { living.lives (def.task_at self.old t) ≡ true }
-        requires room { length (def.task_at self.old t).frame.operands - n < 32 }
-        ensures { self.new ≡ def.with_frame self.old t
-            (frames.goes (def.task_at self.old t).frame to n (value ∷ [])) }
-    {
-        self.tasks[t as usize].goes_with(to, n, value);
-    }
-
-    /// Does a local instruction.
-    pub(crate) fn local(&mut self, program: &Program, t: u32, instr: Instr)
-        requires born { t < length self.old.tasks }
-        requires lives { living.lives (def.task_at self.old t) ≡ true }
-        requires at { def.instr_at program.now (def.task_at self.old t).frame ≡ Some instr }
-        requires more { (def.task_at self.old t).frame.pc + 1 < 2 ^ 32 }
-        requires short { length (def.code program.now (def.task_at self.old t).frame) < 2 ^ 32 }
-        requires is_local { frames.is_local instr ≡ true }
-        requires room { misuse.overflows program.now (def.task_at self.old t).frame instr ≡ false }
-        requires loops { misuse.breaks_loop program.now
-            (def.task_at self.old t).frame instr ≡ false }
-        ensures { self.new ≡ def.with_frame self.old t
-            (frames.local (def.code program.now (def.task_at self.old t).frame) instr
-            (def.task_at self.old t).frame) }
-    {
-        self.tasks[t as usize].local(program, instr);
-    }
-
-    /// Empties a slot.
-    pub(crate) fn forget(&mut self, t: u32, x: u8)
-        requires born { t < length self.old.tasks }
-        requires lives { living.lives (def.task_at self.old t) ≡ true }
-        requires more { (def.task_at self.old t).frame.pc + 1 < 2 ^ 32 }
-        ensures { self.new ≡ effect.forget self.old t (def.task_at self.old t).frame x }
-    {
-        self.tasks[t as usize].forget(x);
-    }
-
-    /// Binds a key to the popped operand.
-    pub(crate) fn bind(&mut self, t: u32, k: u8)
-        requires born { t < length self.old.tasks }
-        requires lives { living.lives (def.task_at self.old t) ≡ true }
-        requires more { (def.task_at self.old t).frame.pc + 1 < 2 ^ 32 }
-        requires entries { length (def.task_at self.old t).frame.entries < 16 }
-        ensures { self.new ≡ effect.bind self.old t (def.task_at self.old t).frame k }
-    {
-        self.tasks[t as usize].bind(k);
-    }
-
-    /// Ends the innermost binding.
-    pub(crate) fn unbind(&mut self, t: u32)
-        requires born { t < length self.old.tasks }
-        requires lives { living.lives (def.task_at self.old t) ≡ true }
-        requires more { (def.task_at self.old t).frame.pc + 1 < 2 ^ 32 }
-        ensures { self.new ≡ effect.unbind self.old t (def.task_at self.old t).frame }
-    {
-        self.tasks[t as usize].unbind();
-    }
-
-    /// Pushes the flag and clears it.
-    pub(crate) fn take_flag(&mut self, t: u32)
-        requires born { t < length self.old.tasks }
-        requires lives { living.lives (def.task_at self.old t) ≡ true }
-        requires more { (def.task_at self.old t).frame.pc + 1 < 2 ^ 32 }
-        requires room { length (def.task_at self.old t).frame.operands < 32 }
-        ensures { self.new ≡ effect.take_flag self.old t (def.task_at self.old t).frame }
-    {
-        self.tasks[t as usize].take_flag();
-    }
-
-    /// Leaves a `join` that was interrupted.
-    pub(crate) fn leave_join(&mut self, t: u32, to: u32)
-        requires born { t < length self.old.tasks }
-        requires lives { living.lives (def.task_at self.old t) ≡ true }
-        ensures { self.new ≡ def.with_task self.old t
-            (record (def.task_at self.old t) {
-              frame = frames.goes
-                  (def.task_at self.old t).frame to 0 [];
-              flag = false;
-            }) }
-    {
-        self.tasks[t as usize].leave_join(to);
-    }
-
-    /// Leaves a `close` that has ended, with these slots.
-    pub(crate) fn leave_close(&mut self, t: u32, slots: [Slot; 16])
-        requires born { t < length self.old.tasks }
-        requires lives { living.lives (def.task_at self.old t) ≡ true }
-        requires more { (def.task_at self.old t).frame.pc + 1 < 2 ^ 32 }
-        ensures { self.new ≡ def.with_frame self.old t
-            (record (frames.steps (def.task_at self.old t).frame 0 [])
-            { entries = drop 1 (def.task_at self.old t).frame.entries; slots = slots }) }
-    {
-        self.tasks[t as usize].leave_close(slots);
-    }
-
     fn is_of(&self, s: u32, slot: Slot) -> bool
         ensures { result ≡ effect.is_of self.now s slot }
     {
@@ -162,25 +55,6 @@ impl Records {
             }
         }
         slots
-    }
-
-    /// Sets the flag of a living task.
-    pub(crate) fn interrupt(&mut self, t: u32)
-        ensures { self.new ≡ outside.interrupt self.old t }
-    {
-        if self.lives(t) {
-            self.tasks[t as usize].interrupt();
-        }
-    }
-
-    /// Sets the end of a task, and tells nobody.
-    pub(crate) fn set_end(&mut self, alloc: Global, t: u32, end: End)
-        requires born { t < length self.old.tasks }
-        requires lives { living.lives (def.task_at self.old t) ≡ true }
-        requires more { (def.task_at self.old t).frame.pc + 1 < 2 ^ 32 }
-        ensures { self.new ≡ effect.ended self.old t (def.task_at self.old t).frame end }
-    {
-        self.tasks[t as usize].end(alloc, end);
     }
 }
 

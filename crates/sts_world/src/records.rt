@@ -1,11 +1,13 @@
 //! All tasks and all scopes, by birth number, and what is read of them.
 
 ghost use Rattle.std.specs.Prelude.{◌≡◌, ◌<◌, ◌≤◌, length, true, None, IfSome};
+ghost use Rattle.std.specs.Borrow.{sem};
 ghost use Rattle.sts_model.specs.Environment as scoped;
 ghost use Rattle.sts_model.specs.Living as living;
 ghost use Rattle.sts_model.specs.Misuse as misuse;
 ghost use Rattle.sts_model.specs.Outside as outside;
 ghost use Rattle.sts_model.specs.World as def;
+ghost use Rattle.sts_world.specs.Lends.{lends_task};
 ghost use Rattle.sts_world.specs.Scopes.{IsShown};
 
 use crate::chains::Chains;
@@ -79,6 +81,15 @@ impl Records {
         ensures { result.now ≡ (def.task_at self.now t).frame }
     {
         self.tasks[t as usize].frame()
+    }
+
+    /// A task, for writing.
+    pub(crate) fn task(&mut self, t: u32) -> &mut TaskRecord
+        requires { t < length self.old.tasks }
+        ensures* writes_back { sem 𝓛 (lends_task self.entry t result) }
+        ensures value { result.now ≡ def.task_at self.old t }
+    {
+        &mut self.tasks[t as usize]
     }
 
     /// The interrupt flag of a task.

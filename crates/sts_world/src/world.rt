@@ -223,7 +223,7 @@ impl World {
         ensures { self.new ≡ def.with_frame self.old t
             (frames.goes (def.task_at self.old t).frame to n []) }
     {
-        self.records.goes(t, to, n);
+        self.records.task(t).goes(to, n);
     }
 
     /// Pops `n` operands, pushes a value and goes to `to`.
@@ -234,7 +234,7 @@ impl World {
         ensures { self.new ≡ def.with_frame self.old t
             (frames.goes (def.task_at self.old t).frame to n (value ∷ [])) }
     {
-        self.records.goes_with(t, to, n, value);
+        self.records.task(t).goes_with(to, n, value);
     }
 
     /// Does a local instruction.
@@ -252,7 +252,7 @@ impl World {
             (frames.local (def.code program.now (def.task_at self.old t).frame) instr
             (def.task_at self.old t).frame) }
     {
-        self.records.local(program, t, instr);
+        self.records.task(t).local(program, instr);
     }
 
     /// Empties a slot.
@@ -262,7 +262,7 @@ impl World {
         requires more { (def.task_at self.old t).frame.pc + 1 < 2 ^ 32 }
         ensures { self.new ≡ effect.forget self.old t (def.task_at self.old t).frame x }
     {
-        self.records.forget(t, x);
+        self.records.task(t).forget(x);
     }
 
     /// Binds a key to the popped operand.
@@ -273,7 +273,7 @@ impl World {
         requires entries { length (def.task_at self.old t).frame.entries < 16 }
         ensures { self.new ≡ effect.bind self.old t (def.task_at self.old t).frame k }
     {
-        self.records.bind(t, k);
+        self.records.task(t).bind(k);
     }
 
     /// Ends the innermost binding.
@@ -283,7 +283,7 @@ impl World {
         requires more { (def.task_at self.old t).frame.pc + 1 < 2 ^ 32 }
         ensures { self.new ≡ effect.unbind self.old t (def.task_at self.old t).frame }
     {
-        self.records.unbind(t);
+        self.records.task(t).unbind();
     }
 
     /// Pushes the flag and clears it.
@@ -294,14 +294,16 @@ impl World {
         requires room { length (def.task_at self.old t).frame.operands < 32 }
         ensures { self.new ≡ effect.take_flag self.old t (def.task_at self.old t).frame }
     {
-        self.records.take_flag(t);
+        self.records.task(t).take_flag();
     }
 
     /// Sets the flag of a living task.
     pub fn interrupt(&mut self, t: u32)
         ensures { self.new ≡ outside.interrupt self.old t }
     {
-        self.records.interrupt(t);
+        if self.records.lives(t) {
+            self.records.task(t).interrupt();
+        }
     }
 }
 
@@ -364,7 +366,7 @@ impl World {
         ensures { self.new ≡ effect.ended self.old t (def.task_at self.old t).frame end }
     {
         let parent = self.records.parent(t);
-        self.records.set_end(alloc, t, end);
+        self.records.task(t).end(alloc, end);
         self.was_told[t as usize] = false;
         match parent {
             None => {}
@@ -387,7 +389,7 @@ impl World {
         ensures err { OnErr result (self.new ≡ self.old) }
     {
         self.records.tell(s, t, end)?;
-        self.records.set_end(alloc, t, end);
+        self.records.task(t).end(alloc, end);
         self.was_told[t as usize] = true;
         self.families[s as usize].lose();
         Ok(self.tallies[s as usize].on_complete(end))
@@ -459,20 +461,7 @@ impl World {
             }) }
     {
         self.set_phase(s, Phase::Attempted);
-        self.leave_join(t, to);
-    }
-
-    fn leave_join(&mut self, t: u32, to: u32)
-        requires born { t < length self.old.tasks }
-        requires lives { living.lives (def.task_at self.old t) ≡ true }
-        ensures { self.new ≡ def.with_task self.old t
-            (record (def.task_at self.old t) {
-              frame = frames.goes
-                  (def.task_at self.old t).frame to 0 [];
-              flag = false;
-            }) }
-    {
-        self.records.leave_join(t, to);
+        self.records.task(t).leave_join(to);
     }
 
     /// The answer of `join` once there is one.
@@ -529,18 +518,7 @@ impl World {
     {
         let slots = self.records.cleared(t, s);
         self.set_phase(s, Phase::Closed);
-        self.leave_close(t, slots);
-    }
-
-    fn leave_close(&mut self, t: u32, slots: [Slot; 16])
-        requires born { t < length self.old.tasks }
-        requires lives { living.lives (def.task_at self.old t) ≡ true }
-        requires more { (def.task_at self.old t).frame.pc + 1 < 2 ^ 32 }
-        ensures { self.new ≡ def.with_frame self.old t
-            (record (frames.steps (def.task_at self.old t).frame 0 [])
-            { entries = drop 1 (def.task_at self.old t).frame.entries; slots = slots }) }
-    {
-        self.records.leave_close(t, slots);
+        self.records.task(t).leave_close(slots);
     }
 }
 

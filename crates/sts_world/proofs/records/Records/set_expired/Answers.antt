@@ -2,7 +2,6 @@ use Rattle.std.proofs.Common.{◌≡◌, ◌<◌, ◌∙◌, sym, ap, length, tr
 use Rattle.std.proofs.lemmas.List.{get_or_default}
 use Rattle.sts_model.specs.declared.record.Scope.{Scope}
 use Rattle.sts_world.specs.Scopes.{shown, no_record}
-use Rattle.sts_world.specs.declared.scope.ScopeRecord.{ScopeRecord}
 use Rattle.sts_world.proofs.Scoping.{shown_at, shown_set}
 use Rattle.sts_world.proofs.records.Records.set_expired.Goals as goal
 

@@ -1,7 +1,6 @@
-use Rattle.std.proofs.Common.{◌∙◌, ap, sym, List}
+use Rattle.std.proofs.Common.{ap, sym, List}
 use Rattle.sts_model.specs.declared.record.Bound.{Bound}
 use Rattle.sts_model.specs.Environment.{read}
-use Rattle.sts_model.specs.Living.{parent}
 use Rattle.sts_world.proofs.Scoping.{kept_environment}
 use Rattle.sts_world.proofs.records.Records.value_kept.Goals as goal
 

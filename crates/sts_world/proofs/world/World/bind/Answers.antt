@@ -1,6 +1,5 @@
-use Rattle.sts_world.proofs.Ends.{ends_frame}
-use Rattle.sts_world.proofs.Worlds.{kept_frame}
+use Rattle.sts_world.proofs.Staying.{stays}
 use Rattle.sts_world.proofs.world.World.bind.Goals as goal
 
 pub invariant_of-self : goal.invariant_of-self
-invariant_of-self c = (kept_frame _ _ _ _ _ _ _ _ c.bind.ensures c.self.invariant.0, ends_frame _ _ _ _ _ c.bind.ensures c.self.invariant.1)
+invariant_of-self c = stays _ _ _ _ _ _ _ _ _ _ _ c.bind.ensures c.task.ensures.value c.self.invariant

@@ -3,13 +3,13 @@ use Rattle.std.proofs.lemmas.List.{get_or_default}
 use Rattle.sts_joiners.specs.Tallied.{Tallied, with_end}
 use Rattle.sts_model.specs.Effect.{ended, told}
 use Rattle.sts_model.specs.Living.{lives, ends}
-use Rattle.sts_model.specs.World.{World, task_at, scope_at, with_scope}
+use Rattle.sts_model.specs.World.{World, task_at, scope_at, with_scope, with_task}
 use Rattle.sts_model.specs.Told.{cancels_told}
 use Rattle.sts_world.specs.Kept.{no_family, no_tally}
 use Rattle.sts_world.specs.Lines.{tally_of}
 use Rattle.sts_joiners.proofs.Tells.{is_enough}
 use Rattle.sts_world.proofs.Ends.{ends_told}
-use Rattle.sts_world.proofs.Worlds.{kept_complete, task_family, tallies_bound, told_bound, found_tally, after_complete}
+use Rattle.sts_world.proofs.Worlds.{ended_at, kept_complete, task_family, tallies_bound, told_bound, found_tally, after_complete}
 use Rattle.sts_world.proofs.world.World.complete.Goals as goal
 
 pub index_mut-requires : goal.index_mut-requires
@@ -64,10 +64,11 @@ invariant_of-self-2 c =
     let bound : c.args.s < length c.self.inside.families.items = (task_family w c.self.inside.families.items _ _ _ c.args.t c.args.s born living in_scope c.self.invariant.0).0 in
     let family : c.index_mut-2.result.now ≡ slice_index_or c.self.inside.families.items c.args.s no_family = c.index_mut-2.ensures.value ∙ get_or_default c.self.inside.families.items c.args.s _ no_family bound in
     let tally : c.index_mut-3.result.now ≡ slice_index_or c.self.inside.tallies.items c.args.s no_tally = c.index_mut-3.ensures.value ∙ get_or_default c.self.inside.tallies.items c.args.s _ no_tally (tallies_bound w _ _ _ _ c.args.s c.self.invariant.0 bound).0 in
-    let after : c.set_end.new.self ≡ ended (with_scope w c.args.s (told (scope_at w c.args.s) c.args.t c.args.end)) c.args.t (task_at w c.args.t).frame c.args.end = c.set_end.ensures ∙ ap (λ (v : World). ended v c.args.t (task_at v c.args.t).frame c.args.end) c.in_ok-tell.ensures.ok in (
+    let v : World = with_task c.tell.new.self c.args.t c.end.new.self in
+    let after : v ≡ ended (with_scope w c.args.s (told (scope_at w c.args.s) c.args.t c.args.end)) c.args.t (task_at w c.args.t).frame c.args.end = ended_at _ c.args.t _ _ c.args.end c.end.ensures c.task.ensures.value ∙ ap (λ (u : World). ended u c.args.t (task_at u c.args.t).frame c.args.end) c.in_ok-tell.ensures.ok in (
       rw (c.lose.ensures, family, c.on_complete.ensures.kept, tally)
-          (kept_complete w c.set_end.new.self _ _ _ _ c.args.t c.args.s (task_at w c.args.t).frame c.args.end after born living in_scope c.self.invariant.0),
-      ends_told w c.set_end.new.self _ c.args.t c.args.s (task_at w c.args.t).frame c.args.end after born (tallies_bound w _ _ _ _ c.args.s c.self.invariant.0 bound).1 living in_scope c.self.invariant.1,
+          (kept_complete w v _ _ _ _ c.args.t c.args.s (task_at w c.args.t).frame c.args.end after born living in_scope c.self.invariant.0),
+      ends_told w v _ c.args.t c.args.s (task_at w c.args.t).frame c.args.end after born (tallies_bound w _ _ _ _ c.args.s c.self.invariant.0 bound).1 living in_scope c.self.invariant.1,
     )
 
 pub returns-clause-asks : goal.returns-clause-asks
@@ -78,8 +79,9 @@ returns-clause-asks c =
     let in_scope : (task_at w c.args.t).scope ≡ Some c.args.s = rw c.self.view_is c.requires.in_scope in
     let bound : c.args.s < length c.self.inside.families.items = (task_family w c.self.inside.families.items _ _ _ c.args.t c.args.s born living in_scope c.self.invariant.0).0 in
     let tally : c.index_mut-3.result.now ≡ slice_index_or c.self.inside.tallies.items c.args.s no_tally = c.index_mut-3.ensures.value ∙ get_or_default c.self.inside.tallies.items c.args.s _ no_tally (tallies_bound w _ _ _ _ c.args.s c.self.invariant.0 bound).0 in
-    let after : c.set_end.new.self ≡ ended (with_scope w c.args.s (told (scope_at w c.args.s) c.args.t c.args.end)) c.args.t (task_at w c.args.t).frame c.args.end = c.set_end.ensures ∙ ap (λ (v : World). ended v c.args.t (task_at v c.args.t).frame c.args.end) c.in_ok-tell.ensures.ok in
-    let told_now : with_end c.index_mut-3.result.now c.args.end ≡ tally_of (scope_at c.set_end.new.self c.args.s) = ap (λ (t : Tallied). with_end t c.args.end) (tally ∙ found_tally w _ _ _ _ c.args.s c.self.invariant.0) ∙ sym (after_complete w c.set_end.new.self c.args.t c.args.s (task_at w c.args.t).frame c.args.end after (tallies_bound w _ _ _ _ c.args.s c.self.invariant.0 bound).1) in
+    let v : World = with_task c.tell.new.self c.args.t c.end.new.self in
+    let after : v ≡ ended (with_scope w c.args.s (told (scope_at w c.args.s) c.args.t c.args.end)) c.args.t (task_at w c.args.t).frame c.args.end = ended_at _ c.args.t _ _ c.args.end c.end.ensures c.task.ensures.value ∙ ap (λ (u : World). ended u c.args.t (task_at u c.args.t).frame c.args.end) c.in_ok-tell.ensures.ok in
+    let told_now : with_end c.index_mut-3.result.now c.args.end ≡ tally_of (scope_at v c.args.s) = ap (λ (t : Tallied). with_end t c.args.end) (tally ∙ found_tally w _ _ _ _ c.args.s c.self.invariant.0) ∙ sym (after_complete w v c.args.t c.args.s (task_at w c.args.t).frame c.args.end after (tallies_bound w _ _ _ _ c.args.s c.self.invariant.0 bound).1) in
     c.on_complete.ensures.asks
     ∙ ap (λ (t : Tallied). cancels_told t.joiner t.told) (c.on_complete.ensures.kept ∙ told_now)
-    ∙ sym (is_enough (scope_at c.set_end.new.self c.args.s).joiner (ends (scope_at c.set_end.new.self c.args.s)) c.args.end 0).cancels
+    ∙ sym (is_enough (scope_at v c.args.s).joiner (ends (scope_at v c.args.s)) c.args.end 0).cancels

@@ -1,6 +1,5 @@
-use Rattle.sts_world.proofs.Ends.{ends_frame}
-use Rattle.sts_world.proofs.Worlds.{kept_frame}
+use Rattle.sts_world.proofs.Staying.{stays}
 use Rattle.sts_world.proofs.world.World.goes_with.Goals as goal
 
 pub invariant_of-self : goal.invariant_of-self
-invariant_of-self c = (kept_frame _ _ _ _ _ _ _ _ c.goes_with.ensures c.self.invariant.0, ends_frame _ _ _ _ _ c.goes_with.ensures c.self.invariant.1)
+invariant_of-self c = stays _ _ _ _ _ _ _ _ _ _ _ c.goes_with.ensures c.task.ensures.value c.self.invariant

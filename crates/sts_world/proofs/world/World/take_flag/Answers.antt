@@ -1,7 +1,5 @@
-use Rattle.std.proofs.Common.{refl}
-use Rattle.sts_world.proofs.Ends.{ends_task}
-use Rattle.sts_world.proofs.Worlds.{kept_task}
+use Rattle.sts_world.proofs.Staying.{stays}
 use Rattle.sts_world.proofs.world.World.take_flag.Goals as goal
 
 pub invariant_of-self : goal.invariant_of-self
-invariant_of-self c = (kept_task _ _ _ _ _ _ _ _ c.take_flag.ensures refl c.self.invariant.0, ends_task _ _ _ _ _ c.take_flag.ensures refl refl c.self.invariant.1)
+invariant_of-self c = stays _ _ _ _ _ _ _ _ _ _ _ c.take_flag.ensures c.task.ensures.value c.self.invariant
