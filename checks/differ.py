@@ -4,8 +4,8 @@
 No single mistake in one mode survives it, since another mode says the same by other code:
 - `replay` prints what `plain` prints where the program is accepted, and what `verify` prints where it isn't;
 - an accepted program comes to no fault, and takes no more steps than its budget;
-- what `run` writes as its journal, `replay` leads to the end and the steps that `run` printed; of the outside events
-  that it was given a beginning stands in the journal, in their order;
+- `run` prints what `verify` prints and then what `replay` prints of the journal that it wrote, in which a beginning of
+  the outside events stands in their order;
 - `list` prints a text of the same program: with the same verdict, the same run, and listed as itself.
 
 Programs are drawn as texts of both profiles: whole ones, which are accepted for the most part, ones with a line
@@ -309,14 +309,15 @@ def misrun(program, text, workers, due, verdict):
         if (said, journal) != (verdict, ""):
             yield f"run of what isn't accepted says {said}, wanted {verdict}, and wrote {len(journal)} bytes"
         return
-    if said.status not in ENDED or program.says("replay", text, journal) != said:
-        yield f"run by {workers} says {said}, not so its journal"
+    replayed = program.says("replay", text, journal)
+    if said != Said(replayed.status, verdict.text + replayed.text) or said.status not in ENDED:
+        yield f"run by {workers} says {said}, its journal {replayed}"
         return
     came = [line for line in journal.splitlines() if not line.startswith("step ")]
     given = [line.split(" ", 2)[2] for line in due.splitlines()]
     if came != given[: len(came)]:
         yield f"run by {workers} recorded {came} of {given}"
-    if steps_of(said) > budget_of(verdict) or len(journal.splitlines()) - len(came) > budget_of(verdict):
+    if steps_of(replayed) > budget_of(verdict) or len(journal.splitlines()) - len(came) > budget_of(verdict):
         yield f"run by {workers} took more steps than the budget: {said}, {verdict}"
 
 
