@@ -11,10 +11,7 @@ use Rattle.sts_model.specs.Misuse.{overflows, breaks_loop}
 use Rattle.sts_seen.specs.Reading.{with_live_frame}
 use Rattle.sts_views.specs.Fine.{IsLiveFine}
 use Rattle.sts_machine.specs.Slice.{if_local, local_at, and_local, locals, Cut, IsReached, IsSlice}
-use Rattle.sts_machine.proofs.LocalSteps.{AtLocal, can-local, step-local, beside-locals, lives-framed, frame-framed, within_limit}
-
-just : {X : Type 0} (x y : X) → Some x ≡ Some y → x ≡ y
-just x y e = cc
+use Rattle.sts_machine.proofs.LocalSteps.{AtLocal, can-local, step-local, beside-locals, just, lives-framed, frame-framed, within_limit}
 
 -- a local instruction that is next
 record IsNext (is : List Instr) (f : Frame) (i : Instr) : Type 0 where

@@ -74,7 +74,7 @@ pub record Last (is : List Instr) (o : Option Frame) (g : Frame) : Type 0 where
   pub is_local : is_local instr ≡ true
   pub next : g ≡ local is instr frame
 
-just : {X : Type 0} (x y : X) → Some x ≡ Some y → x ≡ y
+pub just : {X : Type 0} (x y : X) → Some x ≡ Some y → x ≡ y
 just x y e = cc
 
 pub last : (is : List Instr) (o : Option Frame) (g : Frame) → and_local is o ≡ Some g → Last is o g
@@ -143,7 +143,7 @@ pub frame-framed : (v : Live) (t : ℕ) (f : Frame) → lives_in v t ≡ true �
 frame-framed v t f e = ap (λ o. (unwrap_or (unwrap_or o no_live_task).alive no_alive).frame) (there v t f (here v t e))
 
 -- the frame that was there
-same-framed : (v : Live) (t : ℕ) → lives_in v t ≡ true → with_live_frame v t (alive_at v t).frame ≡ v
+pub same-framed : (v : Live) (t : ℕ) → lives_in v t ≡ true → with_live_frame v t (alive_at v t).frame ≡ v
 same-framed v t e =
     let h = here v t e in
     let frame : (alive_at v t).frame ≡ h.alive.frame = ap (λ o. (unwrap_or (unwrap_or o no_live_task).alive no_alive).frame) h.at ∙ ap (λ o. (unwrap_or o no_alive).frame) h.lives in

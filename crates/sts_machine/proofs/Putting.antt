@@ -23,7 +23,7 @@ use Rattle.sts_machine.specs.Slice.{Cut, Fits, IsLawful, IsReached, locals, step
 use Rattle.sts_machine.specs.Standing.{AreStanding, AreStandingBut}
 use Rattle.sts_machine.proofs.Changing.{changes-quiet}
 use Rattle.sts_machine.proofs.Lists.{apart}
-use Rattle.sts_machine.proofs.LocalSteps.{beside-locals, slices_are_steps, within_limit}
+use Rattle.sts_machine.proofs.LocalSteps.{beside-locals, just, same-framed, slices_are_steps, within_limit}
 use Rattle.sts_machine.proofs.Quiet.{quiet-frame}
 use Rattle.sts_machine.proofs.Stood.{room_kept}
 use Rattle.sts_machine.proofs.Turning.{alive}
@@ -108,6 +108,13 @@ module _ (v : Live) (t : ℕ) (f : Frame) (i : ℕ) (other : (i == t) ≡ false)
 
   stand_apart : (p : Program) → live_stand_at p after i ≡ live_stand_at p v i
   stand_apart p = ap (λ (g : Frame). live_stand_at_instr after i (instr_at p g)) frame_apart ∙ at_instr (instr_at p (alive_at v i).frame)
+
+-- ---- put back with nothing done
+
+pub same_view : (u : Seen) (s : Cut) → s.count ≡ 0 → Fits u s → locals s.code s.start s.count ≡ Some s.frame → u.live ≡ with_live_frame u.live s.task s.frame
+same_view u s none fits done =
+    let same : s.frame ≡ s.start = just s.frame s.start (sym done ∙ ap (locals s.code s.start) none) in
+    sym (ap (with_live_frame u.live s.task) (same ∙ fits.start) ∙ same-framed u.live s.task fits.lives)
 
 -- ---- put back
 

@@ -84,7 +84,7 @@ impl<'p> Machine<'p> {
     }
 
     /// What the machine's type keeps: the laws of its program.
-    fn laws(&self)
+    pub(crate) fn laws(&self)
         ensures { HasLaws self.now.program }
     {
         let _ = &self.steps;

@@ -49,7 +49,7 @@ impl<'p> Machine<'p> {
         same_code(slice.code(), code(self.verified.program(), slice.start()))
     }
 
-    /// Does what as many steps of its task do as the slice has done.
+    /// Does what as many steps of its task do as the slice has done: nothing, if that is none.
     pub fn put(&mut self, slice: &Slice<'p>)
         requires { Fits self.old slice.now }
         ensures program { self.new.program ≡ self.old.program }
@@ -63,8 +63,13 @@ impl<'p> Machine<'p> {
             → RunsWell self.old.program budget
             (events ++ steps_of slice.now.count slice.now.task) }
     {
+        self.laws();
+        let frame = slice.frame();
+        if slice.count() == 0 {
+            return;
+        }
         let task = slice.task();
-        self.store.put_frame(task, copy_frame(slice.frame()));
+        self.store.put_frame(task, copy_frame(frame));
         say_stand(&mut self.store, self.verified.program(), task, true);
         self.steps += u64::from(slice.count());
     }
