@@ -200,13 +200,12 @@ pub(crate) fn run_on<
 
 /// Starts a worker with a stack of each of these sizes, and waits for all of them to end: false where
 /// one could not be started.
-fn work_all<
-    'p,
-    B: Runs + Send + Sync,
-    R: Threads + Wait + Sync,
-    G: Gate + Sync,
-    O: Outside + Send,
->(rt: &R, pool: &Pool<'p, O, B>, gate: &G, stacks: &[usize]) -> bool {
+fn work_all<'p, B: Runs + Send + Sync, R: Threads + Wait + Sync, G: Gate + Sync, O: Outside + Send>(
+    rt: &R,
+    pool: &Pool<'p, O, B>,
+    gate: &G,
+    stacks: &[usize],
+) -> bool {
     thread::scope(thread::scope_env(), rt, |scope| {
         for (worker, stack) in stacks.iter().enumerate() {
             let builder = Builder::new().stack_size(*stack);

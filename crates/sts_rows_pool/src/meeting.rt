@@ -52,7 +52,11 @@ impl Outside for Herald<'_> {
         let first = !self.asked;
         self.asked = true;
         if !self.meeting.has_met() {
-            return if first { Some(Event::Interrupt(76)) } else { None };
+            return if first {
+                Some(Event::Interrupt(76))
+            } else {
+                None
+            };
         }
         if self.told {
             return None;

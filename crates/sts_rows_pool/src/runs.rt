@@ -98,13 +98,24 @@ fn ends<R: Abort + Threads + Wait + Sync>(
     let name = row.text;
     let verified = accepted(alloc, name)?;
     let report = run(rt, alloc, &verified, workers, &Open, row.weather)?;
-    assert!(rt; row.ends.contains(&report.end), "{workers} workers end {name:?}");
+    assert!(rt;
+        row.ends.contains(&report.end),
+        "{workers} workers end {name:?}"
+    );
     let machine = replay(alloc, &verified, report.journal.as_slice())?;
-    assert_eq!(rt; machine.root_end(), Some(report.end), "{workers} workers replay {name:?}");
+    assert_eq!(rt;
+        machine.root_end(),
+        Some(report.end),
+        "{workers} workers replay {name:?}"
+    );
     let steps = row.steps.unwrap_or(machine.steps());
     assert_eq!(rt; machine.steps(), steps, "{workers} workers step {name:?}");
     let entries = report.journal.len() as u64;
-    assert_eq!(rt; entries, steps + row.weather.entries(), "{workers} workers tell {name:?}");
+    assert_eq!(rt;
+        entries,
+        steps.saturating_add(row.weather.entries()),
+        "{workers} workers tell {name:?}"
+    );
     Ok(())
 }
 
