@@ -14,6 +14,3 @@ mod text;
 pub use fault::{AsmError, AsmKind};
 pub use laws::instructions_are_read_by_the_table;
 pub use text::assemble;
-
-#[cfg(test)]
-mod tests;

@@ -9,6 +9,3 @@ mod targets;
 pub use laws::listings_are_assembled_again;
 pub use listing::list;
 pub use spelling::spell;
-
-#[cfg(test)]
-mod tests;

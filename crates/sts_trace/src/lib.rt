@@ -4,8 +4,6 @@
 mod error;
 mod fields;
 mod outside;
-#[cfg(test)]
-mod tests;
 mod trace;
 mod writing;
 

@@ -1,9 +1,9 @@
 //! A listing that was written down by hand, and listings assembled again.
 
-use crate::{list, spell};
 use std::test::Fail;
 use sts_asm::assemble;
 use sts_code::instr::Instr;
+use sts_list::{list, spell};
 
 static TEXT: &str = "profile 02
 func kid 0 needs 7 0 7

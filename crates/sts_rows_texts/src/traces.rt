@@ -1,10 +1,10 @@
 //! Texts read and written by hand, and a writer that fails.
 
-use crate::{Due, TraceError, read_outside, read_trace, write_trace};
 use std::io;
 use std::io::Write;
 use std::test::Fail;
 use sts_model::event::Event;
+use sts_trace::{Due, TraceError, read_outside, read_trace, write_trace};
 
 #[test]
 fn a_trace_is_read(rt: HostRuntime) -> Result<(), Fail> {

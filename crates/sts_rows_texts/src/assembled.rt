@@ -1,7 +1,7 @@
 //! Small texts whose programs and faults were written down by hand.
 
-use crate::{AsmError, assemble};
 use std::test::Fail;
+use sts_asm::{AsmError, assemble};
 use sts_code::instr::{Instr, Joiner, Kind, Pred};
 use sts_code::profile::Profile;
 
