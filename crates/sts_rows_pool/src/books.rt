@@ -54,9 +54,11 @@ struct Record {
 /// The texts of two books, what is done with them in turn, and what they have recorded then.
 struct Row {
     name: &'static str,
-    texts: [&'static str; 2],
+    first: &'static str,
+    second: &'static str,
     acts: &'static [(Which, Act)],
-    records: [Record; 2],
+    of_first: Record,
+    of_second: Record,
 }
 
 const NOTHING: Record = Record {
@@ -67,7 +69,8 @@ const NOTHING: Record = Record {
 static ROWS: [Row; 6] = [
     Row {
         name: "a task that is out takes an interrupt and no turn",
-        texts: [SEVEN, SEVEN],
+        first: SEVEN,
+        second: SEVEN,
         acts: &[
             (Which::First, Act::Out(Some(0))),
             (Which::First, Act::Out(None)),
@@ -78,17 +81,16 @@ static ROWS: [Row; 6] = [
             (Which::First, Act::In(Whose::Own, true)),
             (Which::First, Act::Turn(0, Stepped)),
         ],
-        records: [
-            Record {
-                end: Some(End::Success(7)),
-                journal: &[Event::Interrupt(0), Event::Step(0), Event::Step(0)],
-            },
-            NOTHING,
-        ],
+        of_first: Record {
+            end: Some(End::Success(7)),
+            journal: &[Event::Interrupt(0), Event::Step(0), Event::Step(0)],
+        },
+        of_second: NOTHING,
     },
     Row {
         name: "a slice of the other book is taken where the task is out at the same frame",
-        texts: [SEVEN, SEVEN],
+        first: SEVEN,
+        second: SEVEN,
         acts: &[
             (Which::First, Act::Out(Some(0))),
             (Which::First, Act::Local(9, 1)),
@@ -100,17 +102,16 @@ static ROWS: [Row; 6] = [
             (Which::Second, Act::In(Whose::Own, false)),
             (Which::First, Act::Turn(0, Idle)),
         ],
-        records: [
-            NOTHING,
-            Record {
-                end: Some(End::Success(7)),
-                journal: &[Event::Step(0), Event::Step(0)],
-            },
-        ],
+        of_first: NOTHING,
+        of_second: Record {
+            end: Some(End::Success(7)),
+            journal: &[Event::Step(0), Event::Step(0)],
+        },
     },
     Row {
         name: "a slice of another program",
-        texts: [SEVEN, TURNS],
+        first: SEVEN,
+        second: TURNS,
         acts: &[
             (Which::First, Act::Out(Some(0))),
             (Which::Second, Act::Out(Some(0))),
@@ -119,11 +120,13 @@ static ROWS: [Row; 6] = [
             (Which::First, Act::In(Whose::Own, true)),
             (Which::Second, Act::In(Whose::Own, true)),
         ],
-        records: [NOTHING, NOTHING],
+        of_first: NOTHING,
+        of_second: NOTHING,
     },
     Row {
         name: "a slice at another frame of the same program",
-        texts: [SEVEN, SEVEN],
+        first: SEVEN,
+        second: SEVEN,
         acts: &[
             (Which::First, Act::Turn(0, Stepped)),
             (Which::First, Act::Out(Some(0))),
@@ -133,17 +136,16 @@ static ROWS: [Row; 6] = [
             (Which::First, Act::In(Whose::Own, true)),
             (Which::Second, Act::In(Whose::Own, true)),
         ],
-        records: [
-            Record {
-                end: None,
-                journal: &[Event::Step(0)],
-            },
-            NOTHING,
-        ],
+        of_first: Record {
+            end: None,
+            journal: &[Event::Step(0)],
+        },
+        of_second: NOTHING,
     },
     Row {
         name: "a scope expires while a subtask of it is out",
-        texts: [TIMED, TIMED],
+        first: TIMED,
+        second: TIMED,
         acts: &[
             (Which::First, Act::Turn(0, Stepped)),
             (Which::First, Act::Turn(0, Stepped)),
@@ -157,27 +159,26 @@ static ROWS: [Row; 6] = [
             (Which::First, Act::Turn(0, Stepped)),
             (Which::First, Act::Turn(0, Stepped)),
         ],
-        records: [
-            Record {
-                end: Some(End::Success(2)),
-                journal: &[
-                    Event::Step(0),
-                    Event::Step(0),
-                    Event::Expire(0),
-                    Event::Step(1),
-                    Event::Step(1),
-                    Event::Step(0),
-                    Event::Step(0),
-                    Event::Step(0),
-                    Event::Step(0),
-                ],
-            },
-            NOTHING,
-        ],
+        of_first: Record {
+            end: Some(End::Success(2)),
+            journal: &[
+                Event::Step(0),
+                Event::Step(0),
+                Event::Expire(0),
+                Event::Step(1),
+                Event::Step(1),
+                Event::Step(0),
+                Event::Step(0),
+                Event::Step(0),
+                Event::Step(0),
+            ],
+        },
+        of_second: NOTHING,
     },
     Row {
         name: "a task that waits, and tasks and scopes unborn, ended and closed",
-        texts: [TIMED, TIMED],
+        first: TIMED,
+        second: TIMED,
         acts: &[
             (Which::First, Act::Turn(0, Stepped)),
             (Which::First, Act::Turn(0, Stepped)),
@@ -197,27 +198,25 @@ static ROWS: [Row; 6] = [
             (Which::First, Act::Interrupt(0, Idle)),
             (Which::First, Act::Turn(0, Idle)),
         ],
-        records: [
-            Record {
-                end: Some(End::Success(1)),
-                journal: &[
-                    Event::Step(0),
-                    Event::Step(0),
-                    Event::Interrupt(9),
-                    Event::Expire(4),
-                    Event::Step(1),
-                    Event::Step(1),
-                    Event::Interrupt(1),
-                    Event::Step(0),
-                    Event::Step(0),
-                    Event::Expire(0),
-                    Event::Step(0),
-                    Event::Step(0),
-                    Event::Interrupt(0),
-                ],
-            },
-            NOTHING,
-        ],
+        of_first: Record {
+            end: Some(End::Success(1)),
+            journal: &[
+                Event::Step(0),
+                Event::Step(0),
+                Event::Interrupt(9),
+                Event::Expire(4),
+                Event::Step(1),
+                Event::Step(1),
+                Event::Interrupt(1),
+                Event::Step(0),
+                Event::Step(0),
+                Event::Expire(0),
+                Event::Step(0),
+                Event::Step(0),
+                Event::Interrupt(0),
+            ],
+        },
+        of_second: NOTHING,
     },
 ];
 
@@ -280,14 +279,14 @@ fn recorded<R: Abort>(rt: &R, book: &Book<'_>, record: &Record, name: &str) {
 }
 
 fn holds<R: Abort>(rt: &R, alloc: Global, row: &Row) -> Result<(), Fail> {
-    let [first, second] = &row.texts;
-    let [first, second] = [accepted(alloc, first)?, accepted(alloc, second)?];
+    let one = accepted(alloc, row.first)?;
+    let other = accepted(alloc, row.second)?;
     let mut first = Desk {
-        book: Book::start(alloc, &first)?,
+        book: Book::start(alloc, &one)?,
         slice: None,
     };
     let mut second = Desk {
-        book: Book::start(alloc, &second)?,
+        book: Book::start(alloc, &other)?,
         slice: None,
     };
     for (which, act) in row.acts {
@@ -296,9 +295,8 @@ fn holds<R: Abort>(rt: &R, alloc: Global, row: &Row) -> Result<(), Fail> {
             Which::Second => does(rt, &mut second, &mut first, *act),
         }
     }
-    let [of_first, of_second] = &row.records;
-    recorded(rt, &first.book, of_first, row.name);
-    recorded(rt, &second.book, of_second, row.name);
+    recorded(rt, &first.book, &row.of_first, row.name);
+    recorded(rt, &second.book, &row.of_second, row.name);
     Ok(())
 }
 
