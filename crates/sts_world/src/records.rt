@@ -207,7 +207,7 @@ impl Records {
     }
 
     /// The innermost value of a key for a task.
-    #[tactic(auto, using(crate::proofs::Environments::read_own, crate::proofs::Environments::read_kept))]
+    #[tactic(auto, using(crate::proofs::Environments::reads))]
     pub fn read(&self, t: u32, k: u8) -> Option<i64>
         ensures { result ≡ scoped.read (scoped.environment_of (def.task_at self.now t) self.now) k }
     {

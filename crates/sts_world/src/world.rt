@@ -480,7 +480,7 @@ impl World {
     }
 
     /// The answer of `join` once there is one.
-    #[tactic(auto, using(crate::proofs::Verdicts::ok_pushes, crate::proofs::Verdicts::failed_pushes), unfolding(sts_model::specs::Effect::join_scope))]
+    #[tactic(auto, using(crate::proofs::Verdicts::pushes), unfolding(sts_model::specs::Effect::join_scope))]
     pub fn join(&mut self, t: u32, s: u32, failed: u32, timeout: u32, interrupted: u32)
         requires born { t < length self.old.tasks }
         requires lives { living.lives (def.task_at self.old t) ≡ true }
