@@ -18,3 +18,5 @@ read_kept (x ∷ xs) ys k e = by_test (eqb x.key k) refl e (read_kept xs ys k)
     by_test : (b : Bool) → eqb x.key k ≡ b → is_some (read (x ∷ xs) k) ≡ false → (is_some (read xs k) ≡ false → read (xs ++ ys) k ≡ read ys k) → read ((x ∷ xs) ++ ys) k ≡ read ys k
     by_test true h e ih = let f : is_some (Some x.value) ≡ false = rw h at e in cc
     by_test false h e ih = rw h (ih (rw h at e))
+
+pub ruleset reads = (read_own, read_kept)

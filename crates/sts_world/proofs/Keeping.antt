@@ -5,6 +5,7 @@ use Rattle.std.proofs.lemmas.List.{get_or-set_same, get_or-set_other, get_or_app
 use Rattle.std.proofs.lemmas.List.Sums.{sum_by-set, sum_by_push, count_by-le-length, get_or-le-sum_by}
 use Rattle.sts_model.specs.Living.{is_in}
 use Rattle.sts_code.specs.declared.instr.Joiner.{Joiner}
+use Rattle.sts_code.specs.declared.limits.TheConstants.{MAX_STANDING}
 use Rattle.sts_joiners.specs.Tallied.{Tallied, tallied, with_end, ends_told}
 use Rattle.sts_model.specs.declared.event.End.{End}
 use Rattle.sts_model.specs.declared.event.End.TheVariants.{Success, Failed}
@@ -72,14 +73,14 @@ set_family fs s f found h here others r = by_test (eqb s r) refl
     by_test false e = get_or-set_other fs s r f no_family (λ same. eqb-false s r e (sym same)) ∙ others r e
 
 -- a scope that is open has room for one subtask more
-fork_room : (l : Lines) (fs : List Family) (ts : List Tallied) (n m s r : ℕ) → IsKept l fs ts n m → get_or l.closed s true ≡ false → n < 65536 → (b : Bool) → eqb s r ≡ b → count_in r l.tasks + cond b 1 0 < 65536
+fork_room : (l : Lines) (fs : List Family) (ts : List Tallied) (n m s r : ℕ) → IsKept l fs ts n m → get_or l.closed s true ≡ false → n < MAX_STANDING → (b : Bool) → eqb s r ≡ b → count_in r l.tasks + cond b 1 0 < MAX_STANDING
 fork_room l fs ts n m s r k open_now room true e =
     let same : s ≡ r = eqb-true s r e in
     let besides : count_in s l.tasks + 1 ≤ n = rw k.tasks (root_besides l.closed s l.tasks open_now k.some k.root) in
     rw (← same) (omega (arith, besides))
 fork_room l fs ts n m s r k open_now room false e = omega (arith, k.few r)
 
-pub kept_fork : (l : Lines) (fs : List Family) (ts : List Tallied) (n m s : ℕ) (lives : Bool) → IsKept l fs ts n m → s < length l.closed → get_or l.closed s true ≡ false → n < 65536 → IsKept (record l { tasks = l.tasks ++ record { scope = Some s; lives = lives } ∷ [] }) (set fs s (with_child (get_or fs s no_family) (length l.tasks) lives)) ts (n + 1) m
+pub kept_fork : (l : Lines) (fs : List Family) (ts : List Tallied) (n m s : ℕ) (lives : Bool) → IsKept l fs ts n m → s < length l.closed → get_or l.closed s true ≡ false → n < MAX_STANDING → IsKept (record l { tasks = l.tasks ++ record { scope = Some s; lives = lives } ∷ [] }) (set fs s (with_child (get_or fs s no_family) (length l.tasks) lives)) ts (n + 1) m
 kept_fork l fs ts n m s lives k h open_now room =
     let y : Line = record { scope = Some s; lives = lives } in
     let here : family_of s (l.tasks ++ y ∷ []) ≡ with_child (get_or fs s no_family) (length l.tasks) lives = rw (family_push s l.tasks y, eq-eqb s s refl, k.families s) refl in

@@ -4,6 +4,7 @@ use Rattle.std.proofs.Math.Seq.{map-set_same, take-append_seam}
 use Rattle.std.proofs.lemmas.List.{map-set, map-append, get_or-map, get_or_past, get_or-set_same, length-map, length-append}
 use Rattle.std.proofs.lemmas.Bool.{cases_lt}
 use Rattle.sts_code.specs.Program.{Program}
+use Rattle.sts_code.specs.declared.limits.TheConstants.{MAX_STANDING}
 use Rattle.sts_code.specs.declared.instr.Joiner.{Joiner}
 use Rattle.sts_model.specs.declared.event.End.{End}
 use Rattle.sts_model.specs.declared.event.Phase.{Phase}
@@ -81,7 +82,7 @@ and_false : (b : Bool) → b && false ≡ false
 and_false true = refl
 and_false false = refl
 
-pub kept_child : (p : Program) (w v : World) (fs : List Family) (ts : List Tallied) (n m t : ℕ) (f : Frame) (s g : ℕ) (h : Option ℕ) → v ≡ fork_task p w t f s g h → s < length w.scopes → is_shut (scope_at w s) ≡ false → n < 65536 → IsKept (lines w) fs ts n m → IsKept (lines v) (set fs s (with_child (get_or fs s no_family) (length w.tasks) (not (scope_at w s).cancelled))) ts (n + 1) m
+pub kept_child : (p : Program) (w v : World) (fs : List Family) (ts : List Tallied) (n m t : ℕ) (f : Frame) (s g : ℕ) (h : Option ℕ) → v ≡ fork_task p w t f s g h → s < length w.scopes → is_shut (scope_at w s) ≡ false → n < MAX_STANDING → IsKept (lines w) fs ts n m → IsKept (lines v) (set fs s (with_child (get_or fs s no_family) (length w.tasks) (not (scope_at w s).cancelled))) ts (n + 1) m
 unfolding fork_task
 kept_child p w v fs ts n m t f s g h e bound open_now room k =
     let born : World = record w { tasks = w.tasks ++ subtask_of p w f s g ∷ [] } in
@@ -169,7 +170,7 @@ pub count_told : (scope : Scope) → count_by is_success (ends scope) + count_by
 count_told scope = (is_enough scope.joiner (ends scope) (Success (pos 0)) 0).count ∙ length-map scope.completions (λ (c : Completion). c.end)
 
 -- no scope was told of too many ends
-pub told_bound : (w : World) (fs : List Family) (ts : List Tallied) (n m s : ℕ) → IsKept (lines w) fs ts n m → ends_told (get_or ts s no_tally) < 65536
+pub told_bound : (w : World) (fs : List Family) (ts : List Tallied) (n m s : ℕ) → IsKept (lines w) fs ts n m → ends_told (get_or ts s no_tally) < MAX_STANDING
 told_bound w fs ts n m s k = omega (arith, ap (λ (xs : List Tallied). ends_told (get_or xs s no_tally)) k.tallies, k.told s, k.few s)
 
 pub tallies_bound : (w : World) (fs : List Family) (ts : List Tallied) (n m s : ℕ) → IsKept (lines w) fs ts n m → s < length fs → (s < length ts) × (s < length w.scopes)

@@ -1,5 +1,6 @@
 -- A task's frame as it is held: in full while the task lives, and at rest in what is used of it (this project's own).
 use Rattle.std.specs.Prelude.{ℕ, [], ◌∷◌, reverse, replicate, Bool, true, false, Option, Some, None}
+use Rattle.sts_code.specs.declared.limits.TheConstants.{LAST_SLOT}
 use Rattle.sts_model.specs.declared.record.Frame.{Frame}
 use Rattle.sts_model.specs.declared.record.Slot.{Slot}
 use Rattle.sts_model.specs.declared.record.Slot.TheVariants.{Empty, Lent}
@@ -16,7 +17,7 @@ slot_of (Some s) = Lent s
 -- the frame at rest: no loop and no entry is open, no slot but the first is used, and the other locals are 0
 abbrev pub whole : RestingFrame → Frame
 whole r =
-    record { function = r.function; pc = r.pc; operands = reverse r.operands.items; locals = entry_locals r.locals.items; loops = []; entries = []; slots = slot_of r.scope ∷ replicate 15 Empty }
+    record { function = r.function; pc = r.pc; operands = reverse r.operands.items; locals = entry_locals r.locals.items; loops = []; entries = []; slots = slot_of r.scope ∷ replicate LAST_SLOT Empty }
 
 abbrev pub frame_of : HeldFrame → Frame
 frame_of (Living frame) = frame.value

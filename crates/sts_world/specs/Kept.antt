@@ -2,6 +2,7 @@
 -- how many tasks and scopes stand (this project's own).
 use Rattle.std.specs.Prelude.{◌≡◌, ℕ, ◌+◌, ◌-◌, ◌<◌, ◌≤◌, List, [], ◌∷◌, ◌++◌, length, count_by, Bool, true, false, Option, Some, None, ◌&&◌, not, if◌then◌else◌, slice_index_or}
 use Rattle.sts_code.specs.declared.instr.Joiner.TheVariants.{AwaitAll}
+use Rattle.sts_code.specs.declared.limits.TheConstants.{MAX_STANDING}
 use Rattle.sts_joiners.specs.Tallied.{Tallied, tallied, ends_told}
 use Rattle.sts_model.specs.Living.{is_in}
 use Rattle.sts_world.specs.Lines.{Line, Lines}
@@ -71,4 +72,4 @@ pub record IsKept (l : Lines) (kept : List Family) (tallies_kept : List Tallied)
   pub some : 0 < length l.tasks
   pub root : (slice_index_or l.tasks 0 no_line).scope ≡ None
   pub told : (s : ℕ) → ends_told (slice_index_or l.tallies s no_tally) + count_by (lives_in s) l.tasks ≤ count_in s l.tasks
-  pub few : (s : ℕ) → count_in s l.tasks < 65536
+  pub few : (s : ℕ) → count_in s l.tasks < MAX_STANDING

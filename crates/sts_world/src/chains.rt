@@ -1,11 +1,13 @@
 //! Bindings that environments share.
 
-ghost use Rattle.std.specs.Prelude.{◌≡◌, ◌<◌, ◌≤◌, ◌++◌, [], ◌∷◌, length, true, filter_map, IfOk, Some};
+ghost use Rattle.std.specs.Prelude.{◌≡◌, ◌<◌, ◌≤◌, ◌++◌, [], ◌∷◌};
+ghost use Rattle.std.specs.Prelude.{length, true, filter_map, IfOk, Some};
 ghost use Rattle.sts_model.specs.Environment as scoped;
 ghost use Rattle.sts_world.specs.Chains.{bindings_of, is_within, Grows, link_at};
 
 use std::alloc::{AllocError, Global};
 use std::marker::Model;
+use sts_code::limits::MAX_ENTRIES;
 use sts_model::record::{Bound, Entry, Frame};
 
 /// A binding, and the place of the link behind it, which is older.
@@ -110,14 +112,14 @@ impl Chains {
         }
     }
 
-    /// The places of the links from one on up to an environment, innermost first, at most 16, and how
-    /// many they are. They are hints alone.
-    fn places(&self, front: usize, rest: Option<usize>) -> ([usize; 16], usize)
-        ensures { result.1 ≤ 16 }
+    /// The places of the links from one on up to an environment, innermost first, and how many they
+    /// are: no more than a task may have entries. They are hints alone.
+    fn places(&self, front: usize, rest: Option<usize>) -> ([usize; MAX_ENTRIES], usize)
+        ensures { result.1 ≤ MAX_ENTRIES }
     {
-        let mut places = [0; 16];
+        let mut places = [0; MAX_ENTRIES];
         let mut at = front;
-        for n in 0..16 {
+        for n in 0..MAX_ENTRIES {
             places[n] = at;
             let behind = self.behind(at);
             if behind == rest {
@@ -125,12 +127,16 @@ impl Chains {
             }
             at = behind.unwrap_or(0);
         }
-        (places, 16)
+        (places, MAX_ENTRIES)
     }
 
     /// The environment of the frame's own bindings in front of an environment.
     ///
     /// As many links as fit are those of the environment whose innermost link is given as a hint.
+    ///
+    /// # Errors
+    ///
+    /// Want of memory, where links may have been added.
     pub fn extend(
         &mut self,
         frame: &Frame,
@@ -149,7 +155,7 @@ impl Chains {
         for entry in frame.entries.as_slice() {
             if let Entry::Binding(key, value) = *entry {
                 left = left.saturating_sub(1);
-                front = Some(self.put(Bound { key, value }, front, places[left % 16])?);
+                front = Some(self.put(Bound { key, value }, front, places[left % MAX_ENTRIES])?);
             }
         }
         Ok(front)

@@ -1,14 +1,12 @@
 //! What is written into the tasks and scopes.
 
-ghost use Rattle.std.specs.Prelude.{◌≡◌, ◌<◌, ◌≤◌, ◌+◌, ◌-◌, ◌^◌, length, [], ◌∷◌, ◌++◌, OnOk, OnErr, IfOk, Some, true, false, drop, map};
+ghost use Rattle.std.specs.Prelude.{◌≡◌, ◌<◌, ◌≤◌, ◌+◌, ◌^◌};
+ghost use Rattle.std.specs.Prelude.{length, map, OnOk, OnErr, IfOk, Some, true, false};
 ghost use Rattle.sts_code.specs.Program.{routine};
+ghost use Rattle.sts_code.specs.declared.limits.TheConstants.{MAX_BIRTHS, MAX_ENTRIES};
 ghost use Rattle.sts_model.specs.Cancelling as cancelling;
 ghost use Rattle.sts_model.specs.Effect as effect;
 ghost use Rattle.sts_model.specs.Living as living;
-ghost use Rattle.sts_model.specs.Environment as scoped;
-ghost use Rattle.sts_model.specs.Local as frames;
-ghost use Rattle.sts_model.specs.Misuse as misuse;
-ghost use Rattle.sts_model.specs.Outside as outside;
 ghost use Rattle.sts_model.specs.World as def;
 ghost use Rattle.sts_world.specs.Kept.{births as births_of};
 ghost use Rattle.sts_world.specs.Lines.{line, lines};
@@ -20,7 +18,7 @@ use crate::scope::{ScopeRecord, front_of};
 use crate::task::TaskRecord;
 use std::alloc::{AllocError, Global};
 use sts_code::code::args;
-use sts_code::instr::{Instr, Joiner};
+use sts_code::instr::Joiner;
 use sts_code::program::Program;
 use sts_model::event::{End, Phase};
 use sts_model::record::{Completion, Slot};
@@ -81,6 +79,10 @@ impl Records {
     }
 
     /// Tells a scope of an end.
+    ///
+    /// # Errors
+    ///
+    /// Want of memory, where the records stay as they were.
     pub(crate) fn tell(&mut self, s: u32, t: u32, end: End) -> Result<(), AllocError>
         ensures ok { OnOk result (self.new ≡ def.with_scope self.old s
             (effect.told (def.scope_at self.old s) t end)) }
@@ -149,6 +151,10 @@ fn raise_each(tasks: &mut [TaskRecord], s: u32, births: &[u32])
 
 impl Records {
     /// The root task alone.
+    ///
+    /// # Errors
+    ///
+    /// Want of memory.
     pub(crate) fn opening(alloc: Global, program: &Program) -> Result<Records, AllocError>
         ensures { IfOk result (λ w. def.opening program.now ≡ def.Running w) }
     {
@@ -163,6 +169,10 @@ impl Records {
     }
 
     /// Opens a scope.
+    ///
+    /// # Errors
+    ///
+    /// Want of memory, where the records stay as they were.
     #[tactic(auto, unfolding(sts_model::specs::Effect::open_scope))]
     pub(crate) fn open_scope(
         &mut self,
@@ -175,8 +185,8 @@ impl Records {
         requires born { t < length self.old.tasks }
         requires lives { living.lives (def.task_at self.old t) ≡ true }
         requires more { (def.task_at self.old t).frame.pc + 1 < 2 ^ 32 }
-        requires room { length self.old.scopes < 1000000 }
-        requires entries { length (def.task_at self.old t).frame.entries < 16 }
+        requires room { length self.old.scopes < MAX_BIRTHS }
+        requires entries { length (def.task_at self.old t).frame.entries < MAX_ENTRIES }
         ensures ok { OnOk result (self.new ≡ effect.open_scope self.old t
             (def.task_at self.old t).frame slot joiner timed) }
         ensures err { OnErr result (self.new ≡ self.old) }
@@ -199,6 +209,10 @@ impl Records {
     }
 
     /// Makes a subtask.
+    ///
+    /// # Errors
+    ///
+    /// Want of memory, where the records stay as they were.
     #[tactic(auto, unfolding(sts_model::specs::Effect::fork_task))]
     pub(crate) fn fork_task(
         &mut self,
@@ -212,7 +226,7 @@ impl Records {
         requires born { t < length self.old.tasks }
         requires lives { living.lives (def.task_at self.old t) ≡ true }
         requires more { (def.task_at self.old t).frame.pc + 1 < 2 ^ 32 }
-        requires room { length self.old.tasks < 1000000 }
+        requires room { length self.old.tasks < MAX_BIRTHS }
         requires enough { (routine program.now function).args ≤
             length (def.task_at self.old t).frame.operands }
         ensures ok { OnOk result (self.new ≡ effect.fork_task program.now self.old t

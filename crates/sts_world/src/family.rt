@@ -1,12 +1,14 @@
 //! The subtasks of one scope.
 
-ghost use Rattle.std.specs.Prelude.{◌≡◌, ◌<◌, ◌≤◌, ◌-◌, length, take, if◌then◌else◌, nat_lt, OnOk, OnErr};
+ghost use Rattle.std.specs.Prelude.{◌≡◌, ◌<◌, ◌≤◌, ◌-◌, if◌then◌else◌};
+ghost use Rattle.std.specs.Prelude.{length, take, nat_lt, OnOk, OnErr};
 ghost use Rattle.sts_world.specs.Kept.{no_family, with_child, with_death};
 
 use std::alloc::{AllocError, Global};
 use std::marker::Model;
 
-/// The subtasks of one scope: contracts see their birth numbers in fork order, and how many of them live.
+/// The subtasks of one scope: contracts see their birth numbers in fork order, and how many of
+/// them live.
 #[derive(Drop)]
 pub struct Family {
     births: Vec<u32>,
@@ -51,6 +53,10 @@ impl Family {
     }
 
     /// One more subtask.
+    ///
+    /// # Errors
+    ///
+    /// Want of memory, where the subtasks stay as they were.
     pub fn add(&mut self, task: u32, lives: bool) -> Result<(), AllocError>
         ensures ok { OnOk result (self.new ≡ with_child self.old task lives) }
         ensures err { OnErr result (self.new ≡ self.old) }

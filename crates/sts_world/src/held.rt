@@ -1,7 +1,9 @@
 //! A frame as it is held: in full while its task lives, and at rest in what is used of it.
 
-ghost use Rattle.std.specs.Prelude.{◌≡◌, ◌≤◌, ◌<◌, length, reverse, take, replicate, ◌∷◌, [], IfSome, IfOk};
+ghost use Rattle.std.specs.Prelude.{◌≡◌, ◌≤◌, ◌<◌, ◌∷◌};
+ghost use Rattle.std.specs.Prelude.{length, reverse, take, replicate, IfSome, IfOk};
 ghost use Rattle.std.specs.List.{list_all};
+ghost use Rattle.sts_code.specs.declared.limits.TheConstants.{LAST_SLOT};
 ghost use Rattle.sts_model.specs.Misuse as misuse;
 ghost use Rattle.sts_model.specs.World as def;
 ghost use Rattle.sts_model.specs.declared.record.Slot.TheVariants.{Empty, Lent};
@@ -35,7 +37,7 @@ pub enum HeldFrame {
 fn used(locals: &[i64; 16]) -> &[i64]
     ensures { def.entry_locals result.now ≡ locals.now }
 {
-    let mut n = 16;
+    let mut n = locals.len();
     while n > 0 && locals[n - 1] == 0 {
         n -= 1;
     }
@@ -50,7 +52,7 @@ fn are_empty(slots: &[Slot]) -> bool
 
 /// The scope in the first slot, or none; none at all where another slot is used.
 fn sole_scope(slots: &[Slot; 16]) -> Option<Option<u32>>
-    ensures { IfSome result (λ s. slots.now ≡ slot_of s ∷ replicate 15 Empty) }
+    ensures { IfSome result (λ s. slots.now ≡ slot_of s ∷ replicate LAST_SLOT Empty) }
 {
     if !are_empty(&slots[1..]) {
         return None;
@@ -92,6 +94,10 @@ fn arguments(alloc: Global, count: usize, forker: &Frame) -> Result<Vec<i64>, Al
 }
 
 /// The frame at the beginning of a function that never runs.
+///
+/// # Errors
+///
+/// Want of memory.
 pub fn resting_entry(
     alloc: Global,
     function: u32,

@@ -1,4 +1,5 @@
-//! The tasks and scopes of the plain machine, with what a walk over them would find kept beside them.
+//! The tasks and scopes of the plain machine, with what a walk over them would find kept beside
+//! them.
 #![tactic(auto)]
 
 pub mod chains;

@@ -2,6 +2,7 @@
 
 ghost use Rattle.std.specs.Prelude.{◌≡◌, ◌<◌, ◌≤◌, length, true, None, IfSome};
 ghost use Rattle.std.specs.Borrow.{sem};
+ghost use Rattle.sts_code.specs.declared.limits.TheConstants.{MAX_BIRTHS};
 ghost use Rattle.sts_model.specs.Environment as scoped;
 ghost use Rattle.sts_model.specs.Living as living;
 ghost use Rattle.sts_model.specs.Misuse as misuse;
@@ -32,11 +33,16 @@ impl Model for Records {
     ghost Value = { World };
 
     ghost use Rattle.std.specs.Prelude.{length, map, ◌≤◌};
+    ghost use Rattle.sts_code.specs.declared.limits.TheConstants.{MAX_BIRTHS};
     ghost use Rattle.sts_world.specs.Scopes.{shown, AreWithin};
 
-    ghost view = { λ w. record { tasks = w.tasks.items; scopes = map (shown w.chains) w.scopes.items } };
+    ghost view = { λ w. record {
+      tasks = w.tasks.items;
+      scopes = map (shown w.chains) w.scopes.items;
+    } };
 
-    ghost invariant = { λ w. (length w.tasks.items ≤ 1000000) × (length w.scopes.items ≤ 1000000) × AreWithin w.chains w.scopes.items };
+    ghost invariant = { λ w. (length w.tasks.items ≤ MAX_BIRTHS)
+        × (length w.scopes.items ≤ MAX_BIRTHS) × AreWithin w.chains w.scopes.items };
 }
 
 /// May `join` be done in this phase?
@@ -50,7 +56,7 @@ impl Records {
     /// How many tasks were born.
     pub fn tasks_born(&self) -> usize
         ensures value { result ≡ length self.now.tasks }
-        ensures few { result ≤ 1000000 }
+        ensures few { result ≤ MAX_BIRTHS }
     {
         self.tasks.len()
     }
@@ -58,7 +64,7 @@ impl Records {
     /// How many scopes were born.
     pub fn scopes_born(&self) -> usize
         ensures value { result ≡ length self.now.scopes }
-        ensures few { result ≤ 1000000 }
+        ensures few { result ≤ MAX_BIRTHS }
     {
         self.scopes.len()
     }
@@ -201,7 +207,7 @@ impl Records {
     }
 
     /// The innermost value of a key for a task.
-    #[tactic(auto, using(crate::proofs::Environments::read_own, crate::proofs::Environments::read_kept))]
+    #[tactic(auto, using(crate::proofs::Environments::reads))]
     pub fn read(&self, t: u32, k: u8) -> Option<i64>
         ensures { result ≡ scoped.read (scoped.environment_of (def.task_at self.now t) self.now) k }
     {

@@ -1,7 +1,9 @@
 //! A task as it is kept.
 
-ghost use Rattle.std.specs.Prelude.{◌≡◌, ◌<◌, ◌≤◌, ◌+◌, ◌-◌, ◌^◌, length, [], ◌∷◌, IfOk, Some, None, true, false, drop, slice_set};
-ghost use Rattle.std.specs.Prelude.{reverse, take, ◌++◌};
+ghost use Rattle.std.specs.Prelude.{◌≡◌, ◌<◌, ◌≤◌, ◌+◌, ◌-◌, ◌^◌, ◌++◌, [], ◌∷◌};
+ghost use Rattle.std.specs.Prelude.{IfOk, Some, None, true, false};
+ghost use Rattle.std.specs.Prelude.{length, drop, take, reverse, slice_set};
+ghost use Rattle.sts_code.specs.declared.limits.TheConstants.{LAST_SLOT, MAX_ENTRIES, MAX_OPERANDS};
 ghost use Rattle.sts_model.specs.Cancelling as cancelling;
 ghost use Rattle.sts_model.specs.Effect as effect;
 ghost use Rattle.sts_model.specs.Environment as scoped;
@@ -52,7 +54,13 @@ impl Model for TaskRecord {
     ghost use Rattle.sts_world.specs.Held.{frame_of, is_living};
     ghost use Rattle.std.specs.Prelude.{◌≡◌, true, ◌&&◌, is_none};
 
-    ghost view = { λ t. record { frame = frame_of t.frame; started = t.started; flag = t.flag; scope = t.scope; outcome = t.outcome } };
+    ghost view = { λ t. record {
+      frame = frame_of t.frame;
+      started = t.started;
+      flag = t.flag;
+      scope = t.scope;
+      outcome = t.outcome;
+    } };
 
     ghost invariant = { λ t. t.started && is_none t.outcome ≡ true → is_living t.frame ≡ true };
 }
@@ -61,6 +69,10 @@ impl Model for TaskRecord {
 
 impl TaskRecord {
     /// The root task, at the beginning of a function.
+    ///
+    /// # Errors
+    ///
+    /// Want of memory.
     pub fn root(alloc: Global, function: u32) -> Result<TaskRecord, AllocError>
         ensures { IfOk result
             (λ t. t ≡ record {
@@ -82,7 +94,12 @@ impl TaskRecord {
         })
     }
 
-    /// A subtask of a scope, at the beginning of a function, with the forker's topmost operands as its arguments.
+    /// A subtask of a scope, at the beginning of a function, with the forker's topmost operands as
+    /// its arguments.
+    ///
+    /// # Errors
+    ///
+    /// Want of memory.
     pub fn subtask(
         alloc: Global,
         function: u32,
@@ -91,7 +108,7 @@ impl TaskRecord {
         scope: u32,
         started: bool,
     ) -> Result<TaskRecord, AllocError>
-        requires few { args ≤ 16 }
+        requires few { args ≤ LAST_SLOT + 1 }
         requires enough { args ≤ length forker.now.operands }
         ensures { IfOk result
             (λ t. t ≡
@@ -176,6 +193,10 @@ impl TaskRecord {
     }
 
     /// The place of its own bindings in front of an environment.
+    ///
+    /// # Errors
+    ///
+    /// Want of memory, where links may have been added.
     pub fn environment(
         &self,
         chains: &mut Chains,
@@ -210,7 +231,7 @@ impl TaskRecord {
     /// Pops `n` operands, pushes a value and goes to `to`.
     pub fn goes_with(&mut self, to: u32, n: usize, value: i64)
         requires lives { living.lives self.old ≡ true }
-        requires room { length self.old.frame.operands - n < 32 }
+        requires room { length self.old.frame.operands - n < MAX_OPERANDS }
         ensures { self.new ≡
             record self.old { frame = frames.goes self.old.frame to n (value ∷ []) } }
     {
@@ -259,7 +280,7 @@ impl TaskRecord {
     pub fn bind(&mut self, k: u8)
         requires lives { living.lives self.old ≡ true }
         requires more { self.old.frame.pc + 1 < 2 ^ 32 }
-        requires entries { length self.old.frame.entries < 16 }
+        requires entries { length self.old.frame.entries < MAX_ENTRIES }
         ensures { self.new ≡
             record self.old {
               frame = record (frames.steps self.old.frame 1 []) {
@@ -292,7 +313,7 @@ impl TaskRecord {
     pub fn take_flag(&mut self)
         requires lives { living.lives self.old ≡ true }
         requires more { self.old.frame.pc + 1 < 2 ^ 32 }
-        requires room { length self.old.frame.operands < 32 }
+        requires room { length self.old.frame.operands < MAX_OPERANDS }
         ensures { self.new ≡
             record self.old {
               frame = frames.steps self.old.frame 0
@@ -340,7 +361,7 @@ impl TaskRecord {
     pub fn leave_open(&mut self, slot: u8, s: u32, front: Option<usize>)
         requires lives { living.lives self.old ≡ true }
         requires more { self.old.frame.pc + 1 < 2 ^ 32 }
-        requires entries { length self.old.frame.entries < 16 }
+        requires entries { length self.old.frame.entries < MAX_ENTRIES }
         ensures { self.new ≡
             record self.old {
               frame = record (frames.steps self.old.frame 0 []) {
@@ -399,7 +420,8 @@ impl TaskRecord {
         self.rest(alloc);
     }
 
-    /// Holds the frame of a task that doesn't live in what is used of it, where there is memory for that.
+    /// Holds the frame of a task that doesn't live in what is used of it, where there is memory for
+    /// that.
     fn rest(&mut self, alloc: Global)
         requires { living.lives self.old ≡ false }
         ensures { self.new ≡ self.old }

@@ -1,14 +1,18 @@
 //! The tasks and scopes with what is kept of them.
 
-ghost use Rattle.std.specs.Prelude.{◌≡◌, ◌<◌, ◌≤◌, ◌+◌, ◌-◌, ◌^◌, length, [], ◌∷◌, OnOk, OnErr, IfOk, Some, None, true, false, drop, if◌then◌else◌, slice_index_or, nat_lt, nat_le, ◌&&◌, not, pos, count_by};
+ghost use Rattle.std.specs.Prelude.{◌≡◌, ◌<◌, ◌≤◌, ◌+◌, ◌-◌, ◌^◌, ◌&&◌, [], ◌∷◌};
+ghost use Rattle.std.specs.Prelude.{if◌then◌else◌, OnOk, OnErr, IfOk, Some, None, true, false};
+ghost use Rattle.std.specs.Prelude.{length, slice_index_or, nat_lt, nat_le, not, pos, count_by};
+ghost use Rattle.sts_code.specs.Facts as facts;
 ghost use Rattle.sts_code.specs.Program.{routine};
+ghost use Rattle.sts_code.specs.declared.limits.TheConstants.{MAX_BIRTHS, MAX_ENTRIES};
+ghost use Rattle.sts_code.specs.declared.limits.TheConstants.{MAX_OPERANDS, MAX_STANDING};
 ghost use Rattle.sts_model.specs.Cancelling as cancelling;
 ghost use Rattle.sts_model.specs.Effect as effect;
 ghost use Rattle.sts_model.specs.Joining as joining;
 ghost use Rattle.sts_model.specs.Living as living;
 ghost use Rattle.sts_model.specs.Local as frames;
 ghost use Rattle.sts_model.specs.Misuse as misuse;
-ghost use Rattle.sts_code.specs.Facts as facts;
 ghost use Rattle.sts_model.specs.Outside as outside;
 ghost use Rattle.sts_model.specs.Standing as standing;
 ghost use Rattle.sts_model.specs.World as def;
@@ -24,12 +28,12 @@ use sts_code::instr::{Instr, Joiner, Kind};
 use sts_code::program::Program;
 use sts_joiners::tally::Tally;
 use sts_model::event::{End, Phase, Verdict};
-use sts_model::record::Slot;
 
 /// The tasks and scopes: contracts see the two lists of all that were ever born.
 ///
-/// Beside them it keeps of each scope its subtasks, how many of them live and its joiner's tally, of each task whether its
-/// scope was told of its end, and how many tasks and scopes stand, so that no call walks over all tasks or all completions.
+/// Beside them it keeps of each scope its subtasks, how many of them live and its joiner's tally,
+/// of each task whether its scope was told of its end, and how many tasks and scopes stand, so that
+/// no call walks over all tasks or all completions.
 #[derive(Drop)]
 pub struct World {
     records: Records,
@@ -51,7 +55,9 @@ impl Model for World {
     ghost use Rattle.sts_world.specs.Kept.{IsKept};
     ghost use Rattle.sts_world.specs.Lines.{lines};
 
-    ghost invariant = { λ w. IsKept (lines w.records) w.families.items w.tallies.items w.standing_tasks w.standing_scopes × KnowsEnds w.records w.was_told.items };
+    ghost invariant = { λ w. IsKept (lines w.records) w.families.items w.tallies.items
+        w.standing_tasks w.standing_scopes
+        × KnowsEnds w.records w.was_told.items };
 }
 
 /// The number, or 0 where the scope is closed.
@@ -108,10 +114,10 @@ impl World {
     #[tactic(auto, using(crate::proofs::Finds::finds_tasks))]
     pub fn standing_tasks(&self) -> usize
         ensures value { result ≡ standing.standing_tasks self.now }
-        ensures few { result ≤ 1000000 }
+        ensures few { result ≤ MAX_BIRTHS }
     {
+        // For the proof alone: the records, seen from inside, show that few tasks are ever born.
         let records = &self.records;
-        // At most so many tasks are ever born.
         let _ = &records.tasks;
         self.standing_tasks
     }
@@ -120,10 +126,10 @@ impl World {
     #[tactic(auto, using(crate::proofs::Finds::finds_scopes))]
     pub fn standing_scopes(&self) -> usize
         ensures value { result ≡ standing.standing_scopes self.now }
-        ensures few { result ≤ 1000000 }
+        ensures few { result ≤ MAX_BIRTHS }
     {
+        // For the proof alone: the records, seen from inside, show that few scopes are ever born.
         let records = &self.records;
-        // At most so many scopes are ever born.
         let _ = &records.scopes;
         self.standing_scopes
     }
@@ -131,10 +137,10 @@ impl World {
     /// How many subtasks a scope has.
     pub fn subtask_count(&self, s: u32) -> usize
         ensures value { result ≡ living.subtask_count self.now s }
-        ensures few { result ≤ 1000000 }
+        ensures few { result ≤ MAX_BIRTHS }
     {
+        // For the proof alone: the records, seen from inside, show that few tasks are ever born.
         let records = &self.records;
-        // At most so many tasks are ever born.
         let _ = &records.tasks;
         births(&self.families, s).len()
     }
@@ -230,7 +236,7 @@ impl World {
     pub fn goes_with(&mut self, t: u32, to: u32, n: usize, value: i64)
         requires born { t < length self.old.tasks }
         requires lives { living.lives (def.task_at self.old t) ≡ true }
-        requires room { length (def.task_at self.old t).frame.operands - n < 32 }
+        requires room { length (def.task_at self.old t).frame.operands - n < MAX_OPERANDS }
         ensures { self.new ≡ def.with_frame self.old t
             (frames.goes (def.task_at self.old t).frame to n (value ∷ [])) }
     {
@@ -270,7 +276,7 @@ impl World {
         requires born { t < length self.old.tasks }
         requires lives { living.lives (def.task_at self.old t) ≡ true }
         requires more { (def.task_at self.old t).frame.pc + 1 < 2 ^ 32 }
-        requires entries { length (def.task_at self.old t).frame.entries < 16 }
+        requires entries { length (def.task_at self.old t).frame.entries < MAX_ENTRIES }
         ensures { self.new ≡ effect.bind self.old t (def.task_at self.old t).frame k }
     {
         self.records.task(t).bind(k);
@@ -291,7 +297,7 @@ impl World {
         requires born { t < length self.old.tasks }
         requires lives { living.lives (def.task_at self.old t) ≡ true }
         requires more { (def.task_at self.old t).frame.pc + 1 < 2 ^ 32 }
-        requires room { length (def.task_at self.old t).frame.operands < 32 }
+        requires room { length (def.task_at self.old t).frame.operands < MAX_OPERANDS }
         ensures { self.new ≡ effect.take_flag self.old t (def.task_at self.old t).frame }
     {
         self.records.task(t).take_flag();
@@ -374,7 +380,12 @@ impl World {
         }
     }
 
-    /// Ends a living subtask of a scope that is told of it, and answers whether the scope's joiner now asks to cancel it.
+    /// Ends a living subtask of a scope that is told of it, and answers whether the scope's joiner
+    /// now asks to cancel it.
+    ///
+    /// # Errors
+    ///
+    /// Want of memory, where the world stays as it was.
     fn complete(&mut self, alloc: Global, t: u32, s: u32, end: End) -> Result<bool, AllocError>
         requires born { t < length self.old.tasks }
         requires lives { living.lives (def.task_at self.old t) ≡ true }
@@ -396,6 +407,10 @@ impl World {
     }
 
     /// Ends a living task.
+    ///
+    /// # Errors
+    ///
+    /// Want of memory, where the world stays as it was.
     #[tactic(auto, unfolding(sts_model::specs::Effect::end_task))]
     pub fn end_task(&mut self, alloc: Global, t: u32, end: End) -> Result<(), AllocError>
         requires born { t < length self.old.tasks }
@@ -441,7 +456,7 @@ impl World {
     fn joined_with(&mut self, t: u32, s: u32, to: u32, value: i64)
         requires born { t < length self.old.tasks }
         requires lives { living.lives (def.task_at self.old t) ≡ true }
-        requires room { length (def.task_at self.old t).frame.operands < 32 }
+        requires room { length (def.task_at self.old t).frame.operands < MAX_OPERANDS }
         ensures { self.new ≡ effect.joined self.old t s
             (frames.goes (def.task_at self.old t).frame to 0 (value ∷ [])) }
     {
@@ -465,12 +480,12 @@ impl World {
     }
 
     /// The answer of `join` once there is one.
-    #[tactic(auto, using(crate::proofs::Verdicts::ok_pushes, crate::proofs::Verdicts::failed_pushes), unfolding(sts_model::specs::Effect::join_scope))]
+    #[tactic(auto, using(crate::proofs::Verdicts::pushes), unfolding(sts_model::specs::Effect::join_scope))]
     pub fn join(&mut self, t: u32, s: u32, failed: u32, timeout: u32, interrupted: u32)
         requires born { t < length self.old.tasks }
         requires lives { living.lives (def.task_at self.old t) ≡ true }
         requires more { (def.task_at self.old t).frame.pc + 1 < 2 ^ 32 }
-        requires room { (nat_le 32 (length (def.task_at self.old t).frame.operands) &&
+        requires room { (nat_le MAX_OPERANDS (length (def.task_at self.old t).frame.operands) &&
             not (facts.is_await_all (def.scope_at self.old s).joiner)) ≡ false }
         ensures { self.new ≡ effect.join_scope self.old t
             (def.task_at self.old t).frame s failed timeout interrupted }
@@ -547,6 +562,10 @@ impl World {
     }
 
     /// Opens a scope.
+    ///
+    /// # Errors
+    ///
+    /// Want of memory, where the world stays as it was.
     pub fn open_scope(
         &mut self,
         alloc: Global,
@@ -558,8 +577,8 @@ impl World {
         requires born { t < length self.old.tasks }
         requires lives { living.lives (def.task_at self.old t) ≡ true }
         requires more { (def.task_at self.old t).frame.pc + 1 < 2 ^ 32 }
-        requires room { length self.old.scopes < 1000000 }
-        requires entries { length (def.task_at self.old t).frame.entries < 16 }
+        requires room { length self.old.scopes < MAX_BIRTHS }
+        requires entries { length (def.task_at self.old t).frame.entries < MAX_ENTRIES }
         ensures ok { OnOk result (self.new ≡ effect.open_scope self.old t
             (def.task_at self.old t).frame slot joiner timed) }
         ensures err { OnErr result (self.new ≡ self.old) }
@@ -575,6 +594,10 @@ impl World {
     }
 
     /// Makes a subtask of a scope that is open.
+    ///
+    /// # Errors
+    ///
+    /// Want of memory, where the world stays as it was.
     pub fn fork_task(
         &mut self,
         alloc: Global,
@@ -587,11 +610,11 @@ impl World {
         requires born { t < length self.old.tasks }
         requires lives { living.lives (def.task_at self.old t) ≡ true }
         requires more { (def.task_at self.old t).frame.pc + 1 < 2 ^ 32 }
-        requires room { length self.old.tasks < 1000000 }
+        requires room { length self.old.tasks < MAX_BIRTHS }
         requires enough { (routine program.now function).args ≤
             length (def.task_at self.old t).frame.operands }
         requires opened { living.is_closed (def.scope_at self.old s).phase ≡ false }
-        requires few { standing.standing_tasks self.old < 65536 }
+        requires few { standing.standing_tasks self.old < MAX_STANDING }
         ensures ok { OnOk result (self.new ≡ effect.fork_task program.now self.old t
             (def.task_at self.old t).frame s function handle) }
         ensures err { OnErr result (self.new ≡ self.old) }

@@ -1,6 +1,7 @@
 use Rattle.std.proofs.Common.{◌≡◌, ◌<◌, ◌∙◌, sym, ap, length, ◌++◌, arith, List, map, refl, subst, slice_index_or}
 use Rattle.std.proofs.lemmas.Result.{err_from_is_err_and}
 use Rattle.std.proofs.lemmas.List.{get_or_default, length-map, length-set, length-append}
+use Rattle.sts_code.specs.declared.limits.TheConstants.{MAX_BIRTHS}
 use Rattle.sts_model.specs.Environment.{own_bindings}
 use Rattle.sts_model.specs.World.{World, no_task}
 use Rattle.sts_model.specs.declared.record.Scope.{Scope}
@@ -21,8 +22,8 @@ returns-in_err-push-clause-err c =
 
 pub invariant_of-self-2 : goal.invariant_of-self-2
 invariant_of-self-2 c =
-    let room : length (map (shown c.self.inside.chains) c.self.inside.scopes.items) < 1000000 = subst (λ (w : World). length w.scopes < 1000000) (sym c.self.view_is) c.requires.room in
-    let few : length c.self.inside.scopes.items < 1000000 = omega (arith, room, length-map c.self.inside.scopes.items (shown c.self.inside.chains)) in (
+    let room : length (map (shown c.self.inside.chains) c.self.inside.scopes.items) < MAX_BIRTHS = subst (λ (w : World). length w.scopes < MAX_BIRTHS) (sym c.self.view_is) c.requires.room in
+    let few : length c.self.inside.scopes.items < MAX_BIRTHS = omega (arith, room, length-map c.self.inside.scopes.items (shown c.self.inside.chains)) in (
       simp length-set c.self.invariant.0,
       rw c.in_ok-push.ensures.items (simp length-append (omega arith)),
       rw c.in_ok-push.ensures.items (within_push c.environment.new.chains c.self.inside.scopes.items _ (within_grown c.self.inside.chains c.environment.new.chains c.self.inside.scopes.items c.self.invariant.2 c.environment.ensures.grows) c.in_ok-front.ensures.within),

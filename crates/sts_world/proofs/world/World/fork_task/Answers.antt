@@ -1,5 +1,6 @@
 use Rattle.std.proofs.Common.{◌≡◌, not, ◌<◌, ◌∙◌, ap, sym, length, false, arith, slice_index_or}
 use Rattle.std.proofs.lemmas.List.{get_or_default, length-map, get_or-set_same}
+use Rattle.sts_code.specs.declared.limits.TheConstants.{MAX_STANDING}
 use Rattle.sts_model.specs.Standing as standing
 use Rattle.sts_model.specs.World.{World, task_at, scope_at}
 use Rattle.sts_world.specs.Kept.{no_family, with_child}
@@ -18,7 +19,7 @@ invariant_of-self-2 c =
     let bound : c.args.s < length c.self.inside.families.items = omega (arith, born, c.self.invariant.0.as_many, length-map w.scopes is_shut) in
     let same : c.index_mut.result.now ≡ slice_index_or c.self.inside.families.items c.args.s no_family = c.index_mut.ensures.value ∙ get_or_default c.self.inside.families.items c.args.s _ no_family bound in
     let count : c.standing_tasks-tasks.result ≡ c.self.inside.standing_tasks = c.standing_tasks-tasks.ensures.value ∙ ap standing.standing_tasks (sym c.self.view_is) ∙ finds_tasks w ∙ sym c.self.invariant.0.tasks in
-    let few : c.self.inside.standing_tasks < 65536 = omega (arith, c.requires.few, count, c.standing_tasks-tasks.ensures.value) in (
+    let few : c.self.inside.standing_tasks < MAX_STANDING = omega (arith, c.requires.few, count, c.standing_tasks-tasks.ensures.value) in (
       rw (c.in_ok-add.ensures.ok, same, c.tasks_born-child.ensures.value, c.is_cancelled-started.ensures, count)
           (kept_child c.args.program.now w c.fork_task.new.self _ _ _ _ c.args.t (task_at w c.args.t).frame c.args.s c.args.function c.args.handle c.in_default.ensures.ok born open_now few c.self.invariant.0),
       rw (c.in_ok-push.ensures.items, c.reserve.ensures.items)
