@@ -7,5 +7,3 @@ pub mod misuse;
 pub mod perform;
 pub mod plain;
 pub mod stand;
-#[cfg(test)]
-mod tests;

@@ -1,12 +1,12 @@
 //! A worked run.
 
-use crate::misstep::PlainState;
-use crate::plain::Plain;
 use std::alloc::{AllocError, Global};
 use std::test::Fail;
 use sts_code::instr::{Instr, Joiner};
 use sts_code::program::{Function, Program};
 use sts_model::event::{End, Event};
+use sts_plain::misstep::PlainState;
+use sts_plain::plain::Plain;
 
 fn function(alloc: Global, name: &str, args: u8, code: &[Instr]) -> Result<Function, AllocError> {
     Ok(Function {
