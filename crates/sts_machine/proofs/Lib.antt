@@ -14,3 +14,4 @@ pub mod Comparing
 pub mod Cutting
 pub mod Instrs
 pub mod LocalSteps
+pub mod Putting

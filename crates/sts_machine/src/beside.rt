@@ -13,6 +13,6 @@ impl<'p> Machine<'p> {
         ensures { Picks (λ t. live_can_step self.now.program self.now.live t
             && not (list_any (λ o. o == t) out.now)) result }
     {
-        todo!()
+        self.store.ready_beside(out)
     }
 }

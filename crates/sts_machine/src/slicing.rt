@@ -1,12 +1,14 @@
 //! Slices taken out of a machine, and put back.
 
-ghost use Rattle.std.specs.Prelude.{◌≡◌, ◌+◌, ◌++◌, ◌↔◌, List, true, false, not, ◌&&◌, ◌==◌, IsTrue};
-ghost use Rattle.std.specs.List.{list_any};
+ghost use Rattle.std.specs.Prelude.{◌≡◌, ◌+◌, ◌++◌, ◌↔◌, List, true, IsTrue};
+ghost use Rattle.sts_laws_accepted.specs.Accepted.{main_of};
+ghost use Rattle.sts_laws_accepted.specs.EveryRun.{RunsWell};
 ghost use Rattle.sts_machine.specs.Machine.{Stands};
 ghost use Rattle.sts_machine.specs.Slice.{Fits, steps_of};
-ghost use Rattle.sts_machine.specs.Turned.{Picks};
 ghost use Rattle.sts_model.specs.World as world;
 ghost use Rattle.sts_model.specs.declared.event.Event.{Event as AnyEvent};
+ghost use Rattle.sts_rules.specs.Refusal.{IsBudgetOf};
+ghost use Rattle.sts_rules.specs.declared.budget.Budgets.{Budgets as AnyBudgets};
 ghost use Rattle.sts_seen.specs.Reading.{alive_at, with_live_frame};
 ghost use Rattle.sts_seen.specs.Waiting.{live_can_step};
 
@@ -14,6 +16,7 @@ use crate::copying::{copy_frame, same_code, same_frame};
 use crate::machine::Machine;
 use crate::slice::Slice;
 use crate::stands::say_stand;
+use sts_frames::code::code;
 
 impl<'p> Machine<'p> {
     /// A task that can step, taken out: the machine keeps its frame as it is.
@@ -36,7 +39,14 @@ impl<'p> Machine<'p> {
     pub fn fits(&self, slice: &Slice<'p>) -> bool
         ensures { IsTrue result ↔ Fits self.now slice.now }
     {
-        todo!()
+        let task = slice.task();
+        if !self.store.lives(task) {
+            return false;
+        }
+        if !same_frame(slice.start(), self.store.frame(task)) {
+            return false;
+        }
+        same_code(slice.code(), code(self.verified.program(), slice.start()))
     }
 
     /// Does what as many steps of its task do as the slice has done.
@@ -48,6 +58,10 @@ impl<'p> Machine<'p> {
         ensures steps { self.new.steps ≡ self.old.steps + slice.now.count }
         ensures stands { (events : List AnyEvent) → Stands self.old events
             → Stands self.new (events ++ steps_of slice.now.count slice.now.task) }
+        ensures runs_well { (events : List AnyEvent) (budget : AnyBudgets)
+            → Stands self.old events → IsBudgetOf self.old.program (main_of self.old.program) budget
+            → RunsWell self.old.program budget
+            (events ++ steps_of slice.now.count slice.now.task) }
     {
         let task = slice.task();
         self.store.put_frame(task, copy_frame(slice.frame()));

@@ -3,16 +3,13 @@ use Rattle.std.specs.Prelude.{◌≡◌, ℕ, ◌+◌, ◌≤◌, List, [], leng
 use Rattle.std.specs.List.{list_any, IsDistinct}
 use Rattle.sts_code.specs.Program.{Program}
 use Rattle.sts_code.specs.declared.profile.Profile.TheVariants.{One}
-use Rattle.sts_rules.specs.declared.budget.Budgets.{Budgets}
-use Rattle.sts_rules.specs.Refusal.{IsBudgetOf}
 use Rattle.sts_model.specs.declared.event.Event.{Event}
 use Rattle.sts_model.specs.Run.{is_step}
 use Rattle.sts_seen.specs.Reading.{lives_in}
 use Rattle.sts_seen.specs.Waiting.{live_can_step}
 use Rattle.sts_views.specs.Stands.{StandsStay}
-use Rattle.sts_laws_accepted.specs.Accepted.{main_of}
-use Rattle.sts_laws_accepted.specs.EveryRun.{RunsWell}
 use Rattle.sts_laws_accepted.specs.Views.{ViewsAreWithin}
+use Rattle.sts_machine.specs.Laws.{MainBudget}
 use Rattle.sts_machine.specs.Machine.{Seen, Stands}
 use Rattle.sts_machine.specs.Slice.{Cut, Fits}
 
@@ -61,10 +58,8 @@ pub record IsBook (b : BookSeen) : Type 0 where
 
 -- the laws of its program, and room in its two lists by the budget of `main`
 pub record HasBookRoom (p : Program) (journal out : ℕ) : Type 0 where
-  pub budget : Budgets
-  pub printed : IsBudgetOf p (main_of p) budget
-  pub runs_well : (events : List Event) → RunsWell p budget events
+  pub main : MainBudget p
   pub stay : StandsStay p
   pub within : ViewsAreWithin p
-  pub journal_room : budget.steps + 4096 ≤ journal
-  pub out_room : budget.tasks ≤ out
+  pub journal_room : main.budget.steps + 4096 ≤ journal
+  pub out_room : main.budget.tasks ≤ out

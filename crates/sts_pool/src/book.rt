@@ -235,7 +235,7 @@ impl<'p> Book<'p> {
 fn record_steps(journal: &mut Vec<Event>, task: u32, count: u32)
     requires { vec_len journal.old + count ≤ vec_capacity journal.old }
     ensures items { journal.new.items ≡ journal.old.items ++ steps_of count task }
-    ensures capacity { vec_capacity journal.new ≡ vec_capacity journal.old }
+    ensures capacity { vec_capacity journal.old ≤ vec_capacity journal.new }
 {
     let entries = journal.len() + count as usize;
     journal.resize(entries, Event::Step(task)).unwrap();

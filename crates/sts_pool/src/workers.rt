@@ -36,19 +36,19 @@ impl Runs for Brand {
 
 /// What the workers share.
 #[derive(Drop)]
-pub(crate) struct Shared<'p, O, B: Runs> {
-    pub(crate) book: Book<'p>,
-    pub(crate) outside: O,
-    pub(crate) stop: bool,
-    pub(crate) of: PhantomData<B>,
+struct Shared<'p, O, B: Runs> {
+    book: Book<'p>,
+    outside: O,
+    stop: bool,
+    of: PhantomData<B>,
     ghost ours: { book.program ≡ B.program },
 }
 
 /// One lock over it, and what wakes those that wait for a task that can step.
 #[derive(Drop)]
-pub(crate) struct Pool<'p, O, B: Runs> {
-    pub(crate) shared: Mutex<Shared<'p, O, B>>,
-    pub(crate) woken: Condvar,
+struct Pool<'p, O, B: Runs> {
+    shared: Mutex<Shared<'p, O, B>>,
+    woken: Condvar,
 }
 
 impl<'p, O: Outside, B: Runs> Shared<'p, O, B> {
@@ -152,11 +152,12 @@ pub fn run<R: Threads + Wait + Sync, G: Gate + Sync, O: Outside + Send + Drop>(
     requires { (1 ≤ workers) × (workers ≤ 16) }
     ensures { IfOk result (λ r. IsReport verified.now r.journal.items r.end) }
 {
-    run_on::<Brand, R, G, O>(rt, alloc, verified, workers, gate, outside)
+    let stacks = &[STACK; 16][..workers as usize];
+    run_on::<Brand, R, G, O>(rt, alloc, verified, stacks, gate, outside)
 }
 
-/// The same of the program that was picked.
-fn run_on<
+/// The same of the program that was picked, with a worker for each of these sizes of a stack.
+pub(crate) fn run_on<
     B: Runs + Send + Sync,
     R: Threads + Wait + Sync,
     G: Gate + Sync,
@@ -165,12 +166,11 @@ fn run_on<
     rt: &R,
     alloc: Global,
     verified: &Verified,
-    workers: u32,
+    stacks: &[usize],
     gate: &G,
     outside: O,
 ) -> Result<Report, PoolError>
-    requires workers { (1 ≤ workers) × (workers ≤ 16) }
-    requires program { verified.now ≡ B.program }
+    requires { verified.now ≡ B.program }
     ensures { IfOk result (λ r. IsReport B.program r.journal.items r.end) }
 {
     let Ok(book) = Book::start(alloc, verified) else {
@@ -185,7 +185,7 @@ fn run_on<
         }),
         woken: Condvar::new(),
     };
-    if !work_all(rt, &pool, gate, &[STACK; 16][..workers as usize]) {
+    if !work_all(rt, &pool, gate, stacks) {
         return Err(PoolError::SpawnRefused);
     }
     let Pool { shared, woken: _ } = pool;
@@ -200,13 +200,12 @@ fn run_on<
 
 /// Starts a worker with a stack of each of these sizes, and waits for all of them to end: false where
 /// one could not be started.
-pub(crate) fn work_all<
-    'p,
-    B: Runs + Send + Sync,
-    R: Threads + Wait + Sync,
-    G: Gate + Sync,
-    O: Outside + Send,
->(rt: &R, pool: &Pool<'p, O, B>, gate: &G, stacks: &[usize]) -> bool {
+fn work_all<'p, B: Runs + Send + Sync, R: Threads + Wait + Sync, G: Gate + Sync, O: Outside + Send>(
+    rt: &R,
+    pool: &Pool<'p, O, B>,
+    gate: &G,
+    stacks: &[usize],
+) -> bool {
     thread::scope(thread::scope_env(), rt, |scope| {
         for (worker, stack) in stacks.iter().enumerate() {
             let builder = Builder::new().stack_size(*stack);

@@ -1,6 +1,7 @@
 //! Where tasks are said to stand, which tasks may step, keys and room.
 
-ghost use Rattle.std.specs.Prelude.{◌≡◌, ℕ, Some, None, true, false};
+ghost use Rattle.std.specs.Prelude.{◌≡◌, ℕ, Some, None, true, false, not, ◌&&◌, ◌==◌};
+ghost use Rattle.std.specs.List.{list_any};
 ghost use Rattle.sts_held.specs.Holes.{key_at};
 ghost use Rattle.sts_seen.specs.Reading.{lives_in};
 ghost use Rattle.sts_store.specs.Parts.{can_go_on, live_of, stood_unseen, unseen_of};
@@ -34,6 +35,16 @@ impl Store {
         ensures none { (t : ℕ) → result ≡ None → can_go_on self.now t ≡ false }
     {
         self.tree.ready_front()
+    }
+
+    /// Some task that may step and is not in this list: none only where there is none.
+    pub fn ready_beside(&self, out: &[u32]) -> Option<u32>
+        ensures some { (t : ℕ) → result ≡ Some t →
+            (can_go_on self.now t && not (list_any (λ o. o == t) out.now)) ≡ true }
+        ensures none { (t : ℕ) → result ≡ None →
+            (can_go_on self.now t && not (list_any (λ o. o == t) out.now)) ≡ false }
+    {
+        self.tree.ready_beside(out)
     }
 
     /// The key under which the record of a task stands, if it does.

@@ -1,7 +1,8 @@
 //! What is read of the tasks and scopes that stand.
 
 ghost use Rattle.std.specs.Prelude.{◌≡◌, ◌≢◌, ◌++◌, ◌∷◌, ◌≤◌, ℕ, List, length, Some, None, true};
-ghost use Rattle.std.specs.Prelude.{slice_index_or, option_copied};
+ghost use Rattle.std.specs.Prelude.{◌&&◌, ◌==◌, false, not, slice_index_or, option_copied};
+ghost use Rattle.std.specs.List.{list_any};
 ghost use Rattle.sts_forest.specs.Births.{births};
 ghost use Rattle.sts_forest.specs.Forest.{any_lives, is_of, lives_in};
 ghost use Rattle.sts_held.specs.Holes.{key_at};
@@ -251,6 +252,23 @@ impl<E: Drop> Tree<E> {
             self.now.ready ≡ front ++ t ∷ back → result ≡ first_or back None }
     {
         self.forest.ready_after(t)
+    }
+
+    /// Some task that can step and is not in this list: none only where there is none.
+    pub fn ready_beside(&self, out: &[u32]) -> Option<u32>
+        ensures some { (t : ℕ) → result ≡ Some t → (steps.can_step self.now t
+            && not (list_any (λ o. o == t) out.now)) ≡ true }
+        ensures none { (t : ℕ) → result ≡ None → (steps.can_step self.now t
+            && not (list_any (λ o. o == t) out.now)) ≡ false }
+    {
+        let mut at = self.ready_front();
+        while let Some(t) = at {
+            if !out.contains(&t) {
+                return Some(t);
+            }
+            at = self.ready_after(t);
+        }
+        None
     }
 
     /// How many more tasks fit.

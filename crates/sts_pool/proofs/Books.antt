@@ -1,0 +1,233 @@
+-- What keeps the facts of a book.
+use Rattle.std.proofs.Common.{◌≡◌, ℕ, ◌+◌, ◌≤◌, List, [], ◌∷◌, ◌++◌, length, Bool, true, false, not, Option, Some, None, inl, inr, refl, sym, ◌∙◌, subst, cond, is_some, ◌==◌, arith, length-append}
+use Rattle.std.proofs.lemmas.Bool.{and_parts, and_from, and_left, and_right, cond-true, not_from_false, not_from_true}
+use Rattle.std.proofs.lemmas.Bool.Decides.{nat_tests}
+use Rattle.std.proofs.lemmas.List.{length-replicate}
+use Rattle.std.proofs.lemmas.List.Folds.{sum_by-replicate}
+use Rattle.std.proofs.lemmas.List.Sums.{sum_by-append}
+use Rattle.std.specs.List.{IsDistinct}
+use Rattle.std.specs.Prelude.{option_map, unwrap_or}
+use Rattle.sts_code.specs.Program.{Program}
+use Rattle.sts_rules.specs.declared.budget.Budgets.{Budgets}
+use Rattle.sts_rules.specs.Refusal.{IsBudgetOf}
+use Rattle.sts_model.specs.declared.event.End.{End}
+use Rattle.sts_model.specs.declared.event.Event.{Event}
+use Rattle.sts_model.specs.declared.event.Event.TheVariants as event
+use Rattle.sts_model.specs.declared.record.Frame.{Frame}
+use Rattle.sts_model.specs.Live.{Live, LiveTask, Alive}
+use Rattle.sts_model.specs.Run.{after, is_step}
+use Rattle.sts_model.specs.World.{task_at}
+use Rattle.sts_runs.specs.Runs.{In}
+use Rattle.sts_runs.proofs.ListLemmas.{at_set}
+use Rattle.sts_seen.specs.Reading.{task_in, no_live_task, lives_in, with_live_frame}
+use Rattle.sts_seen.specs.Run.{live_apply, live_steps_in}
+use Rattle.sts_seen.specs.Waiting.{live_can_go, live_can_step, live_stand_at}
+use Rattle.sts_views.specs.Stands.{StandsStay}
+use Rattle.sts_views.specs.Waking.{is_step_of}
+use Rattle.sts_laws_accepted.specs.Accepted.{main_of}
+use Rattle.sts_laws_accepted.specs.Views.{ViewsAreWithin}
+use Rattle.sts_machine.specs.Laws.{MainBudget}
+use Rattle.sts_machine.specs.Machine.{Seen, Stands}
+use Rattle.sts_machine.specs.Slice.{steps_of}
+use Rattle.sts_machine.specs.Turned.{turned}
+use Rattle.sts_machine.specs.declared.turned.Turned.TheVariants.{Stepped, Idle}
+use Rattle.sts_pool.specs.Book.{BookSeen, HasBookRoom, IsBook, book_of, is_out, may_turn, outside_entries}
+use Rattle.sts_pool.specs.Report.{IsBounded, IsReport}
+use Rattle.sts_pool.proofs.Outs.{among, among_more, apart_more, apart_without, few_from_apart, was_among, without}
+
+-- ---- a new one
+
+pub opening_book : (m : Seen) → Stands m [] → m.steps ≡ 0 → IsBook (book_of m [] [])
+unfolding IsDistinct
+opening_book m stands none =
+    record {
+      stands = stands;
+      counted = omega (arith, none);
+      most = omega arith;
+      apart = tt;
+      living = λ t h. absurd (cc);
+    }
+
+-- ---- an event more
+
+entries_more : (journal events : List Event) → outside_entries (journal ++ events) ≡ outside_entries journal + outside_entries events
+entries_more journal events = sum_by-append (λ x. cond (not (is_step x)) 1 0) journal events
+
+-- steps come from no outside
+pub still_entries : (journal : List Event) (n t : ℕ) → outside_entries (journal ++ steps_of n t) ≡ outside_entries journal
+still_entries journal n t =
+    let more = entries_more journal (steps_of n t) in
+    let none = sum_by-replicate (λ x. cond (not (is_step x)) 1 0) n (event.Step t) in
+    omega (arith, more, none)
+
+pub still_entries_one : (journal : List Event) (t : ℕ) → outside_entries (journal ++ event.Step t ∷ []) ≡ outside_entries journal
+still_entries_one journal t = let more = entries_more journal (event.Step t ∷ []) in omega (arith, more)
+
+module _ (m x : Seen) (journal : List Event) (out : List ℕ) (e : Event) (is : IsBook (book_of m journal out)) (stay : StandsStay m.program) (stands : (events : List Event) → Stands m events → Stands x (events ++ e ∷ [])) (live : x.live ≡ live_apply m.program m.live e) (steps : x.steps ≡ m.steps + live_steps_in m.program m.live e) where
+  -- an event that is recorded moves nobody who is out
+  moved : live_steps_in m.program m.live e + outside_entries (e ∷ []) ≡ 1 → outside_entries journal + outside_entries (e ∷ []) ≤ 4096 → ((t : ℕ) → among out t ≡ true → is_step_of t e ≡ false) → IsBook (book_of x (journal ++ e ∷ []) out)
+  moved one few others =
+      let more = entries_more journal (e ∷ []) in
+      let long = length-append journal (e ∷ []) in
+      let counted = is.counted in
+      record {
+        stands = stands journal is.stands;
+        counted = omega (arith, counted, steps, one, more, long);
+        most = omega (arith, few, more);
+        apart = is.apart;
+        living = λ t h. rw live ((stay journal m.live m.steps is.stands e t (others t h)).alive (is.living t h));
+      }
+
+-- a step of a task that can step and isn't out
+pub stepped_book : (m x : Seen) (journal : List Event) (out : List ℕ) (t : ℕ) → IsBook (book_of m journal out) → StandsStay m.program → ((events : List Event) → Stands m events → Stands x (events ++ event.Step t ∷ [])) → x.live ≡ live_apply m.program m.live (event.Step t) → x.steps ≡ m.steps + live_steps_in m.program m.live (event.Step t) → live_can_step m.program m.live t ≡ true → among out t ≡ false → IsBook (book_of x (journal ++ event.Step t ∷ []) out)
+stepped_book m x journal out t is stay stands live steps can absent =
+    let one = cond-true {A = ℕ} (live_can_step m.program m.live t) 1 0 can in
+    let most = is.most in
+    moved m x journal out (event.Step t) is stay stands live steps (omega (arith, one)) (omega (arith, most)) others
+  where
+    others : (u : ℕ) → among out u ≡ true → (u == t) ≡ false
+    others u h = other (u == t) refl
+      where
+        same : (a b : ℕ) → (a == b) ≡ true → a ≡ b
+        same a b e = grind (arith, nat_tests)
+
+        other : (b : Bool) → (u == t) ≡ b → (u == t) ≡ false
+        other false e = e
+        other true e = let here : among out u ≡ false = rw (same u t e) absent in absurd (cc)
+
+-- an interrupt or an expiry, where there is room for one more
+pub outside_book : (m x : Seen) (journal : List Event) (out : List ℕ) (e : Event) → IsBook (book_of m journal out) → StandsStay m.program → ((events : List Event) → Stands m events → Stands x (events ++ e ∷ [])) → x.live ≡ live_apply m.program m.live e → x.steps ≡ m.steps + live_steps_in m.program m.live e → is_step e ≡ false → outside_entries journal + 1 ≤ 4096 → IsBook (book_of x (journal ++ e ∷ []) out)
+outside_book m x journal out (event.Step t) is stay stands live steps from few = absurd (cc)
+outside_book m x journal out (event.Interrupt t) is stay stands live steps from few =
+    moved m x journal out (event.Interrupt t) is stay stands live steps (omega arith) (omega (arith, few)) (λ u h. refl)
+outside_book m x journal out (event.Expire s) is stay stands live steps from few =
+    moved m x journal out (event.Expire s) is stay stands live steps (omega arith) (omega (arith, few)) (λ u h. refl)
+
+-- ---- a task out, and back
+
+pub lives : (p : Program) (v : Live) (t : ℕ) → live_can_step p v t ≡ true → lives_in v t ≡ true
+lives p v t can = (and_parts (lives_in v t) (live_can_go v t (live_stand_at p v t)) can).0
+
+pub out_book : (m : Seen) (journal : List Event) (out : List ℕ) (t : ℕ) → IsBook (book_of m journal out) → among out t ≡ false → lives_in m.live t ≡ true → IsBook (book_of m journal (out ++ t ∷ []))
+out_book m journal out t is absent alive =
+    record {
+      stands = is.stands;
+      counted = is.counted;
+      most = is.most;
+      apart = apart_more out t is.apart absent;
+      living = λ q h. elim (among_more out t q h) [ inl k ↦ is.living q k | inr e ↦ subst (λ u. lives_in m.live u ≡ true) e alive ];
+    }
+
+-- who lives does so at another frame
+pub lives_at_frame : (v : Live) (t : ℕ) (f : Frame) (q : ℕ) → lives_in (with_live_frame v t f) q ≡ lives_in v q
+lives_at_frame v t f q = at_set (λ o. is_some (unwrap_or o no_live_task).alive ≡ lives_in v q) v.tasks t q (option_map change (task_in v t)) None (λ e. rw e (here (task_in v t))) refl
+  where
+    placed : Alive → Alive
+    placed alive = record alive { frame = f }
+
+    change : LiveTask → LiveTask
+    change task = record task { alive = option_map placed task.alive }
+
+    still : (a : Option Alive) → is_some (option_map placed a) ≡ is_some a
+    still None = refl
+    still (Some alive) = refl
+
+    here : (o : Option LiveTask) → is_some (unwrap_or (option_map change o) no_live_task).alive ≡ is_some (unwrap_or o no_live_task).alive
+    here None = refl
+    here (Some task) = still task.alive
+
+pub back_book : (m x : Seen) (journal : List Event) (out : List ℕ) (n t : ℕ) (f : Frame) → IsBook (book_of m journal out) → ((events : List Event) → Stands m events → Stands x (events ++ steps_of n t)) → x.live ≡ with_live_frame m.live t f → x.steps ≡ m.steps + n → IsBook (book_of x (journal ++ steps_of n t) (without t out))
+back_book m x journal out n t f is stands live steps =
+    let none = still_entries journal n t in
+    let long = length-append journal (steps_of n t) in
+    let many : length (steps_of n t) ≡ n = length-replicate n (event.Step t) in
+    let counted = is.counted in
+    let most = is.most in
+    record {
+      stands = stands journal is.stands;
+      counted = omega (arith, none, long, many, counted, steps);
+      most = omega (arith, none, most);
+      apart = apart_without t out is.apart;
+      living = λ q h. rw live (lives_at_frame m.live t f q ∙ is.living q (was_among t q out h));
+    }
+
+-- ---- room
+
+-- no more entries than the journal has room for
+entries_few : (b : BookSeen) → IsBook b → (main : MainBudget b.machine.program) → length b.journal ≤ main.budget.steps + 4096
+entries_few b is main =
+    let few = (main.runs_well b.journal).steps in
+    let same = is.stands.steps in
+    let counted = is.counted in
+    let most = is.most in
+    omega (arith, few, same, counted, most)
+
+-- no more tasks are out than stand
+out_few : (b : BookSeen) → IsBook b → (c : Budgets) → IsBudgetOf b.machine.program (main_of b.machine.program) c → ViewsAreWithin b.machine.program → length b.out ≤ c.tasks
+out_few b is c printed within =
+    let few = (within c printed b.journal b.machine.live b.machine.steps is.stands).tasks in
+    let most = few_from_apart b.out b.machine.live.tasks is.apart (λ t h. stands (task_in b.machine.live t) (is.living t h)) in
+    omega (arith, few, most)
+  where
+    stands : (o : Option LiveTask) → is_some (unwrap_or o no_live_task).alive ≡ true → is_some o ≡ true
+    stands None h = h
+    stands (Some task) h = refl
+
+-- the laws and the room go over to a machine of the same program
+pub room_kept : (p q : Program) (j k l n : ℕ) → q ≡ p → j ≤ l → k ≤ n → HasBookRoom p j k → HasBookRoom q l n
+room_kept p q j k l n same more most room =
+    let journal = room.journal_room in
+    let out = room.out_room in
+    subst (λ z. HasBookRoom z l n) (sym same)
+    (record { main = room.main; stay = room.stay; within = room.within; journal_room = omega (arith, journal, more); out_room = omega (arith, out, most) })
+
+-- entries with which it is a book still had room in the journal
+pub entries_fit : (m x : Seen) (journal events : List Event) (out : List ℕ) (j k : ℕ) → x.program ≡ m.program → HasBookRoom m.program j k → IsBook (book_of x (journal ++ events) out) → length journal + length events ≤ j
+entries_fit m x journal events out j k same room is =
+    let there = room_kept m.program x.program j k j k same (omega arith) (omega arith) room in
+    let few = entries_few (book_of x (journal ++ events) out) is there.main in
+    let long = length-append journal events in
+    let enough = there.journal_room in
+    omega (arith, few, long, enough)
+
+-- a task with which it is a book still had room in the list of those that are out
+pub out_fits : (m : Seen) (journal : List Event) (out : List ℕ) (t j k : ℕ) → HasBookRoom m.program j k → IsBook (book_of m journal (out ++ t ∷ [])) → length out + 1 ≤ k
+out_fits m journal out t j k room is =
+    let few = out_few (book_of m journal (out ++ t ∷ [])) is room.main.budget room.main.printed room.within in
+    let long = length-append out (t ∷ []) in
+    let enough = room.out_room in
+    omega (arith, few, long, enough)
+
+-- ---- which turn is a step
+
+pub stepped_from : (c : Bool) → Stepped ≡ turned c → c ≡ true
+stepped_from true e = refl
+stepped_from false e = absurd (cc)
+
+pub idle_from : (c : Bool) → Idle ≡ turned c → c ≡ false
+idle_from true e = absurd (cc)
+idle_from false e = refl
+
+-- none of a task that is out, and none of one that can't step
+pub out_no_turn : (b : BookSeen) (t : ℕ) → is_out b t ≡ true → may_turn b t ≡ false
+out_no_turn b t out = and_right (live_can_step b.program b.machine.live t) (not (is_out b t)) (not_from_true (is_out b t) out)
+
+pub idle_no_turn : (b : BookSeen) (t : ℕ) → live_can_step b.program b.machine.live t ≡ false → may_turn b t ≡ false
+idle_no_turn b t idle = and_left (live_can_step b.program b.machine.live t) (not (is_out b t)) idle
+
+pub turns : (b : BookSeen) (t : ℕ) → live_can_step b.program b.machine.live t ≡ true → is_out b t ≡ false → may_turn b t ≡ true
+turns b t can absent = and_from (live_can_step b.program b.machine.live t) (not (is_out b t)) can (not_from_false (is_out b t) absent)
+
+-- ---- what is reported
+
+pub reports : (b : BookSeen) (end : Option End) (o : End) → IsBook b → MainBudget b.machine.program → In (λ w. end ≡ (task_at w 0).outcome) (after b.machine.program b.journal) → end ≡ Some o → IsReport b.machine.program b.journal o
+reports b end o is main ended some =
+    let s = is.stands in
+    let here : end ≡ (task_at s.world 0).outcome = subst (In (λ w. end ≡ (task_at w 0).outcome)) s.runs ended in
+    record {
+      world = s.world;
+      runs = s.runs;
+      ended = sym here ∙ some;
+      bounded = λ c printed. subst (λ d. IsBounded b.machine.program b.journal d) (sym (main.alone c printed))
+          (record { steps = (main.runs_well b.journal).steps; entries = entries_few b is main });
+    }
