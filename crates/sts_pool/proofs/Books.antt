@@ -3,8 +3,9 @@ use Rattle.std.proofs.Common.{◌≡◌, ℕ, ◌+◌, ◌≤◌, List, [], ◌�
 use Rattle.std.proofs.lemmas.Bool.{and_parts, and_from, and_left, and_right, cond-true, not_from_false, not_from_true}
 use Rattle.std.proofs.lemmas.Bool.Decides.{nat_tests}
 use Rattle.std.proofs.lemmas.List.{length-replicate}
+use Rattle.std.proofs.lemmas.List.Filters.{length-filter_both}
 use Rattle.std.proofs.lemmas.List.Folds.{sum_by-replicate}
-use Rattle.std.proofs.lemmas.List.Sums.{sum_by-append}
+use Rattle.std.proofs.lemmas.List.Sums.{length-filter, sum_by-append}
 use Rattle.std.specs.List.{IsDistinct}
 use Rattle.std.specs.Prelude.{option_map, unwrap_or}
 use Rattle.sts_code.specs.Program.{Program}
@@ -220,6 +221,14 @@ turns b t can absent = and_from (live_can_step b.program b.machine.live t) (not 
 
 -- ---- what is reported
 
+-- an entry is a step, or came from outside
+steps_and_outside : (journal : List Event) → count_by is_step journal + outside_entries journal ≡ length journal
+steps_and_outside journal =
+    let steps : length (filter is_step journal) ≡ count_by is_step journal = length-filter is_step journal in
+    let others : length (filter (λ e. not (is_step e)) journal) ≡ outside_entries journal = length-filter (λ e. not (is_step e)) journal in
+    let both : length (filter is_step journal) + length (filter (λ e. not (is_step e)) journal) ≡ length journal = length-filter_both is_step (λ e. not (is_step e)) (λ e. refl) journal in
+    omega (arith, steps, others, both)
+
 pub reports : (b : BookSeen) (end : Option End) (o : End) → IsBook b → MainBudget b.machine.program → In (λ w. end ≡ (task_at w 0).outcome) (after b.machine.program b.journal) → end ≡ Some o → IsReport b.machine.program b.journal o
 reports b end o is main ended some =
     let s = is.stands in
@@ -228,6 +237,10 @@ reports b end o is main ended some =
       world = s.world;
       runs = s.runs;
       ended = sym here ∙ some;
+      steps = steps_taken s.steps is.counted (steps_and_outside b.journal);
       bounded = λ c printed. subst (λ d. IsBounded b.machine.program b.journal d) (sym (main.alone c printed))
           (record { steps = (main.runs_well b.journal).steps; entries = entries_few b is main });
     }
+  where
+    steps_taken : {t m j o c : ℕ} → t ≡ m → j ≡ m + o → c + o ≡ j → t ≡ c
+    steps_taken same counted all = omega (arith, same, counted, all)
