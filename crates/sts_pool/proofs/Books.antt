@@ -1,5 +1,5 @@
 -- What keeps the facts of a book.
-use Rattle.std.proofs.Common.{◌≡◌, ℕ, ◌+◌, ◌≤◌, List, [], ◌∷◌, ◌++◌, length, Bool, true, false, not, Option, Some, None, inl, inr, refl, sym, ◌∙◌, subst, cond, is_some, ◌==◌, arith, length-append}
+use Rattle.std.proofs.Common.{◌≡◌, ℕ, ◌+◌, ◌≤◌, List, [], ◌∷◌, ◌++◌, length, Bool, true, false, not, Option, Some, None, inl, inr, refl, sym, ◌∙◌, subst, cond, is_some, ◌==◌, arith, length-append, count_by, filter}
 use Rattle.std.proofs.lemmas.Bool.{and_parts, and_from, and_left, and_right, cond-true, not_from_false, not_from_true}
 use Rattle.std.proofs.lemmas.Bool.Decides.{nat_tests}
 use Rattle.std.proofs.lemmas.List.{length-replicate}
@@ -16,7 +16,7 @@ use Rattle.sts_model.specs.declared.event.Event.{Event}
 use Rattle.sts_model.specs.declared.event.Event.TheVariants as event
 use Rattle.sts_model.specs.declared.record.Frame.{Frame}
 use Rattle.sts_model.specs.Live.{Live, LiveTask, Alive}
-use Rattle.sts_model.specs.Run.{after, is_step}
+use Rattle.sts_model.specs.Run.{after, is_step, taken}
 use Rattle.sts_model.specs.World.{task_at}
 use Rattle.sts_runs.specs.Runs.{In}
 use Rattle.sts_runs.proofs.ListLemmas.{at_set}
@@ -233,14 +233,14 @@ pub reports : (b : BookSeen) (end : Option End) (o : End) → IsBook b → MainB
 reports b end o is main ended some =
     let s = is.stands in
     let here : end ≡ (task_at s.world 0).outcome = subst (In (λ w. end ≡ (task_at w 0).outcome)) s.runs ended in
+    let same : taken b.machine.program b.journal ≡ b.machine.steps = s.steps in
+    let counted : length b.journal ≡ b.machine.steps + outside_entries b.journal = is.counted in
+    let all = steps_and_outside b.journal in
     record {
       world = s.world;
       runs = s.runs;
       ended = sym here ∙ some;
-      steps = steps_taken s.steps is.counted (steps_and_outside b.journal);
+      steps = omega (arith, same, counted, all);
       bounded = λ c printed. subst (λ d. IsBounded b.machine.program b.journal d) (sym (main.alone c printed))
           (record { steps = (main.runs_well b.journal).steps; entries = entries_few b is main });
     }
-  where
-    steps_taken : {t m j o c : ℕ} → t ≡ m → j ≡ m + o → c + o ≡ j → t ≡ c
-    steps_taken same counted all = omega (arith, same, counted, all)

@@ -268,16 +268,58 @@ fn a_run_without_its_files_prints_that_alone(rt: HostRuntime) -> Result<(), Fail
     let no_file = "error file\n";
     let no_memory = "error memory\n";
     // FILE first, then the outside text, then the file of the trace.
-    run_fails(&rt, alloc, ["none.sts", "heavy.trace", "heavy.trace"], 6, no_file)?;
+    run_fails(
+        &rt,
+        alloc,
+        ["none.sts", "heavy.trace", "heavy.trace"],
+        6,
+        no_file,
+    )?;
     run_fails(&rt, alloc, ["heavy.sts", "none", "none"], 6, no_memory)?;
     run_fails(&rt, alloc, ["seven.sts", "none", "heavy.trace"], 6, no_file)?;
-    run_fails(&rt, alloc, ["seven.sts", "heavy.trace", "none"], 6, no_memory)?;
-    run_fails(&rt, alloc, ["seven.sts", "late.outside", "none"], 6, no_file)?;
-    run_fails(&rt, alloc, ["seven.sts", "late.outside", "heavy.trace"], 6, no_memory)?;
-    run_fails(&rt, alloc, ["seven.sts", "late.outside", "full.trace"], 6, no_file)?;
+    run_fails(
+        &rt,
+        alloc,
+        ["seven.sts", "heavy.trace", "none"],
+        6,
+        no_memory,
+    )?;
+    run_fails(
+        &rt,
+        alloc,
+        ["seven.sts", "late.outside", "none"],
+        6,
+        no_file,
+    )?;
+    run_fails(
+        &rt,
+        alloc,
+        ["seven.sts", "late.outside", "heavy.trace"],
+        6,
+        no_memory,
+    )?;
+    run_fails(
+        &rt,
+        alloc,
+        ["seven.sts", "late.outside", "full.trace"],
+        6,
+        no_file,
+    )?;
     // The file of the trace is made before the texts are judged, the outside text before the verdict.
-    run_fails(&rt, alloc, ["endless.sts", "bad.outside", "none"], 6, no_file)?;
-    run_fails(&rt, alloc, ["endless.sts", "bad.outside", "full.trace"], 3, "error T1 line 1\n")
+    run_fails(
+        &rt,
+        alloc,
+        ["endless.sts", "bad.outside", "none"],
+        6,
+        no_file,
+    )?;
+    run_fails(
+        &rt,
+        alloc,
+        ["endless.sts", "bad.outside", "full.trace"],
+        3,
+        "error T1 line 1\n",
+    )
 }
 
 #[test]
@@ -526,7 +568,14 @@ fn a_stream_that_is_closed_is_told(rt: HostRuntime) {
     let missing = ["sts", "verify", "none.sts"];
     let ended = run(&rt, alloc, &FOLDER, &missing, &mut Closed, &mut rest);
     assert_eq!(rt; ended, Err(WriteFailed));
-    let ended = run(&rt, alloc, &FOLDER, &["sts", "--help"], &mut rest, &mut Closed);
+    let ended = run(
+        &rt,
+        alloc,
+        &FOLDER,
+        &["sts", "--help"],
+        &mut rest,
+        &mut Closed,
+    );
     assert_eq!(rt; ended, Err(WriteFailed));
     let ended = run(&rt, alloc, &FOLDER, &["sts", "x"], &mut rest, &mut Closed);
     assert_eq!(rt; ended, Err(WriteFailed));

@@ -47,7 +47,11 @@ fn comes_to<R: Abort + Threads + Wait + Sync>(
         &mut out,
     )?;
     let wanted = format!(in alloc; "{budgets}{end}")?;
-    assert_eq!(rt; str::from_utf8(out.as_slice())?, wanted.as_str(), "by {workers} workers");
+    assert_eq!(rt;
+        str::from_utf8(out.as_slice())?,
+        wanted.as_str(),
+        "by {workers} workers"
+    );
     assert_eq!(rt; status, 0, "by {workers} workers");
     let mut again = Vec::new(alloc);
     let replayed = play(
@@ -57,7 +61,11 @@ fn comes_to<R: Abort + Threads + Wait + Sync>(
         trace.as_slice(),
         &mut again,
     )?;
-    assert_eq!(rt; str::from_utf8(again.as_slice())?, end, "replayed, by {workers} workers");
+    assert_eq!(rt;
+        str::from_utf8(again.as_slice())?,
+        end,
+        "replayed, by {workers} workers"
+    );
     assert_eq!(rt; replayed, 0);
     Ok(())
 }
@@ -76,10 +84,26 @@ fn workers_come_to_the_end(rt: HostRuntime) -> Result<(), Fail> {
 fn an_expiry_from_outside_is_taken_when_it_is_due(rt: HostRuntime) -> Result<(), Fail> {
     let alloc = rt.alloc();
     let expired = "success 2\nsteps 6\n";
-    comes_to(&rt, alloc, DEADLINE, 1, "at 1 expire 0\n", DEADLINE_BUDGETS, expired)?;
+    comes_to(
+        &rt,
+        alloc,
+        DEADLINE,
+        1,
+        "at 1 expire 0\n",
+        DEADLINE_BUDGETS,
+        expired,
+    )?;
     // At 0 the scope isn't born: the expiry is recorded, and changes nothing. What is due at 99 never comes.
     let in_time = "success 1\nsteps 8\n";
-    comes_to(&rt, alloc, DEADLINE, 1, "at 0 expire 0\n", DEADLINE_BUDGETS, in_time)?;
+    comes_to(
+        &rt,
+        alloc,
+        DEADLINE,
+        1,
+        "at 0 expire 0\n",
+        DEADLINE_BUDGETS,
+        in_time,
+    )?;
     let late = "at 99 expire 0\nat 1 expire 0\n";
     comes_to(&rt, alloc, DEADLINE, 1, late, DEADLINE_BUDGETS, in_time)
 }
@@ -119,7 +143,14 @@ fn without_a_report_the_trace_stays_empty(rt: HostRuntime) -> Result<(), Fail> {
     // A fault of the text comes before one of the outside text, and that before the verdict.
     prints_alone(&rt, alloc, "", "x\n", 3, "error A9 C5 function 0 at 0\n")?;
     prints_alone(&rt, alloc, endless, "x\n", 3, "error T1 line 1\n")?;
-    prints_alone(&rt, alloc, SQUARES, "at 0 interrupt 01\n", 3, "error T2 line 1\n")?;
+    prints_alone(
+        &rt,
+        alloc,
+        SQUARES,
+        "at 0 interrupt 01\n",
+        3,
+        "error T2 line 1\n",
+    )?;
     prints_alone(&rt, alloc, SQUARES, "at 0 interrupt 0", 3, "error T3\n")
 }
 
@@ -152,7 +183,11 @@ fn a_trace_that_fails_is_told_alone(rt: HostRuntime) -> Result<(), Fail> {
         let mut out = Vec::new(alloc);
         let seven = b"func main 0\npush 7\nret\nend\n";
         let status = play_run(&rt, alloc, seven, 1, b"", &mut Narrow { room }, &mut out)?;
-        assert_eq!(rt; str::from_utf8(out.as_slice())?, "error file\n", "at {room}");
+        assert_eq!(rt;
+            str::from_utf8(out.as_slice())?,
+            "error file\n",
+            "at {room}"
+        );
         assert_eq!(rt; status, 6);
     }
     Ok(())
@@ -163,7 +198,15 @@ fn a_stream_that_fails_is_told(rt: HostRuntime) {
     let alloc = rt.alloc();
     let mut trace = Vec::new(alloc);
     let seven = b"func main 0\npush 7\nret\nend\n";
-    let written = play_run(&rt, alloc, seven, 1, b"", &mut trace, &mut Narrow { room: 5 });
+    let written = play_run(
+        &rt,
+        alloc,
+        seven,
+        1,
+        b"",
+        &mut trace,
+        &mut Narrow { room: 5 },
+    );
     assert!(rt; written.is_err());
     assert!(rt; trace.as_slice() == b"step 0\nstep 0\n".as_slice());
 }
