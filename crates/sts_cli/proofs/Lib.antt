@@ -1,5 +1,7 @@
 pub mod Alike
 pub mod Ends
+pub mod Outsides
+pub mod Reports
 pub mod Runs
 pub mod Splits
 pub mod Takes

@@ -1,6 +1,8 @@
 -- What the whole program writes, and the status that it ends with (this project's own).
-use Rattle.std.specs.Prelude.{◌≡◌, ◌-◌, ◌^◌, ℕ, List, [], Option, Result, Ok, Err, codes, map}
+use Rattle.std.specs.Prelude.{◌≡◌, ◌-◌, ◌^◌, ℕ, List, [], Option, Some, None, Result, Ok, Err, codes}
+use Rattle.std.specs.Prelude.{map}
 use Rattle.std.specs.Prelude.{String, Vec}
+use Rattle.std.specs.Borrow.{Bor}
 use Rattle.std.specs.String.{string_bytes}
 use Rattle.std.specs.declared.alloc.Global.{Global}
 use Rattle.std.specs.Io.KnownBytes.{Keeps}
@@ -11,6 +13,7 @@ use Rattle.sts_line.specs.declared.asked.Line.{Line}
 use Rattle.sts_line.specs.declared.asked.Line.TheVariants as line
 use Rattle.sts_cli.specs.Joined.{halves_of}
 use Rattle.sts_cli.specs.Output.{Output, Shows, Writes, failure_output, memory_output}
+use Rattle.sts_cli.specs.Running.{IsOutcomeOf, Outcome}
 use Rattle.sts_cli.specs.Taking.{IsTakenOf}
 use Rattle.sts_cli.specs.declared.mode.Mode.{Mode}
 use Rattle.sts_cli.specs.declared.mode.Mode.TheVariants as mode
@@ -51,6 +54,23 @@ pub data IsOfInput (input : Option (List ℕ)) (o : Output) : Type 0 where
       → Shows mode.Plain (halves_of bytes).text (halves_of bytes).trace o → IsOfInput input o
   failed : (e : TakeError) → o ≡ failure_output e → IsOfInput input o
 
+-- the bytes of the outside text: of none where no file is named
+abbrev pub outside_of : Files → Option (Bor Text) → Option (List ℕ)
+outside_of files None = Some []
+outside_of files (Some path) = files path.now
+
+-- what is printed of a run of a text with an outside text, or that memory or the trace's file failed
+pub data IsPrinted (text outside : List ℕ) (o : Output) : Type 0 where
+  of_run : (r : Outcome) → IsOutcomeOf text outside r → o ≡ r.output → IsPrinted text outside o
+  without_file : (e : TakeError) → o ≡ failure_output e → IsPrinted text outside o
+
+-- the same of a file's text and another file's outside events
+pub data IsOfRun (file outside_file : Option (List ℕ)) (o : Output) : Type 0 where
+  shown : (text outside : List ℕ) → IsTakenOf file most_of_a_text text
+      → IsTakenOf outside_file most_of_a_stream outside → IsPrinted text outside o
+      → IsOfRun file outside_file o
+  failed : (e : TakeError) → o ≡ failure_output e → IsOfRun file outside_file o
+
 -- what is printed for a line
 abbrev pub IsPlayed : Line → Files → Option (List ℕ) → Output → Type 0
 IsPlayed line.Joined files input o = IsOfInput input o
@@ -60,6 +80,8 @@ IsPlayed (line.Plain file trace) files input o = IsOfTextAndTrace mode.Plain (fi
     (files trace.now) o
 IsPlayed (line.Replay file trace) files input o = IsOfTextAndTrace mode.Replay (files file.now)
     (files trace.now) o
+IsPlayed (line.Run file workers outside trace) files input o = IsOfRun (files file.now)
+    (outside_of files outside) o
 
 -- the bytes that the two streams hold before and after, where they are known
 pub record Streams : Type 0 where

@@ -2,4 +2,5 @@ pub mod Ending
 pub mod Joined
 pub mod Output
 pub mod Printed
+pub mod Running
 pub mod Taking

@@ -108,6 +108,13 @@ pub record AreTold (p : Program) (budgets : List Budgets) : Type 0 where
   pub count : length budgets ≡ length p.routines
   pub each : (f : ℕ) → f < length budgets → IsBudgetOf p f (budget_at budgets f)
 
+-- the lines of the budgets of an accepted program
+pub record AreLines (p : Program) (bytes : List ℕ) : Type 0 where
+  pub accepted : IsAccepted p
+  pub budgets : List Budgets
+  pub told : AreTold p budgets
+  pub printed : bytes ≡ accepted_lines p.routines budgets
+
 -- what is printed of a program that is accepted, or refused
 pub data IsVerdict (p : Program) (output : Output) : Type 0 where
   accepted : IsAccepted p → (budgets : List Budgets) → AreTold p budgets

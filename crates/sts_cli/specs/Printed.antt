@@ -46,6 +46,12 @@ memory_line = codes "error memory\n"
 abbrev pub file_line : List ℕ
 file_line = codes "error file\n"
 
+abbrev pub threads_line : List ℕ
+threads_line = codes "error threads\n"
+
+abbrev pub unfinished_line : List ℕ
+unfinished_line = codes "error unfinished\n"
+
 -- `error T2 line 2`, or `error T3`
 abbrev pub trace_fault_line : TraceError → List ℕ
 trace_fault_line (trace.BadLine n) = ended (codes "error T1 line " ++ decimal n)

@@ -3,4 +3,5 @@
 pub mod list;
 pub mod plain;
 pub mod replay;
+pub(crate) mod run;
 pub mod verify;

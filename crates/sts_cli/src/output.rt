@@ -57,12 +57,21 @@ pub(crate) fn trace_fault(alloc: Global, error: TraceError) -> Result<Output, Al
     Ok(Output { text, status: 3 })
 }
 
+/// The status where the root ended so.
+pub(crate) fn end_status(end: End) -> u8
+    ensures { result ≡ def.end_status end }
+{
+    match end {
+        End::Success(_) => 0,
+        End::Failed(_) => 1,
+    }
+}
+
 fn state_status(state: PlainState) -> u8
     ensures { result ≡ def.state_status state }
 {
     match state {
-        PlainState::Ended(End::Success(_)) => 0,
-        PlainState::Ended(End::Failed(_)) => 1,
+        PlainState::Ended(end) => end_status(end),
         PlainState::Running | PlainState::Fault { .. } => 5,
     }
 }

@@ -1,16 +1,24 @@
 //! Does what a mode asks for, and writes what is to be printed.
 
-ghost use Rattle.std.specs.Prelude.{◌≡◌, IfOk};
+ghost use Rattle.std.specs.Prelude.{◌≡◌, ◌≤◌, IfOk, OnOk};
+ghost use Rattle.std.specs.Io.KnownBytes.{Appends};
+ghost use Rattle.sts_trace.specs.Spelling.{trace_text};
 ghost use Rattle.sts_cli.specs.Joined.{Halves, halves_of};
 ghost use Rattle.sts_cli.specs.Output as def;
+ghost use Rattle.sts_cli.specs.Running.{IsOutcomeOf, Outcome, RunWrites};
 
 use crate::joined::split;
 use crate::mode::Mode;
-use crate::modes::{list, plain, replay, verify};
+use crate::modes::{list, plain, replay, run, verify};
 use crate::output::Output;
 use crate::taking::TakeError;
 use std::alloc::{AllocError, Global};
+use std::io;
 use std::io::Write;
+use std::sync::Wait;
+use std::thread::Threads;
+use sts_model::event::Event;
+use sts_trace::write_trace;
 
 /// Writing what is printed failed; some of it may have been written.
 #[derive(Clone, Copy, Debug, PartialEq, Eq)]
@@ -90,4 +98,49 @@ pub fn play_joined<W: Write>(alloc: Global, input: &[u8], out: &mut W) -> Result
 {
     let (text, trace) = split(input);
     play(alloc, Mode::Plain, text, trace, out)
+}
+
+/// Writes all of a journal to a trace.
+fn traced<T: Write>(journal: &[Event], trace: &mut T) -> io::Result<()>
+    ensures { OnOk result (Appends (T.contents trace.old) (T.contents trace.new)
+        (trace_text journal.now)) }
+{
+    write_trace(journal, trace)?;
+    trace.flush()
+}
+
+/// Runs a program with 1 to 16 workers and the events of an outside text. The journal goes to the
+/// trace first, which gets nothing where there is no report; then all that is printed is written to
+/// `out`. Gives the status.
+///
+/// A write to the trace that fails is told on `out`, in place of all else.
+///
+/// # Errors
+///
+/// A write to `out` failed.
+pub fn play_run<R: Threads + Wait + Sync, T: Write, W: Write>(
+    rt: &R,
+    alloc: Global,
+    text: &[u8],
+    workers: u32,
+    outside: &[u8],
+    trace: &mut T,
+    out: &mut W,
+) -> Result<u8, WriteFailed>
+    requires { (1 ≤ workers) × (workers ≤ 16) }
+    ensures { IfOk result (λ s. (o : Outcome) × IsOutcomeOf text.now outside.now o
+        × RunWrites (record {
+          trace_old = T.contents trace.old;
+          trace_new = T.contents trace.new;
+          out_old = W.contents out.old;
+          out_new = W.contents out.new;
+        }) s o) }
+{
+    match run::outcome(rt, alloc, text, workers, outside) {
+        Ok(ran) => match traced(ran.journal.as_slice(), trace) {
+            Ok(()) => written(out, ran.output.text.as_bytes(), ran.output.status),
+            Err(_) => failed(TakeError::Read, out),
+        },
+        Err(_) => failed(TakeError::Memory, out),
+    }
 }

@@ -87,7 +87,12 @@ fn name_of(program: &Program, function: u32) -> &str
     }
 }
 
-fn end_line(out: &mut String, end: End) -> Result<(), AllocError>
+/// The line of the root's end.
+///
+/// # Errors
+///
+/// Memory was refused; a part of it may then stand in `out`.
+pub fn end_line(out: &mut String, end: End) -> Result<(), AllocError>
     ensures { OnOk result (string_bytes out.new ≡ string_bytes out.old ++ def.end_line end) }
 {
     match end {

@@ -1,20 +1,26 @@
 //! The program `sts`, but for its `main`: opens what a command line names, and writes what is
 //! printed.
 
-ghost use Rattle.std.specs.Prelude.{◌≡◌, ◌⊎◌, IfOk, map};
+ghost use Rattle.std.specs.Prelude.{◌≡◌, ◌≤◌, ◌⊎◌, IfOk, map};
 ghost use Rattle.std.specs.String.{string_bytes};
+ghost use Rattle.sts_line.specs.Asked.{HasWorkers};
 ghost use Rattle.sts_cli.specs.Ending as def;
 ghost use Rattle.sts_cli.specs.Output.{Output, Writes};
+ghost use Rattle.sts_cli.specs.Taking.{IsTakenOf};
 
 use crate::mode::Mode;
-use crate::play::{STATUS_OUTSIDE, WriteFailed, failed, play, play_joined, written};
+use crate::play::{STATUS_OUTSIDE, WriteFailed, failed, play, play_joined, play_run, written};
+use crate::sinks::{Sinks, made};
 use crate::sources::{Host, Sources, file};
 use crate::taking::{TakeError, take};
 use crate::words;
 use crate::words::WordsError;
 use std::alloc::{AllocError, Global};
+use std::io;
 use std::io::{Input, Write};
 use std::rt::{Env, Files};
+use std::sync::Wait;
+use std::thread::Threads;
 use sts_line::asked;
 use sts_line::asked::LineError;
 use sts_line::reading::line;
@@ -84,13 +90,116 @@ fn on_input<S: Sources, W: Write>(
     }
 }
 
+/// The bytes of the outside text: none where no file is named.
+fn outside_text<S: Sources>(
+    alloc: Global,
+    sources: &S,
+    path: Option<&str>,
+) -> Result<Vec<u8>, TakeError>
+    ensures { IfOk result (λ taken. IsTakenOf (def.outside_of (S.held sources.now) path.entry)
+        def.most_of_a_stream taken.items) }
+{
+    match path {
+        Some(path) => file(alloc, sources, path, MOST_OF_A_STREAM),
+        None => Ok(Vec::new(alloc)),
+    }
+}
+
+/// What is read before a run.
+#[derive(Drop)]
+struct Texts {
+    program: Vec<u8>,
+    outside: Vec<u8>,
+}
+
+/// The text and the outside text, in this order.
+fn read_texts<S: Sources>(
+    alloc: Global,
+    sources: &S,
+    path: &str,
+    outside: Option<&str>,
+) -> Result<Texts, TakeError>
+    ensures program { IfOk result (λ t. IsTakenOf (S.held sources.now path.now)
+        def.most_of_a_text t.program.items) }
+    ensures outside { IfOk result (λ t. IsTakenOf (def.outside_of (S.held sources.now) outside.entry)
+        def.most_of_a_stream t.outside.items) }
+{
+    let program = file(alloc, sources, path, MOST_OF_A_TEXT)?;
+    let outside = outside_text(alloc, sources, outside)?;
+    Ok(Texts { program, outside })
+}
+
+/// A run of texts that were read; the file of the trace is made first, if one is named.
+fn on_texts<R: Threads + Wait + Sync, S: Sinks, W: Write>(
+    rt: &R,
+    alloc: Global,
+    sinks: &S,
+    texts: &Texts,
+    workers: u32,
+    trace: Option<&str>,
+    out: &mut W,
+) -> Result<u8, WriteFailed>
+    requires { (1 ≤ workers) × (workers ≤ 16) }
+    ensures { IfOk result (λ s. (o : Output)
+        × def.IsPrinted texts.now.program.items texts.now.outside.items o
+        × Writes (W.contents out.old) (W.contents out.new) s o) }
+{
+    let (program, outside) = (texts.program.as_slice(), texts.outside.as_slice());
+    match trace {
+        None => play_run(rt, alloc, program, workers, outside, &mut io::sink(), out),
+        Some(path) => match made(alloc, sinks, path) {
+            Ok(mut trace) => play_run(rt, alloc, program, workers, outside, &mut trace, out),
+            Err(error) => failed(error, out),
+        },
+    }
+}
+
+/// What `run` was asked for.
+#[derive(Clone, Copy)]
+struct Wanted<'a> {
+    file: &'a str,
+    workers: u32,
+    outside: Option<&'a str>,
+    trace: Option<&'a str>,
+}
+
+/// A run: the text is read before the outside text, and both before the file of the trace is made.
+fn on_run<R: Threads + Wait + Sync, S: Sources + Sinks, W: Write>(
+    rt: &R,
+    alloc: Global,
+    sources: &S,
+    wanted: Wanted<'_>,
+    out: &mut W,
+) -> Result<u8, WriteFailed>
+    requires { (1 ≤ wanted.workers) × (wanted.workers ≤ 16) }
+    ensures { IfOk result (λ s. (o : Output)
+        × def.IsOfRun (S.held sources.now wanted.entry.file.now)
+        (def.outside_of (S.held sources.now) wanted.entry.outside) o
+        × Writes (W.contents out.old) (W.contents out.new) s o) }
+{
+    match read_texts(alloc, sources, wanted.file, wanted.outside) {
+        Ok(texts) => on_texts(
+            rt,
+            alloc,
+            sources,
+            &texts,
+            wanted.workers,
+            wanted.trace,
+            out,
+        ),
+        Err(error) => failed(error, out),
+    }
+}
+
 /// Does what a line asks for.
-fn on_line<S: Sources, W: Write>(
+fn on_line<R: Threads + Wait + Sync, S: Sources + Sinks, W: Write>(
+    rt: &R,
     alloc: Global,
     sources: &S,
     wanted: asked::Line<'_>,
     out: &mut W,
 ) -> Result<u8, WriteFailed>
+    requires { HasWorkers wanted }
     ensures { IfOk result (λ s. (o : Output)
         × def.IsPlayed wanted.entry (S.held sources.now) (S.offered sources.now) o
         × Writes (W.contents out.old) (W.contents out.new) s o) }
@@ -105,19 +214,34 @@ fn on_line<S: Sources, W: Write>(
         asked::Line::Replay { file, trace } => {
             on_text_and_trace(alloc, sources, Mode::Replay, file, trace, out)
         }
+        asked::Line::Run {
+            file,
+            workers,
+            outside,
+            trace,
+        } => {
+            let wanted = Wanted {
+                file,
+                workers,
+                outside,
+                trace,
+            };
+            on_run(rt, alloc, sources, wanted, out)
+        }
     }
 }
 
 /// Does what a command line asks for, its first word being the program's name, and gives the
 /// status: 0 accepted, listed, root succeeded or help; 1 root failed; 2 usage; 3 a fault of a text;
-/// 4 refused; 5 a fault of the run, or it runs still; 6 memory, a file or a stream failed.
+/// 4 refused; 5 a fault of the run, or it runs still; 6 memory, a file, a stream or a thread failed.
 ///
 /// Help and usage faults are told to `err`, all else is written to `out`.
 ///
 /// # Errors
 ///
 /// A write failed.
-pub fn run<S: Sources, W: Write, E: Write>(
+pub fn run<R: Threads + Wait + Sync, S: Sources + Sinks, W: Write, E: Write>(
+    rt: &R,
     alloc: Global,
     sources: &S,
     words: &[&str],
@@ -134,7 +258,7 @@ pub fn run<S: Sources, W: Write, E: Write>(
         })) }
 {
     match line(alloc, words) {
-        Ok(wanted) => on_line(alloc, sources, wanted, out),
+        Ok(wanted) => on_line(rt, alloc, sources, wanted, out),
         Err(LineError::Memory) => failed(TakeError::Memory, out),
         Err(LineError::Help(text)) => written(err, text.as_bytes(), 0),
         Err(LineError::Usage(text)) => written(err, text.as_bytes(), 2),
@@ -157,7 +281,8 @@ fn borrowed(alloc: Global, words: &[String]) -> Result<Vec<&str>, AllocError>
 /// # Errors
 ///
 /// A write failed.
-pub fn run_words<S: Sources, W: Write, E: Write>(
+pub fn run_words<R: Threads + Wait + Sync, S: Sources + Sinks, W: Write, E: Write>(
+    rt: &R,
     alloc: Global,
     sources: &S,
     words: &Result<Vec<String>, WordsError>,
@@ -174,7 +299,7 @@ pub fn run_words<S: Sources, W: Write, E: Write>(
 {
     match words {
         Ok(words) => match borrowed(alloc, words.as_slice()) {
-            Ok(texts) => run(alloc, sources, texts.as_slice(), out, err),
+            Ok(texts) => run(rt, alloc, sources, texts.as_slice(), out, err),
             Err(_) => failed(TakeError::Memory, out),
         },
         Err(WordsError::Memory) => failed(TakeError::Memory, out),
@@ -183,14 +308,14 @@ pub fn run_words<S: Sources, W: Write, E: Write>(
 }
 
 /// Does what the process was asked for, and gives the status; a stream that fails is status 6.
-pub fn start<R: Env + Files + Input, W: Write, E: Write>(
+pub fn start<R: Env + Files + Input + Threads + Wait + Sync, W: Write, E: Write>(
     rt: &R,
     alloc: Global,
     out: &mut W,
     err: &mut E,
 ) -> u8 {
     let words = words::words(rt, alloc);
-    match run_words(alloc, &Host { rt }, &words, out, err) {
+    match run_words(rt, alloc, &Host { rt }, &words, out, err) {
         Ok(status) => status,
         Err(WriteFailed) => STATUS_OUTSIDE,
     }

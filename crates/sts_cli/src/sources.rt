@@ -53,7 +53,7 @@ impl<R: Files + io::Input> Sources for Host<'_, R> {
 }
 
 /// What a file is told as that could not be opened.
-fn not_opened(error: &io::Error) -> TakeError
+pub(crate) fn not_opened(error: &io::Error) -> TakeError
     ensures { (result ≡ TakeError.Memory) ↔ (error_kind error.now ≡ ErrorKind.OutOfMemory) }
 {
     match error.kind() {

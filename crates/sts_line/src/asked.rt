@@ -7,10 +7,28 @@ use std::alloc::AllocError;
 pub enum Line<'a> {
     /// No word after the program's name: a text, a line `%` and a trace come on standard input.
     Joined,
-    Verify { file: &'a str },
-    List { file: &'a str },
-    Plain { file: &'a str, trace: &'a str },
-    Replay { file: &'a str, trace: &'a str },
+    Verify {
+        file: &'a str,
+    },
+    List {
+        file: &'a str,
+    },
+    Plain {
+        file: &'a str,
+        trace: &'a str,
+    },
+    Replay {
+        file: &'a str,
+        trace: &'a str,
+    },
+    /// From 1 to 16 workers; the outside events come from a file, if one is named, and the journal
+    /// goes to one.
+    Run {
+        file: &'a str,
+        workers: u32,
+        outside: Option<&'a str>,
+        trace: Option<&'a str>,
+    },
 }
 
 /// Why a command line asks for nothing: the text is for the person who wrote it.

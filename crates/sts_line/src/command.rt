@@ -1,6 +1,6 @@
 //! The commands that the program knows, as `clap` is told of them.
 
-ghost use Rattle.std.specs.Prelude.{◌≡◌, IfOk, false};
+ghost use Rattle.std.specs.Prelude.{◌≡◌, IfOk, codes, false};
 ghost use Rattle.clap.specs.Words.{app_of, new_app, rule_of, with_rule};
 ghost use Rattle.clap.specs.declared.builder.Command.TheViews.{out-Command};
 ghost use Rattle.sts_line.specs.Command as def;
@@ -27,6 +27,29 @@ fn trace<'a>(alloc: Global) -> Arg<'a>
         .help("a trace: lines `step N`, `interrupt N` and `expire N`")
 }
 
+/// The number of workers, which `run` has to be given.
+fn workers<'a>(alloc: Global) -> Arg<'a>
+    ensures rule { rule_of result ≡ def.workers_rule }
+    ensures local { result.global ≡ false }
+{
+    Arg::new(alloc, "workers")
+        .long("workers")
+        .value_name("N")
+        .required(true)
+        .help("how many threads do the steps, from 1 to 16")
+}
+
+/// An option that names a file.
+fn file_option<'a>(alloc: Global, name: &'a str, help: &'a str) -> Arg<'a>
+    ensures rule { rule_of result ≡ def.option_rule name.entry.now }
+    ensures local { result.global ≡ false }
+{
+    Arg::new(alloc, name)
+        .long(name)
+        .value_name("FILE")
+        .help(help)
+}
+
 /// A command that takes one text file.
 fn on_file<'a>(alloc: Global, name: &'a str, about: &'a str) -> Result<Command<'a>, AllocError>
     ensures app { IfOk result (λ c. app_of c ≡ with_rule (new_app name.entry.now) def.file_rule) }
@@ -42,6 +65,25 @@ fn on_trace<'a>(alloc: Global, name: &'a str, about: &'a str) -> Result<Command<
     ensures local { IfOk result (λ c. (out-Command c).has_globals ≡ false) }
 {
     on_file(alloc, name, about)?.arg(trace(alloc))
+}
+
+/// The command that takes workers, and may take outside events and write a trace.
+fn on_workers<'a>(alloc: Global, name: &'a str, about: &'a str) -> Result<Command<'a>, AllocError>
+    ensures app { IfOk result (λ c. app_of c ≡ with_rule (with_rule (with_rule (with_rule
+        (new_app name.entry.now) def.file_rule) def.workers_rule)
+        (def.option_rule (codes "outside"))) (def.option_rule (codes "trace"))) }
+    ensures local { IfOk result (λ c. (out-Command c).has_globals ≡ false) }
+{
+    let outside = file_option(
+        alloc,
+        "outside",
+        "outside events: lines `at N interrupt T` and `at N expire S`",
+    );
+    let trace = file_option(alloc, "trace", "where the journal is written, as a trace");
+    on_file(alloc, name, about)?
+        .arg(workers(alloc))?
+        .arg(outside)?
+        .arg(trace)
 }
 
 /// The whole program.
@@ -72,6 +114,11 @@ pub fn program<'a>(alloc: Global) -> Result<Command<'a>, AllocError>
         "replay",
         "Prints the same by the machine that tests nothing, or the refused instruction",
     )?;
+    let run = on_workers(
+        alloc,
+        "run",
+        "Prints the budgets, and how several workers at once brought the program to its end",
+    )?;
     Command::new(alloc, "sts")
         .about("Structured task scopes over a small stack code")
         .after_help(
@@ -82,5 +129,6 @@ pub fn program<'a>(alloc: Global) -> Result<Command<'a>, AllocError>
         .subcommand(verify)?
         .subcommand(list)?
         .subcommand(plain)?
-        .subcommand(replay)
+        .subcommand(replay)?
+        .subcommand(run)
 }

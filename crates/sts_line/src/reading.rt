@@ -1,10 +1,11 @@
 //! Reads a command line.
 
 ghost use Rattle.std.specs.Prelude.{◌≡◌, ◌↔◌, ◌≤◌, Ok, IfOk, IfErr, map, option_map, is_some, Some};
-ghost use Rattle.std.specs.Prelude.{codes, Bool, false, length};
+ghost use Rattle.std.specs.Prelude.{codes, Bool, false, length, ◌∷◌, [], IfSome};
 ghost use Rattle.clap.specs.Words.{first_of, rows_of, found_of, kind_of, subcommand_rows_of};
 ghost use Rattle.sts_line.specs.declared.asked.Line.TheVariants.{Joined};
-ghost use Rattle.sts_line.specs.Asked.{Asks, IsLineOf, asked, given};
+ghost use Rattle.sts_line.specs.Asked.{Asks, HasWorkers, IsGiven, IsLineOf, asked, given, options};
+ghost use Rattle.sts_line.specs.Asked.{options_at, workers_at, workers_written};
 ghost use Rattle.sts_line.specs.Refused.{BlamesUnless, Refuses, TellsKind, is_whole};
 
 use crate::asked;
@@ -13,6 +14,10 @@ use crate::command::program;
 use clap::error::ErrorKind;
 use clap::{ArgMatches, Error};
 use std::alloc::{AllocError, Global};
+use sts_text::digits_up_to;
+
+/// As many workers as may be asked for.
+const MOST_WORKERS: u32 = 16;
 
 fn told(error: &Error, alloc: Global) -> LineError
     ensures { TellsKind (kind_of error.now) result }
@@ -41,6 +46,7 @@ fn told(error: &Error, alloc: Global) -> LineError
 pub fn line<'a>(alloc: Global, words: &'a [&'a str]) -> Result<asked::Line<'a>, LineError>
     ensures joined { (result ≡ Ok Joined) ↔ (length words.entry.now ≤ 1) }
     ensures asked { IfOk result (Asks (map (λ w. w.now) words.entry.now)) }
+    ensures workers { IfOk result HasWorkers }
     ensures refused { IfErr result (Refuses (map (λ w. w.now) words.entry.now)) }
 {
     if words.len() <= 1 {
@@ -56,6 +62,7 @@ pub fn line<'a>(alloc: Global, words: &'a [&'a str]) -> Result<asked::Line<'a>, 
 /// What the command that `clap` found asks for.
 fn chosen<'a>(alloc: Global, matches: &ArgMatches<'a>) -> Result<asked::Line<'a>, LineError>
     ensures asked { IfOk result (IsLineOf (subcommand_rows_of matches.now)) }
+    ensures workers { IfOk result HasWorkers }
     ensures lacks { IfErr result (BlamesUnless (is_whole (subcommand_rows_of matches.now))) }
 {
     match matches.subcommand() {
@@ -86,8 +93,8 @@ fn asked_of<'a>(
     name: &'a str,
     inner: &ArgMatches<'a>,
 ) -> Result<asked::Line<'a>, LineError>
-    ensures asked { IfOk result (λ l. asked l
-        ≡ Some (given (name.now, rows_of (found_of inner.now)))) }
+    ensures asked { IfOk result (IsGiven (name.now, rows_of (found_of inner.now))) }
+    ensures workers { IfOk result HasWorkers }
     ensures lacks { IfErr result (BlamesUnless
         (is_whole (Some (name.now, rows_of (found_of inner.now))))) }
 {
@@ -104,6 +111,8 @@ fn asked_of<'a>(
             } else if name == "replay" {
                 let trace = trace_of(alloc, inner)?;
                 Ok(asked::Line::Replay { file, trace })
+            } else if name == "run" {
+                run_of(alloc, file, inner)
             } else {
                 Err(unknown(alloc))
             }
@@ -121,5 +130,55 @@ fn trace_of<'a>(alloc: Global, inner: &ArgMatches<'a>) -> Result<&'a str, LineEr
     match text_of(inner, "TRACE") {
         Some(trace) => Ok(trace),
         None => Err(unknown(alloc)),
+    }
+}
+
+/// `run` of a text, with the options that it was given.
+fn run_of<'a>(
+    alloc: Global,
+    file: &'a str,
+    inner: &ArgMatches<'a>,
+) -> Result<asked::Line<'a>, LineError>
+    ensures files { IfOk result (λ l. asked l ≡ Some (codes "run", file.now ∷ [])) }
+    ensures options { IfOk result (λ l. options l ≡ options_at (rows_of (found_of inner.now))) }
+    ensures workers { IfOk result HasWorkers }
+    ensures lacks { IfErr result (BlamesUnless
+        (is_some (workers_at (rows_of (found_of inner.now))))) }
+{
+    let Some(text) = text_of(inner, "workers") else {
+        return Err(unknown(alloc));
+    };
+    match workers_written(text) {
+        Some(workers) => Ok(asked::Line::Run {
+            file,
+            workers,
+            outside: text_of(inner, "outside"),
+            trace: text_of(inner, "trace"),
+        }),
+        None => Err(no_workers(alloc, text)),
+    }
+}
+
+/// The number of workers, from 1 to 16, that digits write.
+fn workers_written(text: &str) -> Option<u32>
+    ensures number { result ≡ workers_written text.now }
+    ensures within { IfSome result (λ n. (1 ≤ n) × (n ≤ 16)) }
+{
+    match digits_up_to(text.as_bytes(), MOST_WORKERS) {
+        Some(workers) if workers > 0 => Some(workers),
+        _ => None,
+    }
+}
+
+/// What is told of a text that is no number of workers.
+fn no_workers(alloc: Global, text: &str) -> LineError
+    ensures { (whole : Bool) → whole ≡ false → BlamesUnless whole result }
+{
+    let told = format!(in alloc;
+        "error: invalid value '{text}' for '--workers <N>': a number from 1 to 16 is wanted\n"
+    );
+    match told {
+        Ok(told) => LineError::Usage(told),
+        Err(_) => LineError::Memory,
     }
 }

@@ -1,10 +1,11 @@
 -- What keeps the facts of a book.
-use Rattle.std.proofs.Common.{◌≡◌, ℕ, ◌+◌, ◌≤◌, List, [], ◌∷◌, ◌++◌, length, Bool, true, false, not, Option, Some, None, inl, inr, refl, sym, ◌∙◌, subst, cond, is_some, ◌==◌, arith, length-append}
+use Rattle.std.proofs.Common.{◌≡◌, ℕ, ◌+◌, ◌≤◌, List, [], ◌∷◌, ◌++◌, length, Bool, true, false, not, Option, Some, None, inl, inr, refl, sym, ◌∙◌, subst, cond, is_some, ◌==◌, arith, length-append, count_by, filter}
 use Rattle.std.proofs.lemmas.Bool.{and_parts, and_from, and_left, and_right, cond-true, not_from_false, not_from_true}
 use Rattle.std.proofs.lemmas.Bool.Decides.{nat_tests}
 use Rattle.std.proofs.lemmas.List.{length-replicate}
+use Rattle.std.proofs.lemmas.List.Filters.{length-filter_both}
 use Rattle.std.proofs.lemmas.List.Folds.{sum_by-replicate}
-use Rattle.std.proofs.lemmas.List.Sums.{sum_by-append}
+use Rattle.std.proofs.lemmas.List.Sums.{length-filter, sum_by-append}
 use Rattle.std.specs.List.{IsDistinct}
 use Rattle.std.specs.Prelude.{option_map, unwrap_or}
 use Rattle.sts_code.specs.Program.{Program}
@@ -15,7 +16,7 @@ use Rattle.sts_model.specs.declared.event.Event.{Event}
 use Rattle.sts_model.specs.declared.event.Event.TheVariants as event
 use Rattle.sts_model.specs.declared.record.Frame.{Frame}
 use Rattle.sts_model.specs.Live.{Live, LiveTask, Alive}
-use Rattle.sts_model.specs.Run.{after, is_step}
+use Rattle.sts_model.specs.Run.{after, is_step, taken}
 use Rattle.sts_model.specs.World.{task_at}
 use Rattle.sts_runs.specs.Runs.{In}
 use Rattle.sts_runs.proofs.ListLemmas.{at_set}
@@ -220,14 +221,26 @@ turns b t can absent = and_from (live_can_step b.program b.machine.live t) (not 
 
 -- ---- what is reported
 
+-- an entry is a step, or came from outside
+steps_and_outside : (journal : List Event) → count_by is_step journal + outside_entries journal ≡ length journal
+steps_and_outside journal =
+    let steps : length (filter is_step journal) ≡ count_by is_step journal = length-filter is_step journal in
+    let others : length (filter (λ e. not (is_step e)) journal) ≡ outside_entries journal = length-filter (λ e. not (is_step e)) journal in
+    let both : length (filter is_step journal) + length (filter (λ e. not (is_step e)) journal) ≡ length journal = length-filter_both is_step (λ e. not (is_step e)) (λ e. refl) journal in
+    omega (arith, steps, others, both)
+
 pub reports : (b : BookSeen) (end : Option End) (o : End) → IsBook b → MainBudget b.machine.program → In (λ w. end ≡ (task_at w 0).outcome) (after b.machine.program b.journal) → end ≡ Some o → IsReport b.machine.program b.journal o
 reports b end o is main ended some =
     let s = is.stands in
     let here : end ≡ (task_at s.world 0).outcome = subst (In (λ w. end ≡ (task_at w 0).outcome)) s.runs ended in
+    let same : taken b.machine.program b.journal ≡ b.machine.steps = s.steps in
+    let counted : length b.journal ≡ b.machine.steps + outside_entries b.journal = is.counted in
+    let all = steps_and_outside b.journal in
     record {
       world = s.world;
       runs = s.runs;
       ended = sym here ∙ some;
+      steps = omega (arith, same, counted, all);
       bounded = λ c printed. subst (λ d. IsBounded b.machine.program b.journal d) (sym (main.alone c printed))
           (record { steps = (main.runs_well b.journal).steps; entries = entries_few b is main });
     }

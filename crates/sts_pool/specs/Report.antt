@@ -1,12 +1,12 @@
 -- What is reported of a run (this project's own).
-use Rattle.std.specs.Prelude.{◌≡◌, ◌+◌, ◌≤◌, List, length, Some}
+use Rattle.std.specs.Prelude.{◌≡◌, ◌+◌, ◌≤◌, List, length, count_by, Some}
 use Rattle.sts_code.specs.Program.{Program}
 use Rattle.sts_rules.specs.declared.budget.Budgets.{Budgets}
 use Rattle.sts_rules.specs.Refusal.{IsBudgetOf}
 use Rattle.sts_model.specs.declared.event.End.{End}
 use Rattle.sts_model.specs.declared.event.Event.{Event}
 use Rattle.sts_model.specs.World.{World, Running, task_at}
-use Rattle.sts_model.specs.Run.{after, taken}
+use Rattle.sts_model.specs.Run.{after, is_step, taken}
 use Rattle.sts_laws_accepted.specs.Accepted.{main_of}
 
 -- no more steps are taken than the budget of `main`, and no more than 4,096 entries are beside them
@@ -14,9 +14,11 @@ pub record IsBounded (p : Program) (journal : List Event) (budget : Budgets) : T
   pub steps : taken p journal ≤ budget.steps
   pub entries : length journal ≤ budget.steps + 4096
 
--- the journal leads to no fault and to this end of the root, within the budget that is printed
+-- the journal leads to no fault and to this end of the root, within the budget that is printed, and
+-- each step in it counted
 pub record IsReport (p : Program) (journal : List Event) (end : End) : Type 0 where
   pub world : World
   pub runs : after p journal ≡ Running world
   pub ended : (task_at world 0).outcome ≡ Some end
+  pub steps : taken p journal ≡ count_by is_step journal
   pub bounded : (b : Budgets) → IsBudgetOf p (main_of p) b → IsBounded p journal b

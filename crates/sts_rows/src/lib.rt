@@ -22,6 +22,8 @@ mod program;
 #[cfg(test)]
 mod row;
 #[cfg(test)]
+mod runs;
+#[cfg(test)]
 mod scopes;
 #[cfg(test)]
 mod taking;

@@ -5,10 +5,13 @@ use std::env::FillError;
 use std::io::{ErrorKind, Read, Write};
 use std::process::Abort;
 use std::rt::Env;
+use std::sync::Wait;
 use std::test::Fail;
+use std::thread::Threads;
 use std::{io, str};
 use sts_cli::play::WriteFailed;
 use sts_cli::program::{run, run_words};
+use sts_cli::sinks::Sinks;
 use sts_cli::sources::Sources;
 use sts_cli::words::{WordsError, words};
 
@@ -77,6 +80,8 @@ impl Sources for Folder {
             "fails.sts" => Ok(whole(FAILS)),
             "endless.sts" => Ok(whole(b"func main 0\nx:\njmp x\nend\n")),
             "two.trace" => Ok(whole(b"step 0\nstep 0\n")),
+            "late.outside" => Ok(whole(b"at 3 interrupt 0\n")),
+            "bad.outside" => Ok(whole(b"at 0 step 0\n")),
             "bad.trace" => Ok(whole(b"step 0\nstep\n")),
             "unread.sts" | "unread.trace" => Ok(broken(ErrorKind::Other)),
             "heavy.sts" | "heavy.trace" => Ok(broken(ErrorKind::OutOfMemory)),
@@ -87,6 +92,38 @@ impl Sources for Folder {
 
     fn input(&self) -> Held {
         self.input
+    }
+}
+
+impl Sinks for Folder {
+    type Sink = Kept;
+
+    fn create(&self, path: &str) -> io::Result<Kept> {
+        match path {
+            "new.trace" => Ok(Kept { fails: false }),
+            "full.trace" => Ok(Kept { fails: true }),
+            "heavy.trace" => Err(ErrorKind::OutOfMemory.into()),
+            _ => Err(ErrorKind::PermissionDenied.into()),
+        }
+    }
+}
+
+/// A file that takes all that is written, or nothing.
+#[derive(Drop)]
+struct Kept {
+    fails: bool,
+}
+
+impl Write for Kept {
+    fn write(&mut self, bytes: &[u8]) -> io::Result<usize> {
+        if self.fails {
+            return Err(ErrorKind::StorageFull.into());
+        }
+        Ok(bytes.len())
+    }
+
+    fn flush(&mut self) -> io::Result<()> {
+        Ok(())
     }
 }
 
@@ -108,6 +145,14 @@ impl Sources for WithoutEnd {
     }
 }
 
+impl Sinks for WithoutEnd {
+    type Sink = io::Sink;
+
+    fn create(&self, _path: &str) -> io::Result<io::Sink> {
+        Ok(io::sink())
+    }
+}
+
 const FOLDER: Folder = Folder {
     input: Held {
         bytes: b"func main 0\npush 7\nret\nend\n%\nstep 0\n",
@@ -116,7 +161,7 @@ const FOLDER: Folder = Folder {
 };
 
 /// Runs the words, and compares the status, what is printed, and that this stands in what is told.
-fn runs<R: Abort>(
+fn runs<R: Abort + Threads + Wait + Sync>(
     rt: &R,
     alloc: Global,
     words: &[&str],
@@ -126,7 +171,7 @@ fn runs<R: Abort>(
 ) -> Result<(), Fail> {
     let mut out = Vec::new(alloc);
     let mut err = Vec::new(alloc);
-    let ended = run(alloc, &FOLDER, words, &mut out, &mut err)?;
+    let ended = run(rt, alloc, &FOLDER, words, &mut out, &mut err)?;
     assert_eq!(rt;
         str::from_utf8(out.as_slice())?,
         printed,
@@ -164,6 +209,117 @@ fn each_command_prints_its_own_output_once(rt: HostRuntime) -> Result<(), Fail> 
     runs(&rt, alloc, &["sts"], 5, "running\nsteps 1\n", "")?;
     let bad = ["sts", "plain", "seven.sts", "bad.trace"];
     runs(&rt, alloc, &bad, 3, "error T1 line 2\n", "")
+}
+
+#[test]
+fn run_prints_the_budgets_and_the_end(rt: HostRuntime) -> Result<(), Fail> {
+    let alloc = rt.alloc();
+    let budgets = "main steps 2\nmain tasks 1\nmain scopes 0\nmain binds 0\n";
+    let seven = format!(in alloc; "{budgets}success 7\nsteps 2\n")?;
+    let failed = format!(in alloc; "{budgets}failed 7\nsteps 2\n")?;
+    let one = ["sts", "run", "seven.sts", "--workers", "1"];
+    runs(&rt, alloc, &one, 0, seven.as_str(), "")?;
+    let many = ["sts", "run", "--workers=16", "fails.sts"];
+    runs(&rt, alloc, &many, 1, failed.as_str(), "")?;
+    let all = [
+        "sts",
+        "run",
+        "seven.sts",
+        "--workers",
+        "2",
+        "--outside",
+        "late.outside",
+        "--trace",
+        "new.trace",
+    ];
+    runs(&rt, alloc, &all, 0, seven.as_str(), "")?;
+    let refused = ["sts", "run", "endless.sts", "--workers", "2"];
+    let refusal = "refused V4 in main at 0: jmp L0\n";
+    runs(&rt, alloc, &refused, 4, refusal, "")?;
+    let none = ["sts", "run", "seven.sts", "--workers", "0"];
+    runs(&rt, alloc, &none, 2, "", "from 1 to 16")
+}
+
+/// `run` of a text with an outside text and a trace prints this line alone.
+fn run_fails<R: Abort + Threads + Wait + Sync>(
+    rt: &R,
+    alloc: Global,
+    files: [&str; 3],
+    status: u8,
+    line: &str,
+) -> Result<(), Fail> {
+    let words = [
+        "sts",
+        "run",
+        files[0],
+        "--workers",
+        "2",
+        "--outside",
+        files[1],
+        "--trace",
+        files[2],
+    ];
+    runs(rt, alloc, &words, status, line, "")
+}
+
+#[test]
+fn a_run_without_its_files_prints_that_alone(rt: HostRuntime) -> Result<(), Fail> {
+    let alloc = rt.alloc();
+    let no_file = "error file\n";
+    let no_memory = "error memory\n";
+    // FILE first, then the outside text, then the file of the trace.
+    run_fails(
+        &rt,
+        alloc,
+        ["none.sts", "heavy.trace", "heavy.trace"],
+        6,
+        no_file,
+    )?;
+    run_fails(&rt, alloc, ["heavy.sts", "none", "none"], 6, no_memory)?;
+    run_fails(&rt, alloc, ["seven.sts", "none", "heavy.trace"], 6, no_file)?;
+    run_fails(
+        &rt,
+        alloc,
+        ["seven.sts", "heavy.trace", "none"],
+        6,
+        no_memory,
+    )?;
+    run_fails(
+        &rt,
+        alloc,
+        ["seven.sts", "late.outside", "none"],
+        6,
+        no_file,
+    )?;
+    run_fails(
+        &rt,
+        alloc,
+        ["seven.sts", "late.outside", "heavy.trace"],
+        6,
+        no_memory,
+    )?;
+    run_fails(
+        &rt,
+        alloc,
+        ["seven.sts", "late.outside", "full.trace"],
+        6,
+        no_file,
+    )?;
+    // The file of the trace is made before the texts are judged, the outside text before the verdict.
+    run_fails(
+        &rt,
+        alloc,
+        ["endless.sts", "bad.outside", "none"],
+        6,
+        no_file,
+    )?;
+    run_fails(
+        &rt,
+        alloc,
+        ["endless.sts", "bad.outside", "full.trace"],
+        3,
+        "error T1 line 1\n",
+    )
 }
 
 #[test]
@@ -269,7 +425,7 @@ fn an_input_that_fails_is_told_as_what_it_is(rt: HostRuntime) -> Result<(), Fail
         };
         let mut out = Vec::new(alloc);
         let mut err = Vec::new(alloc);
-        let ended = run(alloc, &folder, &["sts"], &mut out, &mut err)?;
+        let ended = run(&rt, alloc, &folder, &["sts"], &mut out, &mut err)?;
         assert_eq!(rt; str::from_utf8(out.as_slice())?, line);
         assert!(rt; err.is_empty());
         assert_eq!(rt; ended, 6);
@@ -282,7 +438,7 @@ fn an_endless_text_is_too_long(rt: HostRuntime) -> Result<(), Fail> {
     let mut out = Vec::new(rt.alloc());
     let mut err = Vec::new(rt.alloc());
     let words = ["sts", "verify", "spaces"];
-    let ended = run(rt.alloc(), &WithoutEnd, &words, &mut out, &mut err)?;
+    let ended = run(&rt, rt.alloc(), &WithoutEnd, &words, &mut out, &mut err)?;
     assert_eq!(rt; str::from_utf8(out.as_slice())?, "error A8 line 0\n");
     assert_eq!(rt; ended, 3);
     Ok(())
@@ -313,12 +469,25 @@ impl<'a> Sources for Made<'a> {
     }
 }
 
+impl Sinks for Made<'_> {
+    type Sink = io::Sink;
+
+    fn create(&self, _path: &str) -> io::Result<io::Sink> {
+        Ok(io::sink())
+    }
+}
+
 /// What mode `plain` prints of these files, and the status.
-fn printed_of(alloc: Global, text: &[u8], trace: &[u8]) -> Result<(Vec<u8>, u8), Fail> {
+fn printed_of<R: Threads + Wait + Sync>(
+    rt: &R,
+    alloc: Global,
+    text: &[u8],
+    trace: &[u8],
+) -> Result<(Vec<u8>, u8), Fail> {
     let mut out = Vec::new(alloc);
     let mut err = Vec::new(alloc);
     let words = ["sts", "plain", "text", "trace"];
-    let ended = run(alloc, &Made { text, trace }, &words, &mut out, &mut err)?;
+    let ended = run(rt, alloc, &Made { text, trace }, &words, &mut out, &mut err)?;
     Ok((out, ended))
 }
 
@@ -338,17 +507,17 @@ fn a_text_may_have_a_mebibyte_and_is_not_cut(rt: HostRuntime) -> Result<(), Fail
     let alloc = rt.alloc();
     // 1,048,576 bytes; the first line is no comment.
     let text = long_text(alloc, b"", 1_048_549)?;
-    let (printed, status) = printed_of(alloc, text.as_slice(), b"")?;
+    let (printed, status) = printed_of(&rt, alloc, text.as_slice(), b"")?;
     assert_eq!(rt; str::from_utf8(printed.as_slice())?, "error A2 line 1\n");
     assert_eq!(rt; status, 3);
     // The same number of bytes, of which the last one counts: without it `en` would be unknown.
     let text = long_text(alloc, b";", 1_048_548)?;
-    let (printed, status) = printed_of(alloc, text.as_slice(), b"")?;
+    let (printed, status) = printed_of(&rt, alloc, text.as_slice(), b"")?;
     assert_eq!(rt; str::from_utf8(printed.as_slice())?, "running\nsteps 0\n");
     assert_eq!(rt; status, 5);
     // One byte more.
     let text = long_text(alloc, b";", 1_048_549)?;
-    let (printed, status) = printed_of(alloc, text.as_slice(), b"")?;
+    let (printed, status) = printed_of(&rt, alloc, text.as_slice(), b"")?;
     assert_eq!(rt; str::from_utf8(printed.as_slice())?, "error A8 line 0\n");
     assert_eq!(rt; status, 3);
     Ok(())
@@ -362,11 +531,11 @@ fn nothing_of_a_long_trace_is_cut(rt: HostRuntime) -> Result<(), Fail> {
     for _ in 0..10_000 {
         trace.extend_from_slice(b"step 0\n")?;
     }
-    let (printed, status) = printed_of(alloc, SEVEN, trace.as_slice())?;
+    let (printed, status) = printed_of(&rt, alloc, SEVEN, trace.as_slice())?;
     assert_eq!(rt; str::from_utf8(printed.as_slice())?, "success 7\nsteps 2\n");
     assert_eq!(rt; status, 0);
     trace.extend_from_slice(b"x\n")?;
-    let (printed, status) = printed_of(alloc, SEVEN, trace.as_slice())?;
+    let (printed, status) = printed_of(&rt, alloc, SEVEN, trace.as_slice())?;
     assert_eq!(rt;
         str::from_utf8(printed.as_slice())?,
         "error T1 line 10001\n"
@@ -394,14 +563,21 @@ fn a_stream_that_is_closed_is_told(rt: HostRuntime) {
     let alloc = rt.alloc();
     let mut rest = Vec::new(alloc);
     let verify = ["sts", "verify", "seven.sts"];
-    let ended = run(alloc, &FOLDER, &verify, &mut Closed, &mut rest);
+    let ended = run(&rt, alloc, &FOLDER, &verify, &mut Closed, &mut rest);
     assert_eq!(rt; ended, Err(WriteFailed));
     let missing = ["sts", "verify", "none.sts"];
-    let ended = run(alloc, &FOLDER, &missing, &mut Closed, &mut rest);
+    let ended = run(&rt, alloc, &FOLDER, &missing, &mut Closed, &mut rest);
     assert_eq!(rt; ended, Err(WriteFailed));
-    let ended = run(alloc, &FOLDER, &["sts", "--help"], &mut rest, &mut Closed);
+    let ended = run(
+        &rt,
+        alloc,
+        &FOLDER,
+        &["sts", "--help"],
+        &mut rest,
+        &mut Closed,
+    );
     assert_eq!(rt; ended, Err(WriteFailed));
-    let ended = run(alloc, &FOLDER, &["sts", "x"], &mut rest, &mut Closed);
+    let ended = run(&rt, alloc, &FOLDER, &["sts", "x"], &mut rest, &mut Closed);
     assert_eq!(rt; ended, Err(WriteFailed));
     assert!(rt; rest.is_empty());
 }
@@ -470,7 +646,7 @@ fn a_word_that_is_no_text_is_a_usage_fault(rt: HostRuntime) -> Result<(), Fail> 
     assert_eq!(rt; had.as_ref().err().copied(), Some(WordsError::NotText));
     let mut out = Vec::new(alloc);
     let mut err = Vec::new(alloc);
-    let ended = run_words(alloc, &FOLDER, &had, &mut out, &mut err)?;
+    let ended = run_words(&rt, alloc, &FOLDER, &had, &mut out, &mut err)?;
     assert_eq!(rt; ended, 2);
     assert!(rt; out.is_empty());
     let told = "error: a word of the command line is not UTF-8\n";
@@ -484,7 +660,7 @@ fn words_without_memory_are_told(rt: HostRuntime) -> Result<(), Fail> {
     let mut out = Vec::new(alloc);
     let mut err = Vec::new(alloc);
     let had = Err(WordsError::Memory);
-    let ended = run_words(alloc, &FOLDER, &had, &mut out, &mut err)?;
+    let ended = run_words(&rt, alloc, &FOLDER, &had, &mut out, &mut err)?;
     assert_eq!(rt; ended, 6);
     assert!(rt; err.is_empty());
     assert_eq!(rt; str::from_utf8(out.as_slice())?, "error memory\n");
@@ -498,7 +674,7 @@ fn words_that_were_had_are_run(rt: HostRuntime) -> Result<(), Fail> {
     let had = words(&Started { words: &given }, alloc);
     let mut out = Vec::new(alloc);
     let mut err = Vec::new(alloc);
-    let ended = run_words(alloc, &FOLDER, &had, &mut out, &mut err)?;
+    let ended = run_words(&rt, alloc, &FOLDER, &had, &mut out, &mut err)?;
     assert_eq!(rt; ended, 1);
     assert_eq!(rt; str::from_utf8(out.as_slice())?, "failed 7\nsteps 2\n");
     Ok(())

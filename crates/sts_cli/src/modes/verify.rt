@@ -1,6 +1,7 @@
 //! Mode `verify`: the budgets of each function, or the refused instruction.
 
 ghost use Rattle.std.specs.Prelude.{◌≡◌, IfOk};
+ghost use Rattle.std.specs.String.{string_bytes};
 ghost use Rattle.sts_asm.specs.Text.{judged};
 ghost use Rattle.sts_cli.specs.Output as def;
 
@@ -24,8 +25,13 @@ fn all_budgets(alloc: Global, verified: &Verified) -> Result<Vec<Budgets>, Alloc
     Ok(budgets)
 }
 
-fn told(alloc: Global, verified: &Verified) -> Result<Output, AllocError>
-    ensures { IfOk result (λ o. def.IsVerdict verified.now o) }
+/// The lines of the budgets of all functions.
+///
+/// # Errors
+///
+/// Memory was refused.
+pub(crate) fn lines(alloc: Global, verified: &Verified) -> Result<String, AllocError>
+    ensures { IfOk result (λ text. def.AreLines verified.now (string_bytes text)) }
 {
     let budgets = all_budgets(alloc, verified)?;
     let mut text = String::new(alloc);
@@ -34,6 +40,13 @@ fn told(alloc: Global, verified: &Verified) -> Result<Output, AllocError>
         verified.program().functions(),
         budgets.as_slice(),
     )?;
+    Ok(text)
+}
+
+fn told(alloc: Global, verified: &Verified) -> Result<Output, AllocError>
+    ensures { IfOk result (λ o. def.IsVerdict verified.now o) }
+{
+    let text = lines(alloc, verified)?;
     Ok(Output { text, status: 0 })
 }
 

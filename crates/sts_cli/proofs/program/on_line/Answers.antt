@@ -14,3 +14,6 @@ returns-in-Plain g c = rw c.in-Plain.is c.on_text_and_trace.ensures
 
 pub returns-in-Replay : goal.returns-in-Replay
 returns-in-Replay g c = rw c.in-Replay.is c.on_text_and_trace-in-Replay.ensures
+
+pub returns-in-Run : goal.returns-in-Run
+returns-in-Run g c = rw c.in-Run.is c.on_run.ensures

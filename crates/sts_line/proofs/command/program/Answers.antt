@@ -15,6 +15,8 @@ returns c =
     c.in_ok-subcommand-2.ensures.shape c.in_ok-list.ensures.local ∙ ap₂ with_subcommand one (ap (λ (a : App). a.top) c.in_ok-list.ensures.app) in
     let three : app_of c.in_ok-subcommand-3.field-0 ≡ with_subcommand (with_subcommand (with_subcommand (def.required (new_app (codes "sts"))) def.verify.top) def.list.top) def.plain.top =
     c.in_ok-subcommand-3.ensures.shape c.in_ok-plain.ensures.local ∙ ap₂ with_subcommand two (ap (λ (a : App). a.top) c.in_ok-plain.ensures.app) in
-    IfOk-weaker c.subcommand-4.result _ _
-    (λ r h. h.shape c.in_ok-replay.ensures.local ∙ ap₂ with_subcommand three (ap (λ (a : App). a.top) c.in_ok-replay.ensures.app))
-    c.subcommand-4.ensures
+    let four : app_of c.in_ok-subcommand-4.field-0 ≡ with_subcommand (with_subcommand (with_subcommand (with_subcommand (def.required (new_app (codes "sts"))) def.verify.top) def.list.top) def.plain.top) def.replay.top =
+    c.in_ok-subcommand-4.ensures.shape c.in_ok-replay.ensures.local ∙ ap₂ with_subcommand three (ap (λ (a : App). a.top) c.in_ok-replay.ensures.app) in
+    IfOk-weaker c.subcommand-5.result _ _
+    (λ r h. h.shape c.in_ok-run.ensures.local ∙ ap₂ with_subcommand four (ap (λ (a : App). a.top) c.in_ok-run.ensures.app))
+    c.subcommand-5.ensures

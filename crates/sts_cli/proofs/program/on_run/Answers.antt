@@ -1,0 +1,19 @@
+use Rattle.std.proofs.Common.{refl}
+use Rattle.std.proofs.lemmas.Result.{IfOk-weaker}
+use Rattle.sts_cli.specs.Ending as def
+use Rattle.sts_cli.specs.Output.{failure_output}
+use Rattle.sts_cli.proofs.Reports.{of_texts}
+use Rattle.sts_cli.proofs.program.on_run.Goals as goal
+
+pub returns-in-Ok : goal.returns-in-Ok
+returns-in-Ok g c =
+    let sources = c.args.sources.now in
+    let file = g.S.Sources.held sources c.args.wanted.file.now in
+    let outside = def.outside_of (g.S.Sources.held sources) c.args.wanted.outside in
+    IfOk-weaker c.on_texts.result _ _
+    (λ s h. (h.0, of_texts file outside _ _ h.0 c.in-Ok.ensures.program c.in-Ok.ensures.outside h.1, h.2))
+    c.on_texts.ensures
+
+pub returns-in-Err : goal.returns-in-Err
+returns-in-Err g c =
+    IfOk-weaker c.failed.result _ _ (λ s h. (failure_output c.in-Err.error, def.failed c.in-Err.error refl, h)) c.failed.ensures

@@ -1,0 +1,101 @@
+-- What comes of `run`: what is printed, and the journal that its trace spells (this project's own).
+use Rattle.std.specs.Prelude.{◌≡◌, ◌⊎◌, ℕ, List, [], ◌∷◌, ◌++◌, Option, Some, None, Result, Ok, Err}
+use Rattle.std.specs.Prelude.{nat_le, if◌then◌else◌}
+use Rattle.std.specs.Io.KnownBytes.{Appends}
+use Rattle.sts_code.specs.Program.{Program}
+use Rattle.sts_model.specs.Run.{taken}
+use Rattle.sts_model.specs.declared.event.End.{End}
+use Rattle.sts_model.specs.declared.event.Event.{Event}
+use Rattle.sts_rules.specs.Refusal.{IsAccepted}
+use Rattle.sts_asm.specs.Text.{judged}
+use Rattle.sts_asm.specs.declared.fault.AsmError.{AsmError}
+use Rattle.sts_trace.specs.Reading.{outside_read}
+use Rattle.sts_trace.specs.Spelling.{trace_text}
+use Rattle.sts_trace.specs.declared.error.TraceError.{TraceError}
+use Rattle.sts_trace.specs.declared.outside.Due.{Due}
+use Rattle.sts_pool.specs.Report.{IsReport}
+use Rattle.sts_pool.specs.declared.report.PoolError.{PoolError}
+use Rattle.sts_pool.specs.declared.report.PoolError.TheVariants as pool
+use Rattle.sts_cli.specs.Output.{AreLines, IsRefused, Output, Writes, end_status, file_output}
+use Rattle.sts_cli.specs.Output.{memory_output, text_fault_output, trace_fault_output}
+use Rattle.sts_cli.specs.Printed.{end_line, steps_line, threads_line, unfinished_line}
+
+-- ---- events from outside
+
+-- the first event, if it is due where the journal has so many entries
+abbrev pub due_event : List Due → ℕ → Option Event
+due_event [] entries = None
+due_event (d ∷ ds) entries = if nat_le d.at entries then Some d.event else None
+
+-- those that are left then: one that isn't due holds back those after it
+abbrev pub dues_left : List Due → ℕ → List Due
+dues_left [] entries = []
+dues_left (d ∷ ds) entries = if nat_le d.at entries then ds else d ∷ ds
+
+-- ---- what comes of a run
+
+-- what is printed, and the events of the trace
+pub record Outcome : Type 0 where
+  pub output : Output
+  pub journal : List Event
+
+-- this output, and no trace
+abbrev pub alone : Output → Outcome
+alone o = record { output = o; journal = [] }
+
+-- how the root ended and the steps taken, after the lines of the budgets
+abbrev pub report_output : List ℕ → End → ℕ → Output
+report_output budgets end steps = record {
+  bytes = budgets ++ (end_line end ++ steps_line steps);
+  status = end_status end;
+}
+
+-- a program that is accepted came to this end by this journal
+pub record IsReported (p : Program) (o : Outcome) : Type 0 where
+  pub accepted : IsAccepted p
+  pub budgets : List ℕ
+  pub told : AreLines p budgets
+  pub end : End
+  pub report : IsReport p o.journal end
+  pub printed : o.output ≡ report_output budgets end (taken p o.journal)
+
+-- why an accepted program has no report
+abbrev pub pool_output : PoolError → Output
+pool_output pool.Memory = memory_output
+pool_output pool.SpawnRefused = record { bytes = threads_line; status = 6 }
+pool_output pool.Unfinished = record { bytes = unfinished_line; status = 6 }
+
+-- what comes of a program that is accepted, or that is refused
+pub data IsRun (p : Program) (o : Outcome) : Type 0 where
+  reported : IsReported p o → IsRun p o
+  failed : IsAccepted p → (e : PoolError) → o ≡ alone (pool_output e) → IsRun p o
+  refused : (refusal : Output) → IsRefused p refusal → o ≡ alone refusal → IsRun p o
+
+-- a fault of the outside text comes before the verdict
+abbrev pub OutsideRuns : Program → Result (List Due) TraceError → Outcome → Type 0
+OutsideRuns p (Ok dues) o = IsRun p o
+OutsideRuns p (Err e) o = o ≡ alone (trace_fault_output e)
+
+abbrev pub TextRuns : Result Program AsmError → List ℕ → Outcome → Type 0
+TextRuns (Ok p) outside o = OutsideRuns p (outside_read outside) o
+TextRuns (Err e) outside o = o ≡ alone (text_fault_output e)
+
+-- what comes of a text and an outside text, or that memory was refused
+abbrev pub IsOutcomeOf : List ℕ → List ℕ → Outcome → Type 0
+IsOutcomeOf text outside o = TextRuns (judged text) outside o ⊎ (o ≡ alone memory_output)
+
+-- ---- what is written
+
+-- the bytes that the trace and the stream hold before and after, where they are known
+pub record Written : Type 0 where
+  pub trace_old : Option (List ℕ)
+  pub trace_new : Option (List ℕ)
+  pub out_old : Option (List ℕ)
+  pub out_new : Option (List ℕ)
+
+-- the journal is written to the trace, and the output to the stream; where the trace failed, only
+-- that a file failed is written to the stream
+pub data RunWrites (w : Written) (status : ℕ) (o : Outcome) : Type 0 where
+  whole : Appends w.trace_old w.trace_new (trace_text o.journal)
+      → Writes w.out_old w.out_new status o.output → RunWrites w status o
+  no_trace : Writes w.out_old w.out_new status file_output → RunWrites w status o

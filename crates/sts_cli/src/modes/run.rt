@@ -1,0 +1,171 @@
+//! Mode `run`: workers bring an accepted program to its end.
+
+ghost use Rattle.std.specs.Prelude.{◌≡◌, ◌≤◌, ◌++◌, ℕ, IfOk, [], count_by};
+ghost use Rattle.std.specs.String.{string_bytes};
+ghost use Rattle.sts_asm.specs.Text.{judged};
+ghost use Rattle.sts_model.specs.Run.{is_step};
+ghost use Rattle.sts_trace.specs.Reading.{outside_read};
+ghost use Rattle.sts_cli.specs.Running as def;
+
+use crate::dues::Dues;
+use crate::modes::verify;
+use crate::output::Output;
+use crate::refusal::accepted;
+use crate::{output, printed};
+use std::alloc::{AllocError, Global};
+use std::marker::Model;
+use std::sync::Wait;
+use std::thread::Threads;
+use sts_asm::assemble;
+use sts_code::program::Program;
+use sts_model::event::Event;
+use sts_pool::{Gate, PoolError, Report, run};
+use sts_trace::read_outside;
+use sts_verify::verified::Verified;
+
+/// What comes of a run: what is printed, and the journal, which is empty where there is no report.
+#[derive(Drop)]
+pub(crate) struct Ran {
+    pub(crate) output: Output,
+    pub(crate) journal: Vec<Event>,
+}
+
+impl Model for Ran {
+    ghost use Rattle.sts_cli.specs.Running.{Outcome};
+
+    ghost Value = { Outcome };
+
+    ghost view = { λ r. record { output = r.output; journal = r.journal.items } };
+}
+
+/// Lets each worker pass at once.
+#[derive(Drop)]
+struct Open;
+
+impl Gate for Open {
+    fn enter(&self, _worker: u32, _task: u32) {}
+}
+
+/// An output with no journal.
+fn alone(alloc: Global, output: Output) -> Ran
+    ensures { result ≡ def.alone output }
+{
+    Ran {
+        output,
+        journal: Vec::new(alloc),
+    }
+}
+
+/// How many steps a journal has.
+fn steps_in(journal: &[Event]) -> u64
+    ensures { result ≡ count_by is_step journal.now }
+{
+    journal
+        .iter()
+        .filter(|event| matches!(event, Event::Step(_)))
+        .count() as u64
+}
+
+/// What comes of a report: how the root ended and the steps, after the lines of the budgets.
+fn reported(budgets: String, report: Report) -> Result<Ran, AllocError>
+    ensures journal { IfOk result (λ r. r.journal ≡ report.journal.items) }
+    ensures output { IfOk result (λ r. r.output ≡ def.report_output (string_bytes budgets)
+        report.end (count_by is_step report.journal.items)) }
+{
+    let mut text = budgets;
+    printed::end_line(&mut text, report.end)?;
+    printed::steps_line(&mut text, steps_in(report.journal.as_slice()))?;
+    Ok(Ran {
+        output: Output {
+            text,
+            status: output::end_status(report.end),
+        },
+        journal: report.journal,
+    })
+}
+
+/// What comes of a run without a report.
+fn unreported(alloc: Global, error: PoolError) -> Result<Ran, AllocError>
+    ensures { IfOk result (λ r. r ≡ def.alone (def.pool_output error)) }
+{
+    let line = match error {
+        PoolError::Memory => return Err(AllocError),
+        PoolError::SpawnRefused => "error threads\n",
+        PoolError::Unfinished => "error unfinished\n",
+    };
+    let text = line.to_string(alloc)?;
+    Ok(alone(alloc, Output { text, status: 6 }))
+}
+
+/// Runs an accepted program.
+fn run_accepted<R: Threads + Wait + Sync>(
+    rt: &R,
+    alloc: Global,
+    verified: &Verified,
+    workers: u32,
+    dues: Dues,
+) -> Result<Ran, AllocError>
+    requires { (1 ≤ workers) × (workers ≤ 16) }
+    ensures { IfOk result (def.IsRun verified.now) }
+{
+    let budgets = verify::lines(alloc, verified)?;
+    match run(rt, alloc, verified, workers, &Open, dues) {
+        Ok(report) => reported(budgets, report),
+        Err(error) => unreported(alloc, error),
+    }
+}
+
+/// Verifies a program, and runs it.
+fn verdict<R: Threads + Wait + Sync>(
+    rt: &R,
+    alloc: Global,
+    program: Program,
+    workers: u32,
+    dues: Dues,
+) -> Result<Ran, AllocError>
+    requires { (1 ≤ workers) × (workers ≤ 16) }
+    ensures { IfOk result (def.IsRun program) }
+{
+    match accepted(alloc, program)? {
+        Ok(verified) => run_accepted(rt, alloc, &verified, workers, dues),
+        Err(refusal) => Ok(alone(alloc, refusal)),
+    }
+}
+
+#[tactic(auto, using(crate::proofs::Outsides::all_outside))]
+fn with_outside<R: Threads + Wait + Sync>(
+    rt: &R,
+    alloc: Global,
+    program: Program,
+    workers: u32,
+    outside: &[u8],
+) -> Result<Ran, AllocError>
+    requires { (1 ≤ workers) × (workers ≤ 16) }
+    ensures { IfOk result (def.OutsideRuns program (outside_read outside.now)) }
+{
+    match read_outside(alloc, outside) {
+        Ok(dues) => verdict(rt, alloc, program, workers, Dues::new(dues)),
+        Err(error) => Ok(alone(alloc, output::trace_fault(alloc, error)?)),
+    }
+}
+
+/// Assembles the text, reads the outside text, verifies the program and runs it.
+///
+/// # Errors
+///
+/// Memory was refused.
+pub(crate) fn outcome<R: Threads + Wait + Sync>(
+    rt: &R,
+    alloc: Global,
+    text: &[u8],
+    workers: u32,
+    outside: &[u8],
+) -> Result<Ran, AllocError>
+    requires { (1 ≤ workers) × (workers ≤ 16) }
+    ensures { IfOk result (def.TextRuns (judged text.now) outside.now) }
+{
+    match assemble(alloc, text) {
+        Ok(program) => with_outside(rt, alloc, program, workers, outside),
+        Err(error) => Ok(alone(alloc, output::text_fault(alloc, error)?)),
+    }
+}
