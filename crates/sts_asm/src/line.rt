@@ -176,6 +176,10 @@ fn with_operands(
 }
 
 /// The instruction that a first word and the words after it spell, or the first place that is wrong.
+///
+/// # Errors
+///
+/// The kind of the first fault among the words.
 #[inline(always)]
 #[tactic(auto, using(crate::proofs::TableLemmas::plain_first))]
 pub fn instr_of(

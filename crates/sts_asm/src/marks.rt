@@ -107,6 +107,10 @@ impl<'a> Marks<'a> {
     }
 
     /// Adds a name that doesn't stand yet.
+    ///
+    /// # Errors
+    ///
+    /// Want of memory; the marks are as they were.
     pub fn push_new(&mut self, name: &'a [u8], at: u32) -> Result<(), AllocError>
         requires { marked self.old name.now ≡ None }
         ensures ok { OnOk result (self.new ≡ self.old ++ record { name = name.now; at = at } ∷ []) }
@@ -133,6 +137,10 @@ impl<'a> Marks<'a> {
     }
 
     /// Adds a name; one that stands already keeps what it names.
+    ///
+    /// # Errors
+    ///
+    /// Want of memory; the marks are as they were.
     pub fn push(&mut self, name: &'a [u8], at: u32) -> Result<(), AllocError>
         ensures ok { OnOk result (self.new ≡ self.old ++ record { name = name.now; at = at } ∷ []) }
         ensures err { OnErr result (self.new ≡ self.old) }

@@ -15,6 +15,10 @@ use sts_code::naming::is_name;
 use sts_text::{Words, digits_up_to, number, number_up_to};
 
 /// A number from 0 to `most`.
+///
+/// # Errors
+///
+/// That no word is left, or that the next one spells none.
 pub fn number_at(words: &mut Words<'_>, most: u32) -> Result<u32, AsmKind>
     ensures read { Reads (λ n. n) result words.new (number_at most words.old) }
     ensures at_most { IfOk result (λ n. n ≤ most) }
@@ -29,6 +33,10 @@ pub fn number_at(words: &mut Words<'_>, most: u32) -> Result<u32, AsmKind>
 }
 
 /// A number of a byte's range.
+///
+/// # Errors
+///
+/// That no word is left, or that the next one spells none.
 pub fn byte_at(words: &mut Words<'_>) -> Result<u8, AsmKind>
     ensures { Reads (λ n. n) result words.new (number_at 255 words.old) }
 {
@@ -37,6 +45,10 @@ pub fn byte_at(words: &mut Words<'_>) -> Result<u8, AsmKind>
 }
 
 /// A value.
+///
+/// # Errors
+///
+/// That no word is left, or that the next one spells none.
 pub fn value_at(words: &mut Words<'_>) -> Result<i64, AsmKind>
     ensures { Reads (λ v. v) result words.new (value_at words.old) }
 {
@@ -59,6 +71,10 @@ fn slot(word: &[u8]) -> Option<u8>
 }
 
 /// `s` and digits.
+///
+/// # Errors
+///
+/// That no word is left, or that the next one spells none.
 pub fn slot_at(words: &mut Words<'_>) -> Result<u8, AsmKind>
     ensures { Reads (λ s. s) result words.new (slot_at words.old) }
 {
@@ -81,6 +97,10 @@ fn handle(word: &[u8]) -> Option<Option<u8>>
 }
 
 /// The slot of a subtask, or `_` for none.
+///
+/// # Errors
+///
+/// That no word is left, or that the next one spells none.
 pub fn handle_at(words: &mut Words<'_>) -> Result<Option<u8>, AsmKind>
     ensures { Reads (λ h. h) result words.new (handle_at words.old) }
 {
@@ -91,6 +111,10 @@ pub fn handle_at(words: &mut Words<'_>) -> Result<Option<u8>, AsmKind>
 }
 
 /// A name.
+///
+/// # Errors
+///
+/// That no word is left, or that the next one spells none.
 pub fn name_at<'a>(words: &mut Words<'a>) -> Result<&'a [u8], AsmKind>
     ensures read { Reads (λ name. name.now) result words.new (name_at words.old) }
     ensures name { IfOk result (λ name. def_name.is_name name.now ≡ true) }
@@ -118,6 +142,10 @@ pub fn name_text(name: &[u8]) -> &str
 }
 
 /// The instruction that a label names.
+///
+/// # Errors
+///
+/// That no word is left, that the next one is no name, or that nothing has it.
 pub fn target_at(words: &mut Words<'_>, names: Option<&Names<'_, '_>>) -> Result<u32, AsmKind>
     ensures { Reads (λ to. to) result words.new (target_at (option_copied names.entry) words.old) }
 {
@@ -126,6 +154,10 @@ pub fn target_at(words: &mut Words<'_>, names: Option<&Names<'_, '_>>) -> Result
 }
 
 /// The index of the function that a name names.
+///
+/// # Errors
+///
+/// That no word is left, that the next one is no name, or that nothing has it.
 pub fn function_at(words: &mut Words<'_>, names: Option<&Names<'_, '_>>) -> Result<u32, AsmKind>
     ensures { Reads (λ f. f) result words.new (function_at (option_copied names.entry) words.old) }
 {
@@ -134,6 +166,10 @@ pub fn function_at(words: &mut Words<'_>, names: Option<&Names<'_, '_>>) -> Resu
 }
 
 /// A label, or `-` for none.
+///
+/// # Errors
+///
+/// That no word is left, that the next one is no name, or that nothing has it.
 pub fn maybe_target_at(
     words: &mut Words<'_>,
     names: Option<&Names<'_, '_>>,
@@ -211,6 +247,10 @@ fn one_word_joiner(word: &[u8]) -> Option<Joiner>
 }
 
 /// The joiner of a scope.
+///
+/// # Errors
+///
+/// That no word is left, or that the next one spells none.
 pub fn joiner_at(words: &mut Words<'_>) -> Result<Joiner, AsmKind>
     ensures { Reads (λ j. j) result words.new (joiner_at words.old) }
 {
@@ -224,6 +264,10 @@ pub fn joiner_at(words: &mut Words<'_>) -> Result<Joiner, AsmKind>
 }
 
 /// `timed`, or nothing.
+///
+/// # Errors
+///
+/// That the next word is another one.
 pub fn timed_at(words: &mut Words<'_>) -> Result<bool, AsmKind>
     ensures { Reads (λ t. t) result words.new (timed_at words.old) }
 {
@@ -252,6 +296,10 @@ fn kind_counted(word: &[u8]) -> Option<Kind>
 }
 
 /// The state that `tally` counts.
+///
+/// # Errors
+///
+/// That no word is left, or that the next one spells none.
 pub fn kind_at(words: &mut Words<'_>) -> Result<Kind, AsmKind>
     ensures { Reads (λ k. k) result words.new (kind_at words.old) }
 {
@@ -262,6 +310,10 @@ pub fn kind_at(words: &mut Words<'_>) -> Result<Kind, AsmKind>
 }
 
 /// The instruction, where no word is left over.
+///
+/// # Errors
+///
+/// That a word is left over.
 pub fn finished(words: &mut Words<'_>, instr: Instr) -> Result<Instr, AsmKind>
     ensures { result ≡ finished instr words.old }
 {

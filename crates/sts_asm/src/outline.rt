@@ -392,6 +392,10 @@ impl<'a> Outline<'a> {
     }
 
     /// Reads the line of this number.
+    ///
+    /// # Errors
+    ///
+    /// The kind of the line's fault; or want of memory.
     #[tactic(auto, using(crate::proofs::PlainLemmas::plain_lines))]
     pub fn line(&mut self, at: u32, line: &'a [u8]) -> Result<(), AsmKind>
         requires { size_of self.old < 2 ^ 32 }

@@ -111,6 +111,10 @@ fn routines_of<'a>(
 }
 
 /// The program of these functions, or the first name that there isn't, or the program check that they fail.
+///
+/// # Errors
+///
+/// The first fault, with its line; or want of memory.
 pub fn program_of(alloc: Global, outline: Outline<'_>) -> Result<Program, AsmError>
     ensures { Judges (λ p. p) result (program_of outline.entry) }
 {

@@ -58,6 +58,10 @@ fn mark_targets(marks: &mut Vec<bool>, instr: Instr)
 }
 
 /// For each instruction, is it named by one of these?
+///
+/// # Errors
+///
+/// Want of memory.
 pub fn target_marks(alloc: Global, code: &[Instr]) -> Result<Vec<bool>, AllocError>
     ensures length { IfOk result (λ marks. length marks.items ≡ length code.now) }
     ensures named { IfOk result (λ marks. (pc : ℕ) → pc < length code.now →

@@ -52,6 +52,10 @@ fn push_value(world: &mut World, t: u32, n: usize, value: i64)
 }
 
 /// Does the instruction that a task is at, which is no misuse.
+///
+/// # Errors
+///
+/// Want of memory; the world is as it was.
 #[tactic(auto, using(sts_model::proofs::Fine::fine))]
 pub fn act(world: &mut World, alloc: Global, program: &Program, t: u32) -> Result<(), AllocError>
     requires born { t < length world.old.tasks }

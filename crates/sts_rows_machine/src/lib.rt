@@ -9,3 +9,5 @@ mod rows;
 mod runs;
 #[cfg(test)]
 mod standing;
+#[cfg(test)]
+mod store;

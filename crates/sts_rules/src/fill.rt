@@ -5,6 +5,10 @@ ghost use Rattle.std.specs.Prelude.{◌≡◌, IfOk, replicate};
 use std::alloc::{AllocError, Global};
 
 /// So many copies of a value.
+///
+/// # Errors
+///
+/// Want of memory.
 pub fn filled<T: Copy>(alloc: Global, count: usize, value: T) -> Result<Vec<T>, AllocError>
     ensures { IfOk result (λ t. t.items ≡ replicate count value) }
 {
