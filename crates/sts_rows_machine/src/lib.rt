@@ -2,8 +2,6 @@
 #![tactic(auto)]
 
 #[cfg(test)]
-mod interrupts;
-#[cfg(test)]
 mod rows;
 #[cfg(test)]
 mod runs;
