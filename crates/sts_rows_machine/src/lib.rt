@@ -7,5 +7,3 @@ mod rows;
 mod runs;
 #[cfg(test)]
 mod standing;
-#[cfg(test)]
-mod store;

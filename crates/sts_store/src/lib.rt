@@ -19,3 +19,5 @@ pub mod running;
 mod scopes;
 mod standing;
 pub mod store;
+#[cfg(test)]
+mod tests;
