@@ -2,6 +2,8 @@
 #![tactic(auto)]
 
 #[cfg(test)]
+mod interrupts;
+#[cfg(test)]
 mod rows;
 #[cfg(test)]
 mod runs;

@@ -1,0 +1,25 @@
+//! A book that takes no further outside event.
+
+use crate::texts::{SEVEN, accepted};
+use std::test::Fail;
+use sts_machine::turned::Turned;
+use sts_model::event::{End, Event};
+use sts_pool::{Book, OutsideFull};
+
+/// After 4,096 outside events a book refuses one more, and its task goes on.
+#[test]
+fn a_full_book_still_turns(rt: HostRuntime) -> Result<(), Fail> {
+    let verified = accepted(rt.alloc(), SEVEN)?;
+    let mut book = Book::start(rt.alloc(), &verified)?;
+    for _ in 0..4096u32 {
+        assert_eq!(rt; book.outside(Event::Interrupt(77)), Ok(Turned::Idle));
+    }
+    assert_eq!(rt; book.outside(Event::Interrupt(0)), Err(OutsideFull));
+    assert_eq!(rt; book.outside(Event::Expire(0)), Err(OutsideFull));
+    assert_eq!(rt; book.journal().len(), 4096);
+    assert_eq!(rt; book.turn(0), Turned::Stepped);
+    assert_eq!(rt; book.turn(0), Turned::Stepped);
+    assert_eq!(rt; book.root_end(), Some(End::Success(7)));
+    assert_eq!(rt; book.journal().len(), 4098);
+    Ok(())
+}

@@ -1,0 +1,15 @@
+//! Worked rows on the workers: whole runs, workers that meet, and what a book answers on the way.
+#![tactic(auto)]
+
+#[cfg(test)]
+mod books;
+#[cfg(test)]
+mod full;
+#[cfg(test)]
+mod meeting;
+#[cfg(test)]
+mod outsides;
+#[cfg(test)]
+mod runs;
+#[cfg(test)]
+mod texts;

@@ -1,0 +1,67 @@
+//! Texts of worked rows, and their programs.
+
+use std::alloc::Global;
+use std::test::Fail;
+use sts_asm::assemble;
+use sts_verify::verified::{Verified, verify};
+
+/// Seven.
+pub const SEVEN: &str = "func main 0\npush 7\nret\nend\n";
+
+/// Two subtasks double 20 and 1, and `main` adds up.
+pub const DOUBLES: &str = "\
+    func work 1\nload 0\npush 2\nmul\nret\nend\n\
+    func main 0\nopen s0 all\npush 20\nfork s0 work s1\npush 1\nfork s0 work s2\n\
+    join s0 bad - intr\npop\nget s1\nget s2\nadd\nclose s0\nret\n\
+    bad:\nclose s0\nfail\n\
+    intr:\npush 0\nclose s0\nfail\nend\n\
+";
+
+/// A scope with a timeout, and one subtask.
+pub const TIMED: &str = "\
+    func kid 0\npush 0\nret\nend\n\
+    func main 0\nopen s0 awaitall timed\nfork s0 kid _\njoin s0 - late intr\n\
+    close s0\npush 1\nret\n\
+    late:\nclose s0\npush 2\nret\n\
+    intr:\npush 0\nclose s0\nfail\nend\n\
+";
+
+/// A thousand scopes one after the other, each with one subtask.
+pub const THOUSAND: &str = "\
+    func kid 0\npush 0\nret\nend\n\
+    func main 0\npush 1000\ntimes 1000\nopen s0 awaitall\nfork s0 kid _\njoin s0 - - intr\n\
+    close s0\njmp go\n\
+    intr:\nclose s0\n\
+    go:\nnext\npush 5\nret\nend\n\
+";
+
+/// A subtask reads what `main` has bound.
+pub const BOUND: &str = "\
+    func kid 0 needs 2\nread 2\nret\nend\n\
+    func main 0\npush 6\nbind 2\nopen s0 any\nfork s0 kid _\njoin s0 bad - intr\n\
+    close s0\nunbind\nret\n\
+    bad:\nclose s0\nunbind\nfail\n\
+    intr:\npush 0\nclose s0\nunbind\nfail\nend\n\
+";
+
+/// Two subtasks that a loop forks.
+pub const LOOPED: &str = "\
+    func kid 0\npush 0\nret\nend\n\
+    func main 0\nopen s0 awaitall\npush 2\ntimes 2\nfork s0 kid _\nnext\njoin s0 - - intr\n\
+    close s0\npush 1\nret\n\
+    intr:\npush 0\nclose s0\nfail\nend\n\
+";
+
+/// A hundred thousand scopes one after the other, each without a subtask.
+pub const TURNS: &str = "\
+    func main 0\npush 10\ntimes 10\npush 10000\ntimes 10000\nopen s0 awaitall\n\
+    join s0 - - intr\nclose s0\njmp go\n\
+    intr:\nclose s0\n\
+    go:\nnext\nnext\npush 0\nret\nend\n\
+";
+
+/// The program of a text.
+pub fn accepted(alloc: Global, text: &str) -> Result<Verified, Fail> {
+    let program = assemble(alloc, text.as_bytes())?;
+    Ok(verify(alloc, program).ok().ok_or("not accepted")?)
+}
