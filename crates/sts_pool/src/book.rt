@@ -223,6 +223,11 @@ impl<'p> Book<'p> {
         Ok(Report { end, journal })
     }
 
+    /// Is there a task that can step and isn't out?
+    pub(crate) fn has_more(&self) -> bool {
+        self.machine.ready_beside(self.out.as_slice()).is_some()
+    }
+
     /// Does the book take no further outside event?
     pub(crate) fn is_full(&self) -> bool
         ensures { IsTrue result ↔ outside_entries self.now.journal ≡ 4096 }

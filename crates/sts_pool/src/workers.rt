@@ -15,7 +15,7 @@ use sts_machine::slice::Slice;
 use sts_verify::verified::Verified;
 
 /// As many local instructions as a worker does at most with no lock held.
-const AT_ONCE: u32 = 1024;
+const AT_ONCE: u32 = 4096;
 
 /// The bytes of a worker's stack.
 pub(crate) const STACK: usize = 1 << 20;
@@ -81,7 +81,8 @@ impl<'p, O: Outside, B: Runs> Shared<'p, O, B> {
 }
 
 impl<'p, O: Outside, B: Runs> Pool<'p, O, B> {
-    /// A slice to work on, or none where the worker is to end.
+    /// A slice to work on, or none where the worker is to end. Whoever takes one wakes another worker
+    /// where a task is left: so none is left while all others wait.
     fn find<'b, R: Wait>(
         &'b self,
         rt: &R,
@@ -91,13 +92,18 @@ impl<'p, O: Outside, B: Runs> Pool<'p, O, B> {
         for _ in rt.forever() {
             let shared = &mut *guard;
             if shared.stop {
+                self.woken.notify_all();
                 return None;
             }
             shared.ask();
             if let Some(slice) = shared.book.check_out() {
+                if shared.book.has_more() {
+                    self.woken.notify_one();
+                }
                 return Some(slice);
             }
             if shared.book.root_end().is_some() {
+                self.woken.notify_all();
                 return None;
             }
             guard = self.woken.wait(rt, guard);
@@ -109,7 +115,6 @@ impl<'p, O: Outside, B: Runs> Pool<'p, O, B> {
     fn exchange<R: Wait>(&self, rt: &R, slice: Slice<'p>) -> Option<Slice<'p>> {
         let mut guard = self.shared.lock(rt);
         guard.settle(slice);
-        self.woken.notify_all();
         self.find(rt, guard)
     }
 
