@@ -8,11 +8,12 @@ Each case is a command with the answer that its rules give.  For n = 1, 2, .. un
 - the nth write fails: a beginning of the right answer with status 6, or `error file` alone where it was the journal's.
 A run by workers may also say `error threads`, where what was refused was a worker's own.
 And all reads and writes take one byte at a time; or the output is full, closed, or read by nobody: status 6.
-The refusals are those of refuse.c, which `cc` makes a library that is loaded before the program as it was built.
-The last line is `N passed, M failed`, of runs.
+The refusals are those of refuse.c, which a C compiler makes a library that is loaded before the program as it was
+built; where there is none, that is said and nothing is run.  The last line is `N passed, M failed`, of runs.
 """
 import collections
 import os
+import shutil
 import subprocess
 import sys
 import tempfile
@@ -96,12 +97,23 @@ def cases():
         yield Case(name, words, None, None, b"", status)
 
 
+def compiler():
+    """A C compiler, if there is one."""
+    return next((name for name in ("cc", "gcc", "clang") if shutil.which(name)), None)
+
+
 class Refusing:
     """The program behind refuse.c, in a folder with a case's files."""
 
     def __init__(self, program, folder):
         self.program, self.folder, self.library = os.path.realpath(program), folder, os.path.join(folder, "refuse.so")
-        subprocess.run(["cc", "-O1", "-shared", "-fPIC", "-o", self.library, os.path.join(HERE, "refuse.c")], check=True)
+        subprocess.run([compiler(), "-O1", "-shared", "-fPIC", "-o", self.library, os.path.join(HERE, "refuse.c")], check=True)
+
+    def works(self):
+        """Is a request refused where one is to be?"""
+        case = next(cases())
+        self.put(case)
+        return self.run(case, "memory:1")[1]
 
     def put(self, case):
         for name, content in (("text", case.text), ("trace", case.trace)):
@@ -168,9 +180,15 @@ def main():
     if not os.access(program, os.X_OK):
         print(f"memory.py: no program at {program}: ./sts builds it", file=sys.stderr)
         return 2
+    if not compiler():
+        print("memory.py: NOT RUN, NOTHING WAS REFUSED: there is no C compiler (cc, gcc or clang)", file=sys.stderr)
+        return 0
     passed = failed = 0
     with tempfile.TemporaryDirectory() as folder:
         refusing = Refusing(program, folder)
+        if not refusing.works():
+            print("memory.py: NOT RUN, NOTHING WAS REFUSED: refuse.so can't be loaded before the program here", file=sys.stderr)
+            return 0
         for case in cases():
             before = passed + failed
             for right, what, answer in tried(refusing, case):
