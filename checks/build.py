@@ -20,7 +20,7 @@ ROOT = os.path.dirname(os.path.dirname(os.path.realpath(__file__)))
 PROGRAM = "sts"
 BUILT = f"{ROOT}/crates/{PROGRAM}/out/{PROGRAM}"
 LOG = f"{ROOT}/crates/{PROGRAM}/out/build.log"
-PROVED = re.compile(r"^fn .*: proved$", re.M)
+PROVED = re.compile(r"^fn .*: proved(?:, may \w+)*$", re.M)
 HEADING = re.compile(r"^== (\w+)$", re.M)
 
 
