@@ -3,7 +3,7 @@
 
 phases.svg   the phases of a scope, and what moves it from one to another
 run.svg      the run of examples/sum as a journal: a row for each task, a column for each event
-ladder.svg   from a text to the workers, with the theorem on each arrow; what isn't there yet is dashed
+ladder.svg   from a text to the workers, with the theorem on each arrow
 
     docs/pictures/draw.py            writes the files
     docs/pictures/draw.py --check    says whether the files are what it would write (status 1 if not)
@@ -17,8 +17,6 @@ ROOT = os.path.dirname(os.path.dirname(HERE))
 STYLE = """
   .back { fill: #ffffff }
   .box { fill: #eef3fa; stroke: #3a5a85; stroke-width: 1.4 }
-  .soft { fill: #f6f6f2; stroke: #8a8a80; stroke-width: 1 }
-  .open { stroke-dasharray: 5 4 }
   .line { fill: none; stroke: #3a5a85; stroke-width: 1.4 }
   .tip { fill: #3a5a85 }
   .grid { stroke: #d4d8de; stroke-width: 1 }
@@ -30,7 +28,6 @@ STYLE = """
   @media (prefers-color-scheme: dark) {
     .back { fill: #14181d }
     .box { fill: #20303f; stroke: #8fb4e0 }
-    .soft { fill: #24272b; stroke: #8d949c }
     .line { stroke: #8fb4e0 }
     .tip { fill: #8fb4e0 }
     .grid { stroke: #343b44 }
@@ -180,29 +177,27 @@ def run():
 
 # ---- the ladder
 
-LADDER = [  # floor, its crates, the theorem on the arrow to the next one, is it there?
-    ("text", "sts_text, sts_asm", "assembled exactly where the text spells the program; a listing reads back", True),
-    ("program", "sts_code", "accepted exactly where the definitions accept it; four budgets, exact over control paths", True),
-    ("accepted", "sts_verify", "no list of events leads to a fault; steps and what stands stay within the budgets", True),
-    ("plain machine", "sts_plain", "the machine that tests nothing stands where the plain machine stands", True),
-    ("machine", "sts_machine", "the workers' journals are lists of events, and lead to the reported end", False),
-    ("workers", "sts_pool", None, False),
+LADDER = [  # floor, its crates, the theorem on the arrow to the next one
+    ("text", "sts_text, sts_asm", "assembled exactly where the text spells the program; a listing reads back"),
+    ("program", "sts_code", "accepted exactly where the definitions accept it; four budgets, exact over control paths"),
+    ("accepted", "sts_verify", "no list of events leads to a fault; steps and what stands stay within the budgets"),
+    ("plain machine", "sts_plain", "the machine that tests nothing stands where the plain machine stands"),
+    ("machine", "sts_machine", "the workers' journals are lists of events, and lead to the reported end"),
+    ("workers", "sts_pool", None),
 ]
 
 
 def ladder():
     parts, step = [], 96
-    for row, (name, crate, theorem, there) in enumerate(LADDER):
+    for row, (name, crate, theorem) in enumerate(LADDER):
         y = 24 + step * row
-        is_there = row == 0 or LADDER[row - 1][3]
-        parts.append(box(24, y, 190, 50, "box" if is_there else "soft open"))
+        parts.append(box(24, y, 190, 50, "box"))
         parts.append(text(119, y + 22, name, "name") + text(119, y + 40, crate, "small"))
         if theorem:
-            parts.append(arrow(f"M119 {y + 52} L119 {y + step - 3}", "line" if there else "line open"))
-            parts.append(text(140, y + 78, theorem, "" if there else "small", "start"))
-    foot = 24 + step * len(LADDER) - 20
-    parts.append(text(24, foot, "Dashed: not there yet.", "small", "start"))
-    told = " ".join(f"From {name}: {theorem}{'' if there else ' (not there yet)'}." for name, _, theorem, there in LADDER if theorem)
+            parts.append(arrow(f"M119 {y + 52} L119 {y + step - 3}", "line"))
+            parts.append(text(140, y + 78, theorem, "", "start"))
+    foot = 24 + step * (len(LADDER) - 1) + 50
+    told = " ".join(f"From {name}: {theorem}." for name, _, theorem in LADDER if theorem)
     return picture(760, foot + 18, "From a text to the workers", told, parts)
 
 
