@@ -2,15 +2,18 @@
 """Keeps what the documents show and what the tests run the same.
 
     checks/documents.py          says whether the tables of tests have what the documents show now; status 1 if not
-    checks/documents.py write    writes these tables, documents.rt and examples.rt of crates/sts_rows_language/src
+    checks/documents.py write    writes these tables: documents.rt, patterns.rt and examples.rt of crates/sts_rows_language/src
 
-Each text and output of README.md, docs/LANGUAGE.md, docs/VERIFIER.md and examples/README.md becomes a row:
+Each text and output of README.md, docs/LANGUAGE.md, docs/VERIFIER.md, docs/PATTERNS.md and examples/README.md becomes a
+row:
 
 - a block of LANGUAGE.md with a comment `<!-- run: TEXT ? ASKED = STATUS LINES -->` above it, where `@` stands for the
   block, and what is asked is `verify`, `list` or a trace (`0*5` is five steps of task 0, `i0` an interrupt, `x0` an
   expiry); where nothing is said of `verify` it accepts the text; a block that is no example begins with "```text";
 - a line of its tables of faults whose text is written in full;
-- what VERIFIER.md says of each cause that is refused or accepted;
+- what VERIFIER.md and PATTERNS.md say that is refused or accepted;
+- a block of PATTERNS.md, which is accepted, with each trace of the table below it, written short (checks/runs.py has what
+  comes by workers, and what comes of files whose bytes no row can hold);
 - each command of README.md and examples/README.md, with the files that it names.
 
 It also says where a document names a file that isn't there, where it shows a line of a contract that no source has or
@@ -143,8 +146,8 @@ def causes(path):
     for line in read(path).splitlines():
         refused = re.fullmatch(r"- Refused: (.*) with `([^`]*)`", line)
         accepted = re.fullmatch(r"- Accepted: (.*)", line)
-        if line.startswith("### "):
-            heading = line[4:]
+        if line.startswith("#"):
+            heading = line.strip("# ")
         elif refused:
             found.append(row(f"{heading}, refused", spelled(refused[1]), [("verify", f"4 {refused[2]}")]))
         elif accepted:
@@ -172,6 +175,34 @@ def commands(paths):
     return [row(text, read(text), questions) for text, questions in asked.items()]
 
 
+def programs(path):
+    """Returns each block of a document with what the table below it shows: a name, the text, and (asked, printed)."""
+    found, heading, lines = [], "", iter(read(path).splitlines())
+    for line in lines:
+        if line.startswith("#"):
+            heading = line.strip("# ")
+        elif line.startswith("```"):
+            block = "".join(f"{it}\n" for it in itertools.takewhile(lambda it: it != "```", lines))
+            if line == "```":
+                found.append((heading, block, []))
+        elif line.startswith("| Trace |"):
+            table = list(itertools.takewhile(lambda it: it.startswith("|"), lines))[1:]
+            found[-1][2].extend(tuple(cell.strip() for cell in it.strip("|").split("|")[:2]) for it in table)
+    return found
+
+
+def patterns(path):
+    """Returns a row for each program of a document, with the traces of its table."""
+    found = []
+    for heading, text, shown in programs(path):
+        asked = [(trace.strip("`"), printed.replace("`", "").replace("<br>", " / ")) for trace, printed in shown if "`" in trace]
+        if not asked or len(asked) == len(shown):
+            fail(f"{path}: the table of {heading!r} shows no trace, or nothing by workers")
+        answers = [(trace, f"{STATUS[printed.split(' ')[0]]} {printed}") for trace, printed in asked]
+        found.append(row(heading, text, [("verify", "0"), *answers]))
+    return found
+
+
 def text_of(name, rows):
     table = "\n\n".join(rows).replace("\\", "\\\\").replace('"', '\\"')
     return f'const {name}: &str = "\n{table}\n";\n'
@@ -194,19 +225,21 @@ def table_of(what, tables):
 
 
 def files():
-    """Returns the two files of tests by name."""
-    language = "docs/LANGUAGE.md"
+    """Returns the files of tests by name."""
+    language, path = "docs/LANGUAGE.md", "docs/PATTERNS.md"
     tables = {
         "BLOCKS": blocks(language),
         "TEXTS": cells(language, "Text", "Printed") + cells(language, "Example", "Printed"),
         "CAUSES": causes("docs/VERIFIER.md"),
     }
+    idioms = {"PATTERNS": patterns(path) + causes(path) + cells(path, "Text", "Printed")}
     shown = {"COMMANDS": commands(SHOW_COMMANDS)}
-    for name, rows in [*tables.items(), *shown.items()]:
+    for name, rows in [*tables.items(), *idioms.items(), *shown.items()]:
         if len(rows) < 5:
             fail(f"only {len(rows)} rows were found for {name}")
     return {
         "documents.rt": table_of("What the documents show", tables),
+        "patterns.rt": table_of("The patterns", idioms),
         "examples.rt": table_of("The examples", shown),
     }
 

@@ -3,17 +3,35 @@
 
 README.md: `run` of `sum` by 1 to 16 workers prints what `verify` prints and then the end and the steps that stand there,
 and `replay` of the journal prints these two again. examples/README.md: `deadline` with its outside events ends with
-`success 0`.  The last line is `N passed, M failed`, of runs.
+`success 0`. PATTERNS.md: each program comes to an end that is shown, `plain` and `replay` print what is shown of each
+trace, and files from other editors are judged as is shown.  The last line is `N passed, M failed`, of runs.
 """
 import os
+import re
 import subprocess
 import sys
 import tempfile
+
+from documents import programs, read
+from trace import trace
 
 ROOT = os.path.dirname(os.path.dirname(os.path.realpath(__file__)))
 PROGRAM = os.path.join(ROOT, "crates", "sts", "out", "sts")
 SUM, DEADLINE, DUE = (os.path.join(ROOT, "examples", name) for name in ("sum.sts", "deadline.sts", "deadline.outside"))
 END = "success 50\nsteps 24\n"
+WORKERS = ("1", "2", "4", "16")
+PATTERNS = "docs/PATTERNS.md"
+SEVEN, TWO_STEPS, DUE_ONCE = b"func main 0\npush 7\nret\nend\n", b"step 0\nstep 0\n", b"at 1 interrupt 0\n"
+MARK = b"\xef\xbb\xbf"
+# What a table of PATTERNS.md describes in words: the bytes of a program, a trace or none, an outside text or none.
+FILES = {
+    "a program that begins with a byte order mark": (MARK + SEVEN, TWO_STEPS, None),
+    "a program whose lines end in CR and LF": (SEVEN.replace(b"\n", b"\r\n"), TWO_STEPS, None),
+    "a trace whose lines end in CR and LF": (SEVEN, TWO_STEPS.replace(b"\n", b"\r\n"), None),
+    "a trace that begins with a byte order mark": (SEVEN, MARK + TWO_STEPS, None),
+    "a trace whose last line lacks its newline": (SEVEN, TWO_STEPS[:-1], None),
+    "an outside text whose lines end in CR and LF": (SEVEN, None, DUE_ONCE.replace(b"\n", b"\r\n")),
+}
 
 
 def says(program, *words):
@@ -21,11 +39,58 @@ def says(program, *words):
     return done.stdout
 
 
+def kept(folder, name, content):
+    """Returns the path of a file in the folder that has these bytes now."""
+    path = os.path.join(folder, name)
+    with open(path, "wb") as file:
+        file.write(content)
+    return path
+
+
+def by_workers(program, folder, name, file, ends):
+    """Yields of a program for each number of workers whether it comes to one of these ends, and its journal to the same."""
+    journal, budgets = os.path.join(folder, "journal"), says(program, "verify", file)
+    for workers in WORKERS:
+        said = says(program, "run", file, "--workers", workers, "--trace", journal)
+        end = said[len(budgets):].split("\n")[0]
+        yield f"{name} by {workers}", said.startswith(budgets) and end in ends
+        yield f"the journal of {name} by {workers}", budgets + says(program, "replay", file, journal) == said
+
+
+def patterns(program, folder):
+    """Yields what the tables of PATTERNS.md show of its programs."""
+    for number, (name, text, shown) in enumerate(programs(PATTERNS)):
+        file = kept(folder, f"pattern{number}", text.encode())
+        for asked, printed in shown:
+            lines = re.findall(r"`([^`]*)`", printed)
+            if asked.startswith("by workers"):
+                yield from by_workers(program, folder, name, file, lines)
+                continue
+            steps = kept(folder, "trace", trace(asked.strip("`")).encode())
+            for mode in ("plain", "replay"):
+                yield f"{mode} {name}, {asked}", says(program, mode, file, steps) == "".join(f"{it}\n" for it in lines)
+
+
+def files(program, folder):
+    """Yields what PATTERNS.md shows of files from other editors."""
+    table = re.findall(r"^\| (an? [^|`]*) \| (`[^|]*) \|", read(PATTERNS), re.M)
+    yield "the files from other editors are those that are known", [name for name, _ in table] == list(FILES)
+    for name, printed in table:
+        text, steps, outside = FILES.get(name, (b"", b"", None))
+        file = kept(folder, "text", text)
+        words = ("plain", file, kept(folder, "trace", steps or b""))
+        if outside is not None:
+            words = ("run", file, "--workers", "1", "--outside", kept(folder, "outside", outside))
+        yield name, says(program, *words) == "".join(f"{it}\n" for it in re.findall(r"`([^`]*)`", printed))
+
+
 def tried(program, folder):
     """Yields for each run what it is and whether it prints what it should."""
+    yield from patterns(program, folder)
+    yield from files(program, folder)
     journal = os.path.join(folder, "journal")
     budgets, due = says(program, "verify", SUM), says(program, "verify", DEADLINE)
-    for workers in ("1", "2", "4", "16"):
+    for workers in WORKERS:
         yield f"sum by {workers}", says(program, "run", SUM, "--workers", workers, "--trace", journal) == budgets + END
         yield f"the journal of sum by {workers}", says(program, "replay", SUM, journal) == END
         said = says(program, "run", DEADLINE, "--workers", workers, "--outside", DUE, "--trace", journal)

@@ -18,6 +18,8 @@ mod local;
 #[cfg(test)]
 mod operands;
 #[cfg(test)]
+mod patterns;
+#[cfg(test)]
 mod place;
 #[cfg(test)]
 mod row;

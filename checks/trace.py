@@ -1,0 +1,32 @@
+#!/usr/bin/env python3
+"""Prints the trace that is written short.  usage: trace.py WORDS
+
+`0*5` stands for five lines `step 0`, `i0` for `interrupt 0` and `x0` for `expire 0`; blanks stand between them.
+"""
+import re
+import sys
+
+LINES = {"i": "interrupt", "x": "expire"}
+
+
+def lines(word):
+    """Returns the lines that a word stands for, or none where it is no such word."""
+    steps, other = re.fullmatch(r"(\d+)\*(\d+)", word), re.fullmatch(r"([ix])(\d+)", word)
+    if steps:
+        return [f"step {steps[1]}"] * int(steps[2])
+    return [f"{LINES[other[1]]} {other[2]}"] if other else None
+
+
+def trace(words):
+    """Returns the text of a trace that is written short."""
+    found = {word: lines(word) for word in words.split()}
+    wrong = [word for word, it in found.items() if it is None]
+    if wrong:
+        sys.exit(f"checks/trace.py: {wrong[0]!r} is neither like 0*5 nor like i0 or x0")
+    return "".join(f"{line}\n" for word in words.split() for line in found[word])
+
+
+if __name__ == "__main__":
+    if len(sys.argv) < 2:
+        sys.exit(__doc__.split("\n")[0])
+    print(trace(" ".join(sys.argv[1:])), end="")
