@@ -16,8 +16,8 @@ row:
   comes by workers, and what comes of files whose bytes no row can hold);
 - each command of README.md and examples/README.md, with the files that it names.
 
-It also says where a document names a file that isn't there, where it shows a line of a contract that no source has or
-a part of a program that no example has, where an example isn't shown or says that it prints something else, and where a
+It also says where a document names a file that isn't there, where PROOFS.md names a function or a clause that its file
+doesn't have, where a document shows a line of a contract that no source has or a part of a program that no example has, where an example isn't shown or says that it prints something else, and where a
 picture isn't what its script draws.
 """
 import itertools
@@ -267,6 +267,20 @@ def shown_contracts(path):
                 fail(f"{path} shows a contract with the line {line.strip()!r}, which no source has")
 
 
+def named_clauses(path):
+    """Fails where the table of promises names a function, a clause or a definition that its file doesn't have."""
+    table = re.search(r"^\| Promise \|.*?\n\n", read(path), re.M | re.S)[0]
+    for line in table.rstrip().splitlines()[2:]:
+        source = ""
+        for part in line.strip("|").split("|")[1].split(";"):
+            names = re.findall(r"`([^`]+)`", part)
+            paths = [it for it in names if it.endswith((".rt", ".antt"))]
+            source = "".join(read(f"crates/{it}") for it in paths) or source
+            for name in (it.split("::")[-1] for it in names if it not in paths):
+                if not re.search(rf"\bfn {name}\b|\bensures {name} {{|^abbrev pub {name} :|^pub (?:data|record) {name}\b", source, re.M):
+                    fail(f"{path} names {name}, which {' and '.join(paths) or 'the file before it'} doesn't have")
+
+
 def shown_programs(path):
     """Fails where a document shows a part of a program that stands so in no example."""
     texts = [read(f"examples/{it}") for it in os.listdir(f"{ROOT}/examples") if it.endswith(".sts")]
@@ -293,6 +307,7 @@ def pictures():
 def main():
     named_files()
     shown_contracts("docs/PROOFS.md")
+    named_clauses("docs/PROOFS.md")
     shown_programs("README.md")
     examples(SHOW_COMMANDS)
     pictures()
