@@ -103,7 +103,7 @@ def phases():
         arrow("M494 330 C450 350 420 372 392 380"),
         text(476, 366, "close, second step: none lives", "code", "start"),
         arrow("M80 204 C80 330 150 386 260 390"),
-        text(40, 410, "close, where\nnothing was forked", "code", "start"),
+        text(30, 376, "close, where\nnothing was\nforked", "code", "start"),
         text(30, 452, "Beside the phase a scope has two marks. It is cancelled by its joiner, by an expiry or by close; "
              "an expiry counts while it is", "small", "start"),
         text(30, 468, "opened or attempted. No subtask of a closed scope lives.", "small", "start"),
@@ -144,14 +144,14 @@ def run():
         instruction = tasks[task][done[task]]
         waits = task == 0 and instruction.startswith("join") and len(ends) < len(tasks) - 1
         parts.append(box(x + 3, y + 12, wide - 6, 46, "wait" if waits else "box"))
-        parts.append(f'<text transform="translate({x + wide / 2 + 4} {y + 54}) rotate(-90)" class="code">'
+        parts.append(f'<text transform="translate({x + wide / 2 + 4} {y + 35}) rotate(-90)" text-anchor="middle" class="code">'
                      f"{escape(instruction.split()[0])}</text>")
         if waits:
             continue
         if instruction.startswith("fork"):
             born[len(born)] = at
             below = top + tall * (len(born) - 1)
-            parts.append(arrow(f"M{x + wide / 2} {y + 58} L{x + wide / 2} {below + 33} L{x + wide / 2 + 14} {below + 33}"))
+            parts.append(arrow(f"M{x + wide / 2} {y + 58} L{x + wide / 2} {below + 35} L{x + wide / 2 + 16} {below + 35}"))
         done[task] += 1
         if instruction == "ret":
             ends[task] = at
@@ -177,27 +177,27 @@ def run():
 
 # ---- the ladder
 
-LADDER = [  # floor, its crates, the theorem on the arrow to the next one
-    ("text", "sts_text, sts_asm", "assembled exactly where the text spells the program; a listing reads back"),
-    ("program", "sts_code", "accepted exactly where the definitions accept it; four budgets, exact over control paths"),
-    ("accepted", "sts_verify", "no list of events leads to a fault; steps and what stands stay within the budgets"),
-    ("plain machine", "sts_plain", "the machine that tests nothing stands where the plain machine stands"),
-    ("machine", "sts_machine", "the workers' journals are lists of events, and lead to the reported end"),
-    ("workers", "sts_pool", None),
+LADDER = [  # floor, its crates, the theorem on the arrow to the next one, and the contracts that say it
+    ("text", "sts_text, sts_asm", "assembled exactly where the text spells the program; a listing reads back", "assemble, list"),
+    ("program", "sts_code", "accepted exactly where the definitions accept it; four budgets, exact over control paths", "verify"),
+    ("accepted", "sts_verify", "no list of events leads to a fault; steps and what stands stay within the budgets", "every_run"),
+    ("plain machine", "sts_plain", "the machine that tests nothing stands where the plain machine stands", "Plain::apply, Machine::turn"),
+    ("machine", "sts_machine", "the workers' journals are lists of events, and lead to the reported end", "Book::journal, run"),
+    ("workers", "sts_pool", None, None),
 ]
 
 
 def ladder():
     parts, step = [], 96
-    for row, (name, crate, theorem) in enumerate(LADDER):
+    for row, (name, crate, theorem, contracts) in enumerate(LADDER):
         y = 24 + step * row
         parts.append(box(24, y, 190, 50, "box"))
         parts.append(text(119, y + 22, name, "name") + text(119, y + 40, crate, "small"))
         if theorem:
             parts.append(arrow(f"M119 {y + 52} L119 {y + step - 3}", "line"))
-            parts.append(text(140, y + 78, theorem, "", "start"))
+            parts.append(text(140, y + 70, theorem, "", "start") + text(140, y + 86, contracts, "code", "start"))
     foot = 24 + step * (len(LADDER) - 1) + 50
-    told = " ".join(f"From {name}: {theorem}." for name, _, theorem in LADDER if theorem)
+    told = " ".join(f"From {name}: {theorem} ({contracts})." for name, _, theorem, contracts in LADDER if theorem)
     return picture(760, foot + 18, "From a text to the workers", told, parts)
 
 
