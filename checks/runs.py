@@ -3,8 +3,9 @@
 
 README.md: `run` of `sum` by 1 to 16 workers prints what `verify` prints and then the end and the steps that stand there,
 and `replay` of the journal prints these two again. examples/README.md: `deadline` with its outside events ends with
-`success 0`. PATTERNS.md: each program comes to an end that is shown, `plain` and `replay` print what is shown of each
-trace, and files from other editors are judged as is shown.  The last line is `N passed, M failed`, of runs.
+`success 0`. LANGUAGE.md: what its first text prints. PATTERNS.md: each program comes to an end that is shown, `plain`
+and `replay` print what is shown of each trace, and files from other editors are judged as is shown.  The last line is
+`N passed, M failed`, of runs.
 """
 import os
 import re
@@ -84,8 +85,18 @@ def files(program, folder):
         yield name, says(program, *words) == "".join(f"{it}\n" for it in re.findall(r"`([^`]*)`", printed))
 
 
+def first_text(program, folder):
+    """Yields whether the first text of LANGUAGE.md prints what is shown of it."""
+    page = read("docs/LANGUAGE.md")
+    file = kept(folder, "first", re.search(r"^```\n(.*?)^```$", page, re.M | re.S)[1].encode())
+    shown = re.search(r"`./sts run my.sts --workers (\d+)` prints its budgets, `(.*?)` and `(.*?)`", page)
+    said = says(program, "run", file, "--workers", shown[1])
+    yield "the first text", said == f"{says(program, 'verify', file)}{shown[2]}\n{shown[3]}\n"
+
+
 def tried(program, folder):
     """Yields for each run what it is and whether it prints what it should."""
+    yield from first_text(program, folder)
     yield from patterns(program, folder)
     yield from files(program, folder)
     journal = os.path.join(folder, "journal")
