@@ -1,5 +1,5 @@
 #!/usr/bin/env python3
-"""Refuses what the program asks of the system, one request after the other.  usage: memory.py [PROGRAM]
+"""Refuses what the program asks of the system, one request after the other.  usage: memory.py [PROGRAM [CALLS]]
 
 Each case is a command with the answer that its rules give.  For n = 1, 2, .. until nothing is refused any more:
 - the nth request for memory is refused, or that and all later ones: the answer is `error memory` alone with status
@@ -8,10 +8,16 @@ Each case is a command with the answer that its rules give.  For n = 1, 2, .. un
 - the nth write fails: a beginning of the right answer with status 6, or `error file` alone where it was the journal's.
 A run by workers may also say `error threads`, where what was refused was a worker's own.
 And all reads and writes take one byte at a time; or the output is full, closed, or read by nobody: status 6.
+Then the same for memory alone and for single calls, by the program CALLS (sts_refusals), which says what each answers:
+- each of the calls that lead to the one that is tried, and this one, finds no memory in turn; else the answer is right;
+- what `verify` refused for want of memory it gives back, and a machine is as it was before such an event: the same
+  program, or the same event, once more gives the right answer;
+- between `prepare`, or the start of a book, and the end of a whole run there is no request for memory.
 The refusals are those of refuse.c, which a C compiler makes a library that is loaded before the program as it was
 built; where there is none, that is said and nothing is run.  The last line is `N passed, M failed`, of runs.
 """
 import collections
+import itertools
 import os
 import shutil
 import subprocess
@@ -19,7 +25,8 @@ import sys
 import tempfile
 
 HERE = os.path.dirname(os.path.realpath(__file__))
-PROGRAM = os.path.join(os.path.dirname(HERE), "crates", "sts", "out", "sts")
+BUILT = os.path.join(os.path.dirname(HERE), "crates")
+PROGRAM, CALLS = (os.path.join(BUILT, name, "out", name) for name in ("sts", "sts_refusals"))
 NO_MEMORY, NO_FILE, NO_THREADS = (b"error memory\n", 6), (b"error file\n", 6), (b"error threads\n", 6)
 
 Case = collections.namedtuple("Case", "name words text trace answer status")
@@ -78,6 +85,17 @@ VERDICTS = [
 # the budgets of the programs that take the same steps in whichever order their tasks are taken
 BUDGETS = {name: answer for name, _, answer, status in VERDICTS if status == 0}
 LISTED = "func main 0\n  push 7\n  ret\nend\n"
+# of each function its name, and the most steps, tasks, scopes and bindings; and how the root ends with no event from outside
+ROWS = {
+    "two subtasks": ("work 4 1 0 0 / main 21 3 1 0", "success 42"),
+    "a timeout": ("kid 2 1 0 0 / main 9 2 1 0", "success 1"),
+    "a failure": ("leaf 5 1 0 0 / boom 2 1 0 0 / mid 12 2 1 0 / main 22 4 2 0", "failed 8"),
+    "many scopes": ("kid 2 1 0 0 / main 9004 2 1 0", "success 5"),
+    "a binding": ("kid 2 1 0 0 / main 12 2 1 1", "success 6"),
+}
+DUES = "at 0 interrupt 77 / at 3 expire 0"
+UNCHANGED = b"refused, unchanged\n"
+FROM_HERE, TO_HERE = b"from here\n", b"to here\n"
 
 
 def cases():
@@ -95,6 +113,60 @@ def cases():
     yield Case("list", ["list", "text"], LISTED.encode(), None, LISTED.encode(), 0)
     for name, words, status in (("help", ["--help"], 0), ("an unknown command", ["plane", "text"], 2), ("a missing file", ["replay", "text"], 2)):
         yield Case(name, words, None, None, b"", status)
+
+
+def routines(text):
+    """Of each function its head, its instructions, and the place of each label."""
+    for routine in text.split("func ")[1:]:
+        head, *body = [it.strip() for it in routine.split(" / ")]
+        code, places = [], {}
+        for line in itertools.takewhile(lambda it: it != "end", body):
+            if line.endswith(":"):
+                places[line[:-1]] = len(code)
+            else:
+                code.append(line)
+        yield head, code, places
+
+
+def listed(text):
+    """The listing: labels are named after their places."""
+    told = ""
+    for head, code, places in routines(text):
+        told += f"func {head}\n"
+        for place, line in enumerate(code):
+            word, *operands = line.split()
+            told += f"L{place}:\n" if place in places.values() else ""
+            told += " ".join([f"  {word}", *(f"L{places[it]}" if it in places else it for it in operands)]) + "\n"
+        told += "end\n"
+    return told.encode()
+
+
+Call = collections.namedtuple("Call", "name case leads")
+
+
+def calls():
+    """Each call on each row, with what it answers and the calls that lead to it and it itself."""
+    for name, text, trace, answer, _ in RUNS:
+        program, came = lines(text), events(trace)
+        most, alone = ROWS[name]
+        sizes = "".join(f"{head.split()[0]} has {len(code)} instructions\n" for head, code, _ in routines(text)).encode()
+        for leads, said in (
+            ("take", f"bytes {len(program)}\n".encode()),
+            ("take assemble", sizes),
+            ("take assemble list", listed(text)),
+            ("take read_trace", b"events %d\n" % came.count(b"\n")),
+            ("take read_outside", b"dues 2\n"),
+            ("take assemble verify", lines(most)),
+            ("take assemble start", b"running\n"),
+            ("take assemble read_trace start apply", lines(answer)),
+            ("take assemble verify prepare", FROM_HERE + TO_HERE + lines(alone)),
+            ("take assemble verify read_trace replay", lines(answer)),
+            ("take assemble verify run_alone", lines(alone)),
+            ("take assemble verify book", FROM_HERE + TO_HERE + lines(alone)),
+        ):
+            leads = leads.split()
+            given = leads[-1].encode() + b"\n" + program + b"%\n" + came + b"%\n" + lines(DUES)
+            yield Call(f"{leads[-1]}: {name}", Case(f"{leads[-1]}: {name}", [], None, given, said, 0), leads)
 
 
 def compiler():
@@ -121,7 +193,7 @@ class Refusing:
                 file.write(content or b"")
 
     def run(self, case, refuse, out=subprocess.PIPE):
-        """What is printed, the status, and whether something was refused."""
+        """What is printed, the status, and what refuse.c told: nothing where nothing was refused."""
         told, tells = os.pipe()
         with open(os.path.join(self.folder, "trace"), "rb") as file:
             around = {"LD_PRELOAD": self.library, "REFUSE": refuse, "REFUSED": str(tells)}
@@ -129,7 +201,7 @@ class Refusing:
                 [self.program, *case.words], stdin=file, stdout=out, stderr=subprocess.PIPE, cwd=self.folder, env=around, pass_fds=[tells], timeout=120
             )
         os.close(tells)
-        refused = bool(os.read(told, 1))
+        refused = os.read(told, 4096)
         os.close(told)
         return (done.stdout, done.returncode), refused
 
@@ -175,27 +247,76 @@ def tried(refusing, case):
     yield from outputs(refusing, case)
 
 
+def without_memory(call, answer):
+    """Which call found no memory, by what is printed; none where that is no answer to a refusal."""
+    of_last = UNCHANGED if call.leads[-1] in ("verify", "apply") else b""
+    if of_last and answer == (of_last + call.case.answer, 0):
+        return call.leads[-1]
+    for lead in call.leads:
+        before = of_last if lead == call.leads[-1] else b""
+        if answer == (before + f"error memory in {lead}\n".encode(), 6):
+            return lead
+    return None
+
+
+def refused_in_turn(refusing, call, later):
+    """Yields for each n whether the answer is right, and last whether each call that leads there was met, in this order."""
+    right, met = (call.case.answer, call.case.status), []
+    for n in itertools.count(1):
+        answer, refused = refusing.run(call.case, f"memory:{n}{later}")
+        if not refused:
+            break
+        lead = without_memory(call, answer)
+        met += [lead] if lead and [lead] != met[-1:] else []
+        # a call may do without what was refused
+        yield lead is not None or answer == right, f"memory:{n}{later}", answer
+    yield answer == right, f"memory:{n}{later}", answer
+    yield met == call.leads, f"memory:..{later}", met
+
+
+def asks_nothing(refusing, call):
+    """Yields whether no request for memory comes between the two marks, which are two writes."""
+    answer, told = refusing.run(call.case, "count")
+    counts, written = {}, 0
+    for line in told.splitlines():
+        requests, size = map(int, line.split())
+        counts[answer[0][written : written + size]] = requests
+        written += size
+    asked = [counts.get(mark) for mark in (FROM_HERE, TO_HERE)]
+    yield None not in asked and asked[0] == asked[1] > 0, "count", (answer, counts)
+
+
+def tried_call(refusing, call):
+    refusing.put(call.case)
+    for later in ("", "+"):
+        yield from refused_in_turn(refusing, call, later)
+    if FROM_HERE in call.case.answer:
+        yield from asks_nothing(refusing, call)
+
+
 def main():
-    program = sys.argv[1] if len(sys.argv) > 1 else PROGRAM
-    if not os.access(program, os.X_OK):
-        print(f"memory.py: no program at {program}: ./sts builds it", file=sys.stderr)
-        return 2
+    programs = [*sys.argv[1:], *(PROGRAM, CALLS)[len(sys.argv) - 1 :]]
+    for program in programs:
+        if not os.access(program, os.X_OK):
+            print(f"memory.py: no program at {program}: ./sts builds the first, rt run in crates/sts_refusals the other", file=sys.stderr)
+            return 2
     if not compiler():
         print("memory.py: NOT RUN, NOTHING WAS REFUSED: there is no C compiler (cc, gcc or clang)", file=sys.stderr)
         return 0
     passed = failed = 0
     with tempfile.TemporaryDirectory() as folder:
-        refusing = Refusing(program, folder)
+        refusing, of_calls = (Refusing(program, folder) for program in programs)
         if not refusing.works():
             print("memory.py: NOT RUN, NOTHING WAS REFUSED: refuse.so can't be loaded before the program here", file=sys.stderr)
             return 0
-        for case in cases():
+        tries = itertools.chain(((it.name, tried(refusing, it)) for it in cases()), ((it.name, tried_call(of_calls, it)) for it in calls()))
+        for name, answers in tries:
             before = passed + failed
-            for right, what, answer in tried(refusing, case):
+            for right, what, answer in answers:
                 passed, failed = passed + right, failed + (not right)
                 if not right:
-                    print(f"{case.name}, {what}: {answer}", file=sys.stderr)
-            print(f"{case.name}: {passed + failed - before} runs")
+                    print(f"{name}, {what}: {answer}", file=sys.stderr)
+            print(f"{name}: {passed + failed - before} runs")
     print(f"{passed} passed, {failed} failed")
     return 1 if failed else 0
 

@@ -1,0 +1,242 @@
+//! What each call answers on a row.
+
+use crate::failure::{Failure, in_assembling, in_reading, in_taking, within};
+use crate::row::Row;
+use crate::whole;
+use std::alloc::Global;
+use std::io;
+use sts_asm::assemble;
+use sts_cli::taking::take;
+use sts_code::program::{Function, Program};
+use sts_list::list;
+use sts_machine::machine::Machine;
+use sts_machine::runs::{replay, run_alone};
+use sts_model::event::{End, Event};
+use sts_plain::misstep::PlainState;
+use sts_plain::plain::Plain;
+use sts_pool::Book;
+use sts_trace::{read_outside, read_trace};
+use sts_verify::error::VerifyError;
+use sts_verify::verified::{Verified, verify};
+
+fn program(alloc: Global, row: &Row<'_>) -> Result<Program, Failure> {
+    in_assembling(assemble(alloc, row.text))
+}
+
+fn events(alloc: Global, row: &Row<'_>) -> Result<Vec<Event>, Failure> {
+    in_reading("read_trace", read_trace(alloc, row.trace))
+}
+
+fn in_verifying(answer: Result<Verified, VerifyError>) -> Result<Verified, Failure> {
+    match answer {
+        Ok(verified) => Ok(verified),
+        Err(VerifyError::Memory(_)) => Err(Failure::Memory("verify")),
+        Err(_) => Err(Failure::Unfit("the program is refused")),
+    }
+}
+
+fn accepted(alloc: Global, row: &Row<'_>) -> Result<Verified, Failure> {
+    in_verifying(verify(alloc, program(alloc, row)?))
+}
+
+fn tell_end(rt: &HostRuntime, end: Option<End>) -> io::Result<()> {
+    match end {
+        None => println!(rt; "running"),
+        Some(End::Success(value)) => println!(rt; "success {value}"),
+        Some(End::Failed(code)) => println!(rt; "failed {code}"),
+    }
+}
+
+fn tell_state(rt: &HostRuntime, state: PlainState) -> io::Result<()> {
+    match state {
+        PlainState::Running => tell_end(rt, None),
+        PlainState::Ended(end) => tell_end(rt, Some(end)),
+        PlainState::Fault {
+            kind,
+            task,
+            function,
+            pc,
+        } => println!(rt; "fault {kind:?} task {task} in function {function} at {pc}"),
+    }
+}
+
+fn taken(rt: &HostRuntime, alloc: Global, row: &Row<'_>) -> Result<(), Failure> {
+    let mut reader = row.text;
+    let bytes = in_taking(take(alloc, &mut reader, u64::MAX))?;
+    println!(rt; "bytes {}", bytes.len())?;
+    Ok(())
+}
+
+fn assembled(rt: &HostRuntime, alloc: Global, row: &Row<'_>) -> Result<(), Failure> {
+    for function in program(alloc, row)?.functions() {
+        let name = function.name.as_str();
+        println!(rt; "{name} has {} instructions", function.code.len())?;
+    }
+    Ok(())
+}
+
+fn listed(rt: &HostRuntime, alloc: Global, row: &Row<'_>) -> Result<(), Failure> {
+    let program = program(alloc, row)?;
+    let text = within("list", list(alloc, &program))?;
+    print!(rt; "{text}")?;
+    Ok(())
+}
+
+fn traced(rt: &HostRuntime, alloc: Global, row: &Row<'_>) -> Result<(), Failure> {
+    println!(rt; "events {}", events(alloc, row)?.len())?;
+    Ok(())
+}
+
+fn told_outside(rt: &HostRuntime, alloc: Global, row: &Row<'_>) -> Result<(), Failure> {
+    let dues = in_reading("read_outside", read_outside(alloc, row.outside))?;
+    println!(rt; "dues {}", dues.len())?;
+    Ok(())
+}
+
+fn are_same_functions(one: &Function, other: &Function) -> bool {
+    one.name == other.name
+        && one.args == other.args
+        && one.needs == other.needs
+        && one.code == other.code
+}
+
+fn are_same(one: &Program, other: &Program) -> bool {
+    one.profile() == other.profile()
+        && one.functions().len() == other.functions().len()
+        && one
+            .functions()
+            .iter()
+            .zip(other.functions())
+            .all(|(one, other)| are_same_functions(one, other))
+}
+
+/// Says whether a value is as it was before a call that found no memory.
+fn tell_refused(rt: &HostRuntime, is_same: bool) -> io::Result<()> {
+    let after = if is_same { "unchanged" } else { "changed" };
+    println!(rt; "refused, {after}")
+}
+
+/// Verifies a program, and once more where it comes back for want of memory.
+fn verified_again(
+    rt: &HostRuntime,
+    alloc: Global,
+    program: Program,
+    same: &Program,
+) -> Result<Verified, Failure> {
+    match verify(alloc, program) {
+        Err(VerifyError::Memory(back)) => {
+            tell_refused(rt, are_same(&back, same))?;
+            in_verifying(verify(alloc, back))
+        }
+        answer => in_verifying(answer),
+    }
+}
+
+fn verdict(rt: &HostRuntime, alloc: Global, row: &Row<'_>) -> Result<(), Failure> {
+    let same = program(alloc, row)?;
+    let verified = verified_again(rt, alloc, program(alloc, row)?, &same)?;
+    for (i, function) in verified.program().functions().iter().enumerate() {
+        let name = function.name.as_str();
+        let most = verified.budgets(i);
+        println!(rt;
+            "{name} {} {} {} {}",
+            most.steps, most.tasks, most.scopes, most.binds
+        )?;
+    }
+    Ok(())
+}
+
+fn started(rt: &HostRuntime, alloc: Global, row: &Row<'_>) -> Result<(), Failure> {
+    let program = program(alloc, row)?;
+    let plain = within("start", Plain::start(alloc, &program))?;
+    tell_state(rt, plain.state())?;
+    Ok(())
+}
+
+/// Applies an event, and once more where there was no memory.
+fn applied_again(
+    rt: &HostRuntime,
+    alloc: Global,
+    plain: &mut Plain<'_>,
+    event: Event,
+) -> Result<(), Failure> {
+    let (state, steps) = (plain.state(), plain.steps());
+    if plain.apply(alloc, event).is_ok() {
+        return Ok(());
+    }
+    tell_refused(rt, plain.state() == state && plain.steps() == steps)?;
+    within("apply", plain.apply(alloc, event))
+}
+
+fn applied(rt: &HostRuntime, alloc: Global, row: &Row<'_>) -> Result<(), Failure> {
+    let program = program(alloc, row)?;
+    let events = events(alloc, row)?;
+    let mut plain = within("start", Plain::start(alloc, &program))?;
+    for event in &events {
+        applied_again(rt, alloc, &mut plain, *event)?;
+    }
+    tell_state(rt, plain.state())?;
+    println!(rt; "steps {}", plain.steps())?;
+    Ok(())
+}
+
+fn replayed(rt: &HostRuntime, alloc: Global, row: &Row<'_>) -> Result<(), Failure> {
+    let verified = accepted(alloc, row)?;
+    let events = events(alloc, row)?;
+    let machine = within("replay", replay(alloc, &verified, events.as_slice()))?;
+    tell_end(rt, machine.root_end())?;
+    println!(rt; "steps {}", machine.steps())?;
+    Ok(())
+}
+
+fn ran_alone(rt: &HostRuntime, alloc: Global, row: &Row<'_>) -> Result<(), Failure> {
+    let verified = accepted(alloc, row)?;
+    let end = within("run_alone", run_alone(alloc, &verified))?;
+    tell_end(rt, Some(end))?;
+    Ok(())
+}
+
+/// A whole run on a machine that was prepared, between two marks.
+fn prepared(rt: &HostRuntime, alloc: Global, row: &Row<'_>) -> Result<(), Failure> {
+    let verified = accepted(alloc, row)?;
+    let mut machine = within("prepare", Machine::prepare(alloc, &verified))?;
+    println!(rt; "from here")?;
+    whole::of_machine(&mut machine);
+    println!(rt; "to here")?;
+    tell_end(rt, machine.root_end())?;
+    Ok(())
+}
+
+/// A whole run in a book that was started, between two marks.
+fn booked(rt: &HostRuntime, alloc: Global, row: &Row<'_>) -> Result<(), Failure> {
+    let verified = accepted(alloc, row)?;
+    let mut book = within("book", Book::start(alloc, &verified))?;
+    println!(rt; "from here")?;
+    whole::of_book(&mut book);
+    println!(rt; "to here")?;
+    tell_end(rt, book.root_end())?;
+    Ok(())
+}
+
+/// Makes the call of a name on a row, and says what it answers.
+///
+/// # Errors
+///
+/// There was no memory, a write failed, or the row is none for the call.
+pub fn answer(rt: &HostRuntime, alloc: Global, call: &str, row: &Row<'_>) -> Result<(), Failure> {
+    match call {
+        "take" => taken(rt, alloc, row),
+        "assemble" => assembled(rt, alloc, row),
+        "list" => listed(rt, alloc, row),
+        "read_trace" => traced(rt, alloc, row),
+        "read_outside" => told_outside(rt, alloc, row),
+        "verify" => verdict(rt, alloc, row),
+        "start" => started(rt, alloc, row),
+        "apply" => applied(rt, alloc, row),
+        "prepare" => prepared(rt, alloc, row),
+        "replay" => replayed(rt, alloc, row),
+        "run_alone" => ran_alone(rt, alloc, row),
+        "book" => booked(rt, alloc, row),
+        _ => Err(Failure::Unfit("there is no such call")),
+    }
+}

@@ -1,0 +1,75 @@
+//! Why a call has no answer.
+
+use std::alloc::AllocError;
+use std::io;
+use sts_asm::{AsmError, AsmKind};
+use sts_cli::taking::TakeError;
+use sts_trace::TraceError;
+
+/// Why a call has no answer.
+#[derive(Clone, Copy, Debug, PartialEq, Eq)]
+pub enum Failure {
+    /// There was no memory in the call of this name.
+    Memory(&'static str),
+    /// The input is none for the call.
+    Unfit(&'static str),
+    /// A write failed.
+    Write,
+}
+
+impl From<io::Error> for Failure {
+    fn from(_error: io::Error) -> Failure {
+        Failure::Write
+    }
+}
+
+/// What a call answered that fails by want of memory alone.
+///
+/// # Errors
+///
+/// There was none.
+pub fn within<T>(call: &'static str, answer: Result<T, AllocError>) -> Result<T, Failure> {
+    match answer {
+        Ok(value) => Ok(value),
+        Err(_) => Err(Failure::Memory(call)),
+    }
+}
+
+/// What `assemble` answered.
+///
+/// # Errors
+///
+/// There was no memory, or the text has a fault.
+pub fn in_assembling<T>(answer: Result<T, AsmError>) -> Result<T, Failure> {
+    match answer {
+        Ok(value) => Ok(value),
+        Err(error) if error.kind == AsmKind::Memory => Err(Failure::Memory("assemble")),
+        Err(_) => Err(Failure::Unfit("the text has a fault")),
+    }
+}
+
+/// What a reader of events answered.
+///
+/// # Errors
+///
+/// There was no memory, or the events have a fault.
+pub fn in_reading<T>(call: &'static str, answer: Result<T, TraceError>) -> Result<T, Failure> {
+    match answer {
+        Ok(value) => Ok(value),
+        Err(TraceError::Memory) => Err(Failure::Memory(call)),
+        Err(_) => Err(Failure::Unfit("the events have a fault")),
+    }
+}
+
+/// What `take` answered.
+///
+/// # Errors
+///
+/// There was no memory, or a read failed.
+pub fn in_taking<T>(answer: Result<T, TakeError>) -> Result<T, Failure> {
+    match answer {
+        Ok(value) => Ok(value),
+        Err(TakeError::Memory) => Err(Failure::Memory("take")),
+        Err(TakeError::Read) => Err(Failure::Unfit("a read failed")),
+    }
+}

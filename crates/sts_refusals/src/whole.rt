@@ -1,0 +1,50 @@
+//! Whole runs, none of whose calls is passed an allocator.
+
+use sts_machine::machine::Machine;
+use sts_machine::turned::Turned;
+use sts_model::event::Event;
+use sts_pool::Book;
+
+/// As many rounds as no run of a row takes.
+const MOST_ROUNDS: u32 = 100_000;
+
+/// As many local instructions as a slice does at most.
+const LOCALS: u32 = 64;
+
+/// A task that is never born.
+const NOBODY: u32 = u32::MAX;
+
+/// Whichever task can step steps, until none can or a turn is idle.
+pub fn of_machine(machine: &mut Machine<'_>) {
+    for _ in 0..MOST_ROUNDS {
+        let Some(task) = machine.ready() else {
+            return;
+        };
+        if machine.turn(Event::Step(task)) == Turned::Idle {
+            return;
+        }
+    }
+}
+
+/// A task that can step is taken out, does what it can, is given back and steps once; meanwhile an
+/// event comes from outside. None where no task can, or the book doesn't go on.
+fn round(book: &mut Book<'_>) -> Option<Turned> {
+    let mut slice = book.check_out()?;
+    let task = slice.task();
+    slice.run_local(LOCALS);
+    // a book that is full refuses it
+    let _ = book.outside(Event::Interrupt(NOBODY));
+    if book.check_in(slice).is_err() {
+        return None;
+    }
+    Some(book.turn(task))
+}
+
+/// Rounds of one worker, until no task can step or a turn is idle.
+pub fn of_book(book: &mut Book<'_>) {
+    for _ in 0..MOST_ROUNDS {
+        if round(book) != Some(Turned::Stepped) {
+            return;
+        }
+    }
+}
