@@ -1,5 +1,5 @@
 -- Where a text says what: the line of each instruction, and the words of a line (this project's own).
-use Rattle.std.specs.Prelude.{ℕ, ◌-◌, List, [], Option, Some, None, Result, Ok, Err, length, nat_lt, slice_get, if◌then◌else◌}
+use Rattle.std.specs.Prelude.{ℕ, ◌-◌, List, [], Option, Some, None, Result, Err, length, nat_lt, slice_get, if◌then◌else◌}
 use Rattle.std.specs.List.{before_first}
 use Rattle.sts_text.specs.Words.{lines, words}
 use Rattle.sts_asm.specs.declared.fault.AsmKind.TheVariants.{TextTooLong}

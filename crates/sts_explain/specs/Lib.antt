@@ -1,0 +1,3 @@
+pub mod Sentences
+pub mod Lines
+pub mod Output
