@@ -4,3 +4,4 @@
 pub mod explain;
 mod lines;
 mod sentences;
+pub mod ways;
