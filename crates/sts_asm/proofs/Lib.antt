@@ -7,3 +7,4 @@ pub mod NamelessLemmas
 pub mod PlainLemmas
 pub mod TableLemmas
 pub mod TextLemmas
+pub mod SourceLemmas

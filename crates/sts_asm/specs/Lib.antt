@@ -5,4 +5,5 @@ pub mod Operand
 pub mod Line
 pub mod Table
 pub mod Outline
+pub mod Source
 pub mod Text

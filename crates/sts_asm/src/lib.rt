@@ -9,8 +9,11 @@ mod mnemonic;
 mod operand;
 mod outline;
 mod resolving;
+mod source;
 mod text;
 
 pub use fault::{AsmError, AsmKind};
 pub use laws::instructions_are_read_by_the_table;
+pub use outline::{Outline, Sentence};
+pub use source::{outlined, words_at};
 pub use text::assemble;

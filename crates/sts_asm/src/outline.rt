@@ -281,7 +281,7 @@ fn semicolon_in(line: &[u8]) -> Option<usize>
 }
 
 #[tactic(auto, using(sts_text::proofs::WordLemmas::positions))]
-fn uncommented(line: &[u8]) -> &[u8]
+pub(crate) fn uncommented(line: &[u8]) -> &[u8]
     ensures { result.now ≡ before_first is_semicolon line.now }
 {
     match semicolon_in(line) {

@@ -29,7 +29,7 @@ fn line_at<'a>(outline: &mut Outline<'a>, at: u32, line: &'a [u8]) -> Result<(),
 
 /// The functions of the text, while no name is looked up.
 #[tactic(auto, using(crate::proofs::TextLemmas::reads))]
-fn outline_of<'a>(alloc: Global, text: &'a [u8]) -> Result<Outline<'a>, AsmError>
+pub(crate) fn outline_of<'a>(alloc: Global, text: &'a [u8]) -> Result<Outline<'a>, AsmError>
     requires { length text.now ≤ 1048576 }
     ensures { Judges (λ o. o) result (outline_of text.now) }
 {

@@ -1,0 +1,29 @@
+-- Where a text says what: the line of each instruction, and the words of a line (this project's own).
+use Rattle.std.specs.Prelude.{ℕ, ◌-◌, List, [], Option, Some, None, Result, Err, length, nat_lt, slice_get, if◌then◌else◌}
+use Rattle.std.specs.List.{before_first}
+use Rattle.sts_text.specs.Words.{lines, words}
+use Rattle.sts_asm.specs.declared.fault.AsmKind.TheVariants.{TextTooLong}
+use Rattle.sts_asm.specs.declared.fault.AsmError.{AsmError}
+use Rattle.sts_asm.specs.Outline.{Sentence, Draft, Outline, is_semicolon, outline_of}
+
+-- the functions of a text with their lines; of a text that is too long there are none
+abbrev pub outlined : List ℕ → Result Outline AsmError
+outlined text = if nat_lt 1048576 (length text) then Err (record { line = 0; kind = TextTooLong }) else outline_of text
+
+-- the lines of instructions of a function, where there is one
+abbrev pub sentences_of : Option Draft → List Sentence
+sentences_of None = []
+sentences_of (Some d) = d.code
+
+-- the line of the instruction at a place of a function: its number and its words
+abbrev pub sentence_at : Outline → ℕ → ℕ → Option Sentence
+sentence_at o f pc = slice_get (sentences_of (slice_get o.done f)) pc
+
+-- the words of a line, its comment left out
+abbrev pub words_of : Option (List ℕ) → List (List ℕ)
+words_of None = []
+words_of (Some line) = words (before_first is_semicolon line)
+
+-- the words of the line of this number, counted from 1
+abbrev pub words_at : List ℕ → ℕ → List (List ℕ)
+words_at text number = words_of (slice_get (lines text) (number - 1))

@@ -1,0 +1,85 @@
+//! Where a text says what: the line of each instruction, and the words of a line.
+
+ghost use Rattle.std.specs.Prelude.{◌≡◌, slice_get};
+ghost use Rattle.std.specs.Option.{option_copied};
+ghost use Rattle.sts_text.specs.Words.{lines};
+ghost use Rattle.sts_asm.specs.Fault.{Judges};
+ghost use Rattle.sts_asm.specs.Source.{outlined, sentence_at, words_at};
+
+use crate::fault::{AsmError, AsmKind};
+use crate::outline::{Outline, Sentence, uncommented};
+use crate::text::outline_of;
+use std::alloc::Global;
+use sts_text::{Words, cut_at_newline};
+
+/// The functions of a text with the lines of their instructions, while no name is looked up.
+///
+/// # Errors
+///
+/// The first fault that is found without looking up a name, or want of memory.
+pub fn outlined<'a>(alloc: Global, text: &'a [u8]) -> Result<Outline<'a>, AsmError>
+    ensures { Judges (λ o. o) result (outlined text.now) }
+{
+    if text.len() > 1048576 {
+        return Err(AsmError {
+            line: 0,
+            kind: AsmKind::TextTooLong,
+        });
+    }
+    outline_of(alloc, text)
+}
+
+impl<'a> Outline<'a> {
+    /// The line of the instruction at a place of a function.
+    pub fn sentence(&self, function: u32, pc: u32) -> Option<&Sentence<'a>>
+        ensures { option_copied result ≡ sentence_at self.now function pc }
+    {
+        match self.done.get(function as usize) {
+            Some(draft) => draft.code.sentences.get(pc as usize),
+            None => None,
+        }
+    }
+}
+
+impl<'a> Sentence<'a> {
+    /// The number of the line, from 1.
+    pub fn line(&self) -> u32
+        ensures { result ≡ self.now.line }
+    {
+        self.line
+    }
+
+    /// The words of the line, its comment left out.
+    pub fn words(&self) -> Words<'a>
+        ensures { result ≡ self.now.words }
+    {
+        Words::new(self.text)
+    }
+}
+
+/// The line of this number, counted from 0.
+#[tactic(auto, using(crate::proofs::SourceLemmas::line_first, crate::proofs::SourceLemmas::line_later, crate::proofs::SourceLemmas::line_past))]
+fn line_in(text: &[u8], number: u32) -> Option<&[u8]>
+    ensures { option_copied result ≡ slice_get (lines text.now) number }
+{
+    let mut rest = text;
+    let mut left = number;
+    while let Some((line, after)) = cut_at_newline(rest) {
+        if left == 0 {
+            return Some(line);
+        }
+        rest = after;
+        left -= 1;
+    }
+    if left == 0 { Some(rest) } else { None }
+}
+
+/// The words of the line of this number, counted from 1, its comment left out.
+pub fn words_at(text: &[u8], number: u32) -> Words<'_>
+    ensures { result ≡ words_at text.now number }
+{
+    match line_in(text, number.saturating_sub(1)) {
+        Some(line) => Words::new(uncommented(line)),
+        None => Words::new(&[]),
+    }
+}

@@ -1,0 +1,5 @@
+use Rattle.sts_explain.specs.Ways as def
+use Rattle.sts_explain.proofs.ways.first_ways.Given as goal
+
+abbrev pub invariant-loop-pc : goal.invariant-loop-pc
+invariant-loop-pc l = def.AreWays l.program l.function l.table.items

@@ -1,0 +1,4 @@
+pub mod Sentences
+pub mod Lines
+pub mod Output
+pub mod Ways

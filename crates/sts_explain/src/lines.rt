@@ -1,0 +1,133 @@
+//! The lines that explain a refusal or a fault.
+
+ghost use Rattle.std.specs.Prelude.{◌≡◌, ◌++◌, OnOk};
+ghost use Rattle.std.specs.Option.{option_copied};
+ghost use Rattle.sts_list.specs.Spelling.{after_spaces};
+ghost use Rattle.sts_explain.specs.Lines as def;
+
+use crate::sentences::{cause_sentence, kind_sentence};
+use std::alloc::{AllocError, Global};
+use sts_asm::{AsmError, AsmKind, Sentence, words_at};
+use sts_code::code::name_of;
+use sts_code::program::Program;
+use sts_rules::typing::Cause;
+use sts_text::Words;
+
+/// Appends a text.
+pub(crate) fn say(out: &mut Vec<u8>, text: &str) -> Result<(), AllocError>
+    ensures { OnOk result (out.new.items ≡ out.old.items ++ text.now) }
+{
+    out.extend_from_slice(text.as_bytes())
+}
+
+/// Appends each word after a space.
+fn say_words<'a>(out: &mut Vec<u8>, words: Words<'a>) -> Result<(), AllocError>
+    ensures { OnOk result (out.new.items ≡ out.old.items ++ after_spaces words.entry) }
+{
+    let mut left = words;
+    while let Some(word) = left.word() {
+        out.push(b' ')?;
+        out.extend_from_slice(word)?;
+    }
+    Ok(())
+}
+
+fn say_line<'a>(
+    alloc: Global,
+    out: &mut Vec<u8>,
+    line: u32,
+    words: Words<'a>,
+) -> Result<(), AllocError>
+    ensures { OnOk result (out.new.items ≡ out.old.items ++ def.line_words line words.entry) }
+{
+    let number = format!(in alloc; ", line {line}:")?;
+    say(out, number.as_str())?;
+    say_words(out, words)
+}
+
+fn say_place(
+    alloc: Global,
+    out: &mut Vec<u8>,
+    sentence: Option<&Sentence<'_>>,
+) -> Result<(), AllocError>
+    ensures { OnOk result (out.new.items
+        ≡ out.old.items ++ def.place_words (option_copied sentence.entry)) }
+{
+    match sentence {
+        None => say(out, ", at its end"),
+        Some(sentence) => say_line(alloc, out, sentence.line(), sentence.words()),
+    }
+}
+
+/// The lines of a refusal: where it is, and what is missing.
+///
+/// # Errors
+///
+/// Memory was refused; a part of them may then stand in `out`.
+pub(crate) fn refused_lines(
+    alloc: Global,
+    out: &mut Vec<u8>,
+    program: &Program,
+    sentence: Option<&Sentence<'_>>,
+    function: u32,
+    cause: Cause,
+) -> Result<(), AllocError>
+    ensures { OnOk result (out.new.items ≡ out.old.items
+        ++ def.refused_lines program.now (option_copied sentence.entry) function cause) }
+{
+    let number = cause.number();
+    let name = name_of(program, function);
+    let head = format!(in alloc; "refused V{number} in {name}")?;
+    say(out, head.as_str())?;
+    say_place(alloc, out, sentence)?;
+    say(out, "\n")?;
+    say(out, cause_sentence(cause))?;
+    say(out, "\n")
+}
+
+/// The words of the line of a fault; not those of a line with a byte that isn't allowed.
+fn fault_words(kind: AsmKind, text: &[u8], line: u32) -> Words<'_>
+    ensures { result ≡ def.fault_words kind text.now line }
+{
+    match kind {
+        AsmKind::NotAscii => Words::new(&[]),
+        _ => words_at(text, line),
+    }
+}
+
+fn say_fault_place(
+    alloc: Global,
+    out: &mut Vec<u8>,
+    error: AsmError,
+    text: &[u8],
+) -> Result<(), AllocError>
+    ensures { OnOk result (out.new.items ≡ out.old.items ++ def.fault_place error text.now) }
+{
+    if error.line == 0 {
+        return Ok(());
+    }
+    let words = fault_words(error.kind, text, error.line);
+    say_line(alloc, out, error.line, words)
+}
+
+/// The lines of a fault of a text: where it is, and what is wrong.
+///
+/// # Errors
+///
+/// Memory was refused; a part of them may then stand in `out`.
+pub(crate) fn fault_lines(
+    alloc: Global,
+    out: &mut Vec<u8>,
+    error: AsmError,
+    text: &[u8],
+) -> Result<(), AllocError>
+    ensures { OnOk result (out.new.items ≡ out.old.items ++ def.fault_lines error text.now) }
+{
+    let number = error.kind.number();
+    let head = format!(in alloc; "error A{number}")?;
+    say(out, head.as_str())?;
+    say_fault_place(alloc, out, error, text)?;
+    say(out, "\n")?;
+    say(out, kind_sentence(error.kind))?;
+    say(out, "\n")
+}

@@ -1,0 +1,99 @@
+//! What each cause and each fault says, in a sentence: the one table of them.
+
+ghost use Rattle.std.specs.Prelude.{◌≡◌};
+ghost use Rattle.sts_explain.specs.Sentences as def;
+
+use sts_asm::AsmKind;
+use sts_code::checking::CodeCause;
+use sts_rules::typing::Cause;
+
+/// Why a program is refused, V1 to V20.
+pub(crate) fn cause_sentence(cause: Cause) -> &'static str
+    ensures { result.now ≡ def.cause_sentence cause }
+{
+    match cause {
+        Cause::StackUnder => "it pops more operands than there are here",
+        Cause::StackOver => "more than 32 operands would be on the stack afterwards",
+        Cause::FallsOff => {
+            "it leads to the end of the function: a ret, a fail or a jmp is missing"
+        }
+        Cause::BackJump => {
+            "it names an instruction that isn't a later one: only times and next go back"
+        }
+        Cause::LoopMismatch => {
+            "a times without its next, a next without its times, or a way into a loop or out of it"
+        }
+        Cause::LoopDepth => "8 loops are open here, and it would open a ninth",
+        Cause::StatesDiffer => "two ways meet here, and what is known of the task differs",
+        Cause::DeadCode => "no way leads here",
+        Cause::SlotKind => {
+            "a slot that it names doesn't hold what it is about: a scope, or a subtask"
+        }
+        Cause::SlotBusy => {
+            "the slot that it would fill isn't empty: a forget or a close is missing"
+        }
+        Cause::WrongThread => {
+            "the scope is the one that this function is a subtask of: only its owner may do this"
+        }
+        Cause::IllegalState => {
+            "the scope or subtask isn't known to be in the state for it: see its join or case"
+        }
+        Cause::Structure => {
+            "what was opened last is ended first, and all that is open before a ret or fail"
+        }
+        Cause::Nesting => "16 scopes and bindings are open here, and it would open one more",
+        Cause::Unbound => "a key that is neither bound here nor named in the function's needs",
+        Cause::JoinEdges => {
+            "failed has a label just under all, any and awaitok, and timeout just where timed"
+        }
+        Cause::TooManySteps => "some path takes more than 1000000 steps",
+        Cause::TooManyTasks => "at some point of a path more than 65536 tasks stand",
+        Cause::TooManyScopes => "at some point of a path more than 65536 scopes are open",
+        Cause::TooManyBinds => "at some point of a path more than 65536 bindings are open",
+    }
+}
+
+/// Why functions are no program, C1 to C7.
+pub(crate) fn code_sentence(code: CodeCause) -> &'static str
+    ensures { result.now ≡ def.code_sentence code }
+{
+    match code {
+        CodeCause::TooManyFunctions => "there are more than 64 functions",
+        CodeCause::TooLong => "the function has more than 4096 instructions",
+        CodeCause::BadTarget => "a label that stands behind the last instruction of its function",
+        CodeCause::LaterFunction => "it forks a function that doesn't stand before this one",
+        CodeCause::NoMain => {
+            "the last function isn't main with no arguments and no needs, or there is none"
+        }
+        CodeCause::BadRange => {
+            "a number out of its range, more than 8 arguments, or no instruction"
+        }
+        CodeCause::DuplicateName => "an earlier function has the same name",
+    }
+}
+
+/// What is wrong with a text, A1 to A10.
+pub(crate) fn kind_sentence(kind: AsmKind) -> &'static str
+    ensures { result.now ≡ def.kind_sentence kind }
+{
+    match kind {
+        AsmKind::NotAscii => {
+            "a byte that isn't allowed: tabs, returns and the bytes 32 to 126 are"
+        }
+        AsmKind::UnknownWord => {
+            "its first word is none, or may not stand here: inside a function, outside, or line 1"
+        }
+        AsmKind::BadNumber => "a word that should be a number of its range isn't one",
+        AsmKind::BadOperands => {
+            "an operand is missing, of another kind, left over or badly spelled"
+        }
+        AsmKind::UnknownLabel => {
+            "a label that isn't in this function, or a function that isn't in this text"
+        }
+        AsmKind::DuplicateLabel => "this function has that label already",
+        AsmKind::Unclosed => "the function before isn't ended: an end is missing",
+        AsmKind::TextTooLong => "the text has more than 1048576 bytes",
+        AsmKind::Memory => "memory was refused",
+        AsmKind::Code(error) => code_sentence(error.cause),
+    }
+}
