@@ -26,3 +26,5 @@ pub const MAX_STEPS: u32 = 1_000_000;
 pub const MAX_STANDING: u32 = 65_536;
 /// Tasks and scopes, of each so many, that are born in a run.
 pub const MAX_BIRTHS: usize = 1_000_000;
+/// Events of a run that come from outside.
+pub const MAX_OUTSIDE: u32 = 4096;

@@ -1,6 +1,7 @@
 //! Frames at the beginning of a function.
 
-ghost use Rattle.std.specs.Prelude.{◌≡◌, ◌≤◌, length, [], reverse, take};
+ghost use Rattle.std.specs.Prelude.{◌≡◌, ◌≤◌, ◌+◌, length, [], reverse, take};
+ghost use Rattle.sts_code.specs.declared.limits.TheConstants.{LAST_SLOT};
 ghost use Rattle.sts_model.specs.World as def;
 ghost use Rattle.sts_model.specs.declared.record.Slot.TheVariants.{Empty};
 
@@ -16,7 +17,7 @@ pub fn root_frame(function: u32) -> Frame
 
 /// The frame at the beginning of a function, with the topmost operands as its arguments.
 pub fn entry_frame(function: u32, args: u8, forker: &Frame, slot: Slot) -> Frame
-    requires few { args ≤ 16 }
+    requires few { args ≤ LAST_SLOT + 1 }
     requires enough { args ≤ length forker.now.operands }
     ensures { result ≡ def.entry_frame function (reverse (take args forker.now.operands)) slot }
 {
@@ -42,7 +43,7 @@ fn at_beginning(function: u32, locals: [i64; 16], slot: Slot) -> Frame
 
 /// The arguments, and zeros after them.
 fn entry_locals(args: usize, forker: &Frame) -> [i64; 16]
-    requires few { args ≤ 16 }
+    requires few { args ≤ LAST_SLOT + 1 }
     requires enough { args ≤ length forker.now.operands }
     ensures { result ≡ def.entry_locals (reverse (take args forker.now.operands)) }
 {

@@ -1,6 +1,7 @@
 //! What a program says at a frame.
 
 ghost use Rattle.std.specs.Prelude.{◌≡◌, ◌<◌, length, ◌≤◌, IfSome};
+ghost use Rattle.sts_code.specs.declared.limits.TheConstants.{MAX_INSTRUCTIONS};
 ghost use Rattle.sts_model.specs.World as def;
 
 use sts_code::code::code_of;
@@ -11,7 +12,7 @@ use sts_model::record::Frame;
 /// The instructions of the frame's function.
 pub fn code<'a>(program: &'a Program, frame: &Frame) -> &'a [Instr]
     ensures value { result.now ≡ def.code program.now frame.now }
-    ensures short { length result.now ≤ 4096 }
+    ensures short { length result.now ≤ MAX_INSTRUCTIONS }
 {
     code_of(program, frame.function as usize)
 }
@@ -20,7 +21,7 @@ pub fn code<'a>(program: &'a Program, frame: &Frame) -> &'a [Instr]
 pub fn instr_at(program: &Program, frame: &Frame) -> Option<Instr>
     ensures value { result ≡ def.instr_at program.now frame.now }
     ensures within { IfSome result (λ _. frame.now.pc < length (def.code program.now frame.now)) }
-    ensures short { length (def.code program.now frame.now) ≤ 4096 }
+    ensures short { length (def.code program.now frame.now) ≤ MAX_INSTRUCTIONS }
 {
     code(program, frame).get(frame.pc as usize).copied()
 }

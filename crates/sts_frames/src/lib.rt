@@ -1,9 +1,9 @@
 //! One task's frame: what the machine that tests everything and the machine that tests nothing both
 //! read of it and make of it.
 //!
-//! The records and their stacks, and what local instructions do, are in `sts_model`. Here is what
-//! begins a frame, what its program says at it, its slots, which instructions are local, and the
-//! frame's part of the others.
+//! The records and their stacks are in `sts_model`. Here is what begins a frame, what its program
+//! says at it, its slots, which instructions are local and what they do, and the frame's part of the
+//! others.
 #![tactic(auto)]
 
 pub mod beginning;

@@ -4,6 +4,7 @@ ghost use Rattle.std.specs.Prelude.{◌≡◌, slice_set};
 ghost use Rattle.sts_model.specs.Effect as effect;
 ghost use Rattle.sts_model.specs.Misuse as misuse;
 
+use sts_code::limits::LAST_SLOT;
 use sts_model::record::{Frame, Slot};
 
 /// What a slot holds; nothing above the last.
@@ -35,8 +36,7 @@ pub fn named(frame: &Frame, x: u8) -> u32
 pub fn set_slot(slots: &mut [Slot; 16], x: u8, slot: Slot)
     ensures { slots.new ≡ slice_set slots.old x slot }
 {
-    let x = x as usize;
-    if x < 16 {
-        slots[x] = slot;
+    if x <= LAST_SLOT {
+        slots[x as usize] = slot;
     }
 }

@@ -1,6 +1,7 @@
 //! What an instruction that is not local makes of its task's frame. The task goes on.
 
 ghost use Rattle.std.specs.Prelude.{◌≡◌, ◌<◌, ◌+◌, ◌^◌, length, [], ◌∷◌, drop, slice_set};
+ghost use Rattle.sts_code.specs.declared.limits.TheConstants.{MAX_ENTRIES};
 ghost use Rattle.sts_model.specs.Effect.{forked};
 ghost use Rattle.sts_model.specs.Local as def;
 ghost use Rattle.sts_model.specs.declared.record.Entry.TheVariants as entry;
@@ -21,7 +22,7 @@ pub fn steps(frame: &mut Frame, n: usize)
 /// Enters a scope that the slot owns from now on.
 pub fn enter_scope(frame: &mut Frame, slot: u8, s: u32)
     requires more { frame.old.pc + 1 < 2 ^ 32 }
-    requires room { length frame.old.entries < 16 }
+    requires room { length frame.old.entries < MAX_ENTRIES }
     ensures { frame.new ≡ record (def.steps frame.old 0 []) {
       entries = entry.Scope s ∷ frame.old.entries;
       slots = slice_set frame.old.slots slot (Own s);
@@ -80,7 +81,7 @@ pub fn forget(frame: &mut Frame, slot: u8)
 /// Pops the top operand, which a key is bound to from now on.
 pub fn enter_binding(frame: &mut Frame, key: u8)
     requires more { frame.old.pc + 1 < 2 ^ 32 }
-    requires room { length frame.old.entries < 16 }
+    requires room { length frame.old.entries < MAX_ENTRIES }
     ensures { frame.new ≡ record (def.steps frame.old 1 []) {
       entries = entry.Binding key (def.operand frame.old 0) ∷ frame.old.entries;
     } }

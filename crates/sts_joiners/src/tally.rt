@@ -1,6 +1,7 @@
 //! What is kept of the ends of a scope's subtasks.
 
 ghost use Rattle.std.specs.Prelude.{◌≡◌, ◌<◌, [], ◌∷◌, ◌++◌, List, count_by, option_map};
+ghost use Rattle.sts_code.specs.declared.limits.TheConstants.{MAX_STANDING};
 ghost use Rattle.sts_model.specs.declared.event.End.{End as AnyEnd};
 ghost use Rattle.sts_model.specs.declared.event.End.TheVariants.{Success, Failed};
 ghost use Rattle.sts_model.specs.Joining as joining;
@@ -65,7 +66,7 @@ impl Tally {
 
     /// Tells of an end, and answers whether the joiner now asks to cancel the scope.
     pub fn on_complete(&mut self, end: End) -> bool
-        requires { ends_told self.old < 65536 }
+        requires { ends_told self.old < MAX_STANDING }
         ensures kept { self.new ≡ with_end self.old end }
         ensures asks { result ≡ cancels_told self.new.joiner self.new.told }
         ensures stands { (ends : List AnyEnd) → StandsFor self.old ends →
@@ -78,7 +79,7 @@ impl Tally {
     }
 
     fn tell(&mut self, end: End)
-        requires { ends_told self.old < 65536 }
+        requires { ends_told self.old < MAX_STANDING }
         ensures { self.new ≡ with_end self.old end }
     {
         match end {
@@ -88,7 +89,7 @@ impl Tally {
     }
 
     fn add_success(&mut self, value: i64)
-        requires { ends_told self.old < 65536 }
+        requires { ends_told self.old < MAX_STANDING }
         ensures { self.new ≡ with_end self.old (Success value) }
     {
         *self = Tally {
@@ -101,7 +102,7 @@ impl Tally {
     }
 
     fn add_failure(&mut self, code: i64)
-        requires { ends_told self.old < 65536 }
+        requires { ends_told self.old < MAX_STANDING }
         ensures { self.new ≡ with_end self.old (Failed code) }
     {
         *self = Tally {

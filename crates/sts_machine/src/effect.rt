@@ -1,6 +1,7 @@
 //! What an instruction does to a store, but for where its task stands afterwards.
 
 ghost use Rattle.std.specs.Prelude.{◌≡◌, ◌<◌, ◌≤◌, ◌+◌, ◌^◌, length, true, false};
+ghost use Rattle.sts_code.specs.declared.limits.TheConstants.{MAX_INSTRUCTIONS};
 ghost use Rattle.sts_machine.specs.Changing.{Changes, is_quiet, may_wait};
 ghost use Rattle.sts_machine.specs.Room.{HasRoomLeft};
 ghost use Rattle.sts_model.specs.World as world;
@@ -22,7 +23,7 @@ pub(crate) fn effect(store: &mut Store, program: &Program, code: &[Instr], t: u3
     requires lives { lives_in (live_of store.old) t ≡ true }
     requires own_code { code.now ≡ world.code program.now (frame_of store.old t) }
     requires inside { (frame_of store.old t).pc < length code.now }
-    requires short { length code.now ≤ 4096 }
+    requires short { length code.now ≤ MAX_INSTRUCTIONS }
     requires fine { IsLiveFine program.now (live_of store.old) t (frame_of store.old t) instr }
     requires room { HasRoomLeft (unseen_of store.old) (frame_of store.old t) instr }
     requires order { InOrder (live_of store.old) }
@@ -70,7 +71,7 @@ fn quiet(store: &mut Store, program: &Program, code: &[Instr], t: u32, instr: In
     requires lives { lives_in (live_of store.old) t ≡ true }
     requires own_code { code.now ≡ world.code program.now (frame_of store.old t) }
     requires inside { (frame_of store.old t).pc < length code.now }
-    requires short { length code.now ≤ 4096 }
+    requires short { length code.now ≤ MAX_INSTRUCTIONS }
     requires fine { IsLiveFine program.now (live_of store.old) t (frame_of store.old t) instr }
     requires order { InOrder (live_of store.old) }
     requires is_quiet { is_quiet instr ≡ true }

@@ -10,8 +10,7 @@ use crate::copying::copy_frame;
 use std::marker::Model;
 use sts_code::code::code_of;
 use sts_code::instr::Instr;
-use sts_frames::local::is_local;
-use sts_model::frame::local;
+use sts_frames::local::{is_local, local};
 use sts_model::record::Frame;
 use sts_verify::verified::Verified;
 

@@ -7,7 +7,7 @@ ghost use Rattle.sts_model.specs.World as def;
 
 use sts_code::facts::{filled_slot, owners_slot, pops, pushes, subtask_slot};
 use sts_code::instr::Instr;
-use sts_code::limits::MAX_INSTRUCTIONS;
+use sts_code::limits::{MAX_INSTRUCTIONS, MAX_OPERANDS};
 use sts_code::loops::match_of;
 use sts_code::program::Program;
 use sts_frames::code::code;
@@ -29,7 +29,7 @@ pub fn overflows(program: &Program, frame: &Frame, instr: Instr) -> bool
         .operands
         .len()
         .saturating_sub(pops(program, instr) as usize);
-    left + pushes(instr) as usize > 32
+    left + pushes(instr) as usize > usize::from(MAX_OPERANDS)
 }
 
 /// Is the innermost open loop the one whose match is at `pc`?

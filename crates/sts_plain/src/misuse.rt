@@ -10,6 +10,7 @@ use crate::frame_tests::{
 };
 use sts_code::facts::can_fail;
 use sts_code::instr::{Instr, Joiner};
+use sts_code::limits::{MAX_BIRTHS, MAX_ENTRIES, MAX_OPERANDS, MAX_STANDING};
 use sts_code::profile::Profile;
 use sts_code::program::Program;
 use sts_frames::code::instr_at;
@@ -30,7 +31,8 @@ fn joins_wrongly(
     ensures { result ≡ misuse.joins_wrongly frame.now failed timeout (def.scope_at records.now s) }
 {
     let joiner = records.joiner(s);
-    let full = frame.operands.len() >= 32 && !matches!(joiner, Joiner::AwaitAll);
+    let full = frame.operands.len() >= usize::from(MAX_OPERANDS)
+        && !matches!(joiner, Joiner::AwaitAll);
     full || failed.is_some() != can_fail(joiner) || timeout.is_some() != records.is_timed(s)
 }
 
@@ -55,7 +57,7 @@ fn misjoins(records: &Records, frame: &Frame, instr: Instr) -> bool
 fn is_crowded(standing: usize, born: usize) -> bool
     ensures { result ≡ misuse.is_crowded standing born }
 {
-    standing >= 65536 || born >= 1000000
+    standing >= MAX_STANDING as usize || born >= MAX_BIRTHS
 }
 
 fn has_no_room(world: &World, frame: &Frame, instr: Instr) -> bool
@@ -63,10 +65,10 @@ fn has_no_room(world: &World, frame: &Frame, instr: Instr) -> bool
 {
     match instr {
         Instr::Open { .. } => {
-            frame.entries.len() >= 16
+            frame.entries.len() >= MAX_ENTRIES
                 || is_crowded(world.standing_scopes(), world.records().scopes_born())
         }
-        Instr::Bind(_) => frame.entries.len() >= 16,
+        Instr::Bind(_) => frame.entries.len() >= MAX_ENTRIES,
         Instr::Fork { .. } => is_crowded(world.standing_tasks(), world.records().tasks_born()),
         _ => false,
     }

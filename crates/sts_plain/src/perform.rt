@@ -1,6 +1,7 @@
 //! One instruction of one task.
 
 ghost use Rattle.std.specs.Prelude.{◌≡◌, ◌<◌, ◌+◌, ◌-◌, ◌^◌, length, [], ◌∷◌, OnOk, OnErr, true, false, Some, None};
+ghost use Rattle.sts_code.specs.declared.limits.TheConstants.{MAX_OPERANDS};
 ghost use Rattle.sts_model.specs.Effect as effect;
 ghost use Rattle.sts_model.specs.Living as living;
 ghost use Rattle.sts_model.specs.Local as frames;
@@ -43,7 +44,7 @@ fn push_value(world: &mut World, t: u32, n: usize, value: i64)
     requires born { t < length world.old.tasks }
     requires lives { living.lives (def.task_at world.old t) ≡ true }
     requires more { (def.task_at world.old t).frame.pc + 1 < 2 ^ 32 }
-    requires room { length (def.task_at world.old t).frame.operands - n < 32 }
+    requires room { length (def.task_at world.old t).frame.operands - n < MAX_OPERANDS }
     ensures { world.new ≡ def.with_frame world.old t
         (frames.steps (def.task_at world.old t).frame n (value ∷ [])) }
 {

@@ -2,6 +2,7 @@
 use Rattle.std.specs.Prelude.{◌≡◌, ℕ, ◌+◌, ◌≤◌, List, [], length, count_by, Bool, true, not, ◌&&◌, ◌==◌, eqb}
 use Rattle.std.specs.List.{list_any, IsDistinct}
 use Rattle.sts_code.specs.Program.{Program}
+use Rattle.sts_code.specs.declared.limits.TheConstants.{MAX_OUTSIDE}
 use Rattle.sts_code.specs.declared.profile.Profile.TheVariants.{One}
 use Rattle.sts_model.specs.declared.event.Event.{Event}
 use Rattle.sts_model.specs.Run.{is_step}
@@ -52,7 +53,7 @@ outside_entries events = count_by (λ e. not (is_step e)) events
 pub record IsBook (b : BookSeen) : Type 0 where
   pub stands : Stands b.machine b.journal
   pub counted : length b.journal ≡ b.machine.steps + outside_entries b.journal
-  pub most : outside_entries b.journal ≤ 4096
+  pub most : outside_entries b.journal ≤ MAX_OUTSIDE
   pub apart : IsDistinct eqb b.out
   pub living : (t : ℕ) → is_out b t ≡ true → lives_in b.machine.live t ≡ true
 
@@ -61,5 +62,5 @@ pub record HasBookRoom (p : Program) (journal out : ℕ) : Type 0 where
   pub main : MainBudget p
   pub stay : StandsStay p
   pub within : ViewsAreWithin p
-  pub journal_room : main.budget.steps + 4096 ≤ journal
+  pub journal_room : main.budget.steps + MAX_OUTSIDE ≤ journal
   pub out_room : main.budget.tasks ≤ out

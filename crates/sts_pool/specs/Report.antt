@@ -1,6 +1,7 @@
 -- What is reported of a run (this project's own).
 use Rattle.std.specs.Prelude.{◌≡◌, ◌+◌, ◌≤◌, List, length, count_by, Some}
 use Rattle.sts_code.specs.Program.{Program}
+use Rattle.sts_code.specs.declared.limits.TheConstants.{MAX_OUTSIDE}
 use Rattle.sts_rules.specs.declared.budget.Budgets.{Budgets}
 use Rattle.sts_rules.specs.Refusal.{IsBudgetOf}
 use Rattle.sts_model.specs.declared.event.End.{End}
@@ -9,10 +10,10 @@ use Rattle.sts_model.specs.World.{World, Running, task_at}
 use Rattle.sts_model.specs.Run.{after, is_step, taken}
 use Rattle.sts_laws_accepted.specs.Accepted.{main_of}
 
--- no more steps are taken than the budget of `main`, and no more than 4,096 entries are beside them
+-- no more steps are taken than the budget of `main`, and no more entries are beside them than a run takes from outside
 pub record IsBounded (p : Program) (journal : List Event) (budget : Budgets) : Type 0 where
   pub steps : taken p journal ≤ budget.steps
-  pub entries : length journal ≤ budget.steps + 4096
+  pub entries : length journal ≤ budget.steps + MAX_OUTSIDE
 
 -- the journal leads to no fault and to this end of the root, within the budget that is printed, and
 -- each step in it counted

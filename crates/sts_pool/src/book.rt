@@ -18,15 +18,13 @@ ghost use Rattle.sts_seen.specs.Reading.{alive_at};
 use crate::report::{PoolError, Report};
 use std::alloc::{AllocError, Global};
 use std::marker::Model;
+use sts_code::limits::MAX_OUTSIDE;
 use sts_laws_accepted::{every_run, stands_stay, views_are_within};
 use sts_machine::machine::Machine;
 use sts_machine::slice::Slice;
 use sts_machine::turned::Turned;
 use sts_model::event::{End, Event};
 use sts_verify::verified::Verified;
-
-/// As many outside events as a book takes.
-pub(crate) const MOST_OUTSIDE: u32 = 4096;
 
 /// A machine, the journal of its events, and the tasks whose frames are out.
 #[derive(Drop)]
@@ -76,7 +74,7 @@ impl<'p> Book<'p> {
         views_are_within(verified);
         let budget = every_run(verified);
         let machine = Machine::prepare(alloc, verified)?;
-        let entries = budget.steps as usize + MOST_OUTSIDE as usize;
+        let entries = budget.steps as usize + MAX_OUTSIDE as usize;
         let journal = Vec::with_capacity(alloc, entries)?;
         let out = Vec::with_capacity(alloc, budget.tasks as usize)?;
         Ok(Book {
@@ -139,7 +137,7 @@ impl<'p> Book<'p> {
     /// The journal has 4,096 of them: nothing changed.
     pub fn outside(&mut self, event: Event) -> Result<Turned, OutsideFull>
         requires { IsOutside event }
-        ensures full { IsErr result ↔ (outside_entries self.old.journal ≡ 4096) }
+        ensures full { IsErr result ↔ (outside_entries self.old.journal ≡ MAX_OUTSIDE) }
         ensures stays { OnErr result (self.new ≡ self.old) }
         ensures turned { IfOk result (λ t. t
             ≡ turned (counts self.old.program (after self.old.program self.old.journal) event)) }
@@ -230,9 +228,9 @@ impl<'p> Book<'p> {
 
     /// Does the book take no further outside event?
     pub(crate) fn is_full(&self) -> bool
-        ensures { IsTrue result ↔ outside_entries self.now.journal ≡ 4096 }
+        ensures { IsTrue result ↔ outside_entries self.now.journal ≡ MAX_OUTSIDE }
     {
-        self.outside >= MOST_OUTSIDE
+        self.outside >= MAX_OUTSIDE
     }
 }
 

@@ -3,7 +3,7 @@
 ghost use Rattle.std.specs.Prelude.{◌≡◌, ◌≤◌, IfOk};
 ghost use Rattle.sts_pool.specs.Report.{IsReport};
 
-use crate::book::{Book, MOST_OUTSIDE};
+use crate::book::Book;
 use crate::gate::{Gate, Outside};
 use crate::report::{PoolError, Report};
 use std::alloc::Global;
@@ -11,6 +11,7 @@ use std::marker::{Brand, PhantomData};
 use std::sync::{Condvar, Mutex, MutexGuard, Wait};
 use std::thread;
 use std::thread::{Builder, Threads};
+use sts_code::limits::MAX_OUTSIDE;
 use sts_machine::slice::Slice;
 use sts_verify::verified::Verified;
 
@@ -54,7 +55,7 @@ struct Pool<'p, O, B: Runs> {
 impl<'p, O: Outside, B: Runs> Shared<'p, O, B> {
     /// Records outside events until there is none or the book is full.
     fn ask(&mut self) {
-        for _ in 0..MOST_OUTSIDE {
+        for _ in 0..MAX_OUTSIDE {
             if self.book.is_full() {
                 break;
             }

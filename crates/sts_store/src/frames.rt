@@ -13,8 +13,8 @@ ghost use Rattle.sts_store.specs.Parts.{frame_of, live_of, unseen_of};
 use crate::store::Store;
 use sts_code::instr::Instr;
 use sts_code::program::Program;
+use sts_frames::local::local;
 use sts_frames::steps::forget;
-use sts_model::frame::local;
 
 impl Store {
     /// Does a local instruction of a task, whose function has this code.

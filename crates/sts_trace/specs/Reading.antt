@@ -1,6 +1,7 @@
 -- Reading a trace or outside events line by line, with the first fault that is met (this project's own).
 use Rattle.std.specs.Prelude.{◌≡◌, ⊤, ℕ, ◌+◌, List, [], ◌∷◌, Option, Some, None, Result, Ok, Err, Bool, ◌&&◌, ◌||◌, nat_lt, if◌then◌else◌, codes}
 use Rattle.std.specs.Str.{bytes_eq}
+use Rattle.sts_code.specs.declared.limits.TheConstants.{MAX_OUTSIDE}
 use Rattle.sts_model.specs.declared.event.Event.{Event}
 use Rattle.sts_model.specs.declared.event.Event.TheVariants.{Step, Interrupt, Expire}
 use Rattle.sts_text.specs.Number.{numeral}
@@ -61,9 +62,9 @@ due_said at (first ∷ time ∷ word ∷ number ∷ []) =
     else Err (BadLine at)
 due_said at _ = Err (BadLine at)
 
--- what line `at` of an outside text says; after 4,096 lines there is none
+-- what line `at` of an outside text says; there are no more than a run takes events from outside
 abbrev pub due_line : ℕ → List ℕ → Result Due TraceError
-due_line at line = if nat_lt 4096 at then Err (BadLine at) else due_said at (fields line)
+due_line at line = if nat_lt MAX_OUTSIDE at then Err (BadLine at) else due_said at (fields line)
 
 -- what the lines from line `at` on say, one after the other; the last is what stands behind the last newline
 unfoldable pub lines_read : {A : Type 0} → (ℕ → List ℕ → Result A TraceError) → ℕ → List (List ℕ) → Result (List A) TraceError

@@ -2,6 +2,7 @@
 use Rattle.std.specs.Prelude.{ℕ, ◌<◌, ◌≤◌, ◌^◌, List, ◌++◌, length, Bool, false, true, codes, IsTrue}
 use Rattle.std.specs.List.{flat_map, All}
 use Rattle.std.specs.Fmt.{decimal}
+use Rattle.sts_code.specs.declared.limits.TheConstants.{MAX_OUTSIDE}
 use Rattle.sts_model.specs.declared.event.Event.{Event}
 use Rattle.sts_model.specs.declared.event.Event.TheVariants.{Step, Interrupt, Expire}
 use Rattle.sts_trace.specs.declared.outside.Due.{Due}
@@ -44,6 +45,6 @@ IsEvent e = number_of e < 2 ^ 32
 abbrev pub IsDue : Due → Type 0
 IsDue due = (due.at < 2 ^ 32) × IsEvent due.event × IsTrue (is_outside due.event)
 
--- at most 4,096 outside events
+-- no more outside events than a run takes
 abbrev pub AreDues : List Due → Type 0
-AreDues dues = (length dues ≤ 4096) × All IsDue dues
+AreDues dues = (length dues ≤ MAX_OUTSIDE) × All IsDue dues

@@ -8,6 +8,7 @@ ghost use Rattle.sts_trace.specs.Reading.{Gives, due_line, due_said, outside_rea
 use crate::error::TraceError;
 use crate::fields::{event_of, numeral_at};
 use std::alloc::Global;
+use sts_code::limits::MAX_OUTSIDE;
 use sts_model::event::Event;
 use sts_text::{cut_at_newline, cut_at_space};
 
@@ -20,9 +21,6 @@ pub struct Due {
     pub event: Event,
 }
 
-// The lines that an outside text may have.
-const MOST_LINES: u64 = 4096;
-
 fn is_outside_word(word: &[u8]) -> bool
     ensures { result ≡ is_outside_word word.now }
 {
@@ -34,7 +32,7 @@ fn is_outside_word(word: &[u8]) -> bool
 fn due_line(at: u64, line: &[u8]) -> Result<Due, TraceError>
     ensures { Gives (λ due. due) result (due_line at line.now) }
 {
-    if at > MOST_LINES {
+    if at > u64::from(MAX_OUTSIDE) {
         return Err(TraceError::BadLine(at));
     }
     let Some((first, rest)) = cut_at_space(line) else {

@@ -24,11 +24,11 @@ use sts_code::instr::Instr;
 use sts_code::program::Program;
 use sts_frames::beginning::{entry_frame, root_frame};
 use sts_frames::code::code;
+use sts_frames::local::local;
 use sts_frames::steps::{
     enter_binding, enter_scope, forget, leave_entry, leave_fork, leave_scope, steps,
 };
 use sts_model::event::End;
-use sts_model::frame::local;
 use sts_model::record::{Frame, Slot};
 
 /// A task: contracts see its record with the frame in full.
