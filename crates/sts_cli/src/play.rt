@@ -109,6 +109,29 @@ fn traced<T: Write>(journal: &[Event], trace: &mut T) -> io::Result<()>
     trace.flush()
 }
 
+/// `play_run` where no trace is asked for: no event of the journal is spelled.
+///
+/// # Errors
+///
+/// A write failed.
+pub(crate) fn play_untraced<R: Threads + Wait + Sync, W: Write>(
+    rt: &R,
+    alloc: Global,
+    text: &[u8],
+    workers: u32,
+    outside: &[u8],
+    out: &mut W,
+) -> Result<u8, WriteFailed>
+    requires { (1 ≤ workers) × (workers ≤ 16) }
+    ensures { IfOk result (λ s. (o : Outcome) × IsOutcomeOf text.now outside.now o
+        × def.Writes (W.contents out.old) (W.contents out.new) s o.output) }
+{
+    match run::outcome(rt, alloc, text, workers, outside) {
+        Ok(ran) => written(out, ran.output.text.as_bytes(), ran.output.status),
+        Err(_) => failed(TakeError::Memory, out),
+    }
+}
+
 /// Runs a program with 1 to 16 workers and the events of an outside text. The journal goes to the
 /// trace first, which gets nothing where there is no report; then all that is printed is written to
 /// `out`. Gives the status.
