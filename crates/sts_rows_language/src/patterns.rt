@@ -48,7 +48,7 @@ zero:
   fail
 end
 func hedge 1            ; the second request
-  cancelled s0          ; slot 0 of a subtask is the scope that it is a subtask of: is there an answer?
+  cancelled s0          ; slot 0 of a subtask is its parent scope: is there an answer?
   jz send
   push 0
   fail
