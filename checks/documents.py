@@ -256,11 +256,21 @@ def files():
     }
 
 
+def headings(path):
+    """Returns the anchors of a document's headings."""
+    found = re.findall(r"^#+ (.*)$", read(path), re.M)
+    return [re.sub(r"[^\w\- ]", "", it.lower()).replace(" ", "-") for it in found]
+
+
 def named_files():
-    """Fails where a document names a file that isn't there."""
+    """Fails where a document names a file, or a heading of a document, that isn't there."""
     for path in DOCUMENTS:
         here = os.path.dirname(path)
         text = read(path)
+        for name, anchor in re.findall(r"\]\(([^)#:]*\.md)?#([^)]*)\)", text):
+            target = os.path.normpath(os.path.join(here, name)) if name else path
+            if anchor not in headings(target):
+                fail(f"{path} names {target}#{anchor}, which isn't there")
         links = [os.path.join(here, it) for it in re.findall(r"\]\(([^)#:]+)(?:#[^)]*)?\)", text)]
         sources = re.findall(r"`((?:sts|tree)\w*/[\w/]+\.(?:rt|antt))`", text)
         for name in [*links, *(f"crates/{it}" for it in sources)]:
