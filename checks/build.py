@@ -146,7 +146,7 @@ def watch(process, names, since):
 
 def build(log, names):
     """Builds the program, and returns whether it is there. Its time is that of the start: what is edited since is newer."""
-    print("sts: proving and building the program, in 20 to 40 minutes where nothing was proved before; "
+    print("sts: proving and building the program, in 15 to 40 minutes where nothing was proved before; "
           f"what is said of it goes to {LOG}", file=sys.stderr)
     since = time.time()
     process = start(log)

@@ -11,7 +11,7 @@ row:
   block, and what is asked is `verify`, `list` or a trace (`0*5` is five steps of task 0, `i0` an interrupt, `x0` an
   expiry); where nothing is said of `verify` it accepts the text; a block that is no example begins with "```text";
 - a line of its tables of faults whose text is written in full;
-- what VERIFIER.md and PATTERNS.md say that is refused or accepted;
+- what VERIFIER.md and PATTERNS.md say that is refused or accepted, also "Without `LINE`: `refused ..`" below a block;
 - a block of PATTERNS.md, which is accepted, with each trace of the table below it, written short (checks/runs.py has what
   comes by workers, and what comes of files whose bytes no row can hold);
 - each command of README.md and examples/README.md, with the files that it names.
@@ -191,9 +191,21 @@ def programs(path):
     return found
 
 
+def refused_without(path):
+    """Returns a row for each program of a document of which is said what is printed without its lines of one kind."""
+    found, text = [], ""
+    for part in re.split(r"^(```\n.*?^```$)", read(path), flags=re.M | re.S):
+        if part.startswith("```\n"):
+            text = part[len("```\n"):-len("```")]
+        for line, printed in re.findall(r"^- Without `([^`]*)`: `([^`]*)`\.$", part, re.M):
+            rest = [it for it in text.splitlines() if it.split(";")[0].strip() != line]
+            found.append(row(f"without {line}", "\n".join(rest), [("verify", f"{STATUS['refused']} {printed}")]))
+    return found
+
+
 def patterns(path):
     """Returns a row for each program of a document, with the traces of its table."""
-    found = []
+    found = refused_without(path)
     for heading, text, shown in programs(path):
         asked = [(trace.strip("`"), printed.replace("`", "").replace("<br>", " / ")) for trace, printed in shown if "`" in trace]
         if not asked or len(asked) == len(shown):
@@ -244,11 +256,21 @@ def files():
     }
 
 
+def headings(path):
+    """Returns the anchors of a document's headings."""
+    found = re.findall(r"^#+ (.*)$", read(path), re.M)
+    return [re.sub(r"[^\w\- ]", "", it.lower()).replace(" ", "-") for it in found]
+
+
 def named_files():
-    """Fails where a document names a file that isn't there."""
+    """Fails where a document names a file, or a heading of a document, that isn't there."""
     for path in DOCUMENTS:
         here = os.path.dirname(path)
         text = read(path)
+        for name, anchor in re.findall(r"\]\(([^)#:]*\.md)?#([^)]*)\)", text):
+            target = os.path.normpath(os.path.join(here, name)) if name else path
+            if anchor not in headings(target):
+                fail(f"{path} names {target}#{anchor}, which isn't there")
         links = [os.path.join(here, it) for it in re.findall(r"\]\(([^)#:]+)(?:#[^)]*)?\)", text)]
         sources = re.findall(r"`((?:sts|tree)\w*/[\w/]+\.(?:rt|antt))`", text)
         for name in [*links, *(f"crates/{it}" for it in sources)]:
