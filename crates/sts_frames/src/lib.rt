@@ -8,6 +8,7 @@
 
 pub mod beginning;
 pub mod code;
+pub mod copies;
 pub mod ends;
 pub mod local;
 pub mod slots;

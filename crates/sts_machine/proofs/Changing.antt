@@ -16,7 +16,7 @@ use Rattle.sts_model.specs.Local.{operand}
 use Rattle.sts_model.specs.Misuse.{is_binding, innermost}
 use Rattle.sts_model.specs.Effect.{forked}
 use Rattle.sts_model.specs.Live.{Live, LiveTask, LiveScope, Alive}
-use Rattle.sts_runs.proofs.ListLemmas.{at_more, past, within}
+use Rattle.sts_runs.proofs.ListLemmas.{at_more, at_set, past, within}
 use Rattle.sts_seen.specs.Reading.{task_in, no_live_task, no_alive, live_task_at, live_scope_at, alive_at, lives_in, with_alive, with_live_frame}
 use Rattle.sts_seen.specs.Effect.{opened_scope, live_open, live_child, live_fork, live_bind, live_unbind, live_ended, live_end}
 use Rattle.sts_laws_accepted.specs.Views.{bindings_in, live_tasks, live_scopes, live_bindings}
@@ -34,6 +34,21 @@ life_is (Some task) = refl
 
 pub lives_quiet : (v x : Live) (i : ℕ) → IsQuiet v x → lives_in x i ≡ lives_in v i
 lives_quiet v x i h = life_is (task_in x i) ∙ (h.tasks i).living ∙ sym (life_is (task_in v i))
+
+-- who lives does so at another frame
+lives_written : (v : Live) (t : ℕ) (f : Frame) (i : ℕ) → lives_in (with_live_frame v t f) i ≡ lives_in v i
+lives_written v t f i = at_set (λ o. is_some (unwrap_or o no_live_task).alive ≡ lives_in v i) v.tasks t i (option_map over (task_in v t)) None (λ e. rw e (by (task_in v t))) refl
+  where
+    over : LiveTask → LiveTask
+    over task = record task { alive = option_map (λ (a : Alive). record a { frame = f }) task.alive }
+
+    held : (o : Option Alive) → is_some (option_map (λ (a : Alive). record a { frame = f }) o) ≡ is_some o
+    held None = refl
+    held (Some a) = refl
+
+    by : (o : Option LiveTask) → is_some (unwrap_or (option_map over o) no_live_task).alive ≡ is_some (unwrap_or o no_live_task).alive
+    by None = refl
+    by (Some task) = held task.alive
 
 -- who lives was born
 pub inside : (v : Live) (t : ℕ) → lives_in v t ≡ true → t < length v.tasks
@@ -173,6 +188,11 @@ module _ (v : Live) (u : Unseen) (t : ℕ) (keys : List ℕ) (room : 0 < u.scope
       let w : Live = record v { scopes = v.scopes ++ Some (opened_scope v t joiner timed) ∷ [] } in
       then-quiet v w _ u opened_unseen t (opened (opened_scope v t joiner timed)) (quiet-frame w t _ (entered (length v.scopes) (alive_at v t).frame.entries))
 
+-- who opens it goes on
+pub opener_lives : (v : Live) (t x : ℕ) (f : Frame) (joiner : Joiner) (timed : Bool) → lives_in v t ≡ true → lives_in (live_open v t f x joiner timed) t ≡ true
+unfolding live_open
+opener_lives v t x f joiner timed lives = lives_written (record v { scopes = v.scopes ++ Some (opened_scope v t joiner timed) ∷ [] }) t _ t ∙ lives
+
 -- ---- a task more
 
 -- a task with this frame if it runs, of a scope that isn't cancelled
@@ -235,6 +255,15 @@ unfolding live_fork
 forks p v u t s g h keys lives same task_room frame_room =
     let f : Frame = (alive_at v t).frame in
     forks_child v u t s keys (live_child p (live_scope_at v s) f s g) (live_scope_at v s).cancelled refl lives same task_room frame_room (forked f (routine p g).args h (length v.tasks)) refl
+
+-- the forker goes on
+pub forker_lives : (p : Program) (v : Live) (t s g : ℕ) (f : Frame) (h : Option ℕ) → lives_in v t ≡ true → lives_in (live_fork p v t f s g h) t ≡ true
+unfolding live_fork
+forker_lives p v t s g f h lives =
+    let more : List (Option LiveTask) = Some (child_of s (live_child p (live_scope_at v s) f s g) (live_scope_at v s).cancelled) ∷ [] in
+    lives_written (record v { tasks = v.tasks ++ more }) t _ t
+    ∙ ap (λ o. is_some (unwrap_or o no_live_task).alive) (get_or_append_left v.tasks more None t (inside v t lives))
+    ∙ lives
 
 -- where the forker is said to stand
 pub forker_stands : (v : Live) (u : Unseen) (t : ℕ) → lives_in v t ≡ true → length u.stands ≡ length v.tasks → unwrap_or (get_or (u.stands ++ Some Free ∷ []) t None) Free ≡ stand_in u t

@@ -10,7 +10,7 @@ pub mod CanStep
 pub mod Turning
 pub mod Telling
 pub mod Whole
-pub mod Comparing
+pub mod Equals
 pub mod Cutting
 pub mod Instrs
 pub mod LocalSteps

@@ -33,12 +33,17 @@ stands_born m = born_from (beside m) 0 m.tree.tasks
 
 -- ---- after an instruction
 
-pub others_stand : (p : Program) (v x : Live) (u w : Unseen) (t : ℕ) → ((i : ℕ) → (i == t) ≡ false → IsUnmoved p v x i) → IdleStandFree → AreStanding p v u → Changes v u x w t → AreStandingBut p x w t
+others_stand : (p : Program) (v x : Live) (u w : Unseen) (t : ℕ) → ((i : ℕ) → (i == t) ≡ false → IsUnmoved p v x i) → IdleStandFree → AreStanding p v u → Changes v u x w t → AreStandingBut p x w t
 others_stand p v x u w t moved idle standing c i other lives = by (lives_in v i) refl
   where
     by : (b : Bool) → lives_in v i ≡ b → stand_in w i ≡ live_stand_at p x i
     by true e = c.others i other lives ∙ ap (λ b. cond b (stand_in u i) Free) e ∙ standing i e ∙ sym (moved i other).stand
     by false e = c.others i other lives ∙ ap (λ b. cond b (stand_in u i) Free) e ∙ sym (idle p v i e) ∙ sym (moved i other).stand
+
+-- the same of the view y that was made
+pub others_stood : (p : Program) (v x y : Live) (u w : Unseen) (t : ℕ) → y ≡ x → ((i : ℕ) → (i == t) ≡ false → IsUnmoved p v x i) → IdleStandFree → AreStanding p v u → Changes v u y w t → AreStandingBut p y w t
+others_stood p v x y u w t same moved idle standing c =
+    others_stand p v y u w t (λ i other. subst (λ (z : Live). IsUnmoved p v z i) (sym same) (moved i other)) idle standing c
 
 pub room_kept : (v x : Live) (u w : Unseen) (t : ℕ) (b : Budgets) → Changes v u x w t → HasRoomOf b v u → HasRoomOf b x w
 room_kept v x u w t b c h =

@@ -27,6 +27,13 @@ may_wait (Join x failed timeout interrupted) = true
 may_wait (Close x) = true
 may_wait _ = false
 
+-- may its task have ended by it?
+abbrev pub may_leave : Instr → Bool
+may_leave (Close x) = true
+may_leave Ret = true
+may_leave Fail = true
+may_leave _ = false
+
 -- an instruction of t made x of the view v, and w of u, what v doesn't show
 pub record Changes (v : Live) (u : Unseen) (x : Live) (w : Unseen) (t : ℕ) : Type 0 where
   -- who lives but t is said to stand where it was, or at no scope if it has just been born

@@ -1,8 +1,12 @@
 //! What an instruction does to a store, but for where its task stands afterwards.
 
 ghost use Rattle.std.specs.Prelude.{◌≡◌, ◌<◌, ◌≤◌, ◌+◌, ◌^◌, length, true, false};
+<<<<<<< HEAD
 ghost use Rattle.sts_code.specs.declared.limits.TheConstants.{MAX_INSTRUCTIONS};
 ghost use Rattle.sts_machine.specs.Changing.{Changes, is_quiet, may_wait};
+=======
+ghost use Rattle.sts_machine.specs.Changing.{Changes, is_quiet, may_leave, may_wait};
+>>>>>>> turn
 ghost use Rattle.sts_machine.specs.Room.{HasRoomLeft};
 ghost use Rattle.sts_model.specs.World as world;
 ghost use Rattle.sts_seen.specs.Effect.{live_effect};
@@ -33,6 +37,7 @@ pub(crate) fn effect(store: &mut Store, program: &Program, code: &[Instr], t: u3
         (live_of store.new) (unseen_of store.new) t }
     ensures own { may_wait instr ≡ false
         → stand_in (unseen_of store.new) t ≡ stand_in (unseen_of store.old) t }
+    ensures stays { may_leave instr ≡ false → lives_in (live_of store.new) t ≡ true }
 {
     match instr {
         Instr::Open {

@@ -3,7 +3,7 @@
 #![tactic(auto)]
 
 pub mod beside;
-mod copying;
+mod comparing;
 mod effect;
 mod laws;
 pub mod machine;

@@ -1,7 +1,7 @@
 //! One instruction, done to a store.
 
 ghost use Rattle.std.specs.Prelude.{◌≡◌, true, Some};
-ghost use Rattle.sts_machine.specs.Changing.{may_wait};
+ghost use Rattle.sts_machine.specs.Changing.{may_leave, may_wait};
 ghost use Rattle.sts_machine.specs.Room.{HasRoomLeft, HasRoomOf};
 ghost use Rattle.sts_machine.specs.Standing.{AreStanding};
 ghost use Rattle.sts_model.specs.World.{instr_at};
@@ -13,7 +13,7 @@ ghost use Rattle.sts_views.specs.Fine.{IsLiveFine};
 ghost use Rattle.sts_views.specs.Order.{InOrder};
 
 use crate::effect::effect;
-use crate::stands::say_stand;
+use crate::stands::{say_stand, say_stand_if_alive};
 use sts_code::code::code_of;
 use sts_code::instr::Instr;
 use sts_code::program::Program;
@@ -25,6 +25,13 @@ fn may_wait(instr: Instr) -> bool
     ensures { result ≡ may_wait instr }
 {
     matches!(instr, Instr::Join { .. } | Instr::Close(_))
+}
+
+/// May the task have ended by the instruction?
+fn may_leave(instr: Instr) -> bool
+    ensures { result ≡ may_leave instr }
+{
+    matches!(instr, Instr::Close(_) | Instr::Ret | Instr::Fail)
 }
 
 /// Does the instruction that a living task is at, which is no misuse and for which there is room.
@@ -47,5 +54,9 @@ pub(crate) fn perform(store: &mut Store, program: &Program, t: u32, instr: Instr
     idle_stand_free();
     let code = code_of(program, store.frame(t).function as usize);
     effect(store, program, code, t, instr);
-    say_stand(store, program, t, may_wait(instr));
+    if may_leave(instr) {
+        say_stand_if_alive(store, program, t, may_wait(instr));
+    } else {
+        say_stand(store, program, t, may_wait(instr));
+    }
 }

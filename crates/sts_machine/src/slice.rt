@@ -6,10 +6,10 @@ ghost use Rattle.sts_code.specs.declared.limits.TheConstants.{MAX_INSTRUCTIONS};
 ghost use Rattle.sts_machine.specs.Slice.{IsLawful, IsReached, local_at, locals};
 ghost use Rattle.sts_model.specs.World as world;
 
-use crate::copying::copy_frame;
 use std::marker::Model;
 use sts_code::code::code_of;
 use sts_code::instr::Instr;
+use sts_frames::copies::copy_frame;
 use sts_frames::local::{is_local, local};
 use sts_model::record::Frame;
 use sts_verify::verified::Verified;
@@ -55,23 +55,22 @@ fn next_local(code: &[Instr], frame: &Frame) -> Option<Instr>
 impl<'p> Slice<'p> {
     /// The slice of a task that lives at this frame, with nothing done yet. The laws of its program
     /// are handed over, so that no instruction asks for them.
-    pub(crate) fn cut(verified: &'p Verified, task: u32, frame: Frame) -> Slice<'p>
-        requires reached { IsReached verified.now task frame }
+    pub(crate) fn cut(verified: &'p Verified, task: u32, frame: &Frame) -> Slice<'p>
+        requires reached { IsReached verified.now task frame.now }
         requires lawful { IsLawful verified.now }
         ensures { result ≡ record {
           task = task;
-          code = world.code verified.now frame;
-          start = frame;
-          frame = frame;
+          code = world.code verified.now frame.now;
+          start = frame.now;
+          frame = frame.now;
           count = 0;
         } }
     {
-        let start = copy_frame(&frame);
         Slice {
             verified,
             task,
-            start,
-            frame,
+            start: copy_frame(frame),
+            frame: copy_frame(frame),
             count: 0,
         }
     }

@@ -12,7 +12,7 @@ ghost use Rattle.sts_rules.specs.declared.budget.Budgets.{Budgets as AnyBudgets}
 ghost use Rattle.sts_seen.specs.Reading.{alive_at, with_live_frame};
 ghost use Rattle.sts_seen.specs.Waiting.{live_can_step};
 
-use crate::copying::{copy_frame, same_code, same_frame};
+use crate::comparing::{same_code, same_frame};
 use crate::machine::Machine;
 use crate::slice::Slice;
 use crate::stands::say_stand;
@@ -30,8 +30,7 @@ impl<'p> Machine<'p> {
           count = 0;
         } }
     {
-        let frame = copy_frame(self.store.frame(task));
-        Slice::cut(self.verified, task, frame)
+        Slice::cut(self.verified, task, self.store.frame(task))
     }
 
     /// Was the slice taken from a task that lives here, from the frame at which it is, and is the code
@@ -49,12 +48,15 @@ impl<'p> Machine<'p> {
         same_code(slice.code(), code(self.verified.program(), slice.start()))
     }
 
-    /// Does what as many steps of its task do as the slice has done: nothing, if that is none.
+    /// Does what as many steps of its task do as the slice has done: nothing, if that is none. Of
+    /// what the view doesn't show, where tasks stand alone may change: keys and room stay.
     pub fn put(&mut self, slice: &Slice<'p>)
         requires { Fits self.old slice.now }
         ensures program { self.new.program ≡ self.old.program }
         ensures live { self.new.live
             ≡ with_live_frame self.old.live slice.now.task slice.now.frame }
+        ensures unseen { self.new.unseen
+            ≡ record self.old.unseen { stands = self.new.unseen.stands } }
         ensures steps { self.new.steps ≡ self.old.steps + slice.now.count }
         ensures stands { (events : List AnyEvent) → Stands self.old events
             → Stands self.new (events ++ steps_of slice.now.count slice.now.task) }
@@ -69,7 +71,7 @@ impl<'p> Machine<'p> {
             return;
         }
         let task = slice.task();
-        self.store.put_frame(task, copy_frame(frame));
+        self.store.put_frame(task, frame);
         say_stand(&mut self.store, self.verified.program(), task, true);
         self.steps += u64::from(slice.count());
     }

@@ -65,9 +65,29 @@ fn is_free(stand: Stand) -> bool
     matches!(stand, Stand::Free)
 }
 
-/// Says where a task stands, if it lives. One that can't have waited was last said to stand at no
-/// scope, and needn't say so again.
+/// Says where a living task stands. One that can't have waited was last said to stand at no scope,
+/// and needn't say so again.
 pub(crate) fn say_stand(store: &mut Store, program: &Program, t: u32, waited: bool)
+    requires lives { lives_in (live_of store.old) t ≡ true }
+    requires order { InOrder (live_of store.old) }
+    requires others { AreStandingBut program.now (live_of store.old) (unseen_of store.old) t }
+    requires free { waited ≡ false → stand_in (unseen_of store.old) t ≡ StandsFree }
+    ensures live { live_of store.new ≡ live_of store.old }
+    ensures unseen { unseen_of store.new
+        ≡ record (unseen_of store.old) { stands = (unseen_of store.new).stands } }
+    ensures standing { AreStanding program.now (live_of store.new) (unseen_of store.new) }
+    ensures room { (b : AnyBudgets) → HasRoomOf b (live_of store.old) (unseen_of store.old)
+        → HasRoomOf b (live_of store.new) (unseen_of store.new) }
+{
+    stands_are_owned();
+    let stand = stand_at(store, program, t);
+    if waited || !is_free(stand) {
+        store.stand(t, stand);
+    }
+}
+
+/// The same of a task that may have ended: then it stands nowhere.
+pub(crate) fn say_stand_if_alive(store: &mut Store, program: &Program, t: u32, waited: bool)
     requires order { InOrder (live_of store.old) }
     requires others { AreStandingBut program.now (live_of store.old) (unseen_of store.old) t }
     requires free { waited ≡ false → stand_in (unseen_of store.old) t ≡ StandsFree }
@@ -77,10 +97,6 @@ pub(crate) fn say_stand(store: &mut Store, program: &Program, t: u32, waited: bo
         → HasRoomOf b (live_of store.new) (unseen_of store.new) }
 {
     if store.lives(t) {
-        stands_are_owned();
-        let stand = stand_at(store, program, t);
-        if waited || !is_free(stand) {
-            store.stand(t, stand);
-        }
+        say_stand(store, program, t, waited);
     }
 }

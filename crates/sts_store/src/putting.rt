@@ -5,17 +5,18 @@ ghost use Rattle.sts_seen.specs.Reading.{lives_in, with_live_frame};
 ghost use Rattle.sts_store.specs.Parts.{frame_of, live_of, unseen_of};
 
 use crate::store::Store;
+use sts_frames::copies::write_frame;
 use sts_model::record::Frame;
 
 impl Store {
     /// Puts a frame in the place of a living task's. It has the same structure list: local
     /// instructions keep that.
-    pub fn put_frame(&mut self, t: u32, frame: Frame)
+    pub fn put_frame(&mut self, t: u32, frame: &Frame)
         requires lives { lives_in (live_of self.old) t ≡ true }
-        requires entries { frame.entries ≡ (frame_of self.old t).entries }
-        ensures live { live_of self.new ≡ with_live_frame (live_of self.old) t frame }
+        requires entries { frame.now.entries ≡ (frame_of self.old t).entries }
+        ensures live { live_of self.new ≡ with_live_frame (live_of self.old) t frame.now }
         ensures unseen { unseen_of self.new ≡ unseen_of self.old }
     {
-        self.frames.at(t as usize).frame = frame;
+        write_frame(&mut self.frames.at(t as usize).frame, frame);
     }
 }

@@ -12,6 +12,14 @@ use crate::store::Store;
 use sts_model::event::Stand;
 
 impl Store {
+    /// Was a living task last said to stand here? Then to say so again changes nothing.
+    fn is_said(&self, t: u32, stand: Stand) -> bool
+        requires { lives_in (live_of self.now) t ≡ true }
+        ensures { result ≡ true → stood_unseen (unseen_of self.now) t stand ≡ unseen_of self.now }
+    {
+        self.tree.task(t).unwrap().stand == stand
+    }
+
     /// Says where a living task stands: free, or at a scope that is its own.
     pub fn stand(&mut self, t: u32, stand: Stand)
         requires lives { lives_in (live_of self.old) t ≡ true }
@@ -19,7 +27,9 @@ impl Store {
         ensures live { live_of self.new ≡ live_of self.old }
         ensures unseen { unseen_of self.new ≡ stood_unseen (unseen_of self.old) t stand }
     {
-        self.tree.stand(t, stand);
+        if !self.is_said(t, stand) {
+            self.tree.stand(t, stand);
+        }
     }
 
     /// May the task step, from where it was last said to stand?

@@ -106,6 +106,41 @@ module _ {E : Type 0} where
           (d, rw k (get_or-set_same f.scopes s (Some d) None inside), same ∙ ap (λ (v : Scope E). v.owner) e ∙ o.2)
       by false q o = (o.0, get_or-set_other f.scopes s r (Some d) None (grind (arith, nat_tests)) ∙ o.1, o.2)
 
+  -- a scope is written that has ended as far as it had: nobody's step depends on the rest of it
+  abbrev over_of : Option (Scope E) → Bool
+  over_of o = elim o [ None ↦ false | Some c ↦ c.expired || c.cancelled ]
+
+  over_same : (f : Forest E) (s r : ℕ) (c d : Scope E) → get_or f.scopes s None ≡ Some c → d.expired ≡ c.expired → d.cancelled ≡ c.cancelled → over_of (get_or (set f.scopes s (Some d)) r None) ≡ over_of (get_or f.scopes r None)
+  over_same f s r c d is expired cancelled = by (nat_eq r s) refl
+    where
+      inside : s < Rattle.std.proofs.Common.length f.scopes
+      inside = inside_of f.scopes s (λ n. let q : Some c ≡ None = sym is ∙ n in cc)
+
+      over : over_of (Some d) ≡ over_of (Some c)
+      over = rw (expired, cancelled) refl
+
+      by : (b : Bool) → nat_eq r s ≡ b → over_of (get_or (set f.scopes s (Some d)) r None) ≡ over_of (get_or f.scopes r None)
+      by true q =
+          let k : r ≡ s = grind (arith, nat_tests) in
+          rw k (ap over_of (get_or-set_same f.scopes s (Some d) None inside) ∙ over ∙ ap over_of (sym is))
+      by false q = ap over_of (get_or-set_other f.scopes s r (Some d) None (grind (arith, nat_tests)))
+
+  pub phase_tree : (f : Forest E) (s : ℕ) (c d : Scope E) → IsTree f → get_or f.scopes s None ≡ Some c → d.owner ≡ c.owner → d.expired ≡ c.expired → d.cancelled ≡ c.cancelled → IsTree (with_scope f s d)
+  phase_tree f s c d is at owner expired cancelled =
+      record {
+        ready = λ u. is.ready u ∙ sym (by (get_or f.tasks u None));
+        owned = owned_scope f s c d is.owned at owner;
+      }
+    where
+      go : (flag : Bool) (stand : Stand) → can_go (with_scope f s d) flag stand ≡ can_go f flag stand
+      go flag Free = refl
+      go flag (AtJoin r) = ap (λ b. b || not (any_lives f.tasks r) || flag) (over_same f s r c d at expired cancelled)
+      go flag (AtClose r) = refl
+
+      by : (o : Option Task) → step_of (with_scope f s d) o ≡ step_of f o
+      by None = refl
+      by (Some z) = ap (λ b. z.lives && b) (go z.flag z.stand)
+
   -- the ready list doesn't change who owns what
   pub owned_seen : (f g : Forest E) → seen g ≡ seen f → Owned f → Owned g
   owned_seen f g same owned u s z at lives stands = by (get_or f.tasks u None) refl (sym (map_at unmarked f.tasks u) ∙ ap (λ (h : Forest E). get_or h.tasks u None) (sym same) ∙ map_at unmarked g.tasks u ∙ ap (option_map unmarked) at)

@@ -217,14 +217,12 @@ impl<E: Drop> Tree<E> {
         settle(&mut self.forest, owner);
     }
 
-    /// Sets a scope's phase.
+    /// Sets a scope's phase, on which no step depends.
     pub fn set_phase(&mut self, s: u32, phase: Phase)
         requires { slice_index_or self.old.scopes s None ≢ None }
         ensures { (c : AnyScope E) → slice_index_or self.old.scopes s None ≡ Some c →
             seen self.new ≡ seen (with_scope self.old s (record c { phase = phase })) }
     {
-        let owner = self.forest.scope(s).unwrap().owner;
         self.forest.set_phase(s, phase);
-        settle(&mut self.forest, owner);
     }
 }

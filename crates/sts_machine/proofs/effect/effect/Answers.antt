@@ -2,12 +2,13 @@ use Rattle.std.proofs.Common.{◌≡◌, ◌++◌, ◌∷◌, [], sym, ◌∙◌
 use Rattle.sts_model.specs.declared.record.Frame.{Frame}
 use Rattle.sts_model.specs.Effect.{named}
 use Rattle.sts_model.specs.Misuse.{slot, innermost, is_entry_of, is_binding}
-use Rattle.sts_seen.specs.Reading.{scope_in}
+use Rattle.sts_model.specs.Live.{Live}
+use Rattle.sts_seen.specs.Reading.{lives_in, scope_in}
 use Rattle.sts_store.specs.Parts.{Unseen, frame_of, live_of, stand_in, unseen_of}
 use Rattle.sts_views.specs.Fine.{IsLiveFine}
 use Rattle.sts_machine.specs.Changing.{may_wait}
 use Rattle.sts_machine.specs.Room.{HasRoomLeft}
-use Rattle.sts_machine.proofs.Changing.{as_are, changes-quiet, living, opens, forks, forker_stands, unbinds, ends, none_bound}
+use Rattle.sts_machine.proofs.Changing.{as_are, changes-quiet, lives_quiet, living, opens, opener_lives, forks, forker_lives, forker_stands, unbinds, ends, none_bound}
 use Rattle.sts_machine.proofs.Closing.{closes}
 use Rattle.sts_machine.proofs.Fine.{holds, scope_at, fork_own, close_stands, close_entry}
 use Rattle.sts_machine.proofs.Quiet.{quiet-effect}
@@ -113,3 +114,22 @@ returns-in-Fail-clause-own c = λ e. ap (λ (u : Unseen). stand_in u c.args.t) c
 
 pub returns-in_default-clause-own : goal.returns-in_default-clause-own
 returns-in_default-clause-own c = λ e. ap (λ (u : Unseen). stand_in u c.args.t) c.quiet.ensures.unseen
+
+pub returns-in-Open-clause-stays : goal.returns-in-Open-clause-stays
+returns-in-Open-clause-stays c = λ e.
+    let m = c.args.store.now in
+    ap (λ (x : Live). lives_in x c.args.t) c.open.ensures.live
+    ∙ opener_lives (live_of m) c.args.t c.in-Open.slot (frame_of m c.args.t) c.in-Open.joiner c.in-Open.timed c.requires.lives
+
+pub returns-in-Fork-clause-stays : goal.returns-in-Fork-clause-stays
+returns-in-Fork-clause-stays c = λ e.
+    let m = c.args.store.now in
+    ap (λ (x : Live). lives_in x c.args.t) c.fork.ensures.live
+    ∙ forker_lives c.args.program.now (live_of m) c.args.t c.named-s.result c.in-Fork.function (frame_of m c.args.t) _ c.requires.lives
+
+pub returns-in_default-clause-stays : goal.returns-in_default-clause-stays
+returns-in_default-clause-stays c = λ e.
+    let v = live_of c.args.store.now in
+    ap (λ (x : Live). lives_in x c.args.t) c.quiet.ensures.live
+    ∙ lives_quiet v _ c.args.t (quiet-effect c.args.program.now v c.args.t c.args.instr (search rules))
+    ∙ c.requires.lives

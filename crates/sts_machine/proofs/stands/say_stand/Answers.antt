@@ -20,4 +20,4 @@ returns-then-waited-clause-standing c =
     let said = c.stand.ensures.unseen ∙ ap (λ (q : Stand). stood_unseen (unseen_of m) t q) c.stand_at-stand.ensures in
     subst (λ (x : Live). AreStanding p x (unseen_of c.stand.new.self)) (sym c.stand.ensures.live)
     (subst (λ (w : Unseen). AreStanding p (live_of m) w) (sym said)
-    (stands_anew p m t c.requires.others (sym c.lives.ensures ∙ c.if-lives.true)))
+    (stands_anew p m t c.requires.others c.requires.lives))

@@ -14,34 +14,34 @@ returns-then-count-eq0-clause-runs_well c =
 
 pub put_frame-requires-clause-entries : goal.put_frame-requires-clause-entries
 put_frame-requires-clause-entries c =
-    (puts c.self.invariant c.self.view_is c.requires c.task-task.ensures (c.copy_frame.ensures ∙ c.frame-frame.ensures.value) refl c.frame-frame.ensures.local).entries
+    (puts c.self.invariant c.self.view_is c.requires c.task-task.ensures c.frame-frame.ensures.value refl c.frame-frame.ensures.local).entries
 
 pub say_stand-requires-clause-order : goal.say_stand-requires-clause-order
 say_stand-requires-clause-order c =
-    let g = puts c.self.invariant c.self.view_is c.requires c.task-task.ensures (c.copy_frame.ensures ∙ c.frame-frame.ensures.value) refl c.frame-frame.ensures.local in
+    let g = puts c.self.invariant c.self.view_is c.requires c.task-task.ensures c.frame-frame.ensures.value refl c.frame-frame.ensures.local in
     in_order c.put_frame.new.self g c.put_frame.ensures.live
 
 pub say_stand-requires-clause-others : goal.say_stand-requires-clause-others
 say_stand-requires-clause-others c =
-    let g = puts c.self.invariant c.self.view_is c.requires c.task-task.ensures (c.copy_frame.ensures ∙ c.frame-frame.ensures.value) refl c.frame-frame.ensures.local in
+    let g = puts c.self.invariant c.self.view_is c.requires c.task-task.ensures c.frame-frame.ensures.value refl c.frame-frame.ensures.local in
     others_there c.put_frame.new.self g c.put_frame.ensures.live c.program.result.now c.program.ensures.value c.put_frame.ensures.unseen
 
 pub overflow_add-self : goal.overflow_add-self
 overflow_add-self c =
-    let g = puts c.self.invariant c.self.view_is c.requires c.task-task.ensures (c.copy_frame.ensures ∙ c.frame-frame.ensures.value) (c.from.ensures ∙ c.count-2.ensures.value) c.frame-frame.ensures.local in
+    let g = puts c.self.invariant c.self.view_is c.requires c.task-task.ensures c.frame-frame.ensures.value (c.from.ensures ∙ c.count-2.ensures.value) c.frame-frame.ensures.local in
     let few = g.few in
     omega (arith, few)
 
 pub invariant_of-self : goal.invariant_of-self
 invariant_of-self c =
-    let g = puts c.self.invariant c.self.view_is c.requires c.task-task.ensures (c.copy_frame.ensures ∙ c.frame-frame.ensures.value) (c.from.ensures ∙ c.count-2.ensures.value) c.frame-frame.ensures.local in
+    let g = puts c.self.invariant c.self.view_is c.requires c.task-task.ensures c.frame-frame.ensures.value (c.from.ensures ∙ c.count-2.ensures.value) c.frame-frame.ensures.local in
     put_back c.put_frame.new.self g c.put_frame.ensures.live c.say_stand.new.store c.say_stand.ensures.live
     c.program.result.now c.program.ensures.value c.put_frame.ensures.unseen c.self.invariant
     c.say_stand.ensures.standing c.say_stand.ensures.room
 
 pub returns-clause-stands : goal.returns-clause-stands
 returns-clause-stands c =
-    let g = puts c.self.invariant c.self.view_is c.requires c.task-task.ensures (c.copy_frame.ensures ∙ c.frame-frame.ensures.value) (c.from.ensures ∙ c.count-2.ensures.value) c.frame-frame.ensures.local in
+    let g = puts c.self.invariant c.self.view_is c.requires c.task-task.ensures c.frame-frame.ensures.value (c.from.ensures ∙ c.count-2.ensures.value) c.frame-frame.ensures.local in
     stands_there c.put_frame.new.self g c.put_frame.ensures.live c.say_stand.new.store c.say_stand.ensures.live
     c.args.self.now c.args.slice.now c.self.view_is c.task-task.ensures (c.from.ensures ∙ c.count-2.ensures.value)
 

@@ -8,7 +8,7 @@ use Rattle.sts_machine.proofs.machine.Machine.slice.Goals as goal
 pub cut-requires-clause-reached : goal.cut-requires-clause-reached
 cut-requires-clause-reached c =
     let can = subst (λ (s : Seen). live_can_step s.program s.live c.args.task ≡ true) (sym c.self.view_is) c.requires in
-    subst (IsReached c.self.inside.verified.now c.args.task) (sym (c.copy_frame-frame.ensures ∙ c.frame.ensures))
+    subst (IsReached c.self.inside.verified.now c.args.task) (sym c.frame.ensures)
     (reached c.self.inside.verified.now c.self.inside.store c.self.inside.steps c.self.invariant c.args.task can)
 
 pub cut-requires-clause-lawful : goal.cut-requires-clause-lawful

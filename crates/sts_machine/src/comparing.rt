@@ -1,37 +1,10 @@
-//! Copies of frames, and frames compared; neither takes memory.
+//! Frames compared, and codes.
 
 ghost use Rattle.std.specs.Prelude.{◌≡◌, ◌↔◌, IsTrue};
 
 use sts_code::instr::Instr;
 use sts_model::record::{Entry, Frame, Loop, Slot};
 use sts_model::stack::Stack;
-
-/// A copy of a stack.
-fn copy_stack<T: Default + Copy + Drop, const N: usize>(stack: &Stack<T, N>) -> Stack<T, N>
-    ensures { result ≡ stack.now }
-{
-    let mut copy = Stack::new();
-    let len = stack.len();
-    for i in 0..len {
-        copy.push(stack.get_or(len - 1 - i, T::default()));
-    }
-    copy
-}
-
-/// A copy of a frame.
-pub(crate) fn copy_frame(frame: &Frame) -> Frame
-    ensures { result ≡ frame.now }
-{
-    Frame {
-        function: frame.function,
-        pc: frame.pc,
-        operands: copy_stack(&frame.operands),
-        locals: frame.locals,
-        loops: copy_stack(&frame.loops),
-        entries: copy_stack(&frame.entries),
-        slots: frame.slots,
-    }
-}
 
 fn same_operands(a: &Stack<i64, 32>, b: &Stack<i64, 32>) -> bool
     ensures { IsTrue result ↔ a.now ≡ b.now }
