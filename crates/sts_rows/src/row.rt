@@ -9,8 +9,9 @@ use sts_cli::play::play;
 
 /// What is printed for a text and a trace in a mode, and the status.
 ///
-/// In the text and the output ` / ` stands between two lines, and each line is ended by a newline. In the trace `0*5`
-/// stands for `step 0` five times, `i0` for `interrupt 0` and `x0` for `expire 0`.
+/// In the text and the output ` / ` stands between two lines, and each line is ended by a newline.
+/// In the trace `0*5` stands for `step 0` five times, `i0` for `interrupt 0` and `x0` for `expire
+/// 0`.
 pub struct Row {
     pub name: &'static str,
     pub mode: Mode,
@@ -106,8 +107,8 @@ pub fn plays<R: Abort>(
     Ok(())
 }
 
-/// Runs a trace in mode `plain`, and in mode `replay`, which prints the same, or what mode `verify` prints of a program
-/// that is refused; a fault of a text or a trace comes before the verdict.
+/// Runs a trace in mode `plain`, and in mode `replay`, which prints the same, or what mode `verify`
+/// prints of a program that is refused; a fault of a text or a trace comes before the verdict.
 pub fn runs<R: Abort>(
     rt: &R,
     alloc: Global,

@@ -51,8 +51,8 @@ fn push_events(trace: &mut String, word: &str) -> Result<(), Fail> {
     push_tasks(trace, word)
 }
 
-/// The lines of a trace: `0*5` stands for `step 0` five times, `1..3*5` for five steps of task 1, then of task 2, then
-/// of task 3, `i0` for `interrupt 0` and `x0` for `expire 0`.
+/// The lines of a trace: `0*5` stands for `step 0` five times, `1..3*5` for five steps of task 1,
+/// then of task 2, then of task 3, `i0` for `interrupt 0` and `x0` for `expire 0`.
 pub fn events(alloc: Global, short: &str) -> Result<String, Fail> {
     let mut trace = String::new(alloc);
     for word in short.split_ascii_whitespace() {
@@ -83,8 +83,8 @@ pub fn plays<R: Abort>(
     Ok(())
 }
 
-/// Runs a trace in mode `plain`, and in mode `replay`, which prints the same, or what mode `verify` prints of a program
-/// that is refused; a fault of a text or a trace comes before the verdict.
+/// Runs a trace in mode `plain`, and in mode `replay`, which prints the same, or what mode `verify`
+/// prints of a program that is refused; a fault of a text or a trace comes before the verdict.
 pub fn runs<R: Abort>(
     rt: &R,
     alloc: Global,
