@@ -19,8 +19,8 @@ use sts_trace::TraceError;
 /// What is printed, and the status.
 #[derive(Drop)]
 pub struct Output {
-    pub(crate) text: String,
-    pub(crate) status: u8,
+    pub text: String,
+    pub status: u8,
 }
 
 impl Model for Output {
@@ -33,7 +33,11 @@ impl Model for Output {
 }
 
 /// The output for a fault of a text; want of memory is no fault of it.
-pub(crate) fn text_fault(alloc: Global, error: AsmError) -> Result<Output, AllocError>
+///
+/// # Errors
+///
+/// Memory was refused.
+pub fn text_fault(alloc: Global, error: AsmError) -> Result<Output, AllocError>
     ensures { (read : Result AnyProgram AsmError) → FailsAt error error.kind read
         → IfOk result (λ o. (read ≡ Err error) × (o ≡ def.text_fault_output error)) }
 {
@@ -46,7 +50,11 @@ pub(crate) fn text_fault(alloc: Global, error: AsmError) -> Result<Output, Alloc
 }
 
 /// The output for a fault of a trace; want of memory is no fault of it.
-pub(crate) fn trace_fault(alloc: Global, error: TraceError) -> Result<Output, AllocError>
+///
+/// # Errors
+///
+/// Memory was refused.
+pub fn trace_fault(alloc: Global, error: TraceError) -> Result<Output, AllocError>
     ensures { IfOk result (λ o. (error ≢ Memory) × (o ≡ def.trace_fault_output error)) }
 {
     if matches!(error, TraceError::Memory) {
@@ -67,7 +75,8 @@ pub(crate) fn end_status(end: End) -> u8
     }
 }
 
-fn state_status(state: PlainState) -> u8
+/// The status where a machine stands so.
+pub fn state_status(state: PlainState) -> u8
     ensures { result ≡ def.state_status state }
 {
     match state {

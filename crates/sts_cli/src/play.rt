@@ -25,7 +25,7 @@ use sts_trace::write_trace;
 pub struct WriteFailed;
 
 /// The status where memory, a file or a stream failed.
-pub(crate) const STATUS_OUTSIDE: u8 = 6;
+pub const STATUS_OUTSIDE: u8 = 6;
 
 fn output(alloc: Global, mode: Mode, text: &[u8], trace: &[u8]) -> Result<Output, AllocError>
     ensures { IfOk result (λ o. def.Shows mode text.now trace.now o) }
@@ -39,7 +39,11 @@ fn output(alloc: Global, mode: Mode, text: &[u8], trace: &[u8]) -> Result<Output
 }
 
 /// Writes all of these bytes, and gives the status.
-pub(crate) fn written<W: Write>(out: &mut W, bytes: &[u8], status: u8) -> Result<u8, WriteFailed>
+///
+/// # Errors
+///
+/// A write failed.
+pub fn written<W: Write>(out: &mut W, bytes: &[u8], status: u8) -> Result<u8, WriteFailed>
     ensures { IfOk result (λ s. (o : def.Output)
         × (o ≡ record { bytes = bytes.now; status = status })
         × def.Writes (W.contents out.old) (W.contents out.new) s o) }
@@ -51,7 +55,11 @@ pub(crate) fn written<W: Write>(out: &mut W, bytes: &[u8], status: u8) -> Result
 }
 
 /// Writes what is printed where memory, a file or a stream failed, and gives the status.
-pub(crate) fn failed<W: Write>(error: TakeError, out: &mut W) -> Result<u8, WriteFailed>
+///
+/// # Errors
+///
+/// A write failed.
+pub fn failed<W: Write>(error: TakeError, out: &mut W) -> Result<u8, WriteFailed>
     ensures { IfOk result (λ s.
         def.Writes (W.contents out.old) (W.contents out.new) s (def.failure_output error)) }
 {

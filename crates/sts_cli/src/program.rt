@@ -32,6 +32,9 @@ const MOST_OF_A_TEXT: u64 = 1_048_577;
 /// All that a trace or the input stream has, which memory ends first.
 const MOST_OF_A_STREAM: u64 = u64::MAX;
 
+/// The name that the program goes by.
+const NAME: &[u8] = b"sts";
+
 /// What is told where a word is no text.
 const NOT_TEXT: &[u8] = b"error: a word of the command line is not UTF-8\n";
 
@@ -317,7 +320,7 @@ pub fn start<R: Env + Files + Input + Threads + Wait + Sync, W: Write, E: Write>
     out: &mut W,
     err: &mut E,
 ) -> u8 {
-    let words = words::words(rt, alloc);
+    let words = words::words(rt, alloc, NAME);
     match run_words(rt, alloc, &Host { rt }, &words, out, err) {
         Ok(status) => status,
         Err(WriteFailed) => STATUS_OUTSIDE,

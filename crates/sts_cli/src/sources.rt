@@ -34,8 +34,8 @@ pub trait Sources {
 
 /// The files and the standard input of the process.
 #[derive(Drop)]
-pub(crate) struct Host<'a, R> {
-    pub(crate) rt: &'a R,
+pub struct Host<'a, R> {
+    pub rt: &'a R,
 }
 
 impl<R: Files + io::Input> Sources for Host<'_, R> {
@@ -67,7 +67,7 @@ pub(crate) fn not_opened(error: &io::Error) -> TakeError
 /// # Errors
 ///
 /// Memory was refused, or the file could not be opened or read.
-pub(crate) fn file<S: Sources>(
+pub fn file<S: Sources>(
     alloc: Global,
     sources: &S,
     path: &str,

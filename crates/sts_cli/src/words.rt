@@ -15,13 +15,11 @@ pub enum WordsError {
     NotText,
 }
 
-/// The name that the program goes by, whatever it was started as.
-const NAME: &[u8] = b"sts";
-
-/// An environment but for the program's own name, which is always `sts`.
+/// An environment but for the program's own name, whatever it was started as.
 #[derive(Drop)]
 struct Named<'a, R> {
     rt: &'a R,
+    name: &'static [u8],
 }
 
 impl<R: Env> Env for Named<'_, R> {
@@ -29,11 +27,11 @@ impl<R: Env> Env for Named<'_, R> {
         if i > 0 {
             return self.rt.arg(i, buf);
         }
-        if buf.len() < NAME.len() {
+        if buf.len() < self.name.len() {
             return Err(FillError::TooLong);
         }
-        buf[..NAME.len()].copy_from_slice(NAME);
-        Ok(NAME.len())
+        buf[..self.name.len()].copy_from_slice(self.name);
+        Ok(self.name.len())
     }
 
     fn var(&self, name: &str, buf: &mut [u8]) -> Result<usize, FillError> {
@@ -45,13 +43,17 @@ impl<R: Env> Env for Named<'_, R> {
     }
 }
 
-/// The words of the command line, the program's name first.
+/// The words of the command line, the first being the name that the program goes by.
 ///
 /// # Errors
 ///
 /// Memory was refused, or a word after the program's name is no UTF-8.
-pub fn words<R: Env>(rt: &R, alloc: Global) -> Result<Vec<String>, WordsError> {
-    match env::args(&(Named { rt }, alloc)) {
+pub fn words<R: Env>(
+    rt: &R,
+    alloc: Global,
+    name: &'static [u8],
+) -> Result<Vec<String>, WordsError> {
+    match env::args(&(Named { rt, name }, alloc)) {
         Ok(words) => match words.collect(alloc) {
             Ok(words) => Ok(words),
             Err(_) => Err(WordsError::Memory),

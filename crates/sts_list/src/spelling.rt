@@ -83,7 +83,12 @@ fn write_kind(out: &mut String, kind: Kind) -> Result<(), AllocError>
     }
 }
 
-fn write_joiner(out: &mut String, joiner: Joiner) -> Result<(), AllocError>
+/// The words of a joiner, each after a space.
+///
+/// # Errors
+///
+/// Memory was refused; a part of them may then stand in `out`.
+pub fn write_joiner(out: &mut String, joiner: Joiner) -> Result<(), AllocError>
     ensures { OnOk result (string_bytes out.new ≡
         string_bytes out.old ++ after_spaces (def.joiner_words joiner)) }
 {

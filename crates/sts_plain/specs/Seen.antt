@@ -1,7 +1,7 @@
 -- What contracts see of the plain machine: its program, its state and the steps that it took (this
 -- project's own).
 use Rattle.std.specs.Prelude.{◌≡◌, ℕ, ◌+◌, ◌-◌, ◌^◌, ◌<◌, List, length, take, fold, Bool, Option}
-use Rattle.std.specs.Prelude.{Some, None, min, if◌then◌else◌, ◌&&◌}
+use Rattle.std.specs.Prelude.{true, false, Some, None, min, if◌then◌else◌, ◌&&◌}
 use Rattle.sts_code.specs.Program.{Program}
 use Rattle.sts_model.specs.declared.event.Event.{Event}
 use Rattle.sts_model.specs.World.{World, State, Running, Faulted}
@@ -47,3 +47,8 @@ ended_or_running (Some end) = plain.Ended end
 abbrev pub shown : State → PlainState
 shown (Running w) = ended_or_running (task_at w 0).outcome
 shown (Faulted kind t f pc) = plain.Fault kind t f pc
+
+-- it stands at a fault
+abbrev pub is_fault : State → Bool
+is_fault (Running w) = false
+is_fault (Faulted kind t f pc) = true

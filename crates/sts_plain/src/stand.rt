@@ -16,7 +16,7 @@ use sts_model::record::Slot;
 use sts_world::world::World;
 
 /// Where the task stands.
-fn stand_at(world: &World, program: &Program, t: u32) -> Stand
+pub fn stand_at(world: &World, program: &Program, t: u32) -> Stand
     requires born { t < length world.now.tasks }
     requires lives { living.lives (def.task_at world.now t) ≡ true }
     ensures { result ≡ waiting.stand_at program.now world.now t }

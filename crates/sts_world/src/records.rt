@@ -17,7 +17,7 @@ use crate::task::TaskRecord;
 use std::marker::Model;
 use sts_code::instr::Joiner;
 use sts_model::event::{End, Phase};
-use sts_model::record::Frame;
+use sts_model::record::{Completion, Frame};
 
 /// The tasks and the scopes by birth number: contracts see the two lists.
 #[derive(Drop)]
@@ -128,6 +128,36 @@ impl Records {
         }
     }
 
+    /// Was the task started? One that was forked in a cancelled scope never is.
+    pub fn has_started(&self, t: u32) -> bool
+        ensures { result ≡ (def.task_at self.now t).started }
+    {
+        match self.tasks.get(t as usize) {
+            Some(task) => task.has_started(),
+            None => false,
+        }
+    }
+
+    /// The function that a task is in, also of one that has ended.
+    pub fn function(&self, t: u32) -> u32
+        ensures { result ≡ (def.task_at self.now t).frame.function }
+    {
+        match self.tasks.get(t as usize) {
+            Some(task) => task.function(),
+            None => 0,
+        }
+    }
+
+    /// The place of a task's next instruction, also of one that has ended.
+    pub fn pc(&self, t: u32) -> u32
+        ensures { result ≡ (def.task_at self.now t).frame.pc }
+    {
+        match self.tasks.get(t as usize) {
+            Some(task) => task.pc(),
+            None => 0,
+        }
+    }
+
     /// The root's end.
     pub fn root_end(&self) -> Option<End>
         ensures { result ≡ (def.task_at self.now 0).outcome }
@@ -141,6 +171,26 @@ impl Records {
         ensures none { result ≡ None → def.scope_at self.now s ≡ def.no_scope }
     {
         self.scopes.get(s as usize)
+    }
+
+    /// The owner of a scope.
+    pub fn owner(&self, s: u32) -> u32
+        ensures { result ≡ (def.scope_at self.now s).owner }
+    {
+        match self.scope(s) {
+            Some(scope) => scope.owner,
+            None => 0,
+        }
+    }
+
+    /// The ends that a scope was told of, in order.
+    pub fn completions(&self, s: u32) -> &[Completion]
+        ensures { result.now ≡ (def.scope_at self.now s).completions }
+    {
+        match self.scope(s) {
+            Some(scope) => scope.completions.as_slice(),
+            None => &[],
+        }
     }
 
     /// The phase of a scope.

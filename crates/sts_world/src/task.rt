@@ -169,6 +169,33 @@ impl TaskRecord {
         self.outcome
     }
 
+    /// Was it started?
+    pub fn has_started(&self) -> bool
+        ensures { result ≡ self.now.started }
+    {
+        self.started
+    }
+
+    /// The function that it is in.
+    pub fn function(&self) -> u32
+        ensures { result ≡ self.now.frame.function }
+    {
+        match &self.frame {
+            HeldFrame::Living(frame) => frame.function,
+            HeldFrame::Resting(frame) => frame.function,
+        }
+    }
+
+    /// The place of its next instruction.
+    pub fn pc(&self) -> u32
+        ensures { result ≡ self.now.frame.pc }
+    {
+        match &self.frame {
+            HeldFrame::Living(frame) => frame.pc,
+            HeldFrame::Resting(frame) => frame.pc,
+        }
+    }
+
     /// The frame of a task that lives.
     pub fn frame(&self) -> &Frame
         requires lives { living.lives self.now ≡ true }

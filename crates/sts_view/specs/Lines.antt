@@ -1,0 +1,165 @@
+-- The lines that say what stands: one for each task and each scope that was ever born, and what is told of them on request
+-- (this project's own).
+use Rattle.std.specs.Prelude.{ℕ, ℤ, pos, ◌+◌, Bool, true, List, ◌∷◌, [], ◌++◌, reverse, Option, Some, None, is_some, codes, ◌&&◌, if◌then◌else◌}
+use Rattle.std.specs.List.{flat_map}
+use Rattle.std.specs.Ordering.{int_eq}
+use Rattle.std.specs.Fmt.{decimal, signed_decimal}
+use Rattle.sts_code.specs.Program.{Program, routine}
+use Rattle.sts_model.specs.declared.event.End.{End}
+use Rattle.sts_model.specs.declared.event.End.TheVariants.{Success, Failed}
+use Rattle.sts_model.specs.declared.event.Phase.{Phase}
+use Rattle.sts_model.specs.declared.event.Phase.TheVariants as phase
+use Rattle.sts_model.specs.declared.event.Stand.{Stand}
+use Rattle.sts_model.specs.declared.event.Stand.TheVariants.{Free, AtJoin, AtClose}
+use Rattle.sts_model.specs.declared.record.Completion.{Completion}
+use Rattle.sts_model.specs.declared.record.Scope.{Scope}
+use Rattle.sts_model.specs.declared.record.Task.{Task}
+use Rattle.sts_model.specs.Environment.{environment_of, read}
+use Rattle.sts_model.specs.Living.{lives, sub_state}
+use Rattle.sts_model.specs.Outside.{can_expire}
+use Rattle.sts_model.specs.Waiting.{can_step, stand_at}
+use Rattle.sts_model.specs.World.{World, task_at, scope_at}
+use Rattle.sts_list.specs.Spelling.{after_spaces, joiner_words}
+use Rattle.sts_cli.specs.Printed.{ended}
+
+-- a word that stands only where it holds
+abbrev pub only_if : Bool → List ℕ → List ℕ
+only_if b word = if b then word else []
+
+-- ---- a task
+
+-- the scope that a task is a subtask of, or `-` for the root
+abbrev pub under_words : Option ℕ → List ℕ
+under_words None = codes "-"
+under_words (Some s) = decimal s
+
+-- was the end of the task heard: is it the root's, or was its scope told of it?
+abbrev pub is_heard : World → ℕ → Option ℕ → Bool
+is_heard w t None = true
+is_heard w t (Some s) = is_some (sub_state w t)
+
+-- how a task ended
+abbrev pub end_words : Option End → List ℕ
+end_words None = []
+end_words (Some (Success v)) = codes " success " ++ signed_decimal v
+end_words (Some (Failed c)) = codes " failed " ++ signed_decimal c
+
+-- what a task waits for that can't step; where it is free it can
+abbrev pub wait_words : Stand → List ℕ
+wait_words Free = []
+wait_words (AtJoin s) = codes " waits join " ++ decimal s
+wait_words (AtClose s) = codes " waits close " ++ decimal s
+
+-- how a living task stands
+abbrev pub life_words : Bool → Stand → List ℕ
+life_words can_go stand = if can_go then codes " ready" else wait_words stand
+
+-- how a task that was started, and doesn't live, ended; `unheard` where its scope was cancelled before
+abbrev pub ended_words : World → ℕ → List ℕ
+ended_words w t =
+    (if is_heard w t (task_at w t).scope then [] else codes " unheard") ++ end_words (task_at w t).outcome
+
+-- how a task stands that doesn't live: a fork in a cancelled scope makes a task that never starts
+abbrev pub rest_words : World → ℕ → List ℕ
+rest_words w t = if (task_at w t).started then ended_words w t else codes " never-started"
+
+abbrev pub stand_words : Program → World → ℕ → List ℕ
+stand_words p w t =
+    if lives (task_at w t) then life_words (can_step p w t) (stand_at p w t) else rest_words w t
+
+-- `task T under S in NAME at PC`
+abbrev pub task_place : Program → World → ℕ → List ℕ
+task_place p w t =
+    codes "task " ++ decimal t ++ codes " under " ++ under_words (task_at w t).scope ++ codes " in "
+    ++ (routine p (task_at w t).frame.function).name ++ codes " at " ++ decimal (task_at w t).frame.pc
+
+-- how the task stands, and whether an interrupt is pending
+abbrev pub task_stand : Program → World → ℕ → List ℕ
+task_stand p w t = stand_words p w t ++ ended (only_if (task_at w t).flag (codes " interrupted"))
+
+abbrev pub task_line : Program → World → ℕ → List ℕ
+task_line p w t = task_place p w t ++ task_stand p w t
+
+-- ---- what a living task has, on request
+
+-- the operands, the top last
+abbrev pub operands_line : List ℤ → List ℕ
+operands_line operands =
+    codes "  operands" ++ ended (flat_map (λ v. codes " " ++ signed_decimal v) (reverse operands))
+
+-- ` N=V`
+abbrev pub pair_words : ℕ → ℤ → List ℕ
+pair_words n v = codes " " ++ decimal n ++ codes "=" ++ signed_decimal v
+
+-- the value of a local, unless it is 0
+abbrev pub local_word : ℕ → ℤ → List ℕ
+local_word x v = if int_eq v (pos 0) then [] else pair_words x v
+
+-- the locals from this one on that aren't 0
+abbrev pub local_words : List ℤ → ℕ → List ℕ
+local_words [] x = []
+local_words (v ∷ vs) x = local_word x v ++ local_words vs (x + 1)
+
+abbrev pub locals_line : List ℤ → List ℕ
+locals_line locals = codes "  locals" ++ ended (local_words locals 0)
+
+-- the value of a key, where it is bound
+abbrev pub bound_words : ℕ → Option ℤ → List ℕ
+bound_words k None = []
+bound_words k (Some v) = pair_words k v
+
+-- the keys that `read` finds a value for, of these, and the innermost values
+abbrev pub key_words : World → ℕ → List ℕ → List ℕ
+key_words w t keys = flat_map (λ k. bound_words k (read (environment_of (task_at w t) w) k)) keys
+
+abbrev pub keys : List ℕ
+keys = 0 ∷ 1 ∷ 2 ∷ 3 ∷ 4 ∷ 5 ∷ 6 ∷ 7 ∷ 8 ∷ 9 ∷ 10 ∷ 11 ∷ 12 ∷ 13 ∷ 14 ∷ 15 ∷ []
+
+abbrev pub bound_line : World → ℕ → List ℕ
+bound_line w t = codes "  bound" ++ ended (key_words w t keys)
+
+abbrev pub frame_lines : World → ℕ → List ℕ
+frame_lines w t =
+    operands_line (task_at w t).frame.operands ++ (locals_line (task_at w t).frame.locals ++ bound_line w t)
+
+abbrev pub task_block : Program → Bool → World → ℕ → List ℕ
+task_block p full w t = task_line p w t ++ (if full && lives (task_at w t) then frame_lines w t else [])
+
+-- the lines of these tasks, the first of which has this number
+abbrev pub task_lines : Program → Bool → World → List Task → ℕ → List ℕ
+task_lines p full w [] t = []
+task_lines p full w (x ∷ xs) t = task_block p full w t ++ task_lines p full w xs (t + 1)
+
+-- ---- a scope
+
+abbrev pub phase_word : Phase → List ℕ
+phase_word phase.Opened = codes "opened"
+phase_word phase.Attempted = codes "attempted"
+phase_word phase.Joined = codes "joined"
+phase_word phase.Closing = codes "closing"
+phase_word phase.Closed = codes "closed"
+
+-- `scope S of OWNER JOINER`
+abbrev pub scope_place : ℕ → Scope → List ℕ
+scope_place s scope =
+    codes "scope " ++ decimal s ++ codes " of " ++ decimal scope.owner ++ after_spaces (joiner_words scope.joiner)
+
+-- ` PHASE`, and what else holds of a scope
+abbrev pub scope_marks : Scope → List ℕ
+scope_marks scope =
+    codes " " ++ phase_word scope.phase ++ only_if scope.timed (codes " timed")
+    ++ only_if scope.cancelled (codes " cancelled") ++ only_if scope.expired (codes " expired")
+    ++ ended (only_if (can_expire scope) (codes " may-expire"))
+
+-- what the joiner was told: `told T success V` or `told T failed C`
+abbrev pub told_line : Completion → List ℕ
+told_line c = codes "  told " ++ decimal c.task ++ ended (end_words (Some c.end))
+
+abbrev pub scope_block : Bool → ℕ → Scope → List ℕ
+scope_block full s scope =
+    scope_place s scope ++ (scope_marks scope ++ (if full then flat_map told_line scope.completions else []))
+
+-- the lines of these scopes, the first of which has this number
+abbrev pub scope_lines : Bool → World → List Scope → ℕ → List ℕ
+scope_lines full w [] s = []
+scope_lines full w (x ∷ xs) s = scope_block full s (scope_at w s) ++ scope_lines full w xs (s + 1)
