@@ -2,7 +2,7 @@ use Rattle.std.proofs.Common.{◌≡◌, true, sym, ◌∙◌, ap, subst, arith}
 use Rattle.sts_forest.specs.declared.record.Task.{Task}
 use Rattle.sts_model.specs.contracts.event.StandPartialEq.TheImpl as stand_eq
 use Rattle.sts_model.specs.declared.event.Stand.{Stand}
-use Rattle.sts_tree.proofs.Seeing.{copied}
+use Rattle.sts_tree.proofs.SeeingLemmas.{copied}
 use Rattle.sts_store.specs.contracts.store.Store.{the_view}
 use Rattle.sts_store.specs.Parts.{Parts, stood_unseen, unseen_of}
 use Rattle.sts_store.proofs.Stands.{said_again}
