@@ -14,7 +14,7 @@ import sys
 import tempfile
 
 from documents import programs, read
-from trace import trace
+from write_trace import trace
 
 ROOT = os.path.dirname(os.path.dirname(os.path.realpath(__file__)))
 PROGRAM = os.path.join(ROOT, "crates", "sts", "out", "sts")
