@@ -176,42 +176,37 @@ def commands(paths):
 
 
 def programs(path):
-    """Returns each block of a document with what the table below it shows: a name, the text, and (asked, printed)."""
+    """Returns each block of a document with what is shown below it: a name, the text, of its table each (asked, printed), and
+    of each line without which it is refused (line, printed)."""
     found, heading, lines = [], "", iter(read(path).splitlines())
     for line in lines:
-        if line.startswith("#"):
+        without = re.fullmatch(r"- Without `([^`]*)`: `([^`]*)`\.", line)
+        if without:
+            found[-1][3].append(without.groups())
+        elif line.startswith("#"):
             heading = line.strip("# ")
         elif line.startswith("```"):
             block = "".join(f"{it}\n" for it in itertools.takewhile(lambda it: it != "```", lines))
             if line == "```":
-                found.append((heading, block, []))
+                found.append((heading, block, [], []))
         elif line.startswith("| Trace |"):
             table = list(itertools.takewhile(lambda it: it.startswith("|"), lines))[1:]
             found[-1][2].extend(tuple(cell.strip() for cell in it.strip("|").split("|")[:2]) for it in table)
     return found
 
 
-def refused_without(path):
-    """Returns a row for each program of a document of which is said what is printed without its lines of one kind."""
-    found, text = [], ""
-    for part in re.split(r"^(```\n.*?^```$)", read(path), flags=re.M | re.S):
-        if part.startswith("```\n"):
-            text = part[len("```\n"):-len("```")]
-        for line, printed in re.findall(r"^- Without `([^`]*)`: `([^`]*)`\.$", part, re.M):
-            rest = [it for it in text.splitlines() if it.split(";")[0].strip() != line]
-            found.append(row(f"without {line}", "\n".join(rest), [("verify", f"{STATUS['refused']} {printed}")]))
-    return found
-
-
 def patterns(path):
-    """Returns a row for each program of a document, with the traces of its table."""
-    found = refused_without(path)
-    for heading, text, shown in programs(path):
+    """Returns a row for each program of a document, with the traces of its table, and one for it without some lines."""
+    found = []
+    for heading, text, shown, without in programs(path):
         asked = [(trace.strip("`"), printed.replace("`", "").replace("<br>", " / ")) for trace, printed in shown if "`" in trace]
         if not asked or len(asked) == len(shown):
             fail(f"{path}: the table of {heading!r} shows no trace, or nothing by workers")
         answers = [(trace, f"{STATUS[printed.split(' ')[0]]} {printed}") for trace, printed in asked]
         found.append(row(heading, text, [("verify", "0"), *answers]))
+        for line, printed in without:
+            rest = "\n".join(it for it in text.splitlines() if it.split(";")[0].strip() != line)
+            found.append(row(f"{heading}, without {line}", rest, [("verify", f"{STATUS['refused']} {printed}")]))
     return found
 
 

@@ -14,7 +14,7 @@ import sys
 import tempfile
 
 from documents import programs, read
-from trace import trace
+from write_trace import trace
 
 ROOT = os.path.dirname(os.path.dirname(os.path.realpath(__file__)))
 PROGRAM = os.path.join(ROOT, "crates", "sts", "out", "sts")
@@ -60,7 +60,7 @@ def by_workers(program, folder, name, file, ends):
 
 def patterns(program, folder):
     """Yields what the tables of PATTERNS.md show of its programs."""
-    for number, (name, text, shown) in enumerate(programs(PATTERNS)):
+    for number, (name, text, shown, _) in enumerate(programs(PATTERNS)):
         file = kept(folder, f"pattern{number}", text.encode())
         for asked, printed in shown:
             lines = re.findall(r"`([^`]*)`", printed)
@@ -88,7 +88,7 @@ def files(program, folder):
 def first_text(program, folder):
     """Yields whether the first text of LANGUAGE.md prints what is shown of it."""
     page = read("docs/LANGUAGE.md")
-    file = kept(folder, "first", re.search(r"^```\n(.*?)^```$", page, re.M | re.S)[1].encode())
+    file = kept(folder, "first", programs("docs/LANGUAGE.md")[0][1].encode())
     shown = re.search(r"`./sts run my.sts --workers (\d+)` prints its budgets, `(.*?)` and `(.*?)`", page)
     said = says(program, "run", file, "--workers", shown[1])
     yield "the first text", said == f"{says(program, 'verify', file)}{shown[2]}\n{shown[3]}\n"

@@ -4,39 +4,6 @@ use crate::table::walk_table;
 use std::test::Fail;
 
 const PATTERNS: &str = "
-# without forget s1
-func kid 0              ; gives 5; where it was interrupted it fails with 9
-  interrupted
-  jz well
-  push 9
-  fail
-well:
-  push 5
-  ret
-end
-func main 0
-  open s0 awaitall
-  fork s0 kid s1
-  join s0 - - intr
-  case s1 came failed
-  push -1               ; unavailable
-  jmp done
-came:
-  get s1
-  jmp done
-failed:
-  except s1
-done:                   ; on each way a number is on the stack, and slot 1 is empty
-  close s0
-  ret
-intr:
-  push 0
-  close s0
-  fail
-end
-? verify
-= 4 refused V7 in main at 9: close s0
-
 # Hedged request
 func ask 1              ; a server: it gives 100 over its argument, and fails where that is 0
   push 100
@@ -367,6 +334,39 @@ end
 = 0 success 5 / steps 13
 ? 0*2 i1 1*4 0*6
 = 0 success 9 / steps 12
+
+# A handle is forgotten before ways meet, without forget s1
+func kid 0              ; gives 5; where it was interrupted it fails with 9
+  interrupted
+  jz well
+  push 9
+  fail
+well:
+  push 5
+  ret
+end
+func main 0
+  open s0 awaitall
+  fork s0 kid s1
+  join s0 - - intr
+  case s1 came failed
+  push -1               ; unavailable
+  jmp done
+came:
+  get s1
+  jmp done
+failed:
+  except s1
+done:                   ; on each way a number is on the stack, and slot 1 is empty
+  close s0
+  ret
+intr:
+  push 0
+  close s0
+  fail
+end
+? verify
+= 4 refused V7 in main at 9: close s0
 
 # The total is taken before the close, on each way
 profile 2

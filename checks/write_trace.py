@@ -1,5 +1,5 @@
 #!/usr/bin/env python3
-"""Prints the trace that is written short.  usage: trace.py WORDS
+"""Prints the trace that is written short.  usage: write_trace.py WORDS
 
 `0*5` stands for five lines `step 0`, `i0` for `interrupt 0` and `x0` for `expire 0`; blanks stand between them.
 """
@@ -22,7 +22,7 @@ def trace(words):
     found = {word: lines(word) for word in words.split()}
     wrong = [word for word, it in found.items() if it is None]
     if wrong:
-        sys.exit(f"checks/trace.py: {wrong[0]!r} is neither like 0*5 nor like i0 or x0")
+        sys.exit(f"checks/write_trace.py: {wrong[0]!r} is neither like 0*5 nor like i0 or x0")
     return "".join(f"{line}\n" for word in words.split() for line in found[word])
 
 
