@@ -1,12 +1,8 @@
 //! What an instruction does to a store, but for where its task stands afterwards.
 
 ghost use Rattle.std.specs.Prelude.{◌≡◌, ◌<◌, ◌≤◌, ◌+◌, ◌^◌, length, true, false};
-<<<<<<< HEAD
 ghost use Rattle.sts_code.specs.declared.limits.TheConstants.{MAX_INSTRUCTIONS};
-ghost use Rattle.sts_machine.specs.Changing.{Changes, is_quiet, may_wait};
-=======
 ghost use Rattle.sts_machine.specs.Changing.{Changes, is_quiet, may_leave, may_wait};
->>>>>>> turn
 ghost use Rattle.sts_machine.specs.Room.{HasRoomLeft};
 ghost use Rattle.sts_model.specs.World as world;
 ghost use Rattle.sts_seen.specs.Effect.{live_effect};

@@ -87,7 +87,7 @@ abbrev pub falls_off : List Instr → ℕ → Instr → Bool
 falls_off code pc i =
     list_any (nat_le (length code)) (targets i ++ next_place pc i ++ skipped_to code pc i)
 
--- V4: a targets target that is no later place
+-- V4: a target that is no later place
 abbrev pub jumps_back : ℕ → Instr → Bool
 jumps_back pc i = list_any (λ to. nat_le to pc) (targets i)
 
