@@ -1,1 +1,4 @@
 pub mod WayLemmas
+pub mod LineLemmas
+pub mod FaultLemmas
+pub mod TellLemmas

@@ -1,5 +1,5 @@
 -- What is kept for each place is a way to it.
-use Rattle.std.proofs.Common.{◌≡◌, ◌≢◌, ℕ, ◌<◌, ◌≤◌, ◌⊎◌, inl, inr, List, [], ◌∷◌, zero, suc, Option, Some, None, Bool, true, false, get_or, set, length, slice_get, refl, sym, ap, ◌∙◌, subst, cond, arith, get_or-set_same, get_or-set_other, replicate}
+use Rattle.std.proofs.Common.{◌≡◌, ◌≢◌, ℕ, ◌<◌, ◌≤◌, ◌⊎◌, inl, inr, List, [], ◌∷◌, zero, suc, Option, Some, None, Bool, true, false, get_or, length, slice_get, refl, sym, ap, ◌∙◌, subst, cond, arith, get_or-set_same, get_or-set_other, replicate}
 use Rattle.std.specs.Prelude.{Ok, IfSome, is_some, slice_index_or, slice_set, if◌then◌else◌}
 use Rattle.std.proofs.lemmas.Bool.{cases_eq, cases_lt}
 use Rattle.std.proofs.lemmas.Grind.{common_steps}
@@ -8,9 +8,9 @@ use Rattle.sts_code.specs.Program.{Program}
 use Rattle.sts_rules.specs.Edges.{edges, typing}
 use Rattle.sts_rules.specs.Flow.{Reaches, Leads, first, then}
 use Rattle.sts_rules.specs.TypeState.{TypeState, entry}
-use Rattle.sts_explain.specs.declared.ways.Origin.TheVariants.{Beginning, Edge, Turn}
+use Rattle.sts_explain.specs.declared.ways.Origin.TheVariants.{Beginning, Edge}
 use Rattle.sts_explain.specs.declared.ways.Way.{Way}
-use Rattle.sts_explain.specs.Ways.{Arrives, IsWayTo, AreWays}
+use Rattle.sts_explain.specs.Ways.{IsWayTo, AreWays}
 
 some_is : {X : Type 0} (x y : X) → Some x ≡ Some y → x ≡ y
 some_is x y e = cc

@@ -2,3 +2,4 @@ pub mod Sentences
 pub mod Lines
 pub mod Output
 pub mod Ways
+pub mod Differences

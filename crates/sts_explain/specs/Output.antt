@@ -1,13 +1,17 @@
 -- What is printed of a text and the status that goes with it (this project's own).
-use Rattle.std.specs.Prelude.{◌≡◌, ◌⊎◌, ℕ, List, Option, None, Result, Ok, Err, codes}
+use Rattle.std.specs.Prelude.{◌≡◌, ◌⊎◌, ℕ, List, [], ◌++◌, Option, Result, Ok, Err, codes}
 use Rattle.std.specs.Io.KnownBytes.{Appends}
 use Rattle.sts_code.specs.Program.{Program}
-use Rattle.sts_asm.specs.Outline.{Sentence, Outline}
+use Rattle.sts_asm.specs.Outline.{Outline}
 use Rattle.sts_asm.specs.Source.{outlined, sentence_at}
 use Rattle.sts_asm.specs.Text.{judged}
 use Rattle.sts_asm.specs.declared.fault.AsmError.{AsmError}
 use Rattle.sts_rules.specs.Refusal.{IsAccepted, IsRefusal}
 use Rattle.sts_rules.specs.declared.typing.Cause.{Cause}
+use Rattle.sts_rules.specs.declared.typing.Cause.TheVariants.{StatesDiffer}
+use Rattle.sts_explain.specs.declared.ways.Meeting.{Meeting}
+use Rattle.sts_explain.specs.Ways.{Meets}
+use Rattle.sts_explain.specs.Differences.{difference_lines}
 use Rattle.sts_explain.specs.Lines.{refused_lines, fault_lines}
 
 -- what is printed, and the status
@@ -24,30 +28,40 @@ accepted_output = record { bytes = codes "accepted\n"; status = 0 }
 abbrev pub fault_output : AsmError → List ℕ → Output
 fault_output e text = record { bytes = fault_lines e text; status = 3 }
 
--- the line of the instruction at a place of a function of the text
-abbrev pub sentence_in : Result Outline AsmError → ℕ → ℕ → Option Sentence
-sentence_in (Ok o) f pc = sentence_at o f pc
-sentence_in (Err e) f pc = None
+-- ---- refusals
 
-abbrev pub refused_output : Program → Result Outline AsmError → ℕ → ℕ → Cause → Output
-refused_output p o f pc c = record { bytes = refused_lines p (sentence_in o f pc) f c; status = 4 }
+-- what is told beside the cause: where two ways differ, if that is why
+pub data IsDetail (p : Program) (o : Outline) (f pc : ℕ) : Cause → List ℕ → Type 0 where
+  meets : (m : Meeting) → Meets p f pc m → IsDetail p o f pc StatesDiffer (difference_lines o p f m)
+  none : {c : Cause} → IsDetail p o f pc c []
+
+-- what was printed before, and then the detail
+pub data Tells (p : Program) (o : Outline) (f pc : ℕ) (c : Cause) (before after : List ℕ) : Type 0 where
+  told : (detail : List ℕ) → IsDetail p o f pc c detail → after ≡ before ++ detail → Tells p o f pc c before after
+
+abbrev pub refused_output : Program → Outline → ℕ → ℕ → Cause → List ℕ → Output
+refused_output p o f pc c detail = record { bytes = refused_lines p (sentence_at o f pc) f c ++ detail; status = 4 }
 
 -- what is printed of a program that is refused at its least place with a cause, for the least cause there
-pub record IsRefused (p : Program) (o : Result Outline AsmError) (output : Output) : Type 0 where
+pub record IsRefused (p : Program) (o : Outline) (output : Output) : Type 0 where
   pub function : ℕ
   pub place : ℕ
   pub cause : Cause
+  pub detail : List ℕ
   pub refusal : IsRefusal p function place cause
-  pub printed : output ≡ refused_output p o function place cause
+  pub told : IsDetail p o function place cause detail
+  pub printed : output ≡ refused_output p o function place cause detail
 
 -- of a program that is accepted, or refused
-pub data IsVerdict (p : Program) (o : Result Outline AsmError) (output : Output) : Type 0 where
+pub data IsVerdict (p : Program) (o : Outline) (output : Output) : Type 0 where
   accepted : IsAccepted p → output ≡ accepted_output → IsVerdict p o output
   refused : IsRefused p o output → IsVerdict p o output
 
+-- ---- texts
+
 -- of what a text spells, or of its first fault
 abbrev pub Explains : Result Program AsmError → List ℕ → Output → Type 0
-Explains (Ok p) text output = IsVerdict p (outlined text) output
+Explains (Ok p) text output = (o : Outline) × ((outlined text ≡ Ok o) × IsVerdict p o output)
 Explains (Err e) text output = output ≡ fault_output e text
 
 -- the explanation of a text, or that memory was refused

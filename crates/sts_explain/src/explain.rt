@@ -1,6 +1,7 @@
 //! Explains what is wrong with a text, if anything is.
 
-ghost use Rattle.std.specs.Prelude.{◌≡◌, IfOk, Result, Err};
+ghost use Rattle.std.specs.Prelude.{◌≡◌, IfOk, OnOk, Result, Ok, Err};
+ghost use Rattle.sts_rules.specs.Refusal.{IsRefusal};
 ghost use Rattle.sts_asm.specs.Source.{outlined as outlined_of};
 ghost use Rattle.sts_asm.specs.Text.{judged};
 ghost use Rattle.sts_asm.specs.Fault.{FailsAt};
@@ -8,11 +9,13 @@ ghost use Rattle.sts_code.specs.Program.{Program as AnyProgram};
 ghost use Rattle.sts_asm.specs.declared.fault.AsmError.{AsmError};
 ghost use Rattle.sts_explain.specs.Output as def;
 
+use crate::differences::difference_lines;
 use crate::lines::{fault_lines, refused_lines, say};
+use crate::ways::find_meeting;
 use std::alloc::{AllocError, Global};
 use std::io::Write;
 use std::marker::Model;
-use sts_asm::{AsmError, AsmKind, assemble, outlined};
+use sts_asm::{AsmError, AsmKind, Outline, assemble, outlined};
 use sts_code::program::Program;
 use sts_rules::typing::Cause;
 use sts_verify::error::VerifyError;
@@ -50,31 +53,63 @@ fn fault(alloc: Global, error: AsmError, text: &[u8]) -> Result<Output, AllocErr
     Ok(Output { bytes, status: 3 })
 }
 
+/// Tells where two ways that meet differ.
+fn say_meeting(
+    alloc: Global,
+    out: &mut Vec<u8>,
+    outline: &Outline<'_>,
+    program: &Program,
+    function: u32,
+    pc: u32,
+) -> Result<(), AllocError>
+    requires { IsRefusal program.now function pc Cause.StatesDiffer }
+    ensures { OnOk result (def.Tells program.now outline.now function pc Cause.StatesDiffer
+        out.old.items out.new.items) }
+{
+    match find_meeting(alloc, program, function, pc)? {
+        None => Ok(()),
+        Some(meeting) => {
+            difference_lines(alloc, out, outline, program, function, &meeting)?;
+            Ok(())
+        }
+    }
+}
+
+/// Tells beside the cause where two ways differ, if that is why.
+fn say_detail(
+    alloc: Global,
+    out: &mut Vec<u8>,
+    outline: &Outline<'_>,
+    program: &Program,
+    function: u32,
+    pc: u32,
+    cause: Cause,
+) -> Result<(), AllocError>
+    requires { IsRefusal program.now function pc cause }
+    ensures { OnOk result (def.Tells program.now outline.now function pc cause
+        out.old.items out.new.items) }
+{
+    match cause {
+        Cause::StatesDiffer => say_meeting(alloc, out, outline, program, function, pc),
+        _ => Ok(()),
+    }
+}
+
 fn refused(
     alloc: Global,
-    text: &[u8],
+    outline: &Outline<'_>,
     program: &Program,
     function: u32,
     pc: u32,
     cause: Cause,
 ) -> Result<Output, AllocError>
-    ensures { IfOk result (λ o. o
-        ≡ def.refused_output program.now (outlined_of text.now) function pc cause) }
+    requires { IsRefusal program.now function pc cause }
+    ensures { IfOk result (λ o. def.IsRefused program.now outline.now o) }
 {
     let mut bytes = Vec::new(alloc);
-    match outlined(alloc, text) {
-        Ok(outline) => {
-            let sentence = outline.sentence(function, pc);
-            refused_lines(alloc, &mut bytes, program, sentence, function, cause)?;
-        }
-        Err(
-            AsmError {
-                kind: AsmKind::Memory,
-                ..
-            },
-        ) => return Err(AllocError),
-        Err(_) => refused_lines(alloc, &mut bytes, program, None, function, cause)?,
-    }
+    let sentence = outline.sentence(function, pc);
+    refused_lines(alloc, &mut bytes, program, sentence, function, cause)?;
+    say_detail(alloc, &mut bytes, outline, program, function, pc, cause)?;
     Ok(Output { bytes, status: 4 })
 }
 
@@ -86,8 +121,8 @@ fn accepted(alloc: Global) -> Result<Output, AllocError>
     Ok(Output { bytes, status: 0 })
 }
 
-fn verdict(alloc: Global, text: &[u8], program: Program) -> Result<Output, AllocError>
-    ensures { IfOk result (λ o. def.IsVerdict program (outlined_of text.now) o) }
+fn verdict(alloc: Global, outline: &Outline<'_>, program: Program) -> Result<Output, AllocError>
+    ensures { IfOk result (λ o. def.IsVerdict program outline.now o) }
 {
     match verify(alloc, program) {
         Ok(_) => accepted(alloc),
@@ -99,15 +134,27 @@ fn verdict(alloc: Global, text: &[u8], program: Program) -> Result<Output, Alloc
                 pc,
                 cause,
             },
-        ) => refused(alloc, text, &program, function, pc, cause),
+        ) => refused(alloc, outline, &program, function, pc, cause),
     }
 }
 
-fn explanation(alloc: Global, text: &[u8]) -> Result<Output, AllocError>
+/// The explanation of a text whose lines were read.
+fn of_lines(alloc: Global, outline: &Outline<'_>, text: &[u8]) -> Result<Output, AllocError>
+    requires { outlined_of text.now ≡ Ok outline.now }
     ensures { IfOk result (λ o. def.Explains (judged text.now) text.now o) }
 {
     match assemble(alloc, text) {
-        Ok(program) => verdict(alloc, text, program),
+        Ok(program) => verdict(alloc, outline, program),
+        Err(error) => fault(alloc, error, text),
+    }
+}
+
+#[tactic(auto, using(crate::proofs::FaultLemmas::outline_fault))]
+fn explanation(alloc: Global, text: &[u8]) -> Result<Output, AllocError>
+    ensures { IfOk result (λ o. def.Explains (judged text.now) text.now o) }
+{
+    match outlined(alloc, text) {
+        Ok(outline) => of_lines(alloc, &outline, text),
         Err(error) => fault(alloc, error, text),
     }
 }

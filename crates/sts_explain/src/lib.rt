@@ -1,7 +1,9 @@
 //! Why a text is no program or a program is refused, told by the lines of its text.
 #![tactic(auto)]
 
+mod differences;
 pub mod explain;
 mod lines;
+pub mod parts;
 mod sentences;
 pub mod ways;

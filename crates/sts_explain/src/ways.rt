@@ -187,12 +187,7 @@ fn other_from(
 }
 
 /// Two ways that arrive at a place with typestates that differ.
-fn meeting_at(
-    program: &Program,
-    function: u32,
-    pc: u32,
-    table: &[Option<Way>],
-) -> Option<Meeting>
+fn meeting_at(program: &Program, function: u32, pc: u32, table: &[Option<Way>]) -> Option<Meeting>
     requires function { function < length program.now.routines }
     requires pc { pc < size program.now function }
     requires ways { def.AreWays program.now function table.now }
@@ -224,19 +219,17 @@ fn back_to(instr: Instr, state: &TypeState) -> Option<u32>
 }
 
 /// The way to the beginning of a turn, and the turn that ends here, where their typestates differ.
-fn turn_at(
-    program: &Program,
-    function: u32,
-    pc: u32,
-    table: &[Option<Way>],
-) -> Option<Meeting>
+fn turn_at(program: &Program, function: u32, pc: u32, table: &[Option<Way>]) -> Option<Meeting>
     requires function { function < length program.now.routines }
     requires pc { pc < size program.now function }
     requires ways { def.AreWays program.now function table.now }
     ensures { IfSome result (def.Meets program.now function pc) }
 {
     let last = way_at(table, pc)?;
-    let at = back_to(code_of(program, function as usize)[pc as usize], &last.state)?;
+    let at = back_to(
+        code_of(program, function as usize)[pc as usize],
+        &last.state,
+    )?;
     let one = way_at(table, at)?;
     if one.state.is_same(&last.state) {
         return None;

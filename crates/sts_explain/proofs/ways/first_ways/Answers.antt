@@ -1,4 +1,4 @@
-use Rattle.std.proofs.Common.{◌≡◌, ◌+◌, sym, subst, List, Option, Some, None, replicate}
+use Rattle.std.proofs.Common.{◌+◌, sym, subst, List, Option}
 use Rattle.sts_rules.specs.TypeState.{TypeState}
 use Rattle.sts_explain.specs.declared.ways.Way.{Way}
 use Rattle.sts_explain.specs.declared.ways.Origin.TheVariants.{Beginning}
@@ -12,5 +12,5 @@ loop-pc-init c =
     let f = c.args.function in
     subst (λ (t : List (Option Way)). def.AreWays p f t) (sym c.keep.ensures)
     (kept_ways p f c.in_ok-table.table.items 0 (record { origin = Beginning; state = c.entry.result })
-        (subst (λ (t : List (Option Way)). def.AreWays p f t) (sym c.in_ok-table.ensures) (no_ways p f (c.args.last + 1)))
-        (subst (λ (s : TypeState). def.IsWayTo p f 0 (record { origin = Beginning; state = s })) (sym c.entry.ensures) (first_way p f)))
+    (subst (λ (t : List (Option Way)). def.AreWays p f t) (sym c.in_ok-table.ensures) (no_ways p f (c.args.last + 1)))
+    (subst (λ (s : TypeState). def.IsWayTo p f 0 (record { origin = Beginning; state = s })) (sym c.entry.ensures) (first_way p f)))

@@ -1,0 +1,11 @@
+use Rattle.sts_rules.specs.declared.typing.Cause.TheVariants.{StatesDiffer}
+use Rattle.sts_explain.proofs.TellLemmas.{nothing_told, meeting_told}
+use Rattle.sts_explain.proofs.explain.say_meeting.Goals as goal
+
+pub returns-in-None : goal.returns-in-None
+returns-in-None c = nothing_told c.args.program.now c.args.outline.now c.args.function c.args.pc StatesDiffer c.args.out.now.items
+
+pub returns-in_ok-difference_lines-in-Some : goal.returns-in_ok-difference_lines-in-Some
+returns-in_ok-difference_lines-in-Some c =
+    meeting_told c.args.program.now c.args.outline.now c.args.function c.args.pc c.in-Some.meeting c.args.out.now.items c.difference_lines.new.out.items
+    (rw c.in-Some.is at c.in_ok-find_meeting.ensures) c.in_ok-difference_lines-in-Some.ensures

@@ -1,0 +1,7 @@
+use Rattle.std.proofs.Common.{◌≡◌, ◌++◌, string_bytes, drop}
+use Rattle.std.specs.List.{flat_map}
+use Rattle.sts_explain.specs.Differences as def
+use Rattle.sts_explain.proofs.parts.write_loops.Given as goal
+
+abbrev pub invariant-loop-n : goal.invariant-loop-n
+invariant-loop-n l = string_bytes l.out ++ flat_map def.loop_words (drop l.n l.loops) ≡ string_bytes l.fn.out ++ flat_map def.loop_words l.loops

@@ -1,0 +1,265 @@
+//! Each cause of a refusal, by the lines of its text.
+
+use crate::row::{Part, Row, all};
+use std::test::Fail;
+
+static OPERANDS_AND_WAYS: [Row; 5] = [
+    Row {
+        name: "fewer operands than are popped",
+        text: &[Part(1, "func main 0 / pop / push 0 / ret / end")],
+        lines: "refused V1 in main, line 2: pop / it pops more operands than there are here",
+        status: 4,
+    },
+    Row {
+        name: "more than 32 operands",
+        text: &[
+            Part(1, "func main 0"),
+            Part(33, "push 1"),
+            Part(1, "ret / end"),
+        ],
+        lines: "refused V2 in main, line 34: push 1 / more than 32 operands would be on the stack afterwards",
+        status: 4,
+    },
+    Row {
+        name: "a function without an end",
+        text: &[Part(1, "func main 0 / push 1 / end")],
+        lines: "refused V3 in main, line 2: push 1 / it leads to the end of the function: a ret, a fail or a jmp is missing",
+        status: 4,
+    },
+    Row {
+        name: "a label that stands before",
+        text: &[Part(1, "func main 0 / x: / jmp   x  ; again / end")],
+        lines: "refused V4 in main, line 3: jmp x / it names an instruction that isn't a later one: only times and next go back",
+        status: 4,
+    },
+    Row {
+        name: "no way leads there",
+        text: &[Part(1, "func main 0 / jmp x / push 1 / x: / push 2 / ret / end")],
+        lines: "refused V8 in main, line 3: push 1 / no way leads here",
+        status: 4,
+    },
+];
+
+static LOOPS_AND_SLOTS: [Row; 5] = [
+    Row {
+        name: "a way out of a loop",
+        text: &[Part(
+            1,
+            "func main 0 / push 2 / times 2 / jmp out / next / out: / push 0 / ret / end",
+        )],
+        lines: "refused V5 in main, line 4: jmp out / a times without its next, a next without its times, or a way into a loop or out of it",
+        status: 4,
+    },
+    Row {
+        name: "a ninth loop",
+        text: &[
+            Part(1, "func main 0"),
+            Part(9, "push 1 / times 1"),
+            Part(9, "next"),
+            Part(1, "push 0 / ret / end"),
+        ],
+        lines: "refused V6 in main, line 19: times 1 / 8 loops are open here, and it would open a ninth",
+        status: 4,
+    },
+    Row {
+        name: "no scope",
+        text: &[Part(1, "func main 0 / close s0 / push 1 / ret / end")],
+        lines: "refused V9 in main, line 2: close s0 / a slot that it names doesn't hold what it is about: a scope, or a subtask",
+        status: 4,
+    },
+    Row {
+        name: "a slot that is filled already",
+        text: &[Part(
+            1,
+            "func main 0 / open s0 awaitall / open s0 awaitall / join s0 - - intr / close s0 / push 1 / ret / intr: / push 0 / close s0 / fail / end",
+        )],
+        lines: "refused V10 in main, line 3: open s0 awaitall / the slot that it would fill isn't empty: a forget or a close is missing",
+        status: 4,
+    },
+    Row {
+        name: "another's scope",
+        text: &[Part(
+            1,
+            "func kid 0 / join s0 - - x / x: / push 0 / ret / end / func main 0 / open s0 awaitall / fork s0 kid _ / join s0 - - intr / close s0 / push 1 / ret / intr: / push 0 / close s0 / fail / end",
+        )],
+        lines: "refused V11 in kid, line 2: join s0 - - x / the scope is the one that this function is a subtask of: only its owner may do this",
+        status: 4,
+    },
+];
+
+static SCOPES_AND_BINDINGS: [Row; 5] = [
+    Row {
+        name: "a close before a join",
+        text: &[Part(
+            1,
+            "func main 0 / open s0 awaitall / close s0 / push 1 / ret / end",
+        )],
+        lines: "refused V12 in main, line 3: close s0 / the scope or subtask isn't known to be in the state for it: see its join or case",
+        status: 4,
+    },
+    Row {
+        name: "a scope is open at ret",
+        text: &[Part(1, "func main 0 / open s0 awaitall / push 1 / ret / end")],
+        lines: "refused V13 in main, line 4: ret / what was opened last is ended first, and all that is open before a ret or fail",
+        status: 4,
+    },
+    Row {
+        name: "a seventeenth binding",
+        text: &[
+            Part(1, "func main 0"),
+            Part(17, "push 1 / bind 0"),
+            Part(17, "unbind"),
+            Part(1, "push 0 / ret / end"),
+        ],
+        lines: "refused V14 in main, line 35: bind 0 / 16 scopes and bindings are open here, and it would open one more",
+        status: 4,
+    },
+    Row {
+        name: "a key that isn't bound",
+        text: &[Part(1, "func main 0 / read 2 / ret / end")],
+        lines: "refused V15 in main, line 2: read 2 / a key that is neither bound here nor named in the function's needs",
+        status: 4,
+    },
+    Row {
+        name: "a label for failed under awaitall",
+        text: &[Part(
+            1,
+            "func main 0 / open s0 awaitall / join s0 x - x / close s0 / push 1 / ret / x: / close s0 / push 2 / ret / end",
+        )],
+        lines: "refused V16 in main, line 3: join s0 x - x / failed has a label just under all, any and awaitok, and timeout just where timed",
+        status: 4,
+    },
+];
+
+static BUDGETS: [Row; 4] = [
+    Row {
+        name: "too many steps",
+        text: &[Part(
+            1,
+            "func main 0 / push 499 / times 499 / push 2001 / times 2001 / next / next / push 0 / push 0 / ret / end",
+        )],
+        lines: "refused V17 in main, at its end / some path takes more than 1000000 steps",
+        status: 4,
+    },
+    Row {
+        name: "too many tasks",
+        text: &[Part(
+            1,
+            "func kid 0 / push 5 / ret / end / func main 0 / open s0 awaitall / push 7 / times 7 / push 10000 / times 10000 / fork s0 kid _ / next / next / join s0 - - intr / close s0 / push 1 / ret / intr: / push 0 / close s0 / fail / end",
+        )],
+        lines: "refused V18 in main, at its end / at some point of a path more than 65536 tasks stand",
+        status: 4,
+    },
+    Row {
+        name: "too many scopes",
+        text: &[
+            Part(
+                1,
+                "func a 0 / open s1 awaitall / open s2 awaitall / open s3 awaitall / open s4 awaitall / open s5 awaitall / open s6 awaitall / open s7 awaitall / open s8 awaitall / join s8 - - x8 / close s8 / jmp y8 / x8: / close s8 / y8: / join s7 - - x7 / close s7 / jmp y7 / x7: / close s7 / y7: / join s6 - - x6 / close s6 / jmp y6 / x6: / close s6 / y6: / join s5 - - x5 / close s5 / jmp y5 / x5: / close s5 / y5: / join s4 - - x4 / close s4 / jmp y4 / x4: / close s4 / y4: / join s3 - - x3 / close s3 / jmp y3 / x3: / close s3 / y3: / join s2 - - x2 / close s2 / jmp y2 / x2: / close s2 / y2: / join s1 - - x1 / close s1 / jmp y1 / x1: / close s1 / y1: / push 0 / ret / end",
+            ),
+            Part(
+                1,
+                "func main 0 / open s0 awaitall / push 1 / times 1 / push 8192 / times 8192 / fork s0 a _ / next / next / join s0 - - intr / close s0 / push 1 / ret / intr: / push 0 / close s0 / fail / end",
+            ),
+        ],
+        lines: "refused V19 in main, at its end / at some point of a path more than 65536 scopes are open",
+        status: 4,
+    },
+    Row {
+        name: "too many bindings",
+        text: &[
+            Part(1, "func a 0"),
+            Part(8, "push 1 / bind 0"),
+            Part(8, "unbind"),
+            Part(1, "push 0 / ret / end"),
+            Part(
+                1,
+                "func main 0 / push 1 / bind 3 / open s0 awaitall / push 8192 / times 8192 / fork s0 a _ / next / join s0 - - x / close s0 / unbind / push 1 / ret / x: / close s0 / unbind / push 2 / ret / end",
+            ),
+        ],
+        lines: "refused V20 in main, at its end / at some point of a path more than 65536 bindings are open",
+        status: 4,
+    },
+];
+
+static WAYS: [Row; 6] = [
+    Row {
+        name: "one way pushes",
+        text: &[Part(
+            1,
+            "func main 0 / push 1 / jz x / push 2 / x: / push 3 / ret / end",
+        )],
+        lines: "refused V7 in main, line 6: push 3 / two ways meet here, and what is known of the task differs / operands: 0 on the way from line 3 (it was 0); 1 on the way from line 4",
+        status: 4,
+    },
+    Row {
+        name: "two outcomes of a join",
+        text: &[Part(
+            1,
+            "func kid 0 / push 5 / ret / end / func main 0 / open s0 all / fork s0 kid _ / join s0 out - out / close s0 / ret / out: / close s0 / push 0 / fail / end",
+        )],
+        lines: "refused V7 in main, line 12: close s0 / two ways meet here, and what is known of the task differs / operands: 1 on the way from line 8 (failed); 0 on the way from line 8 (interrupted) / open, the last one first: (s0 all joined) on the way from line 8 (failed); (s0 all attempted) on the way from line 8 (interrupted)",
+        status: 4,
+    },
+    Row {
+        name: "what is known of a subtask",
+        text: &[Part(
+            1,
+            "func kid 0 / push 5 / ret / end / func main 0 / open s0 awaitall / fork s0 kid s1 / join s0 - - intr / case s1 yes no / push -1 / jmp done / yes: / get s1 / jmp done / no: / except s1 / done: / close s0 / ret / intr: / push 0 / close s0 / fail / end",
+        )],
+        lines: "refused V7 in main, line 18: close s0 / two ways meet here, and what is known of the task differs / slot s1: unknown, of s0 on the way from line 11; success, of s0 on the way from line 14",
+        status: 4,
+    },
+    Row {
+        name: "a turn pushes",
+        text: &[Part(
+            1,
+            "func main 0 / push 2 / times 2 / push 1 / next / push 0 / ret / end",
+        )],
+        lines: "refused V7 in main, line 5: next / two ways meet here, and what is known of the task differs / operands: 0 on the way from line 3; 1 on the way from the turn that ends at line 5",
+        status: 4,
+    },
+    Row {
+        name: "a binding on one way",
+        text: &[Part(
+            1,
+            "func main 0 / push 7 / push 1 / jz x / bind 3 / push 0 / x: / ret / end",
+        )],
+        lines: "refused V7 in main, line 8: ret / two ways meet here, and what is known of the task differs / open, the last one first: none on the way from line 4 (it was 0); (key 3) on the way from line 6",
+        status: 4,
+    },
+    Row {
+        name: "a subtask on one way",
+        text: &[Part(
+            1,
+            "func kid 0 / push 5 / ret / end / func main 0 / open s0 until success 2 timed / push 1 / jz x / fork s0 kid s3 / x: / join s0 - late intr / close s0 / ret / late: / push 0 / close s0 / ret / intr: / push 0 / close s0 / fail / end",
+        )],
+        lines: "refused V7 in main, line 11: join s0 - late intr / two ways meet here, and what is known of the task differs / slot s3: empty on the way from line 8 (it was 0); unknown, of s0 on the way from line 9",
+        status: 4,
+    },
+];
+
+#[test]
+fn tell_operands_and_ways(rt: HostRuntime) -> Result<(), Fail> {
+    all(&rt, rt.alloc(), &OPERANDS_AND_WAYS)
+}
+
+#[test]
+fn tell_loops_and_slots(rt: HostRuntime) -> Result<(), Fail> {
+    all(&rt, rt.alloc(), &LOOPS_AND_SLOTS)
+}
+
+#[test]
+fn tell_scopes_and_bindings(rt: HostRuntime) -> Result<(), Fail> {
+    all(&rt, rt.alloc(), &SCOPES_AND_BINDINGS)
+}
+
+#[test]
+fn tell_budgets(rt: HostRuntime) -> Result<(), Fail> {
+    all(&rt, rt.alloc(), &BUDGETS)
+}
+
+#[test]
+fn tell_ways(rt: HostRuntime) -> Result<(), Fail> {
+    all(&rt, rt.alloc(), &WAYS)
+}

@@ -1,0 +1,69 @@
+//! A row, its short notation, and how a table of rows is walked.
+
+use std::alloc::{AllocError, Global};
+use std::process::Abort;
+use std::str;
+use std::test::Fail;
+use sts_explain::explain::explain;
+
+/// Lines, and how many times they stand one after the other; ` / ` stands between two lines.
+#[derive(Clone, Copy)]
+pub struct Part(pub u16, pub &'static str);
+
+/// A text, the lines that explain it, and the status.
+pub struct Row {
+    pub name: &'static str,
+    pub text: &'static [Part],
+    pub lines: &'static str,
+    pub status: u8,
+}
+
+/// Each line ended by a newline.
+fn lines(alloc: Global, short: &str) -> Result<String, AllocError> {
+    let mut text = String::new(alloc);
+    for line in short.split(" / ") {
+        text.push_str(line)?;
+        text.push('\n')?;
+    }
+    Ok(text)
+}
+
+fn push_part(text: &mut String, alloc: Global, part: &Part) -> Result<(), AllocError> {
+    let once = lines(alloc, part.1)?;
+    for _ in 0..part.0 {
+        text.push_str(once.as_str())?;
+    }
+    Ok(())
+}
+
+fn assembled(alloc: Global, parts: &[Part]) -> Result<String, AllocError> {
+    let mut text = String::new(alloc);
+    for part in parts {
+        push_part(&mut text, alloc, part)?;
+    }
+    Ok(text)
+}
+
+/// Explains the text of a row, and compares what is printed and the status.
+fn explains<R: Abort>(rt: &R, alloc: Global, row: &Row) -> Result<(), Fail> {
+    let text = assembled(alloc, row.text)?;
+    let mut printed = Vec::new(alloc);
+    let status = explain(alloc, text.as_bytes(), &mut printed).map_err(|_| "not written")?;
+    let want = lines(alloc, row.lines)?;
+    assert_eq!(rt;
+        str::from_utf8(printed.as_slice())?,
+        want.as_str(),
+        "at {:?}",
+        row.name
+    );
+    assert_eq!(rt; status, row.status, "the status at {:?}", row.name);
+    Ok(())
+}
+
+/// Explains the text of each row.
+pub fn all<R: Abort>(rt: &R, alloc: Global, rows: &[Row]) -> Result<(), Fail> {
+    for row in rows {
+        explains(rt, alloc, row)?;
+    }
+    Ok(())
+}
