@@ -20,8 +20,6 @@ mod operands;
 #[cfg(test)]
 mod place;
 #[cfg(test)]
-mod row;
-#[cfg(test)]
 mod spelling;
 #[cfg(test)]
 mod straight;
