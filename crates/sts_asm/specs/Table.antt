@@ -1,10 +1,12 @@
 -- The instruction table: which words spell which instruction (this project's own).
-use Rattle.std.specs.Prelude.{◌≡◌, ℕ, ◌^◌, ◌-◌, ◌↔◌, Bool, true, false, List, [], ◌∷◌, ◌++◌, Option, Some, None, Ok, codes}
+use Rattle.std.specs.Prelude.{◌≡◌, ℕ, ◌^◌, ◌-◌, ◌↔◌, Bool, true, false, List, [], ◌∷◌, ◌++◌, Option}
+use Rattle.std.specs.Prelude.{Some, None, Ok, codes}
 use Rattle.sts_code.specs.Name.{is_name}
 use Rattle.sts_code.specs.declared.instr.Instr.{Instr}
 use Rattle.sts_code.specs.declared.instr.Instr.TheVariants as i
 use Rattle.sts_code.specs.declared.instr.Joiner.{Joiner}
-use Rattle.sts_code.specs.declared.instr.Joiner.TheVariants.{AllSucceed, AnySucceeds, AwaitOk, AwaitAll, Until}
+use Rattle.sts_code.specs.declared.instr.Joiner.TheVariants.{AllSucceed, AnySucceeds, AwaitOk}
+use Rattle.sts_code.specs.declared.instr.Joiner.TheVariants.{AwaitAll, Until}
 use Rattle.sts_code.specs.declared.instr.Pred.TheVariants.{Failed, Success, AtLeast}
 use Rattle.sts_code.specs.declared.instr.Kind.{Kind}
 use Rattle.sts_code.specs.declared.instr.Kind.TheVariants.{S, F, U}
@@ -41,7 +43,8 @@ IsKind U word = word ≡ codes "U"
 
 -- a word, and a number of a field that holds 0 to `most`
 abbrev pub IsNumbered : List ℕ → ℕ → ℕ → List (List ℕ) → Type 0
-IsNumbered first most n words = (w : List ℕ) × (words ≡ first ∷ w ∷ []) × (number_up_to most w ≡ Some n)
+IsNumbered first most n words =
+    (w : List ℕ) × (words ≡ first ∷ w ∷ []) × (number_up_to most w ≡ Some n)
 
 -- a word and a slot
 abbrev pub IsSlotted : List ℕ → ℕ → List (List ℕ) → Type 0
@@ -113,4 +116,6 @@ Spells names i.Fail words = words ≡ codes "fail" ∷ []
 
 -- What is read is what the table says.
 abbrev pub ReadByTable : Type 0
-ReadByTable = (names : Option Names) (words : List (List ℕ)) (instr : Instr) → (instr_of names words ≡ Ok instr) ↔ Spells names instr words
+ReadByTable =
+    (names : Option Names) (words : List (List ℕ)) (instr : Instr)
+    → (instr_of names words ≡ Ok instr) ↔ Spells names instr words

@@ -1,5 +1,6 @@
 -- The listing of a program (this project's own).
-use Rattle.std.specs.Prelude.{ℕ, ◌+◌, ◌==◌, Bool, true, false, List, [], ◌∷◌, ◌++◌, Option, Some, None, slice_set, if◌then◌else◌, codes}
+use Rattle.std.specs.Prelude.{ℕ, ◌+◌, ◌==◌, Bool, true, false, List, [], ◌∷◌, ◌++◌, Option, Some}
+use Rattle.std.specs.Prelude.{None, slice_set, if◌then◌else◌, codes}
 use Rattle.std.specs.List.{flat_map, list_any}
 use Rattle.std.specs.Fmt.{decimal}
 use Rattle.sts_code.specs.Program.{Program, Routine}
@@ -51,7 +52,8 @@ instr_line p instr = codes "  " ++ spelled p instr ++ codes "\n"
 -- the lines of the instructions from pc on
 abbrev pub code_lines : Program → List Instr → ℕ → List Instr → List ℕ
 code_lines p code pc [] = []
-code_lines p code pc (instr ∷ rest) = label_line (is_target code pc) pc ++ instr_line p instr ++ code_lines p code (pc + 1) rest
+code_lines p code pc (instr ∷ rest) =
+    label_line (is_target code pc) pc ++ instr_line p instr ++ code_lines p code (pc + 1) rest
 
 -- a function from its first line to `end`
 abbrev pub function_lines : Program → Routine → List ℕ
