@@ -17,8 +17,9 @@ row:
 - each command of README.md and examples/README.md, with the files that it names.
 
 It also says where a document names a file that isn't there, where PROOFS.md names a function or a clause that its file
-doesn't have, where a document shows a line of a contract that no source has or a part of a program that no example has, where an example isn't shown or says that it prints something else, and where a
-picture isn't what its script draws.
+doesn't have, where a document shows a line of a contract that no source has or a part of a program that no example has,
+where an example isn't shown or says that it prints something else, where a picture isn't what its script draws, and where
+a crate uses proofs of another one from a file that isn't called `*Lemmas`.
 """
 import itertools
 import os
@@ -321,8 +322,20 @@ def pictures():
         fail("a picture isn't what docs/pictures/draw.py draws: run it")
 
 
+def proofs_of_others():
+    """Fails where a crate uses proofs of another crate of the repository from a file that isn't called `*Lemmas`."""
+    names = "|".join(os.listdir(f"{ROOT}/crates"))
+    used = re.compile(rf"\b({names})(?:\.|::)proofs(?:\.|::)(\w+)")
+    listed = subprocess.check_output(["git", "ls-files", "-co", "--exclude-standard", "crates"], cwd=ROOT, text=True)
+    for path in (it for it in listed.split() if it.endswith((".rt", ".antt")) and os.path.exists(f"{ROOT}/{it}")):
+        for crate, name in used.findall(read(path)):
+            if crate != path.split("/")[1] and not name.endswith("Lemmas"):
+                fail(f"{path} uses {name} of {crate}, which isn't called `*Lemmas`")
+
+
 def main():
     named_files()
+    proofs_of_others()
     shown_contracts("docs/PROOFS.md")
     named_clauses("docs/PROOFS.md")
     shown_programs("README.md")

@@ -4,5 +4,3 @@
 pub mod asked;
 pub mod command;
 pub mod reading;
-#[cfg(test)]
-mod tests;

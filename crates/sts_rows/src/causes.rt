@@ -3,7 +3,6 @@
 
 use crate::row::{Part, verifies};
 use std::alloc::Global;
-use std::process::Abort;
 use std::test::Fail;
 
 /// A subtask that gives 0.
@@ -332,41 +331,41 @@ static EDGES_AND_BUDGETS: [Cause; 5] = [
 ];
 
 /// Verifies the refused text of each cause.
-fn refuses<R: Abort>(rt: &R, alloc: Global, causes: &[Cause]) -> Result<(), Fail> {
+fn refuses(alloc: Global, causes: &[Cause]) -> Result<(), Fail> {
     for cause in causes {
-        verifies(rt, alloc, cause.what, cause.refused, (cause.refusal, 4))?;
+        verifies(alloc, cause.what, cause.refused, (cause.refusal, 4))?;
     }
     Ok(())
 }
 
 /// Verifies the accepted text of each cause.
-fn accepts<R: Abort>(rt: &R, alloc: Global, causes: &[Cause]) -> Result<(), Fail> {
+fn accepts(alloc: Global, causes: &[Cause]) -> Result<(), Fail> {
     for cause in causes {
-        verifies(rt, alloc, cause.what, cause.accepted, (cause.budgets, 0))?;
+        verifies(alloc, cause.what, cause.accepted, (cause.budgets, 0))?;
     }
     Ok(())
 }
 
 #[test]
 fn operands_and_ways(rt: HostRuntime) -> Result<(), Fail> {
-    refuses(&rt, rt.alloc(), &OPERANDS_AND_WAYS)?;
-    accepts(&rt, rt.alloc(), &OPERANDS_AND_WAYS)
+    refuses(rt.alloc(), &OPERANDS_AND_WAYS)?;
+    accepts(rt.alloc(), &OPERANDS_AND_WAYS)
 }
 
 #[test]
 fn loops_and_slots(rt: HostRuntime) -> Result<(), Fail> {
-    refuses(&rt, rt.alloc(), &LOOPS_AND_SLOTS)?;
-    accepts(&rt, rt.alloc(), &LOOPS_AND_SLOTS)
+    refuses(rt.alloc(), &LOOPS_AND_SLOTS)?;
+    accepts(rt.alloc(), &LOOPS_AND_SLOTS)
 }
 
 #[test]
 fn scopes_and_bindings(rt: HostRuntime) -> Result<(), Fail> {
-    refuses(&rt, rt.alloc(), &SCOPES_AND_BINDINGS)?;
-    accepts(&rt, rt.alloc(), &SCOPES_AND_BINDINGS)
+    refuses(rt.alloc(), &SCOPES_AND_BINDINGS)?;
+    accepts(rt.alloc(), &SCOPES_AND_BINDINGS)
 }
 
 #[test]
 fn edges_and_budgets(rt: HostRuntime) -> Result<(), Fail> {
-    refuses(&rt, rt.alloc(), &EDGES_AND_BUDGETS)?;
-    accepts(&rt, rt.alloc(), &EDGES_AND_BUDGETS)
+    refuses(rt.alloc(), &EDGES_AND_BUDGETS)?;
+    accepts(rt.alloc(), &EDGES_AND_BUDGETS)
 }

@@ -94,5 +94,5 @@ pub static ROWS: [Row; 10] = [
 
 #[test]
 fn rows_hold(rt: HostRuntime) -> Result<(), Fail> {
-    walk(&rt, rt.alloc(), &ROWS)
+    walk(rt.alloc(), &ROWS)
 }

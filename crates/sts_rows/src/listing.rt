@@ -1,6 +1,6 @@
 //! Listings: what is printed, and that each row's text is the same program again.
 
-use crate::row::{Row, lines, walk};
+use crate::row::{Row, walk};
 use crate::{environments, first_path, interrupts, misuse, profile_two, scopes, timeouts};
 use std::alloc::Global;
 use std::process::Abort;
@@ -9,6 +9,7 @@ use sts_asm::assemble;
 use sts_cli::mode::Mode;
 use sts_code::program::{Function, Program};
 use sts_list::list;
+use sts_row::notation::lines;
 
 static ROWS: [Row; 1] = [Row {
     name: "targets are named by their places",
@@ -25,7 +26,7 @@ static ROWS: [Row; 1] = [Row {
 
 #[test]
 fn rows_hold(rt: HostRuntime) -> Result<(), Fail> {
-    walk(&rt, rt.alloc(), &ROWS)
+    walk(rt.alloc(), &ROWS)
 }
 
 fn is_same_function(one: &Function, other: &Function) -> bool {

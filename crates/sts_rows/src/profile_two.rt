@@ -66,5 +66,5 @@ pub static ROWS: [Row; 5] = [
 
 #[test]
 fn rows_hold(rt: HostRuntime) -> Result<(), Fail> {
-    walk(&rt, rt.alloc(), &ROWS)
+    walk(rt.alloc(), &ROWS)
 }

@@ -1,12 +1,14 @@
 //! Faults of texts: the first one is told, whatever is done with the text.
 
-use crate::row::{Row, lines, plays, walk};
+use crate::row::{Row, walk};
 use crate::scopes::TWO_SUBTASKS;
 use std::alloc::Global;
 use std::process::Abort;
 use std::test::Fail;
 use sts_cli::mode::Mode;
 use sts_cli::play::play;
+use sts_row::notation::lines;
+use sts_row::playing::plays;
 
 pub static ROWS: [Row; 14] = [
     Row {
@@ -125,40 +127,34 @@ pub static ROWS: [Row; 14] = [
 
 #[test]
 fn rows_hold(rt: HostRuntime) -> Result<(), Fail> {
-    walk(&rt, rt.alloc(), &ROWS)
+    walk(rt.alloc(), &ROWS)
 }
 
 /// Plays each row in another mode, and expects the same.
-fn same_faults<R: Abort>(rt: &R, alloc: Global, mode: Mode) -> Result<(), Fail> {
+fn same_faults(alloc: Global, mode: Mode) -> Result<(), Fail> {
     for row in &ROWS {
         let text = lines(alloc, row.text)?;
         let output = lines(alloc, row.output)?;
         let want = (output.as_str(), row.status);
-        plays(rt, alloc, row.name, mode, (text.as_bytes(), b""), want)?;
+        plays(alloc, row.name, mode, (text.as_bytes(), b""), want)?;
     }
     Ok(())
 }
 
 #[test]
 fn a_listing_tells_the_same_faults(rt: HostRuntime) -> Result<(), Fail> {
-    same_faults(&rt, rt.alloc(), Mode::List)
+    same_faults(rt.alloc(), Mode::List)
 }
 
 #[test]
 fn a_verification_tells_the_same_faults(rt: HostRuntime) -> Result<(), Fail> {
-    same_faults(&rt, rt.alloc(), Mode::Verify)
+    same_faults(rt.alloc(), Mode::Verify)
 }
 
 /// Plays a text without a trace in each mode but `list`, and expects the same fault of the text.
-fn refused<R: Abort>(
-    rt: &R,
-    alloc: Global,
-    name: &str,
-    text: &[u8],
-    output: &str,
-) -> Result<(), Fail> {
+fn refused(alloc: Global, name: &str, text: &[u8], output: &str) -> Result<(), Fail> {
     for mode in [Mode::Plain, Mode::Replay, Mode::Verify] {
-        plays(rt, alloc, name, mode, (text, b""), (output, 3))?;
+        plays(alloc, name, mode, (text, b""), (output, 3))?;
     }
     Ok(())
 }
@@ -166,7 +162,7 @@ fn refused<R: Abort>(
 #[test]
 fn a_byte_that_is_not_allowed(rt: HostRuntime) -> Result<(), Fail> {
     let text = b"func main 0\npush 7\x80\nret\nend\n".as_slice();
-    refused(&rt, rt.alloc(), "a byte 128", text, "error A1 line 2\n")
+    refused(rt.alloc(), "a byte 128", text, "error A1 line 2\n")
 }
 
 /// A text that begins so, and then has so many newlines.
@@ -182,10 +178,9 @@ fn padded(alloc: Global, start: &str, newlines: usize) -> Result<String, Fail> {
 fn a_text_of_the_greatest_length(rt: HostRuntime) -> Result<(), Fail> {
     let empty_lines = padded(rt.alloc(), "", 1_048_576)?;
     let output = "error A9 C5 function 0 at 0\n";
-    refused(&rt, rt.alloc(), "newlines", empty_lines.as_bytes(), output)?;
+    refused(rt.alloc(), "newlines", empty_lines.as_bytes(), output)?;
     let open = padded(rt.alloc(), "func main 0", 1_048_565)?;
     refused(
-        &rt,
         rt.alloc(),
         "unclosed",
         open.as_bytes(),
@@ -193,7 +188,6 @@ fn a_text_of_the_greatest_length(rt: HostRuntime) -> Result<(), Fail> {
     )?;
     let too_long = padded(rt.alloc(), "", 1_048_577)?;
     refused(
-        &rt,
         rt.alloc(),
         "too long",
         too_long.as_bytes(),
@@ -209,7 +203,6 @@ fn a_function_more_than_a_program_may_have(rt: HostRuntime) -> Result<(), Fail> 
     }
     text.push_str("func main 0\npush 0\nret\nend\n")?;
     refused(
-        &rt,
         rt.alloc(),
         "65 functions",
         text.as_bytes(),
@@ -225,7 +218,6 @@ fn an_instruction_more_than_a_function_may_have(rt: HostRuntime) -> Result<(), F
     }
     text.push_str("end\nfunc main 0\npush 0\nret\nend\n")?;
     refused(
-        &rt,
         rt.alloc(),
         "4,097 instructions",
         text.as_bytes(),

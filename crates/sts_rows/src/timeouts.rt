@@ -51,5 +51,5 @@ pub static ROWS: [Row; 4] = [
 
 #[test]
 fn rows_hold(rt: HostRuntime) -> Result<(), Fail> {
-    walk(&rt, rt.alloc(), &ROWS)
+    walk(rt.alloc(), &ROWS)
 }

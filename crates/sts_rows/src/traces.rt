@@ -1,10 +1,11 @@
 //! Faults of traces: the first one is told, and no event is applied.
 
-use crate::row::{events, lines, plays, runs};
 use crate::scopes::TWO_SUBTASKS;
 use std::test::Fail;
 use sts_cli::mode::Mode;
 use sts_cli::play::play;
+use sts_row::notation::{events, lines};
+use sts_row::playing::{plays, runs};
 
 /// A trace as it stands, and what is printed for it.
 struct FaultyTrace {
@@ -53,7 +54,7 @@ const SEVEN: &[u8] = b"func main 0\npush 7\nret\nend\n";
 fn the_first_fault_is_told(rt: HostRuntime) -> Result<(), Fail> {
     for row in &FAULTY {
         let input = (SEVEN, row.trace.as_bytes());
-        runs(&rt, rt.alloc(), row.trace, input, (row.output, 3))?;
+        runs(rt.alloc(), row.trace, input, (row.output, 3))?;
     }
     Ok(())
 }
@@ -61,7 +62,7 @@ fn the_first_fault_is_told(rt: HostRuntime) -> Result<(), Fail> {
 #[test]
 fn a_step_of_the_greatest_number_is_read(rt: HostRuntime) -> Result<(), Fail> {
     let input = (SEVEN, b"step 4294967295\n".as_slice());
-    runs(&rt, rt.alloc(), "unborn", input, ("running\nsteps 0\n", 5))
+    runs(rt.alloc(), "unborn", input, ("running\nsteps 0\n", 5))
 }
 
 /// A program that is refused.
@@ -72,9 +73,9 @@ const REFUSED: &str = "refused V4 in main at 0: jmp L0\n";
 #[test]
 fn a_fault_comes_before_the_verdict(rt: HostRuntime) -> Result<(), Fail> {
     let faulty = (ENDLESS, b"step 0\nstep".as_slice());
-    runs(&rt, rt.alloc(), "faulty", faulty, ("error T3\n", 3))?;
+    runs(rt.alloc(), "faulty", faulty, ("error T3\n", 3))?;
     let fine = (ENDLESS, b"step 0\n".as_slice());
-    plays(&rt, rt.alloc(), "fine", Mode::Replay, fine, (REFUSED, 4))
+    plays(rt.alloc(), "fine", Mode::Replay, fine, (REFUSED, 4))
 }
 
 /// A beginning is a trace exactly where it is empty or ends with a newline.

@@ -364,14 +364,14 @@ static REPEATING: [Repeating; 5] = [
 
 #[test]
 fn rows_hold(rt: HostRuntime) -> Result<(), Fail> {
-    walk(&rt, rt.alloc(), &ROWS)
+    walk(rt.alloc(), &ROWS)
 }
 
 #[test]
 fn repeating_rows_hold(rt: HostRuntime) -> Result<(), Fail> {
     for row in &REPEATING {
         let want = (row.output, row.status);
-        verifies(&rt, rt.alloc(), row.name, row.text, want)?;
+        verifies(rt.alloc(), row.name, row.text, want)?;
     }
     Ok(())
 }

@@ -3,7 +3,6 @@
 
 use crate::place::Place;
 use std::alloc::Global;
-use std::process::Abort;
 use std::test::Fail;
 
 /// The kind of fault, or `goes` where it is none; the cause, or `-` where the verifier isn't asked;
@@ -228,26 +227,21 @@ Structure V13 | ret | open s1 all / push 1 |
 ";
 
 /// Tries a place: what the machine does there, and what the verifier says.
-fn tries<R: Abort>(rt: &R, alloc: Global, place: &Place, judged: &str) -> Result<(), Fail> {
+fn tries(alloc: Global, place: &Place, judged: &str) -> Result<(), Fail> {
     let (kind, cause) = judged.split_once(" ").ok_or("no cause")?;
     if kind == "goes" {
-        place.goes(rt, alloc)?;
+        place.goes(alloc)?;
     } else {
-        place.faults(rt, alloc, kind)?;
+        place.faults(alloc, kind)?;
     }
     if cause != "-" {
-        place.is_refused(rt, alloc, cause)?;
+        place.is_refused(alloc, cause)?;
     }
     Ok(())
 }
 
 /// Tries each place of a table, in `main` or in a subtask, and tells how many there were.
-fn walk_places<R: Abort>(
-    rt: &R,
-    alloc: Global,
-    table: &str,
-    in_subtask: bool,
-) -> Result<u32, Fail> {
+fn walk_places(alloc: Global, table: &str, in_subtask: bool) -> Result<u32, Fail> {
     let mut rows = 0u32;
     for row in table.lines().skip(1) {
         let (judged, rest) = row.split_once(" | ").ok_or("no kind")?;
@@ -258,7 +252,7 @@ fn walk_places<R: Abort>(
         } else {
             Place::in_main(alloc, instruction, setup, trace)?
         };
-        tries(rt, alloc, &place, judged)?;
+        tries(alloc, &place, judged)?;
         rows = rows.saturating_add(1);
     }
     Ok(rows)
@@ -267,20 +261,20 @@ fn walk_places<R: Abort>(
 #[test]
 fn operands_and_states(rt: HostRuntime) -> Result<(), Fail> {
     let alloc = rt.alloc();
-    assert_eq!(rt; walk_places(&rt, alloc, WRONG_SLOTS, false)?, 28);
-    assert_eq!(rt; walk_places(&rt, alloc, BUSY_SLOTS, false)?, 10);
-    assert_eq!(rt; walk_places(&rt, alloc, FULL_LISTS, false)?, 8);
-    assert_eq!(rt; walk_places(&rt, alloc, JOIN_FORMS, false)?, 20);
-    assert_eq!(rt; walk_places(&rt, alloc, ILLEGAL_STATES, false)?, 39);
+    assert_eq!(rt; walk_places(alloc, WRONG_SLOTS, false)?, 28);
+    assert_eq!(rt; walk_places(alloc, BUSY_SLOTS, false)?, 10);
+    assert_eq!(rt; walk_places(alloc, FULL_LISTS, false)?, 8);
+    assert_eq!(rt; walk_places(alloc, JOIN_FORMS, false)?, 20);
+    assert_eq!(rt; walk_places(alloc, ILLEGAL_STATES, false)?, 39);
     Ok(())
 }
 
 #[test]
 fn structures_and_order(rt: HostRuntime) -> Result<(), Fail> {
     let alloc = rt.alloc();
-    assert_eq!(rt; walk_places(&rt, alloc, WRONG_STRUCTURES, false)?, 24);
-    assert_eq!(rt; walk_places(&rt, alloc, UNBOUND_KEYS, false)?, 10);
-    assert_eq!(rt; walk_places(&rt, alloc, TWO_AT_ONCE, false)?, 20);
-    assert_eq!(rt; walk_places(&rt, alloc, IN_A_SUBTASK, true)?, 26);
+    assert_eq!(rt; walk_places(alloc, WRONG_STRUCTURES, false)?, 24);
+    assert_eq!(rt; walk_places(alloc, UNBOUND_KEYS, false)?, 10);
+    assert_eq!(rt; walk_places(alloc, TWO_AT_ONCE, false)?, 20);
+    assert_eq!(rt; walk_places(alloc, IN_A_SUBTASK, true)?, 26);
     Ok(())
 }

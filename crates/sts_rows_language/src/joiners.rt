@@ -1,10 +1,9 @@
 //! Joiners: after which end each cancels its scope, what `join` gives, and what is counted then.
 
-use crate::row::runs;
 use crate::table::push_text;
 use std::alloc::Global;
-use std::process::Abort;
 use std::test::Fail;
+use sts_row::playing::runs;
 
 /// A joiner, the ends of the subtasks in order of completion, and what the root ends with.
 ///
@@ -147,7 +146,7 @@ fn trace_of(alloc: Global, ends: &str) -> Result<String, Fail> {
 }
 
 /// Plays each row of a table, and tells how many there were.
-fn ends_so<R: Abort>(rt: &R, alloc: Global, table: &str) -> Result<u32, Fail> {
+fn ends_so(alloc: Global, table: &str) -> Result<u32, Fail> {
     let mut rows = 0u32;
     for row in table.lines().skip(1) {
         let (joiner, rest) = row.split_once(" | ").ok_or("no joiner")?;
@@ -165,7 +164,7 @@ fn ends_so<R: Abort>(rt: &R, alloc: Global, table: &str) -> Result<u32, Fail> {
         let output = format!(in alloc; "{ended}\nsteps {steps}\n")?;
         let status = u8::from(ended.starts_with("failed"));
         let input = (text.as_bytes(), trace.as_bytes());
-        runs(rt, alloc, row, input, (output.as_str(), status))?;
+        runs(alloc, row, input, (output.as_str(), status))?;
         rows = rows.saturating_add(1);
     }
     Ok(rows)
@@ -174,7 +173,7 @@ fn ends_so<R: Abort>(rt: &R, alloc: Global, table: &str) -> Result<u32, Fail> {
 #[test]
 fn rows_hold(rt: HostRuntime) -> Result<(), Fail> {
     let alloc = rt.alloc();
-    assert_eq!(rt; ends_so(&rt, alloc, ALL_AND_ANY)?, 25);
-    assert_eq!(rt; ends_so(&rt, alloc, UNTIL)?, 34);
+    assert_eq!(rt; ends_so(alloc, ALL_AND_ANY)?, 25);
+    assert_eq!(rt; ends_so(alloc, UNTIL)?, 34);
     Ok(())
 }

@@ -23,8 +23,6 @@ mod patterns;
 #[cfg(test)]
 mod place;
 #[cfg(test)]
-mod row;
-#[cfg(test)]
 mod spelling;
 #[cfg(test)]
 mod straight;

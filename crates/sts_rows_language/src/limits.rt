@@ -1,11 +1,10 @@
 //! As much as there may be, with ample memory: no call may answer want of memory there.
 
-use crate::row::plays;
 use crate::table::walk_table;
 use std::alloc::Global;
-use std::process::Abort;
 use std::test::Fail;
 use sts_cli::mode::Mode;
+use sts_row::playing::plays;
 
 /// What may stand at once, and one more. A turn with a fork is two steps.
 const STANDING: &str = "
@@ -116,16 +115,9 @@ fn functions_of_all_lengths(alloc: Global) -> Result<String, Fail> {
 }
 
 /// Plays a text and a trace without a name.
-fn gives<R: Abort>(
-    rt: &R,
-    alloc: Global,
-    mode: Mode,
-    input: (&str, &str),
-    want: (&str, u8),
-) -> Result<(), Fail> {
+fn gives(alloc: Global, mode: Mode, input: (&str, &str), want: (&str, u8)) -> Result<(), Fail> {
     let (text, trace) = input;
     plays(
-        rt,
         alloc,
         "a long text",
         mode,
@@ -144,13 +136,7 @@ fn the_longest_program(rt: HostRuntime) -> Result<(), Fail> {
     let trace = "step 0\n".repeat(alloc, 4096)?;
     // An operand is equal to itself.
     let ended = ("success 1\nsteps 4096\n", 0);
-    gives(
-        &rt,
-        alloc,
-        Mode::Plain,
-        (text.as_str(), trace.as_str()),
-        ended,
-    )?;
+    gives(alloc, Mode::Plain, (text.as_str(), trace.as_str()), ended)?;
     let mut budgets = String::new(alloc);
     for function in 0..63u8 {
         let name = format!(in alloc; "f{function}")?;
@@ -161,7 +147,6 @@ fn the_longest_program(rt: HostRuntime) -> Result<(), Fail> {
     }
     budgets.push_str("main steps 4096\nmain tasks 1\nmain scopes 0\nmain binds 0\n")?;
     gives(
-        &rt,
         alloc,
         Mode::Verify,
         (text.as_str(), ""),
@@ -174,7 +159,6 @@ fn the_longest_program(rt: HostRuntime) -> Result<(), Fail> {
     }
     writeln!(listing, "func main 0\n  push 0\n{code}  ret\nend")?;
     gives(
-        &rt,
         alloc,
         Mode::List,
         (text.as_str(), ""),
@@ -182,7 +166,6 @@ fn the_longest_program(rt: HostRuntime) -> Result<(), Fail> {
     )?;
     text.push('\n')?;
     gives(
-        &rt,
         alloc,
         Mode::List,
         (text.as_str(), ""),
@@ -197,8 +180,8 @@ fn a_long_trace(rt: HostRuntime) -> Result<(), Fail> {
     let text = "func main 0\npush 7\nret\nend\n";
     let mut trace = "step 0\n".repeat(alloc, 100_000)?;
     let ended = ("success 7\nsteps 2\n", 0);
-    gives(&rt, alloc, Mode::Plain, (text, trace.as_str()), ended)?;
+    gives(alloc, Mode::Plain, (text, trace.as_str()), ended)?;
     trace.push_str("step 01\n")?;
     let fault = ("error T2 line 100001\n", 3);
-    gives(&rt, alloc, Mode::Plain, (text, trace.as_str()), fault)
+    gives(alloc, Mode::Plain, (text, trace.as_str()), fault)
 }

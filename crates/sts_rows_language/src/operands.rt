@@ -3,7 +3,6 @@
 
 use crate::place::Place;
 use std::alloc::Global;
-use std::process::Abort;
 use std::test::Fail;
 
 /// What is popped and pushed; the instruction; what stands before it; and the trace of that.
@@ -65,42 +64,30 @@ const BINDINGS_AND_ENDS: &str = "
 ";
 
 /// With so many operands before it, it is a misuse, and refused for this cause.
-fn is_misuse<R: Abort>(
-    rt: &R,
-    alloc: Global,
-    place: Place,
-    operands: usize,
-    cause: &str,
-) -> Result<(), Fail> {
+fn is_misuse(alloc: Global, place: Place, operands: usize, cause: &str) -> Result<(), Fail> {
     let place = place.with_operands(operands)?;
-    place.faults(rt, alloc, "Operand")?;
-    place.is_refused(rt, alloc, cause)
+    place.faults(alloc, "Operand")?;
+    place.is_refused(alloc, cause)
 }
 
 /// Tries an instruction, given with its setup and the trace of that, at its limits.
-fn limits<R: Abort>(
-    rt: &R,
-    alloc: Global,
-    row: (&str, &str, &str),
-    pops: usize,
-    pushes: usize,
-) -> Result<(), Fail> {
+fn limits(alloc: Global, row: (&str, &str, &str), pops: usize, pushes: usize) -> Result<(), Fail> {
     let (instruction, setup, trace) = row;
     let place = || Place::in_main(alloc, instruction, setup, trace);
     if pops > 0 {
-        is_misuse(rt, alloc, place()?, pops.saturating_sub(1), "V1")?;
+        is_misuse(alloc, place()?, pops.saturating_sub(1), "V1")?;
     }
-    place()?.with_operands(pops)?.goes(rt, alloc)?;
+    place()?.with_operands(pops)?.goes(alloc)?;
     let most = 32usize.saturating_sub(pushes.saturating_sub(pops));
-    place()?.with_operands(most)?.goes(rt, alloc)?;
+    place()?.with_operands(most)?.goes(alloc)?;
     if most < 32 {
-        is_misuse(rt, alloc, place()?, most.saturating_add(1), "V2")?;
+        is_misuse(alloc, place()?, most.saturating_add(1), "V2")?;
     }
     Ok(())
 }
 
 /// Tries each instruction of a table, and tells how many there were.
-fn walk_limits<R: Abort>(rt: &R, alloc: Global, table: &str) -> Result<u32, Fail> {
+fn walk_limits(alloc: Global, table: &str) -> Result<u32, Fail> {
     let mut rows = 0u32;
     for row in table.lines().skip(1) {
         let (counts, rest) = row.split_once(" | ").ok_or("no counts")?;
@@ -108,13 +95,7 @@ fn walk_limits<R: Abort>(rt: &R, alloc: Global, table: &str) -> Result<u32, Fail
         let (instruction, rest) = rest.split_once(" | ").ok_or("no instruction")?;
         let (setup, trace) = rest.split_once(" |").ok_or("no setup")?;
         let row = (instruction, setup, trace);
-        limits(
-            rt,
-            alloc,
-            row,
-            pops.parse::<usize>()?,
-            pushes.parse::<usize>()?,
-        )?;
+        limits(alloc, row, pops.parse::<usize>()?, pushes.parse::<usize>()?)?;
         rows = rows.saturating_add(1);
     }
     Ok(rows)
@@ -123,8 +104,8 @@ fn walk_limits<R: Abort>(rt: &R, alloc: Global, table: &str) -> Result<u32, Fail
 #[test]
 fn rows_hold(rt: HostRuntime) -> Result<(), Fail> {
     let alloc = rt.alloc();
-    assert_eq!(rt; walk_limits(&rt, alloc, LOCAL)?, 16);
-    assert_eq!(rt; walk_limits(&rt, alloc, SCOPES)?, 21);
-    assert_eq!(rt; walk_limits(&rt, alloc, BINDINGS_AND_ENDS)?, 9);
+    assert_eq!(rt; walk_limits(alloc, LOCAL)?, 16);
+    assert_eq!(rt; walk_limits(alloc, SCOPES)?, 21);
+    assert_eq!(rt; walk_limits(alloc, BINDINGS_AND_ENDS)?, 9);
     Ok(())
 }

@@ -1,12 +1,12 @@
 //! An instruction behind some setup: what the plain machine does there, and what the verifier says
 //! of it.
 
-use crate::row::{events, plays, runs};
 use crate::table::push_text;
 use std::alloc::Global;
-use std::process::Abort;
 use std::test::Fail;
 use sts_cli::mode::Mode;
+use sts_row::notation::events;
+use sts_row::playing::{plays, runs};
 
 /// The functions that stand before the one with the place.
 const FUNCTIONS: &str = "func none 0 / push 0 / ret / end / func two 2 / push 0 / ret / end / \
@@ -96,7 +96,7 @@ impl<'t> Place<'t> {
     }
 
     /// Plays the trace and one step more, which has to lead to this state.
-    fn stands<R: Abort>(&self, rt: &R, alloc: Global, state: &str, status: u8) -> Result<(), Fail> {
+    fn stands(&self, alloc: Global, state: &str, status: u8) -> Result<(), Fail> {
         let text = self.text(alloc)?;
         let mut trace = String::from_str(alloc, self.trace.as_str())?;
         trace.push_str(if self.in_subtask {
@@ -112,20 +112,20 @@ impl<'t> Place<'t> {
         let output = format!(in alloc; "{state}\nsteps {steps}\n")?;
         let input = (text.as_bytes(), trace.as_bytes());
         let name = format!(in alloc; "{} after\n{}", self.instruction, self.setup)?;
-        runs(rt, alloc, name.as_str(), input, (output.as_str(), status))
+        runs(alloc, name.as_str(), input, (output.as_str(), status))
     }
 
     /// The instruction is done.
-    pub fn goes<R: Abort>(&self, rt: &R, alloc: Global) -> Result<(), Fail> {
+    pub fn goes(&self, alloc: Global) -> Result<(), Fail> {
         match self.instruction {
-            "ret" => self.stands(rt, alloc, "success 1", 0),
-            "fail" => self.stands(rt, alloc, "failed 1", 1),
-            _ => self.stands(rt, alloc, "running", 5),
+            "ret" => self.stands(alloc, "success 1", 0),
+            "fail" => self.stands(alloc, "failed 1", 1),
+            _ => self.stands(alloc, "running", 5),
         }
     }
 
     /// The instruction is a fault of this kind.
-    pub fn faults<R: Abort>(&self, rt: &R, alloc: Global, kind: &str) -> Result<(), Fail> {
+    pub fn faults(&self, alloc: Global, kind: &str) -> Result<(), Fail> {
         let at = self.at();
         let task = if self.in_subtask {
             "task 1 in kid"
@@ -133,11 +133,11 @@ impl<'t> Place<'t> {
             "task 0 in main"
         };
         let state = format!(in alloc; "fault {kind} {task} at {at}")?;
-        self.stands(rt, alloc, state.as_str(), 5)
+        self.stands(alloc, state.as_str(), 5)
     }
 
     /// The verifier refuses it for this cause.
-    pub fn is_refused<R: Abort>(&self, rt: &R, alloc: Global, cause: &str) -> Result<(), Fail> {
+    pub fn is_refused(&self, alloc: Global, cause: &str) -> Result<(), Fail> {
         let at = self.at();
         let function = if self.in_subtask { "kid" } else { "main" };
         // The target is the next instruction.
@@ -148,7 +148,6 @@ impl<'t> Place<'t> {
         let input = (text.as_bytes(), b"".as_slice());
         let name = format!(in alloc; "{} after\n{}", self.instruction, self.setup)?;
         plays(
-            rt,
             alloc,
             name.as_str(),
             Mode::Verify,

@@ -1,6 +1,5 @@
 //! Texts: each fault beside what is no fault, which fault goes first, and how a text is listed.
 
-use crate::row::lines;
 use crate::table::walk_table;
 use std::alloc::Global;
 use std::process::Abort;
@@ -8,6 +7,7 @@ use std::str;
 use std::test::Fail;
 use sts_cli::mode::Mode;
 use sts_cli::play::play;
+use sts_row::notation::lines;
 
 /// Bytes, words and labels: A1, A2, A6 and A7.
 const LINES: &str = "

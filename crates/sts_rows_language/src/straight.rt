@@ -1,11 +1,10 @@
 //! Instructions of one task in a straight line: each with operands that tell it from its
 //! neighbours.
 
-use crate::row::runs;
 use crate::table::push_text;
 use std::alloc::Global;
-use std::process::Abort;
 use std::test::Fail;
+use sts_row::playing::runs;
 
 /// Instructions without a jump or a wait, ` = `, and the value of a `ret` that follows them.
 const STACK_AND_LOCALS: &str = "
@@ -111,7 +110,7 @@ push 4 / open s0 all timed / close s0 / open s0 any / close s0 = 4
 ";
 
 /// Plays each row of a table, and tells how many there were.
-fn gives<R: Abort>(rt: &R, alloc: Global, table: &str) -> Result<u32, Fail> {
+fn gives(alloc: Global, table: &str) -> Result<u32, Fail> {
     let mut rows = 0u32;
     for row in table.lines() {
         if let Some((instructions, value)) = row.split_once(" = ") {
@@ -123,7 +122,7 @@ fn gives<R: Abort>(rt: &R, alloc: Global, table: &str) -> Result<u32, Fail> {
             let trace = "step 0\n".repeat(alloc, steps)?;
             let output = format!(in alloc; "success {value}\nsteps {steps}\n")?;
             let input = (text.as_bytes(), trace.as_bytes());
-            runs(rt, alloc, row, input, (output.as_str(), 0))?;
+            runs(alloc, row, input, (output.as_str(), 0))?;
             rows = rows.saturating_add(1);
         }
     }
@@ -133,9 +132,9 @@ fn gives<R: Abort>(rt: &R, alloc: Global, table: &str) -> Result<u32, Fail> {
 #[test]
 fn rows_hold(rt: HostRuntime) -> Result<(), Fail> {
     let alloc = rt.alloc();
-    assert_eq!(rt; gives(&rt, alloc, STACK_AND_LOCALS)?, 25);
-    assert_eq!(rt; gives(&rt, alloc, ARITHMETIC)?, 32);
-    assert_eq!(rt; gives(&rt, alloc, BINDINGS)?, 24);
-    assert_eq!(rt; gives(&rt, alloc, FLAGS_AND_SCOPES)?, 6);
+    assert_eq!(rt; gives(alloc, STACK_AND_LOCALS)?, 25);
+    assert_eq!(rt; gives(alloc, ARITHMETIC)?, 32);
+    assert_eq!(rt; gives(alloc, BINDINGS)?, 24);
+    assert_eq!(rt; gives(alloc, FLAGS_AND_SCOPES)?, 6);
     Ok(())
 }

@@ -11,12 +11,13 @@
 //!   `3 * push 1, bind 0` stands for `push 1` and `bind 0` three times over. A word in capitals stands for the lines
 //!   that `meaning` gives.
 
-use crate::row::{events, lines, plays, runs};
 use std::alloc::Global;
 use std::process::Abort;
 use std::test::Fail;
 use sts_cli::mode::Mode;
 use sts_cli::play::play;
+use sts_row::notation::{events, lines};
+use sts_row::playing::{plays, runs};
 
 /// The lines that a word in capitals stands for.
 ///
@@ -141,11 +142,11 @@ pub fn answers<R: Abort>(
     let want = (output.as_str(), status.parse::<u8>()?);
     let text = text.as_bytes();
     match asked {
-        "verify" => plays(rt, alloc, name, Mode::Verify, (text, b""), want),
-        "list" => plays(rt, alloc, name, Mode::List, (text, b""), want),
+        "verify" => plays(alloc, name, Mode::Verify, (text, b""), want),
+        "list" => plays(alloc, name, Mode::List, (text, b""), want),
         _ => {
             let trace = events(alloc, asked)?;
-            runs(rt, alloc, name, (text, trace.as_bytes()), want)
+            runs(alloc, name, (text, trace.as_bytes()), want)
         }
     }
 }

@@ -1,4 +1,5 @@
-//! Rows of texts: what the assembler, the listing and the readers of traces answer, each by itself.
+//! Rows of texts: what the assembler, the listing, the readers of traces and the command line answer,
+//! each by itself.
 #![tactic(auto)]
 
 #[cfg(test)]
@@ -7,3 +8,5 @@ mod assembled;
 mod listed;
 #[cfg(test)]
 mod traces;
+#[cfg(test)]
+mod words;

@@ -19,5 +19,3 @@ pub mod running;
 mod scopes;
 mod standing;
 pub mod store;
-#[cfg(test)]
-mod tests;

@@ -2,9 +2,9 @@
 
 ghost use Rattle.std.specs.Prelude.{◌≡◌, ◌≢◌, Some, None, true, slice_index_or};
 
-use crate::cancel::{cancel, expire, interrupt};
 use std::process::Abort;
 use std::test::Fail;
+use sts_cancel::cancel::{cancel, expire, interrupt};
 use sts_code::instr::{Joiner, Kind};
 use sts_model::event::{End, Phase, Stand, Verdict};
 use sts_tree::tree::Tree;

@@ -3,11 +3,11 @@
 ghost use Rattle.std.specs.Prelude.{◌≡◌, ◌∷◌, [], pos, replicate};
 ghost use Rattle.sts_model.specs.declared.record.Slot.TheVariants.{Empty};
 
-use crate::store::{Room, Store};
 use std::process::Abort;
 use std::test::Fail;
 use sts_model::record::{Entry, Frame, Slot};
 use sts_model::stack::Stack;
+use sts_store::store::{Room, Store};
 
 /// The frame at the beginning of function 0, with 7 on top.
 fn beginning() -> Frame
