@@ -17,6 +17,7 @@ The refusals are those of refuse.c, which a C compiler makes a library that is l
 built; where there is none, that is said and nothing is run.  The last line is `N passed, M failed`, of runs.
 """
 import collections
+import concurrent.futures
 import itertools
 import os
 import shutil
@@ -174,12 +175,18 @@ def compiler():
     return next((name for name in ("cc", "gcc", "clang") if shutil.which(name)), None)
 
 
-class Refusing:
-    """The program behind refuse.c, in a folder with a case's files."""
+def library_in(folder):
+    """Makes refuse.c a library in this folder."""
+    library = os.path.join(folder, "refuse.so")
+    subprocess.run([compiler(), "-O1", "-shared", "-fPIC", "-o", library, os.path.join(HERE, "refuse.c")], check=True)
+    return library
 
-    def __init__(self, program, folder):
-        self.program, self.folder, self.library = os.path.realpath(program), folder, os.path.join(folder, "refuse.so")
-        subprocess.run([compiler(), "-O1", "-shared", "-fPIC", "-o", self.library, os.path.join(HERE, "refuse.c")], check=True)
+
+class Refusing:
+    """A program behind the library of refuse.c, in a folder with a case's files."""
+
+    def __init__(self, program, library, folder):
+        self.program, self.library, self.folder = os.path.realpath(program), library, folder
 
     def works(self):
         """Is a request refused where one is to be?"""
@@ -294,6 +301,22 @@ def tried_call(refusing, call):
         yield from asks_nothing(refusing, call)
 
 
+def answered(programs, library):
+    """Yields for each case, and each call, its name, how many answers are right, and what was answered wrongly; as many
+    at a time as there are processors."""
+
+    def outcome(program, tries, case):
+        with tempfile.TemporaryDirectory() as folder:
+            answers = list(tries(Refusing(program, library, folder), case))
+        return case.name, sum(right for right, _, _ in answers), [(what, answer) for right, what, answer in answers if not right]
+
+    with concurrent.futures.ThreadPoolExecutor(os.cpu_count()) as pool:
+        begun = [pool.submit(outcome, programs[0], tried, it) for it in cases()]
+        begun += [pool.submit(outcome, programs[1], tried_call, it) for it in calls()]
+        for it in begun:
+            yield it.result()
+
+
 def main():
     programs = [*sys.argv[1:], *(PROGRAM, CALLS)[len(sys.argv) - 1 :]]
     for program in programs:
@@ -305,18 +328,15 @@ def main():
         return 0
     passed = failed = 0
     with tempfile.TemporaryDirectory() as folder:
-        refusing, of_calls = (Refusing(program, folder) for program in programs)
-        if not refusing.works():
+        library = library_in(folder)
+        if not Refusing(programs[0], library, folder).works():
             print("memory.py: NOT RUN, NOTHING WAS REFUSED: refuse.so can't be loaded before the program here", file=sys.stderr)
             return 0
-        tries = itertools.chain(((it.name, tried(refusing, it)) for it in cases()), ((it.name, tried_call(of_calls, it)) for it in calls()))
-        for name, answers in tries:
-            before = passed + failed
-            for right, what, answer in answers:
-                passed, failed = passed + right, failed + (not right)
-                if not right:
-                    print(f"{name}, {what}: {answer}", file=sys.stderr)
-            print(f"{name}: {passed + failed - before} runs")
+        for name, right, wrong in answered(programs, library):
+            passed, failed = passed + right, failed + len(wrong)
+            print(f"{name}: {right + len(wrong)} runs")
+            for what, answer in wrong:
+                print(f"{name}, {what}: {answer}", file=sys.stderr)
     print(f"{passed} passed, {failed} failed")
     return 1 if failed else 0
 

@@ -7,6 +7,7 @@ pub mod laws;
 pub mod mode;
 pub mod modes;
 pub mod output;
+mod placeholders;
 pub mod play;
 pub mod printed;
 pub mod program;

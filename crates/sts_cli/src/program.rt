@@ -9,6 +9,7 @@ ghost use Rattle.sts_cli.specs.Output.{Output, Writes};
 ghost use Rattle.sts_cli.specs.Taking.{IsTakenOf};
 
 use crate::mode::Mode;
+use crate::placeholders::placeholder;
 use crate::play::{
     STATUS_OUTSIDE, WriteFailed, failed, play, play_joined, play_run, play_untraced, written,
 };
@@ -320,6 +321,9 @@ pub fn start<R: Env + Files + Input + Threads + Wait + Sync, W: Write, E: Write>
     out: &mut W,
     err: &mut E,
 ) -> u8 {
+    let _for_input = placeholder(rt);
+    let _for_output = placeholder(rt);
+    let _for_errors = placeholder(rt);
     let words = words::words(rt, alloc, NAME);
     match run_words(rt, alloc, &Host { rt }, &words, out, err) {
         Ok(status) => status,

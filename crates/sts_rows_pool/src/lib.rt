@@ -12,4 +12,6 @@ mod outsides;
 #[cfg(test)]
 mod runs;
 #[cfg(test)]
+mod storms;
+#[cfg(test)]
 mod texts;

@@ -1,0 +1,27 @@
+//! A storm of interrupts, counted in the journal.
+
+use crate::outsides::{Open, Weather};
+use crate::texts::{DOUBLES, accepted};
+use std::test::Fail;
+use sts_model::event::{End, Event};
+use sts_pool::run;
+
+/// An interrupt that comes whenever it may stands 4,096 times beside the steps, however many workers there are.
+#[test]
+fn a_storm_stands_in_the_journal(rt: HostRuntime) -> Result<(), Fail> {
+    let verified = accepted(rt.alloc(), DOUBLES)?;
+    for workers in [1, 2, 16] {
+        assert!(rt; 1 <= workers && workers <= 16);
+        let storm = Weather::Storm { task: 77 };
+        let report = run(&rt, rt.alloc(), &verified, workers, &Open, storm)?;
+        assert_eq!(rt; report.end, End::Success(42), "{workers} workers");
+        let came = report
+            .journal
+            .iter()
+            .filter(|event| **event == Event::Interrupt(77))
+            .count();
+        assert_eq!(rt; came, 4096, "{workers} workers");
+        assert_eq!(rt; report.journal.len(), 4116, "{workers} workers");
+    }
+    Ok(())
+}
