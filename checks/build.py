@@ -1,7 +1,9 @@
 #!/usr/bin/env python3
-"""Proves and builds the program `sts`, with a word on how far it is, and then is the command that it was handed, if any.
+"""Proves and builds a program, with a word on how far it is, and then is the command that it was handed, if any.
 
-    checks/build.py [WORD..]
+    checks/build.py [PROGRAM WORD..]
+
+The program is `crates/NAME/out/NAME`, of which NAME is taken; with no word it is `sts`.
 
 What was proved is kept in crates/*/out, so an interrupted build goes on from where it was. On a terminal one line is
 rewritten; elsewhere there is a line whenever work on a crate begins. A call that finds another one at work waits for it.
@@ -17,9 +19,10 @@ import sys
 import time
 
 ROOT = os.path.dirname(os.path.dirname(os.path.realpath(__file__)))
-PROGRAM = "sts"
+PROGRAM = os.path.basename(sys.argv[1]) if sys.argv[1:] else "sts"
+NAME = PROGRAM.replace("sts_", "")
 BUILT = f"{ROOT}/crates/{PROGRAM}/out/{PROGRAM}"
-LOG = f"{ROOT}/crates/{PROGRAM}/out/build.log"
+LOG = f"{ROOT}/crates/sts/out/build.log"  # of every program: one is built at a time
 PROVED = re.compile(r"^fn .*: proved(?:, may \w+)*$", re.M)
 HEADING = re.compile(r"^== (\w+)$", re.M)
 
@@ -55,7 +58,7 @@ def log_alone():
     try:
         fcntl.flock(log, fcntl.LOCK_EX | fcntl.LOCK_NB)
     except BlockingIOError:
-        print("sts: another call proves and builds the program; this one waits for it", file=sys.stderr)
+        print(f"{NAME}: another call proves and builds the program; this one waits for it", file=sys.stderr)
         fcntl.flock(log, fcntl.LOCK_EX)
     return log
 
@@ -120,7 +123,7 @@ def progress(process, names, since):
     now = [] if is_proved else at_work(process.pid)
     done = headings.intersection(names).difference(now)
     minutes, seconds = divmod(int(time.time() - since), 60)
-    line = f"sts: {len(done)} of {len(names)} crates proved, {len(set(PROVED.findall(log)))} functions in {minutes} min {seconds:02} s"
+    line = f"{NAME}: {len(done)} of {len(names)} crates proved, {len(set(PROVED.findall(log)))} functions in {minutes} min {seconds:02} s"
     if is_proved:
         return {"program"}, f"{line}; building the program"
     if not headings:
@@ -146,7 +149,7 @@ def watch(process, names, since):
 
 def build(log, names):
     """Builds the program, and returns whether it is there. Its time is that of the start: what is edited since is newer."""
-    print("sts: proving and building the program, in 15 to 40 minutes where nothing was proved before; "
+    print(f"{NAME}: proving and building the program, in 15 to 40 minutes where nothing was proved before; "
           f"what is said of it goes to {LOG}", file=sys.stderr)
     since = time.time()
     process = start(log)
@@ -154,10 +157,10 @@ def build(log, names):
         watch(process, names, since)
     except KeyboardInterrupt:
         stop(process)
-        print("\nsts: interrupted; what was proved is kept, and the next call goes on from there", file=sys.stderr)
+        print(f"\n{NAME}: interrupted; what was proved is kept, and the next call goes on from there", file=sys.stderr)
         return False
     if not os.path.exists(BUILT):
-        print(f"sts: not built; the end of {LOG}:", file=sys.stderr)
+        print(f"{NAME}: not built; the end of {LOG}:", file=sys.stderr)
         print("".join(open(LOG, errors="replace").readlines()[-5:]), end="", file=sys.stderr)
         return False
     os.utime(BUILT, (since, since))
@@ -170,7 +173,7 @@ def interrupt(number, frame):
 
 def main():
     if not shutil.which("rt"):
-        print("sts: the kit isn't here: there is no command rt", file=sys.stderr)
+        print(f"{NAME}: the kit isn't here: there is no command rt", file=sys.stderr)
         return 6
     for number in (signal.SIGTERM, signal.SIGHUP):
         signal.signal(number, interrupt)

@@ -28,16 +28,16 @@ use sts_line::asked::LineError;
 use sts_line::reading::line;
 
 /// One byte more than a text may have, so that an endless file is a text too long.
-const MOST_OF_A_TEXT: u64 = 1_048_577;
+pub const MOST_OF_A_TEXT: u64 = 1_048_577;
 
 /// All that a trace or the input stream has, which memory ends first.
-const MOST_OF_A_STREAM: u64 = u64::MAX;
+pub const MOST_OF_A_STREAM: u64 = u64::MAX;
 
 /// The name that the program goes by.
 const NAME: &[u8] = b"sts";
 
 /// What is told where a word is no text.
-const NOT_TEXT: &[u8] = b"error: a word of the command line is not UTF-8\n";
+pub const NOT_TEXT: &[u8] = b"error: a word of the command line is not UTF-8\n";
 
 /// A mode that looks at a text alone.
 fn on_text<S: Sources, W: Write>(
@@ -273,7 +273,11 @@ pub fn run<R: Threads + Wait + Sync, S: Sources + Sinks, W: Write, E: Write>(
 }
 
 /// The words as texts that are borrowed.
-fn borrowed(alloc: Global, words: &[String]) -> Result<Vec<&str>, AllocError>
+///
+/// # Errors
+///
+/// Memory was refused.
+pub fn borrowed(alloc: Global, words: &[String]) -> Result<Vec<&str>, AllocError>
     ensures { IfOk result (λ ws. map (λ w. w.now) ws.items ≡ map string_bytes words.now) }
 {
     let mut texts = Vec::new(alloc);

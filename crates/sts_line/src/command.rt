@@ -58,8 +58,12 @@ fn on_file<'a>(alloc: Global, name: &'a str, about: &'a str) -> Result<Command<'
     Command::new(alloc, name).about(about).arg(file(alloc))
 }
 
-/// A command that takes a trace too.
-fn on_trace<'a>(alloc: Global, name: &'a str, about: &'a str) -> Result<Command<'a>, AllocError>
+/// A command that takes a text file and a trace.
+///
+/// # Errors
+///
+/// Memory was refused.
+pub fn on_trace<'a>(alloc: Global, name: &'a str, about: &'a str) -> Result<Command<'a>, AllocError>
     ensures app { IfOk result (λ c. app_of c
         ≡ with_rule (with_rule (new_app name.entry.now) def.file_rule) def.trace_rule) }
     ensures local { IfOk result (λ c. (out-Command c).has_globals ≡ false) }

@@ -19,7 +19,8 @@ use sts_text::digits_up_to;
 /// As many workers as may be asked for.
 const MOST_WORKERS: u32 = 16;
 
-fn told(error: &Error, alloc: Global) -> LineError
+/// What is told of an error of `clap`.
+pub fn told(error: &Error, alloc: Global) -> LineError
     ensures { TellsKind (kind_of error.now) result }
 {
     let kind = error.kind();
@@ -72,7 +73,7 @@ fn chosen<'a>(alloc: Global, matches: &ArgMatches<'a>) -> Result<asked::Line<'a>
 }
 
 /// What is told where `clap` found no command of the program with its files, which never comes.
-fn unknown(alloc: Global) -> LineError
+pub fn unknown(alloc: Global) -> LineError
     ensures { (whole : Bool) → whole ≡ false → BlamesUnless whole result }
 {
     match "a command is missing".to_string(alloc) {
@@ -82,7 +83,7 @@ fn unknown(alloc: Global) -> LineError
 }
 
 /// The text that the command was given under an id.
-fn text_of<'a>(inner: &ArgMatches<'a>, id: &str) -> Option<&'a str>
+pub fn text_of<'a>(inner: &ArgMatches<'a>, id: &str) -> Option<&'a str>
     ensures { option_map (λ t. t.now) result ≡ first_of id.now (rows_of (found_of inner.now)) }
 {
     inner.get_str(id)
@@ -121,7 +122,11 @@ fn asked_of<'a>(
 }
 
 /// The trace that the command was given.
-fn trace_of<'a>(alloc: Global, inner: &ArgMatches<'a>) -> Result<&'a str, LineError>
+///
+/// # Errors
+///
+/// It was given none, or memory was refused.
+pub fn trace_of<'a>(alloc: Global, inner: &ArgMatches<'a>) -> Result<&'a str, LineError>
     ensures given { IfOk result (λ t.
         first_of (codes "TRACE") (rows_of (found_of inner.now)) ≡ Some t.now) }
     ensures lacks { IfErr result (BlamesUnless

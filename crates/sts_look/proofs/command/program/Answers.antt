@@ -1,0 +1,15 @@
+use Rattle.std.proofs.Common.{◌≡◌, ap, ap₂, codes, ◌∙◌}
+use Rattle.std.proofs.lemmas.Result.{IfOk-weaker}
+use Rattle.clap.specs.Words.{App, app_of, new_app, with_subcommand}
+use Rattle.clap.specs.Simple.{app_of_fields}
+use Rattle.sts_line.specs.Command.{required}
+use Rattle.sts_look.specs.Command as def
+use Rattle.sts_look.proofs.command.program.Goals as goal
+
+pub returns : goal.returns
+returns c =
+    let bare : app_of c.subcommand_required.result ≡ required (new_app (codes "look")) =
+    ap app_of_fields c.subcommand_required.ensures ∙ ap (λ f. required (app_of_fields f)) c.about.ensures ∙ ap required c.new.ensures.app in
+    IfOk-weaker c.subcommand.result _ _
+    (λ r h. h.shape c.in_ok-view.ensures.local ∙ ap₂ with_subcommand bare (ap (λ (a : App). a.top) c.in_ok-view.ensures.app))
+    c.subcommand.ensures

@@ -1,0 +1,17 @@
+-- The commands that `look` knows, as `clap` sees them (this project's own).
+use Rattle.std.specs.Prelude.{codes, Some}
+use Rattle.clap.specs.Words.{App, Rule, Text, new_app, new_rule, with_rule, with_subcommand}
+use Rattle.clap.specs.declared.builder.action.ArgAction.TheVariants.{SetTrue}
+use Rattle.sts_line.specs.Command.{file_rule, required, trace_rule}
+
+-- an option that takes no value
+abbrev pub flag_rule : Text → Rule
+flag_rule name = record (new_rule name) { long = Some name; action = Some SetTrue }
+
+abbrev pub view : App
+view = with_rule (with_rule (with_rule (with_rule (new_app (codes "view")) file_rule) trace_rule)
+    (flag_rule (codes "each"))) (flag_rule (codes "full"))
+
+-- the program: a command is required
+abbrev pub program : App
+program = with_subcommand (required (new_app (codes "look"))) view.top

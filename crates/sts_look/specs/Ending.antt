@@ -1,0 +1,44 @@
+-- What `look` writes, and the status that it ends with (this project's own).
+use Rattle.std.specs.Prelude.{◌≡◌, ℕ, List, Option, Result, Ok, Err, map}
+use Rattle.std.specs.Prelude.{String, Vec}
+use Rattle.std.specs.String.{string_bytes}
+use Rattle.std.specs.declared.alloc.Global.{Global}
+use Rattle.clap.specs.Words.{Text}
+use Rattle.sts_cli.specs.Ending.{Files, Prints, Streams, Tells, most_of_a_stream, most_of_a_text, not_text_output}
+use Rattle.sts_cli.specs.Output.{Output, failure_output, memory_output}
+use Rattle.sts_cli.specs.Taking.{IsTakenOf}
+use Rattle.sts_cli.specs.declared.taking.TakeError.{TakeError}
+use Rattle.sts_cli.specs.declared.words.WordsError.{WordsError}
+use Rattle.sts_cli.specs.declared.words.WordsError.TheVariants as words_error
+use Rattle.sts_view.specs.View.{IsViewOf}
+use Rattle.sts_view.specs.declared.view.Wanted.{Wanted}
+use Rattle.sts_look.specs.Asked.{Asks, AsksForHelp, IsMistaken}
+use Rattle.sts_look.specs.declared.asked.View.{View}
+
+-- what stands of a file's text after another file's trace, or that memory or a file failed
+pub data IsOfView (wanted : Wanted) (file trace_file : Option (List ℕ)) (o : Output) : Type 0 where
+  shown : (text trace : List ℕ) → IsTakenOf file most_of_a_text text
+      → IsTakenOf trace_file most_of_a_stream trace → IsViewOf wanted text trace o
+      → IsOfView wanted file trace_file o
+  failed : (e : TakeError) → o ≡ failure_output e → IsOfView wanted file trace_file o
+
+-- what is shown for a line
+abbrev pub IsShown : View → Files → Output → Type 0
+IsShown v files o = IsOfView v.wanted (files v.file.now) (files v.trace.now) o
+
+-- what the program writes, and its status: that of the line that the words ask for, 0 after help
+-- that they ask for, 2 where they are mistaken, or that memory was refused
+pub data Ends (words : List Text) (files : Files) (s : Streams) (status : ℕ) : Type 0 where
+  shown : (l : View) (o : Output) → Asks words l → IsShown l files o → Prints s status o
+      → Ends words files s status
+  helped : (o : Output) → AsksForHelp words → o.status ≡ 0 → Tells s status o
+      → Ends words files s status
+  mistaken : (o : Output) → IsMistaken words → o.status ≡ 2 → Tells s status o
+      → Ends words files s status
+  failed : Prints s status memory_output → Ends words files s status
+
+-- the same from the words that were had, or not
+abbrev pub EndsFrom : Result (Vec (String Global) Global) WordsError → Files → Streams → ℕ → Type 0
+EndsFrom (Ok words) files s status = Ends (map string_bytes words.items) files s status
+EndsFrom (Err words_error.Memory) files s status = Prints s status memory_output
+EndsFrom (Err words_error.NotText) files s status = Tells s status not_text_output

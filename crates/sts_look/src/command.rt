@@ -1,0 +1,60 @@
+//! The commands that the program knows, as `clap` is told of them.
+
+ghost use Rattle.std.specs.Prelude.{◌≡◌, IfOk, codes, false};
+ghost use Rattle.clap.specs.Words.{app_of, rule_of};
+ghost use Rattle.clap.specs.declared.builder.Command.TheViews.{out-Command};
+ghost use Rattle.sts_look.specs.Command as def;
+
+use clap::{Arg, ArgAction, Command};
+use std::alloc::{AllocError, Global};
+use sts_line::command::on_trace;
+
+/// An option that takes no value.
+fn flag<'a>(alloc: Global, name: &'a str, help: &'a str) -> Arg<'a>
+    ensures rule { rule_of result ≡ def.flag_rule name.entry.now }
+    ensures local { result.global ≡ false }
+{
+    Arg::new(alloc, name)
+        .long(name)
+        .action(ArgAction::SetTrue)
+        .help(help)
+}
+
+/// The command `view`.
+fn view<'a>(alloc: Global) -> Result<Command<'a>, AllocError>
+    ensures app { IfOk result (λ c. app_of c ≡ def.view) }
+    ensures local { IfOk result (λ c. (out-Command c).has_globals ≡ false) }
+{
+    let each = flag(
+        alloc,
+        "each",
+        "after each event, and not after the last alone",
+    );
+    let full = flag(
+        alloc,
+        "full",
+        "also operands, locals and bindings of living tasks, and what joiners were told",
+    );
+    on_trace(
+        alloc,
+        "view",
+        "Prints every task and every scope as they stand after a trace; at a fault, before it",
+    )?
+    .arg(each)?
+    .arg(full)
+}
+
+/// The whole program.
+///
+/// # Errors
+///
+/// Memory was refused.
+pub fn program<'a>(alloc: Global) -> Result<Command<'a>, AllocError>
+    ensures { IfOk result (λ c. app_of c ≡ def.program) }
+{
+    let view = view(alloc)?;
+    Command::new(alloc, "look")
+        .about("Shows runs of structured task scopes")
+        .subcommand_required(true)
+        .subcommand(view)
+}

@@ -1,0 +1,15 @@
+//! The program `look`: shows how a run of the plain machine stands.
+#![tactic(auto)]
+
+pub mod asked;
+pub mod command;
+pub mod program;
+pub mod reading;
+
+use crate::program::start;
+use std::process::ExitCode;
+
+fn main(rt: HostRuntime) -> ExitCode {
+    let status = start(&rt, rt.alloc(), &mut rt.stdout(), &mut rt.stderr());
+    ExitCode::from(status)
+}

@@ -1,0 +1,134 @@
+//! The program `look`, but for its `main`: opens what a command line names, and writes what is shown.
+
+ghost use Rattle.std.specs.Prelude.{◌≡◌, IfOk, map};
+ghost use Rattle.sts_cli.specs.Output.{Output, Writes};
+ghost use Rattle.sts_look.specs.Ending as def;
+
+use crate::asked::View;
+use crate::reading::line;
+use std::alloc::Global;
+use std::io::{Input, Write};
+use std::rt::{Env, Files};
+use sts_cli::play::{STATUS_OUTSIDE, WriteFailed, failed, written};
+use sts_cli::program::{MOST_OF_A_STREAM, MOST_OF_A_TEXT, NOT_TEXT, borrowed};
+use sts_cli::sources::{Host, Sources, file};
+use sts_cli::taking::TakeError;
+use sts_cli::words::{WordsError, words};
+use sts_line::asked::LineError;
+use sts_view::of_text::write_view;
+use sts_view::view::Wanted;
+
+/// The name that the program goes by.
+const NAME: &[u8] = b"look";
+
+/// What stands after a trace; the text is read before the trace is opened.
+fn on_view<S: Sources, W: Write>(
+    alloc: Global,
+    sources: &S,
+    wanted: Wanted,
+    path: &str,
+    trace: &str,
+    out: &mut W,
+) -> Result<u8, WriteFailed>
+    ensures { IfOk result (λ s. (o : Output)
+        × def.IsOfView wanted (S.held sources.now path.now) (S.held sources.now trace.now) o
+        × Writes (W.contents out.old) (W.contents out.new) s o) }
+{
+    match file(alloc, sources, path, MOST_OF_A_TEXT) {
+        Ok(text) => match file(alloc, sources, trace, MOST_OF_A_STREAM) {
+            Ok(trace) => write_view(alloc, wanted, text.as_slice(), trace.as_slice(), out),
+            Err(error) => failed(error, out),
+        },
+        Err(error) => failed(error, out),
+    }
+}
+
+/// Does what a line asks for.
+fn on_line<S: Sources, W: Write>(
+    alloc: Global,
+    sources: &S,
+    asked: View<'_>,
+    out: &mut W,
+) -> Result<u8, WriteFailed>
+    ensures { IfOk result (λ s. (o : Output)
+        × def.IsShown asked.entry (S.held sources.now) o
+        × Writes (W.contents out.old) (W.contents out.new) s o) }
+{
+    on_view(alloc, sources, asked.wanted, asked.file, asked.trace, out)
+}
+
+/// Does what a command line asks for, its first word being the program's name, and gives the
+/// status: 0 root succeeded or help; 1 root failed; 2 usage; 3 a fault of a text; 5 a fault of the
+/// run, or it runs still; 6 memory, a file or a stream failed.
+///
+/// Help and usage faults are told to `err`, all else is written to `out`.
+///
+/// # Errors
+///
+/// A write failed.
+pub fn run<S: Sources, W: Write, E: Write>(
+    alloc: Global,
+    sources: &S,
+    words: &[&str],
+    out: &mut W,
+    err: &mut E,
+) -> Result<u8, WriteFailed>
+    ensures { IfOk result (def.Ends (map (λ w. w.now) words.now) (S.held sources.now)
+        (record {
+          out_old = W.contents out.old;
+          out_new = W.contents out.new;
+          err_old = E.contents err.old;
+          err_new = E.contents err.new;
+        })) }
+{
+    match line(alloc, words) {
+        Ok(asked) => on_line(alloc, sources, asked, out),
+        Err(LineError::Memory) => failed(TakeError::Memory, out),
+        Err(LineError::Help(text)) => written(err, text.as_bytes(), 0),
+        Err(LineError::Usage(text)) => written(err, text.as_bytes(), 2),
+    }
+}
+
+/// Does what the words that were had ask for; a word that is no text is a usage fault.
+///
+/// # Errors
+///
+/// A write failed.
+pub fn run_words<S: Sources, W: Write, E: Write>(
+    alloc: Global,
+    sources: &S,
+    words: &Result<Vec<String>, WordsError>,
+    out: &mut W,
+    err: &mut E,
+) -> Result<u8, WriteFailed>
+    ensures { IfOk result (def.EndsFrom words.now (S.held sources.now)
+        (record {
+          out_old = W.contents out.old;
+          out_new = W.contents out.new;
+          err_old = E.contents err.old;
+          err_new = E.contents err.new;
+        })) }
+{
+    match words {
+        Ok(words) => match borrowed(alloc, words.as_slice()) {
+            Ok(texts) => run(alloc, sources, texts.as_slice(), out, err),
+            Err(_) => failed(TakeError::Memory, out),
+        },
+        Err(WordsError::Memory) => failed(TakeError::Memory, out),
+        Err(WordsError::NotText) => written(err, NOT_TEXT, 2),
+    }
+}
+
+/// Does what the process was asked for, and gives the status; a stream that fails is status 6.
+pub fn start<R: Env + Files + Input, W: Write, E: Write>(
+    rt: &R,
+    alloc: Global,
+    out: &mut W,
+    err: &mut E,
+) -> u8 {
+    let words = words(rt, alloc, NAME);
+    match run_words(alloc, &Host { rt }, &words, out, err) {
+        Ok(status) => status,
+        Err(WriteFailed) => STATUS_OUTSIDE,
+    }
+}
