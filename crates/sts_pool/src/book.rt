@@ -2,6 +2,7 @@
 
 ghost use Rattle.std.specs.Prelude.{◌≡◌, ◌≢◌, ℕ, ◌+◌, ◌≤◌, ◌++◌, ◌∷◌, [], ◌↔◌, List, IfOk, OnOk, IfErr, OnErr};
 ghost use Rattle.std.specs.Prelude.{IfSome, IfNone, IsErr, IsOk, IsTrue, true, false, filter, not, ◌==◌};
+ghost use Rattle.std.specs.Prelude.{MatchBool};
 ghost use Rattle.std.specs.Prelude.{vec_len, vec_capacity};
 ghost use Rattle.sts_machine.specs.Machine.{Stands};
 ghost use Rattle.sts_machine.specs.Slice.{steps_of};
@@ -156,7 +157,28 @@ impl<'p> Book<'p> {
         Ok(turned)
     }
 
-    /// Takes a task out that can step and isn't out: none only where there is none.
+    /// Claims a task that can step and isn't out, and it is out then: none only where there is none.
+    pub fn claim(&mut self) -> Option<u32>
+        ensures none { IfNone result ((self.new ≡ self.old)
+            × ((t : ℕ) → may_turn self.old t ≡ false)) }
+        ensures ready { IfSome result (λ t. may_turn self.old t ≡ true) }
+        ensures out { IfSome result (λ t.
+            self.new ≡ record self.old { out = self.old.out ++ t ∷ [] }) }
+    {
+        let task = self.machine.ready_beside(self.out.as_slice())?;
+        self.out.push_reserved(task);
+        Some(task)
+    }
+
+    /// Ends a claim: the task isn't out any more, and a slice of it, if one was taken, is a stranger.
+    pub fn release(&mut self, task: u32)
+        ensures { self.new
+            ≡ record self.old { out = filter (λ o. not (o == task)) self.old.out } }
+    {
+        forget(&mut self.out, task);
+    }
+
+    /// Takes the slice of a task that can step and isn't out: none only where there is none.
     pub fn check_out(&mut self) -> Option<Slice<'p>>
         ensures none { IfNone result ((self.new ≡ self.old)
             × ((t : ℕ) → may_turn self.old t ≡ false)) }
@@ -171,8 +193,7 @@ impl<'p> Book<'p> {
         ensures out { IfSome result (λ s.
             self.new ≡ record self.old { out = self.old.out ++ s.task ∷ [] }) }
     {
-        let task = self.machine.ready_beside(self.out.as_slice())?;
-        self.out.push_reserved(task);
+        let task = self.claim()?;
         Some(self.machine.slice(task))
     }
 
@@ -224,7 +245,10 @@ impl<'p> Book<'p> {
     }
 
     /// Is there a task that can step and isn't out?
-    pub(crate) fn has_more(&self) -> bool {
+    pub(crate) fn has_more(&self) -> bool
+        ensures { MatchBool result ((t : ℕ) × (may_turn self.now t ≡ true))
+            ((t : ℕ) → may_turn self.now t ≡ false) }
+    {
         self.machine.ready_beside(self.out.as_slice()).is_some()
     }
 

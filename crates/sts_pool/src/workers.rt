@@ -12,10 +12,20 @@ use std::sync::{Condvar, Mutex, MutexGuard, Wait};
 use std::thread;
 use std::thread::{Builder, Threads};
 use sts_machine::slice::Slice;
+use sts_machine::turned::Turned;
 use sts_verify::verified::Verified;
 
 /// As many local instructions as a worker does at most with no lock held.
 const AT_ONCE: u32 = 4096;
+
+/// After so many steps of one task in a row a worker takes its slice.
+const IN_A_ROW: u32 = 16;
+
+/// A slice of so many instructions was worth another worker's while.
+const WORTH: u32 = 512;
+
+/// So many tasks are claimed in company, before there has to be a slice that was worth it.
+const TRIES: u32 = 64;
 
 /// The bytes of a worker's stack.
 pub(crate) const STACK: usize = 1 << 20;
@@ -40,6 +50,8 @@ struct Shared<'p, O, B: Runs> {
     book: Book<'p>,
     outside: O,
     stop: bool,
+    turning: u32,
+    tries: u32,
     of: PhantomData<B>,
     ghost ours: { book.program ≡ B.program },
 }
@@ -66,55 +78,114 @@ impl<'p, O: Outside, B: Runs> Shared<'p, O, B> {
         }
     }
 
-    /// Takes a slice back, and does the task's next step. A slice that is not the book's, which never
-    /// comes, stops the run.
-    fn settle(&mut self, slice: Slice<'p>) {
-        let task = slice.task();
-        match self.book.check_in(slice) {
-            Ok(()) => {
-                self.ask();
-                let _ = self.book.turn(task);
+    /// As many turns of a task, unless one of them is no step: were all of them steps?
+    fn turns(&mut self, task: u32, most: u32) -> bool {
+        if self.stop {
+            return false;
+        }
+        for _ in 0..most {
+            self.ask();
+            if self.book.turn(task) == Turned::Idle {
+                return false;
             }
-            Err(_) => self.stop = true,
+        }
+        true
+    }
+
+    /// A task to work on, unless another worker is to come back to it.
+    fn claim(&mut self) -> Option<u32> {
+        if self.tries == 0 && self.turning > 1 {
+            return None;
+        }
+        let task = self.book.claim()?;
+        self.tries = self.tries.saturating_sub(1);
+        Some(task)
+    }
+
+    /// Is another worker to be woken?
+    fn wants_another(&self) -> bool {
+        self.tries > 0 && self.book.has_more()
+    }
+
+    /// Takes a slice back. One that is not the book's, which never comes, stops the run.
+    fn give_back(&mut self, slice: Slice<'p>) {
+        if self.book.check_in(slice).is_err() {
+            self.stop = true;
         }
     }
 }
 
 impl<'p, O: Outside, B: Runs> Pool<'p, O, B> {
-    /// A slice to work on, or none where the worker is to end. Whoever takes one wakes another worker
-    /// where a task is left: so none is left while all others wait.
-    fn find<'b, R: Wait>(
-        &'b self,
-        rt: &R,
-        guard: MutexGuard<'b, Shared<'p, O, B>>,
-    ) -> Option<Slice<'p>> {
+    /// A task to work on, or none where the worker is to end.
+    fn find<'b, R: Wait>(&'b self, rt: &R, guard: MutexGuard<'b, Shared<'p, O, B>>) -> Option<u32> {
         let mut guard = guard;
         for _ in rt.forever() {
             let shared = &mut *guard;
-            if shared.stop {
+            if shared.stop || shared.book.root_end().is_some() {
                 self.woken.notify_all();
                 return None;
             }
             shared.ask();
-            if let Some(slice) = shared.book.check_out() {
-                if shared.book.has_more() {
+            if let Some(task) = shared.claim() {
+                if shared.wants_another() {
                     self.woken.notify_one();
                 }
-                return Some(slice);
+                return Some(task);
             }
-            if shared.book.root_end().is_some() {
-                self.woken.notify_all();
-                return None;
-            }
+            shared.turning = shared.turning.saturating_sub(1);
             guard = self.woken.wait(rt, guard);
+            guard.turning = guard.turning.saturating_add(1);
         }
         unreachable!()
     }
 
-    /// Takes a slice back and finds another, under one lock.
-    fn exchange<R: Wait>(&self, rt: &R, slice: Slice<'p>) -> Option<Slice<'p>> {
+    /// Works on a claimed task under the lock, and finds another.
+    fn turns<R: Wait, G: Gate>(&self, rt: &R, gate: &G, worker: u32, task: u32) -> Option<u32> {
         let mut guard = self.shared.lock(rt);
-        guard.settle(slice);
+        guard.book.release(task);
+        if guard.turns(task, IN_A_ROW) {
+            return self.slices(rt, gate, worker, guard);
+        }
+        self.find(rt, guard)
+    }
+
+    /// Works with slices until a task can't step, and finds another.
+    fn slices<'b, R: Wait, G: Gate>(
+        &'b self,
+        rt: &R,
+        gate: &G,
+        worker: u32,
+        guard: MutexGuard<'b, Shared<'p, O, B>>,
+    ) -> Option<u32> {
+        let mut guard = guard;
+        let mut most = IN_A_ROW;
+        for _ in rt.forever() {
+            let shared = &mut *guard;
+            let Some(mut slice) = shared.book.check_out() else {
+                break;
+            };
+            let task = slice.task();
+            if shared.wants_another() {
+                self.woken.notify_one();
+            }
+            shared.turning = shared.turning.saturating_sub(1);
+            drop(guard);
+            gate.enter(worker, task);
+            let done = slice.run_local(AT_ONCE);
+            guard = self.shared.lock(rt);
+            let shared = &mut *guard;
+            shared.turning = shared.turning.saturating_add(1);
+            shared.give_back(slice);
+            if done >= WORTH {
+                shared.tries = TRIES;
+                most = 1;
+            } else {
+                most = most.saturating_mul(2);
+            }
+            if !shared.turns(task, most) {
+                break;
+            }
+        }
         self.find(rt, guard)
     }
 
@@ -125,18 +196,22 @@ impl<'p, O: Outside, B: Runs> Pool<'p, O, B> {
         self.woken.notify_all();
     }
 
-    /// What one worker does: it takes frames out, does their local instructions with no lock held, and
-    /// gives them back, until the root has ended.
+    /// What one worker does, until the root has ended.
     fn work<R: Wait, G: Gate>(&self, rt: &R, gate: &G, worker: u32) {
-        let mut next = self.find(rt, self.shared.lock(rt));
+        let mut next = self.enter(rt);
         for _ in rt.forever() {
-            let Some(mut slice) = next else {
+            let Some(task) = next else {
                 return;
             };
-            gate.enter(worker, slice.task());
-            let _ = slice.run_local(AT_ONCE);
-            next = self.exchange(rt, slice);
+            gate.enter(worker, task);
+            next = self.turns(rt, gate, worker, task);
         }
+    }
+
+    fn enter<R: Wait>(&self, rt: &R) -> Option<u32> {
+        let mut guard = self.shared.lock(rt);
+        guard.turning = guard.turning.saturating_add(1);
+        self.find(rt, guard)
     }
 }
 
@@ -186,6 +261,8 @@ pub(crate) fn run_on<
             book,
             outside,
             stop: false,
+            turning: 0,
+            tries: TRIES,
             of: PhantomData,
         }),
         woken: Condvar::new(),
@@ -198,6 +275,8 @@ pub(crate) fn run_on<
         book,
         outside: _,
         stop: _,
+        turning: _,
+        tries: _,
         of: _,
     } = shared.into_inner();
     book.report()
