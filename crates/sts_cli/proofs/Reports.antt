@@ -22,5 +22,11 @@ pub printed_of : (text outside given given_outside : List ℕ) (w : Written) (s 
 printed_of text outside given given_outside w s r e f is =
     written_of text outside w s r (subst (λ x. IsOutcomeOf x outside r) e (subst (λ y. IsOutcomeOf given y r) f is))
 
+-- the same where no trace is wanted
+pub printed_untraced : (text outside given given_outside : List ℕ) (old new : Option (List ℕ)) (s : ℕ) (r : Outcome) → given ≡ text → given_outside ≡ outside → IsOutcomeOf given given_outside r → Writes old new s r.output
+    → (o : Output) × IsPrinted text outside o × Writes old new s o
+printed_untraced text outside given given_outside old new s r e f is out =
+    (r.output, of_run r (subst (λ x. IsOutcomeOf x outside r) e (subst (λ y. IsOutcomeOf given y r) f is)) refl, out)
+
 pub of_texts : (file outside_file : Option (List ℕ)) (text outside : List ℕ) (o : Output) → IsTakenOf file most_of_a_text text → IsTakenOf outside_file most_of_a_stream outside → IsPrinted text outside o → IsOfRun file outside_file o
 of_texts file outside_file text outside o taken others printed = shown text outside taken others printed

@@ -144,3 +144,26 @@ pub fn play_run<R: Threads + Wait + Sync, T: Write, W: Write>(
         Err(_) => failed(TakeError::Memory, out),
     }
 }
+
+/// `play_run` with a trace that nobody wants: it isn't spelled.
+///
+/// # Errors
+///
+/// A write failed.
+pub(crate) fn play_untraced<R: Threads + Wait + Sync, W: Write>(
+    rt: &R,
+    alloc: Global,
+    text: &[u8],
+    workers: u32,
+    outside: &[u8],
+    out: &mut W,
+) -> Result<u8, WriteFailed>
+    requires { (1 ≤ workers) × (workers ≤ 16) }
+    ensures { IfOk result (λ s. (o : Outcome) × IsOutcomeOf text.now outside.now o
+        × def.Writes (W.contents out.old) (W.contents out.new) s o.output) }
+{
+    match run::outcome(rt, alloc, text, workers, outside) {
+        Ok(ran) => written(out, ran.output.text.as_bytes(), ran.output.status),
+        Err(_) => failed(TakeError::Memory, out),
+    }
+}

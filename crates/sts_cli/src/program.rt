@@ -9,7 +9,9 @@ ghost use Rattle.sts_cli.specs.Output.{Output, Writes};
 ghost use Rattle.sts_cli.specs.Taking.{IsTakenOf};
 
 use crate::mode::Mode;
-use crate::play::{STATUS_OUTSIDE, WriteFailed, failed, play, play_joined, play_run, written};
+use crate::play::{
+    STATUS_OUTSIDE, WriteFailed, failed, play, play_joined, play_run, play_untraced, written,
+};
 use crate::sinks::{Sinks, made};
 use crate::sources::{Host, Sources, file};
 use crate::taking::{TakeError, take};
@@ -146,7 +148,7 @@ fn on_texts<R: Threads + Wait + Sync, S: Sinks, W: Write>(
 {
     let (program, outside) = (texts.program.as_slice(), texts.outside.as_slice());
     match trace {
-        None => play_run(rt, alloc, program, workers, outside, &mut io::sink(), out),
+        None => play_untraced(rt, alloc, program, workers, outside, out),
         Some(path) => match made(alloc, sinks, path) {
             Ok(mut trace) => play_run(rt, alloc, program, workers, outside, &mut trace, out),
             Err(error) => failed(error, out),

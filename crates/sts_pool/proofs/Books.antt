@@ -244,6 +244,13 @@ steps_and_outside journal =
     let both : length (filter is_step journal) + length (filter (λ e. not (is_step e)) journal) ≡ length journal = length-filter_both is_step (λ e. not (is_step e)) (λ e. refl) journal in
     omega (arith, steps, others, both)
 
+-- a machine has taken as many steps as its book's journal has
+pub steps_counted : (b : BookSeen) → IsBook b → b.machine.steps ≡ count_by is_step b.journal
+steps_counted b is =
+    let counted = is.counted in
+    let all = steps_and_outside b.journal in
+    omega (arith, counted, all)
+
 pub reports : (b : BookSeen) (end : Option End) (o : End) → IsBook b → MainBudget b.machine.program → In (λ w. end ≡ (task_at w 0).outcome) (after b.machine.program b.journal) → end ≡ Some o → IsReport b.machine.program b.journal o
 reports b end o is main ended some =
     let s = is.stands in

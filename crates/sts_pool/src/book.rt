@@ -2,12 +2,12 @@
 
 ghost use Rattle.std.specs.Prelude.{◌≡◌, ◌≢◌, ℕ, ◌+◌, ◌≤◌, ◌++◌, ◌∷◌, [], ◌↔◌, List, IfOk, OnOk, IfErr, OnErr};
 ghost use Rattle.std.specs.Prelude.{IfSome, IfNone, IsErr, IsOk, IsTrue, true, false, filter, not, ◌==◌};
-ghost use Rattle.std.specs.Prelude.{MatchBool};
+ghost use Rattle.std.specs.Prelude.{MatchBool, count_by};
 ghost use Rattle.std.specs.Prelude.{vec_len, vec_capacity};
 ghost use Rattle.sts_machine.specs.Machine.{Stands};
 ghost use Rattle.sts_machine.specs.Slice.{steps_of};
 ghost use Rattle.sts_machine.specs.Turned.{Picks, turned};
-ghost use Rattle.sts_model.specs.Run.{after, counts};
+ghost use Rattle.sts_model.specs.Run.{after, counts, is_step};
 ghost use Rattle.sts_model.specs.Waiting.{can_step};
 ghost use Rattle.sts_model.specs.World.{code, task_at};
 ghost use Rattle.sts_pool.specs.Book.{IsOurs, is_out, may_turn, outside_entries};
@@ -230,18 +230,24 @@ impl<'p> Book<'p> {
     ///
     /// The root lives.
     pub(crate) fn report(self) -> Result<Report, PoolError>
-        ensures { IfOk result (λ r. IsReport self.entry.program r.journal.items r.end) }
+        ensures report { IfOk result (λ r. IsReport self.entry.program r.journal.items r.end) }
+        ensures steps { IfOk result (λ r. r.steps ≡ count_by is_step r.journal.items) }
     {
         let Some(end) = self.machine.root_end() else {
             return Err(PoolError::Unfinished);
         };
+        let steps = self.machine.steps();
         let Book {
             machine: _,
             journal,
             outside: _,
             out: _,
         } = self;
-        Ok(Report { end, journal })
+        Ok(Report {
+            end,
+            journal,
+            steps,
+        })
     }
 
     /// Is there a task that can step and isn't out?

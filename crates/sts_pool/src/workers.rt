@@ -1,6 +1,7 @@
 //! The workers, which share one book under one lock.
 
-ghost use Rattle.std.specs.Prelude.{◌≡◌, ◌≤◌, IfOk};
+ghost use Rattle.std.specs.Prelude.{◌≡◌, ◌≤◌, IfOk, count_by};
+ghost use Rattle.sts_model.specs.Run.{is_step};
 ghost use Rattle.sts_pool.specs.Report.{IsReport};
 
 use crate::book::{Book, MOST_OUTSIDE};
@@ -18,13 +19,13 @@ use sts_verify::verified::Verified;
 /// As many local instructions as a worker does at most with no lock held.
 const AT_ONCE: u32 = 4096;
 
-/// After so many steps of one task in a row a worker takes its slice.
+/// After so many steps in a row a task's slice is taken.
 const IN_A_ROW: u32 = 16;
 
-/// A slice of so many instructions was worth another worker's while.
+/// A slice of so many instructions is worth the wake-up of another worker.
 const WORTH: u32 = 512;
 
-/// So many tasks are claimed in company, before there has to be a slice that was worth it.
+/// So many tasks are claimed by several workers at once, until a slice is worth it again.
 const TRIES: u32 = 64;
 
 /// The bytes of a worker's stack.
@@ -44,19 +45,24 @@ impl Runs for Brand {
     ghost program = { no_program };
 }
 
-/// What the workers share.
+/// What the workers share: beside the book and the outside whether the run is stopped, how many of
+/// them are awake with no slice out, and how many tasks may still be claimed by several at once.
 #[derive(Drop)]
 struct Shared<'p, O, B: Runs> {
     book: Book<'p>,
     outside: O,
     stop: bool,
-    turning: u32,
+    awake: usize,
     tries: u32,
     of: PhantomData<B>,
     ghost ours: { book.program ≡ B.program },
 }
 
-/// One lock over it, and what wakes those that wait for a task that can step.
+/// One lock over it, and what wakes those that wait.
+///
+/// A worker waits only where no task is left, or where another is awake with no slice out, and that
+/// one looks for a task once more before it waits itself. So the last one that is awake never waits
+/// while a task is left, and until the run ends a wake-up only makes it faster.
 #[derive(Drop)]
 struct Pool<'p, O, B: Runs> {
     shared: Mutex<Shared<'p, O, B>>,
@@ -78,11 +84,8 @@ impl<'p, O: Outside, B: Runs> Shared<'p, O, B> {
         }
     }
 
-    /// As many turns of a task, unless one of them is no step: were all of them steps?
+    /// Turns of a task until one is no step, at most so many: were all of them steps?
     fn turns(&mut self, task: u32, most: u32) -> bool {
-        if self.stop {
-            return false;
-        }
         for _ in 0..most {
             self.ask();
             if self.book.turn(task) == Turned::Idle {
@@ -92,9 +95,9 @@ impl<'p, O: Outside, B: Runs> Shared<'p, O, B> {
         true
     }
 
-    /// A task to work on, unless another worker is to come back to it.
+    /// A task to work on: none where none is left, or where another worker is to come to it.
     fn claim(&mut self) -> Option<u32> {
-        if self.tries == 0 && self.turning > 1 {
+        if self.tries == 0 && self.awake > 1 {
             return None;
         }
         let task = self.book.claim()?;
@@ -102,16 +105,38 @@ impl<'p, O: Outside, B: Runs> Shared<'p, O, B> {
         Some(task)
     }
 
-    /// Is another worker to be woken?
+    /// Is there work for another worker, too?
     fn wants_another(&self) -> bool {
         self.tries > 0 && self.book.has_more()
     }
 
-    /// Takes a slice back. One that is not the book's, which never comes, stops the run.
-    fn give_back(&mut self, slice: Slice<'p>) {
+    /// A slice to work on.
+    fn lend(&mut self) -> Option<Slice<'p>> {
+        let slice = self.book.check_out()?;
+        self.awake = self.awake.saturating_sub(1);
+        Some(slice)
+    }
+
+    /// Takes a slice back on which so many instructions were done. One that is not the book's, which
+    /// never comes, stops the run.
+    fn take_back(&mut self, slice: Slice<'p>, done: u32) {
+        self.awake = self.awake.saturating_add(1);
+        if done >= WORTH {
+            self.tries = TRIES;
+        }
         if self.book.check_in(slice).is_err() {
             self.stop = true;
         }
+    }
+}
+
+/// How many turns come after a slice that did so many instructions, where so many came before it: one
+/// after a whole one, and ever more while the slices are not worth it.
+fn turns_after(done: u32, before: u32) -> u32 {
+    match done {
+        AT_ONCE => 1,
+        WORTH.. => IN_A_ROW,
+        _ => IN_A_ROW.max(before.saturating_mul(2)),
     }
 }
 
@@ -132,24 +157,26 @@ impl<'p, O: Outside, B: Runs> Pool<'p, O, B> {
                 }
                 return Some(task);
             }
-            shared.turning = shared.turning.saturating_sub(1);
+            shared.awake = shared.awake.saturating_sub(1);
             guard = self.woken.wait(rt, guard);
-            guard.turning = guard.turning.saturating_add(1);
+            guard.awake = guard.awake.saturating_add(1);
         }
         unreachable!()
     }
 
-    /// Works on a claimed task under the lock, and finds another.
-    fn turns<R: Wait, G: Gate>(&self, rt: &R, gate: &G, worker: u32, task: u32) -> Option<u32> {
+    /// Does a task's steps under the lock, or by slices where it makes many in a row, until it can't
+    /// step; then another task to work on is found.
+    fn exchange<R: Wait, G: Gate>(&self, rt: &R, gate: &G, worker: u32, task: u32) -> Option<u32> {
         let mut guard = self.shared.lock(rt);
         guard.book.release(task);
-        if guard.turns(task, IN_A_ROW) {
+        if !guard.stop && guard.turns(task, IN_A_ROW) {
             return self.slices(rt, gate, worker, guard);
         }
         self.find(rt, guard)
     }
 
-    /// Works with slices until a task can't step, and finds another.
+    /// Takes slices, does their local instructions with no lock held, gives each back and does the
+    /// steps behind it, until a task can't step; then another one is found.
     fn slices<'b, R: Wait, G: Gate>(
         &'b self,
         rt: &R,
@@ -160,29 +187,20 @@ impl<'p, O: Outside, B: Runs> Pool<'p, O, B> {
         let mut guard = guard;
         let mut most = IN_A_ROW;
         for _ in rt.forever() {
-            let shared = &mut *guard;
-            let Some(mut slice) = shared.book.check_out() else {
+            let Some(mut slice) = guard.lend() else {
                 break;
             };
-            let task = slice.task();
-            if shared.wants_another() {
+            if guard.wants_another() {
                 self.woken.notify_one();
             }
-            shared.turning = shared.turning.saturating_sub(1);
             drop(guard);
+            let task = slice.task();
             gate.enter(worker, task);
             let done = slice.run_local(AT_ONCE);
             guard = self.shared.lock(rt);
-            let shared = &mut *guard;
-            shared.turning = shared.turning.saturating_add(1);
-            shared.give_back(slice);
-            if done >= WORTH {
-                shared.tries = TRIES;
-                most = 1;
-            } else {
-                most = most.saturating_mul(2);
-            }
-            if !shared.turns(task, most) {
+            guard.take_back(slice, done);
+            most = turns_after(done, most);
+            if guard.stop || !guard.turns(task, most) {
                 break;
             }
         }
@@ -196,22 +214,17 @@ impl<'p, O: Outside, B: Runs> Pool<'p, O, B> {
         self.woken.notify_all();
     }
 
-    /// What one worker does, until the root has ended.
+    /// What one worker does: it claims a task, passes the gate and does the task's steps, and so on
+    /// until the root has ended.
     fn work<R: Wait, G: Gate>(&self, rt: &R, gate: &G, worker: u32) {
-        let mut next = self.enter(rt);
+        let mut next = self.find(rt, self.shared.lock(rt));
         for _ in rt.forever() {
             let Some(task) = next else {
                 return;
             };
             gate.enter(worker, task);
-            next = self.turns(rt, gate, worker, task);
+            next = self.exchange(rt, gate, worker, task);
         }
-    }
-
-    fn enter<R: Wait>(&self, rt: &R) -> Option<u32> {
-        let mut guard = self.shared.lock(rt);
-        guard.turning = guard.turning.saturating_add(1);
-        self.find(rt, guard)
     }
 }
 
@@ -230,7 +243,8 @@ pub fn run<R: Threads + Wait + Sync, G: Gate + Sync, O: Outside + Send + Drop>(
     outside: O,
 ) -> Result<Report, PoolError>
     requires { (1 ≤ workers) × (workers ≤ 16) }
-    ensures { IfOk result (λ r. IsReport verified.now r.journal.items r.end) }
+    ensures report { IfOk result (λ r. IsReport verified.now r.journal.items r.end) }
+    ensures steps { IfOk result (λ r. r.steps ≡ count_by is_step r.journal.items) }
 {
     let stacks = &[STACK; 16][..workers as usize];
     run_on::<Brand, R, G, O>(rt, alloc, verified, stacks, gate, outside)
@@ -251,7 +265,8 @@ pub(crate) fn run_on<
     outside: O,
 ) -> Result<Report, PoolError>
     requires { verified.now ≡ B.program }
-    ensures { IfOk result (λ r. IsReport B.program r.journal.items r.end) }
+    ensures report { IfOk result (λ r. IsReport B.program r.journal.items r.end) }
+    ensures steps { IfOk result (λ r. r.steps ≡ count_by is_step r.journal.items) }
 {
     let Ok(book) = Book::start(alloc, verified) else {
         return Err(PoolError::Memory);
@@ -261,7 +276,7 @@ pub(crate) fn run_on<
             book,
             outside,
             stop: false,
-            turning: 0,
+            awake: stacks.len(),
             tries: TRIES,
             of: PhantomData,
         }),
@@ -275,7 +290,7 @@ pub(crate) fn run_on<
         book,
         outside: _,
         stop: _,
-        turning: _,
+        awake: _,
         tries: _,
         of: _,
     } = shared.into_inner();

@@ -2,20 +2,20 @@ use Rattle.std.proofs.Common.{refl}
 use Rattle.std.proofs.lemmas.Result.{IfOk-weaker}
 use Rattle.sts_cli.specs.Ending as def
 use Rattle.sts_cli.specs.Output.{failure_output}
-use Rattle.sts_cli.proofs.Reports.{printed_of}
+use Rattle.sts_cli.proofs.Reports.{printed_of, printed_untraced}
 use Rattle.sts_cli.proofs.program.on_texts.Goals as goal
 
 pub returns-in-None : goal.returns-in-None
 returns-in-None g c =
-    IfOk-weaker c.play_run.result _ _
-    (λ s h. printed_of _ _ _ _ _ s h.0 c.as_slice-program.ensures.value c.as_slice-outside.ensures.value h.1 h.2)
-    c.play_run.ensures
+    IfOk-weaker c.play_untraced.result _ _
+    (λ s h. printed_untraced _ _ _ _ _ _ s h.0 c.as_slice-program.ensures.value c.as_slice-outside.ensures.value h.1 h.2)
+    c.play_untraced.ensures
 
 pub returns-in-Ok : goal.returns-in-Ok
 returns-in-Ok g c =
-    IfOk-weaker c.play_run-in-Ok.result _ _
+    IfOk-weaker c.play_run.result _ _
     (λ s h. printed_of _ _ _ _ _ s h.0 c.as_slice-program.ensures.value c.as_slice-outside.ensures.value h.1 h.2)
-    c.play_run-in-Ok.ensures
+    c.play_run.ensures
 
 pub returns-in-Err : goal.returns-in-Err
 returns-in-Err g c =
