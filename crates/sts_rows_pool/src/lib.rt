@@ -12,4 +12,6 @@ mod outsides;
 #[cfg(test)]
 mod runs;
 #[cfg(test)]
+mod slices;
+#[cfg(test)]
 mod texts;
