@@ -7,7 +7,7 @@ use Rattle.std.proofs.lemmas.List.Filters.{length-filter_both}
 use Rattle.std.proofs.lemmas.List.Folds.{sum_by-replicate}
 use Rattle.std.proofs.lemmas.List.Sums.{length-filter, sum_by-append}
 use Rattle.std.specs.List.{IsDistinct}
-use Rattle.std.specs.Prelude.{option_map, unwrap_or}
+use Rattle.std.specs.Prelude.{MatchBool, option_map, unwrap_or}
 use Rattle.sts_code.specs.Program.{Program}
 use Rattle.sts_rules.specs.declared.budget.Budgets.{Budgets}
 use Rattle.sts_rules.specs.Refusal.{IsBudgetOf}
@@ -30,7 +30,7 @@ use Rattle.sts_laws_accepted.specs.Views.{ViewsAreWithin}
 use Rattle.sts_machine.specs.Laws.{MainBudget}
 use Rattle.sts_machine.specs.Machine.{Seen, Stands}
 use Rattle.sts_machine.specs.Slice.{steps_of}
-use Rattle.sts_machine.specs.Turned.{turned}
+use Rattle.sts_machine.specs.Turned.{Picks, turned}
 use Rattle.sts_machine.specs.declared.turned.Turned.TheVariants.{Stepped, Idle}
 use Rattle.sts_pool.specs.Book.{BookSeen, HasBookRoom, IsBook, book_of, is_out, may_turn, outside_entries}
 use Rattle.sts_pool.specs.Report.{IsBounded, IsReport}
@@ -118,6 +118,21 @@ out_book m journal out t is absent alive =
       apart = apart_more out t is.apart absent;
       living = λ q h. elim (among_more out t q h) [ inl k ↦ is.living q k | inr e ↦ subst (λ u. lives_in m.live u ≡ true) e alive ];
     }
+
+pub released_book : (m : Seen) (journal : List Event) (out : List ℕ) (t : ℕ) → IsBook (book_of m journal out) → IsBook (book_of m journal (without t out))
+released_book m journal out t is =
+    record {
+      stands = is.stands;
+      counted = is.counted;
+      most = is.most;
+      apart = apart_without t out is.apart;
+      living = λ q h. is.living q (was_among t q out h);
+    }
+
+-- a task that was picked may turn, and where none was, none may
+pub picked : (b : BookSeen) (o : Option ℕ) → Picks (may_turn b) o → MatchBool (is_some o) ((t : ℕ) × (may_turn b t ≡ true)) ((t : ℕ) → may_turn b t ≡ false)
+picked b (Some t) h = (t, h)
+picked b None h = h
 
 -- who lives does so at another frame
 pub lives_at_frame : (v : Live) (t : ℕ) (f : Frame) (q : ℕ) → lives_in (with_live_frame v t f) q ≡ lives_in v q
@@ -228,6 +243,13 @@ steps_and_outside journal =
     let others : length (filter (λ e. not (is_step e)) journal) ≡ outside_entries journal = length-filter (λ e. not (is_step e)) journal in
     let both : length (filter is_step journal) + length (filter (λ e. not (is_step e)) journal) ≡ length journal = length-filter_both is_step (λ e. not (is_step e)) (λ e. refl) journal in
     omega (arith, steps, others, both)
+
+-- a machine has taken as many steps as its book's journal has
+pub steps_counted : (b : BookSeen) → IsBook b → b.machine.steps ≡ count_by is_step b.journal
+steps_counted b is =
+    let counted = is.counted in
+    let all = steps_and_outside b.journal in
+    omega (arith, counted, all)
 
 pub reports : (b : BookSeen) (end : Option End) (o : End) → IsBook b → MainBudget b.machine.program → In (λ w. end ≡ (task_at w 0).outcome) (after b.machine.program b.journal) → end ≡ Some o → IsReport b.machine.program b.journal o
 reports b end o is main ended some =

@@ -2,11 +2,12 @@
 
 ghost use Rattle.std.specs.Prelude.{◌≡◌, ◌≢◌, ℕ, ◌+◌, ◌≤◌, ◌++◌, ◌∷◌, [], ◌↔◌, List, IfOk, OnOk, IfErr, OnErr};
 ghost use Rattle.std.specs.Prelude.{IfSome, IfNone, IsErr, IsOk, IsTrue, true, false, filter, not, ◌==◌};
+ghost use Rattle.std.specs.Prelude.{MatchBool, count_by};
 ghost use Rattle.std.specs.Prelude.{vec_len, vec_capacity};
 ghost use Rattle.sts_machine.specs.Machine.{Stands};
 ghost use Rattle.sts_machine.specs.Slice.{steps_of};
 ghost use Rattle.sts_machine.specs.Turned.{Picks, turned};
-ghost use Rattle.sts_model.specs.Run.{after, counts};
+ghost use Rattle.sts_model.specs.Run.{after, counts, is_step};
 ghost use Rattle.sts_model.specs.Waiting.{can_step};
 ghost use Rattle.sts_model.specs.World.{code, task_at};
 ghost use Rattle.sts_pool.specs.Book.{IsOurs, is_out, may_turn, outside_entries};
@@ -154,7 +155,28 @@ impl<'p> Book<'p> {
         Ok(turned)
     }
 
-    /// Takes a task out that can step and isn't out: none only where there is none.
+    /// Claims a task that can step and isn't out, and it is out then: none only where there is none.
+    pub fn claim(&mut self) -> Option<u32>
+        ensures none { IfNone result ((self.new ≡ self.old)
+            × ((t : ℕ) → may_turn self.old t ≡ false)) }
+        ensures ready { IfSome result (λ t. may_turn self.old t ≡ true) }
+        ensures out { IfSome result (λ t.
+            self.new ≡ record self.old { out = self.old.out ++ t ∷ [] }) }
+    {
+        let task = self.machine.ready_beside(self.out.as_slice())?;
+        self.out.push_reserved(task);
+        Some(task)
+    }
+
+    /// Ends a claim: the task isn't out any more, and a slice of it, if one was taken, is a stranger.
+    pub fn release(&mut self, task: u32)
+        ensures { self.new
+            ≡ record self.old { out = filter (λ o. not (o == task)) self.old.out } }
+    {
+        forget(&mut self.out, task);
+    }
+
+    /// Takes the slice of a task that can step and isn't out: none only where there is none.
     pub fn check_out(&mut self) -> Option<Slice<'p>>
         ensures none { IfNone result ((self.new ≡ self.old)
             × ((t : ℕ) → may_turn self.old t ≡ false)) }
@@ -169,8 +191,7 @@ impl<'p> Book<'p> {
         ensures out { IfSome result (λ s.
             self.new ≡ record self.old { out = self.old.out ++ s.task ∷ [] }) }
     {
-        let task = self.machine.ready_beside(self.out.as_slice())?;
-        self.out.push_reserved(task);
+        let task = self.claim()?;
         Some(self.machine.slice(task))
     }
 
@@ -207,22 +228,31 @@ impl<'p> Book<'p> {
     ///
     /// The root lives.
     pub(crate) fn report(self) -> Result<Report, PoolError>
-        ensures { IfOk result (λ r. IsReport self.entry.program r.journal.items r.end) }
+        ensures report { IfOk result (λ r. IsReport self.entry.program r.journal.items r.end) }
+        ensures steps { IfOk result (λ r. r.steps ≡ count_by is_step r.journal.items) }
     {
         let Some(end) = self.machine.root_end() else {
             return Err(PoolError::Unfinished);
         };
+        let steps = self.machine.steps();
         let Book {
             machine: _,
             journal,
             outside: _,
             out: _,
         } = self;
-        Ok(Report { end, journal })
+        Ok(Report {
+            end,
+            journal,
+            steps,
+        })
     }
 
     /// Is there a task that can step and isn't out?
-    pub(crate) fn has_more(&self) -> bool {
+    pub(crate) fn has_more(&self) -> bool
+        ensures { MatchBool result ((t : ℕ) × (may_turn self.now t ≡ true))
+            ((t : ℕ) → may_turn self.now t ≡ false) }
+    {
         self.machine.ready_beside(self.out.as_slice()).is_some()
     }
 

@@ -3,11 +3,12 @@
 use sts_model::event::{End, Event};
 use thiserror::Error;
 
-/// How the root ended, and the journal that led there.
+/// How the root ended, the journal that led there, and how many steps it has.
 #[derive(Debug, Drop)]
 pub struct Report {
     pub end: End,
     pub journal: Vec<Event>,
+    pub steps: u64,
 }
 
 /// Why a run has no report.
@@ -19,7 +20,7 @@ pub enum PoolError {
     /// P2: a worker could not be started; those that were started have ended.
     #[error("a worker could not be started")]
     SpawnRefused,
-    /// P3: the book that the workers left isn't of this program, or its root has not ended.
+    /// P3: the root has not ended in the book that the workers left.
     #[error("the run has not ended")]
     Unfinished,
 }

@@ -1,6 +1,7 @@
 //! The workers, which share one book under one lock.
 
-ghost use Rattle.std.specs.Prelude.{◌≡◌, ◌≤◌, IfOk};
+ghost use Rattle.std.specs.Prelude.{◌≡◌, ◌≤◌, IfOk, count_by};
+ghost use Rattle.sts_model.specs.Run.{is_step};
 ghost use Rattle.sts_pool.specs.Report.{IsReport};
 
 use crate::book::Book;
@@ -13,10 +14,20 @@ use std::thread;
 use std::thread::{Builder, Threads};
 use sts_code::limits::MAX_OUTSIDE;
 use sts_machine::slice::Slice;
+use sts_machine::turned::Turned;
 use sts_verify::verified::Verified;
 
 /// As many local instructions as a worker does at most with no lock held.
 const AT_ONCE: u32 = 4096;
+
+/// After so many steps in a row a task's slice is taken.
+const IN_A_ROW: u32 = 16;
+
+/// A slice of so many instructions is worth the wake-up of another worker.
+const WORTH: u32 = 512;
+
+/// So many tasks are claimed by several workers at once, until a slice is worth it again.
+const TRIES: u32 = 64;
 
 /// The bytes of a worker's stack.
 pub(crate) const STACK: usize = 1 << 20;
@@ -35,17 +46,24 @@ impl Runs for Brand {
     ghost program = { no_program };
 }
 
-/// What the workers share.
+/// What the workers share: beside the book and the outside whether the run is stopped, how many of
+/// them are awake with no slice out, and how many tasks may still be claimed by several at once.
 #[derive(Drop)]
 struct Shared<'p, O, B: Runs> {
     book: Book<'p>,
     outside: O,
     stop: bool,
+    awake: usize,
+    tries: u32,
     of: PhantomData<B>,
     ghost ours: { book.program ≡ B.program },
 }
 
-/// One lock over it, and what wakes those that wait for a task that can step.
+/// One lock over it, and what wakes those that wait.
+///
+/// A worker waits only where no task is left, or where another is awake with no slice out, and that
+/// one looks for a task once more before it waits itself. So the last one that is awake never waits
+/// while a task is left, and until the run ends a wake-up only makes it faster.
 #[derive(Drop)]
 struct Pool<'p, O, B: Runs> {
     shared: Mutex<Shared<'p, O, B>>,
@@ -67,55 +85,126 @@ impl<'p, O: Outside, B: Runs> Shared<'p, O, B> {
         }
     }
 
-    /// Takes a slice back, and does the task's next step. A slice that is not the book's, which never
-    /// comes, stops the run.
-    fn settle(&mut self, slice: Slice<'p>) {
-        let task = slice.task();
-        match self.book.check_in(slice) {
-            Ok(()) => {
-                self.ask();
-                let _ = self.book.turn(task);
+    /// Turns of a task until one is no step, at most so many: were all of them steps?
+    fn turns(&mut self, task: u32, most: u32) -> bool {
+        for _ in 0..most {
+            self.ask();
+            if self.book.turn(task) == Turned::Idle {
+                return false;
             }
-            Err(_) => self.stop = true,
+        }
+        true
+    }
+
+    /// A task to work on: none where none is left, or where another worker is to come to it.
+    fn claim(&mut self) -> Option<u32> {
+        if self.tries == 0 && self.awake > 1 {
+            return None;
+        }
+        let task = self.book.claim()?;
+        self.tries = self.tries.saturating_sub(1);
+        Some(task)
+    }
+
+    /// Is there work for another worker, too?
+    fn wants_another(&self) -> bool {
+        self.tries > 0 && self.book.has_more()
+    }
+
+    /// A slice to work on.
+    fn lend(&mut self) -> Option<Slice<'p>> {
+        let slice = self.book.check_out()?;
+        self.awake = self.awake.saturating_sub(1);
+        Some(slice)
+    }
+
+    /// Takes a slice back on which so many instructions were done. One that is not the book's, which
+    /// never comes, stops the run.
+    fn take_back(&mut self, slice: Slice<'p>, done: u32) {
+        self.awake = self.awake.saturating_add(1);
+        if done >= WORTH {
+            self.tries = TRIES;
+        }
+        if self.book.check_in(slice).is_err() {
+            self.stop = true;
         }
     }
 }
 
+/// How many turns come after a slice that did so many instructions, where so many came before it: one
+/// after a whole one, and ever more while the slices are not worth it.
+fn turns_after(done: u32, before: u32) -> u32 {
+    match done {
+        AT_ONCE => 1,
+        WORTH.. => IN_A_ROW,
+        _ => IN_A_ROW.max(before.saturating_mul(2)),
+    }
+}
+
 impl<'p, O: Outside, B: Runs> Pool<'p, O, B> {
-    /// A slice to work on, or none where the worker is to end. Whoever takes one wakes another worker
-    /// where a task is left: so none is left while all others wait.
-    fn find<'b, R: Wait>(
-        &'b self,
-        rt: &R,
-        guard: MutexGuard<'b, Shared<'p, O, B>>,
-    ) -> Option<Slice<'p>> {
+    /// A task to work on, or none where the worker is to end.
+    fn find<'b, R: Wait>(&'b self, rt: &R, guard: MutexGuard<'b, Shared<'p, O, B>>) -> Option<u32> {
         let mut guard = guard;
         for _ in rt.forever() {
             let shared = &mut *guard;
-            if shared.stop {
+            if shared.stop || shared.book.root_end().is_some() {
                 self.woken.notify_all();
                 return None;
             }
             shared.ask();
-            if let Some(slice) = shared.book.check_out() {
-                if shared.book.has_more() {
+            if let Some(task) = shared.claim() {
+                if shared.wants_another() {
                     self.woken.notify_one();
                 }
-                return Some(slice);
+                return Some(task);
             }
-            if shared.book.root_end().is_some() {
-                self.woken.notify_all();
-                return None;
-            }
+            shared.awake = shared.awake.saturating_sub(1);
             guard = self.woken.wait(rt, guard);
+            guard.awake = guard.awake.saturating_add(1);
         }
         unreachable!()
     }
 
-    /// Takes a slice back and finds another, under one lock.
-    fn exchange<R: Wait>(&self, rt: &R, slice: Slice<'p>) -> Option<Slice<'p>> {
+    /// Does a task's steps under the lock, or by slices where it makes many in a row, until it can't
+    /// step; then another task to work on is found.
+    fn exchange<R: Wait, G: Gate>(&self, rt: &R, gate: &G, worker: u32, task: u32) -> Option<u32> {
         let mut guard = self.shared.lock(rt);
-        guard.settle(slice);
+        guard.book.release(task);
+        if !guard.stop && guard.turns(task, IN_A_ROW) {
+            return self.slices(rt, gate, worker, guard);
+        }
+        self.find(rt, guard)
+    }
+
+    /// Takes slices, does their local instructions with no lock held, gives each back and does the
+    /// steps behind it, until a task can't step; then another one is found.
+    fn slices<'b, R: Wait, G: Gate>(
+        &'b self,
+        rt: &R,
+        gate: &G,
+        worker: u32,
+        guard: MutexGuard<'b, Shared<'p, O, B>>,
+    ) -> Option<u32> {
+        let mut guard = guard;
+        let mut most = IN_A_ROW;
+        for _ in rt.forever() {
+            let Some(mut slice) = guard.lend() else {
+                break;
+            };
+            if guard.wants_another() {
+                self.woken.notify_one();
+            }
+            drop(guard);
+            let task = slice.task();
+            gate.enter(worker, task);
+            let done = slice.run_local(AT_ONCE);
+            guard = self.shared.lock(rt);
+            guard.take_back(slice, done);
+            most = turns_after(done, most);
+            if guard.stop || !guard.turns(task, most) {
+                break;
+            }
+        }
         self.find(rt, guard)
     }
 
@@ -126,17 +215,16 @@ impl<'p, O: Outside, B: Runs> Pool<'p, O, B> {
         self.woken.notify_all();
     }
 
-    /// What one worker does: it takes frames out, does their local instructions with no lock held, and
-    /// gives them back, until the root has ended.
+    /// What one worker does: it claims a task, passes the gate and does the task's steps, and so on
+    /// until the root has ended.
     fn work<R: Wait, G: Gate>(&self, rt: &R, gate: &G, worker: u32) {
         let mut next = self.find(rt, self.shared.lock(rt));
         for _ in rt.forever() {
-            let Some(mut slice) = next else {
+            let Some(task) = next else {
                 return;
             };
-            gate.enter(worker, slice.task());
-            let _ = slice.run_local(AT_ONCE);
-            next = self.exchange(rt, slice);
+            gate.enter(worker, task);
+            next = self.exchange(rt, gate, worker, task);
         }
     }
 }
@@ -156,7 +244,8 @@ pub fn run<R: Threads + Wait + Sync, G: Gate + Sync, O: Outside + Send + Drop>(
     outside: O,
 ) -> Result<Report, PoolError>
     requires { (1 ≤ workers) × (workers ≤ 16) }
-    ensures { IfOk result (λ r. IsReport verified.now r.journal.items r.end) }
+    ensures report { IfOk result (λ r. IsReport verified.now r.journal.items r.end) }
+    ensures steps { IfOk result (λ r. r.steps ≡ count_by is_step r.journal.items) }
 {
     let stacks = &[STACK; 16][..workers as usize];
     run_on::<Brand, R, G, O>(rt, alloc, verified, stacks, gate, outside)
@@ -177,7 +266,8 @@ pub(crate) fn run_on<
     outside: O,
 ) -> Result<Report, PoolError>
     requires { verified.now ≡ B.program }
-    ensures { IfOk result (λ r. IsReport B.program r.journal.items r.end) }
+    ensures report { IfOk result (λ r. IsReport B.program r.journal.items r.end) }
+    ensures steps { IfOk result (λ r. r.steps ≡ count_by is_step r.journal.items) }
 {
     let Ok(book) = Book::start(alloc, verified) else {
         return Err(PoolError::Memory);
@@ -187,6 +277,8 @@ pub(crate) fn run_on<
             book,
             outside,
             stop: false,
+            awake: stacks.len(),
+            tries: TRIES,
             of: PhantomData,
         }),
         woken: Condvar::new(),
@@ -199,6 +291,8 @@ pub(crate) fn run_on<
         book,
         outside: _,
         stop: _,
+        awake: _,
+        tries: _,
         of: _,
     } = shared.into_inner();
     book.report()

@@ -12,6 +12,8 @@ mod outsides;
 #[cfg(test)]
 mod runs;
 #[cfg(test)]
+mod slices;
+#[cfg(test)]
 mod storms;
 #[cfg(test)]
 mod texts;

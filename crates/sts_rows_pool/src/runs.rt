@@ -108,6 +108,11 @@ fn ends<R: Abort + Threads + Wait + Sync>(
         Some(report.end),
         "{workers} workers replay {name:?}"
     );
+    assert_eq!(rt;
+        machine.steps(),
+        report.steps,
+        "{workers} workers count {name:?}"
+    );
     let steps = row.steps.unwrap_or(machine.steps());
     assert_eq!(rt; machine.steps(), steps, "{workers} workers step {name:?}");
     let entries = report.journal.len() as u64;

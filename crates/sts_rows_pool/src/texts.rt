@@ -60,6 +60,15 @@ pub const TURNS: &str = "\
     go:\nnext\nnext\npush 0\nret\nend\n\
 ";
 
+/// Two subtasks, each with a loop of fifty thousand steps of its own.
+pub const LOOPS: &str = "\
+    func work 0\npush 10000\ntimes 10000\nload 0\npush 1\nadd\nstore 0\nnext\nload 0\nret\nend\n\
+    func main 0\nopen s0 all\nfork s0 work s1\nfork s0 work s2\njoin s0 bad - intr\n\
+    get s1\nget s2\nadd\nclose s0\nret\n\
+    bad:\nclose s0\nfail\n\
+    intr:\npush 0\nclose s0\nfail\nend\n\
+";
+
 /// The program of a text.
 pub fn accepted(alloc: Global, text: &str) -> Result<Verified, Fail> {
     let program = assemble(alloc, text.as_bytes())?;

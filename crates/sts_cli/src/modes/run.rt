@@ -56,25 +56,16 @@ fn alone(alloc: Global, output: Output) -> Ran
     }
 }
 
-/// How many steps a journal has.
-fn steps_in(journal: &[Event]) -> u64
-    ensures { result ≡ count_by is_step journal.now }
-{
-    journal
-        .iter()
-        .filter(|event| matches!(event, Event::Step(_)))
-        .count() as u64
-}
-
 /// What comes of a report: how the root ended and the steps, after the lines of the budgets.
 fn reported(budgets: String, report: Report) -> Result<Ran, AllocError>
+    requires { report.steps ≡ count_by is_step report.journal.items }
     ensures journal { IfOk result (λ r. r.journal ≡ report.journal.items) }
     ensures output { IfOk result (λ r. r.output ≡ def.report_output (string_bytes budgets)
         report.end (count_by is_step report.journal.items)) }
 {
     let mut text = budgets;
     printed::end_line(&mut text, report.end)?;
-    printed::steps_line(&mut text, steps_in(report.journal.as_slice()))?;
+    printed::steps_line(&mut text, report.steps)?;
     Ok(Ran {
         output: Output {
             text,

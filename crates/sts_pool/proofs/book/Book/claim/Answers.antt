@@ -3,7 +3,7 @@ use Rattle.std.proofs.lemmas.Bool.{and_parts, not-true}
 use Rattle.std.specs.List.{list_any}
 use Rattle.sts_seen.specs.Waiting.{live_can_step}
 use Rattle.sts_pool.proofs.Books.{lives, out_book, out_fits}
-use Rattle.sts_pool.proofs.book.Book.check_out.Goals as goal
+use Rattle.sts_pool.proofs.book.Book.claim.Goals as goal
 
 pub push_reserved-requires : goal.push_reserved-requires
 push_reserved-requires c =
