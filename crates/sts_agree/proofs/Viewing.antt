@@ -1,5 +1,7 @@
 -- What is seen of a forest, word by word.
-use Rattle.std.proofs.Common.{◌≡◌, ℕ, zero, suc, ◌+◌, List, [], ◌∷◌, ◌++◌, length, map, Bool, true, false, Option, Some, None, refl, sym, ◌∙◌, ap, arith, get_or, set, cond, is_some, add-one, get_or-set_same, not, subst, ◌&&◌, ◌<◌, ◌||◌}
+use Rattle.std.proofs.Common.{◌≡◌, ℕ, zero, suc, ◌+◌, List, [], ◌∷◌, ◌++◌, length, map, Bool, true}
+use Rattle.std.proofs.Common.{false, Option, Some, None, refl, sym, ◌∙◌, ap, arith, get_or, set}
+use Rattle.std.proofs.Common.{cond, is_some, add-one, get_or-set_same, not, subst, ◌&&◌, ◌<◌, ◌||◌}
 use Rattle.std.proofs.lemmas.List.{map-set, map-append}
 use Rattle.std.specs.Prelude.{option_map, unwrap_or, filter_map}
 use Rattle.std.specs.List.{list_any, enumerate_from}
@@ -13,7 +15,8 @@ use Rattle.sts_model.specs.declared.event.End.{End}
 use Rattle.sts_model.specs.Told.{tell, cancels_told}
 use Rattle.sts_joiners.specs.Tallied.{with_end}
 use Rattle.sts_forest.specs.Births.{drop_if, births}
-use Rattle.sts_forest.specs.Forest.{Forest, closed, is_of, opened, subtask, asks, lives_in, any_lives}
+use Rattle.sts_forest.specs.Forest.{Forest, closed, is_of, opened, subtask, asks, lives_in}
+use Rattle.sts_forest.specs.Forest.{any_lives}
 use Rattle.sts_forest.specs.declared.record.Task.{Task}
 use Rattle.sts_forest.specs.declared.record.Scope.{Scope}
 use Rattle.sts_forest.proofs.Holding.{map_at, inside_of}
@@ -22,7 +25,9 @@ use Rattle.sts_tree.specs.Ending.{gone, ended, asks_in, asks_told}
 use Rattle.sts_tree.specs.Reading.{lives_at}
 use Rattle.sts_tree.specs.Steps.{unmarked, seen, with_task, with_scope, can_step, can_go, is_over}
 use Rattle.sts_cancel.specs.Cancelling.{raise, raise_all, cancel, expire}
-use Rattle.sts_seen.specs.Reading.{with_live_task, with_live_scope, task_in, scope_in, live_scope_at, live_task_at, no_live_task, no_live_scope, is_live_living, alive_at, no_alive, live_any_lives}
+use Rattle.sts_seen.specs.Reading.{with_live_task, with_live_scope, task_in, scope_in}
+use Rattle.sts_seen.specs.Reading.{live_scope_at, live_task_at, no_live_task, no_live_scope}
+use Rattle.sts_seen.specs.Reading.{is_live_living, alive_at, no_alive, live_any_lives}
 use Rattle.sts_seen.specs.Reading as reading
 use Rattle.sts_seen.specs.Cancelling.{live_raise, live_raised, live_marked, live_cancel}
 use Rattle.sts_seen.specs.Effect.{without, live_gone, live_told, live_ended, live_tell, live_decide}

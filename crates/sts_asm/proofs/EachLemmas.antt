@@ -1,4 +1,5 @@
-use Rattle.std.proofs.Common.{◌≡◌, ℕ, suc, get_or, drop-cons, ◌<◌, List, ◌∷◌, ◌++◌, length, drop, sym, ◌∙◌, ap}
+use Rattle.std.proofs.Common.{◌≡◌, ℕ, suc, get_or, drop-cons, ◌<◌, List, ◌∷◌, ◌++◌, length, drop}
+use Rattle.std.proofs.Common.{sym, ◌∙◌, ap}
 use Rattle.std.specs.Prelude.{Result, Ok, Err}
 use Rattle.sts_asm.specs.declared.fault.AsmError.{AsmError}
 use Rattle.sts_asm.specs.Fault.{◌>>=◌, FailsAt}

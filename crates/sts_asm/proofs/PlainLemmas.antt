@@ -1,4 +1,5 @@
-use Rattle.std.proofs.Common.{take_all, ◌≡◌, ℕ, ◌+◌, ◌≤◌, Bool, true, false, cond, List, [], ◌∷◌, length, arith, refl}
+use Rattle.std.proofs.Common.{take_all, ◌≡◌, ℕ, ◌+◌, ◌≤◌, Bool, true, false, cond, List, [], ◌∷◌}
+use Rattle.std.proofs.Common.{length, arith, refl}
 use Rattle.std.specs.Prelude.{◌&&◌, not, nat_le}
 use Rattle.std.specs.List.{list_all, before_first, position_or_len}
 use Rattle.std.proofs.lemmas.Bool.Decides.{nat_tests}

@@ -1,8 +1,12 @@
--- What is wrong with a text, and how the answers of the assembler's parts are tied to their definitions (this project's own).
+-- What is wrong with a text, and how the answers of the assembler's parts are tied to their
+-- definitions (this project's own).
 use Rattle.std.specs.Prelude.{◌≡◌, ℕ, List, Option, Some, None, Result, Ok, Err}
 use Rattle.sts_code.specs.declared.checking.CodeError.{CodeError}
 use Rattle.sts_asm.specs.declared.fault.AsmKind.{AsmKind}
-use Rattle.sts_asm.specs.declared.fault.AsmKind.TheVariants.{NotAscii, UnknownWord, BadNumber, BadOperands, UnknownLabel, DuplicateLabel, Unclosed, TextTooLong, Code, Memory}
+use Rattle.sts_asm.specs.declared.fault.AsmKind.TheVariants.{NotAscii, UnknownWord, BadNumber}
+use Rattle.sts_asm.specs.declared.fault.AsmKind.TheVariants.{BadOperands, UnknownLabel}
+use Rattle.sts_asm.specs.declared.fault.AsmKind.TheVariants.{DuplicateLabel, Unclosed, TextTooLong}
+use Rattle.sts_asm.specs.declared.fault.AsmKind.TheVariants.{Code, Memory}
 use Rattle.sts_asm.specs.declared.fault.AsmError.{AsmError}
 
 -- the number of a kind in what is printed
@@ -39,7 +43,8 @@ at_line at (Ok x) = Ok x
 at_line at (Err kind) = Err (record { line = at; kind = kind })
 
 -- What a function returned and left of the words is what reading gives.
-abbrev pub Reads : {X Y : Type 0} → (X → Y) → Result X AsmKind → List (List ℕ) → Result (Y × List (List ℕ)) AsmKind → Type 0
+abbrev pub Reads : {X Y : Type 0} → (X → Y) → Result X AsmKind → List (List ℕ)
+    → Result (Y × List (List ℕ)) AsmKind → Type 0
 Reads view (Ok x) left read = read ≡ Ok (view x, left)
 Reads view (Err kind) left read = read ≡ Err kind
 

@@ -1,5 +1,6 @@
 -- The instructions by their words: the instruction table as it is read (this project's own).
-use Rattle.std.specs.Prelude.{ℕ, ◌^◌, ◌-◌, Bool, true, false, List, [], ◌∷◌, Option, Some, None, Result, Err, codes}
+use Rattle.std.specs.Prelude.{ℕ, ◌^◌, ◌-◌, Bool, true, false, List, [], ◌∷◌, Option, Some, None}
+use Rattle.std.specs.Prelude.{Result, Err, codes}
 use Rattle.std.specs.Option.{option_or}
 use Rattle.sts_code.specs.declared.instr.Instr.{Instr}
 use Rattle.sts_code.specs.declared.instr.Instr.TheVariants as i
@@ -12,10 +13,14 @@ use Rattle.sts_asm.specs.declared.mnemonic.Slotted.TheVariants as slotted
 use Rattle.sts_asm.specs.declared.mnemonic.Targeted.{Targeted}
 use Rattle.sts_asm.specs.declared.mnemonic.Targeted.TheVariants as targeted
 use Rattle.sts_asm.specs.declared.mnemonic.Mnemonic.{Mnemonic}
-use Rattle.sts_asm.specs.declared.mnemonic.Mnemonic.TheVariants.{Plain, WithNumber, WithSlot, WithTarget, Push, Times, Open, Fork, Join, Case, Tally}
+use Rattle.sts_asm.specs.declared.mnemonic.Mnemonic.TheVariants.{Plain, WithNumber, WithSlot}
+use Rattle.sts_asm.specs.declared.mnemonic.Mnemonic.TheVariants.{WithTarget, Push, Times, Open}
+use Rattle.sts_asm.specs.declared.mnemonic.Mnemonic.TheVariants.{Fork, Join, Case, Tally}
 use Rattle.sts_asm.specs.Fault.{◌>>=◌}
 use Rattle.sts_asm.specs.Marks.{Names}
-use Rattle.sts_asm.specs.Operand.{looked_up, number_at, value_at, slot_at, handle_at, target_at, function_at, maybe_target_at, joiner_at, timed_at, kind_at, finished}
+use Rattle.sts_asm.specs.Operand.{looked_up, number_at, value_at, slot_at, handle_at, target_at}
+use Rattle.sts_asm.specs.Operand.{function_at, maybe_target_at, joiner_at, timed_at, kind_at}
+use Rattle.sts_asm.specs.Operand.{finished}
 
 -- ---- first words
 
@@ -45,9 +50,11 @@ slotted_words =
 -- instructions of one label, and all others
 abbrev pub other_words : List (List ℕ × Mnemonic)
 other_words =
-    (codes "push", Push) ∷ (codes "jz", WithTarget targeted.Jz) ∷ (codes "jmp", WithTarget targeted.Jmp)
+    (codes "push", Push) ∷ (codes "jz", WithTarget targeted.Jz) ∷
+    (codes "jmp", WithTarget targeted.Jmp)
     ∷ (codes "div", WithTarget targeted.Div) ∷ (codes "times", Times) ∷ (codes "open", Open)
-    ∷ (codes "fork", Fork) ∷ (codes "join", Join) ∷ (codes "case", Case) ∷ (codes "tally", Tally) ∷ []
+    ∷ (codes "fork", Fork) ∷ (codes "join", Join) ∷ (codes "case", Case)
+    ∷ (codes "tally", Tally) ∷ []
 
 -- what the first word of an instruction says
 abbrev pub mnemonic_of : List ℕ → Option Mnemonic
@@ -84,19 +91,27 @@ with_target targeted.Jz to = i.Jz to
 
 -- a slot, a joiner, and `timed` or nothing
 abbrev pub open_at : List (List ℕ) → Result Instr AsmKind
-open_at words = slot_at words >>= λ s. joiner_at s.1 >>= λ j. timed_at j.1 >>= λ t. finished (i.Open s.0 j.0 t.0) t.1
+open_at words =
+    slot_at words >>= λ s. joiner_at s.1 >>= λ j. timed_at j.1
+    >>= λ t. finished (i.Open s.0 j.0 t.0) t.1
 
 -- a slot, a function, and a slot or `_`
 abbrev pub fork_at : Option Names → List (List ℕ) → Result Instr AsmKind
-fork_at names words = slot_at words >>= λ s. function_at names s.1 >>= λ f. handle_at f.1 >>= λ h. finished (i.Fork s.0 f.0 h.0) h.1
+fork_at names words =
+    slot_at words >>= λ s. function_at names s.1 >>= λ f. handle_at f.1
+    >>= λ h. finished (i.Fork s.0 f.0 h.0) h.1
 
 -- a slot, two labels that may be left out by `-`, and a label
 abbrev pub join_at : Option Names → List (List ℕ) → Result Instr AsmKind
-join_at names words = slot_at words >>= λ s. maybe_target_at names s.1 >>= λ f. maybe_target_at names f.1 >>= λ t. target_at names t.1 >>= λ r. finished (i.Join s.0 f.0 t.0 r.0) r.1
+join_at names words =
+    slot_at words >>= λ s. maybe_target_at names s.1 >>= λ f. maybe_target_at names f.1
+    >>= λ t. target_at names t.1 >>= λ r. finished (i.Join s.0 f.0 t.0 r.0) r.1
 
 -- a slot and two labels
 abbrev pub case_at : Option Names → List (List ℕ) → Result Instr AsmKind
-case_at names words = slot_at words >>= λ h. target_at names h.1 >>= λ s. target_at names s.1 >>= λ f. finished (i.Case h.0 s.0 f.0) f.1
+case_at names words =
+    slot_at words >>= λ h. target_at names h.1 >>= λ s. target_at names s.1
+    >>= λ f. finished (i.Case h.0 s.0 f.0) f.1
 
 -- a slot and a state
 abbrev pub tally_at : List (List ℕ) → Result Instr AsmKind
@@ -107,7 +122,8 @@ abbrev pub operated : Option Names → Mnemonic → List (List ℕ) → Result I
 operated names (Plain instr) words = finished instr words
 operated names (WithNumber m) words = number_at 255 words >>= λ x. finished (with_number m x.0) x.1
 operated names (WithSlot m) words = slot_at words >>= λ s. finished (with_slot m s.0) s.1
-operated names (WithTarget m) words = target_at names words >>= λ to. finished (with_target m to.0) to.1
+operated names (WithTarget m) words =
+    target_at names words >>= λ to. finished (with_target m to.0) to.1
 operated names Push words = value_at words >>= λ k. finished (i.Push k.0) k.1
 operated names Times words = number_at (2 ^ 16 - 1) words >>= λ n. finished (i.Times n.0) n.1
 operated names Open words = open_at words

@@ -1,4 +1,5 @@
--- The names that a text gives to places: labels to instructions, functions to their indices (this project's own).
+-- The names that a text gives to places: labels to instructions, functions to their indices (this
+-- project's own).
 use Rattle.std.specs.Prelude.{ℕ, List, Option, Some, None, option_map}
 use Rattle.std.specs.List.{find}
 use Rattle.std.specs.Str.{bytes_eq}
@@ -10,7 +11,8 @@ pub record Mark : Type 0 where
 
 -- what a name names: the first that was given it
 abbrev pub marked : List Mark → List ℕ → Option ℕ
-marked marks name = option_map (λ (m : Mark). m.at) (find (λ (m : Mark). bytes_eq m.name name) marks)
+marked marks name =
+    option_map (λ (m : Mark). m.at) (find (λ (m : Mark). bytes_eq m.name name) marks)
 
 -- the names that are known: the labels of one function, and the functions of the text
 pub record Names : Type 0 where

@@ -1,9 +1,13 @@
--- The operands of a line, read from left to right up to the first place that is wrong (this project's own).
-use Rattle.std.specs.Prelude.{ℕ, ◌^◌, ◌-◌, ◌==◌, Bool, true, false, List, [], ◌∷◌, drop, slice_index, Option, Some, None, option_map, Result, Ok, Err, if◌then◌else◌, ℤ, codes}
+-- The operands of a line, read from left to right up to the first place that is wrong (this
+-- project's own).
+use Rattle.std.specs.Prelude.{ℕ, ◌^◌, ◌-◌, ◌==◌, Bool, true, false, List, [], ◌∷◌, drop}
+use Rattle.std.specs.Prelude.{slice_index, Option, Some, None, option_map, Result, Ok, Err}
+use Rattle.std.specs.Prelude.{if◌then◌else◌, ℤ, codes}
 use Rattle.std.specs.Str.{bytes_eq}
 use Rattle.sts_code.specs.Name.{is_name}
 use Rattle.sts_code.specs.declared.instr.Joiner.{Joiner}
-use Rattle.sts_code.specs.declared.instr.Joiner.TheVariants.{AllSucceed, AnySucceeds, AwaitOk, AwaitAll, Until}
+use Rattle.sts_code.specs.declared.instr.Joiner.TheVariants.{AllSucceed, AnySucceeds, AwaitOk}
+use Rattle.sts_code.specs.declared.instr.Joiner.TheVariants.{AwaitAll, Until}
 use Rattle.sts_code.specs.declared.instr.Pred.{Pred}
 use Rattle.sts_code.specs.declared.instr.Pred.TheVariants as pred
 use Rattle.sts_code.specs.declared.instr.Kind.{Kind}
@@ -71,7 +75,8 @@ target_at names words = name_at words >>= λ name. wanted UnknownLabel (label_in
 
 -- the index of the function that a name names
 abbrev pub function_at : Option Names → List (List ℕ) → Read ℕ
-function_at names words = name_at words >>= λ name. wanted UnknownLabel (function_in names name.0) name.1
+function_at names words =
+    name_at words >>= λ name. wanted UnknownLabel (function_in names name.0) name.1
 
 -- a label, or `-` for none
 abbrev pub maybe_target_at : Option Names → List (List ℕ) → Read (Option ℕ)
@@ -82,7 +87,8 @@ maybe_target_at names (word ∷ rest) =
 
 -- the conditions of `until` that count ends, each with its number
 abbrev pub until_count_at : (ℕ → Pred) → List (List ℕ) → Read Joiner
-until_count_at condition words = number_at (2 ^ 32 - 1) words >>= λ n. Ok (Until (condition n.0), n.1)
+until_count_at condition words =
+    number_at (2 ^ 32 - 1) words >>= λ n. Ok (Until (condition n.0), n.1)
 
 -- the condition of `until` that compares values
 abbrev pub until_value_at : List (List ℕ) → Read Joiner
@@ -99,7 +105,9 @@ until_at (word ∷ rest) =
 
 -- the joiners that are one word
 abbrev pub joiners : List (List ℕ × Joiner)
-joiners = (codes "all", AllSucceed) ∷ (codes "any", AnySucceeds) ∷ (codes "awaitok", AwaitOk) ∷ (codes "awaitall", AwaitAll) ∷ []
+joiners =
+    (codes "all", AllSucceed) ∷ (codes "any", AnySucceeds) ∷ (codes "awaitok", AwaitOk) ∷
+    (codes "awaitall", AwaitAll) ∷ []
 
 -- the joiner of a scope
 abbrev pub joiner_at : List (List ℕ) → Read Joiner

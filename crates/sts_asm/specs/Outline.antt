@@ -1,5 +1,9 @@
--- A text line by line: its functions with their labels and their lines of instructions, while no name is looked up (this project's own).
-use Rattle.std.specs.Prelude.{◌≡◌, map, ℕ, ◌+◌, ◌++◌, ◌==◌, ◌-◌, Bool, true, false, not, ◌&&◌, ◌||◌, List, [], ◌∷◌, length, take, replicate, slice_index, slice_set, nat_le, Option, Some, None, is_some, Result, Ok, Err, if◌then◌else◌, codes}
+-- A text line by line: its functions with their labels and their lines of instructions, while no
+-- name is looked up (this project's own).
+use Rattle.std.specs.Prelude.{◌≡◌, map, ℕ, ◌+◌, ◌++◌, ◌==◌, ◌-◌, Bool, true, false, not, ◌&&◌, ◌||◌}
+use Rattle.std.specs.Prelude.{List, [], ◌∷◌, length, take, replicate, slice_index, slice_set}
+use Rattle.std.specs.Prelude.{nat_le, Option, Some, None, is_some, Result, Ok, Err, if◌then◌else◌}
+use Rattle.std.specs.Prelude.{codes}
 use Rattle.std.specs.List.{list_all, before_first}
 use Rattle.std.specs.Str.{bytes_eq}
 use Rattle.sts_code.specs.Name.{is_name}
@@ -9,7 +13,8 @@ use Rattle.sts_text.specs.Words.{lines, words}
 use Rattle.sts_text.specs.Number.{number_up_to}
 use Rattle.sts_code.specs.declared.instr.Instr.{Instr}
 use Rattle.sts_asm.specs.declared.fault.AsmKind.{AsmKind}
-use Rattle.sts_asm.specs.declared.fault.AsmKind.TheVariants.{NotAscii, UnknownWord, BadNumber, BadOperands, DuplicateLabel, Unclosed}
+use Rattle.sts_asm.specs.declared.fault.AsmKind.TheVariants.{NotAscii, UnknownWord, BadNumber}
+use Rattle.sts_asm.specs.declared.fault.AsmKind.TheVariants.{BadOperands, DuplicateLabel, Unclosed}
 use Rattle.sts_asm.specs.declared.fault.AsmError.{AsmError}
 use Rattle.sts_asm.specs.Fault.{◌>>=◌, at_line}
 use Rattle.sts_asm.specs.Marks.{Mark, marked}
@@ -29,7 +34,8 @@ pub record Draft : Type 0 where
   pub labels : List Mark
   pub code : List Sentence
 
--- a text as far as it was read: its functions by name, those that are ended, and the one that is open
+-- a text as far as it was read: its functions by name, those that are ended, and the one that is
+-- open
 pub record Outline : Type 0 where
   pub profile : Profile
   pub functions : List Mark
@@ -63,7 +69,8 @@ profiled o words = profile_at words >>= λ p. Ok (record o { profile = p })
 -- the keys that are named, beside those that were
 abbrev pub with_keys : List Bool → List (List ℕ) → Result (List Bool) AsmKind
 with_keys needs [] = Ok needs
-with_keys needs (word ∷ rest) = number_at 15 (word ∷ []) >>= λ k. with_keys (slice_set needs k.0 true) rest
+with_keys needs (word ∷ rest) =
+    number_at 15 (word ∷ []) >>= λ k. with_keys (slice_set needs k.0 true) rest
 
 -- none of the sixteen keys
 abbrev pub no_needs : List Bool
@@ -81,15 +88,22 @@ needs_at (word ∷ rest) = if bytes_eq word (codes "needs") then keys_at rest el
 
 -- the name, the number of arguments and the needs of a function without lines
 abbrev pub header_at : List (List ℕ) → Result Draft AsmKind
-header_at words = name_at words >>= λ name. number_at 255 name.1 >>= λ args. needs_at args.1 >>= λ needs. Ok (record { name = name.0; args = args.0; needs = needs; labels = []; code = [] })
+header_at words =
+    name_at words >>= λ name. number_at 255 name.1 >>= λ args. needs_at args.1
+    >>= λ needs. Ok (record { name = name.0; args = args.0; needs = needs; labels = []; code = [] })
 
 -- a function is opened; where a name is given twice, the first counts
 abbrev pub with_function : Outline → Draft → Outline
-with_function o d = record o { functions = o.functions ++ record { name = d.name; at = length o.done } ∷ []; current = Some d }
+with_function o d =
+    record o {
+      functions = o.functions ++ record { name = d.name; at = length o.done } ∷ [];
+      current = Some d;
+    }
 
 -- the line `func`, outside a function
 abbrev pub begun : Outline → List (List ℕ) → Result Outline AsmKind
-begun o words = if is_some o.current then Err Unclosed else (header_at words >>= λ d. Ok (with_function o d))
+begun o words =
+    if is_some o.current then Err Unclosed else (header_at words >>= λ d. Ok (with_function o d))
 
 -- ---- `end`, labels and instructions
 
@@ -101,15 +115,18 @@ ended o (Some d) rest = finished (record o { done = o.done ++ d ∷ []; current 
 -- the name of a label, where the word is a name and a colon
 abbrev pub label_of : List ℕ → Option (List ℕ)
 label_of word =
-    if slice_index word (length word - 1) == 58 && is_name (take (length word - 1) word) then Some (take (length word - 1) word) else None
+    if slice_index word (length word - 1) == 58 && is_name (take (length word - 1) word)
+    then Some (take (length word - 1) word) else None
 
 -- a label names the next instruction
 abbrev pub with_label : Draft → List ℕ → Draft
-with_label d name = record d { labels = d.labels ++ record { name = name; at = length d.code } ∷ [] }
+with_label d name =
+    record d { labels = d.labels ++ record { name = name; at = length d.code } ∷ [] }
 
 -- a label that the function doesn't have yet
 abbrev pub labelled : Draft → List ℕ → Result Draft AsmKind
-labelled d name = if is_some (marked d.labels name) then Err DuplicateLabel else Ok (with_label d name)
+labelled d name =
+    if is_some (marked d.labels name) then Err DuplicateLabel else Ok (with_label d name)
 
 -- a line of an instruction is added
 abbrev pub with_sentence : ℕ → Draft → List (List ℕ) → Draft
@@ -118,12 +135,14 @@ with_sentence at d words = record d { code = d.code ++ record { line = at; words
 -- a line of a function: a label, or an instruction
 abbrev pub inner : ℕ → Draft → Option (List ℕ) → List ℕ → List (List ℕ) → Result Draft AsmKind
 inner at d (Some name) word rest = finished name rest >>= λ name. labelled d name
-inner at d None word rest = instr_of None (word ∷ rest) >>= λ i. Ok (with_sentence at d (word ∷ rest))
+inner at d None word rest =
+    instr_of None (word ∷ rest) >>= λ i. Ok (with_sentence at d (word ∷ rest))
 
 -- a label or an instruction, in a function
 abbrev pub inside : ℕ → Outline → Option Draft → List ℕ → List (List ℕ) → Result Outline AsmKind
 inside at o None word rest = Err UnknownWord
-inside at o (Some d) word rest = inner at d (label_of word) word rest >>= λ e. Ok (record o { current = Some e })
+inside at o (Some d) word rest =
+    inner at d (label_of word) word rest >>= λ e. Ok (record o { current = Some e })
 
 -- ---- lines
 
@@ -150,7 +169,9 @@ is_plain b = (nat_le 32 b && nat_le b 126) && not (is_semicolon b)
 
 -- what the line of this number adds; its bytes are judged first, those of a comment too
 abbrev pub line_read : ℕ → Outline → List ℕ → Result Outline AsmKind
-line_read at o line = if list_all is_allowed line then said at o (words (before_first is_semicolon line)) else Err NotAscii
+line_read at o line =
+    if list_all is_allowed line then said at o (words (before_first is_semicolon line))
+    else Err NotAscii
 
 -- the lines from a line on
 unfoldable pub lines_read : ℕ → Outline → List (List ℕ) → Result Outline AsmError

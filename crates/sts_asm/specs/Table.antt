@@ -1,10 +1,12 @@
 -- The instruction table: which words spell which instruction (this project's own).
-use Rattle.std.specs.Prelude.{◌≡◌, ℕ, ◌^◌, ◌-◌, ◌↔◌, Bool, true, false, List, [], ◌∷◌, ◌++◌, Option, Some, None, Ok, codes}
+use Rattle.std.specs.Prelude.{◌≡◌, ℕ, ◌^◌, ◌-◌, ◌↔◌, Bool, true, false, List, [], ◌∷◌, ◌++◌, Option}
+use Rattle.std.specs.Prelude.{Some, None, Ok, codes}
 use Rattle.sts_code.specs.Name.{is_name}
 use Rattle.sts_code.specs.declared.instr.Instr.{Instr}
 use Rattle.sts_code.specs.declared.instr.Instr.TheVariants as i
 use Rattle.sts_code.specs.declared.instr.Joiner.{Joiner}
-use Rattle.sts_code.specs.declared.instr.Joiner.TheVariants.{AllSucceed, AnySucceeds, AwaitOk, AwaitAll, Until}
+use Rattle.sts_code.specs.declared.instr.Joiner.TheVariants.{AllSucceed, AnySucceeds, AwaitOk}
+use Rattle.sts_code.specs.declared.instr.Joiner.TheVariants.{AwaitAll, Until}
 use Rattle.sts_code.specs.declared.instr.Pred.TheVariants.{Failed, Success, AtLeast}
 use Rattle.sts_code.specs.declared.instr.Kind.{Kind}
 use Rattle.sts_code.specs.declared.instr.Kind.TheVariants.{S, F, U}
@@ -41,7 +43,8 @@ IsKind U word = word ≡ codes "U"
 
 -- a word, and a number of a field that holds 0 to `most`
 abbrev pub IsNumbered : List ℕ → ℕ → ℕ → List (List ℕ) → Type 0
-IsNumbered first most n words = (w : List ℕ) × (words ≡ first ∷ w ∷ []) × (number_up_to most w ≡ Some n)
+IsNumbered first most n words =
+    (w : List ℕ) × (words ≡ first ∷ w ∷ []) × (number_up_to most w ≡ Some n)
 
 -- a word and a slot
 abbrev pub IsSlotted : List ℕ → ℕ → List (List ℕ) → Type 0
@@ -57,9 +60,14 @@ IsJoiner AllSucceed words = words ≡ codes "all" ∷ []
 IsJoiner AnySucceeds words = words ≡ codes "any" ∷ []
 IsJoiner AwaitOk words = words ≡ codes "awaitok" ∷ []
 IsJoiner AwaitAll words = words ≡ codes "awaitall" ∷ []
-IsJoiner (Until (Failed n)) words = (w : List ℕ) × (words ≡ codes "until" ∷ codes "failed" ∷ w ∷ []) × (number_up_to (2 ^ 32 - 1) w ≡ Some n)
-IsJoiner (Until (Success n)) words = (w : List ℕ) × (words ≡ codes "until" ∷ codes "success" ∷ w ∷ []) × (number_up_to (2 ^ 32 - 1) w ≡ Some n)
-IsJoiner (Until (AtLeast v)) words = (w : List ℕ) × (words ≡ codes "until" ∷ codes "atleast" ∷ w ∷ []) × (number w ≡ Some v)
+IsJoiner (Until (Failed n)) words =
+    (w : List ℕ) × (words ≡ codes "until" ∷ codes "failed" ∷ w ∷ [])
+    × (number_up_to (2 ^ 32 - 1) w ≡ Some n)
+IsJoiner (Until (Success n)) words =
+    (w : List ℕ) × (words ≡ codes "until" ∷ codes "success" ∷ w ∷ [])
+    × (number_up_to (2 ^ 32 - 1) w ≡ Some n)
+IsJoiner (Until (AtLeast v)) words =
+    (w : List ℕ) × (words ≡ codes "until" ∷ codes "atleast" ∷ w ∷ []) × (number w ≡ Some v)
 
 -- `timed`, or nothing
 abbrev pub IsTimed : Bool → List (List ℕ) → Type 0
@@ -87,19 +95,26 @@ Spells names (i.Jz to) words = IsTargeted names (codes "jz") to words
 Spells names (i.Times n) words = IsNumbered (codes "times") (2 ^ 16 - 1) n words
 Spells names i.Next words = words ≡ codes "next" ∷ []
 Spells names (i.Open s joiner timed) words =
-    (w : List ℕ) × (js : List (List ℕ)) × (ts : List (List ℕ)) × (words ≡ codes "open" ∷ w ∷ js ++ ts) × (slot w ≡ Some s) × IsJoiner joiner js × IsTimed timed ts
+    (w : List ℕ) × (js : List (List ℕ)) × (ts : List (List ℕ))
+    × (words ≡ codes "open" ∷ w ∷ js ++ ts) × (slot w ≡ Some s) × IsJoiner joiner js
+    × IsTimed timed ts
 Spells names (i.Fork s f h) words =
-    (w : List ℕ) × (v : List ℕ) × (u : List ℕ) × (words ≡ codes "fork" ∷ w ∷ v ∷ u ∷ []) × (slot w ≡ Some s) × IsFunction names f v × IsHandle h u
+    (w : List ℕ) × (v : List ℕ) × (u : List ℕ) × (words ≡ codes "fork" ∷ w ∷ v ∷ u ∷ [])
+    × (slot w ≡ Some s) × IsFunction names f v × IsHandle h u
 Spells names (i.Join s failed timeout interrupted) words =
-    (w : List ℕ) × (f : List ℕ) × (t : List ℕ) × (u : List ℕ) × (words ≡ codes "join" ∷ w ∷ f ∷ t ∷ u ∷ []) × (slot w ≡ Some s)
+    (w : List ℕ) × (f : List ℕ) × (t : List ℕ) × (u : List ℕ)
+    × (words ≡ codes "join" ∷ w ∷ f ∷ t ∷ u ∷ []) × (slot w ≡ Some s)
     × IsMaybeLabel names failed f × IsMaybeLabel names timeout t × IsLabel names interrupted u
 Spells names (i.Close s) words = IsSlotted (codes "close") s words
 Spells names (i.Cancelled s) words = IsSlotted (codes "cancelled") s words
 Spells names (i.Case h success failed) words =
-    (w : List ℕ) × (t : List ℕ) × (f : List ℕ) × (words ≡ codes "case" ∷ w ∷ t ∷ f ∷ []) × (slot w ≡ Some h) × IsLabel names success t × IsLabel names failed f
+    (w : List ℕ) × (t : List ℕ) × (f : List ℕ) × (words ≡ codes "case" ∷ w ∷ t ∷ f ∷ [])
+    × (slot w ≡ Some h) × IsLabel names success t × IsLabel names failed f
 Spells names (i.Get h) words = IsSlotted (codes "get") h words
 Spells names (i.Except h) words = IsSlotted (codes "except") h words
-Spells names (i.Tally s kind) words = (w : List ℕ) × (u : List ℕ) × (words ≡ codes "tally" ∷ w ∷ u ∷ []) × (slot w ≡ Some s) × IsKind kind u
+Spells names (i.Tally s kind) words =
+    (w : List ℕ) × (u : List ℕ) × (words ≡ codes "tally" ∷ w ∷ u ∷ []) × (slot w ≡ Some s)
+    × IsKind kind u
 Spells names (i.Total s) words = IsSlotted (codes "total") s words
 Spells names (i.Forget h) words = IsSlotted (codes "forget") h words
 Spells names (i.Bind k) words = IsNumbered (codes "bind") 255 k words
@@ -113,4 +128,6 @@ Spells names i.Fail words = words ≡ codes "fail" ∷ []
 
 -- What is read is what the table says.
 abbrev pub ReadByTable : Type 0
-ReadByTable = (names : Option Names) (words : List (List ℕ)) (instr : Instr) → (instr_of names words ≡ Ok instr) ↔ Spells names instr words
+ReadByTable =
+    (names : Option Names) (words : List (List ℕ)) (instr : Instr)
+    → (instr_of names words ≡ Ok instr) ↔ Spells names instr words

@@ -1,5 +1,6 @@
 -- What a text spells, or its first fault (this project's own).
-use Rattle.std.specs.Prelude.{ℕ, List, [], ◌∷◌, length, nat_lt, Option, Some, None, Result, Ok, Err, if◌then◌else◌}
+use Rattle.std.specs.Prelude.{ℕ, List, [], ◌∷◌, length, nat_lt, Option, Some, None, Result, Ok, Err}
+use Rattle.std.specs.Prelude.{if◌then◌else◌}
 use Rattle.sts_code.specs.Checks.{program_fault}
 use Rattle.sts_code.specs.Program.{Program, Routine}
 use Rattle.sts_code.specs.declared.checking.CodeError.{CodeError}
@@ -23,19 +24,24 @@ instr_at names s = at_line s.line (instr_of (Some names) s.words)
 
 -- a function, the names in its lines looked up
 abbrev pub routine_of : List Mark → Draft → Result Routine AsmError
-routine_of functions d = each (instr_at (record { labels = d.labels; functions = functions })) d.code >>= λ code. Ok (record { name = d.name; args = d.args; needs = d.needs; code = code })
+routine_of functions d =
+    each (instr_at (record { labels = d.labels; functions = functions })) d.code
+    >>= λ code. Ok (record { name = d.name; args = d.args; needs = d.needs; code = code })
 
 -- what the program checks say of the functions
 abbrev pub checked : Profile → List Routine → Option CodeError → Result Program AsmError
 checked profile routines None = Ok (record { profile = profile; routines = routines })
 checked profile routines (Some e) = Err (record { line = 0; kind = Code e })
 
--- the program of the functions that were read, or the first name that there isn't, or the check that fails
+-- the program of the functions that were read, or the first name that there isn't, or the check
+-- that fails
 abbrev pub program_of : Outline → Result Program AsmError
-program_of o = each (routine_of o.functions) o.done >>= λ rs. checked o.profile rs (program_fault rs)
+program_of o =
+    each (routine_of o.functions) o.done >>= λ rs. checked o.profile rs (program_fault rs)
 
--- The program that a text spells, or its first fault. First counts its length, then its lines in order, then a function that is
--- left open, then, again line by line, a name that there isn't, then the program checks.
+-- The program that a text spells, or its first fault. First counts its length, then its lines in
+-- order, then a function that is left open, then, again line by line, a name that there isn't, then
+-- the program checks.
 abbrev pub judged : List ℕ → Result Program AsmError
 judged text =
     if nat_lt 1048576 (length text) then Err (record { line = 0; kind = TextTooLong })

@@ -2,9 +2,11 @@
 
 ghost use Rattle.std.specs.Prelude.{◌≡◌, ◌∷◌, None};
 ghost use Rattle.std.specs.Option.{option_copied};
-ghost use Rattle.sts_asm.specs.Line.{open_at, fork_at, join_at, case_at, tally_at, operated, plain_words, instr_of};
+ghost use Rattle.sts_asm.specs.Line.{open_at, fork_at, join_at, case_at, tally_at, operated};
+ghost use Rattle.sts_asm.specs.Line.{plain_words, instr_of};
 ghost use Rattle.sts_asm.specs.Operand.{looked_up};
-ghost use Rattle.sts_asm.specs.declared.mnemonic.Mnemonic.TheVariants.{WithNumber, WithSlot, WithTarget, Push, Times};
+ghost use Rattle.sts_asm.specs.declared.mnemonic.Mnemonic.TheVariants.{WithNumber, WithSlot};
+ghost use Rattle.sts_asm.specs.declared.mnemonic.Mnemonic.TheVariants.{WithTarget, Push, Times};
 
 use crate::fault::AsmKind;
 use crate::marks::Names;
@@ -175,7 +177,8 @@ fn with_operands(
     operated(words, names, mnemonic)
 }
 
-/// The instruction that a first word and the words after it spell, or the first place that is wrong.
+/// The instruction that a first word and the words after it spell, or the first place that is
+/// wrong.
 ///
 /// # Errors
 ///

@@ -1,7 +1,8 @@
 //! The first words of instructions.
 
 ghost use Rattle.std.specs.Prelude.{◌≡◌, None, option_map};
-ghost use Rattle.sts_asm.specs.Line.{plain_words, numbered_words, slotted_words, other_words, mnemonic_of, with_number, with_slot, with_target};
+ghost use Rattle.sts_asm.specs.Line.{plain_words, numbered_words, slotted_words, other_words};
+ghost use Rattle.sts_asm.specs.Line.{mnemonic_of, with_number, with_slot, with_target};
 ghost use Rattle.sts_asm.specs.Operand.{looked_up};
 ghost use Rattle.sts_asm.specs.declared.mnemonic.Mnemonic.TheVariants.{Plain};
 
@@ -229,7 +230,8 @@ fn other_word(word: &[u8]) -> Option<Mnemonic>
     None
 }
 
-/// What this first word says, if it is an instruction's; one without operands was looked for before.
+/// What this first word says, if it is an instruction's; one without operands was looked for
+/// before.
 pub fn mnemonic_of(word: &[u8]) -> Option<Mnemonic>
     requires { looked_up plain_words word.now ≡ None }
     ensures { result ≡ mnemonic_of word.now }

@@ -3,7 +3,11 @@
 ghost use Rattle.std.specs.Prelude.{◌≡◌, ◌^◌, ◌-◌, ◌≤◌, option_map, IfOk, true};
 ghost use Rattle.std.specs.Option.{option_copied};
 ghost use Rattle.sts_asm.specs.Fault.{Reads};
-ghost use Rattle.sts_asm.specs.Operand.{number_at, value_at, slot, slot_at, handle, handle_at, name_at, target_at, function_at, maybe_target_at, looked_up, joiners, until_count_at, until_value_at, until_at, joiner_at, timed_at, kinds_counted, kind_at, finished};
+ghost use Rattle.sts_asm.specs.Operand.{number_at, value_at, slot, slot_at, handle, handle_at};
+ghost use Rattle.sts_asm.specs.Operand.{name_at, target_at, function_at, maybe_target_at};
+ghost use Rattle.sts_asm.specs.Operand.{looked_up, joiners, until_count_at, until_value_at};
+ghost use Rattle.sts_asm.specs.Operand.{until_at, joiner_at, timed_at, kinds_counted, kind_at};
+ghost use Rattle.sts_asm.specs.Operand.{finished};
 ghost use Rattle.sts_code.specs.Name as def_name;
 ghost use Rattle.sts_code.specs.declared.instr.Pred.TheVariants as pred;
 

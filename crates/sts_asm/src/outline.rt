@@ -1,13 +1,16 @@
 //! The functions of a text with their labels and lines, while no name is looked up.
 
-ghost use Rattle.std.specs.Prelude.{◌≡◌, ◌∷◌, ◌++◌, ◌+◌, ◌<◌, ◌≤◌, ◌^◌, [], length, option_map, is_some, None, OnOk, Ok};
+ghost use Rattle.std.specs.Prelude.{◌≡◌, ◌∷◌, ◌++◌, ◌+◌, ◌<◌, ◌≤◌, ◌^◌, [], length, option_map};
+ghost use Rattle.std.specs.Prelude.{is_some, None, OnOk, Ok};
 ghost use Rattle.std.specs.List.{list_all, position, before_first};
 ghost use Rattle.sts_text.specs.Words.{words as words_in};
 ghost use Rattle.sts_asm.specs.Fault.{Steps};
 ghost use Rattle.sts_asm.specs.Line.{instr_of};
 ghost use Rattle.sts_asm.specs.Operand.{finished};
 ghost use Rattle.sts_asm.specs.Outline as def;
-ghost use Rattle.sts_asm.specs.Outline.{no_needs, profile_at, with_keys, keys_at, needs_at, label_of, is_allowed, is_semicolon, is_plain, size_of, instructions};
+ghost use Rattle.sts_asm.specs.Outline.{no_needs, profile_at, with_keys, keys_at, needs_at};
+ghost use Rattle.sts_asm.specs.Outline.{label_of, is_allowed, is_semicolon, is_plain, size_of};
+ghost use Rattle.sts_asm.specs.Outline.{instructions};
 
 use crate::fault::AsmKind;
 use crate::line::instr_of;
@@ -101,7 +104,13 @@ impl<'a> Model for Draft<'a> {
 
     ghost Value = { Draft };
 
-    ghost view = { λ d. record { name = d.name.now; args = d.args; needs = d.needs; labels = d.labels; code = d.code } };
+    ghost view = { λ d. record {
+      name = d.name.now;
+      args = d.args;
+      needs = d.needs;
+      labels = d.labels;
+      code = d.code;
+    } };
 }
 
 fn no_more(rest: &mut Words<'_>) -> Result<(), AsmKind>
@@ -256,7 +265,12 @@ impl<'a> Model for Outline<'a> {
 
     ghost Value = { Outline };
 
-    ghost view = { λ o. record { profile = o.profile; functions = o.functions; done = o.done.items; current = o.current } };
+    ghost view = { λ o. record {
+      profile = o.profile;
+      functions = o.functions;
+      done = o.done.items;
+      current = o.current;
+    } };
 }
 
 fn all_allowed(line: &[u8]) -> bool
@@ -266,8 +280,8 @@ fn all_allowed(line: &[u8]) -> bool
         .all(|b| matches!(*b, b'\t' | b'\r' | b' '..=b'~'))
 }
 
-/// Is each byte from the space to `~`, and none the beginning of a comment? Most lines are so, and are judged in one
-/// pass.
+/// Is each byte from the space to `~`, and none the beginning of a comment? Most lines are so, and
+/// are judged in one pass.
 fn all_plain(line: &[u8]) -> bool
     ensures { result ≡ list_all is_plain line.now }
 {

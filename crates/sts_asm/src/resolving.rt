@@ -56,7 +56,8 @@ fn instr_at(names: &Names<'_, '_>, sentence: &Sentence<'_>) -> Result<Instr, Asm
     }
 }
 
-/// The instructions of the lines. One that names nothing is what was read before the names were known.
+/// The instructions of the lines. One that names nothing is what was read before the names were
+/// known.
 fn code_of(names: &Names<'_, '_>, lines: Lines<'_>) -> Result<Vec<Instr>, AsmError>
     ensures { Judges (λ code. code.items) result (each (instr_at names.now) lines.entry) }
 {
@@ -110,7 +111,8 @@ fn routines_of<'a>(
     Ok(routines)
 }
 
-/// The program of these functions, or the first name that there isn't, or the program check that they fail.
+/// The program of these functions, or the first name that there isn't, or the program check that
+/// they fail.
 ///
 /// # Errors
 ///

@@ -1,5 +1,7 @@
 -- What it says of an instruction that no cause holds at it.
-use Rattle.std.proofs.Common.{◌≡◌, ℕ, ◌<◌, ◌⊎◌, inl, inr, List, [], ◌∷◌, ◌++◌, length, Bool, true, false, cond, not, ◌||◌, Option, Some, None, Ok, find, refl, sym, ap, ◌∙◌}
+use Rattle.std.proofs.Common.{◌≡◌, ℕ, ◌<◌, ◌⊎◌, inl, inr, List, [], ◌∷◌, ◌++◌, length, Bool, true}
+use Rattle.std.proofs.Common.{false, cond, not, ◌||◌, Option, Some, None, Ok, find, refl, sym, ap}
+use Rattle.std.proofs.Common.{◌∙◌}
 use Rattle.std.specs.List.{list_any}
 use Rattle.std.proofs.lemmas.Bool.{leb-false}
 use Rattle.std.proofs.lemmas.Slice.Eq.{bytes_eq-Decides}
@@ -10,7 +12,9 @@ use Rattle.sts_rules.specs.declared.typing.Cause.TheVariants as cause
 use Rattle.sts_rules.specs.TypeState.{TypeState, heads}
 use Rattle.sts_rules.specs.Around.{next_place, skipped_to, open_after, around}
 use Rattle.sts_code.specs.Facts.{targets}
-use Rattle.sts_rules.specs.Causes.{holds, causes, least_cause, is_unmatched, breaks_structure, is_nested, is_illegal, has_wrong_slot, is_strangers, is_other_loop}
+use Rattle.sts_rules.specs.Causes.{holds, causes, least_cause, is_unmatched, breaks_structure}
+use Rattle.sts_rules.specs.Causes.{is_nested, is_illegal, has_wrong_slot, is_strangers}
+use Rattle.sts_rules.specs.Causes.{is_other_loop}
 use Rattle.sts_rules.specs.Edges.{follows, or_cause, edges_of}
 use Rattle.sts_rules.specs.ControlPaths.{Among}
 

@@ -1,12 +1,15 @@
 -- What the program checks say of the code of a function.
-use Rattle.std.proofs.Common.{◌≡◌, ℕ, zero, suc, ◌+◌, ◌<◌, ◌≤◌, List, [], ◌∷◌, length, take, Bool, true, false, Option, Some, None, cond, ◌||◌, not, nat_lt, ◌==◌, refl, sym, ap, ◌∙◌, arith, length-take-le}
+use Rattle.std.proofs.Common.{◌≡◌, ℕ, zero, suc, ◌+◌, ◌<◌, ◌≤◌, List, [], ◌∷◌, length, take, Bool}
+use Rattle.std.proofs.Common.{true, false, Option, Some, None, cond, ◌||◌, not, nat_lt, ◌==◌, refl}
+use Rattle.std.proofs.Common.{sym, ap, ◌∙◌, arith, length-take-le}
 use Rattle.std.specs.Option.{option_or}
 use Rattle.std.proofs.lemmas.Bool.{leb-false, ltb-false}
 use Rattle.sts_code.specs.Checks as def
 use Rattle.sts_code.specs.Name.{is_name}
 use Rattle.sts_code.specs.Program.{Program, routine, instr_at}
 use Rattle.sts_code.specs.declared.checking.CodeCause.{CodeCause}
-use Rattle.sts_code.specs.declared.checking.CodeCause.TheVariants.{TooLong, BadRange, BadTarget, LaterFunction}
+use Rattle.sts_code.specs.declared.checking.CodeCause.TheVariants.{TooLong, BadRange, BadTarget}
+use Rattle.sts_code.specs.declared.checking.CodeCause.TheVariants.{LaterFunction}
 use Rattle.sts_code.specs.declared.instr.Instr.{Instr}
 use Rattle.sts_code.specs.declared.instr.Instr.TheVariants.{Times, Fork, Ret}
 use Rattle.sts_code.proofs.Checked.{routine_is_fine, routines_are_fine, code_is_short}

@@ -1,10 +1,17 @@
 -- The open entries at a point of a path, and the sums over the first d of them.
-use Rattle.std.proofs.Common.{◌≡◌, ℕ, suc, ◌+◌, ◌<◌, ◌≤◌, ◌⊎◌, min, inl, inr, List, [], ◌∷◌, length, drop, map, Bool, true, false, cond, ltb, ◌==◌, Option, Some, None, refl, sym, ap, ◌∙◌, arith, add-zero}
+use Rattle.std.proofs.Common.{◌≡◌, ℕ, suc, ◌+◌, ◌<◌, ◌≤◌, ◌⊎◌, min, inl, inr, List, [], ◌∷◌, length}
+use Rattle.std.proofs.Common.{drop, map, Bool, true, false, cond, ltb, ◌==◌, Option, Some, None}
+use Rattle.std.proofs.Common.{refl, sym, ap, ◌∙◌, arith, add-zero}
 use Rattle.std.specs.List.{sum_by}
 use Rattle.std.proofs.lemmas.Bool.{cases_lt, lt-ltb, le-ltb, eqb-false}
 use Rattle.std.proofs.lemmas.List.Sums.{sum_by-cons}
 use Rattle.sts_code.specs.declared.instr.Instr.{Instr}
-use Rattle.sts_code.specs.declared.instr.Instr.TheVariants.{Push, Pop, Dup, Swap, Load, Store, Add, Sub, Mul, Lt, Eq, Div, Jmp, Jz, Times, Next, Open, Fork, Join, Close, Cancelled, Case, Get, Except, Tally, Total, Forget, Bind, Unbind, Read, Bound, OrElse, Interrupted, Ret, Fail}
+use Rattle.sts_code.specs.declared.instr.Instr.TheVariants.{Push, Pop, Dup, Swap, Load, Store, Add}
+use Rattle.sts_code.specs.declared.instr.Instr.TheVariants.{Sub, Mul, Lt, Eq, Div, Jmp, Jz, Times}
+use Rattle.sts_code.specs.declared.instr.Instr.TheVariants.{Next, Open, Fork, Join, Close}
+use Rattle.sts_code.specs.declared.instr.Instr.TheVariants.{Cancelled, Case, Get, Except, Tally}
+use Rattle.sts_code.specs.declared.instr.Instr.TheVariants.{Total, Forget, Bind, Unbind, Read}
+use Rattle.sts_code.specs.declared.instr.Instr.TheVariants.{Bound, OrElse, Interrupted, Ret, Fail}
 use Rattle.sts_rules.specs.ControlPaths.{OpenEntry, OpenScope, OpenBinding}
 use Rattle.sts_rules.specs.Budget.{Measure, entry_sum, entries_sum, forked, entries_of}
 use Rattle.sts_budget.specs.Layout.{Names, names_after, HasScope, FitsNames}
@@ -22,7 +29,8 @@ pub long : (es : List OpenEntry) → length (names es) ≡ length es
 long [] = refl
 long (e ∷ es) = ap suc (long es)
 
--- the sum over the first d entries; the list has the innermost first, so an entry is one of them where fewer than d stand outside it
+-- the sum over the first d entries; the list has the innermost first, so an entry is one of them
+-- where fewer than d stand outside it
 abbrev pub front : Measure → List OpenEntry → ℕ → ℕ
 front m [] d = 0
 front m (e ∷ es) d = cond (ltb (length es) d) (entry_sum m e) 0 + front m es d

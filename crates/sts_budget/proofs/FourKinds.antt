@@ -1,18 +1,30 @@
 -- The four budgets: what the pass sums is what control paths count and hold.
-use Rattle.std.proofs.Common.{◌≡◌, ℕ, suc, ◌+◌, ◌<◌, ◌≤◌, List, [], ◌∷◌, length, refl, sym, ap, ◌∙◌, subst, arith}
+use Rattle.std.proofs.Common.{◌≡◌, ℕ, suc, ◌+◌, ◌<◌, ◌≤◌, List, [], ◌∷◌, length, refl, sym, ap, ◌∙◌}
+use Rattle.std.proofs.Common.{subst, arith}
 use Rattle.sts_code.specs.declared.instr.Instr.{Instr}
-use Rattle.sts_code.specs.declared.instr.Instr.TheVariants.{Push, Pop, Dup, Swap, Load, Store, Add, Sub, Mul, Lt, Eq, Div, Jmp, Jz, Times, Next, Open, Fork, Join, Close, Cancelled, Case, Get, Except, Tally, Total, Forget, Bind, Unbind, Read, Bound, OrElse, Interrupted, Ret, Fail}
+use Rattle.sts_code.specs.declared.instr.Instr.TheVariants.{Push, Pop, Dup, Swap, Load, Store, Add}
+use Rattle.sts_code.specs.declared.instr.Instr.TheVariants.{Sub, Mul, Lt, Eq, Div, Jmp, Jz, Times}
+use Rattle.sts_code.specs.declared.instr.Instr.TheVariants.{Next, Open, Fork, Join, Close}
+use Rattle.sts_code.specs.declared.instr.Instr.TheVariants.{Cancelled, Case, Get, Except, Tally}
+use Rattle.sts_code.specs.declared.instr.Instr.TheVariants.{Total, Forget, Bind, Unbind, Read}
+use Rattle.sts_code.specs.declared.instr.Instr.TheVariants.{Bound, OrElse, Interrupted, Ret, Fail}
 use Rattle.sts_code.specs.Program.{instr_at}
-use Rattle.sts_rules.specs.ControlPaths.{EndsPath, OpenEntry, Skeleton, Loops, Follows, go, skip, enter, again, leave, Comes, start, step, PathCounts, IsGreatest, PointHolds, IsPeak}
+use Rattle.sts_rules.specs.ControlPaths.{EndsPath, OpenEntry, Skeleton, Loops, Follows, go, skip}
+use Rattle.sts_rules.specs.ControlPaths.{enter, again, leave, Comes, start, step, PathCounts}
+use Rattle.sts_rules.specs.ControlPaths.{IsGreatest, PointHolds, IsPeak}
 use Rattle.sts_rules.specs.declared.budget.Budgets.{Budgets}
-use Rattle.sts_rules.specs.Budget.{Measure, entries_sum, entries_of, skeleton, shape_of, steps_of, tasks_measure, scopes_measure, binds_measure, scopes_sum, binds_sum, Exceeds, PathExceeds}
+use Rattle.sts_rules.specs.Budget.{Measure, entries_sum, entries_of, skeleton, shape_of, steps_of}
+use Rattle.sts_rules.specs.Budget.{tasks_measure, scopes_measure, binds_measure, scopes_sum}
+use Rattle.sts_rules.specs.Budget.{binds_sum, Exceeds, PathExceeds}
 use Rattle.sts_budget.specs.Layout.{Names, names_after, FitsNames}
 use Rattle.sts_budget.specs.declared.change.Resource.{Resource}
 use Rattle.sts_budget.specs.declared.change.Resource.TheVariants.{Steps, Tasks, Scopes, Binds}
-use Rattle.sts_budget.specs.Change.{source_of, added_of, measured, own_of, limit_of, cause_of, IsMost}
+use Rattle.sts_budget.specs.Change.{source_of, added_of, measured, own_of, limit_of, cause_of}
+use Rattle.sts_budget.specs.Change.{IsMost}
 use Rattle.sts_budget.proofs.Structured.{own_loop, IsInside, comes_inside, at_points}
 use Rattle.sts_budget.proofs.Sums.{IsTable, point_most, point_attained}
-use Rattle.sts_budget.proofs.Entries.{names, front, front_all, front_le, names_of, front_of, source_low, source_kept, long}
+use Rattle.sts_budget.proofs.Entries.{names, front, front_all, front_le, names_of, front_of}
+use Rattle.sts_budget.proofs.Entries.{source_low, source_kept, long}
 use Rattle.sts_budget.specs.Flowing.{flows, flows_by}
 use Rattle.sts_budget.specs.Known.{KnowsNames}
 use Rattle.sts_budget.specs.Structured.{IsStructured}

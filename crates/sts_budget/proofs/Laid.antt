@@ -1,11 +1,19 @@
 -- The pass that finds what is open at each place.
-use Rattle.std.proofs.Common.{◌≡◌, ◌≢◌, ℕ, suc, ◌+◌, ◌<◌, ◌≤◌, ◌⊎◌, inl, inr, List, [], ◌∷◌, ◌++◌, length, take, set, get_or, false, Option, Some, None, refl, sym, ap, ◌∙◌, subst, arith, length-set, get_or-set_same, get_or-set_other, unwrap_or, replicate}
+use Rattle.std.proofs.Common.{◌≡◌, ◌≢◌, ℕ, suc, ◌+◌, ◌<◌, ◌≤◌, ◌⊎◌, inl, inr, List, [], ◌∷◌, ◌++◌}
+use Rattle.std.proofs.Common.{length, take, set, get_or, false, Option, Some, None, refl, sym, ap}
+use Rattle.std.proofs.Common.{◌∙◌, subst, arith, length-set, get_or-set_same, get_or-set_other}
+use Rattle.std.proofs.Common.{unwrap_or, replicate}
 use Rattle.std.proofs.Math.Seq.{take-suc}
 use Rattle.std.proofs.lemmas.List.{length-replicate, get_or-replicate}
 use Rattle.std.proofs.lemmas.Bool.{cases_eq, cases_lt, leb-false}
 use Rattle.sts_code.specs.Program.{Program, routine, instr_at}
 use Rattle.sts_code.specs.declared.instr.Instr.{Instr}
-use Rattle.sts_code.specs.declared.instr.Instr.TheVariants.{Push, Pop, Dup, Swap, Load, Store, Add, Sub, Mul, Lt, Eq, Div, Jmp, Jz, Times, Next, Open, Fork, Join, Close, Cancelled, Case, Get, Except, Tally, Total, Forget, Bind, Unbind, Read, Bound, OrElse, Interrupted, Ret, Fail}
+use Rattle.sts_code.specs.declared.instr.Instr.TheVariants.{Push, Pop, Dup, Swap, Load, Store, Add}
+use Rattle.sts_code.specs.declared.instr.Instr.TheVariants.{Sub, Mul, Lt, Eq, Div, Jmp, Jz, Times}
+use Rattle.sts_code.specs.declared.instr.Instr.TheVariants.{Next, Open, Fork, Join, Close}
+use Rattle.sts_code.specs.declared.instr.Instr.TheVariants.{Cancelled, Case, Get, Except, Tally}
+use Rattle.sts_code.specs.declared.instr.Instr.TheVariants.{Total, Forget, Bind, Unbind, Read}
+use Rattle.sts_code.specs.declared.instr.Instr.TheVariants.{Bound, OrElse, Interrupted, Ret, Fail}
 use Rattle.sts_rules.specs.Flow.{Reaches}
 use Rattle.sts_code.specs.Loops.{match_of}
 use Rattle.sts_rules.specs.declared.typing.TypedEntry.{TypedEntry}
@@ -18,13 +26,16 @@ use Rattle.sts_rules.specs.Refusal.{IsWellTyped}
 use Rattle.sts_rules.specs.ControlPaths.{GoesTo, Repeats, EndsTurn, EndsPath, Among}
 use Rattle.sts_rules.specs.Budget.{skeleton, shape_of}
 use Rattle.sts_budget.specs.Layout.{Names, names_after, HasEntryRoom}
-use Rattle.sts_budget.proofs.Sorts.{Sort, sort, is_times, is_next, is_end, goes_on, GoesOn, among_of, among_left, among_right}
+use Rattle.sts_budget.proofs.Sorts.{Sort, sort, is_times, is_next, is_end, goes_on, GoesOn}
+use Rattle.sts_budget.proofs.Sorts.{among_of, among_left, among_right}
 use Rattle.sts_budget.proofs.Forward.{among_cases}
-use Rattle.sts_budget.proofs.Typed.{among_next, goes_at, here, fits, opened, Opened, ended, inside, structured, leading_go, times_of}
+use Rattle.sts_budget.proofs.Typed.{among_next, goes_at, here, fits, opened, Opened, ended, inside}
+use Rattle.sts_budget.proofs.Typed.{structured, leading_go, times_of}
 use Rattle.sts_budget.proofs.Named.{led, knows_names}
 use Rattle.sts_budget.specs.Structured.{IsStructured, Led, from_go, from_head, from_end}
 use Rattle.sts_budget.specs.Known.{KnowsNames, NamesRight}
-use Rattle.sts_budget.specs.Laid.{mates_after, Writes, first_of, head_after, IsRight, IsWritten, IsLaid}
+use Rattle.sts_budget.specs.Laid.{mates_after, Writes, first_of, head_after, IsRight, IsWritten}
+use Rattle.sts_budget.specs.Laid.{IsLaid}
 use Rattle.sts_budget.specs.TypedNames.{names}
 
 -- ---- lists

@@ -1,5 +1,7 @@
 -- One step of the pass that finds what is open, as the code makes it.
-use Rattle.std.proofs.Common.{◌≡◌, ℕ, zero, suc, ◌+◌, ◌<◌, pos, inl, inr, List, [], ◌∷◌, ◌++◌, length, get_or, replicate, Option, Some, None, IfSome, rules, refl, sym, ap, ◌∙◌, subst, arith}
+use Rattle.std.proofs.Common.{◌≡◌, ℕ, zero, suc, ◌+◌, ◌<◌, pos, inl, inr, List, [], ◌∷◌, ◌++◌}
+use Rattle.std.proofs.Common.{length, get_or, replicate, Option, Some, None, IfSome, rules, refl}
+use Rattle.std.proofs.Common.{sym, ap, ◌∙◌, subst, arith}
 use Rattle.sts_code.specs.Checks.{program_fault}
 use Rattle.sts_code.specs.Program.{Program, routine, instr_at}
 use Rattle.sts_code.specs.declared.instr.Instr.{Instr}
@@ -11,7 +13,8 @@ use Rattle.sts_rules.specs.ControlPaths.{Among}
 use Rattle.sts_budget.specs.Layout.{Names, names_after, HasEntryRoom}
 use Rattle.sts_budget.specs.Laid.{Writes, IsLaid, head_after, mates_after}
 use Rattle.sts_budget.proofs.Checked.{is_checked}
-use Rattle.sts_budget.proofs.Laid.{is_written, fits_room, leads_inside, head_before, laid_more, laid_none}
+use Rattle.sts_budget.proofs.Laid.{is_written, fits_room, leads_inside, head_before, laid_more}
+use Rattle.sts_budget.proofs.Laid.{laid_none}
 
 pub any_default : {A : Type 0} (xs : List A) (i : ℕ) (d e : A) → i < length xs → get_or xs i d ≡ get_or xs i e
 any_default [] i d e lt = absurd (omega arith)

@@ -1,9 +1,16 @@
 -- Which list of names is open at each place.
-use Rattle.std.proofs.Common.{◌≡◌, ℕ, zero, suc, ◌+◌, ◌<◌, ◌≤◌, inl, inr, List, [], ◌∷◌, ◌++◌, length, get_or, replicate, true, refl, sym, ap, ◌∙◌, arith}
-use Rattle.std.proofs.lemmas.List.{length-append, length-map, get_or-map, get_or_append_left, get_or_at}
+use Rattle.std.proofs.Common.{◌≡◌, ℕ, zero, suc, ◌+◌, ◌<◌, ◌≤◌, inl, inr, List, [], ◌∷◌, ◌++◌}
+use Rattle.std.proofs.Common.{length, get_or, replicate, true, refl, sym, ap, ◌∙◌, arith}
+use Rattle.std.proofs.lemmas.List.{length-append, length-map, get_or-map, get_or_append_left}
+use Rattle.std.proofs.lemmas.List.{get_or_at}
 use Rattle.std.proofs.lemmas.Bool.{cases_lt}
 use Rattle.sts_code.specs.declared.instr.Instr.{Instr}
-use Rattle.sts_code.specs.declared.instr.Instr.TheVariants.{Push, Pop, Dup, Swap, Load, Store, Add, Sub, Mul, Lt, Eq, Div, Jmp, Jz, Times, Next, Open, Fork, Join, Close, Cancelled, Case, Get, Except, Tally, Total, Forget, Bind, Unbind, Read, Bound, OrElse, Interrupted, Ret, Fail}
+use Rattle.sts_code.specs.declared.instr.Instr.TheVariants.{Push, Pop, Dup, Swap, Load, Store, Add}
+use Rattle.sts_code.specs.declared.instr.Instr.TheVariants.{Sub, Mul, Lt, Eq, Div, Jmp, Jz, Times}
+use Rattle.sts_code.specs.declared.instr.Instr.TheVariants.{Next, Open, Fork, Join, Close}
+use Rattle.sts_code.specs.declared.instr.Instr.TheVariants.{Cancelled, Case, Get, Except, Tally}
+use Rattle.sts_code.specs.declared.instr.Instr.TheVariants.{Total, Forget, Bind, Unbind, Read}
+use Rattle.sts_code.specs.declared.instr.Instr.TheVariants.{Bound, OrElse, Interrupted, Ret, Fail}
 use Rattle.sts_rules.specs.Around.{next_place}
 use Rattle.sts_code.specs.Facts.{targets}
 use Rattle.sts_rules.specs.ControlPaths.{Among}

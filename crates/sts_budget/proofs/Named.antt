@@ -1,11 +1,20 @@
--- The names of the open entries are known by their place in a well-typed function, and a loop closes nothing that stood before it.
-use Rattle.std.proofs.Common.{◌≡◌, ℕ, suc, ◌+◌, ◌<◌, ◌≤◌, ◌⊎◌, inl, inr, List, [], ◌∷◌, ◌++◌, length, drop, map, Bool, true, false, cond, not, ◌&&◌, ◌||◌, ◌==◌, Option, Some, None, refl, sym, ap, ◌∙◌, subst, arith, option_map, option_to_list, slice_get, nat_le}
+-- The names of the open entries are known by their place in a well-typed function, and a loop
+-- closes nothing that stood before it.
+use Rattle.std.proofs.Common.{◌≡◌, ℕ, suc, ◌+◌, ◌<◌, ◌≤◌, ◌⊎◌, inl, inr, List, [], ◌∷◌, ◌++◌}
+use Rattle.std.proofs.Common.{length, drop, map, Bool, true, false, cond, not, ◌&&◌, ◌||◌, ◌==◌}
+use Rattle.std.proofs.Common.{Option, Some, None, refl, sym, ap, ◌∙◌, subst, arith, option_map}
+use Rattle.std.proofs.Common.{option_to_list, slice_get, nat_le}
 use Rattle.std.specs.List.{list_any}
 use Rattle.std.proofs.lemmas.Bool.{cases_lt, leb-false, eqb-true}
 use Rattle.std.proofs.lemmas.List.{length-map}
 use Rattle.sts_code.specs.Program.{Program, routine, instr_at}
 use Rattle.sts_code.specs.declared.instr.Instr.{Instr}
-use Rattle.sts_code.specs.declared.instr.Instr.TheVariants.{Push, Pop, Dup, Swap, Load, Store, Add, Sub, Mul, Lt, Eq, Div, Jmp, Jz, Times, Next, Open, Fork, Join, Close, Cancelled, Case, Get, Except, Tally, Total, Forget, Bind, Unbind, Read, Bound, OrElse, Interrupted, Ret, Fail}
+use Rattle.sts_code.specs.declared.instr.Instr.TheVariants.{Push, Pop, Dup, Swap, Load, Store, Add}
+use Rattle.sts_code.specs.declared.instr.Instr.TheVariants.{Sub, Mul, Lt, Eq, Div, Jmp, Jz, Times}
+use Rattle.sts_code.specs.declared.instr.Instr.TheVariants.{Next, Open, Fork, Join, Close}
+use Rattle.sts_code.specs.declared.instr.Instr.TheVariants.{Cancelled, Case, Get, Except, Tally}
+use Rattle.sts_code.specs.declared.instr.Instr.TheVariants.{Total, Forget, Bind, Unbind, Read}
+use Rattle.sts_code.specs.declared.instr.Instr.TheVariants.{Bound, OrElse, Interrupted, Ret, Fail}
 use Rattle.sts_rules.specs.declared.typing.TypedLoop.{TypedLoop}
 use Rattle.sts_rules.specs.declared.typing.TypedEntry.{TypedEntry}
 use Rattle.sts_rules.specs.declared.typing.TypedEntry.TheVariants.{Scope, Binding}
@@ -15,7 +24,9 @@ use Rattle.sts_rules.specs.Flow.{Leads, Reaches, first, then}
 use Rattle.sts_rules.specs.TypeState.{TypeState, heads, kind, scope_in}
 use Rattle.sts_rules.specs.Around.{next_place, around}
 use Rattle.sts_code.specs.Facts.{targets}
-use Rattle.sts_rules.specs.Causes.{breaks_structure, is_illegal, has_wrong_slot, is_strangers, is_held, is_own, is_lent, passes, is_opened, innermost, is_scope_in, is_binding}
+use Rattle.sts_rules.specs.Causes.{breaks_structure, is_illegal, has_wrong_slot, is_strangers}
+use Rattle.sts_rules.specs.Causes.{is_held, is_own, is_lent, passes, is_opened, innermost}
+use Rattle.sts_rules.specs.Causes.{is_scope_in, is_binding}
 use Rattle.sts_rules.specs.Edges.{follows, moved, typing, back_of}
 use Rattle.sts_rules.specs.Refusal.{IsWellTyped}
 use Rattle.sts_rules.specs.ControlPaths.{GoesTo, Repeats, EndsPath, Skeleton, Among}
@@ -23,7 +34,9 @@ use Rattle.sts_rules.specs.declared.budget.Budgets.{Budgets}
 use Rattle.sts_rules.specs.Budget.{skeleton, shape_of}
 use Rattle.sts_budget.specs.Layout.{Names, names_after, HasScope, FitsNames}
 use Rattle.sts_budget.proofs.Allowed.{allowed, not_false, neither}
-use Rattle.sts_budget.proofs.Typed.{IsEdge, over_go, into_loop, past_loop, over_next, edge_at, here, times_at, next_at, goes_at, within_code, opened, ended, none_past}
+use Rattle.sts_budget.proofs.Typed.{IsEdge, over_go, into_loop, past_loop, over_next, edge_at, here}
+use Rattle.sts_budget.proofs.Typed.{times_at, next_at, goes_at, within_code, opened, ended}
+use Rattle.sts_budget.proofs.Typed.{none_past}
 use Rattle.sts_budget.specs.Known.{KnowsNames, NamesRight}
 use Rattle.sts_budget.specs.Structured.{Led, from_go, from_head, from_end}
 use Rattle.sts_budget.specs.TypedNames.{names}

@@ -1,5 +1,6 @@
 -- The laws of the budgets, from structured code.
-use Rattle.std.proofs.Common.{◌≡◌, ℕ, ◌+◌, ◌<◌, List, [], ◌∷◌, length, Some, None, Bool, true, false, ◌==◌, cond, ltb, refl, sym, ap, ◌∙◌, subst, arith, inl, inr}
+use Rattle.std.proofs.Common.{◌≡◌, ℕ, ◌+◌, ◌<◌, List, [], ◌∷◌, length, Some, None, Bool, true}
+use Rattle.std.proofs.Common.{false, ◌==◌, cond, ltb, refl, sym, ap, ◌∙◌, subst, arith, inl, inr}
 use Rattle.std.proofs.lemmas.Bool.{lt-ltb, eqb-false}
 use Rattle.sts_code.specs.Program.{Program, routine, instr_at}
 use Rattle.sts_code.specs.Checks.{program_fault}
@@ -7,7 +8,9 @@ use Rattle.sts_rules.specs.Around.{around}
 use Rattle.sts_rules.specs.Refusal.{IsWellTyped}
 use Rattle.sts_rules.specs.declared.budget.Budgets.{Budgets}
 use Rattle.sts_rules.specs.ControlPaths.{GoesTo, OpenEntry, step, go}
-use Rattle.sts_rules.specs.Budget.{IsBudget, skeleton, shape_of, steps_of, budget_at, Measure, entries_sum, entries_of, forked, tasks_measure, scopes_measure, binds_measure}
+use Rattle.sts_rules.specs.Budget.{IsBudget, skeleton, shape_of, steps_of, budget_at, Measure}
+use Rattle.sts_rules.specs.Budget.{entries_sum, entries_of, forked, tasks_measure, scopes_measure}
+use Rattle.sts_rules.specs.Budget.{binds_measure}
 use Rattle.sts_budget.specs.Laws.{PointsLieOnPaths, PointsAreWithin, ChildrenArePart}
 use Rattle.sts_budget.specs.Layout.{Names, HasScope, FitsNames}
 use Rattle.sts_budget.specs.Change.{position_of}

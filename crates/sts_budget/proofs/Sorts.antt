@@ -1,8 +1,15 @@
 -- What the typing of each instruction says of the control flow and of the open entries.
-use Rattle.std.proofs.Common.{◌≡◌, ℕ, ◌+◌, ◌-◌, ◌⊎◌, inl, inr, List, [], ◌∷◌, ◌++◌, drop, map, true, false, cond, ◌==◌, Option, Some, None, refl, sym, ap, ◌∙◌, subst, slice_set}
+use Rattle.std.proofs.Common.{◌≡◌, ℕ, ◌+◌, ◌-◌, ◌⊎◌, inl, inr, List, [], ◌∷◌, ◌++◌, drop, map, true}
+use Rattle.std.proofs.Common.{false, cond, ◌==◌, Option, Some, None, refl, sym, ap, ◌∙◌, subst}
+use Rattle.std.proofs.Common.{slice_set}
 use Rattle.sts_code.specs.Program.{Program}
 use Rattle.sts_code.specs.declared.instr.Instr.{Instr}
-use Rattle.sts_code.specs.declared.instr.Instr.TheVariants.{Push, Pop, Dup, Swap, Load, Store, Add, Sub, Mul, Lt, Eq, Div, Jmp, Jz, Times, Next, Open, Fork, Join, Close, Cancelled, Case, Get, Except, Tally, Total, Forget, Bind, Unbind, Read, Bound, OrElse, Interrupted, Ret, Fail}
+use Rattle.sts_code.specs.declared.instr.Instr.TheVariants.{Push, Pop, Dup, Swap, Load, Store, Add}
+use Rattle.sts_code.specs.declared.instr.Instr.TheVariants.{Sub, Mul, Lt, Eq, Div, Jmp, Jz, Times}
+use Rattle.sts_code.specs.declared.instr.Instr.TheVariants.{Next, Open, Fork, Join, Close}
+use Rattle.sts_code.specs.declared.instr.Instr.TheVariants.{Cancelled, Case, Get, Except, Tally}
+use Rattle.sts_code.specs.declared.instr.Instr.TheVariants.{Total, Forget, Bind, Unbind, Read}
+use Rattle.sts_code.specs.declared.instr.Instr.TheVariants.{Bound, OrElse, Interrupted, Ret, Fail}
 use Rattle.sts_rules.specs.declared.typing.TypedEntry.{TypedEntry}
 use Rattle.sts_rules.specs.declared.typing.TypedEntry.TheVariants.{Scope, Binding}
 use Rattle.sts_rules.specs.declared.typing.TypedPhase.{TypedPhase}
@@ -14,7 +21,8 @@ use Rattle.sts_rules.specs.TypeState.{TypeState, scope_in}
 use Rattle.sts_rules.specs.Flow.{Leads}
 use Rattle.sts_rules.specs.Around.{next_place, skipped_to, open_after}
 use Rattle.sts_code.specs.Facts.{targets}
-use Rattle.sts_rules.specs.Edges.{follows, moved, with_slot, with_known, with_phase, phase_set, raised, after_ok, joiner_of, cleared, join_follows}
+use Rattle.sts_rules.specs.Edges.{follows, moved, with_slot, with_known, with_phase, phase_set}
+use Rattle.sts_rules.specs.Edges.{raised, after_ok, joiner_of, cleared, join_follows}
 use Rattle.sts_rules.specs.ControlPaths.{GoesTo, EndsPath, Among}
 use Rattle.sts_rules.specs.Budget.{shape_of}
 use Rattle.sts_budget.specs.Layout.{names_after}

@@ -1,6 +1,10 @@
--- Structured code: its paths go forward, and enter and leave a loop by its head and its end alone. Every point of a path lies on a whole path.
-use Rattle.std.proofs.Common.{◌≡◌, ℕ, zero, suc, ◌+◌, ◌-◌, ◌<◌, ◌≤◌, List, [], ◌∷◌, refl, sym, ap, ◌∙◌, subst, arith}
-use Rattle.sts_rules.specs.ControlPaths.{Shape, GoesTo, Repeats, EndsTurn, EndsPath, OpenEntry, Skeleton, Loops, Follows, go, skip, enter, again, leave, Comes, start, step, PathCounts}
+-- Structured code: its paths go forward, and enter and leave a loop by its head and its end alone.
+-- Every point of a path lies on a whole path.
+use Rattle.std.proofs.Common.{◌≡◌, ℕ, zero, suc, ◌+◌, ◌-◌, ◌<◌, ◌≤◌, List, [], ◌∷◌, refl, sym, ap}
+use Rattle.std.proofs.Common.{◌∙◌, subst, arith}
+use Rattle.sts_rules.specs.ControlPaths.{Shape, GoesTo, Repeats, EndsTurn, EndsPath, OpenEntry}
+use Rattle.sts_rules.specs.ControlPaths.{Skeleton, Loops, Follows, go, skip, enter, again, leave}
+use Rattle.sts_rules.specs.ControlPaths.{Comes, start, step, PathCounts}
 use Rattle.sts_budget.specs.Structured.{heads, bound_of, IsStructured}
 
 module _ (c : Skeleton) (around : ℕ → List ℕ) (good : IsStructured c around) where
@@ -54,7 +58,8 @@ module _ (c : Skeleton) (around : ℕ → List ℕ) (good : IsStructured c aroun
   comes_inside pc loops m es start = inside_start
   comes_inside pc loops m es (step {pc = from} {loops = ls} {before = before} {entries = entries} r f) = inside_step from ls pc loops (comes_inside from ls before entries r) f
 
-  -- from a place a path comes to an end, or to the end of the innermost loop's turn, and loses no step
+  -- from a place a path comes to an end, or to the end of the innermost loop's turn, and loses no
+  -- step
   pub data Goes (pc : ℕ) (ls : Loops) (m : ℕ) : Type 0 where
     ends : (at before : ℕ) (after : Loops) (es : List OpenEntry) → Comes c at after before es → c.shape at ≡ EndsPath → m + c.weight pc ≤ before + c.weight at → Goes pc ls m
     turned : (at before : ℕ) (es : List OpenEntry) → Comes c at ls before es → c.shape at ≡ EndsTurn → heads ls ≡ around at → m + c.weight pc ≤ before + c.weight at → Goes pc ls m

@@ -1,10 +1,15 @@
--- One pass that keeps, for each d, the greatest sum over the first d open entries finds the greatest sum of all points. The steps of paths are such a sum over no entry.
-use Rattle.std.proofs.Common.{◌≡◌, ◌≢◌, ℕ, zero, suc, ◌+◌, ◌-◌, ◌*◌, ◌<◌, ◌≤◌, ◌⊎◌, min, inl, inr, List, [], ◌∷◌, refl, sym, ap, ◌∙◌, subst, arith, suc-mul, zero-mul, mul-le-mul_right}
+-- One pass that keeps, for each d, the greatest sum over the first d open entries finds the
+-- greatest sum of all points. The steps of paths are such a sum over no entry.
+use Rattle.std.proofs.Common.{◌≡◌, ◌≢◌, ℕ, zero, suc, ◌+◌, ◌-◌, ◌*◌, ◌<◌, ◌≤◌, ◌⊎◌, min, inl, inr}
+use Rattle.std.proofs.Common.{List, [], ◌∷◌, refl, sym, ap, ◌∙◌, subst, arith, suc-mul, zero-mul}
+use Rattle.std.proofs.Common.{mul-le-mul_right}
 use Rattle.std.proofs.lemmas.Bool.{cases_eq}
-use Rattle.sts_rules.specs.ControlPaths.{GoesTo, Repeats, Skeleton, Among, Loops, Follows, go, skip, enter, again, leave}
+use Rattle.sts_rules.specs.ControlPaths.{GoesTo, Repeats, Skeleton, Among, Loops, Follows, go, skip}
+use Rattle.sts_rules.specs.ControlPaths.{enter, again, leave}
 use Rattle.sts_budget.proofs.Structured.{FitTurns, own_loop, IsInside, inside_step, inside_start}
 use Rattle.sts_budget.specs.Structured.{IsStructured, heads, bound_of}
-use Rattle.sts_budget.specs.Sums.{Flows, Sums, FitsEntries, Stands, gain, last_turns, base, full, turn_base, none, more}
+use Rattle.sts_budget.specs.Sums.{Flows, Sums, FitsEntries, Stands, gain, last_turns, base, full}
+use Rattle.sts_budget.specs.Sums.{turn_base, none, more}
 
 -- a place takes its value from one before it
 pub data Source (c : Skeleton) (f : Flows) (best : ℕ → ℕ → ℕ) (d : ℕ) : ℕ → Type 0 where
@@ -17,7 +22,8 @@ pub record IsSourced (c : Skeleton) (f : Flows) (best : ℕ → ℕ → ℕ) (bo
   pub first : best 0 0 ≡ 0
   pub source : (pc d : ℕ) → 0 < pc → pc < bound → d ≤ f.depth pc → Source c f best d pc
 
--- the table of the pass: for each place and d the greatest sum, counted from the start of the innermost loop's turn
+-- the table of the pass: for each place and d the greatest sum, counted from the start of the
+-- innermost loop's turn
 pub record IsTable (c : Skeleton) (f : Flows) (best : ℕ → ℕ → ℕ) : Type 0 where
   pub turn : (p n d : ℕ) → c.shape p ≡ Repeats n → d ≤ f.depth p → best (p + 1) d ≡ 0
   pub over_go : (pc to d : ℕ) (places : List ℕ) → c.shape pc ≡ GoesTo places → Among places to → d ≤ f.depth to → best pc (f.source pc d) + f.added pc d ≤ best to d
@@ -32,7 +38,8 @@ heads_last [] = refl
 heads_last (p ∷ ps) = ap (λ (hs : List ℕ). p ∷ hs) (heads_last ps)
 
 module _ (c : Skeleton) (around : ℕ → List ℕ) (good : IsStructured c around) (f : Flows) (fits : FitsEntries c around f) (best : ℕ → ℕ → ℕ) (bound : ℕ) (sourced : IsSourced c f best bound) where
-  -- a path stands at the start of the innermost loop's turn, with this sum over the first d of the entries that the loop found
+  -- a path stands at the start of the innermost loop's turn, with this sum over the first d of the
+  -- entries that the loop found
   abbrev pub Begins : Loops → ℕ → ℕ → Type 0
   Begins [] d m = m ≡ 0
   Begins (l ∷ ls) d m = Sums c f (min d (f.depth l.0)) (l.0 + 1) (l ∷ ls) m

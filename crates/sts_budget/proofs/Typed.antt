@@ -1,5 +1,9 @@
--- The code of a well-typed function is structured, and its open entries are known by their place: where the typing enters the budgets.
-use Rattle.std.proofs.Common.{◌≡◌, ℕ, zero, suc, ◌+◌, ◌<◌, ◌≤◌, inl, inr, List, [], ◌∷◌, ◌++◌, length, drop, map, reverse, Bool, true, false, cond, ◌&&◌, Option, Some, None, Ok, refl, sym, ap, ◌∙◌, subst, arith, is_none, option_map, option_to_list, unwrap_or}
+-- The code of a well-typed function is structured, and its open entries are known by their place:
+-- where the typing enters the budgets.
+use Rattle.std.proofs.Common.{◌≡◌, ℕ, zero, suc, ◌+◌, ◌<◌, ◌≤◌, inl, inr, List, [], ◌∷◌, ◌++◌}
+use Rattle.std.proofs.Common.{length, drop, map, reverse, Bool, true, false, cond, ◌&&◌, Option}
+use Rattle.std.proofs.Common.{Some, None, Ok, refl, sym, ap, ◌∙◌, subst, arith, is_none, option_map}
+use Rattle.std.proofs.Common.{option_to_list, unwrap_or}
 use Rattle.std.specs.List.{filter, range_with_len}
 use Rattle.std.proofs.lemmas.Bool.{cases_eq, cases_lt, leb-true, le-leb, eqb-true}
 use Rattle.std.proofs.lemmas.List.{get_or_past, reverse-append}
@@ -19,7 +23,9 @@ use Rattle.sts_rules.specs.ControlPaths.{GoesTo, Repeats, EndsTurn, EndsPath, Sk
 use Rattle.sts_rules.specs.declared.budget.Budgets.{Budgets}
 use Rattle.sts_rules.specs.Budget.{skeleton, shape_of}
 use Rattle.sts_budget.specs.Layout.{names_after}
-use Rattle.sts_budget.proofs.Sorts.{Sort, is_times as times_sort, is_next as next_sort, is_end as end_sort, goes_on, GoesOn, sort, among_of, among_left, among_right}
+use Rattle.sts_budget.proofs.Sorts.{Sort, is_times as times_sort, is_next as next_sort}
+use Rattle.sts_budget.proofs.Sorts.{is_end as end_sort, goes_on, GoesOn, sort, among_of, among_left}
+use Rattle.sts_budget.proofs.Sorts.{among_right}
 use Rattle.sts_budget.proofs.Allowed.{Allowed, allowed, not_false}
 use Rattle.sts_budget.proofs.Match.{match_is_next, times_is}
 use Rattle.sts_budget.specs.Structured.{IsStructured}

@@ -1,20 +1,25 @@
--- What instructions do to the sums over the open entries, the outermost first, by which the budgets are found (this project's own).
-use Rattle.std.specs.Prelude.{ℕ, ◌<◌, List, [], ◌∷◌, length, min, nat_lt, ◌==◌, if◌then◌else◌, Some, None}
+-- What instructions do to the sums over the open entries, the outermost first, by which the budgets
+-- are found (this project's own).
+use Rattle.std.specs.Prelude.{ℕ, ◌<◌, List, [], ◌∷◌, length, min, nat_lt, ◌==◌, if◌then◌else◌, Some}
+use Rattle.std.specs.Prelude.{None}
 use Rattle.sts_code.specs.declared.instr.Instr.{Instr}
 use Rattle.sts_code.specs.declared.limits.TheConstants.{MAX_STANDING, MAX_STEPS}
 use Rattle.sts_code.specs.declared.instr.Instr.TheVariants.{Open, Fork, Bind}
 use Rattle.sts_rules.specs.declared.typing.Cause.{Cause}
-use Rattle.sts_rules.specs.declared.typing.Cause.TheVariants.{TooManySteps, TooManyTasks, TooManyScopes, TooManyBinds}
+use Rattle.sts_rules.specs.declared.typing.Cause.TheVariants.{TooManySteps, TooManyTasks}
+use Rattle.sts_rules.specs.declared.typing.Cause.TheVariants.{TooManyScopes, TooManyBinds}
 use Rattle.sts_rules.specs.ControlPaths.{IsGreatest, IsPeak}
 use Rattle.sts_rules.specs.declared.budget.Budgets.{Budgets}
-use Rattle.sts_rules.specs.Budget.{Measure, steps_of, skeleton, tasks_sum, scopes_sum, binds_sum, tasks_measure, scopes_measure, binds_measure}
+use Rattle.sts_rules.specs.Budget.{Measure, steps_of, skeleton, tasks_sum, scopes_sum, binds_sum}
+use Rattle.sts_rules.specs.Budget.{tasks_measure, scopes_measure, binds_measure}
 use Rattle.sts_budget.specs.declared.change.Resource.{Resource}
 use Rattle.sts_budget.specs.declared.change.Resource.TheVariants.{Steps, Tasks, Scopes, Binds}
 use Rattle.sts_budget.specs.declared.change.SumChange.{SumChange}
 use Rattle.sts_budget.specs.declared.change.SumChange.TheVariants.{Rises, Opens, Adds}
 use Rattle.sts_budget.specs.Layout.{Names}
 
--- the number of entries that the sum over the first d looks back on, where n are open before the instruction
+-- the number of entries that the sum over the first d looks back on, where n are open before the
+-- instruction
 abbrev pub source_of : SumChange → ℕ → ℕ → ℕ
 source_of (Opens own) n d = min d n
 source_of _ n d = d

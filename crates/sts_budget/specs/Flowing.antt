@@ -13,8 +13,12 @@ use Rattle.sts_budget.specs.Sums.{Flows}
 abbrev pub flows : Resource → List Budgets → List Instr → (ℕ → Names) → Flows
 flows k earlier code names_at = record {
   depth = λ pc. depth_of k (names_at pc);
-  source = λ pc d. source_of (change_of k earlier (instr_at code pc) (names_at pc)) (depth_of k (names_at pc)) d;
-  added = λ pc d. added_of (change_of k earlier (instr_at code pc) (names_at pc)) (depth_of k (names_at pc)) d;
+  source =
+      λ pc d. source_of (change_of k earlier (instr_at code pc) (names_at pc))
+      (depth_of k (names_at pc)) d;
+  added =
+      λ pc d. added_of (change_of k earlier (instr_at code pc) (names_at pc))
+      (depth_of k (names_at pc)) d;
 }
 
 abbrev pub flows_by : Measure → List Instr → (ℕ → Names) → Flows

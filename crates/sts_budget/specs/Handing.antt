@@ -1,5 +1,6 @@
 -- What a place hands on to those to which its instruction leads (this project's own).
-use Rattle.std.specs.Prelude.{ℕ, ◌+◌, ◌-◌, ◌*◌, List, get_or, slice_set, Option, Some, None, Bool, true, false}
+use Rattle.std.specs.Prelude.{ℕ, ◌+◌, ◌-◌, ◌*◌, List, get_or, slice_set, Option, Some, None, Bool}
+use Rattle.std.specs.Prelude.{true, false}
 use Rattle.sts_code.specs.declared.instr.Instr.{Instr}
 use Rattle.sts_code.specs.declared.instr.Instr.TheVariants.{Times, Next, Ret, Fail}
 use Rattle.sts_code.specs.Program.{instr_at}
@@ -22,9 +23,14 @@ turns_of (Times n) = n
 turns_of _ = 0
 
 -- the sum over the first d that the instruction at pc hands on
-abbrev pub value_by : Resource → List Budgets → List Instr → Layout → (ℕ → ℕ → ℕ) → ℕ → Instr → ℕ → ℕ
-value_by k earlier code l best pc Next d = best (head_in l pc) d + own_step k + turns_of (instr_at code (head_in l pc)) * (best pc d + own_step k)
-value_by k earlier code l best pc i d = best pc (source_of (change_of k earlier i (names_in l pc)) (depth_of k (names_in l pc)) d) + added_of (change_of k earlier i (names_in l pc)) (depth_of k (names_in l pc)) d
+abbrev pub value_by : Resource → List Budgets → List Instr → Layout → (ℕ → ℕ → ℕ) → ℕ → Instr → ℕ
+    → ℕ
+value_by k earlier code l best pc Next d =
+    best (head_in l pc) d + own_step k
+    + turns_of (instr_at code (head_in l pc)) * (best pc d + own_step k)
+value_by k earlier code l best pc i d =
+    best pc (source_of (change_of k earlier i (names_in l pc)) (depth_of k (names_in l pc)) d)
+    + added_of (change_of k earlier i (names_in l pc)) (depth_of k (names_in l pc)) d
 
 abbrev pub handed_value : Resource → List Budgets → List Instr → Layout → (ℕ → ℕ → ℕ) → ℕ → ℕ → ℕ
 handed_value k earlier code l best pc d = value_by k earlier code l best pc (instr_at code pc) d
@@ -36,5 +42,6 @@ base_of bases (Some h) = get_or bases h 0
 
 -- a `times` at pc opens a loop
 abbrev pub bases_after : Instr → (pc own full end : ℕ) → List ℕ → List ℕ
-bases_after (Times n) pc own full end bases = slice_set bases pc (full + own + (n - 1) * (end + own))
+bases_after (Times n) pc own full end bases =
+    slice_set bases pc (full + own + (n - 1) * (end + own))
 bases_after _ pc own full end bases = bases

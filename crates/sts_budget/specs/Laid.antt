@@ -1,5 +1,6 @@
 -- What is known to be open at each place of a function (this project's own).
-use Rattle.std.proofs.Common.{◌≡◌, ℕ, ◌<◌, ◌≤◌, ◌⊎◌, List, [], ◌∷◌, ◌++◌, length, map, get_or, Option, Some, None, unwrap_or, slice_set}
+use Rattle.std.proofs.Common.{◌≡◌, ℕ, ◌<◌, ◌≤◌, ◌⊎◌, List, [], ◌∷◌, ◌++◌, length, map, get_or}
+use Rattle.std.proofs.Common.{Option, Some, None, unwrap_or, slice_set}
 use Rattle.sts_code.specs.Program.{Program, routine, instr_at}
 use Rattle.sts_code.specs.declared.limits.TheConstants.{MAX_ENTRIES}
 use Rattle.sts_code.specs.declared.instr.Instr.{Instr}
@@ -32,21 +33,29 @@ head_after Next pc heads = get_or heads (unwrap_or (get_or heads pc None) 0) Non
 head_after _ pc heads = get_or heads pc None
 
 -- what the tables say of a place
-pub record IsRight (p : Program) (f : ℕ) (heads : List (Option ℕ)) (table : List Names) (pc : ℕ) : Type 0 where
+pub record IsRight (p : Program) (f : ℕ) (heads : List (Option ℕ)) (table : List Names) (pc : ℕ)
+    : Type 0 where
   pub head : get_or heads pc None ≡ first_of (around (routine p f).code pc)
   pub name : (s : TypeState) → Reaches (typing p f) pc s → names s.entries ≡ get_or table pc []
 
 -- a place to which one below k leads, or the first
 abbrev pub IsWritten : List Instr → ℕ → ℕ → Type 0
-IsWritten code k pc = (pc ≡ 0) ⊎ ((from : ℕ) × ((from < k) × Among (targets (instr_at code from) ++ next_place from (instr_at code from)) pc))
+IsWritten code k pc =
+    (pc ≡ 0)
+    ⊎ ((from : ℕ)
+    × ((from < k)
+    × Among (targets (instr_at code from) ++ next_place from (instr_at code from)) pc))
 
 -- the tables after the places below k
-pub record IsLaid (p : Program) (f k : ℕ) (heads : List (Option ℕ)) (mates : List ℕ) (table : List Names) : Type 0 where
+pub record IsLaid (p : Program) (f k : ℕ) (heads : List (Option ℕ)) (mates : List ℕ)
+    (table : List Names) : Type 0 where
   pub heads_long : length heads ≡ length (routine p f).code
   pub mates_long : length mates ≡ length (routine p f).code
   pub names_long : length table ≡ length (routine p f).code
-  pub right : (pc : ℕ) → pc < length (routine p f).code → IsWritten (routine p f).code k pc → IsRight p f heads table pc
-  pub mated : (h n : ℕ) → instr_at (routine p f).code h ≡ Times n → (q : ℕ) → match_of (routine p f).code h ≡ Some q → q < k → get_or mates h 0 ≡ q
+  pub right : (pc : ℕ) → pc < length (routine p f).code → IsWritten (routine p f).code k pc
+      → IsRight p f heads table pc
+  pub mated : (h n : ℕ) → instr_at (routine p f).code h ≡ Times n → (q : ℕ)
+      → match_of (routine p f).code h ≡ Some q → q < k → get_or mates h 0 ≡ q
 
 -- the `next` at pc ends the loop of this head
 abbrev pub mates_after : Instr → ℕ → Option ℕ → List ℕ → List ℕ
@@ -74,4 +83,7 @@ IsDeepest lists deepest = ((k : ℕ) → length (get_or lists k []) ≤ deepest)
 
 -- the tables of the whole function
 abbrev pub IsLaidOut : Program → ℕ → Layout → Type 0
-IsLaidOut p f l = IsLaid p f (length (routine p f).code) l.heads.items l.mates.items (listed l.lists.items l.which.items) × AreListed l.lists.items l.which.items × IsDeepest l.lists.items l.deepest
+IsLaidOut p f l =
+    IsLaid p f (length
+    (routine p f).code) l.heads.items l.mates.items (listed l.lists.items l.which.items)
+    × AreListed l.lists.items l.which.items × IsDeepest l.lists.items l.deepest

@@ -14,16 +14,21 @@ use Rattle.sts_budget.specs.Table.{read}
 
 -- the greatest sum of a place
 abbrev pub sum_at : Resource → List Budgets → List Instr → Layout → List (List ℕ) → ℕ → ℕ
-sum_at k earlier code l rows pc = full (skeleton earlier code) (flows_in k earlier code l) (around code) (read rows) pc
+sum_at k earlier code l rows pc =
+    full (skeleton earlier code) (flows_in k earlier code l) (around code) (read rows) pc
 
 -- the bases are those of the loops that open before pc
-pub record HasBases (k : Resource) (earlier : List Budgets) (code : List Instr) (l : Layout) (rows : List (List ℕ)) (pc : ℕ) (bases : List ℕ) : Type 0 where
+pub record HasBases (k : Resource) (earlier : List Budgets) (code : List Instr) (l : Layout)
+    (rows : List (List ℕ)) (pc : ℕ) (bases : List ℕ) : Type 0 where
   pub long : length bases ≡ length code
-  pub right : (h n : ℕ) → h < pc → instr_at code h ≡ Times n → get_or bases h 0 ≡ turn_base (skeleton earlier code) (flows_in k earlier code l) (around code) (read rows) h
+  pub right : (h n : ℕ) → h < pc → instr_at code h ≡ Times n
+      → get_or bases h 0 ≡ turn_base (skeleton earlier code) (flows_in k earlier code l)
+      (around code) (read rows) h
   pub small : (i : ℕ) → get_or bases i 0 < 1125899906842624
 
 -- top is the greatest sum of the places before pc
-pub record IsTop (k : Resource) (earlier : List Budgets) (code : List Instr) (l : Layout) (rows : List (List ℕ)) (pc top : ℕ) : Type 0 where
+pub record IsTop (k : Resource) (earlier : List Budgets) (code : List Instr) (l : Layout)
+    (rows : List (List ℕ)) (pc top : ℕ) : Type 0 where
   pub most : (q : ℕ) → q < pc → sum_at k earlier code l rows q ≤ top
   pub attained : (pc ≡ 0) ⊎ ((q : ℕ) × ((q < pc) × (sum_at k earlier code l rows q ≡ top)))
   pub none_yet : pc ≡ 0 → top ≡ 0

@@ -7,22 +7,28 @@ use Rattle.sts_rules.specs.declared.budget.Budgets.{Budgets}
 use Rattle.sts_rules.specs.ControlPaths.{OpenEntry, Loops, Comes, PathCounts}
 use Rattle.sts_rules.specs.Budget.{skeleton, steps_of, budget_at, tasks_sum, scopes_sum, binds_sum}
 
--- each point of a control path lies on a whole one: with its own steps it counts no more than some whole path
+-- each point of a control path lies on a whole one: with its own steps it counts no more than some
+-- whole path
 abbrev pub PointsLieOnPaths : List Budgets → List Instr → Type 0
 PointsLieOnPaths earlier code =
-    (pc : ℕ) (loops : Loops) (before : ℕ) (es : List OpenEntry) → Comes (skeleton earlier code) pc loops before es
-    → (m : ℕ) × (PathCounts (skeleton earlier code) m × (before + steps_of earlier (instr_at code pc) ≤ m))
+    (pc : ℕ) (loops : Loops) (before : ℕ) (es : List OpenEntry)
+    → Comes (skeleton earlier code) pc loops before es
+    → (m : ℕ)
+    × (PathCounts (skeleton earlier code) m × (before + steps_of earlier (instr_at code pc) ≤ m))
 
 -- no point passes a budget
 abbrev pub PointsAreWithin : List Budgets → List Instr → Budgets → Type 0
 PointsAreWithin earlier code b =
-    (pc : ℕ) (loops : Loops) (before : ℕ) (es : List OpenEntry) → Comes (skeleton earlier code) pc loops before es
-    → (before + steps_of earlier (instr_at code pc) ≤ b.steps) × (tasks_sum earlier es ≤ b.tasks) × (scopes_sum earlier es ≤ b.scopes) × (binds_sum earlier es ≤ b.binds)
+    (pc : ℕ) (loops : Loops) (before : ℕ) (es : List OpenEntry)
+    → Comes (skeleton earlier code) pc loops before es
+    → (before + steps_of earlier (instr_at code pc) ≤ b.steps) × (tasks_sum earlier es ≤ b.tasks)
+    × (scopes_sum earlier es ≤ b.scopes) × (binds_sum earlier es ≤ b.binds)
 
 -- at a fork the budgets of the subtask are part of the forker's, beside what stands there
 abbrev pub ChildrenArePart : List Budgets → List Instr → Budgets → Type 0
 ChildrenArePart earlier code b =
-    (pc : ℕ) (loops : Loops) (before : ℕ) (es : List OpenEntry) → Comes (skeleton earlier code) pc loops before es
+    (pc : ℕ) (loops : Loops) (before : ℕ) (es : List OpenEntry)
+    → Comes (skeleton earlier code) pc loops before es
     → (slot child : ℕ) (handle : Option ℕ) → instr_at code pc ≡ Fork slot child handle
     → (before + 1 + (budget_at earlier child).steps ≤ b.steps)
     × (tasks_sum earlier es + (budget_at earlier child).tasks ≤ b.tasks)

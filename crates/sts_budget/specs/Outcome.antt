@@ -9,13 +9,15 @@ use Rattle.sts_budget.specs.Change.{cause_of, limit_of, IsMost}
 use Rattle.sts_budget.specs.declared.budget.BudgetError.{BudgetError}
 use Rattle.sts_budget.specs.declared.budget.BudgetError.TheVariants.{Memory, TooMuch}
 
--- the budgets, none of which passes its limit; or the least cause by which one does, if there was memory
+-- the budgets, none of which passes its limit; or the least cause by which one does, if there was
+-- memory
 abbrev pub IsFound : List Budgets → List Instr → Result Budgets BudgetError → Type 0
 IsFound earlier code (Ok b) = IsBudget earlier code b × ((c : Cause) → ¬ Exceeds earlier code c)
 IsFound earlier code (Err (TooMuch c)) = IsLeastExcess earlier code c
 IsFound earlier code (Err Memory) = Unit {0}
 
--- the budget of one resource, within its limit; or the cause by which it passes it, if there was memory
+-- the budget of one resource, within its limit; or the cause by which it passes it, if there was
+-- memory
 abbrev pub IsNumber : Resource → List Budgets → List Instr → Result ℕ BudgetError → Type 0
 IsNumber k earlier code (Ok m) = IsMost k earlier code m × (m ≤ limit_of k)
 IsNumber k earlier code (Err (TooMuch c)) = (c ≡ cause_of k) × Exceeds earlier code (cause_of k)

@@ -35,7 +35,8 @@ pub record IsLaidFor (earlier : List Budgets) (code : List Instr) (l : Layout) :
   pub known : KnowsNames code (skeleton earlier code) (around code) (names_in l)
   pub led : (pc : ℕ) → 0 < pc → pc < length code → Led (skeleton earlier code) pc
   pub heads : (pc : ℕ) → pc < length code → get_or l.heads.items pc None ≡ first_of (around code pc)
-  pub mates : (h n : ℕ) → instr_at code h ≡ Times n → get_or l.mates.items h 0 ≡ (skeleton earlier code).mate h
+  pub mates : (h n : ℕ) → instr_at code h ≡ Times n
+      → get_or l.mates.items h 0 ≡ (skeleton earlier code).mate h
   pub heads_long : length l.heads.items ≡ length code
   pub mates_long : length l.mates.items ≡ length code
   pub which_long : length l.which.items ≡ length code

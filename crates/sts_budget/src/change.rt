@@ -29,7 +29,8 @@ pub enum SumChange {
     Adds { position: usize, amount: u64 },
 }
 
-/// The number of entries that the sum over the first `d` looks back on, where `depth` are open before the instruction.
+/// The number of entries that the sum over the first `d` looks back on, where `depth` are open
+/// before the instruction.
 pub(crate) fn source_of(change: SumChange, depth: usize, d: usize) -> usize
     ensures { result ≡ def.source_of change depth d }
 {

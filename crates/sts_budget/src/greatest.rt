@@ -1,6 +1,7 @@
 //! The budget of one resource: the greatest sum of all places, each loop being in its last turn.
 
-ghost use Rattle.std.specs.Prelude.{◌≡◌, ◌<◌, ◌≤◌, ◌+◌, ◌-◌, ◌*◌, ◌^◌, ℕ, IfOk, IfSome, MatchOption, length, replicate, get_or};
+ghost use Rattle.std.specs.Prelude.{◌≡◌, ◌<◌, ◌≤◌, ◌+◌, ◌-◌, ◌*◌, ◌^◌, ℕ, IfOk, IfSome};
+ghost use Rattle.std.specs.Prelude.{MatchOption, length, replicate, get_or};
 ghost use Rattle.sts_code.specs.Program.{instr_at};
 ghost use Rattle.sts_rules.specs.Budget.{Exceeds};
 ghost use Rattle.sts_budget.specs.Change.{own_of, limit_of, cause_of, depth_of as depth, IsMost};
@@ -65,7 +66,8 @@ fn sum_at<const N: usize>(best: &[Row<N>], pc: usize, depth: usize) -> u32
     best[pc][depth]
 }
 
-/// A `times` at `pc` opens a loop, where the greatest sum before it is `full`, and one turn's is `end`.
+/// A `times` at `pc` opens a loop, where the greatest sum before it is `full`, and one turn's is
+/// `end`.
 fn open_loop(bases: &mut Vec<u64>, instr: Instr, pc: usize, own: u32, full: u64, end: u32)
     requires in_code { pc < length bases.old.items }
     requires small { full < 2 ^ 32 }
@@ -130,8 +132,8 @@ fn greatest_by<const N: usize>(alloc: Global, pass: &Pass<'_>) -> Result<Option<
     Ok(Some(own + greatest as u32))
 }
 
-/// The budget of a resource that counts what stands in the open entries, by rows as short as those allow, and by none
-/// where nothing ever opens.
+/// The budget of a resource that counts what stands in the open entries, by rows as short as those
+/// allow, and by none where nothing ever opens.
 fn peak(alloc: Global, pass: &Pass<'_>) -> Result<Option<u32>, AllocError>
     requires ready { IsSet pass.now }
     requires most { pass.now.most ≡ limit_of pass.now.resource - own_of pass.now.resource }

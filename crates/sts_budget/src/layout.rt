@@ -1,12 +1,15 @@
 //! What is open at each place of a function's code.
 
-ghost use Rattle.std.specs.Prelude.{ℕ, List, [], All, IfOk, IfSome, Some, None, get_or, replicate, unwrap_or, vec_len, ◌≡◌, ◌<◌, ◌≤◌, ◌+◌, ◌++◌, length, option_to_list};
+ghost use Rattle.std.specs.Prelude.{ℕ, List, [], All, IfOk, IfSome, Some, None, get_or, replicate};
+ghost use Rattle.std.specs.Prelude.{unwrap_or, vec_len, ◌≡◌, ◌<◌, ◌≤◌, ◌+◌, ◌++◌, length};
+ghost use Rattle.std.specs.Prelude.{option_to_list};
 ghost use Rattle.sts_code.specs.Program.{routine};
 ghost use Rattle.sts_rules.specs.Around as around;
 ghost use Rattle.sts_code.specs.Facts as facts;
 ghost use Rattle.sts_rules.specs.Refusal.{IsWellTyped};
 ghost use Rattle.sts_budget.specs.Layout as def;
-ghost use Rattle.sts_budget.specs.Laid.{Writes, head_after, mates_after, listed, AreListed, IsListAfter, IsDeepest, IsLaidOut};
+ghost use Rattle.sts_budget.specs.Laid.{Writes, head_after, mates_after, listed, AreListed};
+ghost use Rattle.sts_budget.specs.Laid.{IsListAfter, IsDeepest, IsLaidOut};
 
 use arrayvec::ArrayVec;
 use std::alloc::{AllocError, Global};
@@ -18,7 +21,8 @@ use sts_code::program::Program;
 use sts_model::stack::Stack;
 use sts_rules::fill::filled;
 
-/// The names of the open entries at a place, the innermost on top: a scope's slot, or none for a binding.
+/// The names of the open entries at a place, the innermost on top: a scope's slot, or none for a
+/// binding.
 pub type Names = Stack<Option<u8>, 16>;
 
 /// What is open at each place of a function.
@@ -28,7 +32,8 @@ pub struct Layout {
     pub heads: Vec<Option<u32>>,
     /// The `next` that ends the loop of a `times`.
     pub mates: Vec<u32>,
-    /// The lists of names, of which each place has one: a new one for each entry that opens or closes.
+    /// The lists of names, of which each place has one: a new one for each entry that opens or
+    /// closes.
     pub lists: Vec<Names>,
     /// Which of the lists each place has.
     pub which: Vec<usize>,

@@ -1,4 +1,5 @@
-//! The four budgets of a function: the steps of its control paths, and the peaks of what stands at their points.
+//! The four budgets of a function: the steps of its control paths, and the peaks of what stands at
+//! their points.
 #![tactic(auto)]
 
 pub mod budget;

@@ -1,6 +1,7 @@
 //! One forward pass makes the table of greatest sums.
 
-ghost use Rattle.std.specs.Prelude.{◌≡◌, ◌<◌, ◌≤◌, ◌+◌, ◌-◌, ◌*◌, ℕ, ◌++◌, All, IsTrue, IsFalse, IfOk, MatchOption, length, min, replicate, get_or};
+ghost use Rattle.std.specs.Prelude.{◌≡◌, ◌<◌, ◌≤◌, ◌+◌, ◌-◌, ◌*◌, ℕ, ◌++◌, All, IsTrue, IsFalse};
+ghost use Rattle.std.specs.Prelude.{IfOk, MatchOption, length, min, replicate, get_or};
 ghost use Rattle.sts_rules.specs.Around as around;
 ghost use Rattle.sts_code.specs.Facts as facts;
 ghost use Rattle.sts_code.specs.Program.{instr_at};
@@ -10,7 +11,8 @@ ghost use Rattle.sts_budget.specs.Laid.{AreListed};
 ghost use Rattle.sts_budget.specs.Pass.{IsSet, flow, leads, low_at, paths};
 ghost use Rattle.sts_budget.specs.Ready.{IsLaidFor, flows_in, head_in, names_in};
 ghost use Rattle.sts_budget.specs.Row.{IsOver};
-ghost use Rattle.sts_budget.specs.Table.{IsRaisedAt, IsSent, IsStopped, IsSpread, IsPartial, HandsTooMuch, Passes, read};
+ghost use Rattle.sts_budget.specs.Table.{IsRaisedAt, IsSent, IsStopped, IsSpread, IsPartial};
+ghost use Rattle.sts_budget.specs.Table.{HandsTooMuch, Passes, read};
 ghost use Rattle.sts_budget.specs.Handing.{handed_value, is_quiet, turns_of};
 
 use crate::change::{Resource, change_of, depth_of};
@@ -22,8 +24,8 @@ use sts_code::limits::MAX_INSTRUCTIONS;
 use sts_rules::budget::Budgets;
 use sts_rules::fill::filled;
 
-/// What one pass over a function is about: a resource, the budgets of the functions before, the function's code and its
-/// layout, and the most that the sums may come to.
+/// What one pass over a function is about: a resource, the budgets of the functions before, the
+/// function's code and its layout, and the most that the sums may come to.
 #[derive(Clone, Copy)]
 pub(crate) struct Pass<'p> {
     pub(crate) resource: Resource,
@@ -33,8 +35,8 @@ pub(crate) struct Pass<'p> {
     pub(crate) most: u32,
 }
 
-/// Raises the row at a place to the values, as far as entries are open there: false where one of these values passes
-/// the limit.
+/// Raises the row at a place to the values, as far as entries are open there: false where one of
+/// these values passes the limit.
 fn raise_at<const N: usize>(
     best: &mut Vec<Row<N>>,
     to: usize,
@@ -103,7 +105,8 @@ fn send_on<const N: usize>(
     send(best, places.as_slice(), values, pass)
 }
 
-/// Does the instruction hand on nothing: is it the end of a path, or a `times`, behind which sums begin again?
+/// Does the instruction hand on nothing: is it the end of a path, or a `times`, behind which sums
+/// begin again?
 fn is_quiet(instr: Instr) -> bool
     ensures { result ≡ is_quiet instr }
 {

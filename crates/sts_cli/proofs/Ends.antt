@@ -3,7 +3,8 @@ use Rattle.std.proofs.Common.{◌≡◌, ℕ, List, [], Option, None, Some, IfSo
 use Rattle.sts_cli.specs.Joined.{halves_of}
 use Rattle.sts_cli.specs.Output.{Output, IsOutputOf}
 use Rattle.sts_cli.specs.Taking.{Gives, IsTakenOf}
-use Rattle.sts_cli.specs.Ending.{IsOfText, IsOfTextAndTrace, IsOfInput, most_of_a_text, most_of_a_stream, shown, failed}
+use Rattle.sts_cli.specs.Ending.{IsOfText, IsOfTextAndTrace, IsOfInput, most_of_a_text}
+use Rattle.sts_cli.specs.Ending.{most_of_a_stream, shown, failed}
 use Rattle.sts_cli.specs.declared.mode.Mode.{Mode}
 use Rattle.sts_cli.specs.declared.mode.Mode.TheVariants as mode
 use Rattle.sts_cli.specs.declared.taking.TakeError.TheVariants.{Memory}

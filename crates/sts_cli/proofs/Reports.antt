@@ -2,9 +2,11 @@
 use Rattle.std.proofs.Common.{◌≡◌, ℕ, List, Option, Result, Err, MatchResult, subst, refl}
 use Rattle.sts_code.specs.Program.{Program}
 use Rattle.sts_cli.specs.Output.{IsRefused, Output, Writes, file_output}
-use Rattle.sts_cli.specs.Running.{IsOutcomeOf, IsRun, Outcome, RunWrites, Written, alone, no_trace, refused, whole}
+use Rattle.sts_cli.specs.Running.{IsOutcomeOf, IsRun, Outcome, RunWrites, Written, alone, no_trace}
+use Rattle.sts_cli.specs.Running.{refused, whole}
 use Rattle.sts_cli.specs.Taking.{IsTakenOf}
-use Rattle.sts_cli.specs.Ending.{IsOfRun, IsPrinted, most_of_a_text, most_of_a_stream, of_run, shown, without_file}
+use Rattle.sts_cli.specs.Ending.{IsOfRun, IsPrinted, most_of_a_text, most_of_a_stream, of_run}
+use Rattle.sts_cli.specs.Ending.{shown, without_file}
 use Rattle.sts_cli.specs.declared.taking.TakeError.TheVariants.{Read}
 
 -- a program that isn't accepted is refused

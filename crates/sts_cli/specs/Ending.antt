@@ -1,5 +1,6 @@
 -- What the whole program writes, and the status that it ends with (this project's own).
-use Rattle.std.specs.Prelude.{◌≡◌, ◌-◌, ◌^◌, ℕ, List, [], Option, Some, None, Result, Ok, Err, codes}
+use Rattle.std.specs.Prelude.{◌≡◌, ◌-◌, ◌^◌, ℕ, List, [], Option, Some, None, Result, Ok, Err}
+use Rattle.std.specs.Prelude.{codes}
 use Rattle.std.specs.Prelude.{map}
 use Rattle.std.specs.Prelude.{String, Vec}
 use Rattle.std.specs.Borrow.{Bor}
@@ -59,7 +60,8 @@ abbrev pub outside_of : Files → Option (Bor Text) → Option (List ℕ)
 outside_of files None = Some []
 outside_of files (Some path) = files path.now
 
--- what is printed of a run of a text with an outside text, or that memory or the trace's file failed
+-- what is printed of a run of a text with an outside text, or that memory or the trace's file
+-- failed
 pub data IsPrinted (text outside : List ℕ) (o : Output) : Type 0 where
   of_run : (r : Outcome) → IsOutcomeOf text outside r → o ≡ r.output → IsPrinted text outside o
   without_file : (e : TakeError) → o ≡ failure_output e → IsPrinted text outside o

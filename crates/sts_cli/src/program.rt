@@ -121,7 +121,8 @@ fn read_texts<S: Sources>(
 ) -> Result<Texts, TakeError>
     ensures program { IfOk result (λ t. IsTakenOf (S.held sources.now path.now)
         def.most_of_a_text t.program.items) }
-    ensures outside { IfOk result (λ t. IsTakenOf (def.outside_of (S.held sources.now) outside.entry)
+    ensures outside { IfOk result (λ t. IsTakenOf
+        (def.outside_of (S.held sources.now) outside.entry)
         def.most_of_a_stream t.outside.items) }
 {
     let program = file(alloc, sources, path, MOST_OF_A_TEXT)?;
@@ -233,7 +234,8 @@ fn on_line<R: Threads + Wait + Sync, S: Sources + Sinks, W: Write>(
 
 /// Does what a command line asks for, its first word being the program's name, and gives the
 /// status: 0 accepted, listed, root succeeded or help; 1 root failed; 2 usage; 3 a fault of a text;
-/// 4 refused; 5 a fault of the run, or it runs still; 6 memory, a file, a stream or a thread failed.
+/// 4 refused; 5 a fault of the run, or it runs still; 6 memory, a file, a stream or a thread
+/// failed.
 ///
 /// Help and usage faults are told to `err`, all else is written to `out`.
 ///

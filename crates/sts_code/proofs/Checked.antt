@@ -1,5 +1,7 @@
 -- What holds of functions that passed the program checks.
-use Rattle.std.proofs.Common.{◌≡◌, ℕ, zero, suc, ◌<◌, ◌≤◌, List, [], ◌∷◌, ◌++◌, length, take, Bool, true, false, Option, Some, None, ◌||◌, ◌==◌, not, nat_lt, cond, refl, arith, append_assoc, slice_index_or}
+use Rattle.std.proofs.Common.{◌≡◌, ℕ, zero, suc, ◌<◌, ◌≤◌, List, [], ◌∷◌, ◌++◌, length, take, Bool}
+use Rattle.std.proofs.Common.{true, false, Option, Some, None, ◌||◌, ◌==◌, not, nat_lt, cond, refl}
+use Rattle.std.proofs.Common.{arith, append_assoc, slice_index_or}
 use Rattle.std.proofs.lemmas.Grind.{common_steps}
 use Rattle.std.specs.Option.{option_or}
 use Rattle.sts_code.specs.declared.checking.CodeCause.{CodeCause}

@@ -1,5 +1,7 @@
 -- Each function of a program is within the limits, however it was read.
-use Rattle.std.proofs.Common.{◌≡◌, ℕ, zero, suc, ◌<◌, ◌≤◌, List, [], length, take, Bool, true, false, Option, Some, None, ◌||◌, ◌==◌, cond, nat_lt, ◌∙◌, refl, arith, slice_index_or}
+use Rattle.std.proofs.Common.{◌≡◌, ℕ, zero, suc, ◌<◌, ◌≤◌, List, [], length, take, Bool, true}
+use Rattle.std.proofs.Common.{false, Option, Some, None, ◌||◌, ◌==◌, cond, nat_lt, ◌∙◌, refl, arith}
+use Rattle.std.proofs.Common.{slice_index_or}
 use Rattle.std.proofs.lemmas.List.{get_or_default}
 use Rattle.std.specs.Option.{option_or}
 use Rattle.sts_code.specs.declared.checking.CodeCause.{CodeCause}

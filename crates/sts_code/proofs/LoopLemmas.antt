@@ -1,5 +1,7 @@
 -- Where loops end, and how one pass finds it.
-use Rattle.std.proofs.Common.{◌≡◌, ℕ, suc, zero, ◌+◌, ◌-◌, ◌<◌, ◌≤◌, List, [], ◌∷◌, length, drop, count_by, cond, ap, sym, ◌∙◌, Bool, true, false, Option, Some, None, find, arith, refl, slice_range, slice_index_or}
+use Rattle.std.proofs.Common.{◌≡◌, ℕ, suc, zero, ◌+◌, ◌-◌, ◌<◌, ◌≤◌, List, [], ◌∷◌, length, drop}
+use Rattle.std.proofs.Common.{count_by, cond, ap, sym, ◌∙◌, Bool, true, false, Option, Some, None}
+use Rattle.std.proofs.Common.{find, arith, refl, slice_range, slice_index_or}
 use mir.Val.{bool_byte}
 use Rattle.std.specs.List.{range_with_len}
 use Rattle.std.proofs.lemmas.List.{get_or-drop, length-drop}

@@ -1,17 +1,26 @@
--- The checks that a list of functions has to pass to be a program, and the first that fails (this project's own).
-use Rattle.std.specs.Prelude.{ℕ, ◌+◌, ◌-◌, List, [], ◌∷◌, ◌++◌, length, Bool, false, Option, Some, None, ◌&&◌, ◌||◌, ◌==◌, not, nat_le, nat_lt, if◌then◌else◌, option_map, slice_get, codes}
+-- The checks that a list of functions has to pass to be a program, and the first that fails (this
+-- project's own).
+use Rattle.std.specs.Prelude.{ℕ, ◌+◌, ◌-◌, List, [], ◌∷◌, ◌++◌, length, Bool, false, Option, Some}
+use Rattle.std.specs.Prelude.{None, ◌&&◌, ◌||◌, ◌==◌, not, nat_le, nat_lt, if◌then◌else◌}
+use Rattle.std.specs.Prelude.{option_map, slice_get, codes}
 use Rattle.std.specs.List.{list_any}
 use Rattle.std.specs.Option.{option_or}
 use Rattle.std.specs.Str.{bytes_eq}
 use Rattle.sts_code.specs.declared.checking.CodeCause.{CodeCause}
-use Rattle.sts_code.specs.declared.checking.CodeCause.TheVariants.{TooManyFunctions, TooLong, BadTarget, LaterFunction, NoMain, BadRange, DuplicateName}
+use Rattle.sts_code.specs.declared.checking.CodeCause.TheVariants.{TooManyFunctions, TooLong}
+use Rattle.sts_code.specs.declared.checking.CodeCause.TheVariants.{BadTarget, LaterFunction, NoMain}
+use Rattle.sts_code.specs.declared.checking.CodeCause.TheVariants.{BadRange, DuplicateName}
 use Rattle.sts_code.specs.declared.checking.CodeError.{CodeError}
 use Rattle.sts_code.specs.declared.instr.Instr.{Instr}
-use Rattle.sts_code.specs.declared.instr.Instr.TheVariants.{Load, Store, Div, Jmp, Jz, Times, Open, Fork, Join, Close, Cancelled, Case, Get, Except, Tally, Total, Forget, Bind, Read, Bound, OrElse}
+use Rattle.sts_code.specs.declared.instr.Instr.TheVariants.{Load, Store, Div, Jmp, Jz, Times, Open}
+use Rattle.sts_code.specs.declared.instr.Instr.TheVariants.{Fork, Join, Close, Cancelled, Case, Get}
+use Rattle.sts_code.specs.declared.instr.Instr.TheVariants.{Except, Tally, Total, Forget, Bind}
+use Rattle.sts_code.specs.declared.instr.Instr.TheVariants.{Read, Bound, OrElse}
 use Rattle.sts_code.specs.declared.instr.Joiner.{Joiner}
 use Rattle.sts_code.specs.declared.instr.Joiner.TheVariants.{Until}
 use Rattle.sts_code.specs.declared.instr.Pred.TheVariants as pred
-use Rattle.sts_code.specs.declared.limits.TheConstants.{MAX_FUNCTIONS, MAX_INSTRUCTIONS, MAX_ARGS, LAST_SLOT, MAX_TURNS, MAX_ENDS}
+use Rattle.sts_code.specs.declared.limits.TheConstants.{MAX_FUNCTIONS, MAX_INSTRUCTIONS, MAX_ARGS}
+use Rattle.sts_code.specs.declared.limits.TheConstants.{LAST_SLOT, MAX_TURNS, MAX_ENDS}
 use Rattle.sts_code.specs.Facts.{targets}
 use Rattle.sts_code.specs.Name.{is_name}
 use Rattle.sts_code.specs.Program.{Routine}
@@ -82,7 +91,8 @@ fault_at at pc cause = option_map (λ c. record { cause = c; function = at; pc =
 -- the first fault of the instructions from pc on
 abbrev pub code_fault : ℕ → ℕ → ℕ → List Instr → Option CodeError
 code_fault at n pc [] = None
-code_fault at n pc (i ∷ rest) = option_or (fault_at at pc (instr_cause at n i)) (code_fault at n (pc + 1) rest)
+code_fault at n pc (i ∷ rest) =
+    option_or (fault_at at pc (instr_cause at n i)) (code_fault at n (pc + 1) rest)
 
 abbrev pub is_named : List ℕ → Routine → Bool
 is_named name r = bytes_eq r.name name
@@ -97,14 +107,16 @@ routine_cause earlier r =
 -- the first fault of a function, after these
 abbrev pub routine_fault : List Routine → Routine → Option CodeError
 routine_fault earlier r =
-    option_or (fault_at (length earlier) 0 (routine_cause earlier r)) (code_fault (length earlier) (length r.code) 0 r.code)
+    option_or (fault_at (length earlier) 0 (routine_cause earlier r)) (code_fault (length earlier)
+    (length r.code) 0 r.code)
 
 -- ---- the program
 
 -- the first fault of these functions, which come after the earlier ones
 abbrev pub routines_fault : List Routine → List Routine → Option CodeError
 routines_fault earlier [] = None
-routines_fault earlier (r ∷ rest) = option_or (routine_fault earlier r) (routines_fault (earlier ++ r ∷ []) rest)
+routines_fault earlier (r ∷ rest) =
+    option_or (routine_fault earlier r) (routines_fault (earlier ++ r ∷ []) rest)
 
 -- named `main`, with no arguments and no needs?
 abbrev pub is_main : Routine → Bool
@@ -121,7 +133,8 @@ ends_with_main rs = is_main_at (slice_get rs (length rs - 1))
 -- the first check that fails, or none
 abbrev pub program_fault : List Routine → Option CodeError
 program_fault rs =
-    if nat_lt MAX_FUNCTIONS (length rs) then Some (record { cause = TooManyFunctions; function = 0; pc = 0 })
+    if nat_lt MAX_FUNCTIONS (length rs)
+    then Some (record { cause = TooManyFunctions; function = 0; pc = 0 })
     else option_or (routines_fault [] rs)
     (if ends_with_main rs then None else Some (record { cause = NoMain; function = 0; pc = 0 }))
 

@@ -1,9 +1,17 @@
--- Facts of one instruction: what it pops and pushes, the places and slots that it names, and what its joiner tells (this project's own).
-use Rattle.std.specs.Prelude.{ℕ, List, [], ◌∷◌, ◌++◌, Bool, true, false, Option, Some, None, not, option_to_list}
+-- Facts of one instruction: what it pops and pushes, the places and slots that it names, and what
+-- its joiner tells (this project's own).
+use Rattle.std.specs.Prelude.{ℕ, List, [], ◌∷◌, ◌++◌, Bool, true, false, Option, Some, None, not}
+use Rattle.std.specs.Prelude.{option_to_list}
 use Rattle.sts_code.specs.declared.instr.Instr.{Instr}
-use Rattle.sts_code.specs.declared.instr.Instr.TheVariants.{Push, Pop, Dup, Swap, Load, Store, Add, Sub, Mul, Lt, Eq, Div, Jmp, Jz, Times, Open, Fork, Join, Close, Cancelled, Case, Get, Except, Tally, Total, Forget, Bind, Read, Bound, OrElse, Interrupted, Ret, Fail}
+use Rattle.sts_code.specs.declared.instr.Instr.TheVariants.{Push, Pop, Dup, Swap, Load, Store, Add}
+use Rattle.sts_code.specs.declared.instr.Instr.TheVariants.{Sub, Mul, Lt, Eq, Div, Jmp, Jz, Times}
+use Rattle.sts_code.specs.declared.instr.Instr.TheVariants.{Open, Fork, Join, Close, Cancelled}
+use Rattle.sts_code.specs.declared.instr.Instr.TheVariants.{Case, Get, Except, Tally, Total, Forget}
+use Rattle.sts_code.specs.declared.instr.Instr.TheVariants.{Bind, Read, Bound, OrElse, Interrupted}
+use Rattle.sts_code.specs.declared.instr.Instr.TheVariants.{Ret, Fail}
 use Rattle.sts_code.specs.declared.instr.Joiner.{Joiner}
-use Rattle.sts_code.specs.declared.instr.Joiner.TheVariants.{AllSucceed, AnySucceeds, AwaitOk, AwaitAll}
+use Rattle.sts_code.specs.declared.instr.Joiner.TheVariants.{AllSucceed, AnySucceeds, AwaitOk}
+use Rattle.sts_code.specs.declared.instr.Joiner.TheVariants.{AwaitAll}
 use Rattle.sts_code.specs.declared.profile.Profile.{Profile}
 use Rattle.sts_code.specs.declared.profile.Profile.TheVariants.{One, Two}
 use Rattle.sts_code.specs.Program.{Program, routine}
@@ -61,7 +69,8 @@ abbrev pub targets : Instr → List ℕ
 targets (Div to) = to ∷ []
 targets (Jmp to) = to ∷ []
 targets (Jz to) = to ∷ []
-targets (Join s failed timeout interrupted) = option_to_list failed ++ option_to_list timeout ++ interrupted ∷ []
+targets (Join s failed timeout interrupted) =
+    option_to_list failed ++ option_to_list timeout ++ interrupted ∷ []
 targets (Case h success failed) = success ∷ failed ∷ []
 targets _ = []
 

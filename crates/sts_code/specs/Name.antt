@@ -14,4 +14,6 @@ begins_with_digit (b ∷ bs) = is_ascii_digit b
 
 -- 1 to 32 letters, digits and underscores, the first of them no digit?
 abbrev pub is_name : List ℕ → Bool
-is_name bytes = not (length bytes == 0) && nat_le (length bytes) MAX_NAME && list_all is_name_byte bytes && not (begins_with_digit bytes)
+is_name bytes =
+    not (length bytes == 0) && nat_le (length bytes) MAX_NAME && list_all is_name_byte bytes
+    && not (begins_with_digit bytes)

@@ -4,7 +4,8 @@ use Rattle.sts_code.specs.declared.instr.Instr.{Instr}
 use Rattle.sts_code.specs.declared.instr.Instr.TheVariants.{Ret}
 use Rattle.sts_code.specs.declared.profile.Profile.{Profile}
 
--- a function: its name's bytes, how many arguments it takes, which keys it needs, and its instructions
+-- a function: its name's bytes, how many arguments it takes, which keys it needs, and its
+-- instructions
 pub record Routine : Type 0 where
   pub name : List ℕ
   pub args : ℕ

@@ -1,4 +1,5 @@
-//! Facts of one instruction: what it pops and pushes, the places and slots that it names, and what its joiner tells.
+//! Facts of one instruction: what it pops and pushes, the places and slots that it names, and what
+//! its joiner tells.
 
 ghost use Rattle.std.specs.Prelude.{◌≡◌, ◌≤◌, length};
 ghost use Rattle.sts_code.specs.Facts as def;

@@ -1,6 +1,7 @@
 //! The instructions.
 
-/// The condition of the joiner `until`: so many failures, so many successes, or a success of at least this value.
+/// The condition of the joiner `until`: so many failures, so many successes, or a success of at
+/// least this value.
 #[derive(Clone, Copy, Debug, PartialEq, Eq)]
 pub enum Pred {
     Failed(u32),
@@ -20,7 +21,8 @@ pub enum Joiner {
     Until(Pred),
 }
 
-/// The state of a subtask, as `tally` counts it: `S` for success, `F` for failed, `U` for unavailable.
+/// The state of a subtask, as `tally` counts it: `S` for success, `F` for failed, `U` for
+/// unavailable.
 #[derive(Clone, Copy, Debug, PartialEq, Eq)]
 pub enum Kind {
     S,
@@ -30,8 +32,8 @@ pub enum Kind {
 
 /// One instruction.
 ///
-/// A target is the number of an instruction in the same function, a function its index in the program. Slots, locals
-/// and keys are below 16 in a program that passed its checks.
+/// A target is the number of an instruction in the same function, a function its index in the
+/// program. Slots, locals and keys are below 16 in a program that passed its checks.
 #[derive(Clone, Copy, Debug, PartialEq, Eq)]
 pub enum Instr {
     Push(i64),
@@ -64,7 +66,8 @@ pub enum Instr {
         /// The slot that gets the subtask, if one does.
         handle: Option<u8>,
     },
-    /// The targets after a failed outcome, a timeout and an interrupt; after ok it goes to the next instruction.
+    /// The targets after a failed outcome, a timeout and an interrupt; after ok it goes to the next
+    /// instruction.
     Join {
         slot: u8,
         failed: Option<u32>,

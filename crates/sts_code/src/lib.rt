@@ -1,4 +1,5 @@
-//! Instructions of the stack code, facts of each, and programs of them that passed the program checks.
+//! Instructions of the stack code, facts of each, and programs of them that passed the program
+//! checks.
 #![tactic(auto)]
 
 pub mod checking;

@@ -18,7 +18,8 @@ fn is_next(instr: Instr) -> bool
     matches!(instr, Instr::Next)
 }
 
-/// The match of the `times` at `at`, if there is one, found in one pass that counts the `times` and `next` so far.
+/// The match of the `times` at `at`, if there is one, found in one pass that counts the `times` and
+/// `next` so far.
 pub fn match_of(code: &[Instr], at: u32) -> Option<u32>
     requires { length code.now < 2 ^ 32 }
     ensures value { result ≡ def.match_of code.now at }

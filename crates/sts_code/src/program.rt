@@ -26,10 +26,16 @@ impl Model for Function {
 
     ghost Value = { Routine };
 
-    ghost view = { λ f. record { name = string_bytes f.name; args = f.args; needs = f.needs; code = f.code.items } };
+    ghost view = { λ f. record {
+      name = string_bytes f.name;
+      args = f.args;
+      needs = f.needs;
+      code = f.code.items;
+    } };
 }
 
-/// A program that passed the program checks: contracts see it as its profile and the list of its functions.
+/// A program that passed the program checks: contracts see it as its profile and the list of its
+/// functions.
 #[derive(Drop)]
 pub struct Program {
     profile: Profile,
@@ -49,7 +55,8 @@ impl Model for Program {
 }
 
 impl Program {
-    /// A program of profile one, or the first check that the functions fail. A refusal drops the functions.
+    /// A program of profile one, or the first check that the functions fail. A refusal drops the
+    /// functions.
     ///
     /// # Errors
     ///
@@ -62,7 +69,8 @@ impl Program {
         Program::new_in(Profile::One, functions)
     }
 
-    /// A program of this profile, or the first check that the functions fail. A refusal drops the functions.
+    /// A program of this profile, or the first check that the functions fail. A refusal drops the
+    /// functions.
     ///
     /// # Errors
     ///

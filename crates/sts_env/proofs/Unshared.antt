@@ -1,8 +1,10 @@
 -- The front record of a task whose last entry is a binding is in no other environment in use.
-use Rattle.std.proofs.Common.{◌≡◌, ◌≢◌, ℕ, zero, suc, ◌<◌, List, [], ◌∷◌, ◌++◌, Option, Some, None, refl, sym, ◌∙◌, subst, arith, nat_eq, Bool, true, false}
+use Rattle.std.proofs.Common.{◌≡◌, ◌≢◌, ℕ, zero, suc, ◌<◌, List, [], ◌∷◌, ◌++◌, Option, Some, None}
+use Rattle.std.proofs.Common.{refl, sym, ◌∙◌, subst, arith, nat_eq, Bool, true, false}
 use Rattle.std.proofs.lemmas.Bool.Decides.{nat_tests}
 use Rattle.sts_env.specs.Environments.{Records, AreWhole, NotIn, keys, keys_of, record_at}
-use Rattle.sts_env.specs.Sharing.{Sharing, Lives, IsOpen, inherited, IsSharing, IsLastBinding, FrontIsUnshared}
+use Rattle.sts_env.specs.Sharing.{Sharing, Lives, IsOpen, inherited, IsSharing, IsLastBinding}
+use Rattle.sts_env.specs.Sharing.{FrontIsUnshared}
 use Rattle.sts_env.specs.declared.env.Record.{Record}
 use Rattle.sts_env.proofs.Walks.{front_of, keys_cons, longer}
 

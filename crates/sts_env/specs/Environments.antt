@@ -1,7 +1,9 @@
--- Environments of scoped values as chains of records: which binding is innermost, and what stays of those that share records.
--- Restates "Description" of JEP 506: the innermost binding is read, and a subtask inherits those in force when its scope was opened.
--- That environments share records is this project's own.
-use Rattle.std.specs.Prelude.{◌≡◌, ◌≢◌, ℕ, zero, suc, List, [], ◌∷◌, Option, Some, None, slice_index_or}
+-- Environments of scoped values as chains of records: which binding is innermost, and what stays of
+-- those that share records. Restates "Description" of JEP 506: the innermost binding is read, and a
+-- subtask inherits those in force when its scope was opened. That environments share records is
+-- this project's own.
+use Rattle.std.specs.Prelude.{◌≡◌, ◌≢◌, ℕ, zero, suc, List, [], ◌∷◌, Option, Some, None}
+use Rattle.std.specs.Prelude.{slice_index_or}
 use Rattle.sts_env.specs.declared.env.Env.{Env}
 use Rattle.sts_env.specs.declared.env.Record.{Record}
 use Rattle.sts_model.specs.declared.record.Bound.{Bound}
@@ -18,7 +20,9 @@ record_at records k = slice_index_or records.slots k None
 -- so many records stand one behind the other, and each knows how many are behind it
 abbrev pub AreWhole : (ℕ → Option Record) → ℕ → Option ℕ → Type 0
 AreWhole at zero front = front ≡ None
-AreWhole at (suc n) front = (k : ℕ) × (r : Record) × (front ≡ Some k) × (at k ≡ Some r) × (r.rest.length ≡ n) × AreWhole at n r.rest.front
+AreWhole at (suc n) front =
+    (k : ℕ) × (r : Record) × (front ≡ Some k) × (at k ≡ Some r) × (r.rest.length ≡ n)
+    × AreWhole at n r.rest.front
 
 -- the keys of so many records, from the front
 abbrev pub keys : (ℕ → Option Record) → ℕ → Option ℕ → List ℕ
@@ -30,7 +34,8 @@ keys at (suc n) (Some k) = k ∷ elim (at k) [ None ↦ [] | Some r ↦ keys at 
 abbrev pub bindings : (ℕ → Option Record) → ℕ → Option ℕ → List Bound
 bindings at zero front = []
 bindings at (suc n) None = []
-bindings at (suc n) (Some k) = elim (at k) [ None ↦ [] | Some r ↦ r.bound ∷ bindings at n r.rest.front ]
+bindings at (suc n) (Some k) =
+    elim (at k) [ None ↦ [] | Some r ↦ r.bound ∷ bindings at n r.rest.front ]
 
 -- all records of the environment stand
 abbrev pub IsWhole : Records → Env → Type 0
@@ -71,4 +76,5 @@ pub record TakesRecord (old new : Records) (env result : Env) : Type 0 where
 
 -- the other environment stays, unless it holds the front record of the first
 abbrev pub KeepsWithout : (old new : Records) (env other : Env) → Type 0
-KeepsWithout old new env other = (k : ℕ) → env.front ≡ Some k → NotIn k (keys_of old other) → Stays old new other
+KeepsWithout old new env other =
+    (k : ℕ) → env.front ≡ Some k → NotIn k (keys_of old other) → Stays old new other

@@ -1,6 +1,6 @@
 -- Which environments in use hold which records, for tasks and scopes by birth.
--- Restates "Description" of JEP 506: a subtask inherits the bindings of its scope, and binds in front of them.
--- That environments share records is this project's own.
+-- Restates "Description" of JEP 506: a subtask inherits the bindings of its scope, and binds in
+-- front of them. That environments share records is this project's own.
 use Rattle.std.specs.Prelude.{◌≡◌, ◌≢◌, ℕ, ◌<◌, List, [], ◌∷◌, ◌++◌, Option, Some, None, Bool, true}
 use Rattle.sts_env.specs.Environments.{Records, IsWhole, keys_of, NotIn}
 use Rattle.sts_env.specs.declared.env.Env.{Env}
@@ -35,7 +35,8 @@ abbrev pub inherited : Records → Sharing → Option ℕ → List ℕ
 inherited records h None = []
 inherited records h (Some s) = keys_of records (h.kept s)
 
--- environments are built of own bindings in front of what the scope keeps, and no binding is two tasks' own
+-- environments are built of own bindings in front of what the scope keeps, and no binding is two
+-- tasks' own
 pub record IsSharing (records : Records) (h : Sharing) : Type 0 where
   -- the owner of an open scope lives
   pub owners : (s : ℕ) → IsOpen h s → Lives h (h.owner s)
@@ -44,20 +45,26 @@ pub record IsSharing (records : Records) (h : Sharing) : Type 0 where
   -- all records of a living task's environment stand
   pub whole : (t : ℕ) → Lives h t → IsWhole records (h.env t)
   -- a task's environment is made of its own bindings and of what its scope keeps
-  pub tasks : (t : ℕ) → Lives h t → keys_of records (h.env t) ≡ h.own t ++ inherited records h (h.home t)
+  pub tasks : (t : ℕ) → Lives h t
+      → keys_of records (h.env t) ≡ h.own t ++ inherited records h (h.home t)
   -- a scope keeps its owner's environment as it was when the scope was opened
-  pub scopes : (s : ℕ) → IsOpen h s → keys_of records (h.kept s) ≡ h.outside s ++ inherited records h (h.home (h.owner s))
+  pub scopes : (s : ℕ) → IsOpen h s
+      → keys_of records (h.kept s) ≡ h.outside s ++ inherited records h (h.home (h.owner s))
   -- bindings are opened and closed last in, first out
-  pub nested : (s : ℕ) → IsOpen h s → (inside : List ℕ) × (h.own (h.owner s) ≡ inside ++ h.outside s)
+  pub nested : (s : ℕ) → IsOpen h s
+      → (inside : List ℕ) × (h.own (h.owner s) ≡ inside ++ h.outside s)
   -- no record is two tasks' own
-  pub apart : (t u k : ℕ) → Lives h t → Lives h u → t ≢ u → (NotIn k (h.own t) → ⊥) → NotIn k (h.own u)
+  pub apart : (t u k : ℕ) → Lives h t → Lives h u → t ≢ u → (NotIn k (h.own t) → ⊥)
+      → NotIn k (h.own u)
 
--- the last entry of a living task is a binding, whose record is at this key: each scope that the task opened stands outside of it
+-- the last entry of a living task is a binding, whose record is at this key: each scope that the
+-- task opened stands outside of it
 pub record IsLastBinding (h : Sharing) (t k : ℕ) : Type 0 where
   pub lives : Lives h t
   pub rest : List ℕ
   pub own : h.own t ≡ k ∷ rest
-  pub scopes : (s : ℕ) → IsOpen h s → h.owner s ≡ t → (inside : List ℕ) × (rest ≡ inside ++ h.outside s)
+  pub scopes : (s : ℕ) → IsOpen h s → h.owner s ≡ t
+      → (inside : List ℕ) × (rest ≡ inside ++ h.outside s)
 
 -- the record is in front of the task's environment, and no other environment in use holds it
 pub record IsUnshared (records : Records) (h : Sharing) (t k : ℕ) : Type 0 where
@@ -67,4 +74,6 @@ pub record IsUnshared (records : Records) (h : Sharing) (t k : ℕ) : Type 0 whe
 
 -- where a task's last entry is a binding, no other environment in use holds its record
 abbrev pub FrontIsUnshared : Type 0
-FrontIsUnshared = (records : Records) (h : Sharing) (t k : ℕ) → IsSharing records h → IsLastBinding h t k → IsUnshared records h t k
+FrontIsUnshared =
+    (records : Records) (h : Sharing) (t k : ℕ) → IsSharing records h → IsLastBinding h t k
+    → IsUnshared records h t k

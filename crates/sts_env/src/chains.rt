@@ -1,7 +1,8 @@
 //! The records of all environments, and the calls on them.
 
 ghost use Rattle.std.specs.Prelude.{◌≡◌, ◌≢◌, ℕ, ◌+◌, ◌<◌, ◌^◌, [], ◌∷◌, Option, Some, None, IfOk};
-ghost use Rattle.sts_env.specs.Environments.{list_of, IsWhole, record_at, Stays, PutsRecord, TakesRecord, KeepsWithout};
+ghost use Rattle.sts_env.specs.Environments.{list_of, IsWhole, record_at, Stays, PutsRecord};
+ghost use Rattle.sts_env.specs.Environments.{TakesRecord, KeepsWithout};
 ghost use Rattle.sts_env.specs.declared.env.Env.{Env};
 ghost use Rattle.sts_model.specs.Environment as scoped;
 ghost use Rattle.sts_model.specs.declared.record.Bound.{Bound};

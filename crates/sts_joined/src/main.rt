@@ -1,4 +1,5 @@
-//! The program `sts` once more, for the stored run of its joined form: no word, and all on standard input.
+//! The program `sts` once more, for the stored run of its joined form: no word, and all on standard
+//! input.
 #![tactic(auto)]
 
 use std::process::ExitCode;

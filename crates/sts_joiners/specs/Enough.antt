@@ -5,8 +5,8 @@ use Rattle.sts_model.specs.declared.event.End.{End}
 use Rattle.sts_model.specs.Joining.{cancels, result_of}
 use Rattle.sts_model.specs.Told.{told, tell, result_told, cancels_told}
 
--- what is kept of these ends goes on by itself when one more comes, counts them all, and gives the answer of `join` and whether the
--- scope is cancelled
+-- what is kept of these ends goes on by itself when one more comes, counts them all, and gives the
+-- answer of `join` and whether the scope is cancelled
 pub record IsEnough (joiner : Joiner) (ends : List End) (end : End) (subtasks : ℕ) : Type 0 where
   pub more : told joiner (ends ++ end ∷ []) ≡ tell joiner (told joiner ends) end
   pub count : (told joiner ends).successes + (told joiner ends).failures ≡ length ends

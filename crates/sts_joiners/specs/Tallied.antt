@@ -1,4 +1,5 @@
--- What contracts see of a tally: its joiner, and what is kept of the ends that it was told (this project's own).
+-- What contracts see of a tally: its joiner, and what is kept of the ends that it was told (this
+-- project's own).
 use Rattle.std.specs.Prelude.{◌≡◌, ℕ, ◌+◌, List}
 use Rattle.sts_code.specs.declared.instr.Joiner.{Joiner}
 use Rattle.sts_model.specs.declared.event.End.{End}

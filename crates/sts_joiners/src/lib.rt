@@ -10,7 +10,8 @@ pub mod tally;
 
 pub use sts_model::event::Verdict;
 
-/// A law of the definitions: what is kept of the ends goes on by itself, and gives what the whole list gives.
+/// A law of the definitions: what is kept of the ends goes on by itself, and gives what the whole
+/// list gives.
 pub fn what_is_kept_is_enough()
     ensures { (joiner : Joiner) (ends : List End) (end : End) (subtasks : ℕ) →
         IsEnough joiner ends end subtasks }

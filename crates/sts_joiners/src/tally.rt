@@ -14,8 +14,8 @@ use sts_model::event::{End, Verdict};
 
 /// What a joiner has to know of the ends that it was told, in order of completion.
 ///
-/// Contracts see the joiner and what is kept of the ends. A tally that stands for a list of ends answers as the
-/// definitions do over that list.
+/// Contracts see the joiner and what is kept of the ends. A tally that stands for a list of ends
+/// answers as the definitions do over that list.
 #[derive(Drop)]
 pub struct Tally {
     joiner: Joiner,
@@ -125,7 +125,8 @@ impl Tally {
         }
     }
 
-    /// The answer of `join` for a scope of so many subtasks, those included that never ran or weren't told.
+    /// The answer of `join` for a scope of so many subtasks, those included that never ran or
+    /// weren't told.
     pub fn result(&self, subtasks: u32) -> Verdict
         ensures kept { result ≡ result_told self.now.joiner self.now.told subtasks }
         ensures ends { (ends : List AnyEnd) → StandsFor self.now ends →

@@ -1,5 +1,8 @@
 -- Flags: what each effect does to them.
-use Rattle.std.proofs.Common.{◌≡◌, ◌⊎◌, inl, inr, ℕ, zero, suc, ◌<◌, List, [], ◌∷◌, ◌++◌, Bool, true, false, Option, Some, None, refl, sym, ◌∙◌, ap, subst, length, arith, get_or, set, cond, ◌||◌, ◌&&◌, not, unwrap_or, drop, take, replicate, nat_eq, get_or-set_same, get_or-set_other, length-set}
+use Rattle.std.proofs.Common.{◌≡◌, ◌⊎◌, inl, inr, ℕ, zero, suc, ◌<◌, List, [], ◌∷◌, ◌++◌, Bool}
+use Rattle.std.proofs.Common.{true, false, Option, Some, None, refl, sym, ◌∙◌, ap, subst, length}
+use Rattle.std.proofs.Common.{arith, get_or, set, cond, ◌||◌, ◌&&◌, not, unwrap_or, drop, take}
+use Rattle.std.proofs.Common.{replicate, nat_eq, get_or-set_same, get_or-set_other, length-set}
 use Rattle.std.specs.Prelude.{◌==◌, slice_set}
 use Rattle.std.specs.Cmp.Derive.{both_true}
 use Rattle.std.proofs.lemmas.Bool.{cond_both, and_parts}
@@ -7,7 +10,10 @@ use Rattle.std.proofs.lemmas.Bool.Decides.{nat_tests}
 use Rattle.sts_code.specs.Program.{Program, routine}
 use Rattle.sts_code.specs.declared.instr.Instr.{Instr}
 use Rattle.sts_code.specs.declared.instr.Joiner.{Joiner}
-use Rattle.sts_code.specs.declared.instr.Instr.TheVariants.{Open, Fork, Join, Close, Cancelled, Case, Get, Except, Tally, Total, Forget, Bind, Unbind, Read, Bound, OrElse, Interrupted, Ret, Fail}
+use Rattle.sts_code.specs.declared.instr.Instr.TheVariants.{Open, Fork, Join, Close, Cancelled}
+use Rattle.sts_code.specs.declared.instr.Instr.TheVariants.{Case, Get, Except, Tally, Total, Forget}
+use Rattle.sts_code.specs.declared.instr.Instr.TheVariants.{Bind, Unbind, Read, Bound, OrElse}
+use Rattle.sts_code.specs.declared.instr.Instr.TheVariants.{Interrupted, Ret, Fail}
 use Rattle.sts_model.specs.declared.event.Event.{Event}
 use Rattle.sts_model.specs.declared.event.Event.TheVariants as event
 use Rattle.sts_model.specs.declared.event.End.{End}
@@ -20,14 +26,18 @@ use Rattle.sts_model.specs.declared.record.Slot.TheVariants as slots
 use Rattle.sts_model.specs.declared.record.Frame.{Frame}
 use Rattle.sts_model.specs.declared.record.Task.{Task}
 use Rattle.sts_model.specs.declared.record.Scope.{Scope}
-use Rattle.sts_model.specs.World.{World, task_at, scope_at, no_task, no_scope, with_task, with_scope, with_frame, instr_at}
+use Rattle.sts_model.specs.World.{World, task_at, scope_at, no_task, no_scope, with_task}
+use Rattle.sts_model.specs.World.{with_scope, with_frame, instr_at}
 use Rattle.sts_model.specs.Local.{operand, goes, steps, truth}
 use Rattle.sts_model.specs.Joining.{cancels, result_of}
-use Rattle.sts_model.specs.Living.{lives, is_subtask, is_living_subtask, any_lives, ends, subtask_count}
+use Rattle.sts_model.specs.Living.{lives, is_subtask, is_living_subtask, any_lives, ends}
+use Rattle.sts_model.specs.Living.{subtask_count}
 use Rattle.sts_model.specs.Cancelling.{raise, raised, marked, cancel}
 use Rattle.sts_model.specs.Misuse.{slot, can_join, IsFine}
 use Rattle.sts_model.specs.Waiting.{can_step}
-use Rattle.sts_model.specs.Effect.{effect, named, with_phase, open_scope, fork_task, forked, subtask_of, joined, join_verdict, join_scope, closed, cleared, close_scope, told, decide, tell, ended, end_task}
+use Rattle.sts_model.specs.Effect.{effect, named, with_phase, open_scope, fork_task, forked}
+use Rattle.sts_model.specs.Effect.{subtask_of, joined, join_verdict, join_scope, closed, cleared}
+use Rattle.sts_model.specs.Effect.{close_scope, told, decide, tell, ended, end_task}
 use Rattle.sts_model.specs.Outside.{interrupt, can_expire, expire}
 use Rattle.sts_runs.specs.Runs.{Does, LeadsBy, Each}
 use Rattle.sts_runs.proofs.ListLemmas.{at_set, at_more, past, within}
@@ -36,7 +46,8 @@ use Rattle.sts_runs.proofs.SoundLemmas.{Sound}
 use Rattle.sts_runs.proofs.EffectLemmas.{first_no, is_in-some, some-is_in, owned_slot}
 use Rattle.sts_runs.proofs.BirthLemmas.{born_alive, more_tasks, more_scopes, new_scope, opener}
 use Rattle.sts_runs.proofs.EventLemmas.{Right, each}
-use Rattle.sts_laws.specs.Flags.{IsCancelled, is_unfinished, takes_flag, is_taken, Takes, CancelInterrupts, InterruptSetsFlag, FlagsHaveCause, FlagsAreTaken}
+use Rattle.sts_laws.specs.Flags.{IsCancelled, is_unfinished, takes_flag, is_taken, Takes}
+use Rattle.sts_laws.specs.Flags.{CancelInterrupts, InterruptSetsFlag, FlagsHaveCause, FlagsAreTaken}
 
 -- ---- what changes no flag and cancels nothing
 

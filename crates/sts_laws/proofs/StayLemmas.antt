@@ -1,5 +1,6 @@
 -- What no event undoes.
-use Rattle.std.proofs.Common.{◌≡◌, ℕ, ◌+◌, ◌<◌, ◌≤◌, [], ◌∷◌, ◌++◌, Bool, true, false, Some, refl, ◌∙◌, ap, length, arith, cond, fold, ◌&&◌}
+use Rattle.std.proofs.Common.{◌≡◌, ℕ, ◌+◌, ◌<◌, ◌≤◌, [], ◌∷◌, ◌++◌, Bool, true, false, Some, refl}
+use Rattle.std.proofs.Common.{◌∙◌, ap, length, arith, cond, fold, ◌&&◌}
 use Rattle.std.specs.Prelude.{is_some}
 use Rattle.sts_code.specs.Program.{Program}
 use Rattle.sts_model.specs.declared.event.End.{End}
@@ -13,7 +14,9 @@ use Rattle.sts_runs.proofs.ListLemmas.{within}
 use Rattle.sts_runs.proofs.RunLemmas.{after-append, fault-fold, taken_one_more}
 use Rattle.sts_runs.proofs.CompletionLemmas.{completes, keeps_state}
 use Rattle.sts_runs.proofs.EventLemmas.{always}
-use Rattle.sts_laws.specs.Stays.{FaultsStay, StepsAreCounted, NothingIsLost, KeepsBorn, EndsStay, KeepsEnd, ClosedStays, PhasesGoForward, CompletionsGrow, StatesStay, CancelledStartsNothing}
+use Rattle.sts_laws.specs.Stays.{FaultsStay, StepsAreCounted, NothingIsLost, KeepsBorn, EndsStay}
+use Rattle.sts_laws.specs.Stays.{KeepsEnd, ClosedStays, PhasesGoForward, CompletionsGrow}
+use Rattle.sts_laws.specs.Stays.{StatesStay, CancelledStartsNothing}
 
 -- ---- faults and steps
 

@@ -1,5 +1,6 @@
 -- The root ends last, and the living task that was born last never waits.
-use Rattle.std.proofs.Common.{◌≡◌, ℕ, zero, suc, ◌<◌, ◌≤◌, Bool, true, false, Option, Some, None, refl, ap, length, arith, cond, ◌||◌, not, nat_eq}
+use Rattle.std.proofs.Common.{◌≡◌, ℕ, zero, suc, ◌<◌, ◌≤◌, Bool, true, false, Option, Some, None}
+use Rattle.std.proofs.Common.{refl, ap, length, arith, cond, ◌||◌, not, nat_eq}
 use Rattle.std.proofs.lemmas.Bool.Decides.{nat_tests}
 use Rattle.sts_code.specs.Program.{Program}
 use Rattle.sts_code.specs.declared.instr.Instr.{Instr}
@@ -12,7 +13,8 @@ use Rattle.sts_model.specs.declared.record.Slot.TheVariants.{Empty, Own, Lent, S
 use Rattle.sts_model.specs.World.{World, task_at, scope_at, no_task, instr_at}
 use Rattle.sts_model.specs.Living.{lives, any_lives, is_closed}
 use Rattle.sts_model.specs.Misuse.{slot, is_closing, misuse}
-use Rattle.sts_model.specs.Waiting.{stands_at_join, stands_at_close, stand_at_instr, can_go, can_step}
+use Rattle.sts_model.specs.Waiting.{stands_at_join, stands_at_close, stand_at_instr, can_go}
+use Rattle.sts_model.specs.Waiting.{can_step}
 use Rattle.sts_laws.specs.States.{IsLast, GoesOn, RootEndsLast, SomeTaskSteps}
 use Rattle.sts_runs.proofs.ListLemmas.{past}
 use Rattle.std.specs.Cmp.Derive.{both_true}

@@ -1,9 +1,13 @@
 //! Laws over all event lists of every program.
 #![tactic(auto)]
 
-ghost use Rattle.sts_laws.specs.Stays.{FaultsStay, StepsAreCounted, NothingIsLost, EndsStay, ClosedStays, PhasesGoForward, CompletionsGrow, StatesStay, CancelledStartsNothing};
-ghost use Rattle.sts_laws.specs.Flags.{CancelInterrupts, InterruptSetsFlag, FlagsHaveCause, FlagsAreTaken};
-ghost use Rattle.sts_laws.specs.States.{CompletionsAreEnds, ClosedIsEmpty, RootEndsLast, SomeTaskSteps, OwnersHold};
+ghost use Rattle.sts_laws.specs.Stays.{FaultsStay, StepsAreCounted, NothingIsLost, EndsStay};
+ghost use Rattle.sts_laws.specs.Stays.{ClosedStays, PhasesGoForward, CompletionsGrow, StatesStay};
+ghost use Rattle.sts_laws.specs.Stays.{CancelledStartsNothing};
+ghost use Rattle.sts_laws.specs.Flags.{CancelInterrupts, InterruptSetsFlag, FlagsHaveCause};
+ghost use Rattle.sts_laws.specs.Flags.{FlagsAreTaken};
+ghost use Rattle.sts_laws.specs.States.{CompletionsAreEnds, ClosedIsEmpty, RootEndsLast};
+ghost use Rattle.sts_laws.specs.States.{SomeTaskSteps, OwnersHold};
 
 /// A fault stays.
 #[tactic(auto, using(crate::proofs::StayLemmas::faults_stay))]
@@ -29,7 +33,8 @@ pub fn closed_stays()
     ensures { ClosedStays }
 {}
 
-/// A scope never goes back to an earlier phase, and where `join` had an outcome or the close has begun it doesn't expire any more.
+/// A scope never goes back to an earlier phase, and where `join` had an outcome or the close has
+/// begun it doesn't expire any more.
 #[tactic(auto, using(crate::proofs::StayLemmas::phases_go_forward))]
 pub fn phases_go_forward()
     ensures { PhasesGoForward }
@@ -41,8 +46,8 @@ pub fn completions_grow()
     ensures { CompletionsGrow }
 {}
 
-/// The completions of a scope are those of subtasks that have ended, each once with its end; while the scope isn't cancelled, of all of
-/// them.
+/// The completions of a scope are those of subtasks that have ended, each once with its end; while
+/// the scope isn't cancelled, of all of them.
 pub fn completions_are_ends()
     ensures { CompletionsAreEnds }
 {}
@@ -100,7 +105,8 @@ pub fn flags_have_cause()
     ensures { FlagsHaveCause }
 {}
 
-/// A flag is cleared by a step of the task itself alone: by `interrupted`, or by a `join` that ends as interrupted.
+/// A flag is cleared by a step of the task itself alone: by `interrupted`, or by a `join` that ends
+/// as interrupted.
 pub fn flags_are_taken()
     ensures { FlagsAreTaken }
 {}

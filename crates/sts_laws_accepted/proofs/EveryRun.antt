@@ -10,7 +10,8 @@ use Rattle.sts_rules.specs.Refusal.{IsAccepted, IsBudgetOf}
 use Rattle.sts_model.specs.Run.{after, taken}
 use Rattle.sts_laws.specs.States.{ClosedIsEmpty, RootEndsLast, GoesOn, SomeTaskSteps}
 use Rattle.sts_runs.specs.Runs.{In, NeverFaults}
-use Rattle.sts_laws_costs.specs.Costs.{main_budget, StepsAreWithin, AStepIsLeft, LeavesAStep, TasksAreWithin, ScopesAreWithin, BindsAreWithin}
+use Rattle.sts_laws_costs.specs.Costs.{main_budget, StepsAreWithin, AStepIsLeft, LeavesAStep}
+use Rattle.sts_laws_costs.specs.Costs.{TasksAreWithin, ScopesAreWithin, BindsAreWithin}
 use Rattle.sts_laws_accepted.specs.Accepted as accepted
 use Rattle.sts_laws_accepted.specs.Accepted.{main_of, AllFine, LivingTasksAreFine, HasStepsLeft}
 use Rattle.sts_laws_accepted.specs.EveryRun.{RunsWell, ClosedAreEmpty, RootIsLast}

@@ -1,5 +1,5 @@
--- There is room for each task and scope that a run of an accepted program makes, so its living tasks
--- misuse nothing.
+-- There is room for each task and scope that a run of an accepted program makes, so its living
+-- tasks misuse nothing.
 use Rattle.std.proofs.Common.{◌≡◌, ℕ, true, false, Option, Some, None, refl, length}
 use Rattle.sts_code.specs.Checks.{program_fault}
 use Rattle.sts_code.specs.Program.{Program}

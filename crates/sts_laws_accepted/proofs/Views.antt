@@ -1,5 +1,6 @@
 -- What stands in a view stands in the world that it is seen of, so the laws of costs speak of it.
-use Rattle.std.proofs.Common.{◌≡◌, ℕ, zero, suc, ◌<◌, ◌≤◌, List, [], ◌∷◌, Bool, true, false, Some, None, refl, sym, ◌∙◌, ap, subst, length, arith, get_or, cond}
+use Rattle.std.proofs.Common.{◌≡◌, ℕ, zero, suc, ◌<◌, ◌≤◌, List, [], ◌∷◌, Bool, true, false, Some}
+use Rattle.std.proofs.Common.{None, refl, sym, ◌∙◌, ap, subst, length, arith, get_or, cond}
 use Rattle.std.specs.Prelude.{filter_map, count_by, sum_by}
 use Rattle.std.proofs.lemmas.List.Sums.{sum_by-cons}
 use Rattle.sts_code.specs.Program.{Program}
@@ -28,7 +29,10 @@ use Rattle.sts_seen.proofs.Laws.{facts-after}
 use Rattle.sts_laws_costs.specs.Costs.{HasRoomFor, HasRoom}
 use Rattle.sts_laws_costs.specs.Points.{NoneIdlesWithEntries}
 use Rattle.sts_laws_accepted.specs.Accepted.{RoomIsLeft, WithMain}
-use Rattle.sts_laws_accepted.specs.Views.{live_tasks, live_scopes, open_bindings, bindings_in, live_bindings, BindingsAreSeen, ViewsWithMain, ViewsAreWithin, LiveHasRoomFor, LiveHasRoom, ViewsHaveRoom}
+use Rattle.sts_laws_accepted.specs.Views.{live_tasks, live_scopes, open_bindings, bindings_in}
+use Rattle.sts_laws_accepted.specs.Views.{live_bindings, BindingsAreSeen, ViewsWithMain}
+use Rattle.sts_laws_accepted.specs.Views.{ViewsAreWithin, LiveHasRoomFor, LiveHasRoom}
+use Rattle.sts_laws_accepted.specs.Views.{ViewsHaveRoom}
 use Rattle.sts_laws_accepted.proofs.Faults.{holds-in}
 
 -- ---- bindings

@@ -1,6 +1,7 @@
--- What stands in the live views of an accepted program, and the room that is left for more, in words
--- of the view alone (this project's own).
-use Rattle.std.specs.Prelude.{◌≡◌, ℕ, ◌<◌, ◌≤◌, List, true, Option, Some, None, is_some, count_by, sum_by}
+-- What stands in the live views of an accepted program, and the room that is left for more, in
+-- words of the view alone (this project's own).
+use Rattle.std.specs.Prelude.{◌≡◌, ℕ, ◌<◌, ◌≤◌, List, true, Option, Some, None, is_some, count_by}
+use Rattle.std.specs.Prelude.{sum_by}
 use Rattle.sts_code.specs.Program.{Program}
 use Rattle.sts_code.specs.declared.instr.Instr.{Instr}
 use Rattle.sts_code.specs.declared.instr.Instr.TheVariants.{Open, Fork, Bind}
@@ -62,8 +63,8 @@ pub record IsWithin (b : Budgets) (v : Live) : Type 0 where
 abbrev pub ViewsAreWithin : Program → Type 0
 ViewsAreWithin p = ViewsWithMain p IsWithin
 
--- less stands than the budgets where this instruction of a frame opens, binds or forks in a scope of
--- its own
+-- less stands than the budgets where this instruction of a frame opens, binds or forks in a scope
+-- of its own
 abbrev pub LiveHasRoomFor : Budgets → Live → Frame → Instr → Type 0
 LiveHasRoomFor b v f (Open x joiner timed) = live_scopes v < b.scopes
 LiveHasRoomFor b v f (Bind key) = live_bindings v < b.binds

@@ -4,7 +4,8 @@
 ghost use Rattle.std.specs.Prelude.{◌≡◌, ◌<◌, List, None, length};
 ghost use Rattle.sts_code.specs.Checks.{program_fault};
 ghost use Rattle.sts_runs.specs.Runs.{NeverFaults};
-ghost use Rattle.sts_laws_accepted.specs.Accepted.{main_of, BudgetsArePrinted, LivingTasksAreFine, AStepIsLeft, RoomIsLeft, LimitsHold};
+ghost use Rattle.sts_laws_accepted.specs.Accepted.{main_of, BudgetsArePrinted, LivingTasksAreFine};
+ghost use Rattle.sts_laws_accepted.specs.Accepted.{AStepIsLeft, RoomIsLeft, LimitsHold};
 ghost use Rattle.sts_laws_accepted.specs.EveryRun.{RunsWell};
 ghost use Rattle.sts_laws_accepted.specs.Views.{BindingsAreSeen, ViewsAreWithin, ViewsHaveRoom};
 ghost use Rattle.sts_rules.specs.Refusal.{IsAccepted, IsBudgetOf};
@@ -99,8 +100,8 @@ pub fn limits_hold(verified: &Verified)
     accepted_is_modest();
 }
 
-/// What stands at a list of events, a view and a number of steps, stands after one event more at the
-/// longer list; and it is seen in the view whether the event counts.
+/// What stands at a list of events, a view and a number of steps, stands after one event more at
+/// the longer list; and it is seen in the view whether the event counts.
 pub fn turns_are_seen(verified: &Verified)
     ensures { TurnsAreSeen verified.now }
 {
@@ -132,8 +133,8 @@ pub fn ready_stays(verified: &Verified)
     sts_views::ready_stays();
 }
 
-/// An event moves no task but the one whose step it is: who lives goes on living, and stands where it
-/// stood.
+/// An event moves no task but the one whose step it is: who lives goes on living, and stands where
+/// it stood.
 pub fn stands_stay(verified: &Verified)
     ensures { StandsStay verified.now }
 {
@@ -141,8 +142,8 @@ pub fn stands_stay(verified: &Verified)
     sts_views::stands_stay();
 }
 
-/// As many bindings are open in the living tasks of a view as stand: a record for each of them is all
-/// that a machine keeps of bindings.
+/// As many bindings are open in the living tasks of a view as stand: a record for each of them is
+/// all that a machine keeps of bindings.
 pub fn bindings_are_seen(verified: &Verified)
     ensures { BindingsAreSeen verified.now }
 {
@@ -162,8 +163,8 @@ pub fn views_are_within(verified: &Verified)
     sts_laws_costs::binds_are_within();
 }
 
-/// Where the next instruction of a living task opens a scope, binds or forks, less stands in the view
-/// than the budgets of `main`: so records that were made by the budget are never all in use.
+/// Where the next instruction of a living task opens a scope, binds or forks, less stands in the
+/// view than the budgets of `main`: so records that were made by the budget are never all in use.
 pub fn views_have_room(verified: &Verified)
     ensures { ViewsHaveRoom verified.now }
 {

@@ -1,5 +1,8 @@
--- What stands and the room that is left add up to what the root was given: in each state, from who owns what.
-use Rattle.std.proofs.Common.{◌≡◌, ℕ, zero, suc, ◌+◌, ◌-◌, ◌<◌, ◌≤◌, List, [], ◌∷◌, Bool, true, false, Option, Some, None, refl, sym, ◌∙◌, length, arith, get_or, cond, not, ◌||◌, is_none}
+-- What stands and the room that is left add up to what the root was given: in each state, from who
+-- owns what.
+use Rattle.std.proofs.Common.{◌≡◌, ℕ, zero, suc, ◌+◌, ◌-◌, ◌<◌, ◌≤◌, List, [], ◌∷◌, Bool, true}
+use Rattle.std.proofs.Common.{false, Option, Some, None, refl, sym, ◌∙◌, length, arith, get_or}
+use Rattle.std.proofs.Common.{cond, not, ◌||◌, is_none}
 use Rattle.std.specs.Prelude.{sum_by, filter_map, ◌==◌}
 use Rattle.std.specs.List.{list_any}
 use Rattle.std.proofs.lemmas.Bool.Decides.{nat_tests}
@@ -14,13 +17,17 @@ use Rattle.sts_model.specs.World.{World, task_at, scope_at, no_task, no_scope}
 use Rattle.sts_model.specs.Living.{lives, is_closed, is_subtask}
 use Rattle.sts_model.specs.Misuse.{is_entry_of}
 use Rattle.sts_model.specs.Environment.{bound_of}
-use Rattle.sts_model.specs.Standing.{is_standing_scope, is_standing_task, standing_tasks, standing_scopes, standing_bindings}
+use Rattle.sts_model.specs.Standing.{is_standing_scope, is_standing_task, standing_tasks}
+use Rattle.sts_model.specs.Standing.{standing_scopes, standing_bindings}
 use Rattle.sts_runs.proofs.SoundLemmas.{Sound}
 use Rattle.sts_runs.proofs.BirthLemmas.{born_alive}
 use Rattle.sts_laws_scopes.proofs.EntryLemmas.{Has, times_in, times-cons}
 use Rattle.sts_laws_scopes.proofs.EnteredLemmas.{Entered}
-use Rattle.sts_laws_costs.specs.Costs.{Peak, tasks_peak, scopes_peak, binds_peak, share, subtask_shares, entry_use, use_of, slack, room}
-use Rattle.sts_laws_costs.proofs.Sums.{upto, upto-same, upto-none, upto-only, sum-same, sum-none, sum-only, sum-add, sum-upto, sum-times, sum-once, sum-places, sum-cond}
+use Rattle.sts_laws_costs.specs.Costs.{Peak, tasks_peak, scopes_peak, binds_peak, share}
+use Rattle.sts_laws_costs.specs.Costs.{subtask_shares, entry_use, use_of, slack, room}
+use Rattle.sts_laws_costs.proofs.Sums.{upto, upto-same, upto-none, upto-only, sum-same, sum-none}
+use Rattle.sts_laws_costs.proofs.Sums.{sum-only, sum-add, sum-upto, sum-times, sum-once, sum-places}
+use Rattle.sts_laws_costs.proofs.Sums.{sum-cond}
 
 -- ---- how often a scope stands in a list
 

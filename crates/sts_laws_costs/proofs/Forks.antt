@@ -1,5 +1,9 @@
--- A fork: one task more, at the beginning of a control path, and the forker at the next point of its own.
-use Rattle.std.proofs.Common.{◌≡◌, ℕ, ◌+◌, ◌-◌, ◌<◌, ◌≤◌, inl, List, [], ◌∷◌, ◌++◌, Bool, true, false, Option, Some, None, refl, sym, ◌∙◌, ap, subst, length, arith, cond, get_or, set, take, nat_eq, nat_lt, length-set, length-append, get_or-set_same, get_or-set_other}
+-- A fork: one task more, at the beginning of a control path, and the forker at the next point of
+-- its own.
+use Rattle.std.proofs.Common.{◌≡◌, ℕ, ◌+◌, ◌-◌, ◌<◌, ◌≤◌, inl, List, [], ◌∷◌, ◌++◌, Bool, true}
+use Rattle.std.proofs.Common.{false, Option, Some, None, refl, sym, ◌∙◌, ap, subst, length, arith}
+use Rattle.std.proofs.Common.{cond, get_or, set, take, nat_eq, nat_lt, length-set, length-append}
+use Rattle.std.proofs.Common.{get_or-set_same, get_or-set_other}
 use Rattle.std.specs.Prelude.{◌==◌, reverse}
 use Rattle.std.proofs.lemmas.Bool.Decides.{nat_tests}
 use Rattle.std.proofs.lemmas.List.{get_or_append_left, get_or-take}
@@ -12,7 +16,8 @@ use Rattle.sts_model.specs.declared.record.Slot.{Slot}
 use Rattle.sts_model.specs.declared.record.Slot.TheVariants as slots
 use Rattle.sts_model.specs.declared.record.Frame.{Frame}
 use Rattle.sts_model.specs.declared.record.Task.{Task}
-use Rattle.sts_model.specs.World.{World, task_at, scope_at, no_task, code, with_task, with_frame, entry_frame}
+use Rattle.sts_model.specs.World.{World, task_at, scope_at, no_task, code, with_task, with_frame}
+use Rattle.sts_model.specs.World.{entry_frame}
 use Rattle.sts_model.specs.World as world
 use Rattle.sts_model.specs.Living.{lives}
 use Rattle.sts_model.specs.Misuse.{slot, is_empty}
@@ -151,7 +156,8 @@ module _ (Typed : Type 0) (p : Program) (budgets : List Budgets) (w : World) (n 
 
   -- ---- steps
 
-  -- the steps left to each task: the subtask's are its function's, and the forker's fewer by those and one
+  -- the steps left to each task: the subtask's are its function's, and the forker's fewer by those
+  -- and one
   abbrev left_v : List ℕ
   left_v = set o.left t (get_or o.left t 0 - (1 + (budget_at budgets g).steps)) ++ (budget_at budgets g).steps ∷ []
 

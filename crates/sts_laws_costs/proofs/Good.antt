@@ -1,6 +1,8 @@
--- What holds in every state of a run of a program with budgets: each living task is at a point of a control path, and what is left of its
--- steps, all together, is left of the root's.
-use Rattle.std.proofs.Common.{◌≡◌, ℕ, ◌+◌, ◌-◌, ◌<◌, ◌≤◌, List, [], true, false, None, sym, ◌∙◌, ap, subst, length, arith, get_or, set, take, length-set, get_or-set_same, get_or-set_other}
+-- What holds in every state of a run of a program with budgets: each living task is at a point of a
+-- control path, and what is left of its steps, all together, is left of the root's.
+use Rattle.std.proofs.Common.{◌≡◌, ℕ, ◌+◌, ◌-◌, ◌<◌, ◌≤◌, List, [], true, false, None, sym, ◌∙◌, ap}
+use Rattle.std.proofs.Common.{subst, length, arith, get_or, set, take, length-set, get_or-set_same}
+use Rattle.std.proofs.Common.{get_or-set_other}
 use Rattle.std.specs.Prelude.{sum_by}
 use Rattle.std.proofs.lemmas.List.Sums.{sum_by-set}
 use Rattle.sts_code.specs.Program.{Program, routine, instr_at}
@@ -27,8 +29,8 @@ use Rattle.sts_laws_costs.proofs.Flow.{GoesOn}
 use Rattle.sts_laws_costs.proofs.Points.{zips_map}
 use Rattle.sts_laws_costs.proofs.Turns.{Alike, Turned, like-lives, lent-same, each-task}
 
--- a program that passed its checks, and budgets that no point of a control path of its functions passes; steps are bounded where it is
--- well typed, since only then each point lies on a whole path
+-- a program that passed its checks, and budgets that no point of a control path of its functions
+-- passes; steps are bounded where it is well typed, since only then each point lies on a whole path
 pub record IsCosted (Typed : Type 0) (p : Program) (budgets : List Budgets) : Type 0 where
   pub checked : program_fault p.routines ≡ None
   pub within : Typed → (f : ℕ) → f < length p.routines → PointsAreWithin (take f budgets) (routine p f).code (budget_at budgets f)

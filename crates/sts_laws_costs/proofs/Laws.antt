@@ -1,5 +1,6 @@
 -- The laws of costs.
-use Rattle.std.proofs.Common.{◌≡◌, ℕ, ◌+◌, ◌-◌, ◌<◌, ◌≤◌, inl, List, [], ◌∷◌, Bool, true, false, Some, refl, ◌∙◌, ap, length, arith, take, get_or}
+use Rattle.std.proofs.Common.{◌≡◌, ℕ, ◌+◌, ◌-◌, ◌<◌, ◌≤◌, inl, List, [], ◌∷◌, Bool, true, false}
+use Rattle.std.proofs.Common.{Some, refl, ◌∙◌, ap, length, arith, take, get_or}
 use Rattle.std.specs.Prelude.{sum_by}
 use Rattle.std.proofs.lemmas.List.{get_or-take}
 use Rattle.std.proofs.lemmas.List.Sums.{sum_by-cons, get_or-le-sum_by}
@@ -15,8 +16,10 @@ use Rattle.sts_model.specs.Living.{lives}
 use Rattle.sts_model.specs.Misuse.{slot}
 use Rattle.sts_model.specs.Standing.{is_standing_task}
 use Rattle.sts_model.specs.Waiting.{stand_at}
-use Rattle.sts_rules.specs.ControlPaths.{GoesTo, OpenEntry, OpenScope, OpenBinding, Loops, Comes, start, step}
-use Rattle.sts_rules.specs.Budget.{shape_of, skeleton, budget_at, no_budget, entry_sum, entries_sum, entries_of, steps_of, tasks_sum, scopes_sum, binds_sum}
+use Rattle.sts_rules.specs.ControlPaths.{GoesTo, OpenEntry, OpenScope, OpenBinding, Loops, Comes}
+use Rattle.sts_rules.specs.ControlPaths.{start, step}
+use Rattle.sts_rules.specs.Budget.{shape_of, skeleton, budget_at, no_budget, entry_sum, entries_sum}
+use Rattle.sts_rules.specs.Budget.{entries_of, steps_of, tasks_sum, scopes_sum, binds_sum}
 use Rattle.sts_model.specs.Run.{after, taken}
 use Rattle.sts_runs.specs.Runs.{In}
 use Rattle.sts_runs.proofs.BirthLemmas.{born_alive}
@@ -24,9 +27,16 @@ use Rattle.sts_runs.proofs.EventLemmas.{Also}
 use Rattle.sts_laws_typed.proofs.TimelyLemmas.{Timely, timely-after}
 use Rattle.sts_budget.proofs.PathLaws.{are_within}
 use Rattle.sts_budget.proofs.Checked.{is_checked}
-use Rattle.sts_laws_costs.specs.Points.{TasksFollowPaths, IdleHaveNoEntries, LoopsHaveTurns, HasTurns, Point, loops_of}
-use Rattle.sts_laws_costs.specs.Costs.{HasBudgets, Costs, AreTyped, TypedCosts, main_budget, StepsAreWithin, LeavesSteps, StepsAreLeft, LeavesAStep, AStepIsLeft, steps_begun, TasksAreWithin, ScopesAreWithin, BindsAreWithin, Peak, tasks_peak, scopes_peak, binds_peak, share, use_of, entry_use, slack, room, RoomAddsUp, RoomIsSlack, HasRoomFor, HasRoom, RoomIsLeft}
-use Rattle.sts_laws_costs.proofs.Balance.{Thrifty, not_standing, balance_tasks, balance_scopes, balance_binds}
+use Rattle.sts_laws_costs.specs.Points.{TasksFollowPaths, IdleHaveNoEntries, LoopsHaveTurns}
+use Rattle.sts_laws_costs.specs.Points.{HasTurns, Point, loops_of}
+use Rattle.sts_laws_costs.specs.Costs.{HasBudgets, Costs, AreTyped, TypedCosts, main_budget}
+use Rattle.sts_laws_costs.specs.Costs.{StepsAreWithin, LeavesSteps, StepsAreLeft, LeavesAStep}
+use Rattle.sts_laws_costs.specs.Costs.{AStepIsLeft, steps_begun, TasksAreWithin, ScopesAreWithin}
+use Rattle.sts_laws_costs.specs.Costs.{BindsAreWithin, Peak, tasks_peak, scopes_peak, binds_peak}
+use Rattle.sts_laws_costs.specs.Costs.{share, use_of, entry_use, slack, room, RoomAddsUp}
+use Rattle.sts_laws_costs.specs.Costs.{RoomIsSlack, HasRoomFor, HasRoom, RoomIsLeft}
+use Rattle.sts_laws_costs.proofs.Balance.{Thrifty, not_standing, balance_tasks, balance_scopes}
+use Rattle.sts_laws_costs.proofs.Balance.{balance_binds}
 use Rattle.sts_laws_costs.proofs.Flow.{Positive, positive, goes_to}
 use Rattle.sts_laws_costs.proofs.Points.{measure_of, zips_use, sum_forked}
 use Rattle.sts_laws_costs.proofs.Turns.{waits-few}
@@ -43,7 +53,8 @@ PeaksAreWithin earlier code b =
 pub record IsPeaked (p : Program) (budgets : List Budgets) : Type 0 where
   pub peaks : (f : ℕ) → f < length p.routines → PeaksAreWithin (take f budgets) (routine p f).code (budget_at budgets f)
 
--- the budgets of a program bound all points of its paths, and the steps of those where it is well typed
+-- the budgets of a program bound all points of its paths, and the steps of those where it is well
+-- typed
 pub costed : (p : Program) (budgets : List Budgets) → HasBudgets p budgets → IsCosted (AreTyped p) p budgets
 costed p budgets h =
     record {

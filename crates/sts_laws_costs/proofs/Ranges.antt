@@ -1,11 +1,13 @@
 -- What the program checks say of the slot of an `open`.
-use Rattle.std.proofs.Common.{◌≡◌, ℕ, zero, suc, ◌+◌, ◌<◌, List, [], ◌∷◌, length, take, Bool, true, false, Option, Some, None, cond, ◌||◌, refl, sym, ap, ◌∙◌, arith}
+use Rattle.std.proofs.Common.{◌≡◌, ℕ, zero, suc, ◌+◌, ◌<◌, List, [], ◌∷◌, length, take, Bool, true}
+use Rattle.std.proofs.Common.{false, Option, Some, None, cond, ◌||◌, refl, sym, ap, ◌∙◌, arith}
 use Rattle.std.specs.Option.{option_or}
 use Rattle.std.proofs.lemmas.Bool.{ltb-false}
 use Rattle.sts_code.specs.Checks as def
 use Rattle.sts_code.specs.Program.{Program, Routine, routine, instr_at}
 use Rattle.sts_code.specs.declared.checking.CodeCause.{CodeCause}
-use Rattle.sts_code.specs.declared.checking.CodeCause.TheVariants.{BadTarget, LaterFunction, BadRange}
+use Rattle.sts_code.specs.declared.checking.CodeCause.TheVariants.{BadTarget, LaterFunction}
+use Rattle.sts_code.specs.declared.checking.CodeCause.TheVariants.{BadRange}
 use Rattle.sts_code.specs.declared.instr.Instr.{Instr}
 use Rattle.sts_code.specs.declared.instr.Instr.TheVariants.{Open, Ret}
 use Rattle.sts_code.specs.declared.instr.Joiner.{Joiner}

@@ -1,5 +1,7 @@
 -- Costs over whole runs.
-use Rattle.std.proofs.Common.{◌≡◌, ℕ, zero, suc, ◌+◌, ◌-◌, ◌<◌, List, [], ◌∷◌, ◌++◌, Bool, true, false, Option, Some, None, refl, sym, subst, length, arith, cond, ◌&&◌, append_assoc}
+use Rattle.std.proofs.Common.{◌≡◌, ℕ, zero, suc, ◌+◌, ◌-◌, ◌<◌, List, [], ◌∷◌, ◌++◌, Bool, true}
+use Rattle.std.proofs.Common.{false, Option, Some, None, refl, sym, subst, length, arith, cond}
+use Rattle.std.proofs.Common.{◌&&◌, append_assoc}
 use Rattle.std.specs.Prelude.{slice_index_or}
 use Rattle.std.proofs.lemmas.List.{append-nil}
 use Rattle.std.proofs.lemmas.Bool.{cond_both, and_parts}
@@ -10,7 +12,8 @@ use Rattle.sts_model.specs.declared.event.Event.{Event}
 use Rattle.sts_model.specs.declared.event.Event.TheVariants as event
 use Rattle.sts_model.specs.declared.event.Fault.{Fault}
 use Rattle.sts_model.specs.declared.record.Slot.TheVariants as slots
-use Rattle.sts_model.specs.World.{World, State, Running, Faulted, task_at, scope_at, no_task, instr_at, with_task, with_scope}
+use Rattle.sts_model.specs.World.{World, State, Running, Faulted, task_at, scope_at, no_task}
+use Rattle.sts_model.specs.World.{instr_at, with_task, with_scope}
 use Rattle.sts_model.specs.Living.{lives}
 use Rattle.sts_model.specs.Misuse.{misuse}
 use Rattle.sts_model.proofs.Fine.{fine}
@@ -30,7 +33,8 @@ use Rattle.sts_laws_typed.proofs.TimelyLemmas.{Timely, timely-after}
 use Rattle.sts_laws_costs.specs.Points.{Point}
 use Rattle.sts_laws_costs.specs.Costs.{steps_begun, main_budget}
 use Rattle.sts_laws_costs.proofs.Ranges.{some_function}
-use Rattle.sts_laws_costs.proofs.Turns.{IsLike, Alike, alike-refl, alike-trans, alike-scope, alike-cancel, turned-frame, each-task, waits-stay}
+use Rattle.sts_laws_costs.proofs.Turns.{IsLike, Alike, alike-refl, alike-trans, alike-scope}
+use Rattle.sts_laws_costs.proofs.Turns.{alike-cancel, turned-frame, each-task, waits-stay}
 use Rattle.sts_laws_costs.proofs.Good.{IsCosted, Good, Placed, good_alike}
 use Rattle.sts_laws_costs.proofs.Effects.{good_effect}
 

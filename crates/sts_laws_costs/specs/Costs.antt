@@ -1,7 +1,8 @@
 -- What a run of a program with budgets costs: its steps, and the tasks, scopes and bindings that
 -- stand in any state of it, stay within the budgets of `main`; and what is left of them is what the
 -- standing tasks may still use (this project's own).
-use Rattle.std.specs.Prelude.{◌≡◌, ℕ, ◌+◌, ◌-◌, ◌<◌, ◌≤◌, List, length, take, sum_by, Bool, true, false, Option, Some, None, if◌then◌else◌}
+use Rattle.std.specs.Prelude.{◌≡◌, ℕ, ◌+◌, ◌-◌, ◌<◌, ◌≤◌, List, length, take, sum_by, Bool, true}
+use Rattle.std.specs.Prelude.{false, Option, Some, None, if◌then◌else◌}
 use Rattle.sts_code.specs.Checks.{program_fault}
 use Rattle.sts_code.specs.Program.{Program}
 use Rattle.sts_code.specs.declared.instr.Instr.{Instr}
@@ -21,7 +22,8 @@ use Rattle.sts_rules.specs.Budget.{AreBudgets, budget_at, steps_of}
 use Rattle.sts_rules.specs.Refusal.{IsWellTyped, IsAccepted}
 use Rattle.sts_model.specs.Living.{lives, is_subtask}
 use Rattle.sts_model.specs.Misuse.{slot, is_crowded}
-use Rattle.sts_model.specs.Standing.{is_standing_task, standing_tasks, standing_scopes, standing_bindings}
+use Rattle.sts_model.specs.Standing.{is_standing_task, standing_tasks, standing_scopes}
+use Rattle.sts_model.specs.Standing.{standing_bindings}
 use Rattle.sts_model.specs.Waiting.{stand_at}
 use Rattle.sts_model.specs.Run.{after, taken}
 use Rattle.sts_runs.specs.Runs.{In}

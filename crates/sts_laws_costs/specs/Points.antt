@@ -1,6 +1,7 @@
 -- Where the tasks of a run stand: each living one at a point of a control path of its function
 -- (this project's own).
-use Rattle.std.specs.Prelude.{◌≡◌, ℕ, ◌⊎◌, ◌<◌, List, [], ◌∷◌, length, take, sum_by, true, false, None}
+use Rattle.std.specs.Prelude.{◌≡◌, ℕ, ◌⊎◌, ◌<◌, List, [], ◌∷◌, length, take, sum_by, true, false}
+use Rattle.std.specs.Prelude.{None}
 use Rattle.sts_code.specs.Checks.{program_fault}
 use Rattle.sts_code.specs.Program.{Program}
 use Rattle.sts_rules.specs.declared.budget.Budgets.{Budgets}
@@ -32,10 +33,12 @@ skeleton_of p budgets f = skeleton (take f.function budgets) (code p f)
 
 -- an entry and that of a control path: the slot owns the scope, and its subtasks have the shares
 -- of the functions that were forked in it; a binding and a binding
-abbrev pub Matches : List Budgets → List Budgets → List Task → (ℕ → Slot) → Entry → OpenEntry → Type 0
+abbrev pub Matches : List Budgets → List Budgets → List Task → (ℕ → Slot) → Entry → OpenEntry
+    → Type 0
 Matches budgets earlier tasks own (entry.Scope s) (OpenScope x forked) =
     (own x ≡ Own s)
-    × ((k : Peak) → sum_by (λ g. k.part (budget_at earlier g)) forked ≡ subtask_shares k budgets tasks s)
+    × ((k : Peak)
+    → sum_by (λ g. k.part (budget_at earlier g)) forked ≡ subtask_shares k budgets tasks s)
 Matches budgets earlier tasks own (entry.Binding key value) OpenBinding = Unit {0}
 Matches budgets earlier tasks own _ _ = ⊥
 

@@ -1,7 +1,11 @@
-//! Laws over all event lists of every program with budgets: what a run costs, and what stands in it.
+//! Laws over all event lists of every program with budgets: what a run costs, and what stands in
+//! it.
 #![tactic(auto)]
 
-ghost use Rattle.sts_laws_costs.specs.Costs.{StepsAreWithin, StepsAreLeft, AStepIsLeft, StepsNeedTypes, TasksAreWithin, ScopesAreWithin, BindsAreWithin, RoomIsSlack, RoomIsLeft, BirthsAreSteps, AcceptedIsModest, AcceptedHasPlace};
+ghost use Rattle.sts_laws_costs.specs.Costs.{StepsAreWithin, StepsAreLeft, AStepIsLeft};
+ghost use Rattle.sts_laws_costs.specs.Costs.{StepsNeedTypes, TasksAreWithin, ScopesAreWithin};
+ghost use Rattle.sts_laws_costs.specs.Costs.{BindsAreWithin, RoomIsSlack, RoomIsLeft};
+ghost use Rattle.sts_laws_costs.specs.Costs.{BirthsAreSteps, AcceptedIsModest, AcceptedHasPlace};
 ghost use Rattle.sts_laws_costs.specs.Points.{TasksFollowPaths, LoopsHaveTurns, IdleHaveNoEntries};
 
 /// Each living task is at a point of a control path of its function, with the entries and the

@@ -5,7 +5,8 @@ use Rattle.sts_model.specs.declared.record.Task.{Task}
 use Rattle.sts_model.specs.World.{World, task_at, scope_at}
 use Rattle.sts_model.specs.Living.{lives, sub_state}
 use Rattle.sts_runs.proofs.EventLemmas.{Also}
-use Rattle.sts_laws_scopes.specs.Scopes.{CancelledHasCause, LeftOutIsCancelled, JoinedIsSettled, EntriesAreOpen}
+use Rattle.sts_laws_scopes.specs.Scopes.{CancelledHasCause, LeftOutIsCancelled, JoinedIsSettled}
+use Rattle.sts_laws_scopes.specs.Scopes.{EntriesAreOpen}
 use Rattle.sts_laws_scopes.proofs.OrderlyLemmas.{Orderly, ever-orderly}
 
 pub cancelled_has_cause : CancelledHasCause

@@ -1,5 +1,8 @@
 -- What the slots of a living task name stands: kept by each effect.
-use Rattle.std.proofs.Common.{◌≡◌, ℕ, zero, suc, ◌<◌, ◌-◌, List, [], ◌∷◌, Bool, true, false, Option, Some, None, refl, sym, ◌∙◌, ap, subst, length, arith, get_or, cond, replicate, take, drop, ◌+◌, ◌||◌, not, pos, unwrap_or, get_or-set_other}
+use Rattle.std.proofs.Common.{◌≡◌, ℕ, zero, suc, ◌<◌, ◌-◌, List, [], ◌∷◌, Bool, true, false, Option}
+use Rattle.std.proofs.Common.{Some, None, refl, sym, ◌∙◌, ap, subst, length, arith, get_or, cond}
+use Rattle.std.proofs.Common.{replicate, take, drop, ◌+◌, ◌||◌, not, pos, unwrap_or}
+use Rattle.std.proofs.Common.{get_or-set_other}
 use Rattle.std.proofs.lemmas.Bool.Decides.{nat_tests}
 use Rattle.std.proofs.lemmas.List.{get_or_append_left}
 use Rattle.std.proofs.Math.Seq.{get_or-append_seam}
@@ -8,7 +11,11 @@ use Rattle.std.specs.Int.{int_wrapping_div, w64}
 use Rattle.std.specs.Ordering.{int_eq}
 use Rattle.sts_code.specs.Program.{Program, routine}
 use Rattle.sts_code.specs.declared.instr.Instr.{Instr}
-use Rattle.sts_code.specs.declared.instr.Instr.TheVariants.{Open, Fork, Join, Close, Cancelled, Case, Get, Except, Tally, Total, Forget, Bind, Unbind, Read, Bound, OrElse, Interrupted, Ret, Fail, Div, Times, Next}
+use Rattle.sts_code.specs.declared.instr.Instr.TheVariants.{Open, Fork, Join, Close, Cancelled}
+use Rattle.sts_code.specs.declared.instr.Instr.TheVariants.{Case, Get, Except, Tally, Total, Forget}
+use Rattle.sts_code.specs.declared.instr.Instr.TheVariants.{Bind, Unbind, Read, Bound, OrElse}
+use Rattle.sts_code.specs.declared.instr.Instr.TheVariants.{Interrupted, Ret, Fail, Div, Times}
+use Rattle.sts_code.specs.declared.instr.Instr.TheVariants.{Next}
 use Rattle.sts_code.specs.declared.instr.Joiner.{Joiner}
 use Rattle.sts_model.specs.declared.event.End.{End}
 use Rattle.sts_model.specs.declared.event.End.TheVariants.{Success, Failed}
@@ -22,7 +29,8 @@ use Rattle.sts_model.specs.declared.record.Frame.{Frame}
 use Rattle.sts_model.specs.declared.record.Loop.{Loop}
 use Rattle.sts_model.specs.declared.record.Task.{Task}
 use Rattle.sts_model.specs.declared.record.Scope.{Scope}
-use Rattle.sts_model.specs.World.{World, code, task_at, scope_at, no_task, no_scope, entry_frame, with_task, with_scope, with_frame, opening}
+use Rattle.sts_model.specs.World.{World, code, task_at, scope_at, no_task, no_scope, entry_frame}
+use Rattle.sts_model.specs.World.{with_task, with_scope, with_frame, opening}
 use Rattle.sts_model.specs.Local.{local, turns, enters, clipped, operand, goes, steps}
 use Rattle.sts_code.specs.Loops.{match_of}
 use Rattle.sts_model.specs.Joining.{cancels, result_of}
@@ -30,7 +38,10 @@ use Rattle.sts_model.specs.Living.{lives, is_in, any_lives, is_closed, ends, sub
 use Rattle.sts_model.specs.Standing.{stands_in}
 use Rattle.sts_model.specs.Cancelling.{raised, marked, cancel}
 use Rattle.sts_model.specs.Misuse.{slot, IsFine}
-use Rattle.sts_model.specs.Effect.{effect, named, with_phase, open_scope, fork_task, forked, with_slot, subtask_of, joined, join_verdict, join_scope, is_of, cleared, closed, close_scope, told, decide, tell, ended, end_task}
+use Rattle.sts_model.specs.Effect.{effect, named, with_phase, open_scope, fork_task, forked}
+use Rattle.sts_model.specs.Effect.{with_slot, subtask_of, joined, join_verdict, join_scope, is_of}
+use Rattle.sts_model.specs.Effect.{cleared, closed, close_scope, told, decide, tell, ended}
+use Rattle.sts_model.specs.Effect.{end_task}
 use Rattle.sts_model.specs.Outside.{interrupt, can_expire, expire}
 use Rattle.sts_runs.proofs.ListLemmas.{at_set, at_put, at_more, within}
 use Rattle.sts_runs.proofs.KeptLemmas.{kept-cancel, at_raised}

@@ -1,5 +1,7 @@
 -- Tallies: each subtask that completed is counted once, by the state in which it completed.
-use Rattle.std.proofs.Common.{◌≡◌, ℕ, zero, suc, ◌+◌, ◌-◌, ◌<◌, ◌≤◌, List, [], ◌∷◌, Bool, true, false, Option, Some, None, refl, sym, ◌∙◌, ap, length, arith, get_or, cond, ◌&&◌, not}
+use Rattle.std.proofs.Common.{◌≡◌, ℕ, zero, suc, ◌+◌, ◌-◌, ◌<◌, ◌≤◌, List, [], ◌∷◌, Bool, true}
+use Rattle.std.proofs.Common.{false, Option, Some, None, refl, sym, ◌∙◌, ap, length, arith, get_or}
+use Rattle.std.proofs.Common.{cond, ◌&&◌, not}
 use Rattle.std.specs.Prelude.{◌==◌, find, count_by, option_map, is_some, is_none}
 use Rattle.std.specs.List.{range_with_len}
 use Rattle.std.proofs.lemmas.Bool.Decides.{nat_tests}
@@ -12,14 +14,16 @@ use Rattle.sts_model.specs.declared.record.Task.{Task}
 use Rattle.sts_model.specs.declared.record.Completion.{Completion}
 use Rattle.sts_model.specs.World.{World, task_at, scope_at, no_task}
 use Rattle.sts_model.specs.Joining as joining
-use Rattle.sts_model.specs.Living.{is_subtask, subtask_count, ends_of, completion_of, sub_state, parent}
+use Rattle.sts_model.specs.Living.{is_subtask, subtask_count, ends_of, completion_of, sub_state}
+use Rattle.sts_model.specs.Living.{parent}
 use Rattle.sts_model.specs.Misuse.{is_success, is_failed}
 use Rattle.sts_model.specs.Effect.{tally}
 use Rattle.sts_runs.proofs.ListLemmas.{within}
 use Rattle.sts_runs.proofs.EffectLemmas.{is_in-some, some-is_in}
 use Rattle.sts_runs.proofs.CompletionLemmas.{ToldIn}
 use Rattle.sts_runs.proofs.EventLemmas.{Right, ever}
-use Rattle.sts_laws_scopes.specs.Tallies.{is_kind, is_in_state, births, number_in, IsTallied, TalliesAreCounts}
+use Rattle.sts_laws_scopes.specs.Tallies.{is_kind, is_in_state, births, number_in, IsTallied}
+use Rattle.sts_laws_scopes.specs.Tallies.{TalliesAreCounts}
 
 -- ---- counts
 

@@ -7,10 +7,12 @@ use Rattle.sts_model.specs.Standing.{stands_in}
 use Rattle.sts_model.specs.Misuse.{slot}
 use Rattle.sts_runs.specs.Runs.{Ever}
 
--- each scope and subtask that a slot of a living task names stands; what is lent is the task's own scope
+-- each scope and subtask that a slot of a living task names stands; what is lent is the task's own
+-- scope
 pub record NamesStanding (w : World) (t x : ℕ) : Type 0 where
   pub own : (s : ℕ) → slot (task_at w t).frame x ≡ Own s → stands_in w (Some s) ≡ true
-  pub lent : (s : ℕ) → slot (task_at w t).frame x ≡ Lent s → (stands_in w (Some s) ≡ true) × ((task_at w t).scope ≡ Some s)
+  pub lent : (s : ℕ) → slot (task_at w t).frame x ≡ Lent s
+      → (stands_in w (Some s) ≡ true) × ((task_at w t).scope ≡ Some s)
   pub sub : (u : ℕ) → slot (task_at w t).frame x ≡ Sub u → stands_in w (task_at w u).scope ≡ true
 
 abbrev pub SlotsStand : Type 0

@@ -1,12 +1,14 @@
-//! Laws over all event lists of every program: why scopes are cancelled, what is settled in them, where they are entered, what slots
-//! name, what `tally` answers.
+//! Laws over all event lists of every program: why scopes are cancelled, what is settled in them,
+//! where they are entered, what slots name, what `tally` answers.
 #![tactic(auto)]
 
-ghost use Rattle.sts_laws_scopes.specs.Scopes.{CancelledHasCause, LeftOutIsCancelled, JoinedIsSettled, EntriesAreOpen};
+ghost use Rattle.sts_laws_scopes.specs.Scopes.{CancelledHasCause, LeftOutIsCancelled};
+ghost use Rattle.sts_laws_scopes.specs.Scopes.{JoinedIsSettled, EntriesAreOpen};
 ghost use Rattle.sts_laws_scopes.specs.Slots.{SlotsStand};
 ghost use Rattle.sts_laws_scopes.specs.Tallies.{TalliesAreCounts};
 
-/// A scope is cancelled by an end after which its joiner asks for it, by its expiry or by its close, and by nothing else.
+/// A scope is cancelled by an end after which its joiner asks for it, by its expiry or by its
+/// close, and by nothing else.
 pub fn cancelled_has_cause()
     ensures { CancelledHasCause }
 {}
@@ -31,7 +33,8 @@ pub fn slots_stand()
     ensures { SlotsStand }
 {}
 
-/// `tally` answers the numbers of subtasks that are a success, failed and unavailable; together they are all subtasks of the scope.
+/// `tally` answers the numbers of subtasks that are a success, failed and unavailable; together
+/// they are all subtasks of the scope.
 pub fn tallies_are_counts()
     ensures { TalliesAreCounts }
 {}

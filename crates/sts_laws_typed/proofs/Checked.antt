@@ -1,5 +1,7 @@
 -- What the program checks say of the instructions and of `main`.
-use Rattle.std.proofs.Common.{◌≡◌, ℕ, zero, suc, ◌+◌, ◌-◌, ◌<◌, List, [], ◌∷◌, length, take, Bool, true, false, Option, Some, None, not, cond, refl, arith, slice_get, slice_index_or, length-take}
+use Rattle.std.proofs.Common.{◌≡◌, ℕ, zero, suc, ◌+◌, ◌-◌, ◌<◌, List, [], ◌∷◌, length, take, Bool}
+use Rattle.std.proofs.Common.{true, false, Option, Some, None, not, cond, refl, arith, slice_get}
+use Rattle.std.proofs.Common.{slice_index_or, length-take}
 use Rattle.std.specs.Prelude.{nat_lt}
 use Rattle.std.specs.List.{list_any}
 use Rattle.std.specs.Option.{option_or}

@@ -1,5 +1,8 @@
 -- Where `join` lands.
-use Rattle.std.proofs.Common.{◌≡◌, ℕ, ◌+◌, ◌<◌, inl, inr, List, [], ◌∷◌, ◌++◌, length, Bool, true, false, Option, Some, None, refl, sym, ◌∙◌, ap, subst, cond, get_or, arith, not, ◌||◌, ◌&&◌, unwrap_or, length-append, get_or-set_same, get_or-set_other}
+use Rattle.std.proofs.Common.{◌≡◌, ℕ, ◌+◌, ◌<◌, inl, inr, List, [], ◌∷◌, ◌++◌, length, Bool, true}
+use Rattle.std.proofs.Common.{false, Option, Some, None, refl, sym, ◌∙◌, ap, subst, cond, get_or}
+use Rattle.std.proofs.Common.{arith, not, ◌||◌, ◌&&◌, unwrap_or, length-append, get_or-set_same}
+use Rattle.std.proofs.Common.{get_or-set_other}
 use Rattle.std.specs.Prelude.{ℤ, pos, ◌==◌, is_some, find, option_map}
 use Rattle.std.specs.List.{list_any}
 use Rattle.std.proofs.lemmas.Bool.{cond_both, or_parts}
@@ -9,7 +12,8 @@ use Rattle.sts_code.specs.Program.{Program, routine}
 use Rattle.sts_code.specs.declared.instr.Instr.{Instr}
 use Rattle.sts_code.specs.declared.instr.Instr.TheVariants.{Join}
 use Rattle.sts_code.specs.declared.instr.Joiner.{Joiner}
-use Rattle.sts_code.specs.declared.instr.Joiner.TheVariants.{AllSucceed, AnySucceeds, AwaitOk, AwaitAll, Until}
+use Rattle.sts_code.specs.declared.instr.Joiner.TheVariants.{AllSucceed, AnySucceeds, AwaitOk}
+use Rattle.sts_code.specs.declared.instr.Joiner.TheVariants.{AwaitAll, Until}
 use Rattle.sts_model.specs.declared.event.End.{End}
 use Rattle.sts_model.specs.declared.event.End.TheVariants.{Success, Failed}
 use Rattle.sts_model.specs.declared.event.Phase.{Phase}
@@ -32,13 +36,15 @@ use Rattle.sts_model.specs.World.{World, task_at, scope_at, no_task, no_scope, w
 use Rattle.sts_model.specs.Local.{goes, steps}
 use Rattle.sts_model.specs.Joining as joining
 use Rattle.sts_model.specs.Joining.{cancels, result_of, verdict_or}
-use Rattle.sts_model.specs.Living.{any_lives, completion_of, ends, ends_of, subtask_count, sub_state}
+use Rattle.sts_model.specs.Living.{any_lives, completion_of, ends, ends_of, subtask_count}
+use Rattle.sts_model.specs.Living.{sub_state}
 use Rattle.sts_model.specs.Misuse.{slot, can_join, is_success, joins_wrongly}
 use Rattle.sts_code.specs.Facts.{can_fail, same}
 use Rattle.sts_rules.specs.TypeState.{TypeState, kind, scope_in}
 use Rattle.sts_rules.specs.Causes as cause
 use Rattle.sts_rules.specs.Edges as edges
-use Rattle.sts_rules.specs.Edges.{follows, phase_set, joiner_of, ok_pushes, is_all_success, is_sub_of, succeeded, after_ok, raised, to_optional, join_follows}
+use Rattle.sts_rules.specs.Edges.{follows, phase_set, joiner_of, ok_pushes, is_all_success}
+use Rattle.sts_rules.specs.Edges.{is_sub_of, succeeded, after_ok, raised, to_optional, join_follows}
 use Rattle.sts_model.specs.Effect.{with_phase, joined, join_verdict, join_scope}
 use Rattle.sts_rules.specs.Flow.{Leads}
 use Rattle.sts_runs.specs.Later.{Later}
@@ -57,7 +63,8 @@ use Rattle.sts_laws_typed.proofs.Phases.{InSlot, in-slot, Moved, entry-phase}
 
 -- ---- a phase and operands
 
--- the scope n of slot x goes to a phase that fits the typed one, and the frame goes on with these operands pushed
+-- the scope n of slot x goes to a phase that fits the typed one, and the frame goes on with these
+-- operands pushed
 pub lands-phase : (p : Program) (w v : World) (f : Frame) (i : Instr) (s : TypeState) (x n to : ℕ) (pushed : List ℤ) (ph : Phase) (k : TypedPhase) (height : ℕ) (ks : List SlotKind) → Stands p w f i s → ((y : ℕ) → closes (Some i) y ≡ false) → slot f x ≡ Own n → Moved (scope_at w n) (scope_at v n) ph → ((closing : Bool) → fits_phase closing k ph (scope_at v n).expired ≡ true) → ((m : ℕ) → (m ≡ n → ⊥) → SameScope (scope_at w m) (scope_at v m)) → Knows w v → s.height + length pushed ≡ height → ((y : ℕ) → FitsSlot w f (slot f y) (get_or ks y kind_of.Empty)) → length ks ≡ 16 → Leads (follows p (routine p f.function).code f.pc i s) to (record (edges.with_phase x k s) { height = height; slots = ks }) → Lands p v f (goes f to 0 pushed)
 lands-phase p w v f i s x n to pushed ph k height ks st none own moved now others knows long slots wide leads =
     let g : Frame = goes f to 0 pushed in

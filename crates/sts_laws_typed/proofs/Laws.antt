@@ -1,5 +1,6 @@
 -- The laws: living tasks are typed, and misuse nothing where there is room.
-use Rattle.std.proofs.Common.{◌≡◌, ℕ, zero, suc, ◌<◌, List, [], ◌∷◌, length, true, false, Some, refl, arith, slice_get}
+use Rattle.std.proofs.Common.{◌≡◌, ℕ, zero, suc, ◌<◌, List, [], ◌∷◌, length, true, false, Some}
+use Rattle.std.proofs.Common.{refl, arith, slice_get}
 use Rattle.sts_code.specs.Program.{Program, routine}
 use Rattle.sts_model.specs.declared.record.Frame.{Frame}
 use Rattle.sts_model.specs.World.{World, State, Running, Faulted, task_at}
@@ -7,7 +8,8 @@ use Rattle.sts_model.specs.Living.{lives}
 use Rattle.sts_model.specs.Run.{after}
 use Rattle.sts_runs.specs.Runs.{In}
 use Rattle.sts_runs.proofs.EventLemmas.{Also}
-use Rattle.sts_laws_typed.specs.Typed.{is_crowding, AllTyped, IsFineAt, WantsRoomAlone, LivingTasksAreTyped, OnlyRoomIsWanted}
+use Rattle.sts_laws_typed.specs.Typed.{is_crowding, AllTyped, IsFineAt, WantsRoomAlone}
+use Rattle.sts_laws_typed.specs.Typed.{LivingTasksAreTyped, OnlyRoomIsWanted}
 use Rattle.sts_laws_typed.proofs.Stands.{stands-typed}
 use Rattle.sts_laws_typed.proofs.Steps.{Sure}
 use Rattle.sts_laws_typed.proofs.Runs.{Accepted, sure-after}

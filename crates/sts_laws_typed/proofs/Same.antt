@@ -24,7 +24,8 @@ use Rattle.sts_model.specs.World.{World, task_at, scope_at, instr_at}
 use Rattle.sts_model.specs.Living.{sub_state}
 use Rattle.sts_model.specs.Misuse.{slot, can_join}
 use Rattle.sts_rules.specs.TypeState.{TypeState, kind}
-use Rattle.sts_laws_typed.specs.Typed.{closes, fits_phase, FitsScope, FitsEntry, FitsSlot, Fits, is_known}
+use Rattle.sts_laws_typed.specs.Typed.{closes, fits_phase, FitsScope, FitsEntry, FitsSlot, Fits}
+use Rattle.sts_laws_typed.specs.Typed.{is_known}
 use Rattle.sts_laws_typed.proofs.Zips.{zips-map}
 
 -- ---- another world

@@ -1,5 +1,7 @@
 -- Where each step lands, and that every task stays typed.
-use Rattle.std.proofs.Common.{◌≡◌, ℕ, ◌<◌, inl, List, [], ◌∷◌, length, Bool, true, false, Option, Some, None, refl, sym, ◌∙◌, ap, subst, get_or, arith, not, length-append, get_or-set_same}
+use Rattle.std.proofs.Common.{◌≡◌, ℕ, ◌<◌, inl, List, [], ◌∷◌, length, Bool, true, false, Option}
+use Rattle.std.proofs.Common.{Some, None, refl, sym, ◌∙◌, ap, subst, get_or, arith, not}
+use Rattle.std.proofs.Common.{length-append, get_or-set_same}
 use Rattle.std.specs.Prelude.{nat_lt}
 use Rattle.std.proofs.lemmas.Bool.Decides.{nat_tests}
 use Rattle.std.proofs.lemmas.List.{get_or_append_left}
@@ -7,7 +9,10 @@ use Rattle.std.proofs.Math.Seq.{get_or-append_seam}
 use Rattle.sts_code.specs.Checks.{program_fault}
 use Rattle.sts_code.specs.Program.{Program, routine}
 use Rattle.sts_code.specs.declared.instr.Instr.{Instr}
-use Rattle.sts_code.specs.declared.instr.Instr.TheVariants.{Open, Fork, Join, Close, Cancelled, Case, Get, Except, Tally, Total, Forget, Bind, Unbind, Read, Bound, OrElse, Interrupted, Ret, Fail}
+use Rattle.sts_code.specs.declared.instr.Instr.TheVariants.{Open, Fork, Join, Close, Cancelled}
+use Rattle.sts_code.specs.declared.instr.Instr.TheVariants.{Case, Get, Except, Tally, Total, Forget}
+use Rattle.sts_code.specs.declared.instr.Instr.TheVariants.{Bind, Unbind, Read, Bound, OrElse}
+use Rattle.sts_code.specs.declared.instr.Instr.TheVariants.{Interrupted, Ret, Fail}
 use Rattle.sts_code.specs.declared.instr.Joiner.{Joiner}
 use Rattle.sts_model.specs.declared.record.Frame.{Frame}
 use Rattle.sts_model.specs.declared.record.Scope.{Scope}
@@ -24,7 +29,8 @@ use Rattle.sts_runs.proofs.ListLemmas.{at_set}
 use Rattle.sts_runs.proofs.FrameLemmas.{own_slot, at_own-is}
 use Rattle.sts_runs.proofs.EffectLemmas.{first_no}
 use Rattle.sts_runs.proofs.SoundLemmas.{Sound}
-use Rattle.sts_runs.proofs.BirthLemmas.{more_tasks, more_scopes, new_scope, opener, later-more_scopes, later-more_tasks, IsFresh, born_alive}
+use Rattle.sts_runs.proofs.BirthLemmas.{more_tasks, more_scopes, new_scope, opener}
+use Rattle.sts_runs.proofs.BirthLemmas.{later-more_scopes, later-more_tasks, IsFresh, born_alive}
 use Rattle.sts_runs.proofs.EventLemmas.{Also}
 use Rattle.sts_laws_scopes.proofs.OrderlyLemmas.{Orderly}
 use Rattle.sts_laws_typed.specs.Typed.{Covers, AllTyped}
@@ -35,7 +41,8 @@ use Rattle.sts_laws_typed.proofs.Stands.{Stands, Lands, lands-same}
 use Rattle.sts_laws_typed.proofs.Keys.{covers-own}
 use Rattle.sts_laws_typed.proofs.Checked.{instr_checked}
 use Rattle.sts_laws_typed.proofs.LocalRows.{lands-local}
-use Rattle.sts_laws_typed.proofs.FrameRows.{lands-reading, lands-case, lands-forget, lands-bind, lands-unbind, lands-orelse}
+use Rattle.sts_laws_typed.proofs.FrameRows.{lands-reading, lands-case, lands-forget, lands-bind}
+use Rattle.sts_laws_typed.proofs.FrameRows.{lands-unbind, lands-orelse}
 use Rattle.sts_laws_typed.proofs.BirthRows.{lands-open, lands-fork}
 use Rattle.sts_laws_typed.proofs.JoinRows.{Landed, lands-join, at-join}
 use Rattle.sts_laws_typed.proofs.CloseRows.{lands-close}

@@ -1,6 +1,7 @@
 -- What it means that a living task is typed: its frame fits a typestate that is reached at its pc
 -- (this project's own).
-use Rattle.std.specs.Prelude.{◌≡◌, ℕ, ◌<◌, List, [], ◌∷◌, length, map, Bool, true, false, Option, Some, is_some, ◌==◌, ◌||◌, not}
+use Rattle.std.specs.Prelude.{◌≡◌, ℕ, ◌<◌, List, [], ◌∷◌, length, map, Bool, true, false, Option}
+use Rattle.std.specs.Prelude.{Some, is_some, ◌==◌, ◌||◌, not}
 use Rattle.std.specs.List.{list_any}
 use Rattle.sts_code.specs.Program.{Program}
 use Rattle.sts_code.specs.declared.instr.Instr.{Instr}
@@ -68,7 +69,8 @@ is_due p f es k = list_any (binds k) es || needs p f k
 
 -- each such key is bound
 abbrev pub Covers : Program → ℕ → List TypedEntry → List Bound → Type 0
-Covers p f es environment = (k : ℕ) → k < 16 → is_due p f es k ≡ true → is_some (read environment k) ≡ true
+Covers p f es environment =
+    (k : ℕ) → k < 16 → is_due p f es k ≡ true → is_some (read environment k) ≡ true
 
 -- ---- the structure list
 

@@ -1,11 +1,15 @@
 -- What `push_back` and `unlink` make of a list, and of every other.
 use Rattle.std.proofs.Common.{◌≡◌, ◌≢◌, ℕ, List, [], ◌∷◌, ◌++◌, Option, Some, None, sym, ◌∙◌}
 use Rattle.std.specs.List.{last_or}
-use Rattle.sts_links.specs.Lists.{first_or, NotIn, AreDistinct, IsList, with_after, with_before, Relinks, Differs, BecomesList, if_none}
+use Rattle.sts_links.specs.Lists.{first_or, NotIn, AreDistinct, IsList, with_after, with_before}
+use Rattle.sts_links.specs.Lists.{Relinks, Differs, BecomesList, if_none}
 use Rattle.sts_links.specs.declared.links.Link.{Link}
 use Rattle.sts_links.specs.declared.links.Ends.{Ends}
-use Rattle.sts_links.proofs.Keys.{not_front, not_back, distinct_front, distinct_back, distinct_less, distinct_more, apart, head_not, last_none, last_more, first_more, first_less, last_less, apart_key}
-use Rattle.sts_links.proofs.Chains.{joined, front_of, back_of, list_stays, relast, rehead, head_link}
+use Rattle.sts_links.proofs.Keys.{not_front, not_back, distinct_front, distinct_back, distinct_less}
+use Rattle.sts_links.proofs.Keys.{distinct_more, apart, head_not, last_none, last_more, first_more}
+use Rattle.sts_links.proofs.Keys.{first_less, last_less, apart_key}
+use Rattle.sts_links.proofs.Chains.{joined, front_of, back_of, list_stays, relast, rehead}
+use Rattle.sts_links.proofs.Chains.{head_link}
 
 -- a list whose keys alone got other links leaves the others as they were
 becomes : (a c : ℕ → ℕ → Option Link) (l : ℕ) (result : Ends) (keys : List ℕ) → IsList (c l) result keys → Differs a c l keys → BecomesList a c l result keys

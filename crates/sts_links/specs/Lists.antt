@@ -28,7 +28,9 @@ AreApart xs (y ∷ ys) = NotIn y xs × AreApart xs ys
 -- the links go along these keys both ways, from what comes before them to what comes after them
 abbrev pub AreLinked : (ℕ → Option Link) → Option ℕ → List ℕ → Option ℕ → Type 0
 AreLinked at before [] after = Unit {0}
-AreLinked at before (k ∷ ks) after = (at k ≡ Some (record { before = before; after = first_or ks after })) × AreLinked at (Some k) ks after
+AreLinked at before (k ∷ ks) after =
+    (at k ≡ Some (record { before = before; after = first_or ks after }))
+    × AreLinked at (Some k) ks after
 
 -- these ends are those of the list of these keys, in this order
 pub record IsList (at : ℕ → Option Link) (list : Ends) (keys : List ℕ) : Type 0 where
@@ -46,20 +48,27 @@ abbrev pub with_before : Option ℕ → Link → Link
 with_before key link = record link { before = key }
 
 -- the link of this key, if there is one, is changed so, and no other
-pub record Relinks (old new : ℕ → ℕ → Option Link) (change : Link → Link) (layer : ℕ) (key : Option ℕ) : Type 0 where
-  pub changed : (k : ℕ) (link : Link) → key ≡ Some k → old layer k ≡ Some link → new layer k ≡ Some (change link)
+pub record Relinks (old new : ℕ → ℕ → Option Link) (change : Link → Link) (layer : ℕ)
+    (key : Option ℕ) : Type 0 where
+  pub changed : (k : ℕ) (link : Link) → key ≡ Some k → old layer k ≡ Some link
+      → new layer k ≡ Some (change link)
   pub others : (m j : ℕ) → (m ≡ layer → key ≢ Some j) → new m j ≡ old m j
 
 -- only links of these keys, in this layer, are changed
 abbrev pub Differs : (old new : ℕ → ℕ → Option Link) → ℕ → List ℕ → Type 0
 Differs old new layer keys = (m j : ℕ) → (m ≡ layer → NotIn j keys) → new m j ≡ old m j
 
--- each list of another layer, and each list of this layer that has none of these keys, has the keys that it had
+-- each list of another layer, and each list of this layer that has none of these keys, has the keys
+-- that it had
 abbrev pub KeepsOthers : (old new : ℕ → ℕ → Option Link) → ℕ → List ℕ → Type 0
-KeepsOthers old new layer keys = (m : ℕ) (list : Ends) (others : List ℕ) → IsList (old m) list others → (m ≡ layer → AreApart others keys) → IsList (new m) list others
+KeepsOthers old new layer keys =
+    (m : ℕ) (list : Ends) (others : List ℕ) → IsList (old m) list others
+    → (m ≡ layer → AreApart others keys) → IsList (new m) list others
 
--- the list has these keys now, only their links in this layer are changed, and each other list has the keys that it had
-pub record BecomesList (old new : ℕ → ℕ → Option Link) (layer : ℕ) (result : Ends) (keys : List ℕ) : Type 0 where
+-- the list has these keys now, only their links in this layer are changed, and each other list has
+-- the keys that it had
+pub record BecomesList (old new : ℕ → ℕ → Option Link) (layer : ℕ) (result : Ends) (keys : List ℕ)
+    : Type 0 where
   pub is_list : IsList (new layer) result keys
   pub links : Differs old new layer keys
   pub others : KeepsOthers old new layer keys

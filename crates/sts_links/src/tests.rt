@@ -18,7 +18,8 @@ struct Store {
 }
 
 impl Links for Store {
-    ghost use Rattle.std.specs.Prelude.{◌≡◌, ℕ, Some, None, refl, option_and_then, option_map, if◌then◌else◌, nat_lt, slice_index_or};
+    ghost use Rattle.std.specs.Prelude.{◌≡◌, ℕ, Some, None, refl, option_and_then, option_map};
+    ghost use Rattle.std.specs.Prelude.{if◌then◌else◌, nat_lt, slice_index_or};
     ghost use Rattle.std.proofs.Common.{◌∙◌};
     ghost use Rattle.slab.specs.Slab.{get};
 

@@ -1,4 +1,5 @@
-use Rattle.std.proofs.Common.{◌≡◌, ℕ, ◌+◌, ◌<◌, ◌≤◌, Bool, true, false, List, [], ◌∷◌, ◌++◌, length, refl, sym, ◌∙◌, ap, ◌⊎◌, inl, inr, arith, append_assoc, length-append}
+use Rattle.std.proofs.Common.{◌≡◌, ℕ, ◌+◌, ◌<◌, ◌≤◌, Bool, true, false, List, [], ◌∷◌, ◌++◌, length}
+use Rattle.std.proofs.Common.{refl, sym, ◌∙◌, ap, ◌⊎◌, inl, inr, arith, append_assoc, length-append}
 use Rattle.std.specs.Prelude.{◌==◌, ◌||◌, nat_lt, Option, Some, None, Result, Ok}
 use Rattle.std.specs.List.{flat_map, AllByRecursion, list_any}
 use Rattle.std.proofs.lemmas.Bool.Decides.{nat_tests}
@@ -14,11 +15,15 @@ use Rattle.sts_list.specs.Spelling.{keyword, operands, label}
 use Rattle.sts_list.specs.Listing.{is_target, listing}
 use Rattle.sts_code.specs.Facts.{targets}
 use Rattle.sts_list.specs.RoundTrip.{FitsInstr, FitsRoutine, AssembledAgain}
-use Rattle.sts_list.proofs.SpellingLemmas.{Labels, forked, ForkFound, moved, spelled_as, moved_nowhere}
+use Rattle.sts_list.proofs.SpellingLemmas.{Labels, forked, ForkFound, moved, spelled_as}
+use Rattle.sts_list.proofs.SpellingLemmas.{moved_nowhere}
 use Rattle.sts_list.proofs.LineLemmas.{IsGood}
 use Rattle.sts_list.proofs.CodeLemmas.{labels_differ, mark_if, marks_of, below, sentences}
-use Rattle.sts_list.proofs.FunctionLemmas.{IsGoodRoutine, draft_at, line_below, drafts, names_from, first_line, listing_outlined}
-use Rattle.sts_list.proofs.CheckLemmas.{IsChecked, IsCheckedRoutine, AreChecked, AreFound, IsBelow, targets_within, fork_within, program_checked, functions_found, same_bytes}
+use Rattle.sts_list.proofs.FunctionLemmas.{IsGoodRoutine, draft_at, line_below, drafts, names_from}
+use Rattle.sts_list.proofs.FunctionLemmas.{first_line, listing_outlined}
+use Rattle.sts_list.proofs.CheckLemmas.{IsChecked, IsCheckedRoutine, AreChecked, AreFound, IsBelow}
+use Rattle.sts_list.proofs.CheckLemmas.{targets_within, fork_within, program_checked}
+use Rattle.sts_list.proofs.CheckLemmas.{functions_found, same_bytes}
 
 -- ---- each label of a listing is found
 

@@ -1,5 +1,6 @@
 -- The listing of a program (this project's own).
-use Rattle.std.specs.Prelude.{ℕ, ◌+◌, ◌==◌, Bool, true, false, List, [], ◌∷◌, ◌++◌, Option, Some, None, slice_set, if◌then◌else◌, codes}
+use Rattle.std.specs.Prelude.{ℕ, ◌+◌, ◌==◌, Bool, true, false, List, [], ◌∷◌, ◌++◌, Option, Some}
+use Rattle.std.specs.Prelude.{None, slice_set, if◌then◌else◌, codes}
 use Rattle.std.specs.List.{flat_map, list_any}
 use Rattle.std.specs.Fmt.{decimal}
 use Rattle.sts_code.specs.Program.{Program, Routine}
@@ -33,11 +34,14 @@ keys_text keys = flat_map (λ key. 32 ∷ decimal key) keys
 
 -- `needs` and the keys rising, where there are any
 abbrev pub needs_text : List Bool → List ℕ
-needs_text needs = if list_any (λ needed. needed) needs then codes " needs" ++ keys_text (keys_from 0 needs) else []
+needs_text needs =
+    if list_any (λ needed. needed) needs then codes " needs" ++ keys_text (keys_from 0 needs)
+    else []
 
 -- the first line of a function
 abbrev pub header : Routine → List ℕ
-header r = codes "func " ++ r.name ++ codes " " ++ decimal r.args ++ needs_text r.needs ++ codes "\n"
+header r =
+    codes "func " ++ r.name ++ codes " " ++ decimal r.args ++ needs_text r.needs ++ codes "\n"
 
 -- the line of a label, where an instruction is named by another
 abbrev pub label_line : Bool → ℕ → List ℕ
@@ -51,7 +55,8 @@ instr_line p instr = codes "  " ++ spelled p instr ++ codes "\n"
 -- the lines of the instructions from pc on
 abbrev pub code_lines : Program → List Instr → ℕ → List Instr → List ℕ
 code_lines p code pc [] = []
-code_lines p code pc (instr ∷ rest) = label_line (is_target code pc) pc ++ instr_line p instr ++ code_lines p code (pc + 1) rest
+code_lines p code pc (instr ∷ rest) =
+    label_line (is_target code pc) pc ++ instr_line p instr ++ code_lines p code (pc + 1) rest
 
 -- a function from its first line to `end`
 abbrev pub function_lines : Program → Routine → List ℕ

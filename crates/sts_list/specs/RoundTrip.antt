@@ -43,4 +43,5 @@ IsProgram p = (program_fault p.routines ≡ None) × AllByRecursion FitsRoutine 
 
 -- A listing that is no longer than a text may be is assembled to the program that it lists.
 abbrev pub AssembledAgain : Type 0
-AssembledAgain = (p : Program) → IsProgram p → length (listing p) ≤ 1048576 → judged (listing p) ≡ Ok p
+AssembledAgain =
+    (p : Program) → IsProgram p → length (listing p) ≤ 1048576 → judged (listing p) ≡ Ok p

@@ -6,7 +6,8 @@ use Rattle.sts_code.specs.Program.{Program, routine}
 use Rattle.sts_code.specs.declared.instr.Instr.{Instr}
 use Rattle.sts_code.specs.declared.instr.Instr.TheVariants as i
 use Rattle.sts_code.specs.declared.instr.Joiner.{Joiner}
-use Rattle.sts_code.specs.declared.instr.Joiner.TheVariants.{AllSucceed, AnySucceeds, AwaitOk, AwaitAll, Until}
+use Rattle.sts_code.specs.declared.instr.Joiner.TheVariants.{AllSucceed, AnySucceeds, AwaitOk}
+use Rattle.sts_code.specs.declared.instr.Joiner.TheVariants.{AwaitAll, Until}
 use Rattle.sts_code.specs.declared.instr.Pred.{Pred}
 use Rattle.sts_code.specs.declared.instr.Pred.TheVariants.{Failed, Success, AtLeast}
 use Rattle.sts_code.specs.declared.instr.Kind.{Kind}
@@ -104,7 +105,8 @@ operands p (i.Jz to) = label to ∷ []
 operands p (i.Times n) = decimal n ∷ []
 operands p (i.Open s j timed) = slot s ∷ joiner_words j ++ timed_words timed
 operands p (i.Fork s f h) = slot s ∷ (routine p f).name ∷ handle h ∷ []
-operands p (i.Join s failed timeout interrupted) = slot s ∷ maybe_label failed ∷ maybe_label timeout ∷ label interrupted ∷ []
+operands p (i.Join s failed timeout interrupted) =
+    slot s ∷ maybe_label failed ∷ maybe_label timeout ∷ label interrupted ∷ []
 operands p (i.Close s) = slot s ∷ []
 operands p (i.Cancelled s) = slot s ∷ []
 operands p (i.Case h success failed) = slot h ∷ label success ∷ label failed ∷ []

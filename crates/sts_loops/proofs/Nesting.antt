@@ -1,5 +1,8 @@
 -- The loops around a place: the innermost one, and those around it.
-use Rattle.std.proofs.Common.{◌≡◌, ℕ, zero, suc, ◌+◌, ◌-◌, ◌<◌, ◌≤◌, ◌⊎◌, inl, inr, List, [], ◌∷◌, ◌++◌, length, Bool, true, false, Option, Some, None, ◌&&◌, cond, refl, sym, ap, ◌∙◌, subst, arith, reverse, filter, slice_get, leb, leb-true, bytes_eq, eqb, eqb-true, eq-eqb, is_none, is_some, not, drop, get_or}
+use Rattle.std.proofs.Common.{◌≡◌, ℕ, zero, suc, ◌+◌, ◌-◌, ◌<◌, ◌≤◌, ◌⊎◌, inl, inr, List, [], ◌∷◌}
+use Rattle.std.proofs.Common.{◌++◌, length, Bool, true, false, Option, Some, None, ◌&&◌, cond, refl}
+use Rattle.std.proofs.Common.{sym, ap, ◌∙◌, subst, arith, reverse, filter, slice_get, leb, leb-true}
+use Rattle.std.proofs.Common.{bytes_eq, eqb, eqb-true, eq-eqb, is_none, is_some, not, drop, get_or}
 use Rattle.std.specs.Option.{option_eq}
 use Rattle.std.specs.List.{range_with_len}
 use Rattle.std.proofs.lemmas.List.{reverse-append, get_or-map, length-map, drop_more, drop_all}

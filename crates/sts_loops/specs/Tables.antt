@@ -1,5 +1,6 @@
 -- Tables of the loops of a function's code (this project's own).
-use Rattle.std.specs.Prelude.{◌≡◌, ℕ, ◌<◌, List, length, true, if◌then◌else◌, Option, None, slice_get, slice_index_or}
+use Rattle.std.specs.Prelude.{◌≡◌, ℕ, ◌<◌, List, length, true, if◌then◌else◌, Option, None}
+use Rattle.std.specs.Prelude.{slice_get, slice_index_or}
 use Rattle.sts_code.specs.declared.instr.Instr.{Instr}
 use Rattle.sts_code.specs.Loops.{match_of, is_times}
 use Rattle.sts_rules.specs.Around.{around}
@@ -22,5 +23,6 @@ end_at code p = if is_times (instr_at code p) then match_of code p else None
 pub record AreTablesOf (code : List Instr) (t : Tables) : Type 0 where
   pub ends_long : length t.ends ≡ length code
   pub heads_long : length t.heads ≡ length code
-  pub ends : (p : ℕ) → p < length code → is_times (instr_at code p) ≡ true → slice_index_or t.ends p None ≡ match_of code p
+  pub ends : (p : ℕ) → p < length code → is_times (instr_at code p) ≡ true
+      → slice_index_or t.ends p None ≡ match_of code p
   pub heads : (q : ℕ) → q < length code → slice_index_or t.heads q None ≡ head code q

@@ -1,6 +1,7 @@
 //! Which loops are around a place: looked up in tables where there are any.
 
-ghost use Rattle.std.specs.Prelude.{◌≡◌, ◌≤◌, ◌<◌, ◌+◌, ◌∷◌, length, drop, bytes_eq, ◌↔◌, IsTrue, Some};
+ghost use Rattle.std.specs.Prelude.{◌≡◌, ◌≤◌, ◌<◌, ◌+◌, ◌∷◌, length, drop, bytes_eq, ◌↔◌, IsTrue};
+ghost use Rattle.std.specs.Prelude.{Some};
 ghost use Rattle.sts_rules.specs.Around as def;
 ghost use Rattle.sts_code.specs.Program as program;
 ghost use Rattle.sts_rules.specs.Causes.{closes_loop};
@@ -15,7 +16,8 @@ use sts_code::loops::{is_times, match_of};
 use sts_model::stack::Stack;
 use sts_rules::typing::TypedLoop;
 
-/// For each place of a function's code, the match of a `times` there, and the innermost loop around it.
+/// For each place of a function's code, the match of a `times` there, and the innermost loop around
+/// it.
 #[derive(Drop)]
 pub struct Tables {
     pub(crate) ends: Vec<Option<u32>>,

@@ -1,10 +1,17 @@
 -- What an instruction that is no misuse does.
--- Restates `open`, `fork`, `join`, `close` and `Subtask` of `StructuredTaskScope`, and `ScopedValue.where(..).run` as `bind` and `unbind`. The order in which `join`
--- looks (expired, then cancelled or all ended, then the flag), the operands pushed and the slots are this project's own.
-use Rattle.std.specs.Prelude.{ℕ, ◌+◌, ◌-◌, ℤ, pos, List, [], ◌∷◌, ◌++◌, length, take, drop, reverse, map, count_by, Bool, true, false, Option, Some, None, is_some, unwrap_or, ◌==◌, ◌||◌, not, if◌then◌else◌, slice_set}
+-- Restates `open`, `fork`, `join`, `close` and `Subtask` of `StructuredTaskScope`, and
+-- `ScopedValue.where(..).run` as `bind` and `unbind`. The order in which `join` looks (expired,
+-- then cancelled or all ended, then the flag), the operands pushed and the slots are this project's
+-- own.
+use Rattle.std.specs.Prelude.{ℕ, ◌+◌, ◌-◌, ℤ, pos, List, [], ◌∷◌, ◌++◌, length, take, drop, reverse}
+use Rattle.std.specs.Prelude.{map, count_by, Bool, true, false, Option, Some, None, is_some}
+use Rattle.std.specs.Prelude.{unwrap_or, ◌==◌, ◌||◌, not, if◌then◌else◌, slice_set}
 use Rattle.sts_code.specs.Program.{Program, routine}
 use Rattle.sts_code.specs.declared.instr.Instr.{Instr}
-use Rattle.sts_code.specs.declared.instr.Instr.TheVariants.{Open, Fork, Join, Close, Cancelled, Case, Get, Except, Tally, Total, Forget, Bind, Unbind, Read, Bound, OrElse, Interrupted, Ret, Fail}
+use Rattle.sts_code.specs.declared.instr.Instr.TheVariants.{Open, Fork, Join, Close, Cancelled}
+use Rattle.sts_code.specs.declared.instr.Instr.TheVariants.{Case, Get, Except, Tally, Total, Forget}
+use Rattle.sts_code.specs.declared.instr.Instr.TheVariants.{Bind, Unbind, Read, Bound, OrElse}
+use Rattle.sts_code.specs.declared.instr.Instr.TheVariants.{Interrupted, Ret, Fail}
 use Rattle.sts_code.specs.declared.instr.Joiner.{Joiner}
 use Rattle.sts_code.specs.declared.instr.Kind.{Kind}
 use Rattle.sts_code.specs.declared.instr.Kind.TheVariants.{S, F, U}
@@ -13,7 +20,8 @@ use Rattle.sts_model.specs.declared.event.End.TheVariants.{Success, Failed}
 use Rattle.sts_model.specs.declared.event.Verdict.{Verdict}
 use Rattle.sts_model.specs.declared.event.Verdict.TheVariants as verdict
 use Rattle.sts_model.specs.declared.event.Phase.{Phase}
-use Rattle.sts_model.specs.declared.event.Phase.TheVariants.{Opened, Attempted, Joined, Closing, Closed}
+use Rattle.sts_model.specs.declared.event.Phase.TheVariants.{Opened, Attempted, Joined, Closing}
+use Rattle.sts_model.specs.declared.event.Phase.TheVariants.{Closed}
 use Rattle.sts_model.specs.declared.record.Slot.{Slot}
 use Rattle.sts_model.specs.declared.record.Slot.TheVariants.{Empty, Own, Lent, Sub}
 use Rattle.sts_model.specs.declared.record.Entry.TheVariants as entry
@@ -22,7 +30,8 @@ use Rattle.sts_model.specs.declared.record.Task.{Task}
 use Rattle.sts_model.specs.declared.record.Scope.{Scope}
 use Rattle.sts_model.specs.Local.{local, operand, goes, steps, truth}
 use Rattle.sts_model.specs.Joining.{is_success, is_failure, cancels, result_of, total_of}
-use Rattle.sts_model.specs.World.{World, code, entry_frame, task_at, scope_at, with_task, with_scope, with_frame}
+use Rattle.sts_model.specs.World.{World, code, entry_frame, task_at, scope_at, with_task}
+use Rattle.sts_model.specs.World.{with_scope, with_frame}
 use Rattle.sts_model.specs.Living.{is_in, subtask_count, any_lives, sub_state, ends}
 use Rattle.sts_model.specs.Cancelling.{cancel}
 use Rattle.sts_model.specs.Environment.{environment_of, read}
@@ -43,9 +52,23 @@ with_phase w s phase = with_scope w s (record (scope_at w s) { phase = phase })
 unfoldable pub open_scope : World → ℕ → Frame → ℕ → Joiner → Bool → World
 open_scope w t f x joiner timed =
     with_frame
-    (record w { scopes = w.scopes ++ record { owner = t; joiner = joiner; timed = timed; phase = Opened; cancelled = false; expired = false; completions = []; environment = environment_of (task_at w t) w } ∷ [] })
+    (record w {
+      scopes = w.scopes ++ record {
+        owner = t;
+        joiner = joiner;
+        timed = timed;
+        phase = Opened;
+        cancelled = false;
+        expired = false;
+        completions = [];
+        environment = environment_of (task_at w t) w;
+      } ∷ [];
+    })
     t
-    (record (steps f 0 []) { entries = entry.Scope (length w.scopes) ∷ f.entries; slots = slice_set f.slots x (Own (length w.scopes)) })
+    (record (steps f 0 []) {
+      entries = entry.Scope (length w.scopes) ∷ f.entries;
+      slots = slice_set f.slots x (Own (length w.scopes));
+    })
 
 abbrev pub with_slot : List Slot → Option ℕ → Slot → List Slot
 with_slot slots None x = slots
@@ -53,16 +76,24 @@ with_slot slots (Some h) x = slice_set slots h x
 
 -- the forker's frame afterwards
 abbrev pub forked : Frame → ℕ → Option ℕ → ℕ → Frame
-forked f args handle child = record (steps f args []) { slots = with_slot f.slots handle (Sub child) }
+forked f args handle child =
+    record (steps f args []) { slots = with_slot f.slots handle (Sub child) }
 
 -- a new subtask, which never runs if the scope is cancelled
 abbrev pub subtask_of : Program → World → Frame → ℕ → ℕ → Task
 subtask_of p w f s g =
-    record { frame = entry_frame g (reverse (take (routine p g).args f.operands)) (Lent s); started = not (scope_at w s).cancelled; flag = false; scope = Some s; outcome = None }
+    record {
+      frame = entry_frame g (reverse (take (routine p g).args f.operands)) (Lent s);
+      started = not (scope_at w s).cancelled;
+      flag = false;
+      scope = Some s;
+      outcome = None;
+    }
 
 unfoldable pub fork_task : Program → World → ℕ → Frame → ℕ → ℕ → Option ℕ → World
 fork_task p w t f s g h =
-    with_frame (record w { tasks = w.tasks ++ subtask_of p w f s g ∷ [] }) t (forked f (routine p g).args h (length w.tasks))
+    with_frame (record w { tasks = w.tasks ++ subtask_of p w f s g ∷ [] }) t (forked f
+    (routine p g).args h (length w.tasks))
 
 -- after an outcome of `join` other than interrupted
 abbrev pub joined : World → ℕ → ℕ → Frame → World
@@ -73,7 +104,8 @@ join_verdict (verdict.Ok None) w t s f failed = joined w t s (steps f 0 [])
 join_verdict (verdict.Ok (Some v)) w t s f failed = joined w t s (steps f 0 (v ∷ []))
 join_verdict (verdict.Failed c) w t s f failed = joined w t s (goes f failed 0 (c ∷ []))
 
--- the outcome of a `join`: a timeout, the joiner's result, or else interrupted, as a task whose flag isn't set waits here
+-- the outcome of a `join`: a timeout, the joiner's result, or else interrupted, as a task whose
+-- flag isn't set waits here
 unfoldable pub join_scope : World → ℕ → Frame → ℕ → ℕ → ℕ → ℕ → World
 join_scope w t f s failed timeout interrupted =
     let scope = scope_at w s in
@@ -81,7 +113,8 @@ join_scope w t f s failed timeout interrupted =
     then joined w t s (goes f timeout 0 [])
     else (if scope.cancelled || not (any_lives w s)
     then join_verdict (result_of scope.joiner (ends scope) (subtask_count w s)) w t s f failed
-    else with_task (with_phase w s Attempted) t (record (task_at w t) { frame = goes f interrupted 0 []; flag = false }))
+    else with_task (with_phase w s Attempted) t (record
+    (task_at w t) { frame = goes f interrupted 0 []; flag = false }))
 
 -- does a slot name the scope or one of its subtasks?
 abbrev pub is_of : World → ℕ → Slot → Bool
@@ -95,18 +128,23 @@ cleared w s slots = map (λ x. if is_of w s x then Empty else x) slots
 -- the end of a close
 abbrev pub closed : World → ℕ → Frame → ℕ → World
 closed w t f s =
-    with_frame (with_phase w s Closed) t (record (steps f 0 []) { entries = drop 1 f.entries; slots = cleared w s f.slots })
+    with_frame (with_phase w s Closed) t (record (steps f 0 []) {
+      entries = drop 1 f.entries;
+      slots = cleared w s f.slots;
+    })
 
 -- a step of a close
 unfoldable pub close_scope : World → ℕ → Frame → ℕ → World
 close_scope w t f s =
-    if any_lives (cancel w s) s then with_phase (cancel w s) s Closing else closed (cancel w s) t f s
+    if any_lives (cancel w s) s then with_phase (cancel w s) s Closing
+    else closed (cancel w s) t f s
 
 -- ---- the end of a task
 
 -- the scope once it was told of an end
 abbrev pub told : Scope → ℕ → End → Scope
-told scope t end = record scope { completions = scope.completions ++ record { task = t; end = end } ∷ [] }
+told scope t end =
+    record scope { completions = scope.completions ++ record { task = t; end = end } ∷ [] }
 
 -- cancels the scope if its joiner asks for it
 abbrev pub decide : World → ℕ → World
@@ -155,14 +193,18 @@ abbrev pub forget : World → ℕ → Frame → ℕ → World
 forget w t f h = with_frame w t (record (steps f 0 []) { slots = slice_set f.slots h Empty })
 
 abbrev pub bind : World → ℕ → Frame → ℕ → World
-bind w t f k = with_frame w t (record (steps f 1 []) { entries = entry.Binding k (operand f 0) ∷ f.entries })
+bind w t f k =
+    with_frame w t (record (steps f 1 []) { entries = entry.Binding k (operand f 0) ∷ f.entries })
 
 abbrev pub unbind : World → ℕ → Frame → World
 unbind w t f = with_frame w t (record (steps f 0 []) { entries = drop 1 f.entries })
 
 abbrev pub take_flag : World → ℕ → Frame → World
 take_flag w t f =
-    with_task w t (record (task_at w t) { frame = steps f 0 (truth (task_at w t).flag ∷ []); flag = false })
+    with_task w t (record (task_at w t) {
+      frame = steps f 0 (truth (task_at w t).flag ∷ []);
+      flag = false;
+    })
 
 -- ---- an instruction
 
@@ -180,20 +222,27 @@ effect p w t f (Fork s g h) = fork_task p w t f (named (slot f s)) g h
 effect p w t f (Join s failed timeout interrupted) =
     join_scope w t f (named (slot f s)) (unwrap_or failed 0) (unwrap_or timeout 0) interrupted
 effect p w t f (Close s) = close_scope w t f (named (slot f s))
-effect p w t f (Cancelled s) = with_frame w t (steps f 0 (truth (scope_at w (named (slot f s))).cancelled ∷ []))
+effect p w t f (Cancelled s) =
+    with_frame w t (steps f 0 (truth (scope_at w (named (slot f s))).cancelled ∷ []))
 effect p w t f (Case h success failed) =
-    with_frame w t (goes f (case_target (sub_state w (named (slot f h))) success failed (f.pc + 1)) 0 [])
-effect p w t f (Get h) = with_frame w t (steps f 0 (value_or_zero (sub_state w (named (slot f h))) ∷ []))
-effect p w t f (Except h) = with_frame w t (steps f 0 (value_or_zero (sub_state w (named (slot f h))) ∷ []))
+    with_frame w t (goes f
+    (case_target (sub_state w (named (slot f h))) success failed (f.pc + 1)) 0 [])
+effect p w t f (Get h) =
+    with_frame w t (steps f 0 (value_or_zero (sub_state w (named (slot f h))) ∷ []))
+effect p w t f (Except h) =
+    with_frame w t (steps f 0 (value_or_zero (sub_state w (named (slot f h))) ∷ []))
 effect p w t f (Tally s k) = with_frame w t (steps f 0 (pos (tally w (named (slot f s)) k) ∷ []))
 effect p w t f (Total s) = with_frame w t (steps f 0 (total w (named (slot f s)) ∷ []))
 effect p w t f (Forget h) = forget w t f h
 effect p w t f (Bind k) = bind w t f k
 effect p w t f Unbind = unbind w t f
-effect p w t f (Read k) = with_frame w t (steps f 0 (unwrap_or (read (environment_of (task_at w t) w) k) (pos 0) ∷ []))
-effect p w t f (Bound k) = with_frame w t (steps f 0 (truth (is_some (read (environment_of (task_at w t) w) k)) ∷ []))
+effect p w t f (Read k) =
+    with_frame w t (steps f 0 (unwrap_or (read (environment_of (task_at w t) w) k) (pos 0) ∷ []))
+effect p w t f (Bound k) =
+    with_frame w t (steps f 0 (truth (is_some (read (environment_of (task_at w t) w) k)) ∷ []))
 effect p w t f (OrElse k) =
-    with_frame w t (steps f 1 (unwrap_or (read (environment_of (task_at w t) w) k) (operand f 0) ∷ []))
+    with_frame w t (steps f 1
+    (unwrap_or (read (environment_of (task_at w t) w) k) (operand f 0) ∷ []))
 effect p w t f Interrupted = take_flag w t f
 effect p w t f Ret = end_task w t f (Success (operand f 0))
 effect p w t f Fail = end_task w t f (Failed (operand f 0))

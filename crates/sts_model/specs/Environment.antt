@@ -1,7 +1,8 @@
 -- Scoped values: the environment of a task.
--- Restates "Description" of JEP 506: a binding is in force until it ends, the innermost one is read, and a subtask inherits those that
--- were in force when its scope was opened.
-use Rattle.std.specs.Prelude.{ℕ, ℤ, List, ◌++◌, Option, Some, None, option_map, find, filter_map, ◌==◌}
+-- Restates "Description" of JEP 506: a binding is in force until it ends, the innermost one is
+-- read, and a subtask inherits those that were in force when its scope was opened.
+use Rattle.std.specs.Prelude.{ℕ, ℤ, List, ◌++◌, Option, Some, None, option_map, find, filter_map}
+use Rattle.std.specs.Prelude.{◌==◌}
 use Rattle.sts_model.specs.declared.record.Task.{Task}
 use Rattle.sts_model.specs.declared.record.Bound.{Bound}
 use Rattle.sts_model.specs.declared.record.Entry.{Entry}
@@ -23,4 +24,5 @@ environment_of task w = own_bindings task ++ (parent w task.scope).environment
 
 -- the value of the first binding of the key
 abbrev pub read : List Bound → ℕ → Option ℤ
-read environment k = option_map (λ (b : Bound). b.value) (find (λ (b : Bound). b.key == k) environment)
+read environment k =
+    option_map (λ (b : Bound). b.value) (find (λ (b : Bound). b.key == k) environment)

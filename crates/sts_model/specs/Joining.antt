@@ -1,12 +1,15 @@
--- The joiners: when the ends of its subtasks cancel a scope, and what `join` answers, read off the whole list of ends in order of
--- completion.
--- Restates `StructuredTaskScope.Joiner` (`allSuccessfulOrThrow`, `anySuccessfulResultOrThrow`, `awaitAllSuccessfulOrThrow`, `awaitAll`,
--- `allUntil`). Which failure `any` reports, its code -1 where no subtask ended, the numbers pushed and the three predicates of `until` are this project's own.
-use Rattle.std.specs.Prelude.{ℕ, ℤ, pos, negsuc, int_le, ◌+ℤ◌, List, Bool, true, false, Option, Some, None, nat_le, find, count_by, fold}
+-- The joiners: when the ends of its subtasks cancel a scope, and what `join` answers, read off the
+-- whole list of ends in order of completion. Restates `StructuredTaskScope.Joiner`
+-- (`allSuccessfulOrThrow`, `anySuccessfulResultOrThrow`, `awaitAllSuccessfulOrThrow`, `awaitAll`,
+-- `allUntil`). Which failure `any` reports, its code -1 where no subtask ended, the numbers pushed
+-- and the three predicates of `until` are this project's own.
+use Rattle.std.specs.Prelude.{ℕ, ℤ, pos, negsuc, int_le, ◌+ℤ◌, List, Bool, true, false, Option}
+use Rattle.std.specs.Prelude.{Some, None, nat_le, find, count_by, fold}
 use Rattle.std.specs.List.{list_any}
 use Rattle.std.specs.Int.{int_wrap, w64}
 use Rattle.sts_code.specs.declared.instr.Joiner.{Joiner}
-use Rattle.sts_code.specs.declared.instr.Joiner.TheVariants.{AllSucceed, AnySucceeds, AwaitOk, AwaitAll, Until}
+use Rattle.sts_code.specs.declared.instr.Joiner.TheVariants.{AllSucceed, AnySucceeds, AwaitOk}
+use Rattle.sts_code.specs.declared.instr.Joiner.TheVariants.{AwaitAll, Until}
 use Rattle.sts_code.specs.declared.instr.Pred.TheVariants as pred
 use Rattle.sts_model.specs.declared.event.End.{End}
 use Rattle.sts_model.specs.declared.event.End.TheVariants.{Success, Failed}
@@ -46,7 +49,9 @@ verdict_or (Some (Failed c)) other = verdict.Failed c
 abbrev pub result_of : Joiner → List End → ℕ → Verdict
 result_of AllSucceed ends n = verdict_or (find is_failure ends) (verdict.Ok (Some (pos n)))
 result_of AwaitOk ends n = verdict_or (find is_failure ends) (verdict.Ok None)
-result_of AnySucceeds ends n = verdict_or (find is_success ends) (verdict_or (find is_failure ends) (verdict.Failed (negsuc 0)))
+result_of AnySucceeds ends n =
+    verdict_or (find is_success ends) (verdict_or (find is_failure ends)
+    (verdict.Failed (negsuc 0)))
 result_of AwaitAll ends n = verdict.Ok None
 result_of (Until p) ends n = verdict.Ok (Some (pos n))
 

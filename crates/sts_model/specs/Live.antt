@@ -1,6 +1,7 @@
--- The live view: what can still be asked of a state that is no fault, by birth, with a hole for each task and scope that no longer stands
--- (this project's own).
-use Rattle.std.specs.Prelude.{ℕ, List, length, map, filter_map, Bool, Option, Some, None, option_map, if◌then◌else◌, slice_index_or}
+-- The live view: what can still be asked of a state that is no fault, by birth, with a hole for
+-- each task and scope that no longer stands (this project's own).
+use Rattle.std.specs.Prelude.{ℕ, List, length, map, filter_map, Bool, Option, Some, None}
+use Rattle.std.specs.Prelude.{option_map, if◌then◌else◌, slice_index_or}
 use Rattle.std.specs.List.{range_with_len, enumerate_from}
 use Rattle.sts_code.specs.declared.instr.Joiner.{Joiner}
 use Rattle.sts_model.specs.declared.event.End.{End}
@@ -22,7 +23,8 @@ pub record Alive : Type 0 where
   pub flag : Bool
   pub environment : List Bound
 
--- a task that stands: its scope, its state as a subtask (none: unavailable), and what it has if it lives
+-- a task that stands: its scope, its state as a subtask (none: unavailable), and what it has if it
+-- lives
 pub record LiveTask : Type 0 where
   pub scope : Option ℕ
   pub state : Option End
@@ -47,23 +49,41 @@ pub record Live : Type 0 where
 
 abbrev pub alive_of : World → Task → Option Alive
 alive_of w task =
-    if lives task then Some (record { frame = task.frame; flag = task.flag; environment = environment_of task w }) else None
+    if lives task
+    then Some (record { frame = task.frame; flag = task.flag; environment = environment_of task w })
+    else None
 
 abbrev pub live_task : World → ℕ → Option LiveTask
 live_task w t =
     let task = task_at w t in
-    if is_standing_task w task then Some (record { scope = task.scope; state = sub_state w t; alive = alive_of w task }) else None
+    if is_standing_task w task
+    then Some (record { scope = task.scope; state = sub_state w t; alive = alive_of w task })
+    else None
 
 abbrev pub shown_scope : Scope → LiveScope
 shown_scope scope =
-    record { owner = scope.owner; joiner = scope.joiner; timed = scope.timed; phase = scope.phase; cancelled = scope.cancelled; expired = scope.expired; environment = scope.environment; told = told scope.joiner (ends scope) }
+    record {
+      owner = scope.owner;
+      joiner = scope.joiner;
+      timed = scope.timed;
+      phase = scope.phase;
+      cancelled = scope.cancelled;
+      expired = scope.expired;
+      environment = scope.environment;
+      told = told scope.joiner (ends scope);
+    }
 
 abbrev pub live_scope : World → ℕ → Option LiveScope
-live_scope w s = let scope = scope_at w s in if is_standing_scope scope then Some (shown_scope scope) else None
+live_scope w s =
+    let scope = scope_at w s in if is_standing_scope scope then Some (shown_scope scope) else None
 
 abbrev pub live : World → Live
 live w =
-    record { tasks = map (live_task w) (range_with_len 0 (length w.tasks)); scopes = map (live_scope w) (range_with_len 0 (length w.scopes)); root_end = (task_at w 0).outcome }
+    record {
+      tasks = map (live_task w) (range_with_len 0 (length w.tasks));
+      scopes = map (live_scope w) (range_with_len 0 (length w.scopes));
+      root_end = (task_at w 0).outcome;
+    }
 
 -- ---- what is asked of the view
 
@@ -78,4 +98,6 @@ subtasks_in v s = filter_map (subtask_in s) (enumerate_from 0 v.tasks)
 
 -- the joiner's result as it stands
 abbrev pub result_in : Live → ℕ → Option Verdict
-result_in v s = option_map (λ (scope : LiveScope). result_told scope.joiner scope.told (length (subtasks_in v s))) (slice_index_or v.scopes s None)
+result_in v s =
+    option_map (λ (scope : LiveScope). result_told scope.joiner scope.told (length
+    (subtasks_in v s))) (slice_index_or v.scopes s None)

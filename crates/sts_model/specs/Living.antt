@@ -1,7 +1,8 @@
 -- Which tasks live, which are subtasks of a scope, and the state of a subtask.
--- Restates `StructuredTaskScope.Subtask.State` and "Description" of JEP 505: a subtask whose end came before its scope was cancelled
--- is a success or failed, every other is unavailable.
-use Rattle.std.specs.Prelude.{ℕ, List, Bool, true, false, Option, Some, None, option_map, find, count_by, map, is_none, ◌&&◌, ◌==◌}
+-- Restates `StructuredTaskScope.Subtask.State` and "Description" of JEP 505: a subtask whose end
+-- came before its scope was cancelled is a success or failed, every other is unavailable.
+use Rattle.std.specs.Prelude.{ℕ, List, Bool, true, false, Option, Some, None, option_map, find}
+use Rattle.std.specs.Prelude.{count_by, map, is_none, ◌&&◌, ◌==◌}
 use Rattle.std.specs.List.{list_any}
 use Rattle.sts_model.specs.declared.event.End.{End}
 use Rattle.sts_model.specs.declared.event.Phase.{Phase}
@@ -48,7 +49,8 @@ ends scope = ends_of scope.completions
 
 -- the end of a task as the completions have it
 abbrev pub completion_of : List Completion → ℕ → Option End
-completion_of completions t = option_map (λ (c : Completion). c.end) (find (λ (c : Completion). c.task == t) completions)
+completion_of completions t =
+    option_map (λ (c : Completion). c.end) (find (λ (c : Completion). c.task == t) completions)
 
 -- the scope that a task is a subtask of; for the root, which has none, a scope without bindings
 abbrev pub parent : World → Option ℕ → Scope

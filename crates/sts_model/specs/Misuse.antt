@@ -1,20 +1,33 @@
 -- Misuse: what is wrong with the instruction that a task is at, and which fault that is.
--- Restates the exceptions of `fork`, `join`, `close` and `Subtask.get` in the API documentation (`IllegalStateException`, `WrongThreadException`,
--- `StructureViolationException`) and of `ScopedValue.get` (`NoSuchElementException`). The fault Operand, the limits, the order of
--- the kinds, WrongThread and IllegalState of `tally` and `total`, Structure of `ret` and `fail`, and not reading after a timeout are own.
-use Rattle.std.specs.Prelude.{◌≡◌, ℕ, ◌+◌, ◌-◌, List, [], ◌∷◌, length, Bool, true, false, Option, Some, None, is_some, is_none, nat_lt, nat_le, ◌==◌, ◌&&◌, ◌||◌, not, if◌then◌else◌, slice_index_or}
+-- Restates the exceptions of `fork`, `join`, `close` and `Subtask.get` in the API documentation
+-- (`IllegalStateException`, `WrongThreadException`, `StructureViolationException`) and of
+-- `ScopedValue.get` (`NoSuchElementException`). The fault Operand, the limits, the order of the
+-- kinds, WrongThread and IllegalState of `tally` and `total`, Structure of `ret` and `fail`, and
+-- not reading after a timeout are own.
+use Rattle.std.specs.Prelude.{◌≡◌, ℕ, ◌+◌, ◌-◌, List, [], ◌∷◌, length, Bool, true, false, Option}
+use Rattle.std.specs.Prelude.{Some, None, is_some, is_none, nat_lt, nat_le, ◌==◌, ◌&&◌, ◌||◌, not}
+use Rattle.std.specs.Prelude.{if◌then◌else◌, slice_index_or}
 use Rattle.sts_code.specs.Program.{Program, routine}
-use Rattle.sts_code.specs.declared.limits.TheConstants.{MAX_BIRTHS, MAX_ENTRIES, MAX_LOOPS, MAX_OPERANDS, MAX_STANDING}
+use Rattle.sts_code.specs.declared.limits.TheConstants.{MAX_BIRTHS, MAX_ENTRIES, MAX_LOOPS}
+use Rattle.sts_code.specs.declared.limits.TheConstants.{MAX_OPERANDS, MAX_STANDING}
 use Rattle.sts_code.specs.declared.instr.Instr.{Instr}
-use Rattle.sts_code.specs.declared.instr.Instr.TheVariants.{Push, Pop, Dup, Swap, Load, Store, Add, Sub, Mul, Lt, Eq, Div, Jz, Times, Next, Open, Fork, Join, Close, Cancelled, Case, Get, Except, Tally, Total, Forget, Bind, Unbind, Read, Bound, OrElse, Interrupted, Ret, Fail}
+use Rattle.sts_code.specs.declared.instr.Instr.TheVariants.{Push, Pop, Dup, Swap, Load, Store, Add}
+use Rattle.sts_code.specs.declared.instr.Instr.TheVariants.{Sub, Mul, Lt, Eq, Div, Jz, Times, Next}
+use Rattle.sts_code.specs.declared.instr.Instr.TheVariants.{Open, Fork, Join, Close, Cancelled}
+use Rattle.sts_code.specs.declared.instr.Instr.TheVariants.{Case, Get, Except, Tally, Total, Forget}
+use Rattle.sts_code.specs.declared.instr.Instr.TheVariants.{Bind, Unbind, Read, Bound, OrElse}
+use Rattle.sts_code.specs.declared.instr.Instr.TheVariants.{Interrupted, Ret, Fail}
 use Rattle.sts_code.specs.declared.profile.Profile.{Profile}
 use Rattle.sts_code.specs.declared.profile.Profile.TheVariants.{One, Two}
 use Rattle.sts_code.specs.declared.instr.Joiner.{Joiner}
-use Rattle.sts_code.specs.declared.instr.Joiner.TheVariants.{AllSucceed, AnySucceeds, AwaitOk, AwaitAll}
-use Rattle.sts_code.specs.Facts.{pops, pushes, owners_slot, subtask_slot, filled_slot, can_fail, is_await_all, same, is_two}
+use Rattle.sts_code.specs.declared.instr.Joiner.TheVariants.{AllSucceed, AnySucceeds, AwaitOk}
+use Rattle.sts_code.specs.declared.instr.Joiner.TheVariants.{AwaitAll}
+use Rattle.sts_code.specs.Facts.{pops, pushes, owners_slot, subtask_slot, filled_slot, can_fail}
+use Rattle.sts_code.specs.Facts.{is_await_all, same, is_two}
 use Rattle.sts_code.specs.Loops.{match_of, is_at}
 use Rattle.sts_model.specs.declared.event.Fault.{Fault}
-use Rattle.sts_model.specs.declared.event.Fault.TheVariants.{IllegalState, WrongThread, Structure, Operand, Unbound}
+use Rattle.sts_model.specs.declared.event.Fault.TheVariants.{IllegalState, WrongThread, Structure}
+use Rattle.sts_model.specs.declared.event.Fault.TheVariants.{Operand, Unbound}
 use Rattle.sts_model.specs.declared.event.End.{End}
 use Rattle.sts_model.specs.declared.event.End.TheVariants.{Success, Failed}
 use Rattle.sts_model.specs.declared.event.Phase.{Phase}
@@ -46,7 +59,8 @@ abbrev pub closes_loop : List Instr → ℕ → List Loop → Bool
 closes_loop is pc [] = false
 closes_loop is pc (l ∷ ls) = is_at (match_of is l.at) pc
 
--- a `times` without match or with 8 loops open; a `next` that isn't the match of the innermost open loop
+-- a `times` without match or with 8 loops open; a `next` that isn't the match of the innermost open
+-- loop
 abbrev pub breaks_loop : Program → Frame → Instr → Bool
 breaks_loop p f (Times n) = is_none (match_of (code p f) f.pc) || nat_le MAX_LOOPS (length f.loops)
 breaks_loop p f Next = not (closes_loop (code p f) f.pc f.loops)
@@ -84,7 +98,9 @@ at_slot f (Some x) test = test (slot f x)
 abbrev pub has_wrong_slot : Frame → Instr → Bool
 has_wrong_slot f (Cancelled s) = not (is_scope (slot f s))
 has_wrong_slot f i =
-    at_slot f (owners_slot i) (λ x. not (is_scope x)) || at_slot f (subtask_slot i) (λ x. not (is_sub x)) || at_slot f (filled_slot i) (λ x. not (is_empty x))
+    at_slot f (owners_slot i) (λ x. not (is_scope x))
+    || at_slot f (subtask_slot i) (λ x. not (is_sub x))
+    || at_slot f (filled_slot i) (λ x. not (is_empty x))
 
 -- only the owner may: the scope is lent
 abbrev pub is_strangers : Frame → Instr → Bool
@@ -106,11 +122,13 @@ at_sub w _ test = false
 abbrev pub joins_wrongly : Frame → Option ℕ → Option ℕ → Scope → Bool
 joins_wrongly f failed timeout scope =
     (nat_le MAX_OPERANDS (length f.operands) && not (is_await_all scope.joiner))
-    || not (same (is_some failed) (can_fail scope.joiner)) || not (same (is_some timeout) scope.timed)
+    || not (same (is_some failed) (can_fail scope.joiner))
+    || not (same (is_some timeout) scope.timed)
 
 -- a `join` whose form does not fit its scope
 abbrev pub misjoins : World → Frame → Instr → Bool
-misjoins w f (Join s failed timeout interrupted) = at_own w (slot f s) (λ _ scope. joins_wrongly f failed timeout scope)
+misjoins w f (Join s failed timeout interrupted) =
+    at_own w (slot f s) (λ _ scope. joins_wrongly f failed timeout scope)
 misjoins w f _ = false
 
 -- 65,536 stand, or 1,000,000 were born?
@@ -119,7 +137,8 @@ is_crowded standing born = nat_le MAX_STANDING standing || nat_le MAX_BIRTHS bor
 
 -- no room for an entry, a scope or a task
 abbrev pub has_no_room : World → Frame → Instr → Bool
-has_no_room w f (Open s j timed) = nat_le MAX_ENTRIES (length f.entries) || is_crowded (standing_scopes w) (length w.scopes)
+has_no_room w f (Open s j timed) =
+    nat_le MAX_ENTRIES (length f.entries) || is_crowded (standing_scopes w) (length w.scopes)
 has_no_room w f (Bind k) = nat_le MAX_ENTRIES (length f.entries)
 has_no_room w f (Fork s g h) = is_crowded (standing_tasks w) (length w.tasks)
 has_no_room w f _ = false
@@ -159,12 +178,16 @@ is_readable profile scope = is_joined scope.phase && (is_two profile || not scop
 -- is the scope or subtask not in the state for it?
 abbrev pub is_illegal : Program → World → Frame → Instr → Bool
 is_illegal p w f (Fork s g h) = at_own w (slot f s) (λ _ scope. not (is_opened scope.phase))
-is_illegal p w f (Join s failed timeout i) = at_own w (slot f s) (λ _ scope. not (can_join scope.phase))
-is_illegal p w f (Close s) = at_own w (slot f s) (λ n scope. is_opened scope.phase && nat_lt 0 (subtask_count w n))
+is_illegal p w f (Join s failed timeout i) =
+    at_own w (slot f s) (λ _ scope. not (can_join scope.phase))
+is_illegal p w f (Close s) =
+    at_own w (slot f s) (λ n scope. is_opened scope.phase && nat_lt 0 (subtask_count w n))
 is_illegal p w f (Tally s k) = at_own w (slot f s) (λ _ scope. not (is_readable p.profile scope))
 is_illegal p w f (Total s) = at_own w (slot f s) (λ _ scope. not (is_readable p.profile scope))
-is_illegal p w f (Get h) = at_sub w (slot f h) (λ t scope. not (is_readable p.profile scope && is_success (sub_state w t)))
-is_illegal p w f (Except h) = at_sub w (slot f h) (λ t scope. not (is_readable p.profile scope && is_failed (sub_state w t)))
+is_illegal p w f (Get h) =
+    at_sub w (slot f h) (λ t scope. not (is_readable p.profile scope && is_success (sub_state w t)))
+is_illegal p w f (Except h) =
+    at_sub w (slot f h) (λ t scope. not (is_readable p.profile scope && is_failed (sub_state w t)))
 is_illegal p w f _ = false
 
 -- ---- the structure list
@@ -191,7 +214,8 @@ binds_after s (entry.Scope r ∷ es) = if r == s then false else binds_after s e
 -- against the order of the structure list
 abbrev pub breaks_structure : World → Frame → Instr → Bool
 breaks_structure w f (Fork s g h) = at_own w (slot f s) (λ n _. binds_after n f.entries)
-breaks_structure w f (Close s) = at_own w (slot f s) (λ n _. not (innermost (is_entry_of n) f.entries))
+breaks_structure w f (Close s) =
+    at_own w (slot f s) (λ n _. not (innermost (is_entry_of n) f.entries))
 breaks_structure w f Unbind = not (innermost is_binding f.entries)
 breaks_structure w f Ret = nat_lt 0 (length f.entries)
 breaks_structure w f Fail = nat_lt 0 (length f.entries)
@@ -207,7 +231,8 @@ is_unbound w t _ = false
 -- any row of the kind Operand
 abbrev pub misuses_operand : Program → World → Frame → Instr → Bool
 misuses_operand p w f i =
-    lacks_operands p f i || overflows p f i || breaks_loop p f i || has_wrong_slot f i || misjoins w f i || has_no_room w f i
+    lacks_operands p f i || overflows p f i || breaks_loop p f i || has_wrong_slot f i
+    || misjoins w f i || has_no_room w f i
 
 -- the fault of an instruction, the first kind that applies
 abbrev pub fault_of : Program → World → ℕ → Frame → Instr → Option Fault

@@ -1,6 +1,7 @@
 -- What comes from outside: interrupts and expiries.
--- Restates `Thread.interrupt` and the timeout of `StructuredTaskScope.Configuration.withTimeout`. That an expiry is
--- an event handed in, and that it marks a scope which is cancelled already, is this project's own.
+-- Restates `Thread.interrupt` and the timeout of `StructuredTaskScope.Configuration.withTimeout`.
+-- That an expiry is an event handed in, and that it marks a scope which is cancelled already, is
+-- this project's own.
 use Rattle.std.specs.Prelude.{ℕ, Bool, true, ◌&&◌, not, if◌then◌else◌}
 use Rattle.sts_model.specs.declared.record.Scope.{Scope}
 use Rattle.sts_model.specs.World.{World, task_at, scope_at, with_task, with_scope}
@@ -10,12 +11,16 @@ use Rattle.sts_model.specs.Misuse.{can_join}
 
 -- sets the flag of a living task
 abbrev pub interrupt : World → ℕ → World
-interrupt w t = if lives (task_at w t) then with_task w t (record (task_at w t) { flag = true }) else w
+interrupt w t =
+    if lives (task_at w t) then with_task w t (record (task_at w t) { flag = true }) else w
 
--- may this scope expire now? Its `join` has had no outcome but interrupted, and its close has not begun
+-- may this scope expire now? Its `join` has had no outcome but interrupted, and its close has not
+-- begun
 abbrev pub can_expire : Scope → Bool
 can_expire scope = scope.timed && not scope.expired && can_join scope.phase
 
 -- marks the scope and cancels it
 abbrev pub expire : World → ℕ → World
-expire w s = if can_expire (scope_at w s) then cancel (with_scope w s (record (scope_at w s) { expired = true })) s else w
+expire w s =
+    if can_expire (scope_at w s)
+    then cancel (with_scope w s (record (scope_at w s) { expired = true })) s else w

@@ -1,12 +1,14 @@
 -- One step, one event, lists of events, and the steps taken (this project's own).
-use Rattle.std.specs.Prelude.{ℕ, ◌+◌, List, [], ◌∷◌, Bool, true, false, Option, Some, None, ◌&&◌, if◌then◌else◌, fold}
+use Rattle.std.specs.Prelude.{ℕ, ◌+◌, List, [], ◌∷◌, Bool, true, false, Option, Some, None, ◌&&◌}
+use Rattle.std.specs.Prelude.{if◌then◌else◌, fold}
 use Rattle.sts_code.specs.Program.{Program}
 use Rattle.sts_code.specs.declared.instr.Instr.{Instr}
 use Rattle.sts_model.specs.declared.event.Event.{Event}
 use Rattle.sts_model.specs.declared.event.Event.TheVariants as event
 use Rattle.sts_model.specs.declared.event.Fault.{Fault}
 use Rattle.sts_model.specs.declared.record.Frame.{Frame}
-use Rattle.sts_model.specs.World.{World, State, Running, Faulted, opening, instr_at, task_at, scope_at}
+use Rattle.sts_model.specs.World.{World, State, Running, Faulted, opening, instr_at, task_at}
+use Rattle.sts_model.specs.World.{scope_at}
 use Rattle.sts_model.specs.Living.{lives}
 use Rattle.sts_model.specs.Misuse.{misuse}
 use Rattle.sts_model.specs.Waiting.{can_step}
@@ -38,7 +40,8 @@ apply p (Running w) (event.Expire s) = Running (expire w s)
 abbrev pub after : Program → List Event → State
 after p events = fold (apply p) (opening p) events
 
--- does the event count: a step of a task that can step, an interrupt of a living task, an expiry that marks a scope?
+-- does the event count: a step of a task that can step, an interrupt of a living task, an expiry
+-- that marks a scope?
 abbrev pub counts : Program → State → Event → Bool
 counts p (Faulted kind t f pc) e = false
 counts p (Running w) (event.Step t) = can_step p w t

@@ -1,7 +1,8 @@
 -- Where a task stands, and which tasks can step.
--- Restates `join` and `close` of `StructuredTaskScope`: `join` waits until all subtasks have completed or the scope is cancelled, `close` until
--- all threads have finished. That an interrupt ends the wait of `join` and not that of `close` is said there too; the order in which
--- `join` looks is this project's own.
+-- Restates `join` and `close` of `StructuredTaskScope`: `join` waits until all subtasks have
+-- completed or the scope is cancelled, `close` until all threads have finished. That an interrupt
+-- ends the wait of `join` and not that of `close` is said there too; the order in which `join`
+-- looks is this project's own.
 use Rattle.std.specs.Prelude.{ℕ, Bool, true, Option, Some, None, ◌&&◌, ◌||◌, not, if◌then◌else◌}
 use Rattle.sts_code.specs.Program.{Program}
 use Rattle.sts_code.specs.declared.instr.Instr.{Instr}
@@ -16,7 +17,8 @@ use Rattle.sts_model.specs.World.{World, task_at, scope_at, instr_at}
 use Rattle.sts_model.specs.Living.{lives, any_lives}
 use Rattle.sts_model.specs.Misuse.{slot, is_closing, misuse}
 
--- at the `join` of a scope that the slot owns, where nothing is misused; a misused `join` steps into its fault
+-- at the `join` of a scope that the slot owns, where nothing is misused; a misused `join` steps
+-- into its fault
 abbrev pub stands_at_join : Option Fault → Slot → Stand
 stands_at_join None (Own s) = AtJoin s
 stands_at_join _ _ = Free
@@ -27,7 +29,8 @@ stands_at_close w (Own s) = if is_closing (scope_at w s).phase then AtClose s el
 stands_at_close w _ = Free
 
 abbrev pub stand_at_instr : Program → World → ℕ → Option Instr → Stand
-stand_at_instr p w t (Some (Join x failed timeout interrupted)) = stands_at_join (misuse p w t) (slot (task_at w t).frame x)
+stand_at_instr p w t (Some (Join x failed timeout interrupted)) =
+    stands_at_join (misuse p w t) (slot (task_at w t).frame x)
 stand_at_instr p w t (Some (Close x)) = stands_at_close w (slot (task_at w t).frame x)
 stand_at_instr p w t _ = Free
 
@@ -38,7 +41,8 @@ stand_at p w t = stand_at_instr p w t (instr_at p (task_at w t).frame)
 -- may the task go on from where it stands?
 abbrev pub can_go : World → Task → Stand → Bool
 can_go w task Free = true
-can_go w task (AtJoin s) = (scope_at w s).expired || (scope_at w s).cancelled || not (any_lives w s) || task.flag
+can_go w task (AtJoin s) =
+    (scope_at w s).expired || (scope_at w s).cancelled || not (any_lives w s) || task.flag
 can_go w task (AtClose s) = not (any_lives w s)
 
 abbrev pub can_step : Program → World → ℕ → Bool

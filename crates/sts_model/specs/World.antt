@@ -1,6 +1,8 @@
 -- The state of the plain machine: all tasks and all scopes that were ever born, by birth number.
--- Restates "Description" of JEP 505 (a scope, its owner and its subtasks); that nothing is ever forgotten is this project's own.
-use Rattle.std.specs.Prelude.{ℕ, ◌-◌, ℤ, pos, List, [], ◌∷◌, ◌++◌, length, true, false, Option, None, replicate, slice_get, slice_set, slice_index_or}
+-- Restates "Description" of JEP 505 (a scope, its owner and its subtasks); that nothing is ever
+-- forgotten is this project's own.
+use Rattle.std.specs.Prelude.{ℕ, ◌-◌, ℤ, pos, List, [], ◌∷◌, ◌++◌, length, true, false, Option}
+use Rattle.std.specs.Prelude.{None, replicate, slice_get, slice_set, slice_index_or}
 use Rattle.sts_code.specs.Program.{Program, routine}
 use Rattle.sts_code.specs.declared.instr.Instr.{Instr}
 use Rattle.sts_code.specs.declared.instr.Joiner.TheVariants.{AwaitAll}
@@ -40,16 +42,40 @@ entry_locals args = args ++ replicate (16 - length args) (pos 0)
 -- the frame at the beginning of a function, with these arguments, and this in slot 0
 abbrev pub entry_frame : ℕ → List ℤ → Slot → Frame
 entry_frame function args slot =
-    record { function = function; pc = 0; operands = []; locals = entry_locals args; loops = []; entries = []; slots = slot ∷ replicate 15 Empty }
+    record {
+      function = function;
+      pc = 0;
+      operands = [];
+      locals = entry_locals args;
+      loops = [];
+      entries = [];
+      slots = slot ∷ replicate 15 Empty;
+    }
 
 -- what is read where no task was born
 abbrev pub no_task : Task
-no_task = record { frame = entry_frame 0 [] Empty; started = false; flag = false; scope = None; outcome = None }
+no_task =
+    record {
+      frame = entry_frame 0 [] Empty;
+      started = false;
+      flag = false;
+      scope = None;
+      outcome = None;
+    }
 
 -- what is read where no scope was born: nothing can be done with it
 abbrev pub no_scope : Scope
 no_scope =
-    record { owner = 0; joiner = AwaitAll; timed = false; phase = Closed; cancelled = false; expired = false; completions = []; environment = [] }
+    record {
+      owner = 0;
+      joiner = AwaitAll;
+      timed = false;
+      phase = Closed;
+      cancelled = false;
+      expired = false;
+      completions = [];
+      environment = [];
+    }
 
 -- the task, the scope of this birth number
 abbrev pub task_at : World → ℕ → Task
@@ -73,4 +99,13 @@ with_frame w t f = with_task w t (record (task_at w t) { frame = f })
 -- the root task of the last function, `main`
 abbrev pub opening : Program → State
 opening p =
-    Running (record { tasks = record { frame = entry_frame (length p.routines - 1) [] Empty; started = true; flag = false; scope = None; outcome = None } ∷ []; scopes = [] })
+    Running (record {
+      tasks = record {
+        frame = entry_frame (length p.routines - 1) [] Empty;
+        started = true;
+        flag = false;
+        scope = None;
+        outcome = None;
+      } ∷ [];
+      scopes = [];
+    })

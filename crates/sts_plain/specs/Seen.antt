@@ -1,5 +1,7 @@
--- What contracts see of the plain machine: its program, its state and the steps that it took (this project's own).
-use Rattle.std.specs.Prelude.{◌≡◌, ℕ, ◌+◌, ◌-◌, ◌^◌, ◌<◌, List, length, take, fold, Bool, Option, Some, None, min, if◌then◌else◌, ◌&&◌}
+-- What contracts see of the plain machine: its program, its state and the steps that it took (this
+-- project's own).
+use Rattle.std.specs.Prelude.{◌≡◌, ℕ, ◌+◌, ◌-◌, ◌^◌, ◌<◌, List, length, take, fold, Bool, Option}
+use Rattle.std.specs.Prelude.{Some, None, min, if◌then◌else◌, ◌&&◌}
 use Rattle.sts_code.specs.Program.{Program}
 use Rattle.sts_model.specs.declared.event.Event.{Event}
 use Rattle.sts_model.specs.World.{World, State, Running, Faulted}
@@ -26,7 +28,10 @@ one_more b n = if b then min (n + 1) (2 ^ 64 - 1) else n
 -- what is seen after an event
 abbrev pub after_event : Seen → Event → Seen
 after_event s e =
-    record s { state = apply s.program s.state e; steps = one_more (is_step e && counts s.program s.state e) s.steps }
+    record s {
+      state = apply s.program s.state e;
+      steps = one_more (is_step e && counts s.program s.state e) s.steps;
+    }
 
 -- so many of the events were applied, in order, and the one after them was not
 pub record AppliesFirst (old new : Seen) (events : List Event) : Type 0 where

@@ -46,7 +46,8 @@ fn closes_loop(code: &[Instr], frame: &Frame) -> bool
     }
 }
 
-/// Is a `times` without a match or one loop too many, or a `next` that isn't the match of the innermost loop?
+/// Is a `times` without a match or one loop too many, or a `next` that isn't the match of the
+/// innermost loop?
 pub fn breaks_loop(program: &Program, frame: &Frame, instr: Instr) -> bool
     ensures { result ≡ misuse.breaks_loop program.now frame.now instr }
 {

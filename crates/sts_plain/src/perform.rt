@@ -1,6 +1,7 @@
 //! One instruction of one task.
 
-ghost use Rattle.std.specs.Prelude.{◌≡◌, ◌<◌, ◌+◌, ◌-◌, ◌^◌, length, [], ◌∷◌, OnOk, OnErr, true, false, Some, None};
+ghost use Rattle.std.specs.Prelude.{◌≡◌, ◌<◌, ◌+◌, ◌-◌, ◌^◌, length, [], ◌∷◌, OnOk, OnErr, true};
+ghost use Rattle.std.specs.Prelude.{false, Some, None};
 ghost use Rattle.sts_code.specs.declared.limits.TheConstants.{MAX_OPERANDS};
 ghost use Rattle.sts_model.specs.Effect as effect;
 ghost use Rattle.sts_model.specs.Living as living;

@@ -1,4 +1,5 @@
-//! Each cause of a refusal: a text that is refused for it, and a neighbour of that text that is accepted.
+//! Each cause of a refusal: a text that is refused for it, and a neighbour of that text that is
+//! accepted.
 
 use crate::row::{Part, verifies};
 use std::alloc::Global;

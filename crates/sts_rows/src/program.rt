@@ -305,7 +305,8 @@ fn a_run_without_its_files_prints_that_alone(rt: HostRuntime) -> Result<(), Fail
         6,
         no_file,
     )?;
-    // The file of the trace is made before the texts are judged, the outside text before the verdict.
+    // The file of the trace is made before the texts are judged, the outside text before the
+    // verdict.
     run_fails(
         &rt,
         alloc,

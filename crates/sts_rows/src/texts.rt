@@ -225,7 +225,8 @@ fn an_instruction_more_than_a_function_may_have(rt: HostRuntime) -> Result<(), F
     )
 }
 
-/// Every beginning is refused but the one that lacks only the last newline; that one's status is given.
+/// Every beginning is refused but the one that lacks only the last newline; that one's status is
+/// given.
 fn cut_off<R: Abort>(rt: &R, alloc: Global, mode: Mode, whole: u8) -> Result<(), Fail> {
     let text = lines(alloc, TWO_SUBTASKS)?;
     let text = text.as_bytes();

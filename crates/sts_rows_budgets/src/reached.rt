@@ -1,4 +1,5 @@
-//! Budgets and runs: a run that reaches all four budgets exactly, and for each budget a text of which no run reaches it.
+//! Budgets and runs: a run that reaches all four budgets exactly, and for each budget a text of
+//! which no run reaches it.
 
 use std::alloc::Global;
 use std::process::Abort;
@@ -32,11 +33,13 @@ struct Reach {
     run: Costs,
 }
 
-/// Each `close` is met while a subtask lives, since the `join` before it is interrupted: it takes both its steps. When
-/// the two leaves have bound their key, all tasks, scopes and bindings stand at once.
+/// Each `close` is met while a subtask lives, since the `join` before it is interrupted: it takes
+/// both its steps. When the two leaves have bound their key, all tasks, scopes and bindings stand
+/// at once.
 ///
-/// A leaf has 5 steps. A subtask has 1 for `open`, 1 and 5 for `fork`, 1 for `join`, 1 for `push`, 2 for `close` and 1
-/// for `ret`, which are 12. `main` has 1, twice 1 and 12, 1, 1, 2 and 1, which are 32.
+/// A leaf has 5 steps. A subtask has 1 for `open`, 1 and 5 for `fork`, 1 for `join`, 1 for `push`,
+/// 2 for `close` and 1 for `ret`, which are 12. `main` has 1, twice 1 and 12, 1, 1, 2 and 1, which
+/// are 32.
 const ALL_AT_ONCE: &str = "\
     func leaf 0\npush 5\nbind 1\nunbind\npush 7\nret\nend\n\
     func kid 0\nopen s1 awaitall\nfork s1 leaf _\njoin s1 - - intr\npush 0\nclose s1\n\

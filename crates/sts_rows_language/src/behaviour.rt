@@ -1,4 +1,5 @@
-//! What scopes do: cancelling, interrupts, expiries, what a subtask is handed, and what is read of it.
+//! What scopes do: cancelling, interrupts, expiries, what a subtask is handed, and what is read of
+//! it.
 
 use crate::table::walk_table;
 use std::test::Fail;

@@ -1,11 +1,12 @@
-//! Misuse, row by row: which fault stops the plain machine, and for which cause the verifier refuses the same place.
+//! Misuse, row by row: which fault stops the plain machine, and for which cause the verifier
+//! refuses the same place.
 
 use crate::place::Place;
 use std::alloc::Global;
 use std::test::Fail;
 
-/// The kind of fault, or `goes` where it is none; the cause, or `-` where the verifier isn't asked; the instruction;
-/// what stands before it in `main`; and the trace that leads to it.
+/// The kind of fault, or `goes` where it is none; the cause, or `-` where the verifier isn't asked;
+/// the instruction; what stands before it in `main`; and the trace that leads to it.
 const WRONG_SLOTS: &str = "
 Operand V9 | fork s0 none _ |  |
 Operand V9 | join s0 - - x |  |
@@ -169,7 +170,8 @@ goes V15 | fork s0 needy _ | push 1 / bind 1 / open s0 all | 0*3
 goes - | fork s0 needy _ | push 1 / bind 2 / open s0 all | 0*3
 ";
 
-/// Two kinds of misuse at once, and two causes: the first kind is the fault, and the least cause refuses.
+/// Two kinds of misuse at once, and two causes: the first kind is the fault, and the least cause
+/// refuses.
 const TWO_AT_ONCE: &str = "
 Operand V1 | fork s0 two _ |  |
 Operand V1 | fork s0 two s0 | open s0 all | 0*1
@@ -193,7 +195,8 @@ IllegalState V12 | fork s0 needy _ | JOINED | 0*2 1*2 0*1
 Structure V13 | fork s0 needy _ | open s0 all / push 1 / bind 0 | 0*3
 ";
 
-/// In a subtask, whose slot 0 holds its parent scope: the kind, the cause, the instruction, and what stands before it.
+/// In a subtask, whose slot 0 holds its parent scope: the kind, the cause, the instruction, and
+/// what stands before it.
 const IN_A_SUBTASK: &str = "
 WrongThread V11 | fork s0 none _ |  |
 WrongThread V11 | fork s0 none s1 |  |

@@ -7,16 +7,18 @@ use sts_row::playing::runs;
 
 /// A joiner, the ends of the subtasks in order of completion, and what the root ends with.
 ///
-/// `s4` is a success with the value 4 and `f7` a failure with the code 7. The subtasks are forked in the other order,
-/// so the first to complete was forked last. After each end the owner asks whether the scope is cancelled; after the
-/// `join`, at ok as at failed, it counts. The number has the digits
+/// `s4` is a success with the value 4 and `f7` a failure with the code 7. The subtasks are forked
+/// in the other order, so the first to complete was forked last. After each end the owner asks
+/// whether the scope is cancelled; after the `join`, at ok as at failed, it counts. The number has
+/// the digits
 ///
 /// - what `join` pushed (0 where it pushes nothing),
 /// - how many of the questions were answered by 1,
 /// - the subtasks that are a success, failed and unavailable,
 /// - and, in the last two, the sum of the values of those that are a success.
 ///
-/// So `failed 7211104`: the code 7; two answers 1; one success, one failed, one unavailable; a sum of 4.
+/// So `failed 7211104`: the code 7; two answers 1; one success, one failed, one unavailable; a sum
+/// of 4.
 const ALL_AND_ANY: &str = "
 all |  | success 0
 all | s4 | success 1010004
@@ -45,7 +47,8 @@ awaitall | s4 s5 | success 20009
 awaitall | f7 s4 f8 | success 12004
 ";
 
-/// A predicate at its limit, one below and one above. What the predicate doesn't count is told, but cancels nothing.
+/// A predicate at its limit, one below and one above. What the predicate doesn't count is told, but
+/// cancels nothing.
 const UNTIL: &str = "
 until failed 1 |  | success 0
 until failed 1 | s4 f7 | success 2111004
@@ -127,7 +130,8 @@ fn text_of(alloc: Global, joiner: &str, ends: &str) -> Result<String, Fail> {
     Ok(text)
 }
 
-/// The trace of a row: the forks; then the subtasks' two steps, the last born first, each before a question; the rest.
+/// The trace of a row: the forks; then the subtasks' two steps, the last born first, each before a
+/// question; the rest.
 fn trace_of(alloc: Global, ends: &str) -> Result<String, Fail> {
     let subtasks = ends.split_ascii_whitespace().count();
     let mut trace = "step 0\n".repeat(alloc, subtasks.saturating_mul(2).saturating_add(1))?;
@@ -150,7 +154,8 @@ fn ends_so(alloc: Global, table: &str) -> Result<u32, Fail> {
         let text = text_of(alloc, joiner, ends)?;
         let trace = trace_of(alloc, ends)?;
         let subtasks = ends.split_ascii_whitespace().count();
-        // `open`, a push and a fork for each subtask, its two steps, the question's four, the `join`, and the counts.
+        // `open`, a push and a fork for each subtask, its two steps, the question's four, the
+        // `join`, and the counts.
         let filler = usize::from(joiner.starts_with("await") && ended.starts_with("success"));
         let steps = subtasks
             .saturating_mul(8)

@@ -1,4 +1,5 @@
-//! Rows over the whole language: each instruction, joiner, misuse, cause and limit, with answers worked out by hand.
+//! Rows over the whole language: each instruction, joiner, misuse, cause and limit, with answers
+//! worked out by hand.
 #![tactic(auto)]
 
 #[cfg(test)]

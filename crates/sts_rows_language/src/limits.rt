@@ -49,7 +49,8 @@ INTR
 = 0 success 65533 / steps 262196
 ";
 
-/// A scope at each of 1,000,000 turns, and one more: 2 + 100 * (2 + 10000 * 3 + 1) steps, and the fault.
+/// A scope at each of 1,000,000 turns, and one more: 2 + 100 * (2 + 10000 * 3 + 1) steps, and the
+/// fault.
 const BIRTHS: &str = "
 # the 1,000,001st scope
 func main 0 / push 100 / times 100 / push 10000 / times 10000 / open s0 awaitall / close s0
@@ -58,7 +59,8 @@ next / next / open s0 awaitall / push 0 / ret / end
 = 5 fault Operand task 0 in main at 8 / steps 3000303
 ";
 
-/// 4,096 instructions, and one more; a cause and a fault at the last but one; faults of texts on late lines.
+/// 4,096 instructions, and one more; a cause and a fault at the last but one; faults of texts on
+/// late lines.
 const LONG: &str = "
 func main 0 / 2047 * push 1, pop / push 1 / ret / end
 ? 0*4096

@@ -1,5 +1,5 @@
-//! What each instruction pops and pushes, at its limits: with an operand too few, with just enough, with as many as
-//! leave room for what is pushed, and with one more.
+//! What each instruction pops and pushes, at its limits: with an operand too few, with just enough,
+//! with as many as leave room for what is pushed, and with one more.
 
 use crate::place::Place;
 use std::alloc::Global;

@@ -1,4 +1,5 @@
-//! An instruction behind some setup: what the plain machine does there, and what the verifier says of it.
+//! An instruction behind some setup: what the plain machine does there, and what the verifier says
+//! of it.
 
 use crate::table::push_text;
 use std::alloc::Global;

@@ -164,8 +164,8 @@ func main 0 / open s0 all / fork s0 kid _ / jmp x / end
 = 3 error A5 line 3
 ";
 
-/// Numbers, slots and other operands: A3 and A4. A field's greatest number is a number, and C6 tells that it is too
-/// much for the program.
+/// Numbers, slots and other operands: A3 and A4. A field's greatest number is a number, and C6
+/// tells that it is too much for the program.
 const OPERANDS: &str = "
 push 9223372036854775807 | ok
 push 9223372036854775808 | A3

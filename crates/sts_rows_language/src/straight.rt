@@ -1,4 +1,5 @@
-//! Instructions of one task in a straight line: each with operands that tell it from its neighbours.
+//! Instructions of one task in a straight line: each with operands that tell it from its
+//! neighbours.
 
 use crate::table::push_text;
 use std::alloc::Global;

@@ -1,6 +1,7 @@
 //! Tables of rows: their notation, and how they are walked.
 //!
-//! A table is one string, so that a row costs its letters and nothing else. An empty line ends a row. In a row
+//! A table is one string, so that a row costs its letters and nothing else. An empty line ends a
+//! row. In a row
 //!
 //! - `# WORDS` names what follows and says why, where that isn't plain;
 //! - `? verify`, `? list` or `? TRACE` asks something of the text above it, a trace in the notation of `events`,
@@ -20,13 +21,13 @@ use sts_row::playing::{plays, runs};
 
 /// The lines that a word in capitals stands for.
 ///
-/// `KID` is a subtask that gives 0, `INTR` what `main` does after an interrupted join of slot 0, `BAD` what it does
-/// after a failed one, and then `INTR`. `ASKS` is a subtask that takes four steps, or five where its flag is set;
-/// `TIMED` a `main` that joins it twice, with a timeout; `BINDER` one that forks `mid` with key 2 bound to 6;
-/// `KNOWN_LATE` one that asks for the state of `kid` and joins it, with a timeout after which it reads a success.
-/// `FIVE` is a subtask of five scopes, and `FIFTEEN` one that opens 15 and closes the last.
-/// `ATTEMPTED`, `JOINED` and `LATE` are scopes after an interrupted join, an answer and a timeout, each with a subtask
-/// in slot 1.
+/// `KID` is a subtask that gives 0, `INTR` what `main` does after an interrupted join of slot 0,
+/// `BAD` what it does after a failed one, and then `INTR`. `ASKS` is a subtask that takes four
+/// steps, or five where its flag is set; `TIMED` a `main` that joins it twice, with a timeout;
+/// `BINDER` one that forks `mid` with key 2 bound to 6; `KNOWN_LATE` one that asks for the state of
+/// `kid` and joins it, with a timeout after which it reads a success. `FIVE` is a subtask of five
+/// scopes, and `FIFTEEN` one that opens 15 and closes the last. `ATTEMPTED`, `JOINED` and `LATE`
+/// are scopes after an interrupted join, an answer and a timeout, each with a subtask in slot 1.
 fn meaning(line: &str) -> &str {
     match line {
         "ASKS" => {

@@ -136,7 +136,8 @@ fn crowd(outer: u16, inner: u16) -> [Instr; 15] {
     ]
 }
 
-/// A child that opens 15 scopes, each in the one before it; slot 0 has the scope in which it is forked.
+/// A child that opens 15 scopes, each in the one before it; slot 0 has the scope in which it is
+/// forked.
 fn scopes_in_scopes(alloc: Global) -> Result<Vec<Instr>, Fail> {
     let mut code = Vec::new(alloc);
     for slot in 1..16u8 {

@@ -164,8 +164,8 @@ static WITH_A_CHILD: [Row; 11] = [
         main: FORKS,
         answer: Answer::Found(57, 2, 1, 16),
     },
-    // A scope that was closed stands no more, nor does its subtask: 1000 turns of `open`, `fork` (3),
-    // `join`, `close` (2), `jmp` and `next`, and 4 around them.
+    // A scope that was closed stands no more, nor does its subtask: 1000 turns of `open`, `fork`
+    // (3), `join`, `close` (2), `jmp` and `next`, and 4 around them.
     Row {
         name: "a scope at each turn",
         kid: RETURNS,

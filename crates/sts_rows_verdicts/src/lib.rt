@@ -1,4 +1,5 @@
-//! Rows of codes: what the verifier, the typing of a function and its budgets answer, each by itself.
+//! Rows of codes: what the verifier, the typing of a function and its budgets answer, each by
+//! itself.
 #![tactic(auto)]
 
 #[cfg(test)]

@@ -8,7 +8,8 @@ use sts_rules::budget::Budgets;
 use sts_verify::error::VerifyError;
 use sts_verify::verified::verify;
 
-/// What `verify` answers: the budgets of `main`, or the function, the place and the number of the cause.
+/// What `verify` answers: the budgets of `main`, or the function, the place and the number of the
+/// cause.
 #[derive(Clone, Copy, Debug, PartialEq, Eq)]
 enum Verdict {
     Accepted(Budgets),

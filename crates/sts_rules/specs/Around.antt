@@ -1,10 +1,13 @@
 -- Where an instruction may lead, and which loops are around a place (this project's own).
-use Rattle.std.specs.Prelude.{ℕ, ◌+◌, List, [], ◌∷◌, ◌++◌, Bool, true, false, ◌&&◌, Option, Some, None, nat_le, reverse, filter, drop, option_map, option_to_list, slice_index_or, if◌then◌else◌}
+use Rattle.std.specs.Prelude.{ℕ, ◌+◌, List, [], ◌∷◌, ◌++◌, Bool, true, false, ◌&&◌, Option, Some}
+use Rattle.std.specs.Prelude.{None, nat_le, reverse, filter, drop, option_map, option_to_list}
+use Rattle.std.specs.Prelude.{slice_index_or, if◌then◌else◌}
 use Rattle.std.specs.List.{range_with_len}
 use Rattle.sts_code.specs.Facts.{falls_through}
 use Rattle.sts_code.specs.Program.{instr_at}
 use Rattle.sts_code.specs.declared.instr.Instr.{Instr}
-use Rattle.sts_code.specs.declared.instr.Instr.TheVariants.{Div, Jmp, Jz, Times, Next, Join, Case, Ret, Fail}
+use Rattle.sts_code.specs.declared.instr.Instr.TheVariants.{Div, Jmp, Jz, Times, Next, Join, Case}
+use Rattle.sts_code.specs.declared.instr.Instr.TheVariants.{Ret, Fail}
 use Rattle.sts_code.specs.Loops.{match_of, is_times}
 
 abbrev pub next_place : ℕ → Instr → List ℕ
@@ -25,7 +28,8 @@ reaches_to pc (Some q) = nat_le pc q
 abbrev pub is_inside : List Instr → ℕ → ℕ → Bool
 is_inside code pc p = is_times (instr_at code p) && reaches_to pc (match_of code p)
 
--- the `times` before a place whose match isn't before it, the innermost first; one without match is around no place
+-- the `times` before a place whose match isn't before it, the innermost first; one without match is
+-- around no place
 abbrev pub around : List Instr → ℕ → List ℕ
 around code pc = filter (is_inside code pc) (reverse (range_with_len 0 pc))
 

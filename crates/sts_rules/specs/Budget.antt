@@ -1,17 +1,23 @@
--- The four budgets of a function: the steps of its control paths, and the most tasks, scopes and bindings that stand at a point of them (this project's own).
-use Rattle.std.specs.Prelude.{ℕ, ◌+◌, ◌<◌, List, [], ◌∷◌, ◌++◌, length, take, drop, sum_by, if◌then◌else◌, ◌==◌, unwrap_or, slice_index_or}
+-- The four budgets of a function: the steps of its control paths, and the most tasks, scopes and
+-- bindings that stand at a point of them (this project's own).
+use Rattle.std.specs.Prelude.{ℕ, ◌+◌, ◌<◌, List, [], ◌∷◌, ◌++◌, length, take, drop, sum_by}
+use Rattle.std.specs.Prelude.{if◌then◌else◌, ◌==◌, unwrap_or, slice_index_or}
 use Rattle.sts_code.specs.declared.instr.Instr.{Instr}
 use Rattle.sts_code.specs.declared.limits.TheConstants.{MAX_STANDING, MAX_STEPS}
-use Rattle.sts_code.specs.declared.instr.Instr.TheVariants.{Times, Next, Open, Fork, Close, Bind, Unbind, Ret, Fail}
+use Rattle.sts_code.specs.declared.instr.Instr.TheVariants.{Times, Next, Open, Fork, Close, Bind}
+use Rattle.sts_code.specs.declared.instr.Instr.TheVariants.{Unbind, Ret, Fail}
 use Rattle.sts_code.specs.Program.{Program, routine, instr_at}
 use Rattle.sts_rules.specs.declared.typing.Cause.{Cause}
-use Rattle.sts_rules.specs.declared.typing.Cause.TheVariants.{TooManySteps, TooManyTasks, TooManyScopes, TooManyBinds}
+use Rattle.sts_rules.specs.declared.typing.Cause.TheVariants.{TooManySteps, TooManyTasks}
+use Rattle.sts_rules.specs.declared.typing.Cause.TheVariants.{TooManyScopes, TooManyBinds}
 use Rattle.sts_rules.specs.declared.budget.Budgets.{Budgets}
 use Rattle.sts_rules.specs.Causes.{cause_number}
 use Rattle.sts_code.specs.Loops.{match_of}
 use Rattle.sts_rules.specs.Around.{next_place}
 use Rattle.sts_code.specs.Facts.{targets}
-use Rattle.sts_rules.specs.ControlPaths.{Shape, GoesTo, Repeats, EndsTurn, EndsPath, OpenEntry, OpenScope, OpenBinding, Skeleton, IsGreatest, IsPeak, PathCounts, PointHolds}
+use Rattle.sts_rules.specs.ControlPaths.{Shape, GoesTo, Repeats, EndsTurn, EndsPath, OpenEntry}
+use Rattle.sts_rules.specs.ControlPaths.{OpenScope, OpenBinding, Skeleton, IsGreatest, IsPeak}
+use Rattle.sts_rules.specs.ControlPaths.{PathCounts, PointHolds}
 
 -- what is read where there is no such function
 abbrev pub no_budget : Budgets
@@ -81,13 +87,16 @@ abbrev pub entries_sum : Measure → List OpenEntry → ℕ
 entries_sum k es = sum_by (entry_sum k) es
 
 abbrev pub tasks_measure : List Budgets → Measure
-tasks_measure earlier = record { scope = 0; binding = 0; subtask = λ f. (budget_at earlier f).tasks }
+tasks_measure earlier =
+    record { scope = 0; binding = 0; subtask = λ f. (budget_at earlier f).tasks }
 
 abbrev pub scopes_measure : List Budgets → Measure
-scopes_measure earlier = record { scope = 1; binding = 0; subtask = λ f. (budget_at earlier f).scopes }
+scopes_measure earlier =
+    record { scope = 1; binding = 0; subtask = λ f. (budget_at earlier f).scopes }
 
 abbrev pub binds_measure : List Budgets → Measure
-binds_measure earlier = record { scope = 0; binding = 1; subtask = λ f. (budget_at earlier f).binds }
+binds_measure earlier =
+    record { scope = 0; binding = 1; subtask = λ f. (budget_at earlier f).binds }
 
 -- the task itself, and the tasks of the subtasks in open scopes
 abbrev pub tasks_sum : List Budgets → List OpenEntry → ℕ
@@ -112,7 +121,9 @@ pub record IsBudget (earlier : List Budgets) (code : List Instr) (b : Budgets) :
 
 -- these are the budgets of the first functions of the program, in order
 abbrev pub AreBudgets : Program → List Budgets → Type 0
-AreBudgets p budgets = (f : ℕ) → f < length budgets → IsBudget (take f budgets) (routine p f).code (budget_at budgets f)
+AreBudgets p budgets =
+    (f : ℕ) → f < length budgets
+    → IsBudget (take f budgets) (routine p f).code (budget_at budgets f)
 
 -- more than the limit: on some control path, or at some point of one
 abbrev pub PathExceeds : Skeleton → ℕ → Type 0
@@ -124,11 +135,16 @@ PointExceeds c sum limit = (m : ℕ) × (PointHolds c sum m × (limit < m))
 -- the cause of a budget that passes its limit, V17 to V20
 abbrev pub Exceeds : List Budgets → List Instr → Cause → Type 0
 Exceeds earlier code TooManySteps = PathExceeds (skeleton earlier code) MAX_STEPS
-Exceeds earlier code TooManyTasks = PointExceeds (skeleton earlier code) (tasks_sum earlier) MAX_STANDING
-Exceeds earlier code TooManyScopes = PointExceeds (skeleton earlier code) (scopes_sum earlier) MAX_STANDING
-Exceeds earlier code TooManyBinds = PointExceeds (skeleton earlier code) (binds_sum earlier) MAX_STANDING
+Exceeds earlier code TooManyTasks =
+    PointExceeds (skeleton earlier code) (tasks_sum earlier) MAX_STANDING
+Exceeds earlier code TooManyScopes =
+    PointExceeds (skeleton earlier code) (scopes_sum earlier) MAX_STANDING
+Exceeds earlier code TooManyBinds =
+    PointExceeds (skeleton earlier code) (binds_sum earlier) MAX_STANDING
 Exceeds earlier code _ = ⊥
 
 -- the least of these causes
 abbrev pub IsLeastExcess : List Budgets → List Instr → Cause → Type 0
-IsLeastExcess earlier code c = Exceeds earlier code c × ((other : Cause) → cause_number other < cause_number c → ¬ Exceeds earlier code other)
+IsLeastExcess earlier code c =
+    Exceeds earlier code c
+    × ((other : Cause) → cause_number other < cause_number c → ¬ Exceeds earlier code other)

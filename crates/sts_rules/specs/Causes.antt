@@ -1,10 +1,15 @@
--- The causes of a refusal that are read off one instruction and one typestate, each a test (this project's own).
-use Rattle.std.specs.Prelude.{ℕ, ◌+◌, ◌-◌, List, [], ◌∷◌, ◌++◌, length, Bool, true, false, Option, Some, None, is_some, is_none, nat_lt, nat_le, ◌==◌, ◌&&◌, ◌||◌, not, if◌then◌else◌, slice_index_or, find, bytes_eq}
+-- The causes of a refusal that are read off one instruction and one typestate, each a test (this
+-- project's own).
+use Rattle.std.specs.Prelude.{ℕ, ◌+◌, ◌-◌, List, [], ◌∷◌, ◌++◌, length, Bool, true, false, Option}
+use Rattle.std.specs.Prelude.{Some, None, is_some, is_none, nat_lt, nat_le, ◌==◌, ◌&&◌, ◌||◌, not}
+use Rattle.std.specs.Prelude.{if◌then◌else◌, slice_index_or, find, bytes_eq}
 use Rattle.std.specs.List.{list_any, range_with_len}
 use Rattle.sts_code.specs.Program.{Program, routine}
 use Rattle.sts_code.specs.declared.limits.TheConstants.{MAX_ENTRIES, MAX_LOOPS, MAX_OPERANDS}
 use Rattle.sts_code.specs.declared.instr.Instr.{Instr}
-use Rattle.sts_code.specs.declared.instr.Instr.TheVariants.{Times, Next, Open, Fork, Join, Close, Cancelled, Get, Except, Tally, Total, Bind, Unbind, Read, Ret, Fail}
+use Rattle.sts_code.specs.declared.instr.Instr.TheVariants.{Times, Next, Open, Fork, Join, Close}
+use Rattle.sts_code.specs.declared.instr.Instr.TheVariants.{Cancelled, Get, Except, Tally, Total}
+use Rattle.sts_code.specs.declared.instr.Instr.TheVariants.{Bind, Unbind, Read, Ret, Fail}
 use Rattle.sts_code.specs.declared.profile.Profile.{Profile}
 use Rattle.sts_rules.specs.declared.typing.Cause.{Cause}
 use Rattle.sts_rules.specs.declared.typing.Cause.TheVariants as cause
@@ -19,7 +24,8 @@ use Rattle.sts_rules.specs.declared.typing.TypedEntry.{TypedEntry}
 use Rattle.sts_rules.specs.declared.typing.TypedEntry.TheVariants.{Scope, Binding}
 use Rattle.sts_rules.specs.declared.typing.TypedLoop.{TypedLoop}
 use Rattle.sts_code.specs.Loops.{match_of, is_at}
-use Rattle.sts_code.specs.Facts.{pops, pushes, owners_slot, subtask_slot, filled_slot, can_fail, is_await_all, same, is_two, targets}
+use Rattle.sts_code.specs.Facts.{pops, pushes, owners_slot, subtask_slot, filled_slot, can_fail}
+use Rattle.sts_code.specs.Facts.{is_await_all, same, is_two, targets}
 use Rattle.sts_rules.specs.TypeState.{TypeState, kind, scope_in, heads}
 use Rattle.sts_rules.specs.Around.{next_place, skipped_to, around, open_after}
 
@@ -68,7 +74,8 @@ lacks_operands p i s = nat_lt s.height (pops p i)
 
 -- a `join` with no room for the answer
 abbrev pub join_overflows : TypeState → Instr → Bool
-join_overflows s (Join x failed timeout interrupted) = nat_le MAX_OPERANDS s.height && at_own s x (passes (λ scope. not (is_await_all scope.joiner)))
+join_overflows s (Join x failed timeout interrupted) =
+    nat_le MAX_OPERANDS s.height && at_own s x (passes (λ scope. not (is_await_all scope.joiner)))
 join_overflows s _ = false
 
 -- V2: more than 32 operands afterwards
@@ -77,7 +84,8 @@ overflows p i s = nat_lt MAX_OPERANDS (s.height - pops p i + pushes i) || join_o
 
 -- V3: it leads to the end of the function
 abbrev pub falls_off : List Instr → ℕ → Instr → Bool
-falls_off code pc i = list_any (nat_le (length code)) (targets i ++ next_place pc i ++ skipped_to code pc i)
+falls_off code pc i =
+    list_any (nat_le (length code)) (targets i ++ next_place pc i ++ skipped_to code pc i)
 
 -- V4: a targets target that is no later place
 abbrev pub jumps_back : ℕ → Instr → Bool
@@ -98,7 +106,8 @@ is_unmatched code pc _ s = false
 abbrev pub is_other_loop : List Instr → List ℕ → ℕ → Bool
 is_other_loop code heads to = not (bytes_eq (around code to) heads)
 
--- V5: such a `times` or `next`, or a place to which it leads with other loops open than those around it
+-- V5: such a `times` or `next`, or a place to which it leads with other loops open than those
+-- around it
 abbrev pub mismatches : List Instr → ℕ → Instr → TypeState → Bool
 mismatches code pc i s =
     is_unmatched code pc i s
@@ -116,7 +125,8 @@ is_too_deep _ s = false
 abbrev pub has_wrong_slot : Instr → TypeState → Bool
 has_wrong_slot (Cancelled x) s = not (is_own (kind s x) || is_lent (kind s x))
 has_wrong_slot i s =
-    at_slot s (owners_slot i) (λ k. not (is_own k || is_lent k)) || at_slot s (subtask_slot i) (λ k. not (is_sub k))
+    at_slot s (owners_slot i) (λ k. not (is_own k || is_lent k))
+    || at_slot s (subtask_slot i) (λ k. not (is_sub k))
 
 -- V10: a slot to be filled that isn't empty
 abbrev pub has_busy_slot : Instr → TypeState → Bool
@@ -168,8 +178,12 @@ is_illegal profile (Join x failed timeout i) s = at_own s x (λ scope. not (pass
 is_illegal profile (Close x) s = at_own s x (passes is_opened)
 is_illegal profile (Tally x k) s = at_own s x (λ scope. not (passes (is_readable profile) scope))
 is_illegal profile (Total x) s = at_own s x (λ scope. not (passes (is_readable profile) scope))
-is_illegal profile (Get h) s = at_sub s.entries (kind s h) (λ scope state. not (passes (is_readable profile) scope && is_success state))
-is_illegal profile (Except h) s = at_sub s.entries (kind s h) (λ scope state. not (passes (is_readable profile) scope && is_failed state))
+is_illegal profile (Get h) s =
+    at_sub s.entries (kind s h) (λ scope state. not
+    (passes (is_readable profile) scope && is_success state))
+is_illegal profile (Except h) s =
+    at_sub s.entries (kind s h) (λ scope state. not
+    (passes (is_readable profile) scope && is_failed state))
 is_illegal profile _ s = false
 
 -- ---- V13 to V16
@@ -200,7 +214,8 @@ is_held s = list_any (λ l. nat_le (length s.entries) l.entries) s.loops
 -- V13: against the order of the structure list; in a loop, of what stood there before
 abbrev pub breaks_structure : Instr → TypeState → Bool
 breaks_structure (Fork x g h) s = at_own s x (λ _. binds_after x s.entries)
-breaks_structure (Close x) s = at_own s x (λ _. not (innermost (is_scope_in x) s.entries) || is_held s)
+breaks_structure (Close x) s =
+    at_own s x (λ _. not (innermost (is_scope_in x) s.entries) || is_held s)
 breaks_structure Unbind s = not (innermost is_binding s.entries) || is_held s
 breaks_structure Ret s = nat_lt 0 (length s.entries)
 breaks_structure Fail s = nat_lt 0 (length s.entries)
@@ -226,13 +241,15 @@ is_bound p f s k = list_any (binds k) s.entries || needs p f k
 -- V15: `read` of a key, or `fork` of a function that needs a key, which may be unbound
 abbrev pub is_unbound : Program → ℕ → Instr → TypeState → Bool
 is_unbound p f (Read k) s = not (is_bound p f s k)
-is_unbound p f (Fork x g h) s = list_any (λ k. needs p g k && not (is_bound p f s k)) (range_with_len 0 16)
+is_unbound p f (Fork x g h) s =
+    list_any (λ k. needs p g k && not (is_bound p f s k)) (range_with_len 0 16)
 is_unbound p f _ s = false
 
 -- V16: targets of `join` that don't fit the scope
 abbrev pub misjoins : Instr → TypeState → Bool
 misjoins (Join x failed timeout interrupted) s =
-    at_own s x (passes (λ scope. not (same (is_some failed) (can_fail scope.joiner)) || not (same (is_some timeout) scope.timed)))
+    at_own s x (passes (λ scope. not (same (is_some failed) (can_fail scope.joiner))
+    || not (same (is_some timeout) scope.timed)))
 misjoins _ s = false
 
 -- ---- all of them
@@ -258,8 +275,10 @@ holds p f pc i s _ = false
 -- the causes that may hold at an instruction, by rising number
 abbrev pub causes : List Cause
 causes =
-    cause.StackUnder ∷ cause.StackOver ∷ cause.FallsOff ∷ cause.BackJump ∷ cause.LoopMismatch ∷ cause.LoopDepth ∷ cause.SlotKind ∷ cause.SlotBusy
-    ∷ cause.WrongThread ∷ cause.IllegalState ∷ cause.Structure ∷ cause.Nesting ∷ cause.Unbound ∷ cause.JoinEdges ∷ []
+    cause.StackUnder ∷ cause.StackOver ∷ cause.FallsOff ∷ cause.BackJump ∷ cause.LoopMismatch
+    ∷ cause.LoopDepth ∷ cause.SlotKind ∷ cause.SlotBusy
+    ∷ cause.WrongThread ∷ cause.IllegalState ∷ cause.Structure ∷ cause.Nesting ∷ cause.Unbound
+    ∷ cause.JoinEdges ∷ []
 
 -- the least cause that holds, if one does
 abbrev pub least_cause : Program → ℕ → ℕ → Instr → TypeState → Option Cause

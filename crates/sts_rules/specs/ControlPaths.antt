@@ -1,4 +1,5 @@
--- Control paths: the ways that a task can take through the code of its function, whatever its operands are (this project's own).
+-- Control paths: the ways that a task can take through the code of its function, whatever its
+-- operands are (this project's own).
 use Rattle.std.specs.Prelude.{◌≡◌, ℕ, suc, ◌+◌, ◌<◌, ◌≤◌, ◌⊎◌, List, [], ◌∷◌}
 
 -- how an instruction goes on
@@ -12,7 +13,8 @@ pub data Shape : Type 0 where
   -- it ends the path
   EndsPath : Shape
 
--- an open entry of the structure list: a scope, by its slot, with the functions of the subtasks that were forked in it, the last one first; or a binding
+-- an open entry of the structure list: a scope, by its slot, with the functions of the subtasks
+-- that were forked in it, the last one first; or a binding
 pub data OpenEntry : Type 0 where
   OpenScope : (slot : ℕ) (subtasks : List ℕ) → OpenEntry
   OpenBinding : OpenEntry
@@ -33,26 +35,38 @@ abbrev pub Among : List ℕ → ℕ → Type 0
 Among [] x = ⊥
 Among (y ∷ ys) x = (y ≡ x) ⊎ Among ys x
 
--- the open loops, the innermost first: the place where it opened, and the turns left with the one under way
+-- the open loops, the innermost first: the place where it opened, and the turns left with the one
+-- under way
 abbrev pub Loops : Type 0
 Loops = List (ℕ × ℕ)
 
 -- one step of a control path: branches are free, and each loop makes 0 to n turns
 pub data Follows (c : Skeleton) : ℕ → Loops → ℕ → Loops → Type 0 where
-  go : (places : List ℕ) {pc to : ℕ} {loops : Loops} → c.shape pc ≡ GoesTo places → Among places to → Follows c pc loops to loops
-  skip : (n : ℕ) {pc : ℕ} {loops : Loops} → c.shape pc ≡ Repeats n → Follows c pc loops (c.mate pc + 1) loops
-  enter : (n : ℕ) {pc : ℕ} (turns : ℕ) {loops : Loops} → c.shape pc ≡ Repeats n → 0 < turns → turns ≤ n → Follows c pc loops (pc + 1) ((pc, turns) ∷ loops)
-  again : {pc : ℕ} (p left : ℕ) {loops : Loops} → c.shape pc ≡ EndsTurn → 0 < left → Follows c pc ((p, suc left) ∷ loops) (p + 1) ((p, left) ∷ loops)
-  leave : {pc : ℕ} (p : ℕ) {loops : Loops} → c.shape pc ≡ EndsTurn → Follows c pc ((p, 1) ∷ loops) (pc + 1) loops
+  go : (places : List ℕ) {pc to : ℕ} {loops : Loops} → c.shape pc ≡ GoesTo places → Among places to
+      → Follows c pc loops to loops
+  skip : (n : ℕ) {pc : ℕ} {loops : Loops} → c.shape pc ≡ Repeats n
+      → Follows c pc loops (c.mate pc + 1) loops
+  enter : (n : ℕ) {pc : ℕ} (turns : ℕ) {loops : Loops} → c.shape pc ≡ Repeats n → 0 < turns
+      → turns ≤ n → Follows c pc loops (pc + 1) ((pc, turns) ∷ loops)
+  again : {pc : ℕ} (p left : ℕ) {loops : Loops} → c.shape pc ≡ EndsTurn → 0 < left
+      → Follows c pc ((p, suc left) ∷ loops) (p + 1) ((p, left) ∷ loops)
+  leave : {pc : ℕ} (p : ℕ) {loops : Loops} → c.shape pc ≡ EndsTurn
+      → Follows c pc ((p, 1) ∷ loops) (pc + 1) loops
 
--- a point of a control path: some path comes to this place with these loops open, counts so many steps before it, and has these entries open at it
+-- a point of a control path: some path comes to this place with these loops open, counts so many
+-- steps before it, and has these entries open at it
 pub data Comes (c : Skeleton) : ℕ → Loops → ℕ → List OpenEntry → Type 0 where
   start : Comes c 0 [] 0 []
-  step : {pc : ℕ} {loops : Loops} {before : ℕ} {entries : List OpenEntry} {to : ℕ} {after : Loops} → Comes c pc loops before entries → Follows c pc loops to after → Comes c to after (before + c.weight pc) (c.entries pc entries)
+  step : {pc : ℕ} {loops : Loops} {before : ℕ} {entries : List OpenEntry} {to : ℕ} {after : Loops}
+      → Comes c pc loops before entries → Follows c pc loops to after
+      → Comes c to after (before + c.weight pc) (c.entries pc entries)
 
 -- some whole control path counts m steps
 abbrev pub PathCounts : Skeleton → ℕ → Type 0
-PathCounts c m = (pc : ℕ) × ((loops : Loops) × ((before : ℕ) × ((entries : List OpenEntry) × (Comes c pc loops before entries × (c.shape pc ≡ EndsPath) × (before + c.weight pc ≡ m)))))
+PathCounts c m =
+    (pc : ℕ)
+    × ((loops : Loops) × ((before : ℕ) × ((entries : List OpenEntry) ×
+    (Comes c pc loops before entries × (c.shape pc ≡ EndsPath) × (before + c.weight pc ≡ m)))))
 
 -- m is the greatest number of steps of a whole control path
 abbrev pub IsGreatest : Skeleton → ℕ → Type 0
@@ -60,7 +74,11 @@ IsGreatest c m = PathCounts c m × ((other : ℕ) → PathCounts c other → oth
 
 -- at some point of some control path so much stands, as this sum tells it
 abbrev pub PointHolds : Skeleton → (List OpenEntry → ℕ) → ℕ → Type 0
-PointHolds c sum m = (pc : ℕ) × ((loops : Loops) × ((before : ℕ) × ((entries : List OpenEntry) × (Comes c pc loops before entries × (sum entries ≡ m)))))
+PointHolds c sum m =
+    (pc : ℕ)
+    × ((loops : Loops)
+    × ((before : ℕ)
+    × ((entries : List OpenEntry) × (Comes c pc loops before entries × (sum entries ≡ m)))))
 
 -- m is the greatest sum at a point of a control path
 abbrev pub IsPeak : Skeleton → (List OpenEntry → ℕ) → ℕ → Type 0

@@ -1,10 +1,16 @@
--- Where an instruction leads to, and with which typestates, or the least cause that holds there (this project's own).
-use Rattle.std.specs.Prelude.{ℕ, ◌+◌, ◌-◌, List, [], ◌∷◌, ◌++◌, length, drop, map, Bool, true, false, Option, Some, None, Result, Ok, Err, ◌==◌, if◌then◌else◌, option_map, slice_set, slice_get}
+-- Where an instruction leads to, and with which typestates, or the least cause that holds there
+-- (this project's own).
+use Rattle.std.specs.Prelude.{ℕ, ◌+◌, ◌-◌, List, [], ◌∷◌, ◌++◌, length, drop, map, Bool, true}
+use Rattle.std.specs.Prelude.{false, Option, Some, None, Result, Ok, Err, ◌==◌, if◌then◌else◌}
+use Rattle.std.specs.Prelude.{option_map, slice_set, slice_get}
 use Rattle.sts_code.specs.Program.{Program, routine, instr_at}
 use Rattle.sts_code.specs.declared.instr.Instr.{Instr}
-use Rattle.sts_code.specs.declared.instr.Instr.TheVariants.{Div, Jmp, Jz, Times, Next, Open, Fork, Join, Close, Case, Forget, Bind, Unbind, Ret, Fail}
+use Rattle.sts_code.specs.declared.instr.Instr.TheVariants.{Div, Jmp, Jz, Times, Next, Open, Fork}
+use Rattle.sts_code.specs.declared.instr.Instr.TheVariants.{Join, Close, Case, Forget, Bind, Unbind}
+use Rattle.sts_code.specs.declared.instr.Instr.TheVariants.{Ret, Fail}
 use Rattle.sts_code.specs.declared.instr.Joiner.{Joiner}
-use Rattle.sts_code.specs.declared.instr.Joiner.TheVariants.{AllSucceed, AnySucceeds, AwaitOk, AwaitAll, Until}
+use Rattle.sts_code.specs.declared.instr.Joiner.TheVariants.{AllSucceed, AnySucceeds, AwaitOk}
+use Rattle.sts_code.specs.declared.instr.Joiner.TheVariants.{AwaitAll, Until}
 use Rattle.sts_rules.specs.declared.typing.Cause.{Cause}
 use Rattle.sts_rules.specs.declared.typing.Cause.TheVariants.{StatesDiffer, DeadCode}
 use Rattle.sts_rules.specs.declared.typing.Known.{Known}
@@ -81,7 +87,10 @@ raised n s = record s { height = s.height + n }
 
 abbrev pub after_ok : ℕ → Joiner → TypeState → TypeState
 after_ok x j s =
-    record (raised (ok_pushes j) (with_phase x Joined s)) { slots = if is_all_success j then succeeded x s.slots else s.slots }
+    record (raised (ok_pushes j) (with_phase x Joined s)) {
+      slots = if is_all_success j
+          then succeeded x s.slots else s.slots;
+    }
 
 -- to a target that may be left out
 abbrev pub to_optional : Option ℕ → TypeState → List (ℕ × TypeState)
@@ -103,22 +112,38 @@ moved p i s = record s { height = s.height - pops p i + pushes i }
 
 -- the following places and typestates, where no cause holds
 abbrev pub follows : Program → List Instr → ℕ → Instr → TypeState → List (ℕ × TypeState)
-follows p code pc (Div to) s = (pc + 1, record s { height = s.height - 1 }) ∷ (to, record s { height = s.height - 2 }) ∷ []
+follows p code pc (Div to) s =
+    (pc + 1, record s { height = s.height - 1 }) ∷ (to, record s { height = s.height - 2 }) ∷ []
 follows p code pc (Jmp to) s = (to, s) ∷ []
 follows p code pc (Jz to) s = (pc + 1, moved p (Jz to) s) ∷ (to, moved p (Jz to) s) ∷ []
-follows p code pc (Times n) s =
-    (pc + 1, record (moved p (Times n) s) { loops = record { at = pc; entries = length s.entries } ∷ s.loops })
+follows p code pc (Times n) s = (
+  pc + 1,
+  record
+      (moved p (Times n) s) { loops = record { at = pc; entries = length s.entries } ∷ s.loops },
+)
     ∷ map (λ to. (to, moved p (Times n) s)) (skipped_to code pc (Times n))
 follows p code pc Next s = (pc + 1, record s { loops = drop 1 s.loops }) ∷ []
-follows p code pc (Open x j timed) s =
-    (pc + 1, record s { entries = Scope (record { slot = x; joiner = j; timed = timed; phase = Opened }) ∷ s.entries; slots = slice_set s.slots x Own }) ∷ []
-follows p code pc (Fork x g h) s = (pc + 1, with_slot h (Sub x Unknown) (moved p (Fork x g h) s)) ∷ []
-follows p code pc (Join x failed timeout interrupted) s = join_follows pc x failed timeout interrupted s
-follows p code pc (Close x) s = (pc + 1, record s { entries = drop 1 s.entries; slots = cleared x s.slots }) ∷ []
+follows p code pc (Open x j timed) s = (
+  pc + 1,
+  record s {
+    entries = Scope
+        (record { slot = x; joiner = j; timed = timed; phase = Opened }) ∷ s.entries;
+    slots = slice_set s.slots x Own;
+  },
+)
+    ∷ []
+follows p code pc (Fork x g h) s =
+    (pc + 1, with_slot h (Sub x Unknown) (moved p (Fork x g h) s)) ∷ []
+follows p code pc (Join x failed timeout interrupted) s =
+    join_follows pc x failed timeout interrupted s
+follows p code pc (Close x) s =
+    (pc + 1, record s { entries = drop 1 s.entries; slots = cleared x s.slots }) ∷ []
 follows p code pc (Case h success failed) s =
-    (pc + 1, with_known h Unknown s) ∷ (success, with_known h Success s) ∷ (failed, with_known h Failed s) ∷ []
+    (pc + 1, with_known h Unknown s) ∷ (success, with_known h Success s) ∷
+    (failed, with_known h Failed s) ∷ []
 follows p code pc (Forget h) s = (pc + 1, with_slot (Some h) Empty s) ∷ []
-follows p code pc (Bind k) s = (pc + 1, record (moved p (Bind k) s) { entries = Binding k ∷ s.entries }) ∷ []
+follows p code pc (Bind k) s =
+    (pc + 1, record (moved p (Bind k) s) { entries = Binding k ∷ s.entries }) ∷ []
 follows p code pc Unbind s = (pc + 1, record s { entries = drop 1 s.entries }) ∷ []
 follows p code pc Ret s = []
 follows p code pc Fail s = []

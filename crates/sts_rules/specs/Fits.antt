@@ -5,7 +5,8 @@ use Rattle.sts_code.specs.declared.instr.Instr.{Instr}
 use Rattle.sts_rules.specs.TypeState.{TypeState}
 use Rattle.sts_rules.specs.Causes as test
 
--- no cause from V1 to V6 or from V9 to V16 holds at the instruction at pc of function f, in this typestate
+-- no cause from V1 to V6 or from V9 to V16 holds at the instruction at pc of function f, in this
+-- typestate
 pub record Fits (p : Program) (f pc : ℕ) (i : Instr) (s : TypeState) : Type 0 where
   pub operands : test.lacks_operands p i s ≡ false
   pub room : test.overflows p i s ≡ false

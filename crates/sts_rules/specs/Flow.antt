@@ -1,4 +1,5 @@
--- A forward flow of states over the places 0, 1, ..: which states reach which place, and the verdict on each place (this project's own).
+-- A forward flow of states over the places 0, 1, ..: which states reach which place, and the
+-- verdict on each place (this project's own).
 use Rattle.std.specs.Prelude.{◌≡◌, ◌≢◌, ℕ, ◌<◌, ◌⊎◌, List, [], ◌∷◌, Option, Some, Result, Ok, Err}
 
 -- S: the states, C: the causes of a refusal
@@ -20,7 +21,8 @@ Leads (e ∷ es) pc s = ((e.0 ≡ pc) × (e.1 ≡ s)) ⊎ Leads es pc s
 -- the least set of pairs that holds the entry at 0 and is closed under the edges
 pub data Reaches {S C : Type 0} (f : Flow S C) : ℕ → S → Type 0 where
   first : Reaches f 0 f.entry
-  then : (from : ℕ) (before : S) (out : List (ℕ × S)) {pc : ℕ} {s : S} → Reaches f from before → f.edges from before ≡ Ok out → Leads out pc s → Reaches f pc s
+  then : (from : ℕ) (before : S) (out : List (ℕ × S)) {pc : ℕ} {s : S} → Reaches f from before
+      → f.edges from before ≡ Ok out → Leads out pc s → Reaches f pc s
 
 -- s is the one state that reaches the place
 abbrev pub IsAlone : {S C : Type 0} → Flow S C → ℕ → S → Type 0
@@ -34,7 +36,8 @@ HasTwo {S} f pc = (a : S) × ((b : S) × (Reaches f pc a × Reaches f pc b × (a
 
 -- another state than s reaches the place to which a loop goes back from here
 abbrev pub TurnDiffers : {S C : Type 0} → Flow S C → ℕ → S → Type 0
-TurnDiffers {S} f pc s = (q : ℕ) × ((other : S) × ((f.back pc s ≡ Some q) × Reaches f q other × (other ≢ s)))
+TurnDiffers {S} f pc s =
+    (q : ℕ) × ((other : S) × ((f.back pc s ≡ Some q) × Reaches f q other × (other ≢ s)))
 
 -- every state that reaches the place to which a loop goes back from here is s
 abbrev pub TurnKeeps : {S C : Type 0} → Flow S C → ℕ → S → Type 0
@@ -53,7 +56,8 @@ pub data HasCause {S C : Type 0} (f : Flow S C) (pc : ℕ) : C → Type 0 where
   dead : IsDead f pc → HasCause f pc f.dead
   two : HasTwo f pc → HasCause f pc f.differ
   edge : (s : S) {c : C} → IsAlone f pc s → f.edges pc s ≡ Err c → HasCause f pc c
-  turn : (s : S) (out : List (ℕ × S)) → IsAlone f pc s → f.edges pc s ≡ Ok out → TurnDiffers f pc s → HasCause f pc f.differ
+  turn : (s : S) (out : List (ℕ × S)) → IsAlone f pc s → f.edges pc s ≡ Ok out → TurnDiffers f pc s
+      → HasCause f pc f.differ
 
 -- the least place below n with a cause, and its cause
 abbrev pub IsRefusal : {S C : Type 0} → Flow S C → ℕ → ℕ → C → Type 0

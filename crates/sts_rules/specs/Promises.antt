@@ -8,16 +8,21 @@ use Rattle.sts_rules.specs.Fits.{Fits}
 use Rattle.sts_rules.specs.Flow.{Reaches, Leads, TurnKeeps}
 use Rattle.sts_rules.specs.Refusal.{size}
 
--- a typestate s that is reached at pc: it stands at an instruction, no other one is reached there, no cause holds, the open loops are
--- those around the place, what follows is reached too, and a loop's turn ends in the typestate in which it began
+-- a typestate s that is reached at pc: it stands at an instruction, no other one is reached there,
+-- no cause holds, the open loops are those around the place, what follows is reached too, and a
+-- loop's turn ends in the typestate in which it began
 pub record IsPromised (p : Program) (f pc : ℕ) (s : TypeState) : Type 0 where
   pub within : pc < size p f
   pub alone : (other : TypeState) → Reaches (typing p f) pc other → other ≡ s
   pub fits : Fits p f pc (instr_at (routine p f).code pc) s
   pub loops : heads s.loops ≡ around (routine p f).code pc
-  pub leads : (to : ℕ) (x : TypeState) → Leads (follows p (routine p f).code pc (instr_at (routine p f).code pc) s) to x → Reaches (typing p f) to x
+  pub leads : (to : ℕ) (x : TypeState)
+      → Leads (follows p (routine p f).code pc (instr_at (routine p f).code pc) s) to x
+      → Reaches (typing p f) to x
   pub turns : TurnKeeps (typing p f) pc s
 
 -- in each function of the program
 abbrev pub TypingPromises : Program → Type 0
-TypingPromises p = (f pc : ℕ) (s : TypeState) → f < length p.routines → Reaches (typing p f) pc s → IsPromised p f pc s
+TypingPromises p =
+    (f pc : ℕ) (s : TypeState) → f < length p.routines → Reaches (typing p f) pc s
+    → IsPromised p f pc s

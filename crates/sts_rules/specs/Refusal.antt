@@ -32,11 +32,14 @@ pub record IsSound (p : Program) (f : ℕ) : Type 0 where
 pub data IsUnsound (p : Program) (f : ℕ) : ℕ → Cause → Type 0 where
   ill_typed : {pc : ℕ} {c : Cause} → IsTypeRefusal p f pc c → IsUnsound p f pc c
   -- a cause from V17 to V20, behind its last instruction
-  too_much : (earlier : List Budgets) {c : Cause} → IsWellTyped p f → length earlier ≡ f → AreBudgets p earlier → IsLeastExcess earlier (routine p f).code c → IsUnsound p f (size p f) c
+  too_much : (earlier : List Budgets) {c : Cause} → IsWellTyped p f → length earlier ≡ f
+      → AreBudgets p earlier → IsLeastExcess earlier (routine p f).code c
+      → IsUnsound p f (size p f) c
 
 -- of all places, function by function, the least with a cause, and the least cause there
 abbrev pub IsRefusal : Program → ℕ → ℕ → Cause → Type 0
-IsRefusal p f pc c = (f < length p.routines) × IsUnsound p f pc c × ((earlier : ℕ) → earlier < f → IsSound p earlier)
+IsRefusal p f pc c =
+    (f < length p.routines) × IsUnsound p f pc c × ((earlier : ℕ) → earlier < f → IsSound p earlier)
 
 -- there is no such place
 pub record IsAccepted (p : Program) : Type 0 where
@@ -45,8 +48,11 @@ pub record IsAccepted (p : Program) : Type 0 where
 -- acceptance and refusal exclude each other, and there is one refusal at most
 pub record IsOneVerdict (p : Program) : Type 0 where
   pub apart : (f pc : ℕ) (c : Cause) → IsAccepted p → ¬ IsRefusal p f pc c
-  pub alone : (f g pc qc : ℕ) (c d : Cause) → IsRefusal p f pc c → IsRefusal p g qc d → (f ≡ g) × (pc ≡ qc) × (c ≡ d)
+  pub alone : (f g pc qc : ℕ) (c d : Cause) → IsRefusal p f pc c → IsRefusal p g qc d
+      → (f ≡ g) × (pc ≡ qc) × (c ≡ d)
 
 -- these are the budgets of the function
 abbrev pub IsBudgetOf : Program → ℕ → Budgets → Type 0
-IsBudgetOf p f b = (earlier : List Budgets) × ((length earlier ≡ f) × AreBudgets p earlier × IsBudget earlier (routine p f).code b)
+IsBudgetOf p f b =
+    (earlier : List Budgets)
+    × ((length earlier ≡ f) × AreBudgets p earlier × IsBudget earlier (routine p f).code b)

@@ -1,5 +1,6 @@
 -- Typestates: what the verifier knows of a task at an instruction (this project's own).
-use Rattle.std.specs.Prelude.{ℕ, ◌+◌, List, [], ◌∷◌, length, Option, Some, None, ◌==◌, if◌then◌else◌, replicate, map, slice_index_or}
+use Rattle.std.specs.Prelude.{ℕ, ◌+◌, List, [], ◌∷◌, length, Option, Some, None, ◌==◌}
+use Rattle.std.specs.Prelude.{if◌then◌else◌, replicate, map, slice_index_or}
 use Rattle.sts_code.specs.Program.{Program}
 use Rattle.sts_rules.specs.declared.typing.SlotKind.{SlotKind}
 use Rattle.sts_rules.specs.declared.typing.SlotKind.TheVariants.{Empty, Lent}
@@ -8,20 +9,23 @@ use Rattle.sts_rules.specs.declared.typing.TypedEntry.{TypedEntry}
 use Rattle.sts_rules.specs.declared.typing.TypedEntry.TheVariants.{Scope, Binding}
 use Rattle.sts_rules.specs.declared.typing.TypedLoop.{TypedLoop}
 
--- the number of operands; the open loops and the structure list, the innermost first; what each slot holds
+-- the number of operands; the open loops and the structure list, the innermost first; what each
+-- slot holds
 pub record TypeState : Type 0 where
   pub height : ℕ
   pub loops : List TypedLoop
   pub entries : List TypedEntry
   pub slots : List SlotKind
 
--- what slot 0 holds at the beginning of a function: the scope that it was forked in, but in `main`, the last
+-- what slot 0 holds at the beginning of a function: the scope that it was forked in, but in `main`,
+-- the last
 abbrev pub first_slot : Program → ℕ → SlotKind
 first_slot p f = if f + 1 == length p.routines then Empty else Lent
 
 -- the typestate at the beginning of a function
 abbrev pub entry : Program → ℕ → TypeState
-entry p f = record { height = 0; loops = []; entries = []; slots = first_slot p f ∷ replicate 15 Empty }
+entry p f =
+    record { height = 0; loops = []; entries = []; slots = first_slot p f ∷ replicate 15 Empty }
 
 -- what a slot holds
 abbrev pub kind : TypeState → ℕ → SlotKind

@@ -13,7 +13,8 @@ pub enum Known {
     Failed,
 }
 
-/// What a slot holds: nothing, a scope of the task's own, the scope that the task is a subtask of, or a subtask.
+/// What a slot holds: nothing, a scope of the task's own, the scope that the task is a subtask of,
+/// or a subtask.
 #[derive(Clone, Copy, Debug, PartialEq, Eq)]
 pub enum SlotKind {
     Empty,
@@ -23,7 +24,8 @@ pub enum SlotKind {
     Sub(u8, Known),
 }
 
-/// How far a scope is, as far as the verifier can tell: a scope is late once a timeout has joined it.
+/// How far a scope is, as far as the verifier can tell: a scope is late once a timeout has joined
+/// it.
 #[derive(Clone, Copy, Debug, PartialEq, Eq)]
 pub enum TypedPhase {
     Opened,

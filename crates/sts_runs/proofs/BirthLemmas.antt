@@ -1,5 +1,7 @@
 -- What `open` and `fork` keep: a scope more, a task more.
-use Rattle.std.proofs.Common.{◌≡◌, ◌≢◌, ℕ, zero, suc, ◌<◌, List, [], ◌∷◌, ◌++◌, Bool, true, false, Option, Some, None, refl, sym, ◌∙◌, ap, length, arith, get_or, set, ◌||◌, not, nat_eq, replicate, take, length-append, get_or-set_same}
+use Rattle.std.proofs.Common.{◌≡◌, ◌≢◌, ℕ, zero, suc, ◌<◌, List, [], ◌∷◌, ◌++◌, Bool, true, false}
+use Rattle.std.proofs.Common.{Option, Some, None, refl, sym, ◌∙◌, ap, length, arith, get_or, set}
+use Rattle.std.proofs.Common.{◌||◌, not, nat_eq, replicate, take, length-append, get_or-set_same}
 use Rattle.std.specs.Prelude.{slice_set, reverse, ℤ, ◌==◌}
 use Rattle.std.specs.List.{list_any}
 use Rattle.std.proofs.lemmas.List.{get_or_append_left}

@@ -1,5 +1,7 @@
 -- Every event leads from a state where all facts hold to one where they hold, and undoes nothing.
-use Rattle.std.proofs.Common.{◌≡◌, ℕ, zero, suc, List, [], ◌∷◌, Bool, true, false, Option, Some, None, refl, sym, ◌∙◌, length, arith, get_or, cond, not, fold, subst, ◌-◌, length-set}
+use Rattle.std.proofs.Common.{◌≡◌, ℕ, zero, suc, List, [], ◌∷◌, Bool, true, false, Option, Some}
+use Rattle.std.proofs.Common.{None, refl, sym, ◌∙◌, length, arith, get_or, cond, not, fold, subst}
+use Rattle.std.proofs.Common.{◌-◌, length-set}
 use Rattle.sts_code.specs.Program.{Program}
 use Rattle.sts_code.specs.declared.instr.Instr.{Instr}
 use Rattle.sts_code.specs.declared.instr.Joiner.{Joiner}
@@ -10,11 +12,13 @@ use Rattle.sts_model.specs.declared.event.End.{End}
 use Rattle.sts_model.specs.declared.event.End.TheVariants.{Success, Failed}
 use Rattle.sts_model.specs.declared.event.Fault.{Fault}
 use Rattle.sts_model.specs.declared.event.Phase.{Phase}
-use Rattle.sts_model.specs.declared.event.Phase.TheVariants.{Opened, Attempted, Joined, Closing, Closed}
+use Rattle.sts_model.specs.declared.event.Phase.TheVariants.{Opened, Attempted, Joined, Closing}
+use Rattle.sts_model.specs.declared.event.Phase.TheVariants.{Closed}
 use Rattle.sts_model.specs.declared.record.Slot.TheVariants as slots
 use Rattle.sts_model.specs.declared.record.Frame.{Frame}
 use Rattle.sts_model.specs.declared.record.Task.{Task}
-use Rattle.sts_model.specs.World.{World, State, Running, Faulted, task_at, scope_at, no_task, no_scope, instr_at, opening, entry_frame, with_frame}
+use Rattle.sts_model.specs.World.{World, State, Running, Faulted, task_at, scope_at, no_task}
+use Rattle.sts_model.specs.World.{no_scope, instr_at, opening, entry_frame, with_frame}
 use Rattle.sts_model.specs.Local.{operand}
 use Rattle.sts_model.specs.Living.{lives, is_closed}
 use Rattle.sts_model.specs.Misuse.{slot, is_opened, misuse, IsFine}
@@ -27,14 +31,18 @@ use Rattle.sts_runs.specs.Runs.{In, Ever, Between, Always, Each, Leads, LeadsBy}
 use Rattle.std.proofs.lemmas.Bool.{and_parts}
 use Rattle.sts_runs.proofs.ListLemmas.{at_set}
 use Rattle.sts_runs.specs.Later.{LaterTask, Later}
-use Rattle.sts_runs.proofs.LaterLemmas.{later_task-refl, later_scope-refl, later-refl, later-trans, none_fresh}
+use Rattle.sts_runs.proofs.LaterLemmas.{later_task-refl, later_scope-refl, later-refl, later-trans}
+use Rattle.sts_runs.proofs.LaterLemmas.{none_fresh}
 use Rattle.sts_runs.proofs.KeptLemmas.{Kept, kept-later}
 use Rattle.sts_runs.proofs.StillLemmas.{Still}
 use Rattle.sts_runs.proofs.FrameLemmas.{own_slot, at_own-is}
 use Rattle.sts_runs.proofs.SoundLemmas.{Sound, Owner, sound-kept}
-use Rattle.sts_runs.proofs.EffectLemmas.{first_no, still-effect, kept-end, still-interrupt, still-expire}
-use Rattle.sts_runs.proofs.BirthLemmas.{more_scopes, new_scope, opener, later-more_scopes, sound-open, sound-fork, later-fork, new-owns_nothing}
-use Rattle.sts_runs.proofs.CompletionLemmas.{AllTold, told-new, told-still, told-open, told-fork, told-end}
+use Rattle.sts_runs.proofs.EffectLemmas.{first_no, still-effect, kept-end, still-interrupt}
+use Rattle.sts_runs.proofs.EffectLemmas.{still-expire}
+use Rattle.sts_runs.proofs.BirthLemmas.{more_scopes, new_scope, opener, later-more_scopes}
+use Rattle.sts_runs.proofs.BirthLemmas.{sound-open, sound-fork, later-fork, new-owns_nothing}
+use Rattle.sts_runs.proofs.CompletionLemmas.{AllTold, told-new, told-still, told-open, told-fork}
+use Rattle.sts_runs.proofs.CompletionLemmas.{told-end}
 use Rattle.sts_runs.proofs.RunLemmas.{after-append}
 
 -- all facts about a state
@@ -221,8 +229,8 @@ pub record Also (E : World → Type 0) (w : World) : Type 0 where
   pub right : Right w
   pub also : E w
 
--- a fact that holds at the beginning and that each effect keeps, of which it is known that it leads to what is right and later, holds in
--- every state of every run
+-- a fact that holds at the beginning and that each effect keeps, of which it is known that it leads
+-- to what is right and later, holds in every state of every run
 pub also-after : (p : Program) (E : World → Type 0) → In E (opening p) → Leads p (Also E) (λ w v. Next w v → E v) → (events : List Event) → In (Also E) (after p events)
 also-after p E start l events = fold_also events (opening p) (record { right = right-opening p; also = start })
   where

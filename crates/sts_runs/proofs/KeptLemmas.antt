@@ -1,26 +1,31 @@
 -- What every effect but those of `open` and `fork` keeps, and its building blocks.
-use Rattle.std.proofs.Common.{◌≡◌, ℕ, zero, suc, List, [], ◌∷◌, Bool, true, false, Option, Some, None, refl, ◌∙◌, length, arith, get_or, cond, ◌&&◌, length-set}
+use Rattle.std.proofs.Common.{◌≡◌, ℕ, zero, suc, List, [], ◌∷◌, Bool, true, false, Option, Some}
+use Rattle.std.proofs.Common.{None, refl, ◌∙◌, length, arith, get_or, cond, ◌&&◌, length-set}
 use Rattle.std.proofs.lemmas.List.{length-map}
 use Rattle.std.specs.List.{list_any}
 use Rattle.sts_model.specs.declared.event.End.{End}
 use Rattle.sts_model.specs.declared.record.Slot.TheVariants.{Own}
 use Rattle.sts_model.specs.declared.record.Task.{Task}
 use Rattle.sts_model.specs.declared.record.Scope.{Scope}
-use Rattle.sts_model.specs.World.{World, task_at, scope_at, no_task, no_scope, with_task, with_scope}
+use Rattle.sts_model.specs.World.{World, task_at, scope_at, no_task, no_scope, with_task}
+use Rattle.sts_model.specs.World.{with_scope}
 use Rattle.sts_model.specs.Living.{lives, is_living_subtask, is_closed}
 use Rattle.sts_model.specs.Cancelling.{raise, raised, marked, cancel}
 use Rattle.sts_model.specs.Misuse.{slot, is_entry_of}
 use Rattle.sts_runs.specs.Later.{KeepsMarks}
 use Rattle.sts_runs.proofs.ListLemmas.{at_set}
 use Rattle.sts_runs.specs.Later.{LaterTask, LaterScope, Later}
-use Rattle.sts_runs.proofs.LaterLemmas.{later_task-refl, later_task-trans, later_scope-refl, later_scope-trans, completes-refl, moves_on-same, none_fresh}
+use Rattle.sts_runs.proofs.LaterLemmas.{later_task-refl, later_task-trans, later_scope-refl}
+use Rattle.sts_runs.proofs.LaterLemmas.{later_scope-trans, completes-refl, moves_on-same}
+use Rattle.sts_runs.proofs.LaterLemmas.{none_fresh}
 
 -- the task lives, and the scope is an entry of its frame
 pub record Holds (task : Task) (s : ℕ) : Type 0 where
   pub alive : lives task ≡ true
   pub entry : list_any (is_entry_of s) task.frame.entries ≡ true
 
--- nothing was born; no frame owns more; who held a scope holds it until it is closed; a scope is closed once nothing in it lives
+-- nothing was born; no frame owns more; who held a scope holds it until it is closed; a scope is
+-- closed once nothing in it lives
 pub record Kept (w v : World) : Type 0 where
   pub tasks : length v.tasks ≡ length w.tasks
   pub scopes : length v.scopes ≡ length w.scopes

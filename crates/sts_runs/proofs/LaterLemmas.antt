@@ -1,14 +1,17 @@
 -- That what is later keeps what the specs say: of the state itself, of one after another.
-use Rattle.std.proofs.Common.{◌≡◌, ℕ, ◌≤◌, [], ◌++◌, Bool, true, false, Some, refl, sym, ◌∙◌, ap, length, arith, append_assoc, nat_lt}
+use Rattle.std.proofs.Common.{◌≡◌, ℕ, ◌≤◌, [], ◌++◌, Bool, true, false, Some, refl, sym, ◌∙◌, ap}
+use Rattle.std.proofs.Common.{length, arith, append_assoc, nat_lt}
 use Rattle.std.proofs.lemmas.Bool.Decides.{nat_tests}
 use Rattle.std.proofs.lemmas.List.{append-nil}
 use Rattle.sts_model.specs.declared.record.Task.{Task}
 use Rattle.sts_model.specs.declared.record.Scope.{Scope}
 use Rattle.sts_model.specs.World.{World, task_at, scope_at, no_task, no_scope}
 use Rattle.sts_model.specs.declared.event.Phase.{Phase}
-use Rattle.sts_model.specs.declared.event.Phase.TheVariants.{Opened, Attempted, Joined, Closing, Closed}
+use Rattle.sts_model.specs.declared.event.Phase.TheVariants.{Opened, Attempted, Joined, Closing}
+use Rattle.sts_model.specs.declared.event.Phase.TheVariants.{Closed}
 use Rattle.sts_model.specs.Misuse.{can_join}
-use Rattle.sts_runs.specs.Later.{stage, MovesOn, IsSameScope, KeepsMarks, Completes, NothingStarts, LaterTask, LaterScope, Later}
+use Rattle.sts_runs.specs.Later.{stage, MovesOn, IsSameScope, KeepsMarks, Completes, NothingStarts}
+use Rattle.sts_runs.specs.Later.{LaterTask, LaterScope, Later}
 use Rattle.sts_runs.proofs.ListLemmas.{past, within}
 
 pub later_task-refl : (x : Task) → LaterTask x x

@@ -1,5 +1,6 @@
 -- What holds of every state of every run: who owns what, which scopes stand, who lives.
-use Rattle.std.proofs.Common.{◌≡◌, ℕ, ◌<◌, List, Bool, true, false, Option, Some, None, refl, sym, ◌∙◌, length, get_or, subst, not}
+use Rattle.std.proofs.Common.{◌≡◌, ℕ, ◌<◌, List, Bool, true, false, Option, Some, None, refl, sym}
+use Rattle.std.proofs.Common.{◌∙◌, length, get_or, subst, not}
 use Rattle.sts_model.specs.declared.record.Slot.TheVariants.{Own}
 use Rattle.sts_model.specs.declared.record.Scope.{Scope}
 use Rattle.sts_model.specs.World.{World, task_at, scope_at, no_scope}

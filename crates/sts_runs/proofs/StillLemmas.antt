@@ -5,7 +5,8 @@ use Rattle.sts_model.specs.declared.record.Slot.TheVariants.{Own}
 use Rattle.sts_model.specs.declared.record.Frame.{Frame}
 use Rattle.sts_model.specs.declared.record.Task.{Task}
 use Rattle.sts_model.specs.declared.record.Scope.{Scope}
-use Rattle.sts_model.specs.World.{World, task_at, scope_at, no_task, no_scope, with_task, with_scope, with_frame}
+use Rattle.sts_model.specs.World.{World, task_at, scope_at, no_task, no_scope, with_task}
+use Rattle.sts_model.specs.World.{with_scope, with_frame}
 use Rattle.std.specs.List.{list_any}
 use Rattle.sts_model.specs.Living.{lives, is_closed}
 use Rattle.sts_model.specs.Cancelling.{marked, cancel}
@@ -15,7 +16,8 @@ use Rattle.sts_runs.specs.Later.{stage}
 use Rattle.sts_runs.proofs.ListLemmas.{at_set}
 use Rattle.sts_runs.specs.Later.{LaterScope}
 use Rattle.sts_runs.proofs.LaterLemmas.{completes-refl}
-use Rattle.sts_runs.proofs.KeptLemmas.{Kept, kept-refl, kept-trans, kept-task, kept-scope, kept-cancel, at_raised}
+use Rattle.sts_runs.proofs.KeptLemmas.{Kept, kept-refl, kept-trans, kept-task, kept-scope}
+use Rattle.sts_runs.proofs.KeptLemmas.{kept-cancel, at_raised}
 
 -- besides what is kept, no task ends and nobody is told
 pub record Still (w v : World) : Type 0 where

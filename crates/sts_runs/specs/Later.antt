@@ -2,7 +2,8 @@
 use Rattle.std.specs.Prelude.{◌≡◌, ℕ, ◌<◌, ◌≤◌, List, ◌++◌, length, true, false, Some}
 use Rattle.sts_model.specs.declared.event.End.{End}
 use Rattle.sts_model.specs.declared.event.Phase.{Phase}
-use Rattle.sts_model.specs.declared.event.Phase.TheVariants.{Opened, Attempted, Joined, Closing, Closed}
+use Rattle.sts_model.specs.declared.event.Phase.TheVariants.{Opened, Attempted, Joined, Closing}
+use Rattle.sts_model.specs.declared.event.Phase.TheVariants.{Closed}
 use Rattle.sts_model.specs.declared.record.Task.{Task}
 use Rattle.sts_model.specs.declared.record.Scope.{Scope}
 use Rattle.sts_model.specs.declared.record.Completion.{Completion}
@@ -45,12 +46,14 @@ stage Joined = 2
 stage Closing = 3
 stage Closed = 4
 
--- it never goes back to an earlier phase, and where `join` had an outcome or the close has begun it doesn't expire any more
+-- it never goes back to an earlier phase, and where `join` had an outcome or the close has begun it
+-- doesn't expire any more
 pub record MovesOn (x y : Scope) : Type 0 where
   pub forward : stage x.phase ≤ stage y.phase
   pub timely : can_join x.phase ≡ false → y.expired ≡ x.expired
 
--- completions only grow: the earlier ones are a front of the later; those of a cancelled scope don't change any more
+-- completions only grow: the earlier ones are a front of the later; those of a cancelled scope
+-- don't change any more
 pub record Completes (x y : Scope) : Type 0 where
   pub grow : (more : List Completion) × (y.completions ≡ x.completions ++ more)
   pub stop : x.cancelled ≡ true → y.completions ≡ x.completions
@@ -65,7 +68,9 @@ pub record LaterScope (x y : Scope) : Type 0 where
 
 -- no task that is born into a cancelled scope is ever started
 abbrev pub NothingStarts : World → World → Type 0
-NothingStarts w v = (u s : ℕ) → length w.tasks ≤ u → (scope_at w s).cancelled ≡ true → (task_at v u).scope ≡ Some s → (task_at v u).started ≡ false
+NothingStarts w v =
+    (u s : ℕ) → length w.tasks ≤ u → (scope_at w s).cancelled ≡ true → (task_at v u).scope ≡ Some s
+    → (task_at v u).started ≡ false
 
 -- of what was born before
 pub record Later (w v : World) : Type 0 where

@@ -1,5 +1,5 @@
--- The words in which laws of runs are stated: what holds in every state, between any state and a later one, and by each event; and what
--- has to be shown of each effect (this project's own).
+-- The words in which laws of runs are stated: what holds in every state, between any state and a
+-- later one, and by each event; and what has to be shown of each effect (this project's own).
 use Rattle.std.specs.Prelude.{◌≡◌, List, [], ◌∷◌, ◌++◌, ℕ, true, false, Some}
 use Rattle.sts_code.specs.Program.{Program}
 use Rattle.sts_code.specs.declared.instr.Instr.{Instr}
@@ -35,11 +35,15 @@ Between R _ _ = Unit {0}
 
 -- in every run, between any state and any later one
 abbrev pub Always : (Program → World → World → Type 0) → Type 0
-Always R = (p : Program) (before later : List Event) → Between (R p) (after p before) (after p (before ++ later))
+Always R =
+    (p : Program) (before later : List Event)
+    → Between (R p) (after p before) (after p (before ++ later))
 
 -- in every run, by each event
 abbrev pub Each : (Program → World → Event → World → Type 0) → Type 0
-Each R = (p : Program) (events : List Event) (e : Event) → Between (λ w v. R p w e v) (after p events) (after p (events ++ e ∷ []))
+Each R =
+    (p : Program) (events : List Event) (e : Event)
+    → Between (λ w v. R p w e v) (after p events) (after p (events ++ e ∷ []))
 
 -- ---- what leads to them
 
@@ -53,13 +57,16 @@ pub record Does (p : Program) (w : World) (t : ℕ) (i : Instr) : Type 0 where
 -- where P holds, each effect leads to a state that R says
 pub record Leads (p : Program) (P : World → Type 0) (R : World → World → Type 0) : Type 0 where
   pub nothing : (w : World) → P w → R w w
-  pub effect : (w : World) (t : ℕ) (i : Instr) → P w → Does p w t i → R w (effect p w t (task_at w t).frame i)
+  pub effect : (w : World) (t : ℕ) (i : Instr) → P w → Does p w t i
+      → R w (effect p w t (task_at w t).frame i)
   pub interrupt : (w : World) (t : ℕ) → P w → R w (interrupt w t)
   pub expire : (w : World) (s : ℕ) → P w → R w (expire w s)
 
 -- the same, where R speaks of the event too
-pub record LeadsBy (p : Program) (P : World → Type 0) (R : World → Event → World → Type 0) : Type 0 where
+pub record LeadsBy (p : Program) (P : World → Type 0) (R : World → Event → World → Type 0)
+    : Type 0 where
   pub nothing : (w : World) (t : ℕ) → P w → can_step p w t ≡ false → R w (event.Step t) w
-  pub effect : (w : World) (t : ℕ) (i : Instr) → P w → Does p w t i → R w (event.Step t) (effect p w t (task_at w t).frame i)
+  pub effect : (w : World) (t : ℕ) (i : Instr) → P w → Does p w t i
+      → R w (event.Step t) (effect p w t (task_at w t).frame i)
   pub interrupt : (w : World) (t : ℕ) → P w → R w (event.Interrupt t) (interrupt w t)
   pub expire : (w : World) (s : ℕ) → P w → R w (event.Expire s) (expire w s)

@@ -1,5 +1,8 @@
 -- What is seen of a change is the change of what is seen: the building blocks.
-use Rattle.std.proofs.Common.{◌≡◌, ℕ, ◌<◌, ◌≤◌, ◌+◌, List, [], ◌∷◌, ◌++◌, Bool, true, false, Option, Some, None, refl, sym, ◌∙◌, ap, length, arith, get_or, set, cond, ◌&&◌, nat_lt, length-set, length-append, get_or-set_same, get_or-set_other}
+use Rattle.std.proofs.Common.{◌≡◌, ℕ, ◌<◌, ◌≤◌, ◌+◌, List, [], ◌∷◌, ◌++◌, Bool, true, false, Option}
+use Rattle.std.proofs.Common.{Some, None, refl, sym, ◌∙◌, ap, length, arith, get_or, set, cond}
+use Rattle.std.proofs.Common.{◌&&◌, nat_lt, length-set, length-append, get_or-set_same}
+use Rattle.std.proofs.Common.{get_or-set_other}
 use Rattle.std.proofs.lemmas.Bool.Decides.{nat_tests}
 use Rattle.std.proofs.lemmas.List.{length-map, get_or-map, get_or_append_left, get_or_push}
 use Rattle.std.specs.Prelude.{option_map, ◌==◌}
@@ -9,7 +12,8 @@ use Rattle.sts_model.specs.declared.record.Frame.{Frame}
 use Rattle.sts_model.specs.declared.record.Task.{Task}
 use Rattle.sts_model.specs.declared.record.Scope.{Scope}
 use Rattle.sts_model.specs.declared.record.Bound.{Bound}
-use Rattle.sts_model.specs.World.{World, task_at, scope_at, no_task, no_scope, with_task, with_scope}
+use Rattle.sts_model.specs.World.{World, task_at, scope_at, no_task, no_scope, with_task}
+use Rattle.sts_model.specs.World.{with_scope}
 use Rattle.sts_model.specs.Living.{lives, is_in, is_subtask, is_closed}
 use Rattle.sts_model.specs.Standing.{is_standing_scope, stands_in}
 use Rattle.sts_model.specs.Cancelling.{raise, raised, marked, cancel}
@@ -22,7 +26,8 @@ use Rattle.sts_seen.specs.Reading.{task_in, scope_in, with_alive, with_live_scop
 use Rattle.sts_seen.specs.Cancelling.{live_raise, live_raised, live_marked, live_cancel}
 use Rattle.sts_seen.specs.Effect.{without, live_gone}
 use Rattle.sts_seen.proofs.Lists.{map_kept}
-use Rattle.sts_seen.proofs.Views.{had, shown, seen_of, seen, seen_scope, tasks_born, scopes_born, task_here, scope_here, same_view, scope_is}
+use Rattle.sts_seen.proofs.Views.{had, shown, seen_of, seen, seen_scope, tasks_born, scopes_born}
+use Rattle.sts_seen.proofs.Views.{task_here, scope_here, same_view, scope_is}
 
 -- ---- one task
 

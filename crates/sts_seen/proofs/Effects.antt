@@ -1,12 +1,18 @@
 -- What is seen of an instruction's effect is the effect on what is seen.
-use Rattle.std.proofs.Common.{◌≡◌, ℕ, ◌<◌, ◌+◌, ◌-◌, List, [], ◌∷◌, ◌++◌, Bool, true, false, Option, Some, None, refl, sym, ◌∙◌, ap, length, arith, drop, cond, ◌&&◌, ◌||◌, not, pos, unwrap_or, length-append}
+use Rattle.std.proofs.Common.{◌≡◌, ℕ, ◌<◌, ◌+◌, ◌-◌, List, [], ◌∷◌, ◌++◌, Bool, true, false, Option}
+use Rattle.std.proofs.Common.{Some, None, refl, sym, ◌∙◌, ap, length, arith, drop, cond, ◌&&◌, ◌||◌}
+use Rattle.std.proofs.Common.{not, pos, unwrap_or, length-append}
 use Rattle.std.proofs.lemmas.List.{length-map, get_or_append_left}
 use Rattle.std.specs.Prelude.{filter_map, nat_le, ◌==◌}
 use Rattle.std.specs.Int.{int_wrapping_div, w64}
 use Rattle.std.specs.Ordering.{int_eq}
 use Rattle.sts_code.specs.Program.{Program, routine}
 use Rattle.sts_code.specs.declared.instr.Instr.{Instr}
-use Rattle.sts_code.specs.declared.instr.Instr.TheVariants.{Open, Fork, Join, Close, Cancelled, Case, Get, Except, Tally, Total, Forget, Bind, Unbind, Read, Bound, OrElse, Interrupted, Ret, Fail, Div, Times, Next}
+use Rattle.sts_code.specs.declared.instr.Instr.TheVariants.{Open, Fork, Join, Close, Cancelled}
+use Rattle.sts_code.specs.declared.instr.Instr.TheVariants.{Case, Get, Except, Tally, Total, Forget}
+use Rattle.sts_code.specs.declared.instr.Instr.TheVariants.{Bind, Unbind, Read, Bound, OrElse}
+use Rattle.sts_code.specs.declared.instr.Instr.TheVariants.{Interrupted, Ret, Fail, Div, Times}
+use Rattle.sts_code.specs.declared.instr.Instr.TheVariants.{Next}
 use Rattle.sts_code.specs.declared.instr.Joiner.{Joiner}
 use Rattle.sts_code.specs.declared.instr.Kind.{Kind}
 use Rattle.sts_code.specs.declared.instr.Kind.TheVariants.{S, F, U}
@@ -29,12 +35,16 @@ use Rattle.sts_model.specs.World.{World, code, task_at, scope_at, no_task, no_sc
 use Rattle.sts_model.specs.Local.{local, turns, enters, clipped, operand, goes, steps, truth}
 use Rattle.sts_code.specs.Loops.{match_of}
 use Rattle.sts_model.specs.Told as kept
-use Rattle.sts_model.specs.Living.{lives, is_in, any_lives, is_closed, completion_of, ends, subtask_count, sub_state, parent}
+use Rattle.sts_model.specs.Living.{lives, is_in, any_lives, is_closed, completion_of, ends}
+use Rattle.sts_model.specs.Living.{subtask_count, sub_state, parent}
 use Rattle.sts_model.specs.Standing.{stands_in}
 use Rattle.sts_model.specs.Environment.{bound_of}
 use Rattle.sts_model.specs.Cancelling.{marked, cancel}
-use Rattle.sts_model.specs.Misuse.{slot, is_scope, is_sub, is_binding, is_entry_of, innermost, IsFine}
-use Rattle.sts_model.specs.Effect.{effect, named, with_phase, open_scope, fork_task, forked, subtask_of, joined, join_verdict, join_scope, is_of, cleared, closed, close_scope, tally}
+use Rattle.sts_model.specs.Misuse.{slot, is_scope, is_sub, is_binding, is_entry_of, innermost}
+use Rattle.sts_model.specs.Misuse.{IsFine}
+use Rattle.sts_model.specs.Effect.{effect, named, with_phase, open_scope, fork_task, forked}
+use Rattle.sts_model.specs.Effect.{subtask_of, joined, join_verdict, join_scope, is_of, cleared}
+use Rattle.sts_model.specs.Effect.{closed, close_scope, tally}
 use Rattle.sts_model.specs.Live.{Live, LiveTask, LiveScope, Alive, live, shown_scope}
 use Rattle.sts_runs.proofs.ListLemmas.{at_set, past}
 use Rattle.sts_runs.proofs.KeptLemmas.{kept-cancel}
@@ -45,10 +55,15 @@ use Rattle.sts_runs.proofs.EffectLemmas.{first_no, frame-cancel}
 use Rattle.sts_runs.proofs.CompletionLemmas.{AllTold}
 use Rattle.sts_joiners.proofs.Tells.{is_enough}
 use Rattle.sts_laws_scopes.specs.Slots.{NamesStanding}
-use Rattle.sts_seen.specs.Reading.{live_task_at, with_alive, with_live_frame, with_live_phase, live_any_lives, live_count}
-use Rattle.sts_seen.specs.Effect.{live_effect, live_open, live_fork, live_subtask_of, live_child, live_joined, live_verdict, live_join, is_live_of, live_cleared, live_closed, live_close, live_state, live_tally}
-use Rattle.sts_seen.proofs.Views.{seen, tasks_born, scopes_born, scope_is, task_is, alive_is, any_is, count_is, stands_some, task_gone}
-use Rattle.sts_seen.proofs.Changes.{seen-task, seen-scope, seen-cancel, seen-gone, seen-more_tasks, seen-more_scopes}
+use Rattle.sts_seen.specs.Reading.{live_task_at, with_alive, with_live_frame, with_live_phase}
+use Rattle.sts_seen.specs.Reading.{live_any_lives, live_count}
+use Rattle.sts_seen.specs.Effect.{live_effect, live_open, live_fork, live_subtask_of, live_child}
+use Rattle.sts_seen.specs.Effect.{live_joined, live_verdict, live_join, is_live_of, live_cleared}
+use Rattle.sts_seen.specs.Effect.{live_closed, live_close, live_state, live_tally}
+use Rattle.sts_seen.proofs.Views.{seen, tasks_born, scopes_born, scope_is, task_is, alive_is}
+use Rattle.sts_seen.proofs.Views.{any_is, count_is, stands_some, task_gone}
+use Rattle.sts_seen.proofs.Changes.{seen-task, seen-scope, seen-cancel, seen-gone, seen-more_tasks}
+use Rattle.sts_seen.proofs.Changes.{seen-more_scopes}
 use Rattle.sts_seen.proofs.Ends.{seen-end, open_some}
 
 -- what holds of every state

@@ -1,5 +1,7 @@
 -- The end of a task, and what its scope is told.
-use Rattle.std.proofs.Common.{◌≡◌, ℕ, ◌<◌, List, [], ◌∷◌, ◌++◌, Bool, true, false, Option, Some, None, refl, sym, ◌∙◌, ap, subst, length, arith, get_or, set, cond, not, pos, length-set, get_or-set_same, get_or-set_other}
+use Rattle.std.proofs.Common.{◌≡◌, ℕ, ◌<◌, List, [], ◌∷◌, ◌++◌, Bool, true, false, Option, Some}
+use Rattle.std.proofs.Common.{None, refl, sym, ◌∙◌, ap, subst, length, arith, get_or, set, cond}
+use Rattle.std.proofs.Common.{not, pos, length-set, get_or-set_same, get_or-set_other}
 use Rattle.std.proofs.lemmas.Bool.Decides.{nat_tests}
 use Rattle.std.proofs.lemmas.List.{map-append}
 use Rattle.std.proofs.lemmas.List.Folds.{find-append}
@@ -28,10 +30,12 @@ use Rattle.sts_runs.proofs.EffectLemmas.{endless}
 use Rattle.sts_runs.proofs.CompletionLemmas.{AllTold}
 use Rattle.sts_joiners.proofs.Tells.{is_enough}
 use Rattle.sts_seen.specs.Reading.{task_in, scope_in, live_scope_at}
-use Rattle.sts_seen.specs.Effect.{live_told, live_decide, live_complete, live_tell, live_ended, live_end}
+use Rattle.sts_seen.specs.Effect.{live_told, live_decide, live_complete, live_tell, live_ended}
+use Rattle.sts_seen.specs.Effect.{live_end}
 use Rattle.sts_seen.specs.Cancelling.{live_cancel}
 use Rattle.sts_seen.proofs.Lists.{map_kept, and_false}
-use Rattle.sts_seen.proofs.Views.{shown, seen_of, seen, seen_scope, tasks_born, scopes_born, task_here, scope_here, same_view, scope_is, task_is}
+use Rattle.sts_seen.proofs.Views.{shown, seen_of, seen, seen_scope, tasks_born, scopes_born}
+use Rattle.sts_seen.proofs.Views.{task_here, scope_here, same_view, scope_is, task_is}
 use Rattle.sts_seen.proofs.Changes.{seen-cancel}
 
 -- ---- the task has ended

@@ -1,5 +1,7 @@
 -- The laws over every run.
-use Rattle.std.proofs.Common.{◌≡◌, ℕ, zero, suc, ◌+◌, List, [], ◌∷◌, ◌++◌, Bool, true, false, Option, Some, None, refl, sym, ◌∙◌, ap, subst, arith, get_or, cond, ◌&&◌, fold, append_assoc, pos}
+use Rattle.std.proofs.Common.{◌≡◌, ℕ, zero, suc, ◌+◌, List, [], ◌∷◌, ◌++◌, Bool, true, false}
+use Rattle.std.proofs.Common.{Option, Some, None, refl, sym, ◌∙◌, ap, subst, arith, get_or, cond}
+use Rattle.std.proofs.Common.{◌&&◌, fold, append_assoc, pos}
 use Rattle.std.proofs.lemmas.List.{append-nil}
 use Rattle.std.proofs.lemmas.List.Sums.{fold-append}
 use Rattle.sts_code.specs.Program.{Program}
@@ -9,13 +11,15 @@ use Rattle.sts_model.specs.declared.event.Event.TheVariants as event
 use Rattle.sts_model.specs.declared.event.End.TheVariants.{Success}
 use Rattle.sts_model.specs.declared.event.Fault.{Fault}
 use Rattle.sts_model.specs.declared.record.Frame.{Frame}
-use Rattle.sts_model.specs.World.{World, State, Running, Faulted, task_at, scope_at, no_task, instr_at, opening}
+use Rattle.sts_model.specs.World.{World, State, Running, Faulted, task_at, scope_at, no_task}
+use Rattle.sts_model.specs.World.{instr_at, opening}
 use Rattle.sts_model.specs.Joining.{result_of}
 use Rattle.sts_model.specs.Living.{lives, is_closed, ends, subtask_count}
 use Rattle.sts_model.specs.Misuse.{slot, misuse}
 use Rattle.sts_model.proofs.Fine.{fine}
 use Rattle.sts_model.specs.Waiting.{can_step}
-use Rattle.sts_model.specs.Run.{apply, after, stepped, perform, counts, is_step, steps_in, taken_from, taken}
+use Rattle.sts_model.specs.Run.{apply, after, stepped, perform, counts, is_step, steps_in}
+use Rattle.sts_model.specs.Run.{taken_from, taken}
 use Rattle.sts_model.specs.Live.{Live, Alive, live, result_in}
 use Rattle.sts_runs.specs.Runs.{NeverFaults}
 use Rattle.sts_runs.specs.Runs.{In, Ever, Leads}
@@ -24,10 +28,14 @@ use Rattle.sts_runs.proofs.RunLemmas.{after-append}
 use Rattle.sts_runs.proofs.EventLemmas.{Also, main, also-kept}
 use Rattle.sts_seen.specs.Reading.{alive_at}
 use Rattle.sts_seen.specs.Waiting.{live_can_step}
-use Rattle.sts_seen.specs.Run.{live_opening, live_perform, live_apply, live_after, live_counts, live_steps_in, live_taken_from, live_taken}
-use Rattle.sts_seen.specs.Seen.{EffectIsSeen, InterruptIsSeen, ExpireIsSeen, CanStepIsSeen, IsProper, CountsIsSeen, ResultIsSeen, EventIsSeen, RunIsSeen, TakenIsSeen, StandsAt, Turns, TurnsAreSeen, StandingIsSeen}
+use Rattle.sts_seen.specs.Run.{live_opening, live_perform, live_apply, live_after, live_counts}
+use Rattle.sts_seen.specs.Run.{live_steps_in, live_taken_from, live_taken}
+use Rattle.sts_seen.specs.Seen.{EffectIsSeen, InterruptIsSeen, ExpireIsSeen, CanStepIsSeen}
+use Rattle.sts_seen.specs.Seen.{IsProper, CountsIsSeen, ResultIsSeen, EventIsSeen, RunIsSeen}
+use Rattle.sts_seen.specs.Seen.{TakenIsSeen, StandsAt, Turns, TurnsAreSeen, StandingIsSeen}
 use Rattle.sts_joiners.proofs.Tells.{is_enough}
-use Rattle.sts_seen.proofs.Views.{tasks_stand, scopes_stand, alive_is, lives_is, scope_here, count_is}
+use Rattle.sts_seen.proofs.Views.{tasks_stand, scopes_stand, alive_is, lives_is, scope_here}
+use Rattle.sts_seen.proofs.Views.{count_is}
 use Rattle.sts_runs.proofs.SoundLemmas.{born_open}
 use Rattle.sts_seen.proofs.Ends.{open_some}
 use Rattle.sts_seen.proofs.Effects.{Facts, seen-effect}

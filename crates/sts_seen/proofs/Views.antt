@@ -1,5 +1,7 @@
 -- What is seen of one task and one scope, and what is read of the view.
-use Rattle.std.proofs.Common.{◌≡◌, ℕ, ◌<◌, ◌≤◌, ◌+◌, List, [], ◌∷◌, ◌++◌, Bool, true, false, Option, Some, None, refl, sym, ◌∙◌, ap, subst, length, arith, cond, ◌&&◌, not, nat_lt}
+use Rattle.std.proofs.Common.{◌≡◌, ℕ, ◌<◌, ◌≤◌, ◌+◌, List, [], ◌∷◌, ◌++◌, Bool, true, false, Option}
+use Rattle.std.proofs.Common.{Some, None, refl, sym, ◌∙◌, ap, subst, length, arith, cond, ◌&&◌, not}
+use Rattle.std.proofs.Common.{nat_lt}
 use Rattle.std.proofs.lemmas.Bool.Decides.{nat_tests}
 use Rattle.std.proofs.lemmas.List.FromFn.{get_or-map-range_with_len, length-map-range_with_len}
 use Rattle.std.specs.Prelude.{is_some, unwrap_or, count_by, filter_map}
@@ -9,13 +11,18 @@ use Rattle.sts_model.specs.declared.event.End.{End}
 use Rattle.sts_model.specs.declared.record.Task.{Task}
 use Rattle.sts_model.specs.declared.record.Scope.{Scope}
 use Rattle.sts_model.specs.World.{World, task_at, scope_at, no_task, no_scope}
-use Rattle.sts_model.specs.Living.{lives, is_in, is_subtask, is_living_subtask, any_lives, subtask_count, is_closed, completion_of, parent}
-use Rattle.sts_model.specs.Standing.{is_standing_scope, is_standing_task, stands_in, standing_tasks, standing_scopes}
+use Rattle.sts_model.specs.Living.{lives, is_in, is_subtask, is_living_subtask, any_lives}
+use Rattle.sts_model.specs.Living.{subtask_count, is_closed, completion_of, parent}
+use Rattle.sts_model.specs.Standing.{is_standing_scope, is_standing_task, stands_in, standing_tasks}
+use Rattle.sts_model.specs.Standing.{standing_scopes}
 use Rattle.sts_model.specs.Environment.{own_bindings}
-use Rattle.sts_model.specs.Live.{Live, LiveTask, LiveScope, Alive, live, live_task, live_scope, shown_scope, subtask_in}
+use Rattle.sts_model.specs.Live.{Live, LiveTask, LiveScope, Alive, live, live_task, live_scope}
+use Rattle.sts_model.specs.Live.{shown_scope, subtask_in}
 use Rattle.sts_runs.proofs.ListLemmas.{past, within}
 use Rattle.sts_runs.proofs.SoundLemmas.{Sound, born_open, dead_around, stands_alive}
-use Rattle.sts_seen.specs.Reading.{task_in, scope_in, no_live_task, no_live_scope, no_alive, live_task_at, live_scope_at, alive_at, lives_in, live_count, is_live_living, live_any_lives}
+use Rattle.sts_seen.specs.Reading.{task_in, scope_in, no_live_task, no_live_scope, no_alive}
+use Rattle.sts_seen.specs.Reading.{live_task_at, live_scope_at, alive_at, lives_in, live_count}
+use Rattle.sts_seen.specs.Reading.{is_live_living, live_any_lives}
 use Rattle.sts_seen.proofs.Lists.{alike, any_alike, count_alike, and_false}
 
 -- ---- one task, one scope

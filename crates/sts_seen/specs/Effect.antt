@@ -1,8 +1,13 @@
 -- What an instruction that is no misuse does to a live view (this project's own).
-use Rattle.std.specs.Prelude.{ℕ, ◌+◌, ◌-◌, ℤ, pos, List, [], ◌∷◌, ◌++◌, length, take, drop, reverse, map, Bool, false, Option, Some, None, is_some, unwrap_or, ◌==◌, ◌||◌, not, if◌then◌else◌, slice_set}
+use Rattle.std.specs.Prelude.{ℕ, ◌+◌, ◌-◌, ℤ, pos, List, [], ◌∷◌, ◌++◌, length, take, drop, reverse}
+use Rattle.std.specs.Prelude.{map, Bool, false, Option, Some, None, is_some, unwrap_or, ◌==◌, ◌||◌}
+use Rattle.std.specs.Prelude.{not, if◌then◌else◌, slice_set}
 use Rattle.sts_code.specs.Program.{Program, routine}
 use Rattle.sts_code.specs.declared.instr.Instr.{Instr}
-use Rattle.sts_code.specs.declared.instr.Instr.TheVariants.{Open, Fork, Join, Close, Cancelled, Case, Get, Except, Tally, Total, Forget, Bind, Unbind, Read, Bound, OrElse, Interrupted, Ret, Fail}
+use Rattle.sts_code.specs.declared.instr.Instr.TheVariants.{Open, Fork, Join, Close, Cancelled}
+use Rattle.sts_code.specs.declared.instr.Instr.TheVariants.{Case, Get, Except, Tally, Total, Forget}
+use Rattle.sts_code.specs.declared.instr.Instr.TheVariants.{Bind, Unbind, Read, Bound, OrElse}
+use Rattle.sts_code.specs.declared.instr.Instr.TheVariants.{Interrupted, Ret, Fail}
 use Rattle.sts_code.specs.declared.instr.Joiner.{Joiner}
 use Rattle.sts_code.specs.declared.instr.Kind.{Kind}
 use Rattle.sts_code.specs.declared.instr.Kind.TheVariants.{S, F, U}
@@ -23,7 +28,9 @@ use Rattle.sts_model.specs.Environment.{read}
 use Rattle.sts_model.specs.Misuse.{slot}
 use Rattle.sts_model.specs.Effect.{named, forked, case_target, value_or_zero}
 use Rattle.sts_model.specs.Live.{Live, LiveTask, LiveScope, Alive}
-use Rattle.sts_seen.specs.Reading.{live_task_at, live_scope_at, alive_at, with_live_task, with_alive, with_live_frame, with_live_scope, with_live_phase, live_count, live_any_lives}
+use Rattle.sts_seen.specs.Reading.{live_task_at, live_scope_at, alive_at, with_live_task}
+use Rattle.sts_seen.specs.Reading.{with_alive, with_live_frame, with_live_scope, with_live_phase}
+use Rattle.sts_seen.specs.Reading.{live_count, live_any_lives}
 use Rattle.sts_seen.specs.Cancelling.{live_cancel}
 
 -- ---- scopes

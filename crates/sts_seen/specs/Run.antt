@@ -1,6 +1,7 @@
 -- One step, one event, lists of events, and the steps taken, in a live view where nothing is
 -- misused (this project's own).
-use Rattle.std.specs.Prelude.{ℕ, ◌+◌, ◌-◌, List, [], ◌∷◌, length, Bool, false, Option, Some, None, ◌&&◌, if◌then◌else◌, fold}
+use Rattle.std.specs.Prelude.{ℕ, ◌+◌, ◌-◌, List, [], ◌∷◌, length, Bool, false, Option, Some, None}
+use Rattle.std.specs.Prelude.{◌&&◌, if◌then◌else◌, fold}
 use Rattle.sts_code.specs.Program.{Program}
 use Rattle.sts_code.specs.declared.instr.Instr.{Instr}
 use Rattle.sts_model.specs.declared.event.Event.{Event}

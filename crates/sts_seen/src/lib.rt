@@ -3,7 +3,9 @@
 
 ghost use Rattle.sts_code.specs.Program.{Program};
 ghost use Rattle.sts_runs.specs.Runs.{NeverFaults};
-ghost use Rattle.sts_seen.specs.Seen.{EffectIsSeen, InterruptIsSeen, ExpireIsSeen, CanStepIsSeen, CountsIsSeen, EventIsSeen, RunIsSeen, TakenIsSeen, ResultIsSeen, StandingIsSeen, TurnsAreSeen};
+ghost use Rattle.sts_seen.specs.Seen.{EffectIsSeen, InterruptIsSeen, ExpireIsSeen, CanStepIsSeen};
+ghost use Rattle.sts_seen.specs.Seen.{CountsIsSeen, EventIsSeen, RunIsSeen, TakenIsSeen};
+ghost use Rattle.sts_seen.specs.Seen.{ResultIsSeen, StandingIsSeen, TurnsAreSeen};
 
 /// What is seen of an instruction's effect is the effect on what is seen.
 pub fn effect_is_seen()

@@ -1,5 +1,6 @@
 -- Comparing typestates decides whether they are the same.
-use Rattle.std.proofs.Common.{◌≡◌, ℕ, List, [], ◌∷◌, Bool, true, false, ◌&&◌, ◌↔◌, IsTrue, arith, refl, sym, ap, ◌∙◌, subst, reverse, eqb, eqb-true, eq-eqb}
+use Rattle.std.proofs.Common.{◌≡◌, ℕ, List, [], ◌∷◌, Bool, true, false, ◌&&◌, ◌↔◌, IsTrue, arith}
+use Rattle.std.proofs.Common.{refl, sym, ap, ◌∙◌, subst, reverse, eqb, eqb-true, eq-eqb}
 use Rattle.std.proofs.lemmas.Bool.Decides.{Decides-int_eq}
 use Rattle.std.proofs.lemmas.List.{reverse-reverse}
 use lib.Pointwise.{pointwise}

@@ -11,7 +11,9 @@ use Rattle.sts_rules.specs.Edges.{joiner_of, ok_pushes}
 
 -- the outcomes of `join` find room
 abbrev pub JoinHasRoom : Instr → TypeState → Type 0
-JoinHasRoom (Join x failed timeout interrupted) s = (s.height + ok_pushes (joiner_of (scope_in s.entries x)) ≤ MAX_OPERANDS) × IfSome failed (λ _. s.height < MAX_OPERANDS)
+JoinHasRoom (Join x failed timeout interrupted) s =
+    (s.height + ok_pushes (joiner_of (scope_in s.entries x)) ≤ MAX_OPERANDS)
+    × IfSome failed (λ _. s.height < MAX_OPERANDS)
 JoinHasRoom _ s = Unit {0}
 
 -- there is room for what the instruction adds

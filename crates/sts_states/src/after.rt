@@ -1,6 +1,7 @@
 //! What an instruction makes of a typestate, where no cause holds.
 
-ghost use Rattle.std.specs.Prelude.{◌≡◌, ◌<◌, ◌≤◌, ◌-◌, ◌+◌, ◌∷◌, length, drop, map, true, slice_set, slice_get, if◌then◌else◌, List, [], Some, IfSome};
+ghost use Rattle.std.specs.Prelude.{◌≡◌, ◌<◌, ◌≤◌, ◌-◌, ◌+◌, ◌∷◌, length, drop, map, true};
+ghost use Rattle.std.specs.Prelude.{slice_set, slice_get, if◌then◌else◌, List, [], Some, IfSome};
 ghost use Rattle.sts_states.specs.Room.{HasRoom};
 ghost use Rattle.sts_rules.specs.Around as around;
 ghost use Rattle.sts_rules.specs.Edges as def;
@@ -277,8 +278,8 @@ impl TypeState {
         }
     }
 
-    /// Where an instruction leads that has one edge and changes no more than the number of operands: the place, and the
-    /// number there.
+    /// Where an instruction leads that has one edge and changes no more than the number of
+    /// operands: the place, and the number there.
     pub fn moves_to(&self, program: &Program, pc: u32, instr: Instr) -> Option<(u32, u8)>
         requires pc { pc < MAX_INSTRUCTIONS }
         requires room { HasRoom program.now instr self.now }

@@ -10,8 +10,8 @@ use sts_code::program::Program;
 use sts_model::stack::Stack;
 use sts_rules::typing::{SlotKind, TypedEntry, TypedLoop};
 
-/// What the verifier knows of a task at an instruction: contracts see the number of operands, the open loops and the
-/// structure list, the innermost first, and what each slot holds.
+/// What the verifier knows of a task at an instruction: contracts see the number of operands, the
+/// open loops and the structure list, the innermost first, and what each slot holds.
 #[derive(Drop)]
 pub struct TypeState {
     pub(crate) height: u8,
@@ -26,7 +26,12 @@ impl Model for TypeState {
 
     ghost Value = { TypeState };
 
-    ghost view = { λ s. record { height = s.height; loops = s.loops; entries = s.entries; slots = s.slots } };
+    ghost view = { λ s. record {
+      height = s.height;
+      loops = s.loops;
+      entries = s.entries;
+      slots = s.slots;
+    } };
 
     ghost invariant = { λ s. s.height ≤ 32 };
 }

@@ -1,5 +1,7 @@
-use Rattle.std.proofs.Common.{zero, suc, ◌-◌, ◌≡◌, ℕ, ◌<◌, ◌≤◌, ◌^◌, Bool, true, false, cond, List, [], ◌∷◌, length, get_or, arith, refl, drop, sym, ◌∙◌, ap, rules}
-use Rattle.std.specs.Prelude.{◌↔◌, Option, Some, None, Result, Ok, Err, nat_le, ◌==◌, ◌&&◌, not, ℤ, pos, neg_ℤ}
+use Rattle.std.proofs.Common.{zero, suc, ◌-◌, ◌≡◌, ℕ, ◌<◌, ◌≤◌, ◌^◌, Bool, true, false, cond, List}
+use Rattle.std.proofs.Common.{[], ◌∷◌, length, get_or, arith, refl, drop, sym, ◌∙◌, ap, rules}
+use Rattle.std.specs.Prelude.{◌↔◌, Option, Some, None, Result, Ok, Err, nat_le, ◌==◌, ◌&&◌, not, ℤ}
+use Rattle.std.specs.Prelude.{pos, neg_ℤ}
 use Rattle.std.specs.Result.{result_ok}
 use Rattle.std.specs.Int.{w64}
 use Rattle.std.specs.List.{list_all}
@@ -12,7 +14,8 @@ use Rattle.std.proofs.lemmas.Str.Ascii.{IsAscii-nil, IsAscii-cons}
 use Rattle.std.proofs.lemmas.Str.{IsUtf8-from_ascii}
 use Rattle.std.proofs.lemmas.Bool.Decides.{nat_tests}
 use Rattle.std.specs.Fmt.{decimal}
-use Rattle.std.proofs.lemmas.Fmt.{decimal-digits_value, digits_decimal, digits_value-decimal, first_decimal, decimal_nonempty, decimal_digit}
+use Rattle.std.proofs.lemmas.Fmt.{decimal-digits_value, digits_decimal, digits_value-decimal}
+use Rattle.std.proofs.lemmas.Fmt.{first_decimal, decimal_nonempty, decimal_digit}
 use Rattle.sts_text.specs.Number.{is_digits, has_leading_zero, digits_up_to, numeral}
 
 pub own : IsNumeralModel (λ ds. list_all is_ascii_digit ds ≡ true) (digits_value 10)
@@ -90,6 +93,7 @@ decimal_read n h =
     let small : nat_le n (2 ^ 32 - 1) ≡ true = grind (arith, nat_tests) in
     rw (no_zero_before n h, decimal_is_digits n (omega arith), digits_value-decimal own n (omega arith), small) refl
 
--- what is read as `numeral` says is a number exactly where the word is the number's decimal spelling
+-- what is read as `numeral` says is a number exactly where the word is the number's decimal
+-- spelling
 pub numeral_spelled : (word : List ℕ) (read : Option ℕ) → read ≡ numeral word → (n : ℕ) → (read ≡ Some n) ↔ ((n < 2 ^ 32) × (word ≡ decimal n))
 numeral_spelled word read e n = rw e (spells word n, λ (h : (n < 2 ^ 32) × (word ≡ decimal n)). rw h.1 (decimal_read n h.0))

@@ -1,6 +1,9 @@
-use Rattle.std.proofs.Common.{length-drop, take_all, ◌≡◌, ℕ, ◌+◌, ◌<◌, ◌≤◌, ◌-◌, Bool, true, false, cond, List, [], ◌∷◌, length, arith, refl, drop, take, ◌∙◌, ap, ◌⊎◌, inl, inr}
+use Rattle.std.proofs.Common.{length-drop, take_all, ◌≡◌, ℕ, ◌+◌, ◌<◌, ◌≤◌, ◌-◌, Bool, true, false}
+use Rattle.std.proofs.Common.{cond, List, [], ◌∷◌, length, arith, refl, drop, take, ◌∙◌, ap, ◌⊎◌}
+use Rattle.std.proofs.Common.{inl, inr}
 use Rattle.std.specs.Prelude.{◌==◌, not, filter, Some, None, nat_lt}
-use Rattle.std.specs.List.{slice_split, before_first, after_first, position, position_or_len, onto_first}
+use Rattle.std.specs.List.{slice_split, before_first, after_first, position, position_or_len}
+use Rattle.std.specs.List.{onto_first}
 use Rattle.std.proofs.lemmas.List.Splits.{slice_split_first}
 use Rattle.std.proofs.lemmas.List.{drop_all}
 use Rattle.std.proofs.lemmas.Bool.Decides.{nat_tests}
@@ -91,7 +94,8 @@ words_none (x ∷ xs) h = absurd (omega arith)
 
 pub ruleset words_first = (word_first, word_later, after_shorter, words_none)
 
--- at the first element that passes, the parts are what stands before it and the parts of what stands behind it
+-- at the first element that passes, the parts are what stands before it and the parts of what
+-- stands behind it
 pub cut_some : (p : ℕ → Bool) (xs : List ℕ) (i : ℕ) → position p xs ≡ Some i → slice_split p xs ≡ take i xs ∷ slice_split p (take (length xs - (i + 1)) (drop (i + 1) xs))
 cut_some p xs i e =
     let h = position_some p xs i e in

@@ -1,12 +1,15 @@
 //! The numbers that words write.
 
-ghost use Rattle.std.specs.Prelude.{◌≡◌, ◌^◌, ◌<◌, ◌≤◌, ◌-◌, ◌+◌, ◌*◌, ◌↔◌, Some, None, IfSome, true, nat_lt, nat_le, pos, neg_ℤ, drop, slice_index, if◌then◌else◌, ℕ};
+ghost use Rattle.std.specs.Prelude.{◌≡◌, ◌^◌, ◌<◌, ◌≤◌, ◌-◌, ◌+◌, ◌*◌, ◌↔◌, Some, None, IfSome};
+ghost use Rattle.std.specs.Prelude.{true, nat_lt, nat_le, pos, neg_ℤ, drop, slice_index};
+ghost use Rattle.std.specs.Prelude.{if◌then◌else◌, ℕ};
 ghost use Rattle.std.specs.Str.Parse.{digits_value};
 ghost use Rattle.std.specs.List.{list_all};
 ghost use Rattle.std.specs.Char.{is_ascii_digit, digit_value};
 ghost use Rattle.std.specs.Fmt.{decimal};
 ghost use Rattle.std.specs.Str.{IsUtf8};
-ghost use Rattle.sts_text.specs.Number.{is_digits, has_leading_zero, digits_up_to, numeral, number, number_up_to};
+ghost use Rattle.sts_text.specs.Number.{is_digits, has_leading_zero, digits_up_to, numeral, number};
+ghost use Rattle.sts_text.specs.Number.{number_up_to};
 
 use std::str;
 

@@ -1,5 +1,6 @@
 -- What is read is what the text spells.
-use Rattle.std.proofs.Common.{◌≡◌, ℕ, ◌+◌, ◌<◌, ◌≤◌, ◌^◌, Bool, true, false, cond, List, [], ◌∷◌, ◌++◌, length, arith, refl, sym, ◌∙◌, ap, append_assoc, ◌⊎◌, inl, inr}
+use Rattle.std.proofs.Common.{◌≡◌, ℕ, ◌+◌, ◌<◌, ◌≤◌, ◌^◌, Bool, true, false, cond, List, [], ◌∷◌}
+use Rattle.std.proofs.Common.{◌++◌, length, arith, refl, sym, ◌∙◌, ap, append_assoc, ◌⊎◌, inl, inr}
 use Rattle.std.proofs.lemmas.Bool.Decides.{nat_tests}
 use Rattle.std.specs.Prelude.{◌&&◌, Result, Ok, Err, Option, Some, None, nat_lt, codes, IfOk}
 use Rattle.std.specs.List.{join_with_byte, flat_map, All}
@@ -16,8 +17,11 @@ use Rattle.sts_model.specs.declared.event.Event.TheVariants.{Step, Interrupt, Ex
 use Rattle.sts_trace.specs.declared.outside.Due.{Due}
 use Rattle.sts_trace.specs.declared.error.TraceError.{TraceError}
 use Rattle.sts_trace.specs.declared.error.TraceError.TheVariants.{BadLine, NoNewline}
-use Rattle.sts_trace.specs.Reading.{◌>>=◌, Gives, spelled_at, numeral_at, event_of, event_said, event_line, is_outside_word, due_said, due_line, lines_read, trace_read, outside_read}
-use Rattle.sts_trace.specs.Spelling.{event_text, trace_text, due_text, outside_text, number_of, is_outside, IsEvent, IsDue, AreDues}
+use Rattle.sts_trace.specs.Reading.{◌>>=◌, Gives, spelled_at, numeral_at, event_of, event_said}
+use Rattle.sts_trace.specs.Reading.{event_line, is_outside_word, due_said, due_line, lines_read}
+use Rattle.sts_trace.specs.Reading.{trace_read, outside_read}
+use Rattle.sts_trace.specs.Spelling.{event_text, trace_text, due_text, outside_text, number_of}
+use Rattle.sts_trace.specs.Spelling.{is_outside, IsEvent, IsDue, AreDues}
 use Rattle.sts_trace.proofs.Spelled.{word_of, event_parts, due_parts, outside_word}
 
 chosen : {A : Type 0} (b : Bool) (x y z : A) → cond b x y ≡ z → ((b ≡ true) × (x ≡ z)) ⊎ ((b ≡ false) × (y ≡ z))

@@ -1,5 +1,7 @@
--- Reading a trace or outside events line by line, with the first fault that is met (this project's own).
-use Rattle.std.specs.Prelude.{◌≡◌, ⊤, ℕ, ◌+◌, List, [], ◌∷◌, Option, Some, None, Result, Ok, Err, Bool, ◌&&◌, ◌||◌, nat_lt, if◌then◌else◌, codes}
+-- Reading a trace or outside events line by line, with the first fault that is met (this project's
+-- own).
+use Rattle.std.specs.Prelude.{◌≡◌, ⊤, ℕ, ◌+◌, List, [], ◌∷◌, Option, Some, None, Result, Ok, Err}
+use Rattle.std.specs.Prelude.{Bool, ◌&&◌, ◌||◌, nat_lt, if◌then◌else◌, codes}
 use Rattle.std.specs.Str.{bytes_eq}
 use Rattle.sts_code.specs.declared.limits.TheConstants.{MAX_OUTSIDE}
 use Rattle.sts_model.specs.declared.event.Event.{Event}
@@ -8,10 +10,12 @@ use Rattle.sts_text.specs.Number.{numeral}
 use Rattle.sts_text.specs.Words.{lines, fields, is_filled}
 use Rattle.sts_trace.specs.declared.outside.Due.{Due}
 use Rattle.sts_trace.specs.declared.error.TraceError.{TraceError}
-use Rattle.sts_trace.specs.declared.error.TraceError.TheVariants.{BadLine, BadNumber, NoNewline, Memory}
+use Rattle.sts_trace.specs.declared.error.TraceError.TheVariants.{BadLine, BadNumber, NoNewline}
+use Rattle.sts_trace.specs.declared.error.TraceError.TheVariants.{Memory}
 
 infixl 10 ◌>>=◌
-abbrev pub ◌>>=◌ : {A B : Type 0} → Result A TraceError → (A → Result B TraceError) → Result B TraceError
+abbrev pub ◌>>=◌ : {A B : Type 0} → Result A TraceError → (A → Result B TraceError)
+    → Result B TraceError
 (Ok x) >>= f = f x
 (Err e) >>= f = Err e
 
@@ -43,7 +47,8 @@ event_of at word number =
 
 -- a word and a number: one space between them, and none elsewhere
 abbrev pub event_said : ℕ → List (List ℕ) → Result Event TraceError
-event_said at (word ∷ number ∷ []) = if is_filled number then event_of at word number else Err (BadLine at)
+event_said at (word ∷ number ∷ []) =
+    if is_filled number then event_of at word number else Err (BadLine at)
 event_said at _ = Err (BadLine at)
 
 -- what line `at` of a trace says
@@ -58,7 +63,8 @@ is_outside_word word = bytes_eq word (codes "interrupt") || bytes_eq word (codes
 abbrev pub due_said : ℕ → List (List ℕ) → Result Due TraceError
 due_said at (first ∷ time ∷ word ∷ number ∷ []) =
     if bytes_eq first (codes "at") && (is_filled time && (is_outside_word word && is_filled number))
-    then (numeral_at at time >>= λ n. event_of at word number >>= λ e. Ok (record { at = n; event = e }))
+    then (numeral_at at time >>= λ n. event_of at word number
+    >>= λ e. Ok (record { at = n; event = e }))
     else Err (BadLine at)
 due_said at _ = Err (BadLine at)
 
@@ -66,12 +72,15 @@ due_said at _ = Err (BadLine at)
 abbrev pub due_line : ℕ → List ℕ → Result Due TraceError
 due_line at line = if nat_lt MAX_OUTSIDE at then Err (BadLine at) else due_said at (fields line)
 
--- what the lines from line `at` on say, one after the other; the last is what stands behind the last newline
-unfoldable pub lines_read : {A : Type 0} → (ℕ → List ℕ → Result A TraceError) → ℕ → List (List ℕ) → Result (List A) TraceError
+-- what the lines from line `at` on say, one after the other; the last is what stands behind the
+-- last newline
+unfoldable pub lines_read : {A : Type 0} → (ℕ → List ℕ → Result A TraceError) → ℕ → List (List ℕ)
+    → Result (List A) TraceError
 lines_read said at [] = Ok []
 lines_read said at (rest ∷ []) = if is_filled rest then Err NoNewline else Ok []
 lines_read said at (line ∷ next ∷ more) =
-    said at line >>= λ first. lines_read said (at + 1) (next ∷ more) >>= λ others. Ok (first ∷ others)
+    said at line >>= λ first. lines_read said (at + 1) (next ∷ more)
+    >>= λ others. Ok (first ∷ others)
 
 -- the events that a text spells, or its first fault
 abbrev pub trace_read : List ℕ → Result (List Event) TraceError

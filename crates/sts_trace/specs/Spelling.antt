@@ -1,5 +1,6 @@
 -- How a trace and the outside events are spelled: one spelling for each (this project's own).
-use Rattle.std.specs.Prelude.{ℕ, ◌<◌, ◌≤◌, ◌^◌, List, ◌++◌, length, Bool, false, true, codes, IsTrue}
+use Rattle.std.specs.Prelude.{ℕ, ◌<◌, ◌≤◌, ◌^◌, List, ◌++◌, length, Bool, false, true, codes}
+use Rattle.std.specs.Prelude.{IsTrue}
 use Rattle.std.specs.List.{flat_map, All}
 use Rattle.std.specs.Fmt.{decimal}
 use Rattle.sts_code.specs.declared.limits.TheConstants.{MAX_OUTSIDE}

@@ -61,8 +61,9 @@ fn read_events(alloc: Global, text: &[u8]) -> Result<Vec<Event>, TraceError>
 ///
 /// # Errors
 ///
-/// Lines are judged in order. `BadLine`: a line that isn't `step`, `interrupt` or `expire`, one space, and one or
-/// more bytes without a space. `BadNumber`: one whose last word isn't `0` or digits without a leading zero, at most
+/// Lines are judged in order. `BadLine`: a line that isn't `step`, `interrupt` or `expire`, one
+/// space, and one or more bytes without a space. `BadNumber`: one whose last word isn't `0` or
+/// digits without a leading zero, at most
 /// 4294967295. `NoNewline`: bytes after the last newline. `Memory` may come in place of any answer.
 #[tactic(auto, using(crate::proofs::Found::events_found, crate::proofs::Only::trace_only))]
 pub fn read_trace(alloc: Global, text: &[u8]) -> Result<Vec<Event>, TraceError>

@@ -1,10 +1,13 @@
 -- One forward pass that keeps at most one state a place finds the verdict.
-use Rattle.std.proofs.Common.{◌≡◌, ◌≢◌, ℕ, ◌+◌, ◌<◌, ◌≤◌, ◌⊎◌, inl, inr, List, [], ◌∷◌, Some, None, Ok, Err, length, get_or, set, refl, sym, ap, ◌∙◌, subst, arith, get_or-set_same, get_or-set_other, length-set}
+use Rattle.std.proofs.Common.{◌≡◌, ◌≢◌, ℕ, ◌+◌, ◌<◌, ◌≤◌, ◌⊎◌, inl, inr, List, [], ◌∷◌, Some, None}
+use Rattle.std.proofs.Common.{Ok, Err, length, get_or, set, refl, sym, ap, ◌∙◌, subst, arith}
+use Rattle.std.proofs.Common.{get_or-set_same, get_or-set_other, length-set}
 use Rattle.std.proofs.lemmas.Bool.{cases_eq, cases_lt}
 use Rattle.sts_types.specs.declared.arrival.Arrival.{Arrival}
 use Rattle.sts_types.specs.declared.arrival.Arrival.TheVariants.{Nothing, One, Several}
 use Rattle.sts_types.specs.Arrivals.{Merged, Arrive}
-use Rattle.sts_rules.specs.Flow.{Flow, Leads, Reaches, first, then, IsAlone, TurnDiffers, TurnKeeps, IsClear, HasCause, dead, two, edge, turn}
+use Rattle.sts_rules.specs.Flow.{Flow, Leads, Reaches, first, then, IsAlone, TurnDiffers, TurnKeeps}
+use Rattle.sts_rules.specs.Flow.{IsClear, HasCause, dead, two, edge, turn}
 
 -- what stands for the states P
 abbrev pub Stands : {S : Type 0} → (S → Type 0) → Arrival S → Type 0
@@ -60,7 +63,8 @@ module _ {S : Type 0} where
       (λ pc x. elim [ inl p ↦ inl (inl p) | inr l ↦ elim l [ inl r ↦ inl (inr r) | inr m ↦ inr m ] ])
       (arrive_describes es Q _ after n one is.1.1)
 
--- the laws of a flow of n places: edges go forward and stay inside, a loop goes back to no later place
+-- the laws of a flow of n places: edges go forward and stay inside, a loop goes back to no later
+-- place
 pub record IsForward {S C : Type 0} (f : Flow S C) (n : ℕ) : Type 0 where
   pub up : (pc : ℕ) (s : S) (out : List (ℕ × S)) (to : ℕ) (x : S) → f.edges pc s ≡ Ok out → Leads out to x → (pc < to) × (to < n)
   pub down : (pc : ℕ) (s : S) (out : List (ℕ × S)) (q : ℕ) → f.edges pc s ≡ Ok out → f.back pc s ≡ Some q → q ≤ pc
@@ -70,7 +74,8 @@ pub data Below {S C : Type 0} (f : Flow S C) (k : ℕ) : ℕ → S → Type 0 wh
   at_entry : Below f k 0 f.entry
   out_of : (from : ℕ) (before : S) (out : List (ℕ × S)) {pc : ℕ} {s : S} → from < k → Reaches f from before → f.edges from before ≡ Ok out → Leads out pc s → Below f k pc s
 
--- how far the pass has come: the table stands for all that arrives from the places below k, and no cause holds at these
+-- how far the pass has come: the table stands for all that arrives from the places below k, and no
+-- cause holds at these
 pub record Passed {S C : Type 0} (f : Flow S C) (n : ℕ) (table : List (Arrival S)) (k : ℕ) : Type 0 where
   pub holds : (length table ≡ n) × ((pc : ℕ) → pc < n → Stands (Below f k pc) (get_or table pc Nothing))
   pub clear : (pc : ℕ) → pc < k → IsClear f pc

@@ -1,11 +1,14 @@
 -- The promises of typing: the open loops of a typestate that is reached are those around its place.
-use Rattle.std.proofs.Common.{◌≡◌, ℕ, ◌<◌, ◌⊎◌, inl, inr, Bool, true, false, ◌||◌, not, List, [], ◌∷◌, ◌++◌, map, drop, Option, Some, None, Ok, bytes_eq, refl, sym, ap, ◌∙◌, subst}
+use Rattle.std.proofs.Common.{◌≡◌, ℕ, ◌<◌, ◌⊎◌, inl, inr, Bool, true, false, ◌||◌, not, List, []}
+use Rattle.std.proofs.Common.{◌∷◌, ◌++◌, map, drop, Option, Some, None, Ok, bytes_eq, refl, sym, ap}
+use Rattle.std.proofs.Common.{◌∙◌, subst}
 use Rattle.std.specs.List.{list_any}
 use lib.Pointwise.{bytes_decides}
 use Rattle.sts_code.specs.Program.{Program, routine, instr_at}
 use Rattle.sts_code.specs.Checks.{program_fault}
 use Rattle.sts_code.specs.declared.instr.Instr.{Instr}
-use Rattle.sts_code.specs.declared.instr.Instr.TheVariants.{Div, Jz, Times, Next, Fork, Join, Case, Ret, Fail}
+use Rattle.sts_code.specs.declared.instr.Instr.TheVariants.{Div, Jz, Times, Next, Fork, Join, Case}
+use Rattle.sts_code.specs.declared.instr.Instr.TheVariants.{Ret, Fail}
 use Rattle.sts_rules.specs.declared.typing.TypedLoop.{TypedLoop}
 use Rattle.sts_rules.specs.TypeState.{TypeState, heads}
 use Rattle.sts_rules.specs.Around.{next_place, skipped_to, around, open_after}
@@ -19,7 +22,8 @@ use Rattle.sts_rules.specs.Refusal.{size, IsAccepted}
 use Rattle.sts_code.proofs.LimitLemmas.{has_code}
 use Rattle.sts_types.proofs.Fitting.{fits}
 use Rattle.sts_types.proofs.FollowLemmas.{at_place}
-use Rattle.sts_types.proofs.Laws.{Among, LeadsTo, among_left, among_right, next_among, none_passes, follow_leads, leads_among, or_cause_ok, laws}
+use Rattle.sts_types.proofs.Laws.{Among, LeadsTo, among_left, among_right, next_among, none_passes}
+use Rattle.sts_types.proofs.Laws.{follow_leads, leads_among, or_cause_ok, laws}
 
 -- each edge has these loops open
 abbrev KeepLoops : List ℕ → List (ℕ × TypeState) → Type 0

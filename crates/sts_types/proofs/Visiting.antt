@@ -1,5 +1,8 @@
 -- One place of the pass over a function: each exit of the body, and how the pass goes on.
-use Rattle.std.proofs.Common.{◌≡◌, ◌≢◌, ℕ, ◌+◌, ◌<◌, ◌≤◌, ◌↔◌, IsTrue, IfSome, Bool, true, false, List, length, Option, Some, None, Ok, Err, get_or, set, replicate, refl, sym, ap, ◌∙◌, subst, arith, get_or-set_same, get_or-set_other, length-set}
+use Rattle.std.proofs.Common.{◌≡◌, ◌≢◌, ℕ, ◌+◌, ◌<◌, ◌≤◌, ◌↔◌, IsTrue, IfSome, Bool, true, false}
+use Rattle.std.proofs.Common.{List, length, Option, Some, None, Ok, Err, get_or, set, replicate}
+use Rattle.std.proofs.Common.{refl, sym, ap, ◌∙◌, subst, arith, get_or-set_same, get_or-set_other}
+use Rattle.std.proofs.Common.{length-set}
 use Rattle.std.specs.List.{All}
 use Rattle.std.proofs.lemmas.List.{get_or_default, length-replicate, get_or-replicate}
 use Rattle.sts_code.specs.Program.{Program, routine, instr_at}
@@ -19,7 +22,8 @@ use Rattle.sts_states.specs.Room.{HasRoom}
 use Rattle.sts_types.proofs.Arriving.{all_places}
 use Rattle.sts_types.proofs.Fitting.{fits}
 use Rattle.sts_types.proofs.Laws.{laws, back_down}
-use Rattle.sts_types.proofs.Passing.{Passed, begin, is_dead, has_two, has_edge_cause, has_turn_cause, turn_differs, turn_same, no_turn, goes_on}
+use Rattle.sts_types.proofs.Passing.{Passed, begin, is_dead, has_two, has_edge_cause}
+use Rattle.sts_types.proofs.Passing.{has_turn_cause, turn_differs, turn_same, no_turn, goes_on}
 use Rattle.sts_types.proofs.RoomLemmas.{has_room}
 
 pub within_code : (loops code : List Instr) (count pc : ℕ) → count ≡ length loops → loops ≡ code → pc < count → pc < length code

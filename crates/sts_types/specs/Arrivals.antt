@@ -1,5 +1,7 @@
--- What a table keeps of the states that arrive at its places: at most one state a place (this project's own).
-use Rattle.std.specs.Prelude.{◌≡◌, ◌≢◌, ◌<◌, ◌≤◌, ℕ, ◌⊎◌, List, [], ◌∷◌, Option, Some, None, slice_index_or, slice_set}
+-- What a table keeps of the states that arrive at its places: at most one state a place (this
+-- project's own).
+use Rattle.std.specs.Prelude.{◌≡◌, ◌≢◌, ◌<◌, ◌≤◌, ℕ, ◌⊎◌, List, [], ◌∷◌, Option, Some, None}
+use Rattle.std.specs.Prelude.{slice_index_or, slice_set}
 use Rattle.sts_code.specs.declared.limits.TheConstants.{MAX_OPERANDS}
 use Rattle.sts_rules.specs.TypeState.{TypeState}
 use Rattle.sts_types.specs.declared.arrival.Arrival.{Arrival}
@@ -15,12 +17,16 @@ Merged Several s after = after ≡ Several
 -- after each of these pairs has arrived in turn
 abbrev pub Arrive : {S : Type 0} → List (Arrival S) → List (ℕ × S) → List (Arrival S) → Type 0
 Arrive table [] after = after ≡ table
-Arrive {S} table (e ∷ es) after = (b : Arrival S) × (Merged (slice_index_or table e.0 Nothing) e.1 b × Arrive (slice_set table e.0 b) es after)
+Arrive {S} table (e ∷ es) after =
+    (b : Arrival S)
+    × (Merged (slice_index_or table e.0 Nothing) e.1 b × Arrive (slice_set table e.0 b) es after)
 
 -- after the pair, if there is one, has arrived
 abbrev pub ArriveAt : {S : Type 0} → List (Arrival S) → Option (ℕ × S) → List (Arrival S) → Type 0
 ArriveAt table None after = after ≡ table
-ArriveAt {S} table (Some e) after = (b : Arrival S) × (Merged (slice_index_or table e.0 Nothing) e.1 b × (after ≡ slice_set table e.0 b))
+ArriveAt {S} table (Some e) after =
+    (b : Arrival S)
+    × (Merged (slice_index_or table e.0 Nothing) e.1 b × (after ≡ slice_set table e.0 b))
 
 -- what has arrived at each place, the typestate at hand, and that of the place that was loaded last
 pub record Arrived : Type 0 where
@@ -56,7 +62,8 @@ filled s Nothing = Nothing
 filled s (One x) = One s
 filled s Several = Several
 
--- an edge, if there is one, leads from a typestate to this place and typestate; with none there is no place, and the typestate is the same
+-- an edge, if there is one, leads from a typestate to this place and typestate; with none there is
+-- no place, and the typestate is the same
 abbrev pub Goes : Option (ℕ × TypeState) → TypeState → Option ℕ → TypeState → Type 0
 Goes None before to after = (to ≡ None) × (after ≡ before)
 Goes (Some e) before to after = (to ≡ Some e.0) × (after ≡ e.1)

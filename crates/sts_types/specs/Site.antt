@@ -32,4 +32,5 @@ outcomes x failed timeout interrupted s =
 
 -- the edges of `case` behind that of a subtask in neither state
 abbrev pub states : ℕ → ℕ → ℕ → TypeState → List (ℕ × TypeState)
-states h success failed s = (success, with_known h known.Success s) ∷ (failed, with_known h known.Failed s) ∷ []
+states h success failed s =
+    (success, with_known h known.Success s) ∷ (failed, with_known h known.Failed s) ∷ []

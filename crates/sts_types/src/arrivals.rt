@@ -1,10 +1,13 @@
 //! What has arrived at each place of a function, kept in little memory.
 
-ghost use Rattle.std.specs.Prelude.{◌≡◌, ◌<◌, ◌≤◌, ◌↔◌, ◌++◌, List, length, replicate, slice_get, slice_index_or, slice_set, option_to_list, All, IfOk, OnOk, IsTrue};
+ghost use Rattle.std.specs.Prelude.{◌≡◌, ◌<◌, ◌≤◌, ◌↔◌, ◌++◌, List, length, replicate, slice_get};
+ghost use Rattle.std.specs.Prelude.{slice_index_or, slice_set, option_to_list, All, IfOk, OnOk};
+ghost use Rattle.std.specs.Prelude.{IsTrue};
 ghost use Rattle.sts_rules.specs.Edges as def;
 ghost use Rattle.sts_rules.specs.TypeState.{TypeState};
 ghost use Rattle.sts_types.specs.Site.{IsSite, HasRoomAt, follows_at};
-ghost use Rattle.sts_types.specs.Arrivals.{Merged, ArriveAt, IsMarked, arrival_of, at_height, filled, none, state_of, IsAtStart};
+ghost use Rattle.sts_types.specs.Arrivals.{Merged, ArriveAt, IsMarked, arrival_of, at_height};
+ghost use Rattle.sts_types.specs.Arrivals.{filled, none, state_of, IsAtStart};
 
 use crate::arrival::Arrival;
 use crate::follow::edge;
@@ -15,7 +18,8 @@ use sts_code::limits::MAX_OPERANDS;
 use sts_rules::fill::filled;
 use sts_states::state::TypeState;
 
-/// A typestate that arrived: its number of operands, and which of those that are kept is like it but for that number.
+/// A typestate that arrived: its number of operands, and which of those that are kept is like it
+/// but for that number.
 #[derive(Clone, Copy)]
 pub(crate) struct Mark {
     height: u8,
@@ -24,7 +28,8 @@ pub(crate) struct Mark {
 
 /// What has arrived at each place, and the typestate at hand.
 ///
-/// Most instructions change no more than the number of operands: whole typestates are kept for the others alone.
+/// Most instructions change no more than the number of operands: whole typestates are kept for the
+/// others alone.
 #[derive(Drop)]
 pub(crate) struct Arrivals {
     marks: Vec<Arrival<Mark>>,
@@ -44,7 +49,11 @@ impl Model for Arrivals {
 
     ghost Value = { Arrived };
 
-    ghost view = { λ a. record { table = map (arrival_of a.kept.items) a.marks.items; state = a.state; start = state_of a.kept.items a.start } };
+    ghost view = { λ a. record {
+      table = map (arrival_of a.kept.items) a.marks.items;
+      state = a.state;
+      start = state_of a.kept.items a.start;
+    } };
 
     ghost invariant = { λ a. All (IsMarked (length a.kept.items)) a.marks.items
         × (a.like < length a.kept.items)
@@ -92,7 +101,8 @@ fn keep(kept: &mut Vec<TypeState>, like: usize, state: &TypeState) -> Result<usi
     Ok(count)
 }
 
-/// The typestate for which a mark stands comes to hand, where that at hand is like the one that is told.
+/// The typestate for which a mark stands comes to hand, where that at hand is like the one that is
+/// told.
 fn come_to(state: &mut TypeState, like: &mut usize, kept: &[TypeState], mark: Mark)
     requires mark { IsMarked (length kept.now) (Arrival.One mark) }
     requires hand { state.old ≡ state_of kept.now
@@ -195,7 +205,8 @@ impl Arrivals {
         );
     }
 
-    /// The typestate at hand goes along an edge of an instruction, by number from 0, and arrives where that leads.
+    /// The typestate at hand goes along an edge of an instruction, by number from 0, and arrives
+    /// where that leads.
     pub(crate) fn arrive_along(&mut self, site: &Site<'_>, number: usize) -> Result<(), AllocError>
         requires site { IsSite site.now }
         requires room { HasRoomAt site.now self.old.state }

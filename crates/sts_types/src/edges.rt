@@ -14,9 +14,11 @@ use sts_loops::loops::CodeLoops;
 use sts_rules::typing::Cause;
 use sts_states::state::TypeState;
 
-/// The edges of the instruction at a place of one of the program's functions, or the least cause that holds there.
+/// The edges of the instruction at a place of one of the program's functions, or the least cause
+/// that holds there.
 ///
-/// Causes that compare typestates or look for dead code aren't tested: they speak of a whole function.
+/// Causes that compare typestates or look for dead code aren't tested: they speak of a whole
+/// function.
 ///
 /// # Errors
 ///

@@ -1,6 +1,7 @@
 //! The places and typestates that follow an instruction, where no cause holds.
 
-ghost use Rattle.std.specs.Prelude.{ℕ, List, ◌≡◌, ◌<◌, ◌≤◌, ◌-◌, ◌+◌, ◌++◌, ◌∷◌, [], length, slice_get, option_to_list, IfSome};
+ghost use Rattle.std.specs.Prelude.{ℕ, List, ◌≡◌, ◌<◌, ◌≤◌, ◌-◌, ◌+◌, ◌++◌, ◌∷◌, [], length};
+ghost use Rattle.std.specs.Prelude.{slice_get, option_to_list, IfSome};
 ghost use Rattle.sts_rules.specs.Edges as def;
 ghost use Rattle.sts_code.specs.Program.{Program};
 ghost use Rattle.sts_code.specs.declared.instr.Instr.{Instr};
@@ -17,7 +18,8 @@ use sts_code::limits::MAX_OPERANDS;
 use sts_rules::typing::{Known, TypedPhase};
 use sts_states::state::TypeState;
 
-/// The places that follow an instruction, each with its typestate, at most four: contracts see the list of them.
+/// The places that follow an instruction, each with its typestate, at most four: contracts see the
+/// list of them.
 #[derive(Drop)]
 pub struct Edges {
     edges: ArrayVec<(u32, TypeState), 4>,
@@ -152,8 +154,8 @@ fn later_edge(site: &Site<'_>, state: &mut TypeState, number: usize) -> Option<u
     }
 }
 
-/// Along an edge of an instruction, by number from 0: answers the place that it leads to, and the typestate becomes the
-/// one there; with no such edge nothing changes.
+/// Along an edge of an instruction, by number from 0: answers the place that it leads to, and the
+/// typestate becomes the one there; with no such edge nothing changes.
 pub(crate) fn edge(site: &Site<'_>, state: &mut TypeState, number: usize) -> Option<u32>
     requires site { IsSite site.now }
     requires room { HasRoomAt site.now state.old }

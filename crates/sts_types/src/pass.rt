@@ -1,6 +1,8 @@
 //! One forward pass over a function, which finds its least place with a cause.
 
-ghost use Rattle.std.specs.Prelude.{◌≡◌, ◌≤◌, ◌<◌, ◌^◌, ◌↔◌, length, replicate, slice_index_or, slice_set, vec_len, IsTrue, OnOk, IfSome, MatchResult, All, Some, ℕ, option_to_list};
+ghost use Rattle.std.specs.Prelude.{◌≡◌, ◌≤◌, ◌<◌, ◌^◌, ◌↔◌, length, replicate, slice_index_or};
+ghost use Rattle.std.specs.Prelude.{slice_set, vec_len, IsTrue, OnOk, IfSome, MatchResult, All};
+ghost use Rattle.std.specs.Prelude.{Some, ℕ, option_to_list};
 ghost use Rattle.sts_rules.specs.Edges as def;
 ghost use Rattle.sts_rules.specs.Refusal.{IsWellTyped};
 ghost use Rattle.sts_types.specs.Arrivals.{Merged, Arrive};
@@ -72,8 +74,8 @@ fn spread(site: &Site<'_>, arrivals: &mut Arrivals) -> Result<(), AllocError>
     Ok(())
 }
 
-/// The typestates after an instruction arrive at their places: a short way for those that change no more than the
-/// number of operands.
+/// The typestates after an instruction arrive at their places: a short way for those that change no
+/// more than the number of operands.
 fn follow(site: &Site<'_>, arrivals: &mut Arrivals) -> Result<(), AllocError>
     requires site { IsSite site.now }
     requires small { site.now.pc < MAX_INSTRUCTIONS }
@@ -93,8 +95,8 @@ fn follow(site: &Site<'_>, arrivals: &mut Arrivals) -> Result<(), AllocError>
     }
 }
 
-/// Whether each place of one of the program's functions has one typestate and no cause from V1 to V16; else the least
-/// place that has a cause, with the least cause there.
+/// Whether each place of one of the program's functions has one typestate and no cause from V1 to
+/// V16; else the least place that has a cause, with the least cause there.
 ///
 /// # Errors
 ///

@@ -1,6 +1,8 @@
--- Lemmas on the budgets of a program's functions: those of one function more, those of one function,
--- and that a function has only one.
-use Rattle.std.proofs.Common.{◌≡◌, ℕ, zero, suc, ◌+◌, ◌<◌, ◌≤◌, ◌⊎◌, inl, inr, List, [], ◌∷◌, ◌++◌, length, take, arith, subst, sym, ap, refl, ◌∙◌, length-append, length-take-le}
+-- Lemmas on the budgets of a program's functions: those of one function more, those of one
+-- function, and that a function has only one.
+use Rattle.std.proofs.Common.{◌≡◌, ℕ, zero, suc, ◌+◌, ◌<◌, ◌≤◌, ◌⊎◌, inl, inr, List, [], ◌∷◌, ◌++◌}
+use Rattle.std.proofs.Common.{length, take, arith, subst, sym, ap, refl, ◌∙◌, length-append}
+use Rattle.std.proofs.Common.{length-take-le}
 use Rattle.std.proofs.lemmas.Bool.{cases_lt}
 use Rattle.std.proofs.lemmas.List.{take-append-le, get_or_append_left, get_or-take}
 use Rattle.std.proofs.Math.Seq.{take-append_seam, get_or-append_seam, take-length}

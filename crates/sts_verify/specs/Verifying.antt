@@ -9,7 +9,8 @@ use Rattle.sts_types.specs.declared.pass.TypeError.TheVariants as typing
 use Rattle.sts_verify.specs.declared.error.VerifyError.{VerifyError}
 use Rattle.sts_verify.specs.declared.error.VerifyError.TheVariants.{Memory, Refused}
 
--- the program is given back; a refusal is the least place of the program with a cause, and the least cause there
+-- the program is given back; a refusal is the least place of the program with a cause, and the
+-- least cause there
 abbrev pub Tells : Program → VerifyError → Type 0
 Tells given (Memory p) = p ≡ given
 Tells given (Refused p f pc cause) = (p ≡ given) × IsRefusal given f pc cause
@@ -19,7 +20,8 @@ abbrev pub told : Program → ℕ → TypeError → VerifyError
 told p f typing.Memory = Memory p
 told p f (typing.Refused pc cause) = Refused p f pc cause
 
--- want of memory says nothing; a refusal is the least place of the function with a cause, and the least cause there
+-- want of memory says nothing; a refusal is the least place of the function with a cause, and the
+-- least cause there
 abbrev pub TellsOf : Program → ℕ → TypeError → Type 0
 TellsOf p f typing.Memory = Unit {0}
 TellsOf p f (typing.Refused pc cause) = IsUnsound p f pc cause

@@ -5,8 +5,9 @@ ghost use Rattle.sts_rules.specs.Refusal.{IsAccepted, IsOneVerdict};
 
 use sts_code::program::Program;
 
-/// Each typestate that is reached in an accepted program is the only one at its place, fits the instruction there by
-/// every cause, has just the loops open that are around the place, and is followed by typestates that are reached too.
+/// Each typestate that is reached in an accepted program is the only one at its place, fits the
+/// instruction there by every cause, has just the loops open that are around the place, and is
+/// followed by typestates that are reached too.
 pub fn typing_promises(program: &Program)
     requires { IsAccepted program.now }
     ensures { TypingPromises program.now }
@@ -14,9 +15,9 @@ pub fn typing_promises(program: &Program)
     let _ = program.functions();
 }
 
-/// Acceptance and refusal exclude each other, and a program has one refusal at most: the least place, and the least
-/// cause there. So, where memory suffices, `verify` accepts exactly the programs that are accepted, and names of each
-/// other one the only refusal.
+/// Acceptance and refusal exclude each other, and a program has one refusal at most: the least
+/// place, and the least cause there. So, where memory suffices, `verify` accepts exactly the
+/// programs that are accepted, and names of each other one the only refusal.
 pub fn verdict_is_one(program: &Program)
     ensures { IsOneVerdict program.now }
 {

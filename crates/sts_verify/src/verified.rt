@@ -119,7 +119,8 @@ fn verify_function(
     }
 }
 
-/// Verifies a program: it is accepted, or refused at its least place with a cause, by the least cause there.
+/// Verifies a program: it is accepted, or refused at its least place with a cause, by the least
+/// cause there.
 ///
 /// # Errors
 ///

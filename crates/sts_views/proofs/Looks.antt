@@ -1,5 +1,7 @@
 -- What a task looks at to see whether it can step: itself, its own scopes and who lives in them.
-use Rattle.std.proofs.Common.{◌≡◌, ℕ, ◌<◌, ◌≤◌, [], ◌∷◌, ◌++◌, Bool, true, false, Option, Some, refl, sym, ◌∙◌, ap, length, arith, set, cond, ◌&&◌, ◌||◌, not, nat_lt, length-set, length-append, get_or-set_other}
+use Rattle.std.proofs.Common.{◌≡◌, ℕ, ◌<◌, ◌≤◌, [], ◌∷◌, ◌++◌, Bool, true, false, Option, Some}
+use Rattle.std.proofs.Common.{refl, sym, ◌∙◌, ap, length, arith, set, cond, ◌&&◌, ◌||◌, not, nat_lt}
+use Rattle.std.proofs.Common.{length-set, length-append, get_or-set_other}
 use Rattle.std.proofs.lemmas.Bool.Decides.{nat_tests}
 use Rattle.std.proofs.lemmas.List.{length-map, get_or_append_left, get_or-map}
 use Rattle.std.proofs.lemmas.List.Folds.{list_any-append}
@@ -12,7 +14,8 @@ use Rattle.sts_model.specs.declared.record.Slot.TheVariants.{Empty, Own, Lent, S
 use Rattle.sts_model.specs.declared.record.Frame.{Frame}
 use Rattle.sts_model.specs.declared.record.Task.{Task}
 use Rattle.sts_model.specs.declared.record.Scope.{Scope}
-use Rattle.sts_model.specs.World.{World, task_at, scope_at, no_task, no_scope, with_task, with_scope, instr_at}
+use Rattle.sts_model.specs.World.{World, task_at, scope_at, no_task, no_scope, with_task}
+use Rattle.sts_model.specs.World.{with_scope, instr_at}
 use Rattle.sts_model.specs.Living.{lives, is_in, is_living_subtask, any_lives}
 use Rattle.sts_model.specs.Cancelling.{raise, raised, marked, cancel}
 use Rattle.sts_model.specs.Misuse.{slot, is_closing}
@@ -21,7 +24,8 @@ use Rattle.sts_runs.proofs.ListLemmas.{at_set, past}
 use Rattle.sts_runs.proofs.KeptLemmas.{at_raised}
 use Rattle.sts_runs.proofs.BirthLemmas.{more_tasks, more_scopes}
 use Rattle.sts_seen.specs.Reading.{alive_at}
-use Rattle.sts_seen.specs.Waiting.{live_stands_at_join, live_stands_at_close, live_stand_at_instr, live_can_go, live_can_step}
+use Rattle.sts_seen.specs.Waiting.{live_stands_at_join, live_stands_at_close, live_stand_at_instr}
+use Rattle.sts_seen.specs.Waiting.{live_can_go, live_can_step}
 use Rattle.sts_seen.proofs.Lists.{any_alike}
 use Rattle.sts_seen.proofs.Views.{scope_is, alive_is, any_is, lives_is}
 use Rattle.sts_seen.proofs.Ends.{open_some}

@@ -1,5 +1,6 @@
 -- Every live view of every run is in order.
-use Rattle.std.proofs.Common.{◌≡◌, ℕ, ◌<◌, List, [], ◌++◌, Bool, true, false, Option, Some, None, refl, sym, ◌∙◌, ap, subst, length, arith}
+use Rattle.std.proofs.Common.{◌≡◌, ℕ, ◌<◌, List, [], ◌++◌, Bool, true, false, Option, Some, None}
+use Rattle.std.proofs.Common.{refl, sym, ◌∙◌, ap, subst, length, arith}
 use Rattle.std.specs.Prelude.{is_some, unwrap_or, filter_map}
 use Rattle.std.specs.List.{list_any}
 use Rattle.sts_code.specs.Program.{Program}
@@ -22,14 +23,16 @@ use Rattle.sts_laws.proofs.StateLemmas.{owners_hold}
 use Rattle.sts_laws_scopes.specs.Scopes.{IsEntered}
 use Rattle.sts_laws_scopes.proofs.ScopeLemmas.{entries_are_open}
 use Rattle.sts_seen.specs.Reading.{scope_in, live_task_at, live_scope_at, alive_at, no_live_task}
-use Rattle.sts_seen.proofs.Views.{task_here, scope_here, scope_is, task_is, alive_is, lives_is, task_gone, scope_gone}
+use Rattle.sts_seen.proofs.Views.{task_here, scope_here, scope_is, task_is, alive_is, lives_is}
+use Rattle.sts_seen.proofs.Views.{task_gone, scope_gone}
 use Rattle.sts_runs.proofs.SoundLemmas.{born_open, stands_alive}
 use Rattle.sts_seen.proofs.Ends.{open_some, untold}
 use Rattle.sts_seen.proofs.Effects.{Facts}
 use Rattle.sts_laws_scopes.proofs.SlotLemmas.{IsSubOf, IsNamed, Named, named-after}
 use Rattle.sts_seen.proofs.Laws.{facts}
 use Rattle.sts_runs.proofs.EventLemmas.{Also}
-use Rattle.sts_views.specs.Order.{IsOwned, IsOwnSub, outer_in, LivesInOrder, IsHeld, IsInside, InOrder, SeenInOrder}
+use Rattle.sts_views.specs.Order.{IsOwned, IsOwnSub, outer_in, LivesInOrder, IsHeld, IsInside}
+use Rattle.sts_views.specs.Order.{InOrder, SeenInOrder}
 
 -- all that is known of a state
 record Known (w : World) : Type 0 where

@@ -1,9 +1,11 @@
 -- Misuse as the view shows it.
-use Rattle.std.proofs.Common.{◌≡◌, ℕ, List, [], ◌∷◌, ◌++◌, Bool, true, false, Option, Some, None, refl, sym, ◌∙◌, ap, subst, length, ◌&&◌, ◌||◌, not, nat_lt, nat_le}
+use Rattle.std.proofs.Common.{◌≡◌, ℕ, List, [], ◌∷◌, ◌++◌, Bool, true, false, Option, Some, None}
+use Rattle.std.proofs.Common.{refl, sym, ◌∙◌, ap, subst, length, ◌&&◌, ◌||◌, not, nat_lt, nat_le}
 use Rattle.std.specs.Prelude.{is_none}
 use Rattle.sts_code.specs.Program.{Program}
 use Rattle.sts_code.specs.declared.instr.Instr.{Instr}
-use Rattle.sts_code.specs.declared.instr.Instr.TheVariants.{Open, Fork, Join, Close, Get, Except, Tally, Total, Read}
+use Rattle.sts_code.specs.declared.instr.Instr.TheVariants.{Open, Fork, Join, Close, Get, Except}
+use Rattle.sts_code.specs.declared.instr.Instr.TheVariants.{Tally, Total, Read}
 use Rattle.sts_model.specs.declared.event.Event.{Event}
 use Rattle.sts_model.specs.declared.event.Event.TheVariants as event
 use Rattle.sts_model.specs.declared.event.Fault.{Fault}
@@ -16,7 +18,9 @@ use Rattle.sts_model.specs.World.{World, Running, Faulted, task_at, scope_at, in
 use Rattle.sts_model.specs.Environment.{read}
 use Rattle.sts_model.specs.Living.{lives, is_closed, parent, scope_of, sub_state}
 use Rattle.sts_model.specs.Standing.{stands_in, standing_tasks, standing_scopes}
-use Rattle.sts_model.specs.Misuse.{slot, at_own, at_sub, misuse, misjoins, has_no_room, is_crowded, is_opened, is_readable, is_illegal, is_success, is_failed, breaks_structure, is_unbound, fault_at, IsFine}
+use Rattle.sts_model.specs.Misuse.{slot, at_own, at_sub, misuse, misjoins, has_no_room, is_crowded}
+use Rattle.sts_model.specs.Misuse.{is_opened, is_readable, is_illegal, is_success, is_failed}
+use Rattle.sts_model.specs.Misuse.{breaks_structure, is_unbound, fault_at, IsFine}
 use Rattle.sts_model.proofs.Fine.{fine}
 use Rattle.sts_model.specs.Waiting.{can_step}
 use Rattle.sts_model.specs.Run.{apply, after}
@@ -27,12 +31,15 @@ use Rattle.sts_runs.proofs.RunLemmas.{after-append}
 use Rattle.sts_runs.specs.Runs.{NeverFaults}
 use Rattle.sts_seen.specs.Effect.{live_state}
 use Rattle.sts_seen.specs.Waiting.{live_can_step}
-use Rattle.sts_seen.proofs.Views.{scope_is, task_is, alive_is, count_is, tasks_born, scopes_born, tasks_stand, scopes_stand}
+use Rattle.sts_seen.proofs.Views.{scope_is, task_is, alive_is, count_is, tasks_born, scopes_born}
+use Rattle.sts_seen.proofs.Views.{tasks_stand, scopes_stand}
 use Rattle.sts_seen.proofs.Ends.{open_some}
 use Rattle.sts_seen.proofs.Effects.{Facts}
 use Rattle.sts_seen.proofs.Waiting.{frame_is, can_is}
 use Rattle.sts_seen.proofs.Laws.{facts-after}
-use Rattle.sts_views.specs.Fine.{live_at_own, live_parent, live_at_sub, live_misjoins, live_has_no_room, live_is_illegal, live_breaks_structure, live_is_unbound, IsLiveFine, IsSafe, TurnsAreSafe}
+use Rattle.sts_views.specs.Fine.{live_at_own, live_parent, live_at_sub, live_misjoins}
+use Rattle.sts_views.specs.Fine.{live_has_no_room, live_is_illegal, live_breaks_structure}
+use Rattle.sts_views.specs.Fine.{live_is_unbound, IsLiveFine, IsSafe, TurnsAreSafe}
 
 -- ---- tests of what slots name
 

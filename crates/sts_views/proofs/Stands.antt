@@ -1,5 +1,7 @@
 -- Where a task stands changes by its own steps alone.
-use Rattle.std.proofs.Common.{◌≡◌, ℕ, [], ◌∷◌, ◌++◌, Bool, true, false, Option, Some, None, refl, sym, ◌∙◌, ap, subst, set, cond, ◌||◌, not, get_or-set_other, length, arith, is_some, take}
+use Rattle.std.proofs.Common.{◌≡◌, ℕ, [], ◌∷◌, ◌++◌, Bool, true, false, Option, Some, None, refl}
+use Rattle.std.proofs.Common.{sym, ◌∙◌, ap, subst, set, cond, ◌||◌, not, get_or-set_other, length}
+use Rattle.std.proofs.Common.{arith, is_some, take}
 use Rattle.std.proofs.Math.Seq.{get_or-append_seam}
 use Rattle.std.proofs.lemmas.Bool.Decides.{nat_tests}
 use Rattle.std.proofs.lemmas.Bool.{and_parts}
@@ -30,19 +32,28 @@ use Rattle.sts_runs.proofs.ListLemmas.{past}
 use Rattle.sts_runs.proofs.BirthLemmas.{new-owns_nothing}
 use Rattle.sts_runs.proofs.EffectLemmas.{first_no}
 use Rattle.sts_runs.proofs.FrameLemmas.{own_slot}
-use Rattle.sts_seen.specs.Reading.{scope_in, task_in, no_live_task, no_live_scope, no_alive, live_scope_at, live_task_at, alive_at, lives_in, with_live_phase, live_any_lives, live_count}
+use Rattle.sts_seen.specs.Reading.{scope_in, task_in, no_live_task, no_live_scope, no_alive}
+use Rattle.sts_seen.specs.Reading.{live_scope_at, live_task_at, alive_at, lives_in, with_live_phase}
+use Rattle.sts_seen.specs.Reading.{live_any_lives, live_count}
 use Rattle.sts_seen.specs.Cancelling.{live_cancel}
-use Rattle.sts_seen.specs.Effect.{opened_scope, live_open, live_subtask_of, live_fork, live_verdict, live_join, live_gone, live_close, live_told, live_decide, live_tell, live_ended, live_end}
+use Rattle.sts_seen.specs.Effect.{opened_scope, live_open, live_subtask_of, live_fork, live_verdict}
+use Rattle.sts_seen.specs.Effect.{live_join, live_gone, live_close, live_told, live_decide}
+use Rattle.sts_seen.specs.Effect.{live_tell, live_ended, live_end}
 use Rattle.sts_seen.specs.Outside.{live_can_expire}
-use Rattle.sts_seen.specs.Waiting.{live_stands_at_join, live_stands_at_close, live_stand_at_instr, live_stand_at, live_can_step}
+use Rattle.sts_seen.specs.Waiting.{live_stands_at_join, live_stands_at_close, live_stand_at_instr}
+use Rattle.sts_seen.specs.Waiting.{live_stand_at, live_can_step}
 use Rattle.sts_seen.specs.Run.{live_perform}
 use Rattle.sts_views.specs.Fine.{IsSafe}
 use Rattle.sts_views.specs.Order.{IsOwned, InOrder}
-use Rattle.sts_views.specs.Stands.{IsUnmoved, EffectsMoveOne, InterruptsMoveNone, ExpiriesMoveNone, IdleStandFree, is_stand_at, StandsAreOwned, StandsStay}
+use Rattle.sts_views.specs.Stands.{IsUnmoved, EffectsMoveOne, InterruptsMoveNone, ExpiriesMoveNone}
+use Rattle.sts_views.specs.Stands.{IdleStandFree, is_stand_at, StandsAreOwned, StandsStay}
 use Rattle.sts_views.proofs.Order as order
 use Rattle.sts_views.proofs.Safe as safe
 use Rattle.sts_views.proofs.Waking.{apart}
-use Rattle.sts_views.proofs.Resting.{Rests, rests-refl, rests-trans, rests-cond, rests-other, rests-more_tasks, rests-flag, rests-scope, IsAlien, rests-alien, rests-more_scopes, alien_of, rests-cancel, owner-cancel, rests-gone}
+use Rattle.sts_views.proofs.Resting.{Rests, rests-refl, rests-trans, rests-cond, rests-other}
+use Rattle.sts_views.proofs.Resting.{rests-more_tasks, rests-flag, rests-scope, IsAlien}
+use Rattle.sts_views.proofs.Resting.{rests-alien, rests-more_scopes, alien_of, rests-cancel}
+use Rattle.sts_views.proofs.Resting.{owner-cancel, rests-gone}
 
 -- ---- who owns nothing
 

@@ -1,10 +1,13 @@
 -- Whom an event does not concern sees the same.
-use Rattle.std.proofs.Common.{List, ◌≡◌, ℕ, [], ◌∷◌, ◌++◌, Bool, true, false, Option, Some, None, refl, sym, ◌∙◌, ap, subst, length, drop, cond, ◌&&◌, ◌||◌, not, unwrap_or, arith, get_or-set_other}
+use Rattle.std.proofs.Common.{List, ◌≡◌, ℕ, [], ◌∷◌, ◌++◌, Bool, true, false, Option, Some, None}
+use Rattle.std.proofs.Common.{refl, sym, ◌∙◌, ap, subst, length, drop, cond, ◌&&◌, ◌||◌, not}
+use Rattle.std.proofs.Common.{unwrap_or, arith, get_or-set_other}
 use Rattle.std.proofs.lemmas.Bool.Decides.{nat_tests}
 use Rattle.std.specs.Prelude.{◌==◌}
 use Rattle.sts_code.specs.Program.{Program, routine}
 use Rattle.sts_code.specs.declared.instr.Instr.{Instr}
-use Rattle.sts_code.specs.declared.instr.Instr.TheVariants.{Open, Fork, Join, Close, Interrupted, Ret, Fail}
+use Rattle.sts_code.specs.declared.instr.Instr.TheVariants.{Open, Fork, Join, Close, Interrupted}
+use Rattle.sts_code.specs.declared.instr.Instr.TheVariants.{Ret, Fail}
 use Rattle.sts_code.specs.declared.instr.Joiner.{Joiner}
 use Rattle.sts_model.specs.declared.event.Event.{Event}
 use Rattle.sts_model.specs.declared.event.Event.TheVariants as event
@@ -19,16 +22,20 @@ use Rattle.sts_model.specs.declared.record.Slot.TheVariants as slots
 use Rattle.sts_model.specs.declared.record.Frame.{Frame}
 use Rattle.sts_model.specs.declared.record.Task.{Task}
 use Rattle.sts_model.specs.declared.record.Scope.{Scope}
-use Rattle.sts_model.specs.World.{World, Running, task_at, scope_at, no_task, no_scope, instr_at, with_task, with_scope}
+use Rattle.sts_model.specs.World.{World, Running, task_at, scope_at, no_task, no_scope, instr_at}
+use Rattle.sts_model.specs.World.{with_task, with_scope}
 use Rattle.sts_model.specs.Local.{operand, goes, steps}
 use Rattle.sts_model.specs.Joining.{cancels, result_of}
-use Rattle.sts_model.specs.Living.{lives, is_in, is_living_subtask, any_lives, is_closed, ends, subtask_count}
+use Rattle.sts_model.specs.Living.{lives, is_in, is_living_subtask, any_lives, is_closed, ends}
+use Rattle.sts_model.specs.Living.{subtask_count}
 use Rattle.sts_model.specs.Standing.{stands_in}
 use Rattle.sts_model.specs.Cancelling.{cancel}
 use Rattle.sts_model.specs.Misuse.{slot, misuse, IsFine}
 use Rattle.sts_model.proofs.Fine.{fine}
 use Rattle.sts_model.specs.Waiting.{can_step}
-use Rattle.sts_model.specs.Effect.{effect, named, with_phase, open_scope, fork_task, forked, subtask_of, join_verdict, join_scope, cleared, close_scope, told, decide, tell, ended, end_task}
+use Rattle.sts_model.specs.Effect.{effect, named, with_phase, open_scope, fork_task, forked}
+use Rattle.sts_model.specs.Effect.{subtask_of, join_verdict, join_scope, cleared, close_scope, told}
+use Rattle.sts_model.specs.Effect.{decide, tell, ended, end_task}
 use Rattle.sts_model.specs.Outside.{can_expire}
 use Rattle.sts_model.specs.Run.{apply, stepped, perform}
 use Rattle.sts_model.specs.Live.{Live, LiveTask, LiveScope, live}
@@ -53,7 +60,9 @@ use Rattle.sts_seen.specs.Run.{live_apply}
 use Rattle.sts_runs.specs.Runs.{NeverFaults}
 use Rattle.sts_seen.specs.Seen.{StandsAt}
 use Rattle.sts_views.specs.Waking.{is_around, touches, concerns, OthersStay}
-use Rattle.sts_views.proofs.Looks.{Looks, looks-refl, looks-trans, looks-cond, looks-task, looks-scope, looks-cancel, looks-more_tasks, looks-more_scopes, can-same}
+use Rattle.sts_views.proofs.Looks.{Looks, looks-refl, looks-trans, looks-cond, looks-task}
+use Rattle.sts_views.proofs.Looks.{looks-scope, looks-cancel, looks-more_tasks, looks-more_scopes}
+use Rattle.sts_views.proofs.Looks.{can-same}
 
 -- ---- who is concerned
 

@@ -1,16 +1,22 @@
 -- No instruction that a task is at is misused: in words of the view alone, what a machine may take
 -- untested (this project's own).
-use Rattle.std.specs.Prelude.{◌≡◌, ℕ, List, length, Bool, true, false, Option, Some, None, is_some, is_none, nat_lt, nat_le, count_by, ◌&&◌, ◌||◌, not}
+use Rattle.std.specs.Prelude.{◌≡◌, ℕ, List, length, Bool, true, false, Option, Some, None, is_some}
+use Rattle.std.specs.Prelude.{is_none, nat_lt, nat_le, count_by, ◌&&◌, ◌||◌, not}
 use Rattle.sts_code.specs.Program.{Program}
 use Rattle.sts_code.specs.declared.instr.Instr.{Instr}
-use Rattle.sts_code.specs.declared.instr.Instr.TheVariants.{Open, Fork, Join, Close, Get, Except, Tally, Total, Bind, Unbind, Read, Ret, Fail}
+use Rattle.sts_code.specs.declared.instr.Instr.TheVariants.{Open, Fork, Join, Close, Get, Except}
+use Rattle.sts_code.specs.declared.instr.Instr.TheVariants.{Tally, Total, Bind, Unbind, Read, Ret}
+use Rattle.sts_code.specs.declared.instr.Instr.TheVariants.{Fail}
 use Rattle.sts_code.specs.declared.profile.Profile.{Profile}
 use Rattle.sts_model.specs.declared.event.Event.{Event}
 use Rattle.sts_model.specs.declared.record.Slot.{Slot}
 use Rattle.sts_model.specs.declared.record.Slot.TheVariants.{Own, Sub}
 use Rattle.sts_model.specs.declared.record.Frame.{Frame}
 use Rattle.sts_model.specs.World.{instr_at}
-use Rattle.sts_model.specs.Misuse.{slot, lacks_operands, overflows, breaks_loop, has_wrong_slot, is_strangers, is_crowded, is_opened, can_join, is_joined, is_success, is_failed, is_binding, is_entry_of, innermost, binds_after}
+use Rattle.sts_model.specs.Misuse.{slot, lacks_operands, overflows, breaks_loop, has_wrong_slot}
+use Rattle.sts_model.specs.Misuse.{is_strangers, is_crowded, is_opened, can_join, is_joined}
+use Rattle.sts_model.specs.Misuse.{is_success, is_failed, is_binding, is_entry_of, innermost}
+use Rattle.sts_model.specs.Misuse.{binds_after}
 use Rattle.sts_code.specs.Facts.{same, can_fail, is_await_all, is_two}
 use Rattle.sts_model.specs.Live.{Live, LiveScope}
 use Rattle.sts_seen.specs.Reading.{live_task_at, live_scope_at, no_live_scope, alive_at, live_count}

@@ -1,6 +1,7 @@
 -- What holds of every live view that stands at a list of events, in words of the view alone (this
 -- project's own).
-use Rattle.std.specs.Prelude.{◌≡◌, ℕ, ◌<◌, ◌≤◌, List, [], ◌++◌, true, false, Option, Some, None, is_some, count_by, filter_map}
+use Rattle.std.specs.Prelude.{◌≡◌, ℕ, ◌<◌, ◌≤◌, List, [], ◌++◌, true, false, Option, Some, None}
+use Rattle.std.specs.Prelude.{is_some, count_by, filter_map}
 use Rattle.std.specs.List.{list_any}
 use Rattle.sts_code.specs.Program.{Program}
 use Rattle.sts_model.specs.declared.event.Event.{Event}
@@ -11,7 +12,8 @@ use Rattle.sts_model.specs.Living.{is_closed}
 use Rattle.sts_model.specs.Misuse.{slot, is_entry_of}
 use Rattle.sts_model.specs.Live.{Live}
 use Rattle.sts_seen.specs.Seen.{StandsAt}
-use Rattle.sts_seen.specs.Reading.{task_in, scope_in, live_task_at, live_scope_at, alive_at, lives_in}
+use Rattle.sts_seen.specs.Reading.{task_in, scope_in, live_task_at, live_scope_at, alive_at}
+use Rattle.sts_seen.specs.Reading.{lives_in}
 
 -- the scope stands, isn't closed, and belongs to t
 pub record IsOwned (v : Live) (t s : ℕ) : Type 0 where

@@ -6,7 +6,8 @@ ghost use Rattle.sts_code.specs.Program.{Program};
 ghost use Rattle.sts_runs.specs.Runs.{NeverFaults};
 ghost use Rattle.sts_views.specs.Fine.{TurnsAreSafe};
 ghost use Rattle.sts_views.specs.Order.{SeenInOrder};
-ghost use Rattle.sts_views.specs.Stands.{EffectsMoveOne, InterruptsMoveNone, ExpiriesMoveNone, IdleStandFree, StandsAreOwned, StandsStay};
+ghost use Rattle.sts_views.specs.Stands.{EffectsMoveOne, InterruptsMoveNone, ExpiriesMoveNone};
+ghost use Rattle.sts_views.specs.Stands.{IdleStandFree, StandsAreOwned, StandsStay};
 ghost use Rattle.sts_views.specs.Waking.{OthersStay, ReadyStays};
 
 /// What a live view names stands, who owns it has it as an entry, and environments are those of the
@@ -58,8 +59,8 @@ pub fn stands_are_owned()
     ensures { StandsAreOwned }
 {}
 
-/// An event moves no task but the one whose step it is: who lives goes on living, and stands where it
-/// stood.
+/// An event moves no task but the one whose step it is: who lives goes on living, and stands where
+/// it stood.
 pub fn stands_stay()
     ensures { (p : Program) → NeverFaults p → StandsStay p }
 {}

@@ -1,5 +1,6 @@
 -- What is used of a frame, and the frame in full.
-use Rattle.std.proofs.Common.{◌≡◌, ℕ, suc, ◌-◌, ◌≤◌, List, [], ◌∷◌, length, take, drop, reverse, replicate, get_or, Bool, true, false, refl, ap, arith, ◌∙◌, ◌&&◌, sym}
+use Rattle.std.proofs.Common.{◌≡◌, ℕ, suc, ◌-◌, ◌≤◌, List, [], ◌∷◌, length, take, drop, reverse}
+use Rattle.std.proofs.Common.{replicate, get_or, Bool, true, false, refl, ap, arith, ◌∙◌, ◌&&◌, sym}
 use Rattle.std.specs.List.{list_all}
 use Rattle.std.proofs.lemmas.List.{length-reverse, reverse-reverse, take_rest}
 use Rattle.std.proofs.Math.Seq.{take-length}

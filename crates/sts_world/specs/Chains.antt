@@ -1,5 +1,7 @@
--- Environments that share their bindings: each binding is a link, and says which older link is behind it (this project's own).
-use Rattle.std.specs.Prelude.{◌≡◌, ℕ, zero, suc, pos, List, [], ◌∷◌, ◌++◌, length, nat_lt, slice_index_or, Bool, true, Option, Some, None, if◌then◌else◌}
+-- Environments that share their bindings: each binding is a link, and says which older link is
+-- behind it (this project's own).
+use Rattle.std.specs.Prelude.{◌≡◌, ℕ, zero, suc, pos, List, [], ◌∷◌, ◌++◌, length, nat_lt}
+use Rattle.std.specs.Prelude.{slice_index_or, Bool, true, Option, Some, None, if◌then◌else◌}
 use Rattle.sts_model.specs.declared.record.Bound.{Bound}
 use Rattle.sts_model.specs.Living.{is_in}
 use Rattle.sts_world.specs.declared.chains.Link.{Link}
@@ -15,7 +17,8 @@ link_at links i = slice_index_or links i no_link
 abbrev pub chain : List Link → ℕ → Option ℕ → List Bound
 chain links zero front = []
 chain links (suc n) front =
-    if is_in n front then (link_at links n).bound ∷ chain links n (link_at links n).behind else chain links n front
+    if is_in n front then (link_at links n).bound ∷ chain links n (link_at links n).behind
+    else chain links n front
 
 -- the same among all of them
 abbrev pub bindings_of : List Link → Option ℕ → List Bound

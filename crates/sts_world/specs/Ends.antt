@@ -1,5 +1,7 @@
--- Whose end a scope was told: kept for each task, so that a subtask's state is found with the task (this project's own).
-use Rattle.std.specs.Prelude.{◌≡◌, ℕ, List, length, Bool, false, Option, None, ◌&&◌, if◌then◌else◌, slice_index_or}
+-- Whose end a scope was told: kept for each task, so that a subtask's state is found with the task
+-- (this project's own).
+use Rattle.std.specs.Prelude.{◌≡◌, ℕ, List, length, Bool, false, Option, None, ◌&&◌, if◌then◌else◌}
+use Rattle.std.specs.Prelude.{slice_index_or}
 use Rattle.sts_model.specs.declared.event.End.{End}
 use Rattle.sts_model.specs.declared.record.Task.{Task}
 use Rattle.sts_model.specs.Living.{completion_of, is_subtask}
@@ -9,7 +11,10 @@ use Rattle.sts_model.specs.World.{World, task_at, scope_at}
 abbrev pub end_in : ℕ → Task → Bool → Option End
 end_in s task told = if is_subtask s task && told then task.outcome else None
 
--- it is kept of each task whether its scope was told: a scope's completions have the ends of those of its subtasks, and no other
+-- it is kept of each task whether its scope was told: a scope's completions have the ends of those
+-- of its subtasks, and no other
 pub record KnowsEnds (w : World) (was_told : List Bool) : Type 0 where
   pub as_many : length was_told ≡ length w.tasks
-  pub ends : (s t : ℕ) → completion_of (scope_at w s).completions t ≡ end_in s (task_at w t) (slice_index_or was_told t false)
+  pub ends : (s t : ℕ)
+      → completion_of (scope_at w s).completions t ≡ end_in s (task_at w t)
+      (slice_index_or was_told t false)

@@ -1,4 +1,5 @@
--- A task's frame as it is held: in full while the task lives, and at rest in what is used of it (this project's own).
+-- A task's frame as it is held: in full while the task lives, and at rest in what is used of it
+-- (this project's own).
 use Rattle.std.specs.Prelude.{ℕ, [], ◌∷◌, reverse, replicate, Bool, true, false, Option, Some, None}
 use Rattle.sts_code.specs.declared.limits.TheConstants.{LAST_SLOT}
 use Rattle.sts_model.specs.declared.record.Frame.{Frame}
@@ -14,10 +15,19 @@ abbrev pub slot_of : Option ℕ → Slot
 slot_of None = Empty
 slot_of (Some s) = Lent s
 
--- the frame at rest: no loop and no entry is open, no slot but the first is used, and the other locals are 0
+-- the frame at rest: no loop and no entry is open, no slot but the first is used, and the other
+-- locals are 0
 abbrev pub whole : RestingFrame → Frame
 whole r =
-    record { function = r.function; pc = r.pc; operands = reverse r.operands.items; locals = entry_locals r.locals.items; loops = []; entries = []; slots = slot_of r.scope ∷ replicate LAST_SLOT Empty }
+    record {
+      function = r.function;
+      pc = r.pc;
+      operands = reverse r.operands.items;
+      locals = entry_locals r.locals.items;
+      loops = [];
+      entries = [];
+      slots = slot_of r.scope ∷ replicate LAST_SLOT Empty;
+    }
 
 abbrev pub frame_of : HeldFrame → Frame
 frame_of (Living frame) = frame.value

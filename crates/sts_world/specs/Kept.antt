@@ -1,6 +1,8 @@
--- What is kept so that no event walks over all tasks: of each scope the birth numbers of its subtasks and how many of them live, and
--- how many tasks and scopes stand (this project's own).
-use Rattle.std.specs.Prelude.{◌≡◌, ℕ, ◌+◌, ◌-◌, ◌<◌, ◌≤◌, List, [], ◌∷◌, ◌++◌, length, count_by, Bool, true, false, Option, Some, None, ◌&&◌, not, if◌then◌else◌, slice_index_or}
+-- What is kept so that no event walks over all tasks: of each scope the birth numbers of its
+-- subtasks and how many of them live, and how many tasks and scopes stand (this project's own).
+use Rattle.std.specs.Prelude.{◌≡◌, ℕ, ◌+◌, ◌-◌, ◌<◌, ◌≤◌, List, [], ◌∷◌, ◌++◌, length, count_by}
+use Rattle.std.specs.Prelude.{Bool, true, false, Option, Some, None, ◌&&◌, not, if◌then◌else◌}
+use Rattle.std.specs.Prelude.{slice_index_or}
 use Rattle.sts_code.specs.declared.instr.Joiner.TheVariants.{AwaitAll}
 use Rattle.sts_code.specs.declared.limits.TheConstants.{MAX_STANDING}
 use Rattle.sts_joiners.specs.Tallied.{Tallied, tallied, ends_told}
@@ -15,7 +17,8 @@ pub record Family : Type 0 where
 -- the numbers, from n on, of the tasks of scope s
 abbrev pub births_from : ℕ → ℕ → List Line → List ℕ
 births_from s n [] = []
-births_from s n (x ∷ xs) = if is_in s x.scope then n ∷ births_from s (n + 1) xs else births_from s (n + 1) xs
+births_from s n (x ∷ xs) =
+    if is_in s x.scope then n ∷ births_from s (n + 1) xs else births_from s (n + 1) xs
 
 abbrev pub births : ℕ → List Line → List ℕ
 births s tasks = births_from s 0 tasks
@@ -33,7 +36,8 @@ no_family = record { births = []; living = 0 }
 
 -- one more subtask
 abbrev pub with_child : Family → ℕ → Bool → Family
-with_child f t lives = record { births = f.births ++ t ∷ []; living = f.living + (if lives then 1 else 0) }
+with_child f t lives =
+    record { births = f.births ++ t ∷ []; living = f.living + (if lives then 1 else 0) }
 
 -- one living subtask less
 abbrev pub with_death : Family → Family
@@ -61,9 +65,10 @@ no_tally = tallied AwaitAll []
 abbrev pub count_in : ℕ → List Line → ℕ
 count_in s tasks = count_by (λ (x : Line). is_in s x.scope) tasks
 
--- what is kept, of each scope and of what stands, is what a walk would find. Besides, the root is in no scope, no subtask that lives was
--- told of, and no scope has more subtasks than may stand
-pub record IsKept (l : Lines) (kept : List Family) (tallies_kept : List Tallied) (tasks_kept scopes_kept : ℕ) : Type 0 where
+-- what is kept, of each scope and of what stands, is what a walk would find. Besides, the root is
+-- in no scope, no subtask that lives was told of, and no scope has more subtasks than may stand
+pub record IsKept (l : Lines) (kept : List Family) (tallies_kept : List Tallied)
+    (tasks_kept scopes_kept : ℕ) : Type 0 where
   pub as_many : length kept ≡ length l.closed
   pub families : (s : ℕ) → slice_index_or kept s no_family ≡ family_of s l.tasks
   pub tallies : tallies_kept ≡ l.tallies
@@ -71,5 +76,7 @@ pub record IsKept (l : Lines) (kept : List Family) (tallies_kept : List Tallied)
   pub scopes : scopes_kept ≡ standing_scopes l
   pub some : 0 < length l.tasks
   pub root : (slice_index_or l.tasks 0 no_line).scope ≡ None
-  pub told : (s : ℕ) → ends_told (slice_index_or l.tallies s no_tally) + count_by (lives_in s) l.tasks ≤ count_in s l.tasks
+  pub told : (s : ℕ)
+      → ends_told (slice_index_or l.tallies s no_tally)
+      + count_by (lives_in s) l.tasks ≤ count_in s l.tasks
   pub few : (s : ℕ) → count_in s l.tasks < MAX_STANDING

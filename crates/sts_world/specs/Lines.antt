@@ -1,5 +1,5 @@
--- What the kept numbers go by: of each task its scope and whether it lives, of each scope whether it is closed and its joiner's tally
--- (this project's own).
+-- What the kept numbers go by: of each task its scope and whether it lives, of each scope whether
+-- it is closed and its joiner's tally (this project's own).
 use Rattle.std.specs.Prelude.{ℕ, List, map, Bool, Option}
 use Rattle.sts_model.specs.declared.record.Task.{Task}
 use Rattle.sts_model.specs.declared.record.Scope.{Scope}
@@ -28,4 +28,9 @@ abbrev pub tally_of : Scope → Tallied
 tally_of scope = tallied scope.joiner (ends scope)
 
 abbrev pub lines : World → Lines
-lines w = record { tasks = map line w.tasks; closed = map is_shut w.scopes; tallies = map tally_of w.scopes }
+lines w =
+    record {
+      tasks = map line w.tasks;
+      closed = map is_shut w.scopes;
+      tallies = map tally_of w.scopes;
+    }

@@ -1,5 +1,6 @@
 -- A scope as it is kept, with the place of its environment (this project's own).
-use Rattle.std.specs.Prelude.{◌≡◌, ℕ, List, [], length, true, Option, None, Some, false, slice_index_or}
+use Rattle.std.specs.Prelude.{◌≡◌, ℕ, List, [], length, true, Option, None, Some, false}
+use Rattle.std.specs.Prelude.{slice_index_or}
 use Rattle.sts_code.specs.declared.instr.Joiner.TheVariants.{AwaitAll}
 use Rattle.sts_model.specs.declared.event.Phase.TheVariants.{Closed}
 use Rattle.sts_model.specs.declared.record.Scope.{Scope}
@@ -10,11 +11,30 @@ use Rattle.sts_world.specs.declared.scope.ScopeRecord.{ScopeRecord}
 -- the scope, with its environment spelled out
 abbrev pub shown : List Link → ScopeRecord → Scope
 shown links s =
-    record { owner = s.owner; joiner = s.joiner; timed = s.timed; phase = s.phase; cancelled = s.cancelled; expired = s.expired; completions = s.completions; environment = bindings_of links s.front }
+    record {
+      owner = s.owner;
+      joiner = s.joiner;
+      timed = s.timed;
+      phase = s.phase;
+      cancelled = s.cancelled;
+      expired = s.expired;
+      completions = s.completions;
+      environment = bindings_of links s.front;
+    }
 
 -- what is read where no scope was born
 abbrev pub no_record : ScopeRecord
-no_record = record { owner = 0; joiner = AwaitAll; timed = false; phase = Closed; cancelled = false; expired = false; completions = []; front = None }
+no_record =
+    record {
+      owner = 0;
+      joiner = AwaitAll;
+      timed = false;
+      phase = Closed;
+      cancelled = false;
+      expired = false;
+      completions = [];
+      front = None;
+    }
 
 -- the place of the environment that a scope keeps
 abbrev pub front_of : List ScopeRecord → Option ℕ → Option ℕ
@@ -23,7 +43,8 @@ front_of scopes (Some s) = (slice_index_or scopes s no_record).front
 
 -- each scope's environment is made of links that there are
 abbrev pub AreWithin : List Link → List ScopeRecord → Type 0
-AreWithin links scopes = (s : ℕ) → is_within (length links) (slice_index_or scopes s no_record).front ≡ true
+AreWithin links scopes =
+    (s : ℕ) → is_within (length links) (slice_index_or scopes s no_record).front ≡ true
 
 -- the scope has all that the record says but its environment
 pub record IsShown (s : ScopeRecord) (scope : Scope) : Type 0 where

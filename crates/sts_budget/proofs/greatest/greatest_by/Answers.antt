@@ -1,4 +1,5 @@
-use Rattle.std.proofs.Common.{◌≡◌, ◌<◌, ◌≤◌, ◌+◌, ◌-◌, pos, ℕ, length, get_or, sym, ap, ◌∙◌, subst, arith}
+use Rattle.std.proofs.Common.{◌≡◌, ◌<◌, ◌≤◌, ◌+◌, ◌-◌, pos, ℕ, length, get_or, sym, ap, ◌∙◌, subst}
+use Rattle.std.proofs.Common.{arith}
 use Rattle.sts_code.specs.declared.instr.Instr.TheVariants.{Push, Ret, Times}
 use Rattle.sts_code.specs.Program.{instr_at}
 use Rattle.sts_rules.specs.Budget.{skeleton, shape_of}
@@ -8,7 +9,9 @@ use Rattle.sts_budget.specs.Last.{IsTop, sum_at}
 use Rattle.sts_budget.specs.Ready.{flows_in, names_in}
 use Rattle.sts_budget.specs.Table.{read, IsPartial}
 use Rattle.sts_budget.proofs.LaidStep.{any_default}
-use Rattle.sts_budget.proofs.LastTurns.{exceeds, head_small, full_is, over, bases_none, bases_next, top_none, top_next, finished, own_within, limit_small, base_small}
+use Rattle.sts_budget.proofs.LastTurns.{exceeds, head_small, full_is, over, bases_none, bases_next}
+use Rattle.sts_budget.proofs.LastTurns.{top_none, top_next, finished, own_within, limit_small}
+use Rattle.sts_budget.proofs.LastTurns.{base_small}
 use Rattle.sts_budget.proofs.greatest.greatest_by.Goals as goal
 
 pub returns-in-None : goal.returns-in-None

@@ -1,4 +1,5 @@
-use Rattle.std.proofs.Common.{◌≡◌, ◌<◌, ℕ, [], ◌∷◌, ◌++◌, None, pos, get_or, length, refl, sym, ap, ◌∙◌, subst, arith}
+use Rattle.std.proofs.Common.{◌≡◌, ◌<◌, ℕ, [], ◌∷◌, ◌++◌, None, pos, get_or, length, refl, sym, ap}
+use Rattle.std.proofs.Common.{◌∙◌, subst, arith}
 use Rattle.std.proofs.lemmas.List.{length-map}
 use Rattle.sts_code.specs.declared.instr.Instr.TheVariants.{Push}
 use Rattle.sts_rules.specs.Around.{next_place}
@@ -6,8 +7,10 @@ use Rattle.sts_code.specs.Facts.{targets}
 use Rattle.sts_code.specs.Program.{routine}
 use Rattle.sts_budget.specs.Laid.{IsLaid, listed, AreListed, IsDeepest, head_after}
 use Rattle.sts_rules.specs.ControlPaths.{Among}
-use Rattle.sts_budget.proofs.Listed.{listed_at, listed_none, are_listed_none, listed_writes, are_listed_more}
-use Rattle.sts_budget.proofs.LaidStep.{Stage, among_fit, begin, short, room, head_fits, mate_fits, any_default, inside_of, places_fit, next_place_laid}
+use Rattle.sts_budget.proofs.Listed.{listed_at, listed_none, are_listed_none, listed_writes}
+use Rattle.sts_budget.proofs.Listed.{are_listed_more}
+use Rattle.sts_budget.proofs.LaidStep.{Stage, among_fit, begin, short, room, head_fits, mate_fits}
+use Rattle.sts_budget.proofs.LaidStep.{any_default, inside_of, places_fit, next_place_laid}
 use Rattle.sts_budget.proofs.layout.lay_out.Goals as goal
 
 pub loop-pc-init : goal.loop-pc-init

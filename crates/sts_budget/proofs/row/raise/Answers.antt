@@ -1,4 +1,5 @@
-use Rattle.std.proofs.Common.{◌≡◌, ℕ, ◌<◌, ◌≤◌, ◌+◌, max, get_or, length, ap, ◌∙◌, sym, subst, inl, inr, arith, length-set}
+use Rattle.std.proofs.Common.{◌≡◌, ℕ, ◌<◌, ◌≤◌, ◌+◌, max, get_or, length, ap, ◌∙◌, sym, subst, inl}
+use Rattle.std.proofs.Common.{inr, arith, length-set}
 use Rattle.std.proofs.lemmas.Bool.{cases_eq}
 use Rattle.sts_budget.proofs.Rows.{set_below, set_above}
 use Rattle.sts_budget.proofs.row.raise.Goals as goal

@@ -1,4 +1,5 @@
-use Rattle.std.proofs.Common.{◌≡◌, true, false, ◌++◌, ◌∷◌, [], take, ap, sym, append_assoc, append-nil, ◌∙◌}
+use Rattle.std.proofs.Common.{◌≡◌, true, false, ◌++◌, ◌∷◌, [], take, ap, sym, append_assoc}
+use Rattle.std.proofs.Common.{append-nil, ◌∙◌}
 use Rattle.sts_text.specs.Words.{lines}
 use Rattle.sts_cli.specs.Joined.{Halves, halves, is_mark}
 use Rattle.sts_cli.proofs.Splits.{line_and_rest, at_mark, before_mark, reads_line}

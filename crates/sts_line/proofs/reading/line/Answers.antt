@@ -1,7 +1,8 @@
 use Rattle.std.proofs.Common.{◌<◌, map, length, ap, sym, subst, arith, ◌∙◌}
 use Rattle.std.proofs.lemmas.Result.{IfOk-weaker, IfErr-weaker}
 use Rattle.std.proofs.lemmas.List.{length-map}
-use Rattle.clap.specs.Words.{App, is_simple, is_simple_and_free, kind_of, HasKind, fault_of, subcommand_of}
+use Rattle.clap.specs.Words.{App, is_simple, is_simple_and_free, kind_of, HasKind, fault_of}
+use Rattle.clap.specs.Words.{subcommand_of}
 use Rattle.sts_line.specs.Asked.{IsLineOf, commanded}
 use Rattle.sts_line.specs.Refused.{BlamesUnless, is_whole}
 use Rattle.sts_line.proofs.Refusing.{refuses_blamed, refuses_told}

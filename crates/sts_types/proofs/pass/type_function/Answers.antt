@@ -5,9 +5,13 @@ use Rattle.sts_rules.specs.Flow.{TurnKeeps}
 use Rattle.sts_rules.specs.Refusal.{size}
 use Rattle.sts_types.specs.Typing.{Tells}
 use Rattle.sts_types.proofs.Passing.{Passed}
-use Rattle.sts_types.proofs.Visiting.{starts, within_code, loaded_is, least_is, back_is, back_fits_same, dead_here, several_here, cause_here, room, places, back_here, back_fits, turn_here, keeps_here, no_turn_here, goes_on_here}
+use Rattle.sts_types.proofs.Visiting.{starts, within_code, loaded_is, least_is, back_is}
+use Rattle.sts_types.proofs.Visiting.{back_fits_same, dead_here, several_here, cause_here, room}
+use Rattle.sts_types.proofs.Visiting.{places, back_here, back_fits, turn_here, keeps_here}
+use Rattle.sts_types.proofs.Visiting.{no_turn_here, goes_on_here}
 use Rattle.sts_types.proofs.pass.type_function.Goals as goal
-use Rattle.sts_types.proofs.pass.type_function.Goals.{in-Some-back_to+else-not-is_one, in_default-back_to}
+use Rattle.sts_types.proofs.pass.type_function.Goals.{in-Some-back_to+else-not-is_one}
+use Rattle.sts_types.proofs.pass.type_function.Goals.{in_default-back_to}
 
 pub loop-pc-init : goal.loop-pc-init
 loop-pc-init c = starts c.args.program.now c.args.function c.code_of-code.result.now c.in_ok-arrivals.arrivals.table c.entry.result c.code_of-code.ensures.value (c.code_of-code.ensures.some c.requires) c.in_ok-arrivals.ensures.0 c.entry.ensures

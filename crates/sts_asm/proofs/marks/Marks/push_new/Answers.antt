@@ -1,4 +1,5 @@
-use Rattle.std.proofs.Common.{rules, ◌≡◌, ◌<◌, ◌+◌, ◌++◌, ◌∷◌, [], None, ℕ, List, length, refl, sym, ◌∙◌, ap, cond}
+use Rattle.std.proofs.Common.{rules, ◌≡◌, ◌<◌, ◌+◌, ◌++◌, ◌∷◌, [], None, ℕ, List, length, refl, sym}
+use Rattle.std.proofs.Common.{◌∙◌, ap, cond}
 use Rattle.std.specs.Prelude.{Option, Some}
 use Rattle.std.specs.Str.{bytes_eq}
 use Rattle.std.specs.Vec.{vec_len}

@@ -1,7 +1,8 @@
 use Rattle.std.proofs.Common.{◌+◌, ◌∙◌, sym, ap, arith, drop, bytes_eq, is_none}
 use Rattle.sts_rules.specs.Around.{around}
 use Rattle.sts_rules.specs.TypeState.{heads}
-use Rattle.sts_loops.proofs.Nesting.{same_at, differs_at, at_end, heads_more, heads_end, is_not, is_it, none_is}
+use Rattle.sts_loops.proofs.Nesting.{same_at, differs_at, at_end, heads_more, heads_end, is_not}
+use Rattle.sts_loops.proofs.Nesting.{is_it, none_is}
 use Rattle.sts_loops.proofs.loops.CodeLoops.are_around.Goals as goal
 
 pub returns-then-ne : goal.returns-then-ne

@@ -1,4 +1,5 @@
-use Rattle.std.proofs.Common.{◌≡◌, ◌<◌, ◌∙◌, sym, ap, length, ◌++◌, arith, List, map, refl, subst, slice_index_or}
+use Rattle.std.proofs.Common.{◌≡◌, ◌<◌, ◌∙◌, sym, ap, length, ◌++◌, arith, List, map, refl, subst}
+use Rattle.std.proofs.Common.{slice_index_or}
 use Rattle.std.proofs.lemmas.Result.{err_from_is_err_and}
 use Rattle.std.proofs.lemmas.List.{get_or_default, length-map, length-set, length-append}
 use Rattle.sts_code.specs.declared.limits.TheConstants.{MAX_BIRTHS}

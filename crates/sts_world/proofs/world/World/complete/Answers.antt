@@ -9,7 +9,8 @@ use Rattle.sts_world.specs.Kept.{no_family, no_tally}
 use Rattle.sts_world.specs.Lines.{tally_of}
 use Rattle.sts_joiners.proofs.Tells.{is_enough}
 use Rattle.sts_world.proofs.Ends.{ends_told}
-use Rattle.sts_world.proofs.Worlds.{ended_at, kept_complete, task_family, tallies_bound, told_bound, found_tally, after_complete}
+use Rattle.sts_world.proofs.Worlds.{ended_at, kept_complete, task_family, tallies_bound, told_bound}
+use Rattle.sts_world.proofs.Worlds.{found_tally, after_complete}
 use Rattle.sts_world.proofs.world.World.complete.Goals as goal
 
 pub index_mut-requires : goal.index_mut-requires
