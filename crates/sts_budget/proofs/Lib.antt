@@ -9,12 +9,12 @@ pub mod Entries
 pub mod FourKinds
 pub mod Forward
 pub mod Laid
-pub mod Checked
+pub mod CheckedLemmas
 pub mod Listed
-pub mod LaidStep
+pub mod LaidStepLemmas
 pub mod Rows
 pub mod HandOn
 pub mod LastTurns
 pub mod Ready
 pub mod Found
-pub mod PathLaws
+pub mod PathLemmas

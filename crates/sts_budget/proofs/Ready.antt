@@ -19,7 +19,7 @@ use Rattle.sts_budget.specs.Known.{NamesRight}
 use Rattle.sts_budget.specs.Laid.{IsLaidOut, IsRight, listed}
 use Rattle.sts_budget.specs.Ready.{IsLaidFor, names_in}
 use Rattle.sts_budget.proofs.Listed.{deep_listed}
-use Rattle.sts_budget.proofs.Checked.{IsChecked, is_checked}
+use Rattle.sts_budget.proofs.CheckedLemmas.{IsChecked, is_checked}
 use Rattle.sts_budget.proofs.Laid.{is_written}
 use Rattle.sts_budget.proofs.Named.{led, knows_names}
 use Rattle.sts_budget.proofs.Typed.{fits, structured, opened}

@@ -1,3 +1,3 @@
-pub mod Checked
+pub mod CheckedLemmas
 pub mod LimitLemmas
 pub mod LoopLemmas

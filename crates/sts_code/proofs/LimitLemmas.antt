@@ -8,7 +8,7 @@ use Rattle.sts_code.specs.declared.checking.CodeCause.{CodeCause}
 use Rattle.sts_code.specs.Checks.{program_fault, fault_at, routine_cause}
 use Rattle.sts_code.specs.declared.limits.TheConstants.{MAX_FUNCTIONS, MAX_INSTRUCTIONS, MAX_ARGS}
 use Rattle.sts_code.specs.Program.{Program, Routine, routine, no_routine}
-use Rattle.sts_code.proofs.Checked.{code_is_short, routine_is_fine, routines_are_fine}
+use Rattle.sts_code.proofs.CheckedLemmas.{code_is_short, routine_is_fine, routines_are_fine}
 use borrow.Author.Tests.{ltb-true}
 
 pub function_is_short : (p : Program) (rs : List Routine) (i : ℕ) (d r : Routine) → rs ≡ p.routines → program_fault p.routines ≡ None → true ≡ nat_lt i (length rs) → r ≡ slice_index_or rs i d → (length r.code ≤ MAX_INSTRUCTIONS) × (r.args ≤ MAX_ARGS)

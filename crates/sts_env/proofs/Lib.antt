@@ -1,4 +1,4 @@
-pub mod Changes
+pub mod ChangeLemmas
 pub mod Room
-pub mod Unshared
-pub mod Walks
+pub mod UnsharedLemmas
+pub mod WalkLemmas

@@ -5,7 +5,7 @@ use Rattle.std.proofs.lemmas.List.{get_or-set_other, get_or_past}
 use Rattle.std.proofs.lemmas.List.Sums.{sum_by-set}
 use Rattle.sts_env.specs.Environments.{AreWhole}
 use Rattle.sts_env.specs.declared.env.Record.{Record}
-use Rattle.sts_env.proofs.Walks.{longer, same}
+use Rattle.sts_env.proofs.WalkLemmas.{longer, same}
 
 -- where one slot is emptied
 emptied : (slots : List (Option Record)) (k : ℕ) (r : Record) → get_or slots k None ≡ Some r → count_by is_some (set slots k None) + 1 ≡ count_by is_some slots

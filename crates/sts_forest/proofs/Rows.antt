@@ -5,7 +5,7 @@ use Rattle.std.specs.Prelude.{option_map}
 use Rattle.sts_forest.specs.Forest.{Forest, family_of, scope_of, families_of, scopes_of}
 use Rattle.sts_forest.specs.declared.record.Scope.{Scope}
 use Rattle.sts_forest.specs.declared.record.ScopeRecord.{ScopeRecord}
-use Rattle.sts_forest.proofs.Holding.{map_at, unseen}
+use Rattle.sts_forest.proofs.HoldingLemmas.{map_at, unseen}
 
 module _ {E : Type 0} where
   -- a record is written whose lists stay

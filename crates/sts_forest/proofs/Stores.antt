@@ -5,16 +5,16 @@ use Rattle.std.proofs.lemmas.List.{map-set, get_or_past, get_or_append_left}
 use Rattle.std.specs.Prelude.{option_map}
 use Rattle.sts_links.specs.Lists.{NotIn, IsList, BecomesList}
 use Rattle.sts_links.specs.declared.links.Ends.{Ends}
-use Rattle.sts_links.proofs.Chains.{without_link, list_stays}
+use Rattle.sts_links.proofs.ChainLemmas.{without_link, list_stays}
 use Rattle.sts_forest.specs.Stored.{task_of, tasks_of, link_of, link_at}
 use Rattle.sts_forest.specs.Births.{has, without}
 use Rattle.sts_forest.specs.Forest.{Forest, ready_of, Family, IsForest}
 use Rattle.sts_forest.specs.declared.record.Scope.{Scope}
 use Rattle.sts_forest.specs.declared.record.Task.{Task}
 use Rattle.sts_forest.specs.declared.record.TaskRecord.{TaskRecord}
-use Rattle.sts_forest.proofs.Holding.{map_at, inside_of, no_link}
-use Rattle.sts_forest.proofs.Keys.{has_not, Split}
-use Rattle.sts_forest.proofs.Steps.{moved, retasked, readied, unreadied, fresh_list, past_none}
+use Rattle.sts_forest.proofs.HoldingLemmas.{map_at, inside_of, no_link}
+use Rattle.sts_forest.proofs.KeyLemmas.{has_not, Split}
+use Rattle.sts_forest.proofs.StepLemmas.{moved, retasked, readied, unreadied, fresh_list, past_none}
 use Rattle.sts_forest.proofs.Walks.{walk_is, few}
 
 -- the keys of a list in some layer are births of records

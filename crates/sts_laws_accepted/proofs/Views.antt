@@ -22,10 +22,10 @@ use Rattle.sts_model.specs.Live.{Live, live}
 use Rattle.sts_runs.specs.Runs.{In}
 use Rattle.sts_runs.proofs.SoundLemmas.{Sound, dead_around}
 use Rattle.sts_seen.specs.Seen.{StandingIsSeen}
-use Rattle.sts_seen.proofs.Effects.{Facts}
-use Rattle.sts_seen.proofs.Views.{had, shown, seen, task_here, tasks_born, lives_is}
-use Rattle.sts_seen.proofs.Waiting.{frame_is}
-use Rattle.sts_seen.proofs.Laws.{facts-after}
+use Rattle.sts_seen.proofs.EffectLemmas.{Facts}
+use Rattle.sts_seen.proofs.ViewLemmas.{had, shown, seen, task_here, tasks_born, lives_is}
+use Rattle.sts_seen.proofs.WaitingLemmas.{frame_is}
+use Rattle.sts_seen.proofs.LawLemmas.{facts-after}
 use Rattle.sts_laws_costs.specs.Costs.{HasRoomFor, HasRoom}
 use Rattle.sts_laws_costs.specs.Points.{NoneIdlesWithEntries}
 use Rattle.sts_laws_accepted.specs.Accepted.{RoomIsLeft, WithMain}

@@ -29,11 +29,11 @@ use Rattle.sts_runs.proofs.BirthLemmas.{born_alive}
 use Rattle.sts_runs.proofs.EventLemmas.{Also}
 use Rattle.sts_laws_typed.proofs.TimelyLemmas.{Timely, timely-after}
 use Rattle.sts_budget.specs.Laws.{PointsAreWithin}
-use Rattle.sts_budget.proofs.PathLaws.{are_within, lie_on_paths}
-use Rattle.sts_budget.proofs.Checked.{is_checked}
+use Rattle.sts_budget.proofs.PathLemmas.{are_within, lie_on_paths}
+use Rattle.sts_budget.proofs.CheckedLemmas.{is_checked}
 use Rattle.sts_laws_costs.specs.Costs.{AreTyped, main_budget, Accepted, IsModest, AcceptedIsModest}
 use Rattle.sts_laws_costs.specs.Costs.{HasPlaceFor, AcceptedHasPlace}
-use Rattle.sts_laws_costs.proofs.Ranges.{some_function}
+use Rattle.sts_laws_costs.proofs.RangeLemmas.{some_function}
 use Rattle.sts_laws_costs.proofs.Turns.{waits-few, waits-fork}
 use Rattle.sts_laws_costs.proofs.Good.{IsCosted, Good}
 use Rattle.sts_laws_costs.proofs.Effects.{same_instr}

@@ -51,7 +51,7 @@ use Rattle.sts_runs.proofs.EffectLemmas.{first_no, alive_in, dead_in}
 use Rattle.sts_runs.proofs.EventLemmas.{Also}
 use Rattle.sts_runs.specs.Runs.{Does}
 use Rattle.sts_laws_typed.proofs.TimelyLemmas.{Timely}
-use Rattle.sts_budget.proofs.Checked.{is_checked}
+use Rattle.sts_budget.proofs.CheckedLemmas.{is_checked}
 use Rattle.sts_laws_costs.specs.Points.{loops_of, skeleton_of}
 use Rattle.sts_laws_costs.specs.Costs.{steps_begun}
 use Rattle.sts_laws_costs.proofs.Flow.{positive, goes_to, local_goes, local_same}
@@ -65,7 +65,7 @@ use Rattle.sts_laws_costs.proofs.Moves.{Moves, not_false, moves_same, moves_next
 use Rattle.sts_laws_costs.proofs.Moves.{moves_join, entering_bind, entering_unbind, entering_write}
 use Rattle.sts_laws_costs.proofs.Moves.{entering_open, entering_close}
 use Rattle.sts_laws_costs.proofs.Forks.{good_fork}
-use Rattle.sts_laws_costs.proofs.Ranges.{opens_in_range}
+use Rattle.sts_laws_costs.proofs.RangeLemmas.{opens_in_range}
 
 -- the instruction of the plain machine is that of control paths
 pub same_instr : (p : Program) (f : Frame) (i : Instr) → instr_at p f ≡ Some i → program.instr_at (code p f) f.pc ≡ i

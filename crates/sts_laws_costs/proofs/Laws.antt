@@ -25,8 +25,8 @@ use Rattle.sts_runs.specs.Runs.{In}
 use Rattle.sts_runs.proofs.BirthLemmas.{born_alive}
 use Rattle.sts_runs.proofs.EventLemmas.{Also}
 use Rattle.sts_laws_typed.proofs.TimelyLemmas.{Timely, timely-after}
-use Rattle.sts_budget.proofs.PathLaws.{are_within}
-use Rattle.sts_budget.proofs.Checked.{is_checked}
+use Rattle.sts_budget.proofs.PathLemmas.{are_within}
+use Rattle.sts_budget.proofs.CheckedLemmas.{is_checked}
 use Rattle.sts_laws_costs.specs.Points.{TasksFollowPaths, IdleHaveNoEntries, LoopsHaveTurns}
 use Rattle.sts_laws_costs.specs.Points.{HasTurns, Point, loops_of}
 use Rattle.sts_laws_costs.specs.Costs.{HasBudgets, Costs, AreTyped, TypedCosts, main_budget}

@@ -8,7 +8,7 @@ pub mod Good
 pub mod Laws
 pub mod Moves
 pub mod Points
-pub mod Ranges
+pub mod RangeLemmas
 pub mod Runs
 pub mod Sums
 pub mod Turns

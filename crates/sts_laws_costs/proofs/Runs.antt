@@ -16,7 +16,7 @@ use Rattle.sts_model.specs.World.{World, State, Running, Faulted, task_at, scope
 use Rattle.sts_model.specs.World.{instr_at, with_task, with_scope}
 use Rattle.sts_model.specs.Living.{lives}
 use Rattle.sts_model.specs.Misuse.{misuse}
-use Rattle.sts_model.proofs.Fine.{fine}
+use Rattle.sts_model.proofs.FineLemmas.{fine}
 use Rattle.sts_model.specs.Waiting.{stand_at, can_step}
 use Rattle.sts_model.specs.Effect.{effect}
 use Rattle.sts_model.specs.Cancelling.{cancel}
@@ -32,7 +32,7 @@ use Rattle.sts_laws.proofs.StayLemmas.{steps_are_counted}
 use Rattle.sts_laws_typed.proofs.TimelyLemmas.{Timely, timely-after}
 use Rattle.sts_laws_costs.specs.Points.{Point}
 use Rattle.sts_laws_costs.specs.Costs.{steps_begun, main_budget}
-use Rattle.sts_laws_costs.proofs.Ranges.{some_function}
+use Rattle.sts_laws_costs.proofs.RangeLemmas.{some_function}
 use Rattle.sts_laws_costs.proofs.Turns.{IsLike, Alike, alike-refl, alike-trans, alike-scope}
 use Rattle.sts_laws_costs.proofs.Turns.{alike-cancel, turned-frame, each-task, waits-stay}
 use Rattle.sts_laws_costs.proofs.Good.{IsCosted, Good, Placed, good_alike}

@@ -10,7 +10,7 @@ use Rattle.sts_code.specs.declared.checking.CodeError.{CodeError}
 use Rattle.sts_code.specs.declared.instr.Instr.{Instr}
 use Rattle.sts_code.specs.Checks as def
 use Rattle.sts_code.specs.Program.{Program, Routine, no_routine, routine}
-use Rattle.sts_code.proofs.Checked.{routine_is_fine, routines_are_fine}
+use Rattle.sts_code.proofs.CheckedLemmas.{routine_is_fine, routines_are_fine}
 use Rattle.sts_model.specs.declared.record.Frame.{Frame}
 use Rattle.sts_model.specs.World.{instr_at}
 use Rattle.sts_rules.specs.Causes.{needs}

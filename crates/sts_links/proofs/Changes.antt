@@ -5,11 +5,11 @@ use Rattle.sts_links.specs.Lists.{first_or, NotIn, AreDistinct, IsList, with_aft
 use Rattle.sts_links.specs.Lists.{Relinks, Differs, BecomesList, if_none}
 use Rattle.sts_links.specs.declared.links.Link.{Link}
 use Rattle.sts_links.specs.declared.links.Ends.{Ends}
-use Rattle.sts_links.proofs.Keys.{not_front, not_back, distinct_front, distinct_back, distinct_less}
-use Rattle.sts_links.proofs.Keys.{distinct_more, apart, head_not, last_none, last_more, first_more}
-use Rattle.sts_links.proofs.Keys.{first_less, last_less, apart_key}
-use Rattle.sts_links.proofs.Chains.{joined, front_of, back_of, list_stays, relast, rehead}
-use Rattle.sts_links.proofs.Chains.{head_link}
+use Rattle.sts_links.proofs.KeyLemmas.{not_front, not_back, distinct_front, distinct_back, distinct_less}
+use Rattle.sts_links.proofs.KeyLemmas.{distinct_more, apart, head_not, last_none, last_more, first_more}
+use Rattle.sts_links.proofs.KeyLemmas.{first_less, last_less, apart_key}
+use Rattle.sts_links.proofs.ChainLemmas.{joined, front_of, back_of, list_stays, relast, rehead}
+use Rattle.sts_links.proofs.ChainLemmas.{head_link}
 
 -- a list whose keys alone got other links leaves the others as they were
 becomes : (a c : ℕ → ℕ → Option Link) (l : ℕ) (result : Ends) (keys : List ℕ) → IsList (c l) result keys → Differs a c l keys → BecomesList a c l result keys

@@ -1,3 +1,3 @@
-pub mod Chains
+pub mod ChainLemmas
 pub mod Changes
-pub mod Keys
+pub mod KeyLemmas

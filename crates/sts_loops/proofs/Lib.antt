@@ -1,3 +1,3 @@
 pub mod Marking
-pub mod Matching
+pub mod MatchingLemmas
 pub mod Nesting

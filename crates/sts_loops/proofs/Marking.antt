@@ -14,7 +14,7 @@ use Rattle.sts_rules.specs.Around.{is_inside, reaches_to}
 use Rattle.sts_code.specs.Program.{instr_at}
 use Rattle.sts_loops.specs.Tables.{AreTablesOf, end_at}
 use Rattle.sts_loops.proofs.Nesting.{below, below_more}
-use Rattle.sts_loops.proofs.Matching.{ends}
+use Rattle.sts_loops.proofs.MatchingLemmas.{ends}
 
 -- ---- one loop
 

@@ -15,7 +15,7 @@ use Rattle.sts_code.specs.Program.{instr_at}
 use Rattle.sts_rules.specs.declared.typing.TypedLoop.{TypedLoop}
 use Rattle.sts_rules.specs.TypeState.{heads}
 use Rattle.sts_loops.specs.Tables.{head}
-use Rattle.sts_loops.proofs.Matching.{ends, nested}
+use Rattle.sts_loops.proofs.MatchingLemmas.{ends, nested}
 
 -- the loops around a place that begin before k
 abbrev pub below : List Instr → ℕ → ℕ → List ℕ

@@ -58,7 +58,7 @@ fn push_value(world: &mut World, t: u32, n: usize, value: i64)
 /// # Errors
 ///
 /// Want of memory; the world is as it was.
-#[tactic(auto, using(sts_model::proofs::Fine::fine))]
+#[tactic(auto, using(sts_model::proofs::FineLemmas::fine))]
 pub fn act(world: &mut World, alloc: Global, program: &Program, t: u32) -> Result<(), AllocError>
     requires born { t < length world.old.tasks }
     requires lives { living.lives (def.task_at world.old t) ≡ true }

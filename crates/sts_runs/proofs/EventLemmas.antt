@@ -22,7 +22,7 @@ use Rattle.sts_model.specs.World.{no_scope, instr_at, opening, entry_frame, with
 use Rattle.sts_model.specs.Local.{operand}
 use Rattle.sts_model.specs.Living.{lives, is_closed}
 use Rattle.sts_model.specs.Misuse.{slot, is_opened, misuse, IsFine}
-use Rattle.sts_model.proofs.Fine.{fine}
+use Rattle.sts_model.proofs.FineLemmas.{fine}
 use Rattle.sts_model.specs.Waiting.{can_step}
 use Rattle.sts_model.specs.Effect as def
 use Rattle.sts_model.specs.Effect.{named, open_scope, fork_task, end_task}

@@ -25,9 +25,9 @@ use Rattle.sts_runs.proofs.BirthLemmas.{more_tasks, more_scopes}
 use Rattle.sts_seen.specs.Reading.{task_in, scope_in, with_alive, with_live_scope}
 use Rattle.sts_seen.specs.Cancelling.{live_raise, live_raised, live_marked, live_cancel}
 use Rattle.sts_seen.specs.Effect.{without, live_gone}
-use Rattle.sts_seen.proofs.Lists.{map_kept}
-use Rattle.sts_seen.proofs.Views.{had, shown, seen_of, seen, seen_scope, tasks_born, scopes_born}
-use Rattle.sts_seen.proofs.Views.{task_here, scope_here, same_view, scope_is}
+use Rattle.sts_seen.proofs.ListLemmas.{map_kept}
+use Rattle.sts_seen.proofs.ViewLemmas.{had, shown, seen_of, seen, seen_scope, tasks_born, scopes_born}
+use Rattle.sts_seen.proofs.ViewLemmas.{task_here, scope_here, same_view, scope_is}
 
 -- ---- one task
 

@@ -1,8 +1,8 @@
-pub mod Lists
-pub mod Views
+pub mod ListLemmas
+pub mod ViewLemmas
 pub mod Changes
-pub mod Ends
-pub mod Effects
-pub mod Outside
-pub mod Waiting
-pub mod Laws
+pub mod EndLemmas
+pub mod EffectLemmas
+pub mod OutsideLemmas
+pub mod WaitingLemmas
+pub mod LawLemmas

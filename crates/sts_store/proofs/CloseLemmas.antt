@@ -3,7 +3,7 @@
 use Rattle.std.proofs.Common.{◌≡◌, ℕ, List, [], ◌∷◌, drop, map, Bool, true, false, ◌&&◌, ◌||◌, Option, Some, None, refl, ◌∙◌, ap, get_or, set, cond}
 use Rattle.std.specs.Prelude.{option_map, is_some, unwrap_or}
 use Rattle.std.specs.List.{list_any}
-use Rattle.sts_forest.proofs.Holding.{map_at}
+use Rattle.sts_forest.proofs.HoldingLemmas.{map_at}
 use Rattle.sts_model.specs.Living.{is_in}
 use Rattle.sts_model.specs.Local.{steps}
 use Rattle.sts_model.specs.Misuse.{innermost, is_entry_of}

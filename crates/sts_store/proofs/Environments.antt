@@ -3,7 +3,7 @@ use Rattle.std.proofs.Common.{◌≡◌, ◌≢◌, ℕ, zero, suc, List, [], �
 use Rattle.sts_env.specs.Environments.{Records, AreWhole, keys, bindings, keys_of, list_of, IsWhole, record_at}
 use Rattle.sts_env.specs.declared.env.Env.{Env}
 use Rattle.sts_env.specs.declared.env.Record.{Record}
-use Rattle.sts_env.proofs.Walks.{front_of, bindings_cons}
+use Rattle.sts_env.proofs.WalkLemmas.{front_of, bindings_cons}
 
 -- an environment with a record has a binding
 has_binding : (at : ℕ → Option Record) (n : ℕ) (front : Option ℕ) (k : ℕ) (rest : List ℕ) → AreWhole at n front → keys at n front ≡ k ∷ rest → bindings at n front ≢ []

@@ -7,7 +7,7 @@ use Rattle.sts_model.specs.Live.{Live, LiveTask, Alive}
 use Rattle.sts_model.specs.declared.record.Frame.{Frame}
 use Rattle.sts_seen.specs.Reading.{task_in, with_alive}
 use Rattle.sts_tree.specs.Steps.{seen, with_task}
-use Rattle.sts_agree.proofs.Viewing.{words}
+use Rattle.sts_agree.proofs.ViewingLemmas.{words}
 use Rattle.sts_store.specs.declared.running.Running.{Running}
 use Rattle.sts_store.specs.Parts.{Parts, live_of, beside, unseen_of}
 use Rattle.sts_store.specs.Stored.{IsStore}

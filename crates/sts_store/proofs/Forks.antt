@@ -9,7 +9,7 @@ use Rattle.sts_env.specs.declared.env.Env.{Env}
 use Rattle.sts_forest.specs.Forest.{Forest, subtask}
 use Rattle.sts_forest.specs.declared.record.Task.{Task}
 use Rattle.sts_forest.specs.declared.record.Scope.{Scope}
-use Rattle.sts_forest.proofs.Holding.{map_at, inside_of}
+use Rattle.sts_forest.proofs.HoldingLemmas.{map_at, inside_of}
 use Rattle.sts_held.specs.Holes.{Holes}
 use Rattle.sts_model.specs.Effect.{forked}
 use Rattle.sts_model.specs.World.{entry_frame}
@@ -23,7 +23,7 @@ use Rattle.sts_seen.specs.Effect.{live_fork, live_child}
 use Rattle.sts_seen.specs.Reading.{live_scope_at, with_live_frame}
 use Rattle.sts_views.specs.Order.{InOrder}
 use Rattle.sts_agree.specs.View.{Beside, view_of, tasks_from, scope_seen, alive_of}
-use Rattle.sts_agree.proofs.Viewing.{words, scope_there, same_view}
+use Rattle.sts_agree.proofs.ViewingLemmas.{words, scope_there, same_view}
 use Rattle.sts_store.specs.declared.running.Running.{Running}
 use Rattle.sts_store.specs.Parts.{Parts, live_of, beside, frame_of, running_at, no_running, stand_of, unseen_of}
 use Rattle.sts_store.specs.Sharing.{Holder, Keeper, holder_of, keeper_of, home_of, holders, keepers}

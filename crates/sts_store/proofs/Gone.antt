@@ -9,8 +9,8 @@ use Rattle.sts_forest.specs.Births.{births, drop_if}
 use Rattle.sts_forest.specs.Forest.{any_lives, closed, is_of}
 use Rattle.sts_forest.specs.declared.record.Task.{Task}
 use Rattle.sts_forest.specs.declared.record.Scope.{Scope}
-use Rattle.sts_forest.proofs.Closing.{drop_at}
-use Rattle.sts_forest.proofs.Holding.{map_at}
+use Rattle.sts_forest.proofs.ClosingLemmas.{drop_at}
+use Rattle.sts_forest.proofs.HoldingLemmas.{map_at}
 use Rattle.sts_model.specs.Living.{is_in}
 use Rattle.sts_model.specs.Misuse.{innermost, is_binding, is_entry_of}
 use Rattle.sts_model.specs.Live.{LiveScope}
@@ -21,10 +21,10 @@ use Rattle.sts_model.specs.declared.record.Frame.{Frame}
 use Rattle.sts_seen.specs.Effect.{live_gone}
 use Rattle.sts_seen.specs.Reading.{lives_in, live_any_lives, no_live_task, with_live_frame}
 use Rattle.sts_tree.specs.Reading.{lives_at}
-use Rattle.sts_tree.proofs.Closing.{none_lives}
+use Rattle.sts_tree.proofs.ClosingLemmas.{none_lives}
 use Rattle.sts_views.specs.Order.{InOrder, IsOwned}
 use Rattle.sts_agree.specs.View.{Beside, tasks_from}
-use Rattle.sts_agree.proofs.Viewing.{words, scope_there}
+use Rattle.sts_agree.proofs.ViewingLemmas.{words, scope_there}
 use Rattle.sts_store.specs.Closing.{stands_left, gone_unseen}
 use Rattle.sts_store.specs.declared.running.Running.{Running}
 use Rattle.sts_store.specs.Parts.{Parts, live_of, beside, frame_of, stand_of, stand_in, unseen_of}

@@ -4,12 +4,12 @@ use Rattle.std.specs.Prelude.{option_map, is_some}
 use Rattle.sts_env.specs.declared.env.Env.{Env}
 use Rattle.sts_forest.specs.declared.record.Task.{Task}
 use Rattle.sts_forest.specs.declared.record.Scope.{Scope}
-use Rattle.sts_forest.proofs.Holding.{map_at}
+use Rattle.sts_forest.proofs.HoldingLemmas.{map_at}
 use Rattle.sts_model.specs.Live.{LiveScope}
 use Rattle.sts_seen.specs.Reading.{lives_in, scope_in, live_task_at, live_scope_at}
 use Rattle.sts_views.specs.Order.{InOrder}
 use Rattle.sts_agree.specs.View.{scope_seen}
-use Rattle.sts_agree.proofs.Viewing.{scope_is, scope_there}
+use Rattle.sts_agree.proofs.ViewingLemmas.{scope_is, scope_there}
 use Rattle.sts_store.specs.Parts.{Parts, live_of, beside}
 use Rattle.sts_store.specs.Sharing.{Holder, Keeper, holder_of, keeper_of, home_of, holders, keepers, homes, home_at}
 use Rattle.sts_store.specs.Stored.{IsStore}

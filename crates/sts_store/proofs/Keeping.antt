@@ -6,10 +6,10 @@ use Rattle.sts_env.specs.Environments.{Records}
 use Rattle.sts_env.specs.declared.env.Env.{Env}
 use Rattle.sts_forest.specs.Forest.{Forest}
 use Rattle.sts_forest.specs.declared.record.Task.{Task}
-use Rattle.sts_forest.proofs.Holding.{unseen, map_at}
+use Rattle.sts_forest.proofs.HoldingLemmas.{unseen, map_at}
 use Rattle.sts_tree.specs.Steps.{unmarked, seen, with_task}
 use Rattle.sts_tree.specs.Reading.{lives_at}
-use Rattle.sts_agree.proofs.Viewing.{same_view}
+use Rattle.sts_agree.proofs.ViewingLemmas.{same_view}
 use Rattle.sts_store.specs.Parts.{Parts, live_of, beside, stand_of, unseen_of}
 use Rattle.sts_store.specs.Sharing.{AreShared, holder_of, home_of, holders, keepers, homes}
 use Rattle.sts_store.specs.Stored.{IsStore}

@@ -8,7 +8,7 @@ use Rattle.sts_env.specs.declared.env.Env.{Env}
 use Rattle.sts_forest.specs.Forest.{Forest}
 use Rattle.sts_forest.specs.declared.record.Task.{Task}
 use Rattle.sts_forest.specs.declared.record.Scope.{Scope}
-use Rattle.sts_forest.proofs.Holding.{unseen, map_at, inside_of}
+use Rattle.sts_forest.proofs.HoldingLemmas.{unseen, map_at, inside_of}
 use Rattle.sts_held.specs.Holes.{Holes}
 use Rattle.sts_model.specs.declared.event.End.{End}
 use Rattle.sts_tree.specs.Ending.{gone, told, told_in, ended_in, ended, asks_ended}
@@ -18,7 +18,7 @@ use Rattle.sts_cancel.specs.Cancelling.{raise, raise_all, cancel}
 use Rattle.sts_seen.specs.Effect.{live_end, live_ended, live_tell}
 use Rattle.sts_agree.specs.View.{Beside, view_of}
 use Rattle.sts_agree.specs.Agreeing.{at_end}
-use Rattle.sts_agree.proofs.Viewing.{same_view}
+use Rattle.sts_agree.proofs.ViewingLemmas.{same_view}
 use Rattle.sts_store.specs.declared.running.Running.{Running}
 use Rattle.sts_store.specs.Ending.{finished}
 use Rattle.sts_store.specs.Parts.{Parts, live_of, beside, stand_of, unseen_of, no_running}

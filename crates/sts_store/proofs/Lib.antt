@@ -6,7 +6,7 @@ pub mod Shared
 pub mod Opening
 pub mod Unsharing
 pub mod Housed
-pub mod Beginning
+pub mod BeginningLemmas
 pub mod Scoping
 pub mod Entering
 pub mod Verdicts
@@ -17,7 +17,7 @@ pub mod Forks
 pub mod Local
 pub mod Writing
 pub mod Flags
-pub mod Bindings
+pub mod BindingLemmas
 pub mod Stands
 pub mod CloseLemmas
 pub mod Gone

@@ -12,7 +12,7 @@ use Rattle.sts_model.specs.Told.{result_told}
 use Rattle.sts_model.specs.Live.{Live}
 use Rattle.sts_seen.specs.Effect.{live_join, live_joined, live_verdict}
 use Rattle.sts_seen.specs.Reading.{with_live_phase, with_alive, live_scope_at, live_any_lives, live_count}
-use Rattle.sts_agree.proofs.Viewing.{words}
+use Rattle.sts_agree.proofs.ViewingLemmas.{words}
 use Rattle.sts_store.specs.Parts.{Parts, live_of, beside, unseen_of}
 use Rattle.sts_store.specs.Stored.{IsStore}
 use Rattle.sts_store.proofs.Keeping.{live_seen, store_seen, rest_seen}

@@ -6,7 +6,7 @@ use Rattle.sts_env.specs.declared.env.Env.{Env}
 use Rattle.sts_forest.specs.Forest.{Forest, lives_in}
 use Rattle.sts_forest.specs.declared.record.Task.{Task}
 use Rattle.sts_forest.specs.declared.record.Scope.{Scope}
-use Rattle.sts_forest.proofs.Holding.{unseen, map_at, inside_of}
+use Rattle.sts_forest.proofs.HoldingLemmas.{unseen, map_at, inside_of}
 use Rattle.sts_tree.specs.Steps.{with_scope, seen}
 use Rattle.sts_cancel.specs.Cancelling.{raise, raise_all, cancel, expire}
 use Rattle.sts_model.specs.Live.{LiveScope}
@@ -14,7 +14,7 @@ use Rattle.sts_seen.specs.Reading.{live_scope_at, no_live_scope, with_live_scope
 use Rattle.sts_seen.specs.Cancelling.{live_cancel}
 use Rattle.sts_seen.specs.Outside.{live_can_expire, live_expire}
 use Rattle.sts_agree.specs.View.{scope_seen}
-use Rattle.sts_agree.proofs.Viewing.{scope_is, cancelled_is, expired_seen}
+use Rattle.sts_agree.proofs.ViewingLemmas.{scope_is, cancelled_is, expired_seen}
 use Rattle.sts_store.specs.Parts.{Parts, live_of, beside, stand_of, unseen_of}
 use Rattle.sts_store.specs.Sharing.{keeper_of, home_of}
 use Rattle.sts_store.specs.Stored.{IsStore}

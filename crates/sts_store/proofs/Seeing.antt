@@ -12,7 +12,7 @@ use Rattle.sts_forest.specs.declared.record.Task.{Task}
 use Rattle.sts_forest.specs.declared.record.Scope.{Scope}
 use Rattle.sts_forest.specs.Births.{births}
 use Rattle.sts_forest.specs.Forest.{is_of}
-use Rattle.sts_forest.proofs.Holding.{map_at, key_seen}
+use Rattle.sts_forest.proofs.HoldingLemmas.{map_at, key_seen}
 use Rattle.sts_tree.specs.Reading.{count_of}
 use Rattle.sts_tree.specs.Steps.{can_step, can_go}
 use Rattle.sts_model.specs.declared.event.Stand.TheVariants.{Free}
@@ -21,7 +21,7 @@ use Rattle.sts_seen.specs.Reading.{scope_in, live_scope_at, live_task_at, lives_
 use Rattle.sts_seen.specs.Effect.{live_state, live_tally}
 use Rattle.sts_seen.specs.Waiting.{live_can_go}
 use Rattle.sts_agree.specs.View.{scope_seen, task_seen}
-use Rattle.sts_agree.proofs.Viewing.{task_is, scope_is, scope_there, words}
+use Rattle.sts_agree.proofs.ViewingLemmas.{task_is, scope_is, scope_there, words}
 use Rattle.sts_store.specs.Parts.{Parts, live_of, beside, stand_of, stand_in, unseen_of, can_go_on}
 use Rattle.sts_store.proofs.Views.{just, lives_is, lives_of}
 

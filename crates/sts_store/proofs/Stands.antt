@@ -14,8 +14,8 @@ use Rattle.sts_seen.specs.Reading.{scope_in, no_live_scope}
 use Rattle.sts_tree.specs.Steps.{seen, with_task, stands_at}
 use Rattle.sts_views.specs.Order.{IsOwned}
 use Rattle.sts_views.specs.Stands.{is_stand_at}
-use Rattle.sts_views.proofs.Resting.{rests-cancel}
-use Rattle.sts_agree.proofs.Viewing.{words, scope_there}
+use Rattle.sts_views.proofs.RestingLemmas.{rests-cancel}
+use Rattle.sts_agree.proofs.ViewingLemmas.{words, scope_there}
 use Rattle.sts_store.specs.Parts.{Parts, live_of, beside, stand_of, unseen_of, stood_unseen}
 use Rattle.sts_store.specs.Stored.{IsStore}
 use Rattle.sts_store.proofs.Views.{Lived}

@@ -15,7 +15,7 @@ use Rattle.sts_model.specs.declared.record.Frame.{Frame}
 use Rattle.sts_model.specs.declared.record.Bound.{Bound}
 use Rattle.sts_seen.specs.Reading.{lives_in, alive_at, with_alive, live_task_at, task_in, no_live_task, no_alive}
 use Rattle.sts_agree.specs.View.{Beside, task_seen, scope_seen, tasks_from}
-use Rattle.sts_agree.proofs.Viewing.{task_is, lives_same}
+use Rattle.sts_agree.proofs.ViewingLemmas.{task_is, lives_same}
 use Rattle.sts_store.specs.declared.running.Running.{Running}
 use Rattle.sts_store.specs.Parts.{Parts, live_of, beside, running_at, no_running}
 use Rattle.sts_store.specs.Stored.{IsStore}

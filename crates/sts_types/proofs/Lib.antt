@@ -4,7 +4,7 @@ pub mod FollowLemmas
 pub mod Laws
 pub mod Marking
 pub mod Passing
-pub mod Promising
+pub mod PromisingLemmas
 pub mod Ranges
 pub mod RoomLemmas
 pub mod Visiting

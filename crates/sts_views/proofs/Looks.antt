@@ -26,10 +26,10 @@ use Rattle.sts_runs.proofs.BirthLemmas.{more_tasks, more_scopes}
 use Rattle.sts_seen.specs.Reading.{alive_at}
 use Rattle.sts_seen.specs.Waiting.{live_stands_at_join, live_stands_at_close, live_stand_at_instr}
 use Rattle.sts_seen.specs.Waiting.{live_can_go, live_can_step}
-use Rattle.sts_seen.proofs.Lists.{any_alike}
-use Rattle.sts_seen.proofs.Views.{scope_is, alive_is, any_is, lives_is}
-use Rattle.sts_seen.proofs.Ends.{open_some}
-use Rattle.sts_seen.proofs.Effects.{Facts}
+use Rattle.sts_seen.proofs.ListLemmas.{any_alike}
+use Rattle.sts_seen.proofs.ViewLemmas.{scope_is, alive_is, any_is, lives_is}
+use Rattle.sts_seen.proofs.EndLemmas.{open_some}
+use Rattle.sts_seen.proofs.EffectLemmas.{Facts}
 
 -- u sees the same: itself, its own scopes, and who lives in them
 pub record Looks (w v : World) (u : ℕ) : Type 0 where

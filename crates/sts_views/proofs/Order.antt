@@ -23,13 +23,13 @@ use Rattle.sts_laws.proofs.StateLemmas.{owners_hold}
 use Rattle.sts_laws_scopes.specs.Scopes.{IsEntered}
 use Rattle.sts_laws_scopes.proofs.ScopeLemmas.{entries_are_open}
 use Rattle.sts_seen.specs.Reading.{scope_in, live_task_at, live_scope_at, alive_at, no_live_task}
-use Rattle.sts_seen.proofs.Views.{task_here, scope_here, scope_is, task_is, alive_is, lives_is}
-use Rattle.sts_seen.proofs.Views.{task_gone, scope_gone}
+use Rattle.sts_seen.proofs.ViewLemmas.{task_here, scope_here, scope_is, task_is, alive_is, lives_is}
+use Rattle.sts_seen.proofs.ViewLemmas.{task_gone, scope_gone}
 use Rattle.sts_runs.proofs.SoundLemmas.{born_open, stands_alive}
-use Rattle.sts_seen.proofs.Ends.{open_some, untold}
-use Rattle.sts_seen.proofs.Effects.{Facts}
+use Rattle.sts_seen.proofs.EndLemmas.{open_some, untold}
+use Rattle.sts_seen.proofs.EffectLemmas.{Facts}
 use Rattle.sts_laws_scopes.proofs.SlotLemmas.{IsSubOf, IsNamed, Named, named-after}
-use Rattle.sts_seen.proofs.Laws.{facts}
+use Rattle.sts_seen.proofs.LawLemmas.{facts}
 use Rattle.sts_runs.proofs.EventLemmas.{Also}
 use Rattle.sts_views.specs.Order.{IsOwned, IsOwnSub, outer_in, LivesInOrder, IsHeld, IsInside}
 use Rattle.sts_views.specs.Order.{InOrder, SeenInOrder}

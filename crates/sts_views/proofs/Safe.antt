@@ -21,7 +21,7 @@ use Rattle.sts_model.specs.Standing.{stands_in, standing_tasks, standing_scopes}
 use Rattle.sts_model.specs.Misuse.{slot, at_own, at_sub, misuse, misjoins, has_no_room, is_crowded}
 use Rattle.sts_model.specs.Misuse.{is_opened, is_readable, is_illegal, is_success, is_failed}
 use Rattle.sts_model.specs.Misuse.{breaks_structure, is_unbound, fault_at, IsFine}
-use Rattle.sts_model.proofs.Fine.{fine}
+use Rattle.sts_model.proofs.FineLemmas.{fine}
 use Rattle.sts_model.specs.Waiting.{can_step}
 use Rattle.sts_model.specs.Run.{apply, after}
 use Rattle.sts_model.specs.Live.{Live, LiveTask, LiveScope, Alive, live, shown_scope}
@@ -31,12 +31,12 @@ use Rattle.sts_runs.proofs.RunLemmas.{after-append}
 use Rattle.sts_runs.specs.Runs.{NeverFaults}
 use Rattle.sts_seen.specs.Effect.{live_state}
 use Rattle.sts_seen.specs.Waiting.{live_can_step}
-use Rattle.sts_seen.proofs.Views.{scope_is, task_is, alive_is, count_is, tasks_born, scopes_born}
-use Rattle.sts_seen.proofs.Views.{tasks_stand, scopes_stand}
-use Rattle.sts_seen.proofs.Ends.{open_some}
-use Rattle.sts_seen.proofs.Effects.{Facts}
-use Rattle.sts_seen.proofs.Waiting.{frame_is, can_is}
-use Rattle.sts_seen.proofs.Laws.{facts-after}
+use Rattle.sts_seen.proofs.ViewLemmas.{scope_is, task_is, alive_is, count_is, tasks_born, scopes_born}
+use Rattle.sts_seen.proofs.ViewLemmas.{tasks_stand, scopes_stand}
+use Rattle.sts_seen.proofs.EndLemmas.{open_some}
+use Rattle.sts_seen.proofs.EffectLemmas.{Facts}
+use Rattle.sts_seen.proofs.WaitingLemmas.{frame_is, can_is}
+use Rattle.sts_seen.proofs.LawLemmas.{facts-after}
 use Rattle.sts_views.specs.Fine.{live_at_own, live_parent, live_at_sub, live_misjoins}
 use Rattle.sts_views.specs.Fine.{live_has_no_room, live_is_illegal, live_breaks_structure}
 use Rattle.sts_views.specs.Fine.{live_is_unbound, IsLiveFine, IsSafe, TurnsAreSafe}

@@ -50,10 +50,10 @@ use Rattle.sts_views.specs.Stands.{IdleStandFree, is_stand_at, StandsAreOwned, S
 use Rattle.sts_views.proofs.Order as order
 use Rattle.sts_views.proofs.Safe as safe
 use Rattle.sts_views.proofs.Waking.{apart}
-use Rattle.sts_views.proofs.Resting.{Rests, rests-refl, rests-trans, rests-cond, rests-other}
-use Rattle.sts_views.proofs.Resting.{rests-more_tasks, rests-flag, rests-scope, IsAlien}
-use Rattle.sts_views.proofs.Resting.{rests-alien, rests-more_scopes, alien_of, rests-cancel}
-use Rattle.sts_views.proofs.Resting.{owner-cancel, rests-gone}
+use Rattle.sts_views.proofs.RestingLemmas.{Rests, rests-refl, rests-trans, rests-cond, rests-other}
+use Rattle.sts_views.proofs.RestingLemmas.{rests-more_tasks, rests-flag, rests-scope, IsAlien}
+use Rattle.sts_views.proofs.RestingLemmas.{rests-alien, rests-more_scopes, alien_of, rests-cancel}
+use Rattle.sts_views.proofs.RestingLemmas.{owner-cancel, rests-gone}
 
 -- ---- who owns nothing
 

@@ -28,7 +28,7 @@ use Rattle.sts_model.specs.Joining.{cancels}
 use Rattle.sts_model.specs.Living.{lives, is_living_subtask, is_in, any_lives, ends}
 use Rattle.sts_model.specs.Cancelling.{raise, raised, marked, cancel}
 use Rattle.sts_model.specs.Misuse.{slot, is_closing, misuse, IsFine}
-use Rattle.sts_model.proofs.Fine.{fine}
+use Rattle.sts_model.proofs.FineLemmas.{fine}
 use Rattle.sts_model.specs.Waiting.{can_step}
 use Rattle.sts_model.specs.Effect.{effect, named, cleared, close_scope, told, decide, tell, ended}
 use Rattle.sts_model.specs.Effect.{end_task}
@@ -46,11 +46,11 @@ use Rattle.sts_runs.specs.Runs.{NeverFaults}
 use Rattle.sts_seen.specs.Reading.{alive_at, lives_in}
 use Rattle.sts_seen.specs.Waiting.{live_stands_at_join, live_stands_at_close, live_stand_at_instr}
 use Rattle.sts_seen.specs.Waiting.{live_can_go, live_can_step}
-use Rattle.sts_seen.proofs.Lists.{and_false}
-use Rattle.sts_seen.proofs.Views.{scope_is, alive_is, any_is, lives_is, tasks_born}
-use Rattle.sts_seen.proofs.Ends.{open_some}
-use Rattle.sts_seen.proofs.Effects.{Facts}
-use Rattle.sts_seen.proofs.Waiting.{frame_is}
+use Rattle.sts_seen.proofs.ListLemmas.{and_false}
+use Rattle.sts_seen.proofs.ViewLemmas.{scope_is, alive_is, any_is, lives_is, tasks_born}
+use Rattle.sts_seen.proofs.EndLemmas.{open_some}
+use Rattle.sts_seen.proofs.EffectLemmas.{Facts}
+use Rattle.sts_seen.proofs.WaitingLemmas.{frame_is}
 use Rattle.sts_views.specs.Waking.{is_step_of, ReadyStays}
 use Rattle.sts_views.proofs.Looks.{Looks, looks-refl, same-scope-owned}
 use Rattle.sts_views.proofs.Waking.{between, apart, looks-phase, looks-effect, owner_of}

@@ -31,7 +31,7 @@ use Rattle.sts_model.specs.Living.{subtask_count}
 use Rattle.sts_model.specs.Standing.{stands_in}
 use Rattle.sts_model.specs.Cancelling.{cancel}
 use Rattle.sts_model.specs.Misuse.{slot, misuse, IsFine}
-use Rattle.sts_model.proofs.Fine.{fine}
+use Rattle.sts_model.proofs.FineLemmas.{fine}
 use Rattle.sts_model.specs.Waiting.{can_step}
 use Rattle.sts_model.specs.Effect.{effect, named, with_phase, open_scope, fork_task, forked}
 use Rattle.sts_model.specs.Effect.{subtask_of, join_verdict, join_scope, cleared, close_scope, told}
@@ -49,13 +49,13 @@ use Rattle.sts_runs.proofs.BirthLemmas.{more_tasks, more_scopes, new_scope, open
 use Rattle.sts_runs.proofs.RunLemmas.{after-append}
 use Rattle.sts_seen.specs.Reading.{live_task_at, live_scope_at, alive_at}
 use Rattle.sts_seen.specs.Waiting.{live_can_step}
-use Rattle.sts_seen.proofs.Views.{scope_is, task_is, tasks_born}
+use Rattle.sts_seen.proofs.ViewLemmas.{scope_is, task_is, tasks_born}
 use Rattle.sts_runs.proofs.SoundLemmas.{stands_alive}
-use Rattle.sts_seen.proofs.Ends.{open_some}
-use Rattle.sts_seen.proofs.Effects.{Facts, of_is}
-use Rattle.sts_seen.proofs.Outside.{open_timely}
-use Rattle.sts_seen.proofs.Waiting.{frame_is}
-use Rattle.sts_seen.proofs.Laws.{facts-after, turns_are_seen}
+use Rattle.sts_seen.proofs.EndLemmas.{open_some}
+use Rattle.sts_seen.proofs.EffectLemmas.{Facts, of_is}
+use Rattle.sts_seen.proofs.OutsideLemmas.{open_timely}
+use Rattle.sts_seen.proofs.WaitingLemmas.{frame_is}
+use Rattle.sts_seen.proofs.LawLemmas.{facts-after, turns_are_seen}
 use Rattle.sts_seen.specs.Run.{live_apply}
 use Rattle.sts_runs.specs.Runs.{NeverFaults}
 use Rattle.sts_seen.specs.Seen.{StandsAt}

@@ -4,7 +4,7 @@ use Rattle.std.proofs.Common.{replicate, get_or, Bool, true, false, refl, ap, ar
 use Rattle.std.specs.List.{list_all}
 use Rattle.std.proofs.lemmas.List.{length-reverse, reverse-reverse, take_rest}
 use Rattle.std.proofs.Math.Seq.{take-length}
-use Rattle.sts_model.proofs.Lists.{reverse_take}
+use Rattle.sts_model.proofs.ListLemmas.{reverse_take}
 use Rattle.sts_model.specs.declared.record.Slot.{Slot}
 use Rattle.sts_model.specs.declared.record.Slot.TheVariants.{Empty, Own, Lent, Sub}
 use Rattle.sts_model.specs.Misuse.{is_empty}

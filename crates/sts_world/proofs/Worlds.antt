@@ -26,7 +26,7 @@ use Rattle.sts_model.specs.Cancelling.{cancel, marked}
 use Rattle.sts_model.specs.Effect.{with_phase, open_scope, fork_task, ended, subtask_of, told}
 use Rattle.sts_model.specs.Standing as standing
 use Rattle.sts_joiners.specs.Tallied.{Tallied, tallied, with_end, ends_told}
-use Rattle.sts_joiners.proofs.Tells.{is_enough}
+use Rattle.sts_joiners.proofs.TellLemmas.{is_enough}
 use Rattle.sts_world.specs.Lines.{Line, Lines, line, is_shut, tally_of, lines}
 use Rattle.sts_world.specs.Kept.{IsKept, Family, births, count_in, lives_in, no_family, no_tally}
 use Rattle.sts_world.specs.Kept.{with_child, with_death}

@@ -1,4 +1,4 @@
-use Rattle.sts_joiners.proofs.Tells as tells
+use Rattle.sts_joiners.proofs.TellLemmas as tells
 use Rattle.sts_joiners.proofs.what_is_kept_is_enough.Goals as goal
 
 pub returns : goal.returns

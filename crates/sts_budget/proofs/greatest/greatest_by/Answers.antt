@@ -8,7 +8,7 @@ use Rattle.sts_budget.specs.Handing.{base_of, bases_after}
 use Rattle.sts_budget.specs.Last.{IsTop, sum_at}
 use Rattle.sts_budget.specs.Ready.{flows_in, names_in}
 use Rattle.sts_budget.specs.Table.{read, IsPartial}
-use Rattle.sts_budget.proofs.LaidStep.{any_default}
+use Rattle.sts_budget.proofs.LaidStepLemmas.{any_default}
 use Rattle.sts_budget.proofs.LastTurns.{exceeds, head_small, full_is, over, bases_none, bases_next}
 use Rattle.sts_budget.proofs.LastTurns.{top_none, top_next, finished, own_within, limit_small}
 use Rattle.sts_budget.proofs.LastTurns.{base_small}

@@ -1,4 +1,4 @@
-use Rattle.sts_budget.proofs.PathLaws.{children_part}
+use Rattle.sts_budget.proofs.PathLemmas.{children_part}
 use Rattle.sts_budget.proofs.laws.children_are_part.Goals as goal
 
 pub returns : goal.returns

@@ -1,4 +1,4 @@
-use Rattle.sts_budget.proofs.PathLaws.{are_within}
+use Rattle.sts_budget.proofs.PathLemmas.{are_within}
 use Rattle.sts_budget.proofs.laws.points_are_within.Goals as goal
 
 pub returns : goal.returns

@@ -1,4 +1,4 @@
-use Rattle.sts_budget.proofs.PathLaws.{lie_on_paths}
+use Rattle.sts_budget.proofs.PathLemmas.{lie_on_paths}
 use Rattle.sts_budget.proofs.laws.points_lie_on_paths.Goals as goal
 
 pub returns : goal.returns

@@ -1,7 +1,7 @@
 use Rattle.std.proofs.Common.{◌<◌, ◌≤◌, ◌+◌, ℕ, inl, inr, [], length, get_or, ap, ◌∙◌, sym, subst}
 use Rattle.std.proofs.Common.{arith}
 use Rattle.std.proofs.lemmas.Bool.{cases_eq, cases_lt}
-use Rattle.sts_budget.proofs.LaidStep.{any_default}
+use Rattle.sts_budget.proofs.LaidStepLemmas.{any_default}
 use Rattle.sts_budget.proofs.Listed.{beyond}
 use Rattle.sts_budget.proofs.layout.deepest_of.Goals as goal
 

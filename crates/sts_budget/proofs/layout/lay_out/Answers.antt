@@ -9,8 +9,8 @@ use Rattle.sts_budget.specs.Laid.{IsLaid, listed, AreListed, IsDeepest, head_aft
 use Rattle.sts_rules.specs.ControlPaths.{Among}
 use Rattle.sts_budget.proofs.Listed.{listed_at, listed_none, are_listed_none, listed_writes}
 use Rattle.sts_budget.proofs.Listed.{are_listed_more}
-use Rattle.sts_budget.proofs.LaidStep.{Stage, among_fit, begin, short, room, head_fits, mate_fits}
-use Rattle.sts_budget.proofs.LaidStep.{any_default, inside_of, places_fit, next_place_laid}
+use Rattle.sts_budget.proofs.LaidStepLemmas.{Stage, among_fit, begin, short, room, head_fits, mate_fits}
+use Rattle.sts_budget.proofs.LaidStepLemmas.{any_default, inside_of, places_fit, next_place_laid}
 use Rattle.sts_budget.proofs.layout.lay_out.Goals as goal
 
 pub loop-pc-init : goal.loop-pc-init

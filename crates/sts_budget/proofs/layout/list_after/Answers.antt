@@ -1,6 +1,6 @@
 use Rattle.std.proofs.Common.{rules, ◌≡◌, [], length, ap, ◌∙◌, sym}
 use Rattle.sts_budget.specs.Layout.{names_after}
-use Rattle.sts_budget.proofs.LaidStep.{any_default}
+use Rattle.sts_budget.proofs.LaidStepLemmas.{any_default}
 use Rattle.sts_budget.proofs.Listed.{list_kept, list_new}
 use Rattle.sts_budget.proofs.layout.list_after.Goals as goal
 

@@ -8,7 +8,7 @@ use Rattle.sts_budget.specs.Change.{depth_of}
 use Rattle.sts_budget.specs.Handing.{is_quiet, handed_value}
 use Rattle.sts_budget.specs.Ready.{names_in}
 use Rattle.sts_budget.specs.Table.{read, IsSent, IsStopped}
-use Rattle.sts_budget.proofs.LaidStep.{any_default, among_at}
+use Rattle.sts_budget.proofs.LaidStepLemmas.{any_default, among_at}
 use Rattle.sts_budget.proofs.HandOn.{sent_spread, stopped_over, leads_in}
 use Rattle.sts_budget.proofs.LastTurns.{limit_small}
 use Rattle.sts_budget.proofs.pass.hand_on.Goals as goal

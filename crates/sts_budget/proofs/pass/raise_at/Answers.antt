@@ -2,7 +2,7 @@ use Rattle.std.proofs.Common.{◌≡◌, [], get_or, refl, ap, ◌∙◌, subst}
 use Rattle.sts_budget.specs.Change.{depth_of}
 use Rattle.sts_budget.specs.Ready.{names_in}
 use Rattle.sts_budget.specs.Row.{IsRaised, IsOver}
-use Rattle.sts_budget.proofs.LaidStep.{any_default}
+use Rattle.sts_budget.proofs.LaidStepLemmas.{any_default}
 use Rattle.sts_budget.proofs.pass.raise_at.Goals as goal
 
 pub returns-clause-raised : goal.returns-clause-raised

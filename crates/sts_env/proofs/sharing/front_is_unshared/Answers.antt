@@ -1,4 +1,4 @@
-use Rattle.sts_env.proofs.Unshared as unshared
+use Rattle.sts_env.proofs.UnsharedLemmas as unshared
 use Rattle.sts_env.proofs.sharing.front_is_unshared.Goals as goal
 
 pub returns : goal.returns

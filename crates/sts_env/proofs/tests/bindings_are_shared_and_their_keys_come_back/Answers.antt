@@ -1,7 +1,7 @@
 use Rattle.std.proofs.Common.{sym, subst}
 use Rattle.sts_env.specs.Environments.{Records, NotIn, keys_of, IsWhole, Stays, PutsRecord}
 use Rattle.sts_env.specs.declared.env.Env.{Env}
-use Rattle.sts_env.proofs.Changes.{vacant_to}
+use Rattle.sts_env.proofs.ChangeLemmas.{vacant_to}
 use Rattle.sts_env.proofs.tests.bindings_are_shared_and_their_keys_come_back.Goals as goal
 
 -- of two environments with one tail, the second doesn't hold the front record of the first

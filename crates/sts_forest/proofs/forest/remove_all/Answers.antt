@@ -1,5 +1,5 @@
 use Rattle.std.proofs.Common.{Some, refl, add-one}
-use Rattle.sts_forest.proofs.Closing.{Removes, removed_none, removes_next}
+use Rattle.sts_forest.proofs.ClosingLemmas.{Removes, removed_none, removes_next}
 use Rattle.sts_forest.proofs.Leaving.{none_of}
 use Rattle.sts_forest.proofs.forest.remove_all.Goals as goal
 

@@ -1,4 +1,4 @@
-use Rattle.sts_links.proofs.Chains.{after_in}
+use Rattle.sts_links.proofs.ChainLemmas.{after_in}
 use Rattle.sts_links.proofs.lists.after.Goals as goal
 
 pub returns-clause-key : goal.returns-clause-key

@@ -1,5 +1,5 @@
 use Rattle.std.proofs.Common.{sym, ◌∙◌}
-use Rattle.sts_links.proofs.Chains.{last_link}
+use Rattle.sts_links.proofs.ChainLemmas.{last_link}
 use Rattle.sts_links.proofs.Changes.{pushed}
 use Rattle.sts_links.proofs.lists.push_back.Goals as goal
 

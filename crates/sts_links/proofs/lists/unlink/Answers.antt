@@ -1,4 +1,4 @@
-use Rattle.sts_links.proofs.Chains.{key_link, before_link}
+use Rattle.sts_links.proofs.ChainLemmas.{key_link, before_link}
 use Rattle.sts_links.proofs.Changes.{unlinked, after_link}
 use Rattle.sts_links.proofs.lists.unlink.Goals as goal
 

@@ -3,7 +3,7 @@ use Rattle.std.proofs.Common.{option_and_then, slice_index_or}
 use Rattle.slab.specs.Slab.{Slab, get}
 use Rattle.sts_links.specs.declared.links.Link.{Link}
 use Rattle.sts_links.specs.declared.tests.Record.{Record}
-use Rattle.sts_links.proofs.Chains.{list_stays_beside, without_link}
+use Rattle.sts_links.proofs.ChainLemmas.{list_stays_beside, without_link}
 use Rattle.sts_links.proofs.tests.lists_keep_their_keys_when_others_come_back.Goals as goal
 
 -- the links of the first layer

@@ -10,8 +10,8 @@ use Rattle.sts_seen.specs.Effect.{live_bind}
 use Rattle.sts_seen.specs.Reading.{alive_at}
 use Rattle.sts_views.specs.Order.{InOrder}
 use Rattle.sts_store.specs.Parts.{live_of}
-use Rattle.sts_store.proofs.Beginning.{root_bound, root_in_order}
-use Rattle.sts_store.proofs.Bindings.{bound_frame, bound_here}
+use Rattle.sts_store.proofs.BeginningLemmas.{root_bound, root_in_order}
+use Rattle.sts_store.proofs.BindingLemmas.{bound_frame, bound_here}
 use Rattle.sts_rows_store.proofs.bound.a_key_is_bound_for_a_while.Goals as goal
 
 pub unbind-requires-clause-order : goal.unbind-requires-clause-order

@@ -1,7 +1,7 @@
 use Rattle.std.proofs.Common.{suc, sym, ◌∙◌, take, drop, add-one}
 use Rattle.sts_forest.specs.Births.{births}
 use Rattle.sts_forest.specs.Forest.{is_of}
-use Rattle.sts_cancel.proofs.Raising.{split_at}
+use Rattle.sts_cancel.proofs.RaisingLemmas.{split_at}
 use Rattle.sts_rows_store.proofs.cancelled.forked.Goals as goal
 
 pub fork_after-at-requires : goal.fork_after-at-requires

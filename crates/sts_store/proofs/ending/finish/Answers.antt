@@ -2,10 +2,10 @@ use Rattle.std.proofs.Common.{◌≡◌, Some, None, sym, ◌∙◌, ap, get_or}
 use Rattle.sts_env.specs.declared.env.Env.{Env}
 use Rattle.sts_forest.specs.Forest.{Forest}
 use Rattle.sts_forest.specs.declared.record.Task.{Task}
-use Rattle.sts_cancel.proofs.Raising.{cancel_seen}
+use Rattle.sts_cancel.proofs.RaisingLemmas.{cancel_seen}
 use Rattle.sts_tree.specs.Ending.{ended}
 use Rattle.sts_tree.specs.Steps.{seen}
-use Rattle.sts_tree.proofs.Seeing.{copied}
+use Rattle.sts_tree.proofs.SeeingLemmas.{copied}
 use Rattle.sts_store.proofs.Finishing.{asking, told_scope}
 use Rattle.sts_store.proofs.ending.finish.Goals as goal
 

@@ -1,4 +1,4 @@
-use Rattle.sts_types.proofs.Promising.{promises}
+use Rattle.sts_types.proofs.PromisingLemmas.{promises}
 use Rattle.sts_verify.proofs.laws.typing_promises.Goals as goal
 
 pub returns : goal.returns

@@ -3,7 +3,7 @@ use Rattle.sts_code.specs.Program.{routine}
 use Rattle.sts_rules.specs.Budget.{AreBudgets}
 use Rattle.sts_rules.specs.Refusal.{IsSound}
 use Rattle.sts_budget.specs.Outcome.{IsFound}
-use Rattle.sts_budget.proofs.Checked.{is_checked}
+use Rattle.sts_budget.proofs.CheckedLemmas.{is_checked}
 use Rattle.sts_verify.specs.Verifying.{TellsOf}
 use Rattle.sts_verify.proofs.BudgetLemmas.{budgets_more}
 use Rattle.sts_verify.proofs.Verifying.{typing_tells, budget_tells}

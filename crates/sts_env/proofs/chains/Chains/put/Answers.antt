@@ -1,5 +1,5 @@
 use Rattle.std.proofs.Common.{refl, arith, add-one}
-use Rattle.sts_env.proofs.Changes.{binds}
+use Rattle.sts_env.proofs.ChangeLemmas.{binds}
 use Rattle.sts_env.proofs.Room.{within}
 use Rattle.sts_env.proofs.chains.Chains.put.Goals as goal
 

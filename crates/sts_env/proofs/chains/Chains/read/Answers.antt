@@ -1,6 +1,6 @@
 use Rattle.std.proofs.Common.{arith, ◌-◌, ◌+◌, ◌∙◌, sym}
 use Rattle.sts_env.specs.Environments.{record_at}
-use Rattle.sts_env.proofs.Walks.{further}
+use Rattle.sts_env.proofs.WalkLemmas.{further}
 use Rattle.sts_env.proofs.chains.Chains.read.Goals as goal
 
 pub loop-preserved : goal.loop-preserved

@@ -1,5 +1,5 @@
 use Rattle.std.proofs.Common.{refl, arith, ◌-◌}
-use Rattle.sts_env.proofs.Changes.{unbinds, not_empty}
+use Rattle.sts_env.proofs.ChangeLemmas.{unbinds, not_empty}
 use Rattle.sts_env.proofs.chains.Chains.unbind.Goals as goal
 
 pub returns : goal.returns

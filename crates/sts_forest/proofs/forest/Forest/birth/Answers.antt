@@ -1,6 +1,6 @@
 use Rattle.std.proofs.Common.{sym, ◌∙◌}
 use Rattle.sts_forest.specs.Stored.{task_of}
-use Rattle.sts_forest.proofs.Holding.{key_seen}
+use Rattle.sts_forest.proofs.HoldingLemmas.{key_seen}
 use Rattle.sts_forest.proofs.forest.Forest.birth.Goals as goal
 
 pub returns : goal.returns

@@ -4,7 +4,7 @@ use Rattle.std.specs.Prelude.{option_map}
 use Rattle.sts_forest.specs.Births.{births}
 use Rattle.sts_forest.specs.Forest.{families_of, family_of, scope_of, is_of}
 use Rattle.sts_forest.specs.Stored.{tasks_of}
-use Rattle.sts_forest.proofs.Closing.{Closes, closes}
+use Rattle.sts_forest.proofs.ClosingLemmas.{Closes, closes}
 use Rattle.sts_forest.proofs.Rows.{family_at}
 use Rattle.sts_forest.proofs.forest.Forest.close_scope.Goals as goal
 

@@ -1,7 +1,7 @@
 use Rattle.std.proofs.Common.{refl, ◌∙◌, false}
 use Rattle.sts_forest.specs.Births.{without}
 use Rattle.sts_forest.specs.Forest.{families_of, ready_of}
-use Rattle.sts_forest.proofs.Keys.{split, without_own}
+use Rattle.sts_forest.proofs.KeyLemmas.{split, without_own}
 use Rattle.sts_forest.proofs.Stores.{Writes, can_drop, drops, own_task, seen_is}
 use Rattle.sts_forest.proofs.forest.Forest.drop_ready.Goals as goal
 

@@ -2,7 +2,7 @@ use Rattle.std.proofs.Common.{◌≡◌, refl, sym, ◌∙◌, ap, false}
 use Rattle.sts_forest.specs.Forest.{families_of, family_of, ready_of}
 use Rattle.sts_forest.specs.Stored.{tasks_of, link_at}
 use Rattle.sts_forest.proofs.Ends.{leaves, spare}
-use Rattle.sts_forest.proofs.Forks.{some_eq}
+use Rattle.sts_forest.proofs.ForkLemmas.{some_eq}
 use Rattle.sts_forest.proofs.Leaving.{none_of, ends_alone, row_stands, living_with, EndsIn, ends_in}
 use Rattle.sts_forest.proofs.Rows.{family_at, set_family, same_scopes, own_row}
 use Rattle.sts_forest.proofs.Stores.{own_task, seen_is, task_at}

@@ -1,7 +1,7 @@
 use Rattle.sts_forest.specs.Forest.{families_of, ready_of}
 use Rattle.sts_forest.specs.Stored.{link_at, tasks_of}
 use Rattle.sts_forest.proofs.Rows.{more_families, more_scopes, scopes_are}
-use Rattle.sts_forest.proofs.Steps.{opened_one}
+use Rattle.sts_forest.proofs.StepLemmas.{opened_one}
 use Rattle.sts_forest.proofs.forest.Forest.open_scope.Goals as goal
 
 pub invariant_of-self : goal.invariant_of-self

@@ -1,7 +1,7 @@
 use Rattle.std.proofs.Common.{refl, ◌∙◌, arith}
 use Rattle.sts_forest.specs.Forest.{family_of, is_of}
 use Rattle.sts_forest.specs.Stored.{tasks_of}
-use Rattle.sts_forest.proofs.Births.{births_few}
+use Rattle.sts_forest.proofs.BirthLemmas.{births_few}
 use Rattle.sts_forest.proofs.Rows.{seen_row, own_row, scopes_are, set_family, family_at, scope_at}
 use Rattle.sts_forest.proofs.Telling.{told_one, one_told}
 use Rattle.sts_forest.proofs.forest.Forest.tell.Goals as goal

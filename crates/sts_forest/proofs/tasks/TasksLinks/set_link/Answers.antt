@@ -1,5 +1,5 @@
 use Rattle.std.proofs.Common.{refl}
-use Rattle.sts_forest.proofs.Holding.{unseen}
+use Rattle.sts_forest.proofs.HoldingLemmas.{unseen}
 use Rattle.sts_forest.specs.Stored.{task_of}
 use Rattle.sts_forest.proofs.tasks.TasksLinks.set_link.Goals as goal
 

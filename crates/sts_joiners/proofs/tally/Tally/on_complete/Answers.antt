@@ -1,5 +1,5 @@
 use Rattle.std.proofs.Common.{◌∙◌}
-use Rattle.sts_joiners.proofs.Tells as tells
+use Rattle.sts_joiners.proofs.TellLemmas as tells
 use Rattle.sts_joiners.proofs.tally.Tally.on_complete.Goals as goal
 
 pub returns-clause-stands : goal.returns-clause-stands

@@ -1,7 +1,7 @@
 use Rattle.std.proofs.Common.{ap, not, ◌&&◌, ℕ}
 use Rattle.sts_seen.specs.Waiting.{live_can_step}
 use Rattle.sts_store.specs.Parts.{can_go_on, live_of}
-use Rattle.sts_tree.proofs.Passing.{is_out}
+use Rattle.sts_tree.proofs.PassingLemmas.{is_out}
 use Rattle.sts_machine.proofs.CanStep.{can_same, picks}
 use Rattle.sts_machine.proofs.machine.Machine.ready_beside.Goals as goal
 

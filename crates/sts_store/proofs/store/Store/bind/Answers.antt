@@ -9,7 +9,7 @@ use Rattle.sts_store.specs.contracts.store.Store.{the_view}
 use Rattle.sts_store.specs.declared.running.Running.{Running}
 use Rattle.sts_store.specs.Parts.{live_of, frame_of}
 use Rattle.sts_store.proofs.Views.{running_seen}
-use Rattle.sts_store.proofs.Bindings.{whole_here, bound_store, bound_elsewhere, bound_frame, bound_here}
+use Rattle.sts_store.proofs.BindingLemmas.{whole_here, bound_store, bound_elsewhere, bound_frame, bound_here}
 use Rattle.sts_store.proofs.Writing.{living, has_frame, at_hand, frame_is}
 use Rattle.sts_store.proofs.store.Store.bind.Goals as goal
 

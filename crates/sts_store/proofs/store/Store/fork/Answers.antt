@@ -10,8 +10,8 @@ use Rattle.sts_model.specs.declared.record.Slot.TheVariants.{Lent}
 use Rattle.sts_seen.specs.Effect.{live_fork}
 use Rattle.sts_seen.specs.Reading.{live_scope_at, scope_in}
 use Rattle.sts_views.specs.Order.{InOrder}
-use Rattle.sts_agree.proofs.Viewing.{scope_there}
-use Rattle.sts_tree.proofs.Seeing.{copied}
+use Rattle.sts_agree.proofs.ViewingLemmas.{scope_there}
+use Rattle.sts_tree.proofs.SeeingLemmas.{copied}
 use Rattle.sts_store.specs.contracts.store.Store.{the_view}
 use Rattle.sts_store.specs.declared.running.Running.{Running}
 use Rattle.sts_store.specs.Parts.{Parts, live_of, frame_of, unseen_of, beside}

@@ -1,5 +1,5 @@
 use Rattle.std.proofs.Common.{sym, ◌∙◌, ap}
-use Rattle.sts_tree.proofs.Seeing.{copied}
+use Rattle.sts_tree.proofs.SeeingLemmas.{copied}
 use Rattle.sts_store.specs.contracts.store.Store.{the_view}
 use Rattle.sts_store.specs.declared.running.Running.{Running}
 use Rattle.sts_store.proofs.Views.{lived, same_frame, got}

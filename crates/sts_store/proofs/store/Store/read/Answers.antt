@@ -1,10 +1,10 @@
 use Rattle.std.proofs.Common.{sym, ◌∙◌, ap, subst}
 use Rattle.std.specs.Prelude.{option_map}
 use Rattle.sts_env.specs.Environments.{IsWhole, list_of}
-use Rattle.sts_forest.proofs.Holding.{map_at}
+use Rattle.sts_forest.proofs.HoldingLemmas.{map_at}
 use Rattle.sts_model.specs.Environment as model
 use Rattle.sts_model.specs.Live.{Alive}
-use Rattle.sts_tree.proofs.Seeing.{copied}
+use Rattle.sts_tree.proofs.SeeingLemmas.{copied}
 use Rattle.sts_store.specs.contracts.store.Store.{the_view}
 use Rattle.sts_store.specs.declared.running.Running.{Running}
 use Rattle.sts_store.specs.Sharing.{holder_of}

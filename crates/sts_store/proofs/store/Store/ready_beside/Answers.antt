@@ -2,7 +2,7 @@ use Rattle.std.proofs.Common.{sym, ap, ◌∙◌, ◌&&◌, not}
 use Rattle.sts_store.specs.contracts.store.Store.{the_view}
 use Rattle.sts_store.specs.Parts.{can_go_on}
 use Rattle.sts_store.proofs.Seeing.{steps_seen}
-use Rattle.sts_tree.proofs.Passing.{is_out}
+use Rattle.sts_tree.proofs.PassingLemmas.{is_out}
 use Rattle.sts_store.proofs.store.Store.ready_beside.Goals as goal
 
 pub returns-clause-some : goal.returns-clause-some

@@ -8,7 +8,7 @@ use Rattle.sts_store.specs.contracts.store.Store.{the_view}
 use Rattle.sts_store.specs.declared.running.Running.{Running}
 use Rattle.sts_store.specs.Parts.{live_of, frame_of}
 use Rattle.sts_store.proofs.Views.{running_seen}
-use Rattle.sts_store.proofs.Bindings.{bound_first, innermost_of, is_bound, whole_here, unbound_store, unbound_elsewhere, left_frame}
+use Rattle.sts_store.proofs.BindingLemmas.{bound_first, innermost_of, is_bound, whole_here, unbound_store, unbound_elsewhere, left_frame}
 use Rattle.sts_store.proofs.Writing.{living, has_frame, at_hand, frame_is}
 use Rattle.sts_store.proofs.store.Store.unbind.Goals as goal
 

@@ -2,7 +2,7 @@ use Rattle.std.proofs.Common.{◌≡◌, [], ◌∷◌, ◌++◌, Some, None, ap
 use Rattle.sts_env.specs.declared.env.Env.{Env}
 use Rattle.sts_held.specs.Holes.{Holes}
 use Rattle.sts_store.specs.declared.running.Running.{Running}
-use Rattle.sts_store.proofs.Beginning.{root_store}
+use Rattle.sts_store.proofs.BeginningLemmas.{root_store}
 use Rattle.sts_store.proofs.store.Store.with_room.Goals as goal
 
 pub invariant_of-result : goal.invariant_of-result

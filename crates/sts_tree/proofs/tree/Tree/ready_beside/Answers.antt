@@ -1,6 +1,6 @@
 use Rattle.std.proofs.Common.{◌≡◌, ℕ, true, false, not, ◌&&◌, refl, sym, ◌∙◌, subst}
 use Rattle.sts_tree.specs.Steps.{can_step}
-use Rattle.sts_tree.proofs.Passing.{is_out, is_at, is_ready, one_more, fewer_left}
+use Rattle.sts_tree.proofs.PassingLemmas.{is_out, is_at, is_ready, one_more, fewer_left}
 use Rattle.sts_tree.proofs.tree.Tree.ready_beside.Goals as goal
 
 pub returns-then-not-contains-clause-some : goal.returns-then-not-contains-clause-some

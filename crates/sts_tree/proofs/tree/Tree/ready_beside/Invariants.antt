@@ -1,5 +1,5 @@
 use Rattle.std.proofs.Common.{length}
-use Rattle.sts_tree.proofs.Passing.{Passes, from}
+use Rattle.sts_tree.proofs.PassingLemmas.{Passes, from}
 use Rattle.sts_tree.proofs.tree.Tree.ready_beside.Given as goal
 
 -- what is passed is out

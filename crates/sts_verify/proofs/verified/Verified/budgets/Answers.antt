@@ -2,7 +2,7 @@ use Rattle.std.proofs.Common.{◌<◌, length, ap, ◌∙◌, subst, arith}
 use Rattle.sts_code.specs.Program.{Program}
 use Rattle.sts_rules.specs.Budget.{no_budget}
 use Rattle.sts_rules.specs.Refusal.{IsBudgetOf}
-use Rattle.sts_budget.proofs.LaidStep.{any_default}
+use Rattle.sts_budget.proofs.LaidStepLemmas.{any_default}
 use Rattle.sts_verify.proofs.BudgetLemmas.{budget_is}
 use Rattle.sts_verify.proofs.verified.Verified.budgets.Goals as goal
 

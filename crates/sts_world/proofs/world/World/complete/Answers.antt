@@ -7,7 +7,7 @@ use Rattle.sts_model.specs.World.{World, task_at, scope_at, with_scope, with_tas
 use Rattle.sts_model.specs.Told.{cancels_told}
 use Rattle.sts_world.specs.Kept.{no_family, no_tally}
 use Rattle.sts_world.specs.Lines.{tally_of}
-use Rattle.sts_joiners.proofs.Tells.{is_enough}
+use Rattle.sts_joiners.proofs.TellLemmas.{is_enough}
 use Rattle.sts_world.proofs.Ends.{ends_told}
 use Rattle.sts_world.proofs.Worlds.{ended_at, kept_complete, task_family, tallies_bound, told_bound}
 use Rattle.sts_world.proofs.Worlds.{found_tally, after_complete}

@@ -19,7 +19,7 @@ use Rattle.sts_forest.specs.Forest.{Forest, closed, is_of, opened, subtask, asks
 use Rattle.sts_forest.specs.Forest.{any_lives}
 use Rattle.sts_forest.specs.declared.record.Task.{Task}
 use Rattle.sts_forest.specs.declared.record.Scope.{Scope}
-use Rattle.sts_forest.proofs.Holding.{map_at, inside_of}
+use Rattle.sts_forest.proofs.HoldingLemmas.{map_at, inside_of}
 use Rattle.sts_tree.specs.Ending as ending
 use Rattle.sts_tree.specs.Ending.{gone, ended, asks_in, asks_told}
 use Rattle.sts_tree.specs.Reading.{lives_at}

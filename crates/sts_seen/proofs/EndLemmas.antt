@@ -28,14 +28,14 @@ use Rattle.sts_runs.proofs.SoundLemmas.{Sound, born_open, stands_alive}
 use Rattle.sts_runs.proofs.BirthLemmas.{born_alive}
 use Rattle.sts_runs.proofs.EffectLemmas.{endless}
 use Rattle.sts_runs.proofs.CompletionLemmas.{AllTold}
-use Rattle.sts_joiners.proofs.Tells.{is_enough}
+use Rattle.sts_joiners.proofs.TellLemmas.{is_enough}
 use Rattle.sts_seen.specs.Reading.{task_in, scope_in, live_scope_at}
 use Rattle.sts_seen.specs.Effect.{live_told, live_decide, live_complete, live_tell, live_ended}
 use Rattle.sts_seen.specs.Effect.{live_end}
 use Rattle.sts_seen.specs.Cancelling.{live_cancel}
-use Rattle.sts_seen.proofs.Lists.{map_kept, and_false}
-use Rattle.sts_seen.proofs.Views.{shown, seen_of, seen, seen_scope, tasks_born, scopes_born}
-use Rattle.sts_seen.proofs.Views.{task_here, scope_here, same_view, scope_is, task_is}
+use Rattle.sts_seen.proofs.ListLemmas.{map_kept, and_false}
+use Rattle.sts_seen.proofs.ViewLemmas.{shown, seen_of, seen, seen_scope, tasks_born, scopes_born}
+use Rattle.sts_seen.proofs.ViewLemmas.{task_here, scope_here, same_view, scope_is, task_is}
 use Rattle.sts_seen.proofs.Changes.{seen-cancel}
 
 -- ---- the task has ended

@@ -6,7 +6,7 @@ use Rattle.std.specs.List.{list_any}
 use Rattle.std.specs.Prelude.{if◌then◌else◌}
 use Rattle.sts_forest.specs.Births.{has}
 use Rattle.sts_links.specs.Lists.{AreDistinct, first_or}
-use Rattle.sts_links.proofs.Keys.{not_back}
+use Rattle.sts_links.proofs.KeyLemmas.{not_back}
 
 same_key : (k : ℕ) → nat_eq k k ≡ true
 same_key k = grind (arith, nat_tests)

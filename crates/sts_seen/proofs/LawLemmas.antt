@@ -16,7 +16,7 @@ use Rattle.sts_model.specs.World.{instr_at, opening}
 use Rattle.sts_model.specs.Joining.{result_of}
 use Rattle.sts_model.specs.Living.{lives, is_closed, ends, subtask_count}
 use Rattle.sts_model.specs.Misuse.{slot, misuse}
-use Rattle.sts_model.proofs.Fine.{fine}
+use Rattle.sts_model.proofs.FineLemmas.{fine}
 use Rattle.sts_model.specs.Waiting.{can_step}
 use Rattle.sts_model.specs.Run.{apply, after, stepped, perform, counts, is_step, steps_in}
 use Rattle.sts_model.specs.Run.{taken_from, taken}
@@ -33,14 +33,14 @@ use Rattle.sts_seen.specs.Run.{live_steps_in, live_taken_from, live_taken}
 use Rattle.sts_seen.specs.Seen.{EffectIsSeen, InterruptIsSeen, ExpireIsSeen, CanStepIsSeen}
 use Rattle.sts_seen.specs.Seen.{IsProper, CountsIsSeen, ResultIsSeen, EventIsSeen, RunIsSeen}
 use Rattle.sts_seen.specs.Seen.{TakenIsSeen, StandsAt, Turns, TurnsAreSeen, StandingIsSeen}
-use Rattle.sts_joiners.proofs.Tells.{is_enough}
-use Rattle.sts_seen.proofs.Views.{tasks_stand, scopes_stand, alive_is, lives_is, scope_here}
-use Rattle.sts_seen.proofs.Views.{count_is}
+use Rattle.sts_joiners.proofs.TellLemmas.{is_enough}
+use Rattle.sts_seen.proofs.ViewLemmas.{tasks_stand, scopes_stand, alive_is, lives_is, scope_here}
+use Rattle.sts_seen.proofs.ViewLemmas.{count_is}
 use Rattle.sts_runs.proofs.SoundLemmas.{born_open}
-use Rattle.sts_seen.proofs.Ends.{open_some}
-use Rattle.sts_seen.proofs.Effects.{Facts, seen-effect}
-use Rattle.sts_seen.proofs.Outside.{seen-interrupt, seen-expire, can_expire_is}
-use Rattle.sts_seen.proofs.Waiting.{can_is}
+use Rattle.sts_seen.proofs.EndLemmas.{open_some}
+use Rattle.sts_seen.proofs.EffectLemmas.{Facts, seen-effect}
+use Rattle.sts_seen.proofs.OutsideLemmas.{seen-interrupt, seen-expire, can_expire_is}
+use Rattle.sts_seen.proofs.WaitingLemmas.{can_is}
 use Rattle.sts_laws_scopes.proofs.SlotLemmas.{Named, named-after, names_standing}
 
 -- ---- what holds of every state

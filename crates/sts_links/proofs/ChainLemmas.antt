@@ -5,7 +5,7 @@ use Rattle.sts_links.specs.Lists.{first_or, NotIn, AreDistinct, AreLinked, IsLis
 use Rattle.sts_links.specs.Lists.{with_before}
 use Rattle.sts_links.specs.declared.links.Link.{Link}
 use Rattle.sts_links.specs.declared.links.Ends.{Ends}
-use Rattle.sts_links.proofs.Keys.{last_not}
+use Rattle.sts_links.proofs.KeyLemmas.{last_not}
 
 pub joined : (at : ℕ → Option Link) (p : Option ℕ) (xs ys : List ℕ) (n : Option ℕ) → AreLinked at p xs (first_or ys n) → AreLinked at (last_or p xs) ys n → AreLinked at p (xs ++ ys) n
 joined at p [] ys n a b = b

@@ -53,18 +53,18 @@ use Rattle.sts_runs.proofs.FrameLemmas.{own_slot, at_own-is}
 use Rattle.sts_runs.proofs.BirthLemmas.{born_alive, more_tasks, more_scopes, new_scope, opener}
 use Rattle.sts_runs.proofs.EffectLemmas.{first_no, frame-cancel}
 use Rattle.sts_runs.proofs.CompletionLemmas.{AllTold}
-use Rattle.sts_joiners.proofs.Tells.{is_enough}
+use Rattle.sts_joiners.proofs.TellLemmas.{is_enough}
 use Rattle.sts_laws_scopes.specs.Slots.{NamesStanding}
 use Rattle.sts_seen.specs.Reading.{live_task_at, with_alive, with_live_frame, with_live_phase}
 use Rattle.sts_seen.specs.Reading.{live_any_lives, live_count}
 use Rattle.sts_seen.specs.Effect.{live_effect, live_open, live_fork, live_subtask_of, live_child}
 use Rattle.sts_seen.specs.Effect.{live_joined, live_verdict, live_join, is_live_of, live_cleared}
 use Rattle.sts_seen.specs.Effect.{live_closed, live_close, live_state, live_tally}
-use Rattle.sts_seen.proofs.Views.{seen, tasks_born, scopes_born, scope_is, task_is, alive_is}
-use Rattle.sts_seen.proofs.Views.{any_is, count_is, stands_some, task_gone}
+use Rattle.sts_seen.proofs.ViewLemmas.{seen, tasks_born, scopes_born, scope_is, task_is, alive_is}
+use Rattle.sts_seen.proofs.ViewLemmas.{any_is, count_is, stands_some, task_gone}
 use Rattle.sts_seen.proofs.Changes.{seen-task, seen-scope, seen-cancel, seen-gone, seen-more_tasks}
 use Rattle.sts_seen.proofs.Changes.{seen-more_scopes}
-use Rattle.sts_seen.proofs.Ends.{seen-end, open_some}
+use Rattle.sts_seen.proofs.EndLemmas.{seen-end, open_some}
 
 -- what holds of every state
 pub record Facts (w : World) : Type 0 where

@@ -20,7 +20,7 @@ use Rattle.sts_budget.proofs.FourKinds.{comes_names}
 use Rattle.sts_budget.proofs.Typed.{structured}
 use Rattle.sts_budget.proofs.Named.{knows_names}
 use Rattle.sts_budget.proofs.Laid.{names_here, names_right}
-use Rattle.sts_budget.proofs.Checked.{is_checked}
+use Rattle.sts_budget.proofs.CheckedLemmas.{is_checked}
 
 position_low : (x : ℕ) (ns : Names) → HasScope x ns → position_of x ns < length ns
 position_low x [] h = absurd h

@@ -17,10 +17,10 @@ use Rattle.sts_runs.proofs.BirthLemmas.{born_alive}
 use Rattle.sts_seen.specs.Reading.{no_live_scope, live_scope_at, with_alive, with_live_scope}
 use Rattle.sts_seen.specs.Cancelling.{live_cancel}
 use Rattle.sts_seen.specs.Outside.{live_interrupt, live_can_expire, live_expire}
-use Rattle.sts_seen.proofs.Lists.{and_false}
-use Rattle.sts_seen.proofs.Views.{scope_is, lives_is, scope_gone}
+use Rattle.sts_seen.proofs.ListLemmas.{and_false}
+use Rattle.sts_seen.proofs.ViewLemmas.{scope_is, lives_is, scope_gone}
 use Rattle.sts_seen.proofs.Changes.{seen-task, seen-scope, seen-cancel}
-use Rattle.sts_seen.proofs.Effects.{seen-cond}
+use Rattle.sts_seen.proofs.EffectLemmas.{seen-cond}
 
 pub seen-interrupt : (w : World) (t : ℕ) → Sound w → live (interrupt w t) ≡ live_interrupt (live w) t
 seen-interrupt w t o =

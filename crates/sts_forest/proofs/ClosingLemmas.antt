@@ -6,17 +6,17 @@ use Rattle.sts_held.specs.Holes.{Holes}
 use Rattle.sts_links.specs.Lists.{NotIn, AreDistinct, AreLinked, IsList, first_or}
 use Rattle.sts_links.specs.declared.links.Ends.{Ends}
 use Rattle.sts_links.specs.declared.links.Link.{Link}
-use Rattle.sts_links.proofs.Chains.{list_stays, stays}
+use Rattle.sts_links.proofs.ChainLemmas.{list_stays, stays}
 use Rattle.sts_model.specs.Living.{is_in}
 use Rattle.sts_forest.specs.Births.{births, drop_if, has, remove_each}
 use Rattle.sts_forest.specs.Stored.{tasks_of, link_of, link_at}
 use Rattle.sts_forest.specs.Forest.{ready_of, Family, IsForest, is_of, lives_in}
 use Rattle.sts_forest.specs.declared.record.Task.{Task}
 use Rattle.sts_forest.specs.declared.record.TaskRecord.{TaskRecord}
-use Rattle.sts_forest.proofs.Births.{not_in}
-use Rattle.sts_forest.proofs.Forks.{one_scope, not_lives_of, lives_of, other_scope}
-use Rattle.sts_forest.proofs.Holding.{no_link}
-use Rattle.sts_forest.proofs.Keys.{has_not}
+use Rattle.sts_forest.proofs.BirthLemmas.{not_in}
+use Rattle.sts_forest.proofs.ForkLemmas.{one_scope, not_lives_of, lives_of, other_scope}
+use Rattle.sts_forest.proofs.HoldingLemmas.{no_link}
+use Rattle.sts_forest.proofs.KeyLemmas.{has_not}
 use Rattle.sts_forest.proofs.Stores.{Stored, rekeyed, ready_is}
 
 -- ---- the records that meet a test are taken out
@@ -274,7 +274,7 @@ closes slots new families ready room s i waits same =
         by true e = absurd (inside (has_not k (ready_of slots ready) (waits k x at e)))
 
     own : (r : ℕ) (o : Option ℕ) → o ≡ Some r → is_in s o ≡ false → r ≢ s
-    own r o e f same = let t : is_in s o ≡ true = rw (e, same) (Rattle.sts_forest.proofs.Forks.own_scope s) in cc
+    own r o e f same = let t : is_in s o ≡ true = rw (e, same) (Rattle.sts_forest.proofs.ForkLemmas.own_scope s) in cc
 
     home : (t r : ℕ) (x : Task) → (get_or (tasks_of slots) t None ≡ Some x) × (is_of s x ≡ false) → x.scope ≡ Some r → get_or (set families s None) r None ≢ None
     home t r x at e none = i.homes t r x at.0 e (sym (get_or-set_other families s r None None (own r x.scope e at.1)) ∙ none)

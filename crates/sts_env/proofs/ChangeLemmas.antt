@@ -6,7 +6,7 @@ use Rattle.sts_env.specs.Environments.{TakesRecord, KeepsWithout, keys_of, list_
 use Rattle.sts_env.specs.declared.env.Env.{Env}
 use Rattle.sts_model.specs.declared.record.Bound.{Bound}
 use Rattle.sts_env.specs.declared.env.Record.{Record}
-use Rattle.sts_env.proofs.Walks.{Same, front_of, keys_cons, bindings_cons, same, vacant, longer}
+use Rattle.sts_env.proofs.WalkLemmas.{Same, front_of, keys_cons, bindings_cons, same, vacant, longer}
 
 staying : (old new : Records) (e : Env) → Same (record_at old) (record_at new) e.length e.front → Stays old new e
 staying old new e s = record { whole = s.whole; keys = s.keys; list = s.list }

@@ -6,7 +6,7 @@ use Rattle.sts_env.specs.Environments.{Records, AreWhole, NotIn, keys, keys_of, 
 use Rattle.sts_env.specs.Sharing.{Sharing, Lives, IsOpen, inherited, IsSharing, IsLastBinding}
 use Rattle.sts_env.specs.Sharing.{FrontIsUnshared}
 use Rattle.sts_env.specs.declared.env.Record.{Record}
-use Rattle.sts_env.proofs.Walks.{front_of, keys_cons, longer}
+use Rattle.sts_env.proofs.WalkLemmas.{front_of, keys_cons, longer}
 
 not_both : (k : ℕ) (xs ys : List ℕ) → NotIn k xs → NotIn k ys → NotIn k (xs ++ ys)
 not_both k [] ys h l = l

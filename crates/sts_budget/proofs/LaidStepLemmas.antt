@@ -12,7 +12,7 @@ use Rattle.sts_rules.specs.Refusal.{IsWellTyped}
 use Rattle.sts_rules.specs.ControlPaths.{Among}
 use Rattle.sts_budget.specs.Layout.{Names, names_after, HasEntryRoom}
 use Rattle.sts_budget.specs.Laid.{Writes, IsLaid, head_after, mates_after}
-use Rattle.sts_budget.proofs.Checked.{is_checked}
+use Rattle.sts_budget.proofs.CheckedLemmas.{is_checked}
 use Rattle.sts_budget.proofs.Laid.{is_written, fits_room, leads_inside, head_before, laid_more}
 use Rattle.sts_budget.proofs.Laid.{laid_none}
 

@@ -23,7 +23,7 @@ use Rattle.sts_runs.proofs.SoundLemmas.{Sound, born_open, dead_around, stands_al
 use Rattle.sts_seen.specs.Reading.{task_in, scope_in, no_live_task, no_live_scope, no_alive}
 use Rattle.sts_seen.specs.Reading.{live_task_at, live_scope_at, alive_at, lives_in, live_count}
 use Rattle.sts_seen.specs.Reading.{is_live_living, live_any_lives}
-use Rattle.sts_seen.proofs.Lists.{alike, any_alike, count_alike, and_false}
+use Rattle.sts_seen.proofs.ListLemmas.{alike, any_alike, count_alike, and_false}
 
 -- ---- one task, one scope
 

@@ -9,8 +9,8 @@ use Rattle.sts_forest.specs.Births.{births, has, without}
 use Rattle.sts_forest.specs.Forest.{Forest, any_lives, lives_in}
 use Rattle.sts_forest.specs.declared.record.Task.{Task}
 use Rattle.sts_forest.specs.declared.record.Scope.{Scope}
-use Rattle.sts_forest.proofs.Keys.{has_new, has_old, without_other}
-use Rattle.sts_forest.proofs.Holding.{map_at, unseen}
+use Rattle.sts_forest.proofs.KeyLemmas.{has_new, has_old, without_other}
+use Rattle.sts_forest.proofs.HoldingLemmas.{map_at, unseen}
 use Rattle.sts_tree.specs.Steps.{can_go, can_step, unmarked, seen}
 
 pub births_unmarked : (s n : ℕ) (xs : List (Option Task)) → births (lives_in s) n (map (option_map unmarked) xs) ≡ births (lives_in s) n xs

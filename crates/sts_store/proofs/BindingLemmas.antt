@@ -6,9 +6,9 @@ use Rattle.std.specs.Prelude.{option_map, is_some, unwrap_or, count_by}
 use Rattle.sts_env.specs.Environments.{Records, IsWhole, keys_of, list_of, NotIn, Stays, PutsRecord, TakesRecord, KeepsWithout}
 use Rattle.sts_env.specs.declared.env.Env.{Env}
 use Rattle.sts_env.specs.Sharing.{IsUnshared}
-use Rattle.sts_env.proofs.Unshared.{front_is_unshared}
+use Rattle.sts_env.proofs.UnsharedLemmas.{front_is_unshared}
 use Rattle.sts_forest.specs.declared.record.Scope.{Scope}
-use Rattle.sts_forest.proofs.Holding.{map_at}
+use Rattle.sts_forest.proofs.HoldingLemmas.{map_at}
 use Rattle.sts_model.specs.Misuse.{is_binding, innermost}
 use Rattle.sts_model.specs.Local.{operand, steps}
 use Rattle.sts_model.specs.declared.record.Bound.{Bound}

@@ -11,7 +11,7 @@ use Rattle.sts_code.specs.declared.checking.CodeCause.TheVariants.{BadRange}
 use Rattle.sts_code.specs.declared.instr.Instr.{Instr}
 use Rattle.sts_code.specs.declared.instr.Instr.TheVariants.{Open, Ret}
 use Rattle.sts_code.specs.declared.instr.Joiner.{Joiner}
-use Rattle.sts_code.proofs.Checked.{routine_is_fine, routines_are_fine}
+use Rattle.sts_code.proofs.CheckedLemmas.{routine_is_fine, routines_are_fine}
 
 neither : {A : Type 0} (a b : Option A) → option_or a b ≡ None → (a ≡ None) × (b ≡ None)
 neither None b e = (refl, e)

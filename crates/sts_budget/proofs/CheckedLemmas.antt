@@ -12,7 +12,7 @@ use Rattle.sts_code.specs.declared.checking.CodeCause.TheVariants.{TooLong, BadR
 use Rattle.sts_code.specs.declared.checking.CodeCause.TheVariants.{LaterFunction}
 use Rattle.sts_code.specs.declared.instr.Instr.{Instr}
 use Rattle.sts_code.specs.declared.instr.Instr.TheVariants.{Times, Fork, Ret}
-use Rattle.sts_code.proofs.Checked.{routine_is_fine, routines_are_fine, code_is_short}
+use Rattle.sts_code.proofs.CheckedLemmas.{routine_is_fine, routines_are_fine, code_is_short}
 
 neither : {A : Type 0} (a b : Option A) → option_or a b ≡ None → (a ≡ None) × (b ≡ None)
 neither None b e = (refl, e)
