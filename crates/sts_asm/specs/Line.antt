@@ -50,9 +50,11 @@ slotted_words =
 -- instructions of one label, and all others
 abbrev pub other_words : List (List ℕ × Mnemonic)
 other_words =
-    (codes "push", Push) ∷ (codes "jz", WithTarget targeted.Jz) ∷ (codes "jmp", WithTarget targeted.Jmp)
+    (codes "push", Push) ∷ (codes "jz", WithTarget targeted.Jz) ∷
+    (codes "jmp", WithTarget targeted.Jmp)
     ∷ (codes "div", WithTarget targeted.Div) ∷ (codes "times", Times) ∷ (codes "open", Open)
-    ∷ (codes "fork", Fork) ∷ (codes "join", Join) ∷ (codes "case", Case) ∷ (codes "tally", Tally) ∷ []
+    ∷ (codes "fork", Fork) ∷ (codes "join", Join) ∷ (codes "case", Case)
+    ∷ (codes "tally", Tally) ∷ []
 
 -- what the first word of an instruction says
 abbrev pub mnemonic_of : List ℕ → Option Mnemonic

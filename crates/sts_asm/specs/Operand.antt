@@ -105,7 +105,9 @@ until_at (word ∷ rest) =
 
 -- the joiners that are one word
 abbrev pub joiners : List (List ℕ × Joiner)
-joiners = (codes "all", AllSucceed) ∷ (codes "any", AnySucceeds) ∷ (codes "awaitok", AwaitOk) ∷ (codes "awaitall", AwaitAll) ∷ []
+joiners =
+    (codes "all", AllSucceed) ∷ (codes "any", AnySucceeds) ∷ (codes "awaitok", AwaitOk) ∷
+    (codes "awaitall", AwaitAll) ∷ []
 
 -- the joiner of a scope
 abbrev pub joiner_at : List (List ℕ) → Read Joiner

@@ -60,9 +60,14 @@ IsJoiner AllSucceed words = words ≡ codes "all" ∷ []
 IsJoiner AnySucceeds words = words ≡ codes "any" ∷ []
 IsJoiner AwaitOk words = words ≡ codes "awaitok" ∷ []
 IsJoiner AwaitAll words = words ≡ codes "awaitall" ∷ []
-IsJoiner (Until (Failed n)) words = (w : List ℕ) × (words ≡ codes "until" ∷ codes "failed" ∷ w ∷ []) × (number_up_to (2 ^ 32 - 1) w ≡ Some n)
-IsJoiner (Until (Success n)) words = (w : List ℕ) × (words ≡ codes "until" ∷ codes "success" ∷ w ∷ []) × (number_up_to (2 ^ 32 - 1) w ≡ Some n)
-IsJoiner (Until (AtLeast v)) words = (w : List ℕ) × (words ≡ codes "until" ∷ codes "atleast" ∷ w ∷ []) × (number w ≡ Some v)
+IsJoiner (Until (Failed n)) words =
+    (w : List ℕ) × (words ≡ codes "until" ∷ codes "failed" ∷ w ∷ [])
+    × (number_up_to (2 ^ 32 - 1) w ≡ Some n)
+IsJoiner (Until (Success n)) words =
+    (w : List ℕ) × (words ≡ codes "until" ∷ codes "success" ∷ w ∷ [])
+    × (number_up_to (2 ^ 32 - 1) w ≡ Some n)
+IsJoiner (Until (AtLeast v)) words =
+    (w : List ℕ) × (words ≡ codes "until" ∷ codes "atleast" ∷ w ∷ []) × (number w ≡ Some v)
 
 -- `timed`, or nothing
 abbrev pub IsTimed : Bool → List (List ℕ) → Type 0
@@ -90,19 +95,26 @@ Spells names (i.Jz to) words = IsTargeted names (codes "jz") to words
 Spells names (i.Times n) words = IsNumbered (codes "times") (2 ^ 16 - 1) n words
 Spells names i.Next words = words ≡ codes "next" ∷ []
 Spells names (i.Open s joiner timed) words =
-    (w : List ℕ) × (js : List (List ℕ)) × (ts : List (List ℕ)) × (words ≡ codes "open" ∷ w ∷ js ++ ts) × (slot w ≡ Some s) × IsJoiner joiner js × IsTimed timed ts
+    (w : List ℕ) × (js : List (List ℕ)) × (ts : List (List ℕ))
+    × (words ≡ codes "open" ∷ w ∷ js ++ ts) × (slot w ≡ Some s) × IsJoiner joiner js
+    × IsTimed timed ts
 Spells names (i.Fork s f h) words =
-    (w : List ℕ) × (v : List ℕ) × (u : List ℕ) × (words ≡ codes "fork" ∷ w ∷ v ∷ u ∷ []) × (slot w ≡ Some s) × IsFunction names f v × IsHandle h u
+    (w : List ℕ) × (v : List ℕ) × (u : List ℕ) × (words ≡ codes "fork" ∷ w ∷ v ∷ u ∷ [])
+    × (slot w ≡ Some s) × IsFunction names f v × IsHandle h u
 Spells names (i.Join s failed timeout interrupted) words =
-    (w : List ℕ) × (f : List ℕ) × (t : List ℕ) × (u : List ℕ) × (words ≡ codes "join" ∷ w ∷ f ∷ t ∷ u ∷ []) × (slot w ≡ Some s)
+    (w : List ℕ) × (f : List ℕ) × (t : List ℕ) × (u : List ℕ)
+    × (words ≡ codes "join" ∷ w ∷ f ∷ t ∷ u ∷ []) × (slot w ≡ Some s)
     × IsMaybeLabel names failed f × IsMaybeLabel names timeout t × IsLabel names interrupted u
 Spells names (i.Close s) words = IsSlotted (codes "close") s words
 Spells names (i.Cancelled s) words = IsSlotted (codes "cancelled") s words
 Spells names (i.Case h success failed) words =
-    (w : List ℕ) × (t : List ℕ) × (f : List ℕ) × (words ≡ codes "case" ∷ w ∷ t ∷ f ∷ []) × (slot w ≡ Some h) × IsLabel names success t × IsLabel names failed f
+    (w : List ℕ) × (t : List ℕ) × (f : List ℕ) × (words ≡ codes "case" ∷ w ∷ t ∷ f ∷ [])
+    × (slot w ≡ Some h) × IsLabel names success t × IsLabel names failed f
 Spells names (i.Get h) words = IsSlotted (codes "get") h words
 Spells names (i.Except h) words = IsSlotted (codes "except") h words
-Spells names (i.Tally s kind) words = (w : List ℕ) × (u : List ℕ) × (words ≡ codes "tally" ∷ w ∷ u ∷ []) × (slot w ≡ Some s) × IsKind kind u
+Spells names (i.Tally s kind) words =
+    (w : List ℕ) × (u : List ℕ) × (words ≡ codes "tally" ∷ w ∷ u ∷ []) × (slot w ≡ Some s)
+    × IsKind kind u
 Spells names (i.Total s) words = IsSlotted (codes "total") s words
 Spells names (i.Forget h) words = IsSlotted (codes "forget") h words
 Spells names (i.Bind k) words = IsNumbered (codes "bind") 255 k words

@@ -34,11 +34,14 @@ keys_text keys = flat_map (λ key. 32 ∷ decimal key) keys
 
 -- `needs` and the keys rising, where there are any
 abbrev pub needs_text : List Bool → List ℕ
-needs_text needs = if list_any (λ needed. needed) needs then codes " needs" ++ keys_text (keys_from 0 needs) else []
+needs_text needs =
+    if list_any (λ needed. needed) needs then codes " needs" ++ keys_text (keys_from 0 needs)
+    else []
 
 -- the first line of a function
 abbrev pub header : Routine → List ℕ
-header r = codes "func " ++ r.name ++ codes " " ++ decimal r.args ++ needs_text r.needs ++ codes "\n"
+header r =
+    codes "func " ++ r.name ++ codes " " ++ decimal r.args ++ needs_text r.needs ++ codes "\n"
 
 -- the line of a label, where an instruction is named by another
 abbrev pub label_line : Bool → ℕ → List ℕ
