@@ -2,3 +2,4 @@ pub mod WayLemmas
 pub mod LineLemmas
 pub mod FaultLemmas
 pub mod TellLemmas
+pub mod PlaceLemmas

@@ -1,5 +1,6 @@
 pub mod Sentences
 pub mod Lines
+pub mod Places
 pub mod Output
 pub mod Ways
 pub mod Differences

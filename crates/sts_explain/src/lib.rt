@@ -3,6 +3,7 @@
 
 mod differences;
 pub mod explain;
+pub mod laws;
 mod lines;
 pub mod parts;
 mod sentences;

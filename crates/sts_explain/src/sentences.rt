@@ -24,7 +24,8 @@ pub(crate) fn cause_sentence(cause: Cause) -> &'static str
             "a times without its next, a next without its times, or a way into a loop or out of it"
         }
         Cause::LoopDepth => "8 loops are open here, and it would open a ninth",
-        Cause::StatesDiffer => "two ways meet here, and what is known of the task differs",
+        Cause::StatesDiffer =>
+            "two ways meet here, or two turns of a loop, and what is known of the task differs",
         Cause::DeadCode => "no way leads here",
         Cause::SlotKind => {
             "a slot that it names doesn't hold what it is about: a scope, or a subtask"

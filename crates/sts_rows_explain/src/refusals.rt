@@ -189,7 +189,7 @@ static WAYS: [Row; 6] = [
             1,
             "func main 0 / push 1 / jz x / push 2 / x: / push 3 / ret / end",
         )],
-        lines: "refused V7 in main, line 6: push 3 / two ways meet here, and what is known of the task differs / operands: 0 on the way from line 3 (it was 0); 1 on the way from line 4",
+        lines: "refused V7 in main, line 6: push 3 / two ways meet here, or two turns of a loop, and what is known of the task differs / operands: 0 on the way from line 3 (it was 0); 1 on the way from line 4",
         status: 4,
     },
     Row {
@@ -198,7 +198,7 @@ static WAYS: [Row; 6] = [
             1,
             "func kid 0 / push 5 / ret / end / func main 0 / open s0 all / fork s0 kid _ / join s0 out - out / close s0 / ret / out: / close s0 / push 0 / fail / end",
         )],
-        lines: "refused V7 in main, line 12: close s0 / two ways meet here, and what is known of the task differs / operands: 1 on the way from line 8 (failed); 0 on the way from line 8 (interrupted) / open, the last one first: (s0 all joined) on the way from line 8 (failed); (s0 all attempted) on the way from line 8 (interrupted)",
+        lines: "refused V7 in main, line 12: close s0 / two ways meet here, or two turns of a loop, and what is known of the task differs / operands: 1 on the way from line 8 (failed); 0 on the way from line 8 (interrupted) / open, the last one first: (s0 all joined) on the way from line 8 (failed); (s0 all attempted) on the way from line 8 (interrupted)",
         status: 4,
     },
     Row {
@@ -207,7 +207,7 @@ static WAYS: [Row; 6] = [
             1,
             "func kid 0 / push 5 / ret / end / func main 0 / open s0 awaitall / fork s0 kid s1 / join s0 - - intr / case s1 yes no / push -1 / jmp done / yes: / get s1 / jmp done / no: / except s1 / done: / close s0 / ret / intr: / push 0 / close s0 / fail / end",
         )],
-        lines: "refused V7 in main, line 18: close s0 / two ways meet here, and what is known of the task differs / slot s1: unknown, of s0 on the way from line 11; success, of s0 on the way from line 14",
+        lines: "refused V7 in main, line 18: close s0 / two ways meet here, or two turns of a loop, and what is known of the task differs / slot s1: unknown, of s0 on the way from line 11; success, of s0 on the way from line 14",
         status: 4,
     },
     Row {
@@ -216,7 +216,7 @@ static WAYS: [Row; 6] = [
             1,
             "func main 0 / push 2 / times 2 / push 1 / next / push 0 / ret / end",
         )],
-        lines: "refused V7 in main, line 5: next / two ways meet here, and what is known of the task differs / operands: 0 on the way from line 3; 1 on the way from the turn that ends at line 5",
+        lines: "refused V7 in main, line 5: next / two ways meet here, or two turns of a loop, and what is known of the task differs / operands: 0 on the way from line 3; 1 on the way from the turn that ends at line 5",
         status: 4,
     },
     Row {
@@ -225,7 +225,7 @@ static WAYS: [Row; 6] = [
             1,
             "func main 0 / push 7 / push 1 / jz x / bind 3 / push 0 / x: / ret / end",
         )],
-        lines: "refused V7 in main, line 8: ret / two ways meet here, and what is known of the task differs / open, the last one first: none on the way from line 4 (it was 0); (key 3) on the way from line 6",
+        lines: "refused V7 in main, line 8: ret / two ways meet here, or two turns of a loop, and what is known of the task differs / open, the last one first: none on the way from line 4 (it was 0); (key 3) on the way from line 6",
         status: 4,
     },
     Row {
@@ -234,7 +234,7 @@ static WAYS: [Row; 6] = [
             1,
             "func kid 0 / push 5 / ret / end / func main 0 / open s0 until success 2 timed / push 1 / jz x / fork s0 kid s3 / x: / join s0 - late intr / close s0 / ret / late: / push 0 / close s0 / ret / intr: / push 0 / close s0 / fail / end",
         )],
-        lines: "refused V7 in main, line 11: join s0 - late intr / two ways meet here, and what is known of the task differs / slot s3: empty on the way from line 8 (it was 0); unknown, of s0 on the way from line 9",
+        lines: "refused V7 in main, line 11: join s0 - late intr / two ways meet here, or two turns of a loop, and what is known of the task differs / slot s3: empty on the way from line 8 (it was 0); unknown, of s0 on the way from line 9",
         status: 4,
     },
 ];
