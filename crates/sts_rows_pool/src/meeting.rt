@@ -6,6 +6,7 @@ use crate::outsides::Weather;
 use crate::texts::{DOUBLES, TIMED, accepted};
 use std::sync::atomic::{AtomicU64, Ordering};
 use std::test::Fail;
+use std::thread;
 use sts_model::event::{End, Event};
 use sts_pool::{Gate, Outside, run};
 
@@ -35,6 +36,7 @@ impl Gate for Meeting {
             if self.has_met() {
                 break;
             }
+            thread::yield_now();
         }
     }
 }
