@@ -1,7 +1,8 @@
-//! Makes one call after the other on a row and says what each answers, for a script that refuses memory meanwhile.
+//! Makes one call after the other on a row and says what each answers, for a script that refuses
+//! memory meanwhile.
 //!
-//! Standard input has a line of calls, a text, a line `%`, a trace, a line `%` and an outside text. Where a call finds
-//! no memory, `error memory in` and its name are told, with status 6.
+//! Standard input has a line of calls, a text, a line `%`, a trace, a line `%` and an outside text.
+//! Where a call finds no memory, `error memory in` and its name are told, with status 6.
 #![tactic(auto)]
 
 mod calls;
