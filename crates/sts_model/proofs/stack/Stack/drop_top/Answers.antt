@@ -1,6 +1,6 @@
 use Rattle.std.proofs.Common.{drop, reverse, refl, ap, ◌∙◌}
 use Rattle.std.proofs.lemmas.List.{drop-drop}
-use Rattle.sts_model.proofs.Lists.{reverse_take}
+use Rattle.sts_model.proofs.ListLemmas.{reverse_take}
 use Rattle.sts_model.proofs.stack.Stack.drop_top.Goals as goal
 
 pub loop-preserved : goal.loop-preserved
