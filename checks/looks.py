@@ -1,0 +1,94 @@
+#!/usr/bin/env python3
+"""Runs the built program `look` over the examples.  usage: looks.py [LOOK [STS]]
+
+- what docs/LOOK.md shows of a beginning of a trace is what `view` prints of it;
+- `view` of each beginning of each example's trace begins with what `plain` of `sts` prints, with its status;
+- `view --each` of the whole trace is `view` of each beginning in turn, behind a line `after N EVENT` for each event,
+  with `--full` and without.
+The last line is `N passed, M failed`, of comparisons.
+"""
+import glob
+import os
+import re
+import subprocess
+import sys
+import tempfile
+
+from documents import read
+
+ROOT = os.path.dirname(os.path.dirname(os.path.realpath(__file__)))
+LOOK, STS = (os.path.join(ROOT, "crates", name, "out", name) for name in ("sts_look", "sts"))
+SHOWN = re.compile(r"After the first (\d+) events of \[(\w+)\].*?:\n\n((?:    .*\n)+)")
+
+
+def says(*words):
+    done = subprocess.run(words, stdin=subprocess.DEVNULL, capture_output=True, text=True, timeout=120)
+    return done.returncode, done.stdout
+
+
+def beginnings(folder, events):
+    """Yields the path of a file with each beginning of the events, the empty one first."""
+    path = os.path.join(folder, "trace")
+    for count in range(len(events) + 1):
+        with open(path, "w") as file:
+            file.write("".join(events[:count]))
+        yield path
+
+
+def parts(printed):
+    """Returns the parts that `--each` prints, with the lines that head all but the first."""
+    pieces = re.split(r"^(after \d+ .*\n)", printed, flags=re.M)
+    return [pieces[0]] + pieces[2::2], pieces[1::2]
+
+
+def example(look, sts, folder, text):
+    """Yields each comparison of an example, and whether it holds."""
+    name, trace = os.path.basename(text), text[:-4] + ".trace"
+    with open(trace) as file:
+        events = file.readlines()
+    for words in ([], ["--full"]):
+        each, heads = parts(says(look, "view", text, trace, "--each", *words)[1])
+        right = [f"after {n} {event.rstrip()}" for n, event in enumerate(events, 1)]
+        yield f"heads of {name}", [it.rstrip().removesuffix(" idle") for it in heads] == right
+        for count, path in enumerate(beginnings(folder, events)):
+            status, printed = says(look, "view", text, path, *words)
+            ended, plain = says(sts, "plain", text, path)
+            yield f"{name} after {count}", status == ended and printed.startswith(plain)
+            yield f"{name} after {count}, each", each[count:count + 1] == [printed]
+
+
+def shown(look, folder):
+    """Yields whether what LOOK.md shows is printed."""
+    page = SHOWN.findall(read("docs/LOOK.md"))
+    yield "LOOK.md shows something", page != []
+    for count, name, block in page:
+        text = os.path.join(ROOT, "examples", f"{name}.sts")
+        with open(os.path.join(ROOT, "examples", f"{name}.trace")) as file:
+            *_, path = beginnings(folder, file.readlines()[:int(count)])
+        yield f"{name} in LOOK.md", says(look, "view", text, path)[1] == re.sub("^    ", "", block, flags=re.M)
+
+
+def tried(look, sts):
+    with tempfile.TemporaryDirectory() as folder:
+        yield from shown(look, folder)
+        for text in sorted(glob.glob(os.path.join(ROOT, "examples", "*.sts"))):
+            yield from example(look, sts, folder, text)
+
+
+def main():
+    look, sts = (sys.argv[1:] + [LOOK, STS][len(sys.argv) - 1:])[:2]
+    for program in (look, sts):
+        if not os.access(program, os.X_OK):
+            print(f"looks.py: no program at {program}: ./sts and ./look build them", file=sys.stderr)
+            return 2
+    passed = failed = 0
+    for what, right in tried(look, sts):
+        passed, failed = passed + right, failed + (not right)
+        if not right:
+            print(f"{what}: not what is expected", file=sys.stderr)
+    print(f"{passed} passed, {failed} failed")
+    return 1 if failed or not passed else 0
+
+
+if __name__ == "__main__":
+    sys.exit(main())
