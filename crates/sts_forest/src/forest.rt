@@ -48,7 +48,8 @@ impl<E> Model for Forest<E> {
 
     ghost invariant = { λ f.
         IsForest (link_at f.tasks.held.slots) (tasks_of f.tasks.held.slots)
-        (families_of f.scopes.slots) f.ready (ready_of f.tasks.held.slots f.ready) f.tasks.held.room };
+        (families_of f.scopes.slots) f.ready (ready_of f.tasks.held.slots f.ready)
+        f.tasks.held.room };
 }
 
 /// A birth fits a u32.
@@ -365,7 +366,8 @@ impl<E: Drop> Forest<E> {
         requires spare { HasSpare self.old s }
         ensures told { (x : AnyScope E) → slice_index_or self.old.scopes s None ≡ Some x →
             self.new ≡ record self.old {
-              scopes = slice_set self.old.scopes s (Some (record x { tally = with_end x.tally end }));
+              scopes = slice_set self.old.scopes s
+                  (Some (record x { tally = with_end x.tally end }));
             } }
         ensures asks { (x : AnyScope E) → slice_index_or self.old.scopes s None ≡ Some x →
             result ≡ asks x end }

@@ -27,7 +27,8 @@ pub fn replay<'p>(
 ) -> Result<Machine<'p>, AllocError>
     ensures program { IfOk result (λ m. m.program ≡ verified.now) }
     ensures stands { IfOk result (λ m. Stands m events.now) }
-    ensures runs_well { (budget : AnyBudgets) → IsBudgetOf verified.now (main_of verified.now) budget
+    ensures runs_well { (budget : AnyBudgets)
+        → IsBudgetOf verified.now (main_of verified.now) budget
         → RunsWell verified.now budget events.now }
 {
     laws(verified);

@@ -105,7 +105,8 @@ impl<'p> Book<'p> {
 
     /// How the root ended, if it did.
     pub fn root_end(&self) -> Option<End>
-        ensures { In (λ w. result ≡ (task_at w 0).outcome) (after self.now.program self.now.journal) }
+        ensures { In (λ w. result ≡ (task_at w 0).outcome)
+            (after self.now.program self.now.journal) }
     {
         self.machine.root_end()
     }

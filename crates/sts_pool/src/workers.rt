@@ -147,11 +147,11 @@ impl<'p, O: Outside, B: Runs> Pool<'p, O, B> {
         let mut guard = guard;
         for _ in rt.forever() {
             let shared = &mut *guard;
+            shared.ask();
             if shared.stop || shared.book.root_end().is_some() {
                 self.woken.notify_all();
                 return None;
             }
-            shared.ask();
             if let Some(task) = shared.claim() {
                 if shared.wants_another() {
                     self.woken.notify_one();

@@ -201,7 +201,12 @@ impl TypeState {
         ensures { self.new ≡
             record self.old {
               entries = TypedEntry.Scope
-                  (record { slot = slot; joiner = joiner; timed = timed; phase = TypedPhase.Opened })
+                  (record {
+                    slot = slot;
+                    joiner = joiner;
+                    timed = timed;
+                    phase = TypedPhase.Opened;
+                  })
                   ∷ self.old.entries;
               slots = slice_set self.old.slots slot SlotKind.Own;
             } }

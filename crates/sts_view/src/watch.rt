@@ -40,8 +40,8 @@ impl<'p> Model for Watch<'p> {
 fn misstep_of(world: &World, program: &Program, t: u32) -> Option<Misstep>
     ensures some { IfSome result (λ m. run.step program.now world.now t
         ≡ state_of (Some m) world.now) }
-    ensures counts { IfSome result (λ m. run.counts program.now (def.Running world.now) (Event.Step t)
-        ≡ true) }
+    ensures counts { IfSome result (λ m.
+        run.counts program.now (def.Running world.now) (Event.Step t) ≡ true) }
     ensures none { IsNone result → is_fault (run.step program.now world.now t) ≡ false }
 {
     if !can_step(world, program, t) || !world.records().lives(t) {
