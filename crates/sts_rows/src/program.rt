@@ -15,6 +15,9 @@ use sts_cli::sinks::Sinks;
 use sts_cli::sources::Sources;
 use sts_cli::words::{WordsError, words};
 
+/// The name that the program goes by.
+const NAME: &[u8] = b"sts";
+
 const SEVEN: &[u8] = b"func main 0\npush 7\nret\nend\n";
 
 const FAILS: &[u8] = b"func main 0\npush 7\nfail\nend\n";
@@ -630,7 +633,7 @@ fn the_words_are_taken_whole_and_in_order(rt: HostRuntime) -> Result<(), Fail> {
         b"8",
         b"ninth",
     ];
-    let had = words(&Started { words: &given }, alloc).map_err(|_| "the words were not had")?;
+    let had = words(&Started { words: &given }, alloc, NAME).map_err(|_| "the words were not had")?;
     assert_eq!(rt; had.len(), 10);
     assert_eq!(rt; had[0].as_str(), "sts");
     for i in 1..10 {
@@ -643,7 +646,7 @@ fn the_words_are_taken_whole_and_in_order(rt: HostRuntime) -> Result<(), Fail> {
 fn a_word_that_is_no_text_is_a_usage_fault(rt: HostRuntime) -> Result<(), Fail> {
     let alloc = rt.alloc();
     let given = [b"sts".as_slice(), b"verify", b"\xff.sts"];
-    let had = words(&Started { words: &given }, alloc);
+    let had = words(&Started { words: &given }, alloc, NAME);
     assert_eq!(rt; had.as_ref().err().copied(), Some(WordsError::NotText));
     let mut out = Vec::new(alloc);
     let mut err = Vec::new(alloc);
@@ -672,7 +675,7 @@ fn words_without_memory_are_told(rt: HostRuntime) -> Result<(), Fail> {
 fn words_that_were_had_are_run(rt: HostRuntime) -> Result<(), Fail> {
     let alloc = rt.alloc();
     let given = [b"sts".as_slice(), b"plain", b"fails.sts", b"two.trace"];
-    let had = words(&Started { words: &given }, alloc);
+    let had = words(&Started { words: &given }, alloc, NAME);
     let mut out = Vec::new(alloc);
     let mut err = Vec::new(alloc);
     let ended = run_words(&rt, alloc, &FOLDER, &had, &mut out, &mut err)?;
