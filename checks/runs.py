@@ -4,8 +4,8 @@
 README.md: `run` of `sum` by 1 to 16 workers prints what `verify` prints and then the end and the steps that stand there,
 and `replay` of the journal prints these two again. examples/README.md: `deadline` with its outside events ends with
 `success 0`. LANGUAGE.md: what its first text prints. PATTERNS.md: each program comes to an end that is shown, `plain`
-and `replay` print what is shown of each trace, and files from other editors are judged as is shown.  The last line is
-`N passed, M failed`, of runs.
+and `replay` print what is shown of each trace, and files from other editors are judged as is shown. The lines for a shell
+that PATTERNS.md, LANGUAGE.md and VERIFIER.md show do what is said of them.  The last line is `N passed, M failed`, of runs.
 """
 import os
 import re
@@ -94,11 +94,50 @@ def first_text(program, folder):
     yield "the first text", said == f"{says(program, 'verify', file)}{shown[2]}\n{shown[3]}\n"
 
 
+def by_shell(program, folder, lines, text):
+    """Returns what a shell prints that does these lines where `./sts` is the program and `my.sts` has this text."""
+    kept(folder, "my.sts", text.encode())
+    for name, path in ("sts", program), ("checks", f"{ROOT}/checks"):
+        if not os.path.lexists(f"{folder}/{name}"):
+            os.symlink(os.path.realpath(path), f"{folder}/{name}")
+    done = subprocess.run(["bash", "-c", lines], cwd=folder, capture_output=True, text=True, timeout=120)
+    return done.stdout + done.stderr
+
+
+def numbered(listing):
+    """Returns a listing with the number of its place before each instruction."""
+    place, lines = 0, []
+    for line in listing.splitlines(True):
+        lines.append(f"{place:4}{line}" if line.startswith("  ") else line)
+        place = place + 1 if line.startswith("  ") else 0 if line.startswith("func") else place
+    return "".join(lines)
+
+
+def shell_lines(program, folder):
+    """Yields whether the lines for a shell that the documents show do what is said of them."""
+    by_two, traced = re.findall(r"^```text\n(.*?)```", read(PATTERNS), re.M | re.S)[:2]
+    name, hedge, shown, _ = programs(PATTERNS)[0]
+    printed = {asked: re.findall(r"`([^`]*)`", lines) for asked, lines in shown}
+    said, budgets = by_shell(program, folder, by_two, hedge), says(program, "verify", f"{folder}/my.sts")
+    end = said.removeprefix(budgets).split("\n")[0]
+    yield f"{PATTERNS}: {by_two}", said.startswith(budgets) and end in printed["by workers"]
+    asked = f"`{traced.split(chr(39))[1]}`"
+    yield f"{PATTERNS}: {traced}", by_shell(program, folder, traced, hedge).split("\n")[:-1] == printed[asked]
+    rounds = re.search(r"^```text\n(for .*\n)```", read("docs/LANGUAGE.md"), re.M)[1]
+    text = read("examples/sum.sts")
+    yield f"LANGUAGE.md: {rounds}", by_shell(program, folder, f"{rounds}./sts plain my.sts my.trace", text) == END
+    places = re.search(r"^    (\./sts list .*\n)", read("docs/VERIFIER.md"), re.M)[1]
+    for text in (hedge, text, programs("docs/LANGUAGE.md")[0][1]):
+        right = by_shell(program, folder, places, text) == numbered(says(program, "list", f"{folder}/my.sts"))
+        yield f"VERIFIER.md: {places}", right
+
+
 def tried(program, folder):
     """Yields for each run what it is and whether it prints what it should."""
     yield from first_text(program, folder)
     yield from patterns(program, folder)
     yield from files(program, folder)
+    yield from shell_lines(program, folder)
     journal = os.path.join(folder, "journal")
     budgets, due = says(program, "verify", SUM), says(program, "verify", DEADLINE)
     for workers in WORKERS:

@@ -1,5 +1,7 @@
--- Where a text says what: the line of each instruction, and the words of a line (this project's own).
-use Rattle.std.specs.Prelude.{ℕ, ◌-◌, List, [], Option, Some, None, Result, Err, length, nat_lt, slice_get, if◌then◌else◌}
+-- Where a text says what: the line of each instruction, and the words of a line (this project's
+-- own).
+use Rattle.std.specs.Prelude.{ℕ, ◌-◌, List, [], Option, Some, None, Result, Err, length, nat_lt}
+use Rattle.std.specs.Prelude.{slice_get, if◌then◌else◌}
 use Rattle.std.specs.List.{before_first}
 use Rattle.sts_text.specs.Words.{lines, words}
 use Rattle.sts_asm.specs.declared.fault.AsmKind.TheVariants.{TextTooLong}
@@ -8,7 +10,9 @@ use Rattle.sts_asm.specs.Outline.{Sentence, Draft, Outline, is_semicolon, outlin
 
 -- the functions of a text with their lines; of a text that is too long there are none
 abbrev pub outlined : List ℕ → Result Outline AsmError
-outlined text = if nat_lt 1048576 (length text) then Err (record { line = 0; kind = TextTooLong }) else outline_of text
+outlined text =
+    if nat_lt 1048576 (length text) then Err (record { line = 0; kind = TextTooLong })
+    else outline_of text
 
 -- the lines of instructions of a function, where there is one
 abbrev pub sentences_of : Option Draft → List Sentence

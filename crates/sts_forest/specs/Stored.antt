@@ -1,5 +1,6 @@
 -- What the records of tasks hold: links, and tasks (this project's own).
-use Rattle.std.specs.Prelude.{◌≡◌, ℕ, zero, suc, List, [], ◌∷◌, map, Option, Some, None, option_map, refl, nat_lt, if◌then◌else◌, slice_index_or}
+use Rattle.std.specs.Prelude.{◌≡◌, ℕ, zero, suc, List, [], ◌∷◌, map, Option, Some, None, option_map}
+use Rattle.std.specs.Prelude.{refl, nat_lt, if◌then◌else◌, slice_index_or}
 use Rattle.std.proofs.Common.{◌∙◌}
 use Rattle.sts_held.specs.Holes.{Holes}
 use Rattle.sts_links.specs.Lists.{after_of}
@@ -35,7 +36,8 @@ pub same : (a : Holes TaskRecord) → SameTasks a a
 same a = record { tasks = refl; keys = refl; room = refl }
 
 pub chained : (a b c : Holes TaskRecord) → SameTasks a b → SameTasks b c → SameTasks a c
-chained a b c h l = record { tasks = l.tasks ∙ h.tasks; keys = l.keys ∙ h.keys; room = l.room ∙ h.room }
+chained a b c h l =
+    record { tasks = l.tasks ∙ h.tasks; keys = l.keys ∙ h.keys; room = l.room ∙ h.room }
 
 -- the keys in a row from here, at most so many
 abbrev pub walk : (ℕ → Option Link) → ℕ → Option ℕ → List ℕ

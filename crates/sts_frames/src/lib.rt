@@ -2,8 +2,8 @@
 //! read of it and make of it.
 //!
 //! The records and their stacks are in `sts_model`. Here is what begins a frame, what its program
-//! says at it, its slots, which instructions are local and what they do, and the frame's part of the
-//! others.
+//! says at it, its slots, which instructions are local and what they do, the frame's part of the
+//! others, and a copy of a frame by what is used of it.
 #![tactic(auto)]
 
 pub mod beginning;

@@ -16,7 +16,7 @@ use Rattle.sts_model.specs.World.{World, task_at, scope_at, no_task}
 use Rattle.sts_model.specs.Joining as joining
 use Rattle.sts_model.specs.Living.{is_subtask, subtask_count, ends_of, completion_of, sub_state}
 use Rattle.sts_model.specs.Living.{parent}
-use Rattle.sts_model.specs.Misuse.{is_success, is_failed}
+use Rattle.sts_model.specs.Misuse.{has_succeeded, has_failed}
 use Rattle.sts_model.specs.Effect.{tally}
 use Rattle.sts_runs.proofs.ListLemmas.{within}
 use Rattle.sts_runs.proofs.EffectLemmas.{is_in-some, some-is_in}
@@ -194,11 +194,11 @@ count-all (c ∷ cs) = let rest = count-all cs in let q = count-cons (λ (x : Co
 
 -- ---- subtasks of one scope
 
-same_success : (e : End) → is_success (Some e) ≡ joining.is_success e
+same_success : (e : End) → has_succeeded (Some e) ≡ joining.is_success e
 same_success (Success v) = refl
 same_success (Failed c) = refl
 
-same_failure : (e : End) → is_failed (Some e) ≡ joining.is_failure e
+same_failure : (e : End) → has_failed (Some e) ≡ joining.is_failure e
 same_failure (Success v) = refl
 same_failure (Failed c) = refl
 
@@ -238,10 +238,10 @@ module _ (w : World) (s : ℕ) (told : ToldIn w.tasks s (scope_at w s)) where
   one_of true b c d e = e
   one_of false b c d e = refl
 
-  completed : number is_success + number is_failed ≡ number is_some
+  completed : number has_succeeded + number has_failed ≡ number is_some
   completed = count-split _ _ _ (births w) (λ u. one_of (inside u) _ _ _ (either (completion_of cs u)))
     where
-      either : (o : Option End) → cond {A = ℕ} (is_success o) 1 0 + cond (is_failed o) 1 0 ≡ cond (is_some o) 1 0
+      either : (o : Option End) → cond {A = ℕ} (has_succeeded o) 1 0 + cond (has_failed o) 1 0 ≡ cond (is_some o) 1 0
       either None = refl
       either (Some (Success v)) = refl
       either (Some (Failed c)) = refl
@@ -257,11 +257,11 @@ module _ (w : World) (s : ℕ) (told : ToldIn w.tasks s (scope_at w s)) where
   length-completed : number is_some ≡ length cs
   length-completed = count-completed inside (length w.tasks) is_some refl cs counted ∙ count-all cs
 
-  successes : number is_success ≡ tally w s S
-  successes = count-completed inside (length w.tasks) is_success refl cs counted ∙ count-ends is_success joining.is_success same_success cs
+  successes : number has_succeeded ≡ tally w s S
+  successes = count-completed inside (length w.tasks) has_succeeded refl cs counted ∙ count-ends has_succeeded joining.is_success same_success cs
 
-  failures : number is_failed ≡ tally w s F
-  failures = count-completed inside (length w.tasks) is_failed refl cs counted ∙ count-ends is_failed joining.is_failure same_failure cs
+  failures : number has_failed ≡ tally w s F
+  failures = count-completed inside (length w.tasks) has_failed refl cs counted ∙ count-ends has_failed joining.is_failure same_failure cs
 
   unavailable : number is_none ≡ tally w s U
   unavailable = let a = all in let c = length-completed in omega (arith, a, c)

@@ -8,14 +8,14 @@ use Rattle.sts_code.specs.declared.instr.Kind.TheVariants.{S, F, U}
 use Rattle.sts_model.specs.declared.event.End.{End}
 use Rattle.sts_model.specs.World.{World, task_at}
 use Rattle.sts_model.specs.Living.{is_subtask, subtask_count, sub_state}
-use Rattle.sts_model.specs.Misuse.{is_success, is_failed}
+use Rattle.sts_model.specs.Misuse.{has_succeeded, has_failed}
 use Rattle.sts_model.specs.Effect.{tally}
 use Rattle.sts_runs.specs.Runs.{Ever}
 
 -- is it the state of this kind?
 abbrev pub is_kind : Kind → Option End → Bool
-is_kind S state = is_success state
-is_kind F state = is_failed state
+is_kind S state = has_succeeded state
+is_kind F state = has_failed state
 is_kind U state = is_none state
 
 -- is the task a subtask of s, and in the state of this kind?

@@ -247,12 +247,12 @@ sub-known p w f i s (Own n) k u test st none h legal e = cc
 sub-known p w f i s (Lent n) k u test st none h legal e = cc
 sub-known p w f i s (Sub v) k u test st none h legal e = absurd h
 
-success-known : (state : Known) (o : Option End) → cause.is_success state ≡ true → is_known state o ≡ true → misuse.is_success o ≡ true
+success-known : (state : Known) (o : Option End) → cause.is_known_success state ≡ true → is_known state o ≡ true → misuse.has_succeeded o ≡ true
 success-known known.Success o a b = b
 success-known known.Unknown o a b = cc
 success-known known.Failed o a b = cc
 
-failed-known : (state : Known) (o : Option End) → cause.is_failed state ≡ true → is_known state o ≡ true → misuse.is_failed o ≡ true
+failed-known : (state : Known) (o : Option End) → cause.is_known_failed state ≡ true → is_known state o ≡ true → misuse.has_failed o ≡ true
 failed-known known.Failed o a b = b
 failed-known known.Unknown o a b = cc
 failed-known known.Success o a b = cc
@@ -300,14 +300,14 @@ fine-legal p w f (Close x) s st =
 fine-legal p w f (Tally x k) s st = at_own-fails w (slot f x) (λ _ scope. not (misuse.is_readable p.profile scope)) (λ n own. denied _ (fine-readable p w f (Tally x k) x n s st (λ y. refl) st.clear.legal own))
 fine-legal p w f (Total x) s st = at_own-fails w (slot f x) (λ _ scope. not (misuse.is_readable p.profile scope)) (λ n own. denied _ (fine-readable p w f (Total x) x n s st (λ y. refl) st.clear.legal own))
 fine-legal p w f (Get x) s st =
-    at_sub-fails w (slot f x) (λ u scope. not (misuse.is_readable p.profile scope && misuse.is_success (sub_state w u)))
+    at_sub-fails w (slot f x) (λ u scope. not (misuse.is_readable p.profile scope && misuse.has_succeeded (sub_state w u)))
     (λ u e.
-    let h = sub-known p w f (Get x) s (slot f x) (kind s x) u cause.is_success st (λ y. refl) (st.fits.slots x) st.clear.legal e in
+    let h = sub-known p w f (Get x) s (slot f x) (kind s x) u cause.is_known_success st (λ y. refl) (st.fits.slots x) st.clear.legal e in
     denied _ (both-hold _ _ h.1.2 (success-known h.0 (sub_state w u) h.1.0 h.1.1)))
 fine-legal p w f (Except x) s st =
-    at_sub-fails w (slot f x) (λ u scope. not (misuse.is_readable p.profile scope && misuse.is_failed (sub_state w u)))
+    at_sub-fails w (slot f x) (λ u scope. not (misuse.is_readable p.profile scope && misuse.has_failed (sub_state w u)))
     (λ u e.
-    let h = sub-known p w f (Except x) s (slot f x) (kind s x) u cause.is_failed st (λ y. refl) (st.fits.slots x) st.clear.legal e in
+    let h = sub-known p w f (Except x) s (slot f x) (kind s x) u cause.is_known_failed st (λ y. refl) (st.fits.slots x) st.clear.legal e in
     denied _ (both-hold _ _ h.1.2 (failed-known h.0 (sub_state w u) h.1.0 h.1.1)))
 fine-legal p w f i s st = refl
 

@@ -38,7 +38,7 @@ use Rattle.sts_model.specs.Joining as joining
 use Rattle.sts_model.specs.Joining.{cancels, result_of, verdict_or}
 use Rattle.sts_model.specs.Living.{any_lives, completion_of, ends, ends_of, subtask_count}
 use Rattle.sts_model.specs.Living.{sub_state}
-use Rattle.sts_model.specs.Misuse.{slot, can_join, is_success, joins_wrongly}
+use Rattle.sts_model.specs.Misuse.{slot, can_join, has_succeeded, joins_wrongly}
 use Rattle.sts_code.specs.Facts.{can_fail, same}
 use Rattle.sts_rules.specs.TypeState.{TypeState, kind, scope_in}
 use Rattle.sts_rules.specs.Causes as cause
@@ -182,15 +182,15 @@ answers (Until q) es n = record { nothing = λ d. cc; value = λ x d. refl; fail
 -- ---- each subtask is a success
 
 -- a completion that is no failure is a success
-no_failure : (cs : List Completion) (u : ℕ) (end : End) → list_any joining.is_failure (ends_of cs) ≡ false → completion_of cs u ≡ Some end → is_success (Some end) ≡ true
+no_failure : (cs : List Completion) (u : ℕ) (end : End) → list_any joining.is_failure (ends_of cs) ≡ false → completion_of cs u ≡ Some end → has_succeeded (Some end) ≡ true
 no_failure [] u end none e = cc
 no_failure (c ∷ cs) u end none e = by (c.task == u) e (or_parts _ _ none) (no_failure cs u end)
   where
-    ends_well : (x : End) → joining.is_failure x ≡ false → is_success (Some x) ≡ true
+    ends_well : (x : End) → joining.is_failure x ≡ false → has_succeeded (Some x) ≡ true
     ends_well (Success v) h = refl
     ends_well (Failed v) h = cc
 
-    by : (b : Bool) → option_map (λ (x : Completion). x.end) (cond b (Some c) (find (λ (x : Completion). x.task == u) cs)) ≡ Some end → (joining.is_failure c.end ≡ false) × (list_any joining.is_failure (ends_of cs) ≡ false) → (list_any joining.is_failure (ends_of cs) ≡ false → completion_of cs u ≡ Some end → is_success (Some end) ≡ true) → is_success (Some end) ≡ true
+    by : (b : Bool) → option_map (λ (x : Completion). x.end) (cond b (Some c) (find (λ (x : Completion). x.task == u) cs)) ≡ Some end → (joining.is_failure c.end ≡ false) × (list_any joining.is_failure (ends_of cs) ≡ false) → (list_any joining.is_failure (ends_of cs) ≡ false → completion_of cs u ≡ Some end → has_succeeded (Some end) ≡ true) → has_succeeded (Some end) ≡ true
     by true e h next = let same : c.end ≡ end = cc in rw (← same) (ends_well c.end h.0)
     by false e h next = next h.1 e
 
@@ -209,10 +209,10 @@ asks_of_all AwaitAll es e = cc
 asks_of_all (Until q) es e = cc
 
 -- where the joiner awaits all successes and none failed
-pub all_succeeded : (w : World) (n : ℕ) → Also Orderly w → n < length w.scopes → can_join (scope_at w n).phase ≡ true → (scope_at w n).expired ≡ false → ((scope_at w n).cancelled || not (any_lives w n)) ≡ true → is_all_success (scope_at w n).joiner ≡ true → list_any joining.is_failure (ends (scope_at w n)) ≡ false → (u : ℕ) → (task_at w u).scope ≡ Some n → is_success (sub_state w u) ≡ true
+pub all_succeeded : (w : World) (n : ℕ) → Also Orderly w → n < length w.scopes → can_join (scope_at w n).phase ≡ true → (scope_at w n).expired ≡ false → ((scope_at w n).cancelled || not (any_lives w n)) ≡ true → is_all_success (scope_at w n).joiner ≡ true → list_any joining.is_failure (ends (scope_at w n)) ≡ false → (u : ℕ) → (task_at w u).scope ≡ Some n → has_succeeded (sub_state w u) ≡ true
 all_succeeded w n h born opened timely done all none u inside = by (scope_at w n).cancelled refl done
   where
-    by : (b : Bool) → (scope_at w n).cancelled ≡ b → (b || not (any_lives w n)) ≡ true → is_success (sub_state w u) ≡ true
+    by : (b : Bool) → (scope_at w n).cancelled ≡ b → (b || not (any_lives w n)) ≡ true → has_succeeded (sub_state w u) ≡ true
     by true e d =
         let asked : is_asked (scope_at w n) ≡ true = (h.also.settled.caused n born).cause e timely (not_leaving (scope_at w n).phase opened) in
         let failed : list_any joining.is_failure (ends (scope_at w n)) ≡ true = sym (asks_of_all (scope_at w n).joiner (ends (scope_at w n)) all) ∙ asked in
@@ -230,7 +230,7 @@ all_succeeded w n h born opened timely done all none u inside = by (scope_at w n
 
 -- ---- slots after ok
 
-slot-succeeded : (w : World) (f : Frame) (x n : ℕ) (q : Slot) (k : SlotKind) → slot f x ≡ Own n → ((u : ℕ) → (task_at w u).scope ≡ Some n → is_success (sub_state w u) ≡ true) → FitsSlot w f q k → FitsSlot w f q (cond (is_sub_of x k) (kind_of.Sub x known.Success) k)
+slot-succeeded : (w : World) (f : Frame) (x n : ℕ) (q : Slot) (k : SlotKind) → slot f x ≡ Own n → ((u : ℕ) → (task_at w u).scope ≡ Some n → has_succeeded (sub_state w u) ≡ true) → FitsSlot w f q k → FitsSlot w f q (cond (is_sub_of x k) (kind_of.Sub x known.Success) k)
 slot-succeeded w f x n (Sub u) (kind_of.Sub y state) own all h =
     cond_both (y == x) (kind_of.Sub x known.Success) (kind_of.Sub y state) (λ (k : SlotKind). FitsSlot w f (Sub u) k)
     (λ e.
@@ -255,7 +255,7 @@ pub record AtJoin (p : Program) (w : World) (t x n : ℕ) (failed timeout : Opti
   pub failing : can_fail (scope_at w n).joiner ≡ true → is_some failed ≡ true
   pub timing : (scope_at w n).expired ≡ true → is_some timeout ≡ true
   pub joiner : joiner_of (scope_in s.entries x) ≡ (scope_at w n).joiner
-  pub succeeded : (scope_at w n).expired ≡ false → ((scope_at w n).cancelled || not (any_lives w n)) ≡ true → is_all_success (scope_at w n).joiner ≡ true → list_any joining.is_failure (ends (scope_at w n)) ≡ false → (u : ℕ) → (task_at w u).scope ≡ Some n → is_success (sub_state w u) ≡ true
+  pub succeeded : (scope_at w n).expired ≡ false → ((scope_at w n).cancelled || not (any_lives w n)) ≡ true → is_all_success (scope_at w n).joiner ≡ true → list_any joining.is_failure (ends (scope_at w n)) ≡ false → (u : ℕ) → (task_at w u).scope ≡ Some n → has_succeeded (sub_state w u) ≡ true
 
 -- the step leads to a world in which the task lands
 abbrev pub Landed : Program → World → ℕ → World → Type 0
@@ -280,7 +280,7 @@ fails p w t x n failed timeout interrupted s c h e can later =
     lands-going p w t (Join x failed timeout interrupted) s x n (unwrap_or failed 0) (c ∷ []) (task_at w t).flag phase.Joined Joined (s.height + 1) s.slots h.stands (λ y. refl) h.own h.born h.alive (is_timely (scope_at w n).expired e) later (omega arith) h.stands.fits.slots h.stands.fits.typed_wide
     (leads-failed (task_at w t).frame.pc x failed timeout interrupted s (h.failing can))
 
-succeeds : (p : Program) (w : World) (t x n : ℕ) (failed timeout : Option ℕ) (interrupted : ℕ) (s : TypeState) (pushed : List ℤ) → AtJoin p w t x n failed timeout interrupted s → (scope_at w n).expired ≡ false → length pushed ≡ ok_pushes (scope_at w n).joiner → (is_all_success (scope_at w n).joiner ≡ true → (u : ℕ) → (task_at w u).scope ≡ Some n → is_success (sub_state w u) ≡ true) → Landed p w t (joined w t n (steps (task_at w t).frame 0 pushed))
+succeeds : (p : Program) (w : World) (t x n : ℕ) (failed timeout : Option ℕ) (interrupted : ℕ) (s : TypeState) (pushed : List ℤ) → AtJoin p w t x n failed timeout interrupted s → (scope_at w n).expired ≡ false → length pushed ≡ ok_pushes (scope_at w n).joiner → (is_all_success (scope_at w n).joiner ≡ true → (u : ℕ) → (task_at w u).scope ≡ Some n → has_succeeded (sub_state w u) ≡ true) → Landed p w t (joined w t n (steps (task_at w t).frame 0 pushed))
 succeeds p w t x n failed timeout interrupted s pushed h e long all later =
     let f : Frame = (task_at w t).frame in
     let j : Joiner = (scope_at w n).joiner in

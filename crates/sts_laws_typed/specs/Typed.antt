@@ -31,7 +31,7 @@ use Rattle.sts_model.specs.Standing.{standing_tasks, standing_scopes}
 use Rattle.sts_model.specs.World.{World, task_at, scope_at, instr_at}
 use Rattle.sts_model.specs.Living.{lives, parent, sub_state}
 use Rattle.sts_model.specs.Environment.{read}
-use Rattle.sts_model.specs.Misuse.{slot, at_own, is_success, is_failed, is_crowded, IsFine}
+use Rattle.sts_model.specs.Misuse.{slot, at_own, has_succeeded, has_failed, is_crowded, IsFine}
 use Rattle.sts_rules.specs.TypeState.{TypeState, kind, heads}
 use Rattle.sts_rules.specs.Causes.{needs, binds, is_scope_in}
 use Rattle.sts_rules.specs.Flow.{Reaches}
@@ -100,8 +100,8 @@ Zips R _ _ = ⊥
 -- is the state of a subtask what is known of it?
 abbrev pub is_known : Known → Option End → Bool
 is_known known.Unknown state = true
-is_known known.Success state = is_success state
-is_known known.Failed state = is_failed state
+is_known known.Success state = has_succeeded state
+is_known known.Failed state = has_failed state
 
 -- task u is a subtask of the scope in slot y
 pub record FitsSub (w : World) (f : Frame) (u y : ℕ) (state : Known) : Type 0 where

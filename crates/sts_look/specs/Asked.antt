@@ -1,5 +1,7 @@
--- What a command line asks for, or why it asks for nothing, read off the words by `clap`'s own definitions (this project's own).
-use Rattle.std.specs.Prelude.{◌≡◌, ◌⊎◌, ◌&&◌, Bool, false, List, [], ◌∷◌, filter_map, Option, Some, None, IsSomeAnd, is_some, codes}
+-- What a command line asks for, or why it asks for nothing, read off the words by `clap`'s own
+-- definitions (this project's own).
+use Rattle.std.specs.Prelude.{◌≡◌, ◌⊎◌, ◌&&◌, Bool, false, List, [], ◌∷◌, filter_map, Option, Some}
+use Rattle.std.specs.Prelude.{None, IsSomeAnd, is_some, codes}
 use Rattle.std.specs.Str.{bytes_eq}
 use Rattle.clap.specs.Words.{Text, Row, IsAmong, fault_of, first_of, subcommand_of}
 use Rattle.clap.specs.declared.error.kind.ErrorKind.TheVariants as kind

@@ -4,7 +4,8 @@ use Rattle.std.specs.Prelude.{String, Vec}
 use Rattle.std.specs.String.{string_bytes}
 use Rattle.std.specs.declared.alloc.Global.{Global}
 use Rattle.clap.specs.Words.{Text}
-use Rattle.sts_cli.specs.Ending.{Files, Prints, Streams, Tells, most_of_a_stream, most_of_a_text, not_text_output}
+use Rattle.sts_cli.specs.Ending.{Files, Prints, Streams, Tells, most_of_a_stream, most_of_a_text}
+use Rattle.sts_cli.specs.Ending.{not_text_output}
 use Rattle.sts_cli.specs.Output.{Output, failure_output, memory_output}
 use Rattle.sts_cli.specs.Taking.{IsTakenOf}
 use Rattle.sts_cli.specs.declared.taking.TakeError.{TakeError}

@@ -1,5 +1,6 @@
 -- The work that a task does by itself, outside of a machine (this project's own).
-use Rattle.std.specs.Prelude.{◌≡◌, ℕ, zero, suc, ◌≤◌, List, true, Option, Some, None, option_map, replicate, slice_get, if◌then◌else◌}
+use Rattle.std.specs.Prelude.{◌≡◌, ℕ, zero, suc, ◌≤◌, List, true, Option, Some, None, option_map}
+use Rattle.std.specs.Prelude.{replicate, slice_get, if◌then◌else◌}
 use Rattle.sts_code.specs.Program.{Program}
 use Rattle.sts_code.specs.declared.instr.Instr.{Instr}
 use Rattle.sts_model.specs.declared.event.Event.{Event}
@@ -41,8 +42,8 @@ steps_of count t = replicate count (event.Step t)
 
 -- ---- slices
 
--- what contracts see of a slice: its task, the code of its function, the frame that was taken out, the
--- frame as it is now, and how many instructions lie between the two
+-- what contracts see of a slice: its task, the code of its function, the frame that was taken out,
+-- the frame as it is now, and how many instructions lie between the two
 pub record Cut : Type 0 where
   pub task : ℕ
   pub code : List Instr
@@ -73,8 +74,8 @@ pub record IsSlice (p : Program) (t : ℕ) (start frame : Frame) (count : ℕ) :
   pub reached : IsReached p t frame
   pub taken : count ≤ reached.steps
 
--- the slice was taken from a task that lives in the machine, from the frame at which it is, and is of
--- the code of its function there
+-- the slice was taken from a task that lives in the machine, from the frame at which it is, and is
+-- of the code of its function there
 pub record Fits (m : Seen) (s : Cut) : Type 0 where
   pub lives : lives_in m.live s.task ≡ true
   pub start : s.start ≡ (alive_at m.live s.task).frame

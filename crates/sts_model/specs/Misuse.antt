@@ -161,15 +161,15 @@ abbrev pub is_closing : Phase → Bool
 is_closing Closing = true
 is_closing _ = false
 
-abbrev pub is_success : Option End → Bool
-is_success None = false
-is_success (Some (Success v)) = true
-is_success (Some (Failed c)) = false
+abbrev pub has_succeeded : Option End → Bool
+has_succeeded None = false
+has_succeeded (Some (Success v)) = true
+has_succeeded (Some (Failed c)) = false
 
-abbrev pub is_failed : Option End → Bool
-is_failed None = false
-is_failed (Some (Success v)) = false
-is_failed (Some (Failed c)) = true
+abbrev pub has_failed : Option End → Bool
+has_failed None = false
+has_failed (Some (Success v)) = false
+has_failed (Some (Failed c)) = true
 
 -- may the scope's subtasks be read? After a timeout in profile two alone
 abbrev pub is_readable : Profile → Scope → Bool
@@ -185,9 +185,9 @@ is_illegal p w f (Close s) =
 is_illegal p w f (Tally s k) = at_own w (slot f s) (λ _ scope. not (is_readable p.profile scope))
 is_illegal p w f (Total s) = at_own w (slot f s) (λ _ scope. not (is_readable p.profile scope))
 is_illegal p w f (Get h) =
-    at_sub w (slot f h) (λ t scope. not (is_readable p.profile scope && is_success (sub_state w t)))
+    at_sub w (slot f h) (λ t scope. not (is_readable p.profile scope && has_succeeded (sub_state w t)))
 is_illegal p w f (Except h) =
-    at_sub w (slot f h) (λ t scope. not (is_readable p.profile scope && is_failed (sub_state w t)))
+    at_sub w (slot f h) (λ t scope. not (is_readable p.profile scope && has_failed (sub_state w t)))
 is_illegal p w f _ = false
 
 -- ---- the structure list

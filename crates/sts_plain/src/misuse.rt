@@ -92,14 +92,14 @@ fn is_readable_of(records: &Records, profile: Profile, t: u32) -> bool
     }
 }
 
-fn is_success(end: Option<End>) -> bool
-    ensures { result ≡ misuse.is_success end }
+fn has_succeeded(end: Option<End>) -> bool
+    ensures { result ≡ misuse.has_succeeded end }
 {
     matches!(end, Some(End::Success(_)))
 }
 
-fn is_failed(end: Option<End>) -> bool
-    ensures { result ≡ misuse.is_failed end }
+fn has_failed(end: Option<End>) -> bool
+    ensures { result ≡ misuse.has_failed end }
 {
     matches!(end, Some(End::Failed(_)))
 }
@@ -134,13 +134,13 @@ fn is_illegal(world: &World, program: &Program, frame: &Frame, instr: Instr) -> 
         },
         Instr::Get(x) => match slot(frame, x) {
             Slot::Sub(t) => {
-                !(is_readable_of(records, program.profile(), t) && is_success(world.sub_state(t)))
+                !(is_readable_of(records, program.profile(), t) && has_succeeded(world.sub_state(t)))
             }
             _ => false,
         },
         Instr::Except(x) => match slot(frame, x) {
             Slot::Sub(t) => {
-                !(is_readable_of(records, program.profile(), t) && is_failed(world.sub_state(t)))
+                !(is_readable_of(records, program.profile(), t) && has_failed(world.sub_state(t)))
             }
             _ => false,
         },

@@ -1,5 +1,7 @@
--- The book of a run: a machine, the journal of its events, and which tasks are out (this project's own).
-use Rattle.std.specs.Prelude.{◌≡◌, ℕ, ◌+◌, ◌≤◌, List, [], length, count_by, Bool, true, not, ◌&&◌, ◌==◌, eqb}
+-- The book of a run: a machine, the journal of its events, and which tasks are out (this project's
+-- own).
+use Rattle.std.specs.Prelude.{◌≡◌, ℕ, ◌+◌, ◌≤◌, List, [], length, count_by, Bool, true, not, ◌&&◌}
+use Rattle.std.specs.Prelude.{◌==◌, eqb}
 use Rattle.std.specs.List.{list_any, IsDistinct}
 use Rattle.sts_code.specs.Program.{Program}
 use Rattle.sts_code.specs.declared.limits.TheConstants.{MAX_OUTSIDE}
@@ -48,8 +50,8 @@ outside_entries events = count_by (λ e. not (is_step e)) events
 
 -- ---- what the type of a book keeps
 
--- the machine stands where the journal leads, each entry is a step that counted or came from outside,
--- and the tasks that are out live
+-- the machine stands where the journal leads, each entry is a step that counted or came from
+-- outside, and the tasks that are out live
 pub record IsBook (b : BookSeen) : Type 0 where
   pub stands : Stands b.machine b.journal
   pub counted : length b.journal ≡ b.machine.steps + outside_entries b.journal

@@ -163,13 +163,13 @@ is_readable_phase profile _ = false
 abbrev pub is_readable : Profile → TypedScope → Bool
 is_readable profile scope = is_readable_phase profile scope.phase
 
-abbrev pub is_success : Known → Bool
-is_success known.Success = true
-is_success _ = false
+abbrev pub is_known_success : Known → Bool
+is_known_success known.Success = true
+is_known_success _ = false
 
-abbrev pub is_failed : Known → Bool
-is_failed known.Failed = true
-is_failed _ = false
+abbrev pub is_known_failed : Known → Bool
+is_known_failed known.Failed = true
+is_known_failed _ = false
 
 -- V12: a scope or subtask that isn't known to be in the state for it
 abbrev pub is_illegal : Profile → Instr → TypeState → Bool
@@ -180,10 +180,10 @@ is_illegal profile (Tally x k) s = at_own s x (λ scope. not (passes (is_readabl
 is_illegal profile (Total x) s = at_own s x (λ scope. not (passes (is_readable profile) scope))
 is_illegal profile (Get h) s =
     at_sub s.entries (kind s h) (λ scope state. not
-    (passes (is_readable profile) scope && is_success state))
+    (passes (is_readable profile) scope && is_known_success state))
 is_illegal profile (Except h) s =
     at_sub s.entries (kind s h) (λ scope state. not
-    (passes (is_readable profile) scope && is_failed state))
+    (passes (is_readable profile) scope && is_known_failed state))
 is_illegal profile _ s = false
 
 -- ---- V13 to V16

@@ -98,15 +98,15 @@ pub fn is_readable(profile: Profile, scope: TypedScope) -> bool
 }
 
 /// Is the subtask known to be a success?
-pub fn is_success(known: Known) -> bool
-    ensures { result ≡ def.is_success known }
+pub fn is_known_success(known: Known) -> bool
+    ensures { result ≡ def.is_known_success known }
 {
     matches!(known, Known::Success)
 }
 
 /// Is the subtask known to have failed?
-pub fn is_failed(known: Known) -> bool
-    ensures { result ≡ def.is_failed known }
+pub fn is_known_failed(known: Known) -> bool
+    ensures { result ≡ def.is_known_failed known }
 {
     matches!(known, Known::Failed)
 }

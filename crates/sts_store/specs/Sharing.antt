@@ -1,7 +1,6 @@
 -- Which environments in use share which records of bindings, over the parts of a store.
--- Restates "Description" of JEP 506: a subtask inherits the bindings of its scope, and binds in front
--- of them.
--- That environments share records is this project's own.
+-- Restates "Description" of JEP 506: a subtask inherits the bindings of its scope, and binds in
+-- front of them. That environments share records is this project's own.
 use Rattle.std.specs.Prelude.{◌≡◌, ◌≢◌, ℕ, List, [], ◌∷◌, ◌++◌, length, map, count_by}
 use Rattle.std.specs.Prelude.{Option, Some, None, option_map, ◌==◌, if◌then◌else◌, slice_index_or}
 use Rattle.sts_env.specs.Environments.{Records, IsWhole, keys_of, NotIn}

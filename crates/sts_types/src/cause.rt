@@ -14,8 +14,8 @@ use sts_code::profile::Profile;
 use sts_code::program::Program;
 use sts_rules::typing::{SlotKind, TypedEntry, TypedScope};
 use sts_states::slots::{
-    can_join, is_binding, is_empty, is_failed, is_lent, is_opened, is_own, is_readable,
-    is_scope_in, is_sub, is_success,
+    can_join, is_binding, is_empty, is_known_failed, is_lent, is_opened, is_own, is_readable,
+    is_scope_in, is_sub, is_known_success,
 };
 use sts_states::state::TypeState;
 
@@ -152,7 +152,7 @@ fn is_illegal_get(profile: Profile, state: &TypeState, handle: u8) -> bool
 {
     match state.kind(handle) {
         SlotKind::Sub(slot, known) => {
-            !(may_read(profile, state.scope_in(slot)) && is_success(known))
+            !(may_read(profile, state.scope_in(slot)) && is_known_success(known))
         }
         _ => false,
     }
@@ -163,7 +163,7 @@ fn is_illegal_except(profile: Profile, state: &TypeState, handle: u8) -> bool
 {
     match state.kind(handle) {
         SlotKind::Sub(slot, known) => {
-            !(may_read(profile, state.scope_in(slot)) && is_failed(known))
+            !(may_read(profile, state.scope_in(slot)) && is_known_failed(known))
         }
         _ => false,
     }

@@ -1,6 +1,7 @@
--- The lines that say what stands: one for each task and each scope that was ever born, and what is told of them on request
--- (this project's own).
-use Rattle.std.specs.Prelude.{ℕ, ℤ, pos, ◌+◌, Bool, true, List, ◌∷◌, [], ◌++◌, reverse, Option, Some, None, is_some, codes, ◌&&◌, if◌then◌else◌}
+-- The lines that say what stands: one for each task and each scope that was ever born, and what is
+-- told of them on request (this project's own).
+use Rattle.std.specs.Prelude.{ℕ, ℤ, pos, ◌+◌, Bool, true, List, ◌∷◌, [], ◌++◌, reverse, Option}
+use Rattle.std.specs.Prelude.{Some, None, is_some, codes, ◌&&◌, if◌then◌else◌}
 use Rattle.std.specs.List.{flat_map}
 use Rattle.std.specs.Ordering.{int_eq}
 use Rattle.std.specs.Fmt.{decimal, signed_decimal}
@@ -54,10 +55,12 @@ wait_words (AtClose s) = codes " waits close " ++ decimal s
 abbrev pub life_words : Bool → Stand → List ℕ
 life_words can_go stand = if can_go then codes " ready" else wait_words stand
 
--- how a task that was started, and doesn't live, ended; `unheard` where its scope was cancelled before
+-- how a task that was started, and doesn't live, ended; `unheard` where its scope was cancelled
+-- before
 abbrev pub ended_words : World → ℕ → List ℕ
 ended_words w t =
-    (if is_heard w t (task_at w t).scope then [] else codes " unheard") ++ end_words (task_at w t).outcome
+    (if is_heard w t (task_at w t).scope then [] else codes " unheard")
+    ++ end_words (task_at w t).outcome
 
 -- how a task stands that doesn't live: a fork in a cancelled scope makes a task that never starts
 abbrev pub rest_words : World → ℕ → List ℕ
@@ -71,7 +74,8 @@ stand_words p w t =
 abbrev pub task_place : Program → World → ℕ → List ℕ
 task_place p w t =
     codes "task " ++ decimal t ++ codes " under " ++ under_words (task_at w t).scope ++ codes " in "
-    ++ (routine p (task_at w t).frame.function).name ++ codes " at " ++ decimal (task_at w t).frame.pc
+    ++ (routine p (task_at w t).frame.function).name
+    ++ codes " at " ++ decimal (task_at w t).frame.pc
 
 -- how the task stands, and whether an interrupt is pending
 abbrev pub task_stand : Program → World → ℕ → List ℕ
@@ -120,10 +124,12 @@ bound_line w t = codes "  bound" ++ ended (key_words w t keys)
 
 abbrev pub frame_lines : World → ℕ → List ℕ
 frame_lines w t =
-    operands_line (task_at w t).frame.operands ++ (locals_line (task_at w t).frame.locals ++ bound_line w t)
+    operands_line (task_at w t).frame.operands
+    ++ (locals_line (task_at w t).frame.locals ++ bound_line w t)
 
 abbrev pub task_block : Program → Bool → World → ℕ → List ℕ
-task_block p full w t = task_line p w t ++ (if full && lives (task_at w t) then frame_lines w t else [])
+task_block p full w t =
+    task_line p w t ++ (if full && lives (task_at w t) then frame_lines w t else [])
 
 -- the lines of these tasks, the first of which has this number
 abbrev pub task_lines : Program → Bool → World → List Task → ℕ → List ℕ
@@ -142,7 +148,8 @@ phase_word phase.Closed = codes "closed"
 -- `scope S of OWNER JOINER`
 abbrev pub scope_place : ℕ → Scope → List ℕ
 scope_place s scope =
-    codes "scope " ++ decimal s ++ codes " of " ++ decimal scope.owner ++ after_spaces (joiner_words scope.joiner)
+    codes "scope " ++ decimal s ++ codes " of " ++ decimal scope.owner
+    ++ after_spaces (joiner_words scope.joiner)
 
 -- ` PHASE`, and what else holds of a scope
 abbrev pub scope_marks : Scope → List ℕ
@@ -157,7 +164,8 @@ told_line c = codes "  told " ++ decimal c.task ++ ended (end_words (Some c.end)
 
 abbrev pub scope_block : Bool → ℕ → Scope → List ℕ
 scope_block full s scope =
-    scope_place s scope ++ (scope_marks scope ++ (if full then flat_map told_line scope.completions else []))
+    scope_place s scope
+    ++ (scope_marks scope ++ (if full then flat_map told_line scope.completions else []))
 
 -- the lines of these scopes, the first of which has this number
 abbrev pub scope_lines : Bool → World → List Scope → ℕ → List ℕ

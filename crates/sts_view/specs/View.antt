@@ -1,5 +1,6 @@
 -- What is told of a machine after a list of events, and after each of them (this project's own).
-use Rattle.std.specs.Prelude.{◌≡◌, ◌⊎◌, ℕ, ◌+◌, Bool, not, if◌then◌else◌, List, ◌∷◌, [], ◌++◌, length, codes, Result, Ok, Err}
+use Rattle.std.specs.Prelude.{◌≡◌, ◌⊎◌, ℕ, ◌+◌, Bool, not, if◌then◌else◌, List, ◌∷◌, [], ◌++◌}
+use Rattle.std.specs.Prelude.{length, codes, Result, Ok, Err}
 use Rattle.std.specs.Fmt.{decimal}
 use Rattle.sts_code.specs.Program.{Program}
 use Rattle.sts_model.specs.declared.event.Event.{Event}
@@ -10,13 +11,15 @@ use Rattle.sts_plain.specs.Seen.{shown}
 use Rattle.sts_trace.specs.Reading.{trace_read}
 use Rattle.sts_trace.specs.declared.error.TraceError.{TraceError}
 use Rattle.sts_trace.specs.Spelling.{event_text}
-use Rattle.sts_cli.specs.Output.{Output, memory_output, state_status, text_fault_output, trace_fault_output}
+use Rattle.sts_cli.specs.Output.{Output, memory_output, state_status, text_fault_output}
+use Rattle.sts_cli.specs.Output.{trace_fault_output}
 use Rattle.sts_cli.specs.Printed.{state_line, steps_line, ended}
 use Rattle.sts_view.specs.declared.view.Wanted.{Wanted}
 use Rattle.sts_view.specs.Lines.{only_if, scope_lines, task_lines}
 use Rattle.sts_view.specs.Watched.{Watched, watched}
 
--- how the machine stands and the steps that it took; then each task and each scope, at a fault as they stood before it
+-- how the machine stands and the steps that it took; then each task and each scope, at a fault as
+-- they stood before it
 abbrev pub lines_of : Bool → Watched → List ℕ
 lines_of full m =
     state_line m.program (shown m.state) ++ (steps_line m.steps
@@ -29,7 +32,8 @@ view_after p full events = lines_of full (watched p events)
 -- `after N EVENT`, the event being the N-th; `idle` where it doesn't count
 abbrev pub event_line : ℕ → Event → Bool → List ℕ
 event_line n e is_counted =
-    codes "after " ++ decimal n ++ codes " " ++ event_text e ++ ended (only_if (not is_counted) (codes " idle"))
+    codes "after " ++ decimal n ++ codes " " ++ event_text e
+    ++ ended (only_if (not is_counted) (codes " idle"))
 
 -- an event and what stands after it, where these came before
 abbrev pub event_block : Program → Bool → List Event → Event → List ℕ
@@ -46,10 +50,12 @@ view_each p full events = view_after p full [] ++ views_from p full [] events
 
 -- the status is that of the state in the end: 0 where the root succeeded, 1 where it failed, else 5
 abbrev pub after_output : Program → Bool → List Event → Output
-after_output p full events = record { bytes = view_after p full events; status = state_status (shown (after p events)) }
+after_output p full events =
+    record { bytes = view_after p full events; status = state_status (shown (after p events)) }
 
 abbrev pub each_output : Program → Bool → List Event → Output
-each_output p full events = record { bytes = view_each p full events; status = state_status (shown (after p events)) }
+each_output p full events =
+    record { bytes = view_each p full events; status = state_status (shown (after p events)) }
 
 abbrev pub view_output : Program → Wanted → List Event → Output
 view_output p wanted events =

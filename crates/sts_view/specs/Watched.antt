@@ -1,4 +1,5 @@
--- What is seen of a machine that is watched: how it stands, and the world as it last ran (this project's own).
+-- What is seen of a machine that is watched: how it stands, and the world as it last ran (this
+-- project's own).
 use Rattle.std.specs.Prelude.{ℕ, List, [], ◌∷◌, Option, is_some, ◌&&◌}
 use Rattle.sts_code.specs.Program.{Program}
 use Rattle.sts_model.specs.declared.event.Event.{Event}

@@ -19,7 +19,7 @@ use Rattle.sts_model.specs.Environment.{read}
 use Rattle.sts_model.specs.Living.{lives, is_closed, parent, scope_of, sub_state}
 use Rattle.sts_model.specs.Standing.{stands_in, standing_tasks, standing_scopes}
 use Rattle.sts_model.specs.Misuse.{slot, at_own, at_sub, misuse, misjoins, has_no_room, is_crowded}
-use Rattle.sts_model.specs.Misuse.{is_opened, is_readable, is_illegal, is_success, is_failed}
+use Rattle.sts_model.specs.Misuse.{is_opened, is_readable, is_illegal, has_succeeded, has_failed}
 use Rattle.sts_model.specs.Misuse.{breaks_structure, is_unbound, fault_at, IsFine}
 use Rattle.sts_model.proofs.FineLemmas.{fine}
 use Rattle.sts_model.specs.Waiting.{can_step}
@@ -89,8 +89,8 @@ legal_is p w t (Join x failed timeout i) o alive = own_is w t x _ _ o alive (λ 
 legal_is p w t (Close x) o alive = own_is w t x _ _ o alive (λ s still. ap (λ n. is_opened (scope_at w s).phase && nat_lt 0 n) (count_is w s still))
 legal_is p w t (Tally x k) o alive = own_is w t x _ _ o alive (λ s still. refl)
 legal_is p w t (Total x) o alive = own_is w t x _ _ o alive (λ s still. refl)
-legal_is p w t (Get x) o alive = sub_is w t x _ _ o alive (λ u state. ap (λ (q : Option End). not (is_readable p.profile (scope_of w u) && is_success q)) state)
-legal_is p w t (Except x) o alive = sub_is w t x _ _ o alive (λ u state. ap (λ (q : Option End). not (is_readable p.profile (scope_of w u) && is_failed q)) state)
+legal_is p w t (Get x) o alive = sub_is w t x _ _ o alive (λ u state. ap (λ (q : Option End). not (is_readable p.profile (scope_of w u) && has_succeeded q)) state)
+legal_is p w t (Except x) o alive = sub_is w t x _ _ o alive (λ u state. ap (λ (q : Option End). not (is_readable p.profile (scope_of w u) && has_failed q)) state)
 legal_is p w t i o alive = refl
 
 structure_is : (w : World) (t : ℕ) (i : Instr) → Facts w → lives (task_at w t) ≡ true → live_breaks_structure (live w) (task_at w t).frame i ≡ breaks_structure w (task_at w t).frame i

@@ -15,7 +15,7 @@ use Rattle.sts_model.specs.declared.record.Frame.{Frame}
 use Rattle.sts_model.specs.World.{instr_at}
 use Rattle.sts_model.specs.Misuse.{slot, lacks_operands, overflows, breaks_loop, has_wrong_slot}
 use Rattle.sts_model.specs.Misuse.{is_strangers, is_crowded, is_opened, can_join, is_joined}
-use Rattle.sts_model.specs.Misuse.{is_success, is_failed, is_binding, is_entry_of, innermost}
+use Rattle.sts_model.specs.Misuse.{has_succeeded, has_failed, is_binding, is_entry_of, innermost}
 use Rattle.sts_model.specs.Misuse.{binds_after}
 use Rattle.sts_code.specs.Facts.{same, can_fail, is_await_all, is_two}
 use Rattle.sts_model.specs.Live.{Live, LiveScope}
@@ -79,10 +79,10 @@ live_is_illegal p v f (Total s) =
     live_at_own v (slot f s) (λ _ scope. not (live_is_readable p.profile scope))
 live_is_illegal p v f (Get h) =
     live_at_sub v (slot f h)
-    (λ t scope. not (live_is_readable p.profile scope && is_success (live_state v t)))
+    (λ t scope. not (live_is_readable p.profile scope && has_succeeded (live_state v t)))
 live_is_illegal p v f (Except h) =
     live_at_sub v (slot f h)
-    (λ t scope. not (live_is_readable p.profile scope && is_failed (live_state v t)))
+    (λ t scope. not (live_is_readable p.profile scope && has_failed (live_state v t)))
 live_is_illegal p v f _ = false
 
 -- against the order of the structure list
