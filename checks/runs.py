@@ -122,7 +122,7 @@ def shell_lines(program, folder):
     end = said.removeprefix(budgets).split("\n")[0]
     yield f"{PATTERNS}: {by_two}", said.startswith(budgets) and end in printed["by workers"]
     asked = f"`{traced.split(chr(39))[1]}`"
-    yield f"{PATTERNS}: {traced}", by_shell(program, folder, traced, hedge).split("\n")[:-1] == printed[asked]
+    yield f"{PATTERNS}: {traced}", by_shell(program, folder, traced, hedge).split("\n")[:-1] == printed.get(asked)
     rounds = re.search(r"^```text\n(for .*\n)```", read("docs/LANGUAGE.md"), re.M)[1]
     text = read("examples/sum.sts")
     yield f"LANGUAGE.md: {rounds}", by_shell(program, folder, f"{rounds}./sts plain my.sts my.trace", text) == END
