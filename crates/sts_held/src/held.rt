@@ -18,6 +18,9 @@ struct Entry<T> {
     body: T,
 }
 
+/// The birth of an entry that stands no longer: no record's, since births stay below it.
+const NO_BIRTH: usize = 1000000;
+
 /// Records by birth, some of which no longer stand: contracts see a list by birth with holes.
 ///
 /// Births count from 0 and never come back. A record stands under a key that a later record may be
@@ -27,7 +30,10 @@ pub struct Held<T> {
     /// The key that each birth was given.
     keys: Vec<usize>,
     entries: Slab<Entry<T>>,
-    room: u32,
+    /// The key of an entry that was let go and lies there still: the next birth is given it.
+    spare: Option<usize>,
+    /// How many more entries fit beside the spare one.
+    free: u32,
 }
 
 impl<T> Model for Held<T> {
@@ -39,16 +45,17 @@ impl<T> Model for Held<T> {
 
     ghost coded = { holes_code T.code };
 
-    ghost use Rattle.sts_held.specs.Slots.{slots};
+    ghost use Rattle.sts_held.specs.Slots.{IsSpare, room_of, slots};
 
     ghost view = { λ h. record {
       slots = slots 0 h.keys.items h.entries.slots;
       keys = h.keys.items;
-      room = h.room;
+      room = room_of h.free h.spare;
     } };
 
-    ghost invariant = { λ h. HasRoomFor h.entries h.room × (slab_len h.entries + h.room < 2 ^ 32)
-        × (1000000 ≤ vec_capacity h.keys) × (length h.keys.items ≤ 1000000) };
+    ghost invariant = { λ h. HasRoomFor h.entries h.free × (slab_len h.entries + h.free < 2 ^ 32)
+        × (1000000 ≤ vec_capacity h.keys) × (length h.keys.items ≤ 1000000)
+        × IsSpare h.entries.slots h.spare };
 }
 
 impl<T: Drop> Held<T> {
@@ -66,7 +73,8 @@ impl<T: Drop> Held<T> {
         Ok(Held {
             keys,
             entries,
-            room,
+            spare: None,
+            free: room,
         })
     }
 
@@ -82,7 +90,10 @@ impl<T: Drop> Held<T> {
     pub fn room(&self) -> u32
         ensures { result ≡ self.now.room }
     {
-        self.room
+        match self.spare {
+            None => self.free,
+            Some(_) => self.free + 1,
+        }
     }
 
     /// The record of a birth, if it stands.
@@ -144,9 +155,20 @@ impl<T: Drop> Held<T> {
         ensures room { self.new.room ≡ self.old.room - 1 }
     {
         let birth = self.keys.len();
-        let key = self.entries.insert_reserved(Entry { birth, body });
-        self.keys.push_reserved(key);
-        self.room -= 1;
+        match self.spare {
+            Some(key) => {
+                let entry = self.entries.get_mut(key).unwrap();
+                entry.birth = birth;
+                entry.body = body;
+                self.spare = None;
+                self.keys.push_reserved(key);
+            }
+            None => {
+                self.free -= 1;
+                let key = self.entries.insert_reserved(Entry { birth, body });
+                self.keys.push_reserved(key);
+            }
+        }
         birth
     }
 
@@ -174,7 +196,24 @@ impl<T: Drop> Held<T> {
     {
         let key = self.keys[birth];
         let entry = self.entries.remove(key);
-        self.room += 1;
+        self.free += 1;
         entry.body
+    }
+
+    /// Lets the record of a birth go, as `remove` does. The next birth may be given its place, where
+    /// the record is written over and not moved.
+    pub fn discard(&mut self, birth: usize)
+        requires { slice_index_or self.old.slots birth None ≢ None }
+        ensures slots { self.new.slots ≡ slice_set self.old.slots birth None }
+        ensures keys { self.new.keys ≡ self.old.keys }
+        ensures room { self.new.room ≡ self.old.room + 1 }
+    {
+        if self.spare.is_some() {
+            self.remove(birth);
+            return;
+        }
+        let key = self.keys[birth];
+        self.entries.get_mut(key).unwrap().birth = NO_BIRTH;
+        self.spare = Some(key);
     }
 }
