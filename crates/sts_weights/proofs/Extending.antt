@@ -1,9 +1,9 @@
 -- Paths that go on, and what they add.
-use Rattle.std.proofs.Common.{◌≡◌, ℕ, zero, suc, ◌+◌, ◌-◌, ◌*◌, ◌<◌, ◌≤◌, List, [], ◌∷◌, refl, sym, subst, ap, arith}
+use Rattle.std.proofs.Common.{◌≡◌, ℕ, zero, suc, ◌+◌, ◌*◌, ◌≤◌, ◌∷◌, refl, arith}
 use Rattle.sts_rules.specs.ControlPaths.{Skeleton, Loops, Follows, Repeats, EndsTurn, enter, again, leave}
 use Rattle.sts_budget.specs.Sums.{Flows, Sums, none as no_sum, more as more_sum}
-use Rattle.sts_weights.specs.Adding.{Adds, Steps, none, more, share, total, at_place}
-use Rattle.sts_weights.specs.Walk.{Amounts, Grows, Extends, one}
+use Rattle.sts_weights.specs.Adding.{Adds, Steps, none, more, total}
+use Rattle.sts_weights.specs.Walk.{Amounts, Extends, one}
 
 abbrev pub nothing : Amounts
 nothing = record { at = λ x. 0; all = 0 }

@@ -1,5 +1,5 @@
 -- What instructions do to a path.
-use Rattle.std.proofs.Common.{◌≡◌, ◌+◌, ◌<◌, ℕ, zero, suc, List, ◌++◌, Bool, true, false, refl, arith}
+use Rattle.std.proofs.Common.{◌≡◌, ◌<◌, ℕ, ◌++◌, true, refl, arith}
 use Rattle.sts_code.specs.declared.instr.Instr.{Instr}
 use Rattle.sts_code.specs.declared.instr.Instr.TheVariants.{Push, Pop, Dup, Swap, Load, Store, Add}
 use Rattle.sts_code.specs.declared.instr.Instr.TheVariants.{Sub, Mul, Lt, Eq, Div, Jmp, Jz, Times}
@@ -10,7 +10,7 @@ use Rattle.sts_code.specs.declared.instr.Instr.TheVariants.{Bound, OrElse, Inter
 use Rattle.sts_code.specs.Facts.{targets}
 use Rattle.sts_rules.specs.Around.{next_place}
 use Rattle.sts_rules.specs.Budget.{shape_of}
-use Rattle.sts_rules.specs.ControlPaths.{GoesTo, Repeats, EndsPath}
+use Rattle.sts_rules.specs.ControlPaths.{GoesTo, EndsPath}
 use Rattle.sts_weights.specs.Search.{goes_on, ends_path, turns_of}
 
 pub goes : (pc : ℕ) (i : Instr) → goes_on i ≡ true → shape_of pc i ≡ GoesTo (targets i ++ next_place pc i)

@@ -1,5 +1,5 @@
 -- What a path weighs at its end, by the words of the budget.
-use Rattle.std.proofs.Common.{◌≡◌, ℕ, ◌+◌, ◌<◌, List, [], length, true, refl, sym, ap, ◌∙◌, subst, arith}
+use Rattle.std.proofs.Common.{◌≡◌, ℕ, ◌+◌, ◌<◌, List, length, true, sym, ap, ◌∙◌, subst, arith}
 use Rattle.sts_code.specs.Checks.{program_fault}
 use Rattle.sts_code.specs.Program.{Program, routine, instr_at}
 use Rattle.sts_code.specs.declared.instr.Instr.{Instr}
@@ -12,7 +12,7 @@ use Rattle.sts_rules.specs.ControlPaths.{Loops, OpenEntry, Comes}
 use Rattle.sts_budget.specs.declared.change.Resource.{Resource}
 use Rattle.sts_budget.specs.declared.change.Resource.TheVariants.{Steps, Tasks, Scopes, Binds}
 use Rattle.sts_budget.specs.declared.layout.Layout.{Layout}
-use Rattle.sts_budget.specs.Change.{own_of, limit_of, depth_of}
+use Rattle.sts_budget.specs.Change.{own_of, depth_of}
 use Rattle.sts_budget.specs.Flowing.{flows, flows_by}
 use Rattle.sts_budget.specs.Known.{KnowsNames, NamesRight}
 use Rattle.sts_budget.specs.Laid.{IsLaidOut, IsRight, listed}
@@ -21,7 +21,7 @@ use Rattle.sts_budget.specs.Ready.{names_in, IsLaidFor}
 use Rattle.sts_budget.specs.Structured.{IsStructured}
 use Rattle.sts_budget.specs.Sums.{Sums}
 use Rattle.sts_budget.proofs.CheckedLemmas.{IsChecked, is_checked}
-use Rattle.sts_budget.proofs.Entries.{names, front_all, long}
+use Rattle.sts_budget.proofs.Entries.{front_all, long}
 use Rattle.sts_budget.proofs.FourKinds.{from_sums, from_steps, comes_names, end_counts}
 use Rattle.sts_budget.proofs.Laid.{is_written}
 use Rattle.sts_budget.proofs.Typed.{fits}

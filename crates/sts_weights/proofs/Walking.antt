@@ -1,15 +1,15 @@
 -- Stretches that were walked back, one after the other.
-use Rattle.std.proofs.Common.{◌≡◌, ◌≢◌, ℕ, zero, suc, ◌+◌, ◌-◌, ◌*◌, ◌<◌, ◌≤◌, ◌⊎◌, inl, inr, List, [], ◌∷◌, length, get_or, set, Bool, true, false, ◌==◌, cond, refl, sym, subst, ap, ◌∙◌, arith, length-set, get_or-set_same, get_or-set_other}
+use Rattle.std.proofs.Common.{◌≡◌, ◌≢◌, ℕ, zero, suc, ◌+◌, ◌-◌, ◌*◌, ◌<◌, ◌≤◌, List, [], ◌∷◌, length, get_or, set, Bool, true, false, ◌==◌, cond, refl, sym, subst, ap, ◌∙◌, arith, length-set, get_or-set_same, get_or-set_other}
 use Rattle.std.proofs.lemmas.Bool.{eqb-true, eqb-false}
-use Rattle.sts_rules.specs.ControlPaths.{Skeleton, Loops, Follows, GoesTo, Repeats, EndsTurn, Among, go}
+use Rattle.sts_rules.specs.ControlPaths.{Skeleton, Loops, GoesTo, Repeats, Among, go}
 use Rattle.sts_budget.specs.Sums.{Flows}
 use Rattle.sts_weights.specs.declared.search.Spot.{Spot}
 use Rattle.sts_weights.specs.declared.search.Loop.{Loop}
 use Rattle.sts_weights.specs.declared.search.Search.{Search}
 use Rattle.sts_weights.specs.declared.shares.Shares.{Shares}
-use Rattle.sts_weights.specs.Adding.{Adds, Steps, none, share, total, at_place}
+use Rattle.sts_weights.specs.Adding.{Adds, Steps, none, share, total}
 use Rattle.sts_weights.specs.Search.{IsSpot, IsLoop, paths, flow}
-use Rattle.sts_weights.specs.Walk.{Amounts, Grows, Extends, IsStretch, IsRaised, IsStepBack, IsWalked, IsWalkedOut, IsWholeWalk, one}
+use Rattle.sts_weights.specs.Walk.{Amounts, Extends, IsStretch, IsRaised, IsStepBack, IsWalked, IsWalkedOut, IsWholeWalk, one}
 use Rattle.sts_weights.proofs.Extending.{plus, fold_of, nothing, extends_none, extends_step, extends_both, over_loop, to_last_turn}
 
 -- ---- what was added

@@ -6,7 +6,7 @@ use Rattle.sts_code.specs.Program.{instr_at}
 use Rattle.sts_rules.specs.Budget.{skeleton}
 use Rattle.sts_rules.specs.ControlPaths.{Skeleton, GoesTo, Repeats, EndsTurn, Among}
 use Rattle.sts_budget.specs.declared.change.Resource.{Resource}
-use Rattle.sts_budget.specs.declared.change.Resource.TheVariants.{Steps, Tasks, Scopes, Binds}
+use Rattle.sts_budget.specs.declared.change.Resource.TheVariants.{Steps}
 use Rattle.sts_budget.specs.Ready.{IsLaidFor, flows_in}
 use Rattle.sts_budget.specs.Sums.{Flows}
 use Rattle.sts_weights.specs.declared.search.Search.{Search}

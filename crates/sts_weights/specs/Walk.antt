@@ -1,5 +1,5 @@
 -- A stretch of a control path, and what it adds (this project's own).
-use Rattle.std.specs.Prelude.{◌≡◌, ℕ, ◌+◌, ◌*◌, List, [], ◌∷◌, length, get_or}
+use Rattle.std.specs.Prelude.{◌≡◌, ℕ, ◌+◌, ◌*◌, [], ◌∷◌, length, get_or}
 use Rattle.sts_rules.specs.ControlPaths.{Skeleton, Loops}
 use Rattle.sts_budget.specs.Sums.{Flows}
 use Rattle.sts_weights.specs.declared.search.Spot.{Spot}

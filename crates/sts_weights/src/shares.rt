@@ -14,7 +14,7 @@ pub(crate) fn add(shares: &mut Shares, place: u32, amount: u64, times: u64) -> O
     requires { place < length shares.old.places.items }
     ensures { IfSome result (λ _.
         (shares.new.places.items ≡ slice_set shares.old.places.items place
-            (get_or shares.old.places.items place 0 + times * amount))
+        (get_or shares.old.places.items place 0 + times * amount))
         × (shares.new.total ≡ shares.old.total + times * amount)) }
 {
     let more = times.checked_mul(amount)?;

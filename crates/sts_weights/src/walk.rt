@@ -4,8 +4,10 @@ ghost use Rattle.std.specs.Prelude.{◌≡◌, ◌<◌, ◌≤◌, length, IfSom
 ghost use Rattle.sts_weights.specs.Search as def;
 ghost use Rattle.sts_weights.specs.Walk as walks;
 
-use crate::search::{Loop, Search, Spot, added_at, depth_before, goes_on, is_among, is_spot};
-use crate::search::{is_same, loop_from, loop_to};
+use crate::search::{
+    Loop, Search, Spot, added_at, depth_before, goes_on, is_among, is_same, is_spot, loop_from,
+    loop_to,
+};
 use crate::shares::{Shares, add};
 use crate::trail::{Trail, before};
 use sts_budget::layout::next_places;
@@ -108,12 +110,7 @@ fn back(
 }
 
 /// From the beginning of the last turn of a loop back to its `times`, over all turns before it.
-fn back_out(
-    search: &Search<'_>,
-    trail: &Trail,
-    turn: Spot,
-    shares: &mut Shares,
-) -> Option<Spot>
+fn back_out(search: &Search<'_>, trail: &Trail, turn: Spot, shares: &mut Shares) -> Option<Spot>
     requires ready { def.IsReady search.now }
     requires places { length shares.old.places.items ≡ length search.now.code.now }
     ensures { IfSome result (λ at. (at.place < turn.place) × (at.place < length search.now.code.now)

@@ -1,4 +1,4 @@
-use Rattle.std.proofs.Common.{◌≡◌, ◌+◌, ◌++◌, ◌∷◌, [], length, sym, subst}
+use Rattle.std.proofs.Common.{◌≡◌, ◌+◌, length, sym, subst}
 use Rattle.sts_code.specs.Program.{routine}
 use Rattle.sts_rules.specs.Budget.{AreBudgets, IsBudget}
 use Rattle.sts_verify.proofs.BudgetLemmas.{budgets_more}

@@ -1,4 +1,4 @@
-use Rattle.std.proofs.Common.{◌≡◌, Vec, Option, length, sym, subst}
+use Rattle.std.proofs.Common.{◌≡◌, length, sym, subst}
 use Rattle.std.specs.Prelude.{IfSome}
 use Rattle.sts_rules.specs.Budget.{AreBudgets}
 use Rattle.sts_weights.proofs.heavy.heaviest.Goals as goal

@@ -1,4 +1,3 @@
-use Rattle.std.proofs.Common.{sym, refl}
 use Rattle.sts_weights.proofs.Among.{among_at}
 use Rattle.sts_weights.proofs.search.is_among.Goals as goal
 

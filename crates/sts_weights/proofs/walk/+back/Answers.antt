@@ -1,4 +1,4 @@
-use Rattle.std.proofs.Common.{◌≡◌, ◌+◌, ◌*◌, ◌≤◌, ◌<◌, length, sym, subst, ◌∙◌, refl, arith}
+use Rattle.std.proofs.Common.{◌≡◌, ◌+◌, ◌*◌, sym, subst, ◌∙◌, refl, arith}
 use Rattle.sts_weights.specs.declared.search.Spot.{Spot}
 use Rattle.sts_weights.specs.Search.{paths, flow}
 use Rattle.sts_weights.specs.Walk.{IsStepBack, IsWalked}
@@ -10,8 +10,7 @@ loop-from-init t c = (omega arith, c.requires.places, walked_none (paths c.args.
 
 pub loop-from-preserved-in_ok-at-in-None : goal.loop-from-preserved-in_ok-at-in-None
 loop-from-preserved-in_ok-at-in-None t c =
-    let e = c.in_ok-at-in-None.ensures {u = tt} in
-    (
+    let e = c.in_ok-at-in-None.ensures {u = tt} in (
       omega (arith, e.0, c.in-Some.ensures, c.loop-from.invariant.0),
       e.1.1.1.long ∙ c.loop-from.invariant.1,
       walked_both (paths c.args.search.now) (flow c.args.search.now) c.args.times c.in_ok-at-in-None.at c.loop-from.at c.args.to c.args.shares.now c.loop-from.shares c.back_straight.new.shares c.loop-from.invariant.2 e.1,
@@ -33,8 +32,7 @@ loop-from-preserved t c =
     let walked : IsWalked (paths c.args.search.now) (flow c.args.search.now) many turn end c.back_to.new.shares c.back.new.shares = subst (λ x. IsWalked (paths c.args.search.now) (flow c.args.search.now) many x end c.back_to.new.shares c.back.new.shares) same body.1 in
     let many_is : many ≡ c.args.times * l.turns = (c.in_ok-turns-in-Some-loop_to.ensures {u = tt}).1 in
     let behind : c.loop-from.at.place ≡ l.end + 1 = omega (arith, le.0, c.if-at-from.false) in
-    let all = walked_loop c.args.search.now l c.args.times many c.loop-from.at turn end c.in_ok-at-in-Some-loop_to.at s c.back_to.new.shares c.back.new.shares v le.2 behind (c.is_spot.ensures c.if-not-is_spot.false) refl refl (c.is_spot-else-not-is_spot.ensures c.if-not-is_spot-2.false) many_is last walked first in
-    (
+    let all = walked_loop c.args.search.now l c.args.times many c.loop-from.at turn end c.in_ok-at-in-Some-loop_to.at s c.back_to.new.shares c.back.new.shares v le.2 behind (c.is_spot.ensures c.if-not-is_spot.false) refl refl (c.is_spot-else-not-is_spot.ensures c.if-not-is_spot-2.false) many_is last walked first in (
       omega (arith, first.place, le.1, c.in-Some.ensures, c.loop-from.invariant.0),
       all.1.1.long ∙ c.loop-from.invariant.1,
       walked_both (paths c.args.search.now) (flow c.args.search.now) c.args.times c.in_ok-at-in-Some-loop_to.at c.loop-from.at c.args.to c.args.shares.now s v c.loop-from.invariant.2 all,

@@ -1,4 +1,4 @@
-use Rattle.std.proofs.Common.{◌≡◌, ◌≤◌, ◌<◌, length}
+use Rattle.std.proofs.Common.{◌≡◌, ◌≤◌, length}
 use Rattle.sts_weights.specs.Search.{paths, flow}
 use Rattle.sts_weights.specs.Walk.{IsWalked}
 use Rattle.sts_weights.proofs.walk.+back.Given as goal

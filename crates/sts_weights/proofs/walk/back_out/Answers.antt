@@ -1,4 +1,4 @@
-use Rattle.std.proofs.Common.{◌≡◌, ◌+◌, ◌-◌, ◌<◌, length, Option, Some, None, sym, subst, refl, arith}
+use Rattle.std.proofs.Common.{◌≡◌, ◌+◌, ◌-◌, ◌<◌, length, Option, Some, None, subst, refl, arith}
 use Rattle.std.specs.Prelude.{IfSome}
 use Rattle.sts_weights.specs.declared.search.Spot.{Spot}
 use Rattle.sts_weights.specs.Search.{paths, flow}
