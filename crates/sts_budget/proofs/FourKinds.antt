@@ -69,7 +69,7 @@ counts_one earlier Ret = omega arith
 counts_one earlier Fail = omega arith
 
 -- the last of a path counts no more
-end_counts : (earlier : List Budgets) (pc : ℕ) (i : Instr) → shape_of pc i ≡ EndsPath → steps_of earlier i ≡ 1
+pub end_counts : (earlier : List Budgets) (pc : ℕ) (i : Instr) → shape_of pc i ≡ EndsPath → steps_of earlier i ≡ 1
 end_counts earlier pc (Push k) e = absurd (cc)
 end_counts earlier pc Pop e = absurd (cc)
 end_counts earlier pc Dup e = absurd (cc)
@@ -182,7 +182,7 @@ module _ (earlier : List Budgets) (code : List Instr) (round : ℕ → List ℕ)
       subst (λ x. Sums c (flows_by m code names_at) d pc loops x) (sym f') (more le (to_sums m from ls b entries r (source_of (measured m (instr_at code from) (names_at from)) (length (names_at from)) d) back) s)
 
   -- each of the sums is one at a point
-  from_sums : (m : Measure) (d pc : ℕ) (loops : Loops) (sum : ℕ) → Sums c (flows_by m code names_at) d pc loops sum → (before : ℕ) × ((es : List OpenEntry) × (Comes c pc loops before es × (front m es d ≡ sum)))
+  pub from_sums : (m : Measure) (d pc : ℕ) (loops : Loops) (sum : ℕ) → Sums c (flows_by m code names_at) d pc loops sum → (before : ℕ) × ((es : List OpenEntry) × (Comes c pc loops before es × (front m es d ≡ sum)))
   from_sums m d pc loops sum none = (0, ([], (start, refl)))
   from_sums m d pc loops sum (more {pc = from} {loops = ls} {m = part} le r s) =
       let w = from_sums m (source_of (measured m (instr_at code from) (names_at from)) (length (names_at from)) d) from ls part r in
@@ -202,7 +202,7 @@ module _ (earlier : List Budgets) (code : List Instr) (round : ℕ → List ℕ)
   to_steps pc loops before es start = none
   to_steps pc loops before es (step {pc = from} {loops = ls} {before = b} {entries = entries} r s) = more (omega arith) (to_steps from ls b entries r) s
 
-  from_steps : (d pc : ℕ) (loops : Loops) (sum : ℕ) → Sums c (flows Steps earlier code names_at) d pc loops sum → (es : List OpenEntry) × Comes c pc loops sum es
+  pub from_steps : (d pc : ℕ) (loops : Loops) (sum : ℕ) → Sums c (flows Steps earlier code names_at) d pc loops sum → (es : List OpenEntry) × Comes c pc loops sum es
   from_steps d pc loops sum none = ([], start)
   from_steps d pc loops sum (more {pc = from} {loops = ls} {m = part} le r s) = let w = from_steps d from ls part r in (entries_of (instr_at code from) w.0, step w.1 s)
 

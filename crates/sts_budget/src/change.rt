@@ -31,7 +31,7 @@ pub enum SumChange {
 
 /// The number of entries that the sum over the first `d` looks back on, where `depth` are open
 /// before the instruction.
-pub(crate) fn source_of(change: SumChange, depth: usize, d: usize) -> usize
+pub fn source_of(change: SumChange, depth: usize, d: usize) -> usize
     ensures { result ≡ def.source_of change depth d }
 {
     match change {
@@ -41,7 +41,7 @@ pub(crate) fn source_of(change: SumChange, depth: usize, d: usize) -> usize
 }
 
 /// What the instruction adds to the sum over the first `d`.
-pub(crate) fn added_of(change: SumChange, depth: usize, d: usize) -> u64
+pub fn added_of(change: SumChange, depth: usize, d: usize) -> u64
     ensures { result ≡ def.added_of change depth d }
 {
     match change {
@@ -126,7 +126,7 @@ fn measured(resource: Resource, earlier: &[Budgets], instr: Instr, names: &Names
 }
 
 /// What the instruction does to the sums of this resource, where the open entries have these names.
-pub(crate) fn change_of(
+pub fn change_of(
     resource: Resource,
     earlier: &[Budgets],
     instr: Instr,
@@ -142,7 +142,7 @@ pub(crate) fn change_of(
 }
 
 /// How many entries the sums of this resource go over.
-pub(crate) fn depth_of(resource: Resource, names: &Names) -> usize
+pub fn depth_of(resource: Resource, names: &Names) -> usize
     ensures value { result ≡ def.depth_of resource names.now }
     ensures bound { result ≤ MAX_ENTRIES }
 {

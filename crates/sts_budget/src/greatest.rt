@@ -20,7 +20,7 @@ use sts_code::limits::{MAX_STANDING, MAX_STEPS};
 use sts_rules::fill::filled;
 
 /// What the function counts beside the sums: the last step of a path, the task itself.
-fn own_of(resource: Resource) -> u32
+pub fn own_of(resource: Resource) -> u32
     ensures { result ≡ own_of resource }
 {
     match resource {
@@ -30,7 +30,7 @@ fn own_of(resource: Resource) -> u32
 }
 
 /// The limit of a budget.
-fn limit_of(resource: Resource) -> u32
+pub fn limit_of(resource: Resource) -> u32
     ensures { result ≡ limit_of resource }
 {
     match resource {

@@ -105,7 +105,7 @@ fn deepest_of(lists: &[Names]) -> usize
 }
 
 /// The names of the open entries at a place.
-pub(crate) fn names_at(layout: &Layout, pc: usize) -> &Names
+pub fn names_at(layout: &Layout, pc: usize) -> &Names
     requires in_code { pc < length layout.now.which.items }
     requires listed { AreListed layout.now.lists.items layout.now.which.items }
     ensures { result.now ≡ get_or (listed layout.now.lists.items layout.now.which.items) pc [] }

@@ -4,7 +4,7 @@
 
 pub mod budget;
 pub mod change;
-mod greatest;
+pub mod greatest;
 pub mod laws;
 pub mod layout;
 pub mod pass;

@@ -4,3 +4,4 @@ pub mod Places
 pub mod Output
 pub mod Ways
 pub mod Differences
+pub mod Weights

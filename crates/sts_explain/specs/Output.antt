@@ -13,6 +13,11 @@ use Rattle.sts_explain.specs.declared.ways.Meeting.{Meeting}
 use Rattle.sts_explain.specs.Ways.{Meets}
 use Rattle.sts_explain.specs.Differences.{difference_lines}
 use Rattle.sts_explain.specs.Lines.{refused_lines, fault_lines}
+use Rattle.sts_explain.specs.Weights.{weight_lines}
+use Rattle.sts_budget.specs.declared.change.Resource.{Resource}
+use Rattle.sts_budget.specs.Change.{cause_of}
+use Rattle.sts_weights.specs.declared.heavy.Heavy.{Heavy}
+use Rattle.sts_weights.specs.Heavy.{IsHeavy}
 
 -- what is printed, and the status
 pub record Output : Type 0 where
@@ -30,9 +35,10 @@ fault_output e text = record { bytes = fault_lines e text; status = 3 }
 
 -- ---- refusals
 
--- what is told beside the cause: where two ways differ, if that is why
+-- what is told beside the cause: where two ways differ, or what weighs too much, if that is why
 pub data IsDetail (p : Program) (o : Outline) (f pc : ℕ) : Cause → List ℕ → Type 0 where
   meets : (m : Meeting) → Meets p f pc m → IsDetail p o f pc StatesDiffer (difference_lines o p f m)
+  weighs : (k : Resource) (h : Heavy) {c : Cause} → c ≡ cause_of k → IsHeavy p f k h → IsDetail p o f pc c (weight_lines o f k h)
   none : {c : Cause} → IsDetail p o f pc c []
 
 -- what was printed before, and then the detail

@@ -7,19 +7,24 @@ ghost use Rattle.sts_asm.specs.Text.{judged};
 ghost use Rattle.sts_asm.specs.Fault.{FailsAt};
 ghost use Rattle.sts_code.specs.Program.{Program as AnyProgram};
 ghost use Rattle.sts_asm.specs.declared.fault.AsmError.{AsmError};
+ghost use Rattle.sts_budget.specs.Change.{cause_of};
 ghost use Rattle.sts_explain.specs.Output as def;
 
 use crate::differences::difference_lines;
 use crate::lines::{fault_lines, refused_lines, say};
 use crate::ways::find_meeting;
+use crate::weights::weight_lines;
 use std::alloc::{AllocError, Global};
 use std::io::Write;
 use std::marker::Model;
 use sts_asm::{AsmError, AsmKind, Outline, assemble, outlined};
+use sts_budget::change::Resource;
+use sts_code::code::code_of;
 use sts_code::program::Program;
 use sts_rules::typing::Cause;
 use sts_verify::error::VerifyError;
 use sts_verify::verified::verify;
+use sts_weights::heavy::heaviest;
 
 /// Writing what is printed failed; some of it may have been written.
 #[derive(Clone, Copy, Debug, PartialEq, Eq)]
@@ -75,7 +80,33 @@ fn say_meeting(
     }
 }
 
-/// Tells beside the cause where two ways differ, if that is why.
+/// Tells what weighs more than the budget of a resource may.
+fn say_heavy(
+    alloc: Global,
+    out: &mut Vec<u8>,
+    outline: &Outline<'_>,
+    program: &Program,
+    function: u32,
+    pc: u32,
+    resource: Resource,
+) -> Result<(), AllocError>
+    requires { IsRefusal program.now function pc (cause_of resource) }
+    ensures { OnOk result (def.Tells program.now outline.now function pc (cause_of resource)
+        out.old.items out.new.items) }
+{
+    if pc as usize != code_of(program, function as usize).len() {
+        return Ok(());
+    }
+    match heaviest(alloc, program, function, resource)? {
+        None => Ok(()),
+        Some(heavy) => {
+            weight_lines(alloc, out, outline, function, resource, &heavy)?;
+            Ok(())
+        }
+    }
+}
+
+/// Tells beside the cause where two ways differ, or what weighs too much, if that is why.
 fn say_detail(
     alloc: Global,
     out: &mut Vec<u8>,
@@ -91,6 +122,18 @@ fn say_detail(
 {
     match cause {
         Cause::StatesDiffer => say_meeting(alloc, out, outline, program, function, pc),
+        Cause::TooManySteps => {
+            say_heavy(alloc, out, outline, program, function, pc, Resource::Steps)
+        }
+        Cause::TooManyTasks => {
+            say_heavy(alloc, out, outline, program, function, pc, Resource::Tasks)
+        }
+        Cause::TooManyScopes => {
+            say_heavy(alloc, out, outline, program, function, pc, Resource::Scopes)
+        }
+        Cause::TooManyBinds => {
+            say_heavy(alloc, out, outline, program, function, pc, Resource::Binds)
+        }
         _ => Ok(()),
     }
 }

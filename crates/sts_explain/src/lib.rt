@@ -8,3 +8,4 @@ mod lines;
 pub mod parts;
 mod sentences;
 pub mod ways;
+mod weights;

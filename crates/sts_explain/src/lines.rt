@@ -45,7 +45,8 @@ fn say_line<'a>(
     say_words(out, words)
 }
 
-fn say_place(
+/// Appends the line of an instruction, if it has one.
+pub(crate) fn say_place(
     alloc: Global,
     out: &mut Vec<u8>,
     sentence: Option<&Sentence<'_>>,

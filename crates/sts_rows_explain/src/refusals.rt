@@ -138,7 +138,7 @@ static BUDGETS: [Row; 4] = [
             1,
             "func main 0 / push 499 / times 499 / push 2001 / times 2001 / next / next / push 0 / push 0 / ret / end",
         )],
-        lines: "refused V17 in main, at its end / some path takes more than 1000000 steps",
+        lines: "refused V17 in main, at its end / some path takes more than 1000000 steps / 1000001 steps on a path that ends here, line 10: ret / adds 1, line 2: push 499 / adds 1, line 3: times 499 / adds 499, line 4: push 2001 / adds 499, line 5: times 2001 / adds 998499, line 6: next / adds 499, line 7: next / adds 1, line 8: push 0 / adds 1, line 9: push 0 / adds 1, its last step",
         status: 4,
     },
     Row {
@@ -147,7 +147,7 @@ static BUDGETS: [Row; 4] = [
             1,
             "func kid 0 / push 5 / ret / end / func main 0 / open s0 awaitall / push 7 / times 7 / push 10000 / times 10000 / fork s0 kid _ / next / next / join s0 - - intr / close s0 / push 1 / ret / intr: / push 0 / close s0 / fail / end",
         )],
-        lines: "refused V18 in main, at its end / at some point of a path more than 65536 tasks stand",
+        lines: "refused V18 in main, at its end / at some point of a path more than 65536 tasks stand / 70001 tasks stand here, line 12: next / adds 70000, line 11: fork s0 kid _ / adds 1, the task itself",
         status: 4,
     },
     Row {
@@ -162,7 +162,7 @@ static BUDGETS: [Row; 4] = [
                 "func main 0 / open s0 awaitall / push 1 / times 1 / push 8192 / times 8192 / fork s0 a _ / next / next / join s0 - - intr / close s0 / push 1 / ret / intr: / push 0 / close s0 / fail / end",
             ),
         ],
-        lines: "refused V19 in main, at its end / at some point of a path more than 65536 scopes are open",
+        lines: "refused V19 in main, at its end / at some point of a path more than 65536 scopes are open / 65537 scopes are open here, line 68: next / adds 1, line 62: open s0 awaitall / adds 65536, line 67: fork s0 a _",
         status: 4,
     },
     Row {
@@ -177,7 +177,7 @@ static BUDGETS: [Row; 4] = [
                 "func main 0 / push 1 / bind 3 / open s0 awaitall / push 8192 / times 8192 / fork s0 a _ / next / join s0 - - x / close s0 / unbind / push 1 / ret / x: / close s0 / unbind / push 2 / ret / end",
             ),
         ],
-        lines: "refused V20 in main, at its end / at some point of a path more than 65536 bindings are open",
+        lines: "refused V20 in main, at its end / at some point of a path more than 65536 bindings are open / 65537 bindings are open here, line 36: next / adds 1, line 31: bind 3 / adds 65536, line 35: fork s0 a _",
         status: 4,
     },
 ];
@@ -239,6 +239,77 @@ static WAYS: [Row; 6] = [
     },
 ];
 
+static WEIGHTS: [Row; 6] = [
+    Row {
+        name: "of two ways the one with the loops",
+        text: &[Part(
+            1,
+            "func main 0 / push 0 / jz on / push 1000 / times 1000 / push 999 / times 999 / next / next / on: / push 0 / ret / end",
+        )],
+        lines: "refused V17 in main, at its end / some path takes more than 1000000 steps / 1002006 steps on a path that ends here, line 12: ret / adds 1, line 2: push 0 / adds 1, line 3: jz on / adds 1, line 4: push 1000 / adds 1, line 5: times 1000 / adds 1000, line 6: push 999 / adds 1000, line 7: times 999 / adds 999000, line 8: next / adds 1000, line 9: next / adds 1, line 11: push 0 / adds 1, its last step",
+        status: 4,
+    },
+    Row {
+        name: "the steps of subtasks",
+        text: &[Part(
+            1,
+            "func kid 0 / push 10000 / times 10000 / next / push 0 / ret / end / func main 0 / open s0 awaitall / push 100 / times 100 / fork s0 kid _ / next / join s0 - - intr / close s0 / push 1 / ret / intr: / push 0 / close s0 / fail / end",
+        )],
+        lines: "refused V17 in main, at its end / some path takes more than 1000000 steps / 1000608 steps on a path that ends here, line 17: ret / adds 1, line 9: open s0 awaitall / adds 1, line 10: push 100 / adds 1, line 11: times 100 / adds 1000500, line 12: fork s0 kid _ / adds 100, line 13: next / adds 1, line 14: join s0 - - intr / adds 2, line 15: close s0 / adds 1, line 16: push 1 / adds 1, its last step",
+        status: 4,
+    },
+    Row {
+        name: "more lines than are shown",
+        text: &[
+            Part(
+                1,
+                "func kid 0 / push 10000 / times 10000 / next / push 0 / ret / end / func main 0 / open s0 awaitall",
+            ),
+            Part(100, "fork s0 kid _"),
+            Part(
+                1,
+                "join s0 - - intr / close s0 / push 1 / ret / intr: / push 0 / close s0 / fail / end",
+            ),
+        ],
+        lines: "refused V17 in main, at its end / some path takes more than 1000000 steps / 1000506 steps on a path that ends here, line 113: ret / adds 10005, line 10: fork s0 kid _ / adds 10005, line 11: fork s0 kid _ / adds 10005, line 12: fork s0 kid _ / adds 10005, line 13: fork s0 kid _ / adds 10005, line 14: fork s0 kid _ / adds 10005, line 15: fork s0 kid _ / adds 10005, line 16: fork s0 kid _ / adds 10005, line 17: fork s0 kid _ / adds 10005, line 18: fork s0 kid _ / adds 10005, line 19: fork s0 kid _ / adds 10005, line 20: fork s0 kid _ / adds 10005, line 21: fork s0 kid _ / adds 10005, line 22: fork s0 kid _ / adds 10005, line 23: fork s0 kid _ / adds 10005, line 24: fork s0 kid _ / adds 10005, line 25: fork s0 kid _ / adds 10005, line 26: fork s0 kid _ / adds 10005, line 27: fork s0 kid _ / adds 10005, line 28: fork s0 kid _ / adds 10005, line 29: fork s0 kid _ / adds 10005, line 30: fork s0 kid _ / adds 10005, line 31: fork s0 kid _ / adds 10005, line 32: fork s0 kid _ / adds 10005, line 33: fork s0 kid _ / adds 10005, line 34: fork s0 kid _ / adds 10005, line 35: fork s0 kid _ / adds 10005, line 36: fork s0 kid _ / adds 10005, line 37: fork s0 kid _ / adds 10005, line 38: fork s0 kid _ / adds 10005, line 39: fork s0 kid _ / adds 10005, line 40: fork s0 kid _ / adds 10005, line 41: fork s0 kid _ / adds 10005, line 42: fork s0 kid _ / adds 10005, line 43: fork s0 kid _ / adds 10005, line 44: fork s0 kid _ / adds 10005, line 45: fork s0 kid _ / adds 10005, line 46: fork s0 kid _ / adds 10005, line 47: fork s0 kid _ / adds 10005, line 48: fork s0 kid _ / adds 10005, line 49: fork s0 kid _ / adds 10005, line 50: fork s0 kid _ / adds 10005, line 51: fork s0 kid _ / adds 10005, line 52: fork s0 kid _ / adds 10005, line 53: fork s0 kid _ / adds 10005, line 54: fork s0 kid _ / adds 10005, line 55: fork s0 kid _ / adds 10005, line 56: fork s0 kid _ / adds 10005, line 57: fork s0 kid _ / adds 10005, line 58: fork s0 kid _ / adds 10005, line 59: fork s0 kid _ / and so do 54 other lines, none of them more / adds 1, its last step",
+        status: 4,
+    },
+    Row {
+        name: "of two ways the one with more subtasks",
+        text: &[
+            Part(
+                1,
+                "func kid 0 / push 0 / ret / end / func main 0 / open s0 awaitall / push 0 / jz few / push 9 / times 9 / push 7281 / times 7281 / fork s0 kid _ / next / next / jmp on / few: / fork s0 kid _ / on:",
+            ),
+            Part(7, "fork s0 kid _"),
+            Part(
+                1,
+                "join s0 - - intr / close s0 / push 1 / ret / intr: / push 0 / close s0 / fail / end",
+            ),
+        ],
+        lines: "refused V18 in main, at its end / at some point of a path more than 65536 tasks stand / 65537 tasks stand here, line 27: join s0 - - intr / adds 65529, line 13: fork s0 kid _ / adds 1, line 20: fork s0 kid _ / adds 1, line 21: fork s0 kid _ / adds 1, line 22: fork s0 kid _ / adds 1, line 23: fork s0 kid _ / adds 1, line 24: fork s0 kid _ / adds 1, line 25: fork s0 kid _ / adds 1, line 26: fork s0 kid _ / adds 1, the task itself",
+        status: 4,
+    },
+    Row {
+        name: "a scope that is closed adds nothing",
+        text: &[Part(
+            1,
+            "func a 0 / open s1 awaitall / open s2 awaitall / join s2 - - x2 / close s2 / jmp y2 / x2: / close s2 / y2: / join s1 - - x1 / close s1 / jmp y1 / x1: / close s1 / y1: / push 0 / ret / end / func main 0 / open s1 awaitall / join s1 - - i / close s1 / jmp k / i: / close s1 / k: / open s0 awaitall / push 4 / times 4 / push 8192 / times 8192 / fork s0 a _ / next / next / join s0 - - intr / close s0 / push 1 / ret / intr: / push 0 / close s0 / fail / end",
+        )],
+        lines: "refused V19 in main, at its end / at some point of a path more than 65536 scopes are open / 65537 scopes are open here, line 33: next / adds 1, line 27: open s0 awaitall / adds 65536, line 32: fork s0 a _",
+        status: 4,
+    },
+    Row {
+        name: "a binding that is taken back adds nothing",
+        text: &[Part(
+            1,
+            "func a 0 / push 1 / bind 0 / push 1 / bind 0 / unbind / unbind / push 0 / ret / end / func main 0 / push 1 / bind 3 / unbind / push 2 / bind 4 / open s0 awaitall / push 4 / times 4 / push 8192 / times 8192 / fork s0 a _ / next / next / join s0 - - x / close s0 / unbind / push 1 / ret / x: / close s0 / unbind / push 2 / ret / end",
+        )],
+        lines: "refused V20 in main, at its end / at some point of a path more than 65536 bindings are open / 65537 bindings are open here, line 23: next / adds 1, line 16: bind 4 / adds 65536, line 22: fork s0 a _",
+        status: 4,
+    },
+];
+
 #[test]
 fn tell_operands_and_ways(rt: HostRuntime) -> Result<(), Fail> {
     all(&rt, rt.alloc(), &OPERANDS_AND_WAYS)
@@ -262,4 +333,9 @@ fn tell_budgets(rt: HostRuntime) -> Result<(), Fail> {
 #[test]
 fn tell_ways(rt: HostRuntime) -> Result<(), Fail> {
     all(&rt, rt.alloc(), &WAYS)
+}
+
+#[test]
+fn tell_weights(rt: HostRuntime) -> Result<(), Fail> {
+    all(&rt, rt.alloc(), &WEIGHTS)
 }

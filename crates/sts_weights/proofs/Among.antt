@@ -1,0 +1,8 @@
+-- What stands in a list is among it.
+use Rattle.std.proofs.Common.{◌≡◌, ℕ, zero, suc, ◌<◌, List, [], ◌∷◌, length, get_or, inl, inr, arith}
+use Rattle.sts_rules.specs.ControlPaths.{Among}
+
+pub among_at : (xs : List ℕ) (i x : ℕ) → i < length xs → get_or xs i 0 ≡ x → Among xs x
+among_at [] i x lt e = absurd (omega arith)
+among_at (y ∷ ys) zero x lt e = inl e
+among_at (y ∷ ys) (suc i) x lt e = inr (among_at ys i x (omega arith) e)

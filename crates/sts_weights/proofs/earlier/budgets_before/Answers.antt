@@ -1,0 +1,17 @@
+use Rattle.std.proofs.Common.{◌≡◌, ◌+◌, length, sym, subst}
+use Rattle.sts_code.specs.Program.{routine}
+use Rattle.sts_rules.specs.Budget.{AreBudgets, IsBudget}
+use Rattle.sts_verify.proofs.BudgetLemmas.{budgets_more}
+use Rattle.sts_weights.proofs.earlier.budgets_before.Goals as goal
+
+pub budget-requires-clause-typed : goal.budget-requires-clause-typed
+budget-requires-clause-typed c = (c.requires.sound c.loop-earlier.earlier c.loop-earlier-test.true).typed
+
+pub budget-requires-clause-earlier : goal.budget-requires-clause-earlier
+budget-requires-clause-earlier c = subst (AreBudgets c.args.program.now) (sym c.as_slice.ensures.value) c.loop-earlier.invariant.1
+
+pub loop-earlier-preserved : goal.loop-earlier-preserved
+loop-earlier-preserved c =
+    let f = c.loop-earlier.earlier in
+    subst (λ xs. (length xs ≡ f + 1) × AreBudgets c.args.program.now xs) (sym (c.in_ok-push-in-Ok.ensures {u = tt}).items)
+    (budgets_more c.args.program.now c.loop-earlier.budgets.items c.in-Ok.found f c.loop-earlier.invariant.0 c.loop-earlier.invariant.1 (subst (λ xs. IsBudget xs (routine c.args.program.now f).code c.in-Ok.found) c.as_slice.ensures.value c.in-Ok.ensures.0))

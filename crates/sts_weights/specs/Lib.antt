@@ -1,0 +1,5 @@
+pub mod Adding
+pub mod Search
+pub mod Walk
+pub mod Heavy
+pub mod Found
