@@ -1,0 +1,21 @@
+-- The wrong word of a line, in its place (this project's own).
+use Rattle.std.specs.Prelude.{ℕ, List, [], ◌++◌, Option, Some, None, codes}
+use Rattle.sts_list.specs.Spelling.{after_spaces}
+use Rattle.sts_wanted.specs.Wanted.{Stop}
+use Rattle.sts_explain.specs.Sentences.{wanted_sentence}
+
+-- ` [seven]`, or ` []` where a word is missing
+abbrev pub bracketed : Option (List ℕ) → List ℕ
+bracketed None = codes " []"
+bracketed (Some word) = codes " [" ++ word ++ codes "]"
+
+-- ` push [seven]: wanted is a number of 64 bits with a sign`
+abbrev pub stop_words : Stop → List ℕ
+stop_words s =
+    after_spaces s.before ++ bracketed s.word ++ codes ": wanted is " ++ wanted_sentence s.wanted
+    ++ codes "\n"
+
+-- the line of a fault that is of one word
+abbrev pub wrong_line : Option Stop → List ℕ
+wrong_line None = []
+wrong_line (Some s) = codes "at" ++ stop_words s
