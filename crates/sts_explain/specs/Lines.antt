@@ -90,10 +90,14 @@ abbrev pub fault_place : AsmKind → ℕ → List ℕ → List ℕ
 fault_place (Code c) line text = code_place (outlined text) c
 fault_place kind line text = line_place kind line text
 
--- `error A2, line 3: psh 5`, or `error A9 C4 in main, line 5: fork s0 main _`; what is wrong; and
--- the wrong word in its place, where the fault is of one
+-- `error A2, line 3: psh 5`, or `error A9 C4 in main, line 5: fork s0 main _`
+abbrev pub fault_head : AsmError → List ℕ → List ℕ
+fault_head e text =
+    codes "error A" ++ decimal (kind_number e.kind) ++ check_words e.kind
+    ++ fault_place e.kind e.line text
+
+-- where it is; what is wrong; and the wrong word in its place, where the fault is of one
 abbrev pub fault_lines : AsmError → List ℕ → List ℕ
 fault_lines e text =
-    codes "error A" ++ decimal (kind_number e.kind) ++ check_words e.kind
-    ++ fault_place e.kind e.line text ++ codes "\n" ++ kind_sentence e.kind ++ codes "\n"
+    fault_head e text ++ codes "\n" ++ kind_sentence e.kind ++ codes "\n"
     ++ wrong_line (wrong_place e.kind (words_at text e.line))

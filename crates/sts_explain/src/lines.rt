@@ -141,6 +141,21 @@ fn say_check(alloc: Global, out: &mut Vec<u8>, kind: AsmKind) -> Result<(), Allo
     }
 }
 
+fn say_fault_head(
+    alloc: Global,
+    out: &mut Vec<u8>,
+    error: AsmError,
+    text: &[u8],
+) -> Result<(), AllocError>
+    ensures { OnOk result (out.new.items ≡ out.old.items ++ def.fault_head error text.now) }
+{
+    let number = error.kind.number();
+    let head = format!(in alloc; "error A{number}")?;
+    say(out, head.as_str())?;
+    say_check(alloc, out, error.kind)?;
+    say_fault_place(alloc, out, error, text)
+}
+
 /// The lines of a fault of a text: where it is, what is wrong, and the wrong word in its place.
 ///
 /// # Errors
@@ -154,11 +169,7 @@ pub(crate) fn fault_lines(
 ) -> Result<(), AllocError>
     ensures { OnOk result (out.new.items ≡ out.old.items ++ def.fault_lines error text.now) }
 {
-    let number = error.kind.number();
-    let head = format!(in alloc; "error A{number}")?;
-    say(out, head.as_str())?;
-    say_check(alloc, out, error.kind)?;
-    say_fault_place(alloc, out, error, text)?;
+    say_fault_head(alloc, out, error, text)?;
     say(out, "\n")?;
     say(out, kind_sentence(error.kind))?;
     say(out, "\n")?;

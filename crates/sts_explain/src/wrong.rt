@@ -1,9 +1,8 @@
 //! The wrong word of a line, in its place.
 
-ghost use Rattle.std.specs.Prelude.{◌≡◌, ◌++◌, OnOk, option_map};
+ghost use Rattle.std.specs.Prelude.{◌≡◌, ◌++◌, [], OnOk};
 ghost use Rattle.sts_asm.specs.Source.{words_at};
 ghost use Rattle.sts_wanted.specs.Wanted.{stop, first_wrong, wrong_place};
-ghost use Rattle.sts_explain.specs.Sentences.{wanted_sentence};
 ghost use Rattle.sts_explain.specs.Wrong as def;
 
 use crate::lines::say;
@@ -14,8 +13,7 @@ use sts_text::Words;
 use sts_wanted::wanted::{Wanted, in_place_of};
 
 fn say_wanted(out: &mut Vec<u8>, wanted: Wanted) -> Result<(), AllocError>
-    ensures { OnOk result (out.new.items ≡ out.old.items
-        ++ (": wanted is " ++ wanted_sentence wanted ++ "\n")) }
+    ensures { OnOk result (out.new.items ≡ out.old.items ++ def.wanted_words wanted) }
 {
     say(out, ": wanted is ")?;
     say(out, wanted_sentence(wanted))?;
