@@ -1,7 +1,7 @@
 -- Where a text says what: the line of each instruction, and the words of a line (this project's
 -- own).
-use Rattle.std.specs.Prelude.{ℕ, ◌-◌, List, [], Option, Some, None, Result, Err, length, nat_lt}
-use Rattle.std.specs.Prelude.{slice_get, if◌then◌else◌}
+use Rattle.std.specs.Prelude.{ℕ, ◌-◌, List, [], Option, Some, None, option_map, Result, Err, length}
+use Rattle.std.specs.Prelude.{nat_lt, slice_get, if◌then◌else◌}
 use Rattle.std.specs.List.{before_first}
 use Rattle.sts_text.specs.Words.{lines, words}
 use Rattle.sts_asm.specs.declared.fault.AsmKind.TheVariants.{TextTooLong}
@@ -22,6 +22,14 @@ sentences_of (Some d) = d.code
 -- the line of the instruction at a place of a function: its number and its words
 abbrev pub sentence_at : Outline → ℕ → ℕ → Option Sentence
 sentence_at o f pc = slice_get (sentences_of (slice_get o.done f)) pc
+
+-- the name of a function
+abbrev pub name_at : Outline → ℕ → Option (List ℕ)
+name_at o f = option_map (λ (d : Draft). d.name) (slice_get o.done f)
+
+-- how many arguments it takes
+abbrev pub args_at : Outline → ℕ → Option ℕ
+args_at o f = option_map (λ (d : Draft). d.args) (slice_get o.done f)
 
 -- the words of a line, its comment left out
 abbrev pub words_of : Option (List ℕ) → List (List ℕ)

@@ -244,3 +244,19 @@ pub fn mnemonic_of(word: &[u8]) -> Option<Mnemonic>
     }
     slotted_word(word)
 }
+
+/// What this first word says, if it is an instruction's.
+pub fn first_word(word: &[u8]) -> Option<Mnemonic>
+    ensures { result ≡ mnemonic_of word.now }
+{
+    if let Some(found) = other_word(word) {
+        return Some(found);
+    }
+    if let Some(instr) = plain_word(word) {
+        return Some(Mnemonic::Plain(instr));
+    }
+    if let Some(found) = numbered_word(word) {
+        return Some(found);
+    }
+    slotted_word(word)
+}

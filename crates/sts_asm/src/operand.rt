@@ -62,7 +62,8 @@ pub fn value_at(words: &mut Words<'_>) -> Result<i64, AsmKind>
     number(word).ok_or(AsmKind::BadNumber)
 }
 
-fn slot(word: &[u8]) -> Option<u8>
+/// The slot that a word spells: `s` and digits up to 255.
+pub fn slot(word: &[u8]) -> Option<u8>
     ensures { result ≡ slot word.now }
 {
     match word {
@@ -88,7 +89,8 @@ pub fn slot_at(words: &mut Words<'_>) -> Result<u8, AsmKind>
     slot(word).ok_or(AsmKind::BadOperands)
 }
 
-fn handle(word: &[u8]) -> Option<Option<u8>>
+/// The slot of a subtask that a word spells, or that it is `_` for none.
+pub fn handle(word: &[u8]) -> Option<Option<u8>>
     ensures { result ≡ handle word.now }
 {
     if word == b"_".as_slice() {
@@ -234,7 +236,8 @@ fn until_at(words: &mut Words<'_>) -> Result<Joiner, AsmKind>
     }
 }
 
-fn one_word_joiner(word: &[u8]) -> Option<Joiner>
+/// The joiner that is spelled by this one word.
+pub fn one_word_joiner(word: &[u8]) -> Option<Joiner>
     ensures { result ≡ looked_up joiners word.now }
 {
     if word == b"all".as_slice() {
@@ -285,7 +288,8 @@ pub fn timed_at(words: &mut Words<'_>) -> Result<bool, AsmKind>
     }
 }
 
-fn kind_counted(word: &[u8]) -> Option<Kind>
+/// The state of a subtask that `tally` counts, by its letter.
+pub fn kind_counted(word: &[u8]) -> Option<Kind>
     ensures { result ≡ looked_up kinds_counted word.now }
 {
     if word == b"S".as_slice() {

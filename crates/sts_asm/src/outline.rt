@@ -194,7 +194,7 @@ fn header_at<'a>(alloc: Global, rest: &mut Words<'a>) -> Result<Draft<'a>, AsmKi
 }
 
 /// The name of a label, where the word is a name and a colon.
-fn label_of(word: &[u8]) -> Option<&[u8]>
+pub fn label_of(word: &[u8]) -> Option<&[u8]>
     ensures { option_map (λ name. name.now) result ≡ label_of word.now }
 {
     match word {

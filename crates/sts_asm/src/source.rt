@@ -1,10 +1,10 @@
 //! Where a text says what: the line of each instruction, and the words of a line.
 
-ghost use Rattle.std.specs.Prelude.{◌≡◌, slice_get};
+ghost use Rattle.std.specs.Prelude.{◌≡◌, slice_get, option_map};
 ghost use Rattle.std.specs.Option.{option_copied};
 ghost use Rattle.sts_text.specs.Words.{lines};
 ghost use Rattle.sts_asm.specs.Fault.{Judges};
-ghost use Rattle.sts_asm.specs.Source.{outlined, sentence_at, words_at};
+ghost use Rattle.sts_asm.specs.Source.{outlined, sentence_at, name_at, args_at, words_at};
 
 use crate::fault::{AsmError, AsmKind};
 use crate::outline::{Outline, Sentence, uncommented};
@@ -36,6 +36,26 @@ impl<'a> Outline<'a> {
     {
         match self.done.get(function as usize) {
             Some(draft) => draft.code.sentences.get(pc as usize),
+            None => None,
+        }
+    }
+
+    /// The name of a function.
+    pub fn name(&self, function: u32) -> Option<&'a str>
+        ensures { option_map (λ name. name.now) result ≡ name_at self.now function }
+    {
+        match self.done.get(function as usize) {
+            Some(draft) => Some(draft.name),
+            None => None,
+        }
+    }
+
+    /// How many arguments a function takes.
+    pub fn args(&self, function: u32) -> Option<u8>
+        ensures { result ≡ args_at self.now function }
+    {
+        match self.done.get(function as usize) {
+            Some(draft) => Some(draft.args),
             None => None,
         }
     }

@@ -15,7 +15,7 @@ use Rattle.sts_asm.specs.Marks.{Mark, Names}
 use Rattle.sts_asm.specs.Outline.{Sentence, Draft, Outline, outline_of}
 use Rattle.sts_asm.specs.Source.{sentences_of}
 use Rattle.sts_asm.specs.Text.{each, instr_at, routine_of, checked, program_of}
-use Rattle.sts_explain.specs.Places.{Says, LinesSayInstructions}
+use Rattle.sts_explain.specs.Places.{Says, LinesSayInstructions, FunctionsSayInstructions}
 
 -- what is read of a list at some number is read of its element there
 abbrev ReadAt : {A B : Type 0} → (A → Result B AsmError) → List A → List B → Type 0
@@ -74,10 +74,14 @@ routine_at [] f pc i g = absurd (cc)
 routine_at (r ∷ rs) zero pc i g = refl
 routine_at (r ∷ rs) (suc f) pc i g = routine_at rs f pc i g
 
+pub functions_say : FunctionsSayInstructions
+functions_say o rs f pc i all g =
+    let rt : Routine = slice_index_or rs f no_routine in
+    let at = each_read (routine_of o.functions) o.done rs all f rt (routine_at rs f pc i g) in
+    let says = routine_says o.functions at.0 rt pc i at.1.1 g in
+    (says.0, (subst (λ (d : Option Draft). slice_get (sentences_of d) pc ≡ Some says.0) (sym at.1.0) says.1.0, says.1.1))
+
 pub lines_say : LinesSayInstructions
 lines_say text p o f pc i j l g =
     let whole = judged_read (nat_lt 1048576 (length text)) (outline_of text) o p j l in
-    let all = program_read o (each (routine_of o.functions) o.done) p whole in
-    let at = each_read (routine_of o.functions) o.done p.routines all f (routine p f) (routine_at p.routines f pc i g) in
-    let says = routine_says o.functions at.0 (routine p f) pc i at.1.1 g in
-    (says.0, (subst (λ (d : Option Draft). slice_get (sentences_of d) pc ≡ Some says.0) (sym at.1.0) says.1.0, says.1.1))
+    functions_say o p.routines f pc i (program_read o (each (routine_of o.functions) o.done) p whole) g

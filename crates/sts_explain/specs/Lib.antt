@@ -1,4 +1,5 @@
 pub mod Sentences
+pub mod Wrong
 pub mod Lines
 pub mod Places
 pub mod Output

@@ -6,49 +6,108 @@ use Rattle.sts_asm.specs.declared.fault.AsmKind.{AsmKind}
 use Rattle.sts_asm.specs.declared.fault.AsmKind.TheVariants as asm
 use Rattle.sts_rules.specs.declared.typing.Cause.{Cause}
 use Rattle.sts_rules.specs.declared.typing.Cause.TheVariants as cause
+use Rattle.sts_wanted.specs.declared.wanted.Wanted.{Wanted}
+use Rattle.sts_wanted.specs.declared.wanted.Wanted.TheVariants as wanted
 
 -- why a program is refused, V1 to V20
 abbrev pub cause_sentence : Cause → List ℕ
 cause_sentence cause.StackUnder = codes "it pops more operands than there are here"
 cause_sentence cause.StackOver = codes "more than 32 operands would be on the stack afterwards"
-cause_sentence cause.FallsOff = codes "it leads to the end of the function: a ret, a fail or a jmp is missing"
-cause_sentence cause.BackJump = codes "it names an instruction that isn't a later one: only times and next go back"
-cause_sentence cause.LoopMismatch = codes "a times without its next, a next without its times, or a way into a loop or out of it"
+cause_sentence cause.FallsOff =
+    codes "it leads to the end of the function: a ret, a fail or a jmp is missing"
+cause_sentence cause.BackJump =
+    codes "it names an instruction that isn't a later one: only times and next go back"
+cause_sentence cause.LoopMismatch =
+    codes "a times without its next, a next without its times, or a way into a loop or out of it"
 cause_sentence cause.LoopDepth = codes "8 loops are open here, and it would open a ninth"
-cause_sentence cause.StatesDiffer = codes "two ways meet here, or two turns of a loop, and what is known of the task differs"
+cause_sentence cause.StatesDiffer =
+    codes "two ways meet here, or two turns of a loop, and what is known of the task differs"
 cause_sentence cause.DeadCode = codes "no way leads here"
-cause_sentence cause.SlotKind = codes "a slot that it names doesn't hold what it is about: a scope, or a subtask"
-cause_sentence cause.SlotBusy = codes "the slot that it would fill isn't empty: a forget or a close is missing"
-cause_sentence cause.WrongThread = codes "the scope is the one that this function is a subtask of: only its owner may do this"
-cause_sentence cause.IllegalState = codes "the scope or subtask isn't known to be in the state for it: see its join or case"
-cause_sentence cause.Structure = codes "what was opened last is ended first, and all that is open before a ret or fail"
-cause_sentence cause.Nesting = codes "16 scopes and bindings are open here, and it would open one more"
-cause_sentence cause.Unbound = codes "a key that is neither bound here nor named in the function's needs"
-cause_sentence cause.JoinEdges = codes "failed has a label just under all, any and awaitok, and timeout just where timed"
+cause_sentence cause.SlotKind =
+    codes "a slot that it names doesn't hold what it is about: a scope, or a subtask"
+cause_sentence cause.SlotBusy =
+    codes "the slot that it would fill isn't empty: a forget or a close is missing"
+cause_sentence cause.WrongThread =
+    codes "the scope is the one that this function is a subtask of: only its owner may do this"
+cause_sentence cause.IllegalState =
+    codes "the scope or subtask isn't known to be in the state for it: see its join or case"
+cause_sentence cause.Structure =
+    codes "what was opened last is ended first, and all that is open before a ret or fail"
+cause_sentence cause.Nesting =
+    codes "16 scopes and bindings are open here, and it would open one more"
+cause_sentence cause.Unbound =
+    codes "a key that is neither bound here nor named in the function's needs"
+cause_sentence cause.JoinEdges =
+    codes "failed has a label just under all, any and awaitok, and timeout just where timed"
 cause_sentence cause.TooManySteps = codes "some path takes more than 1000000 steps"
 cause_sentence cause.TooManyTasks = codes "at some point of a path more than 65536 tasks stand"
 cause_sentence cause.TooManyScopes = codes "at some point of a path more than 65536 scopes are open"
-cause_sentence cause.TooManyBinds = codes "at some point of a path more than 65536 bindings are open"
+cause_sentence cause.TooManyBinds =
+    codes "at some point of a path more than 65536 bindings are open"
 
 -- why functions are no program, C1 to C7
 abbrev pub code_sentence : CodeCause → List ℕ
 code_sentence code.TooManyFunctions = codes "there are more than 64 functions"
 code_sentence code.TooLong = codes "the function has more than 4096 instructions"
-code_sentence code.BadTarget = codes "a label that stands behind the last instruction of its function"
+code_sentence code.BadTarget =
+    codes "a label that stands behind the last instruction of its function"
 code_sentence code.LaterFunction = codes "it forks a function that doesn't stand before this one"
-code_sentence code.NoMain = codes "the last function isn't main with no arguments and no needs, or there is none"
-code_sentence code.BadRange = codes "a number out of its range, more than 8 arguments, or no instruction"
+code_sentence code.NoMain =
+    codes "the last function isn't main with no arguments and no needs, or there is none"
+code_sentence code.BadRange =
+    codes "a number out of its range, more than 8 arguments, or no instruction"
 code_sentence code.DuplicateName = codes "an earlier function has the same name"
 
 -- what is wrong with a text, A1 to A10
 abbrev pub kind_sentence : AsmKind → List ℕ
-kind_sentence asm.NotAscii = codes "a byte that isn't allowed: tabs, returns and the bytes 32 to 126 are"
-kind_sentence asm.UnknownWord = codes "its first word is none, or may not stand here: inside a function, outside, or line 1"
+kind_sentence asm.NotAscii =
+    codes "a byte that isn't allowed: tabs, returns and the bytes 32 to 126 are"
+kind_sentence asm.UnknownWord =
+    codes "its first word is none, or may not stand here: inside a function, outside, or line 1"
 kind_sentence asm.BadNumber = codes "a word that should be a number of its range isn't one"
-kind_sentence asm.BadOperands = codes "an operand is missing, of another kind, left over or badly spelled"
-kind_sentence asm.UnknownLabel = codes "a label that isn't in this function, or a function that isn't in this text"
+kind_sentence asm.BadOperands =
+    codes "an operand is missing, of another kind, left over or badly spelled"
+kind_sentence asm.UnknownLabel =
+    codes "a label that isn't in this function, or a function that isn't in this text"
 kind_sentence asm.DuplicateLabel = codes "this function has that label already"
 kind_sentence asm.Unclosed = codes "the function before isn't ended: an end is missing"
 kind_sentence asm.TextTooLong = codes "the text has more than 1048576 bytes"
 kind_sentence (asm.Code e) = code_sentence e.cause
 kind_sentence asm.Memory = codes "memory was refused"
+
+-- what has to stand at a place of a line
+abbrev pub wanted_sentence : Wanted → List ℕ
+wanted_sentence wanted.First = codes "func, end, a label or an instruction"
+wanted_sentence wanted.Inside =
+    codes "func: labels, instructions and end stand inside a function only"
+wanted_sentence wanted.TopLine = codes "another word: profile stands on line 1 only"
+wanted_sentence wanted.NewLabel = codes "a label that this function hasn't yet"
+wanted_sentence wanted.Nothing = codes "nothing more"
+wanted_sentence wanted.Byte = codes "a number from 0 to 255"
+wanted_sentence wanted.Value = codes "a number of 64 bits with a sign"
+wanted_sentence wanted.Turns = codes "the bound, a number from 0 to 65535"
+wanted_sentence wanted.Slot = codes "a slot, s0 to s255"
+wanted_sentence wanted.Label = codes "the name of a label"
+wanted_sentence wanted.OpenSlot = codes "the slot of the scope, s0 to s255"
+wanted_sentence wanted.Joiner = codes "the joiner: all, any, awaitok, awaitall or until"
+wanted_sentence wanted.Condition = codes "failed, success or atleast"
+wanted_sentence wanted.Count = codes "how many of them, a number of 32 bits"
+wanted_sentence wanted.Least = codes "the least value, a number of 64 bits with a sign"
+wanted_sentence wanted.Timed = codes "timed, or nothing more"
+wanted_sentence wanted.ForkSlot = codes "the slot of the scope, s0 to s255"
+wanted_sentence wanted.Function = codes "the name of the function"
+wanted_sentence wanted.Handle = codes "the slot of the subtask, s0 to s255, or _ for none"
+wanted_sentence wanted.JoinSlot = codes "the slot of the scope, s0 to s255"
+wanted_sentence wanted.JoinFailed = codes "the label for failed, or - for none"
+wanted_sentence wanted.JoinTimeout = codes "the label for timeout, or - for none"
+wanted_sentence wanted.JoinInterrupted = codes "the label for interrupted"
+wanted_sentence wanted.CaseSlot = codes "the slot of the subtask, s0 to s255"
+wanted_sentence wanted.CaseSuccess = codes "the label for success"
+wanted_sentence wanted.CaseFailed = codes "the label for failed"
+wanted_sentence wanted.TallySlot = codes "the slot of the scope, s0 to s255"
+wanted_sentence wanted.State = codes "S, F or U"
+wanted_sentence wanted.Name = codes "the name of the function"
+wanted_sentence wanted.Args = codes "how many arguments it takes, a number from 0 to 255"
+wanted_sentence wanted.Needs = codes "needs, or nothing more"
+wanted_sentence wanted.Key = codes "a key, a number from 0 to 15"
+wanted_sentence wanted.Profile = codes "the profile, 1 or 2"

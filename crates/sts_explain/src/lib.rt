@@ -1,6 +1,7 @@
 //! Why a text is no program or a program is refused, told by the lines of its text.
 #![tactic(auto)]
 
+mod checks;
 mod differences;
 pub mod explain;
 pub mod laws;
@@ -9,3 +10,4 @@ pub mod parts;
 mod sentences;
 pub mod ways;
 mod weights;
+mod wrong;

@@ -5,7 +5,9 @@ ghost use Rattle.std.specs.Option.{option_copied};
 ghost use Rattle.sts_list.specs.Spelling.{after_spaces};
 ghost use Rattle.sts_explain.specs.Lines as def;
 
+use crate::checks::say_code_place;
 use crate::sentences::{cause_sentence, kind_sentence};
+use crate::wrong::wrong_line;
 use std::alloc::{AllocError, Global};
 use sts_asm::{AsmError, AsmKind, Sentence, words_at};
 use sts_code::code::name_of;
@@ -32,7 +34,7 @@ fn say_words<'a>(out: &mut Vec<u8>, words: Words<'a>) -> Result<(), AllocError>
     Ok(())
 }
 
-fn say_line<'a>(
+pub(crate) fn say_line<'a>(
     alloc: Global,
     out: &mut Vec<u8>,
     line: u32,
@@ -96,22 +98,66 @@ fn fault_words(kind: AsmKind, text: &[u8], line: u32) -> Words<'_>
     }
 }
 
+fn say_line_place(
+    alloc: Global,
+    out: &mut Vec<u8>,
+    kind: AsmKind,
+    line: u32,
+    text: &[u8],
+) -> Result<(), AllocError>
+    ensures { OnOk result (out.new.items ≡ out.old.items ++ def.line_place kind line text.now) }
+{
+    if line == 0 {
+        return Ok(());
+    }
+    let words = fault_words(kind, text, line);
+    say_line(alloc, out, line, words)
+}
+
 fn say_fault_place(
     alloc: Global,
     out: &mut Vec<u8>,
     error: AsmError,
     text: &[u8],
 ) -> Result<(), AllocError>
-    ensures { OnOk result (out.new.items ≡ out.old.items ++ def.fault_place error text.now) }
+    ensures { OnOk result (out.new.items
+        ≡ out.old.items ++ def.fault_place error.kind error.line text.now) }
 {
-    if error.line == 0 {
-        return Ok(());
+    match error.kind {
+        AsmKind::Code(code) => say_code_place(alloc, out, code, text),
+        kind => say_line_place(alloc, out, kind, error.line, text),
     }
-    let words = fault_words(error.kind, text, error.line);
-    say_line(alloc, out, error.line, words)
 }
 
-/// The lines of a fault of a text: where it is, and what is wrong.
+fn say_check(alloc: Global, out: &mut Vec<u8>, kind: AsmKind) -> Result<(), AllocError>
+    ensures { OnOk result (out.new.items ≡ out.old.items ++ def.check_words kind) }
+{
+    match kind {
+        AsmKind::Code(code) => {
+            let number = code.cause.number();
+            let words = format!(in alloc; " C{number}")?;
+            say(out, words.as_str())
+        }
+        _ => Ok(()),
+    }
+}
+
+fn say_fault_head(
+    alloc: Global,
+    out: &mut Vec<u8>,
+    error: AsmError,
+    text: &[u8],
+) -> Result<(), AllocError>
+    ensures { OnOk result (out.new.items ≡ out.old.items ++ def.fault_head error text.now) }
+{
+    let number = error.kind.number();
+    let head = format!(in alloc; "error A{number}")?;
+    say(out, head.as_str())?;
+    say_check(alloc, out, error.kind)?;
+    say_fault_place(alloc, out, error, text)
+}
+
+/// The lines of a fault of a text: where it is, what is wrong, and the wrong word in its place.
 ///
 /// # Errors
 ///
@@ -124,11 +170,9 @@ pub(crate) fn fault_lines(
 ) -> Result<(), AllocError>
     ensures { OnOk result (out.new.items ≡ out.old.items ++ def.fault_lines error text.now) }
 {
-    let number = error.kind.number();
-    let head = format!(in alloc; "error A{number}")?;
-    say(out, head.as_str())?;
-    say_fault_place(alloc, out, error, text)?;
+    say_fault_head(alloc, out, error, text)?;
     say(out, "\n")?;
     say(out, kind_sentence(error.kind))?;
-    say(out, "\n")
+    say(out, "\n")?;
+    wrong_line(out, error.kind, text, error.line)
 }

@@ -7,7 +7,7 @@ ghost use Rattle.sts_explain.specs.Differences as def;
 
 use std::alloc::{AllocError, Global};
 use std::fmt::Write;
-use sts_code::instr::{Joiner, Pred};
+use sts_list::write_joiner;
 use sts_model::stack::Stack;
 use sts_rules::typing::{Known, SlotKind, TypedEntry, TypedLoop, TypedPhase, TypedScope};
 use sts_states::state::TypeState;
@@ -43,21 +43,6 @@ fn write_kind(out: &mut String, kind: SlotKind) -> Result<(), AllocError>
             let word = known_word(known);
             write!(out, " {word}, of s{slot}")
         }
-    }
-}
-
-fn write_joiner(out: &mut String, joiner: Joiner) -> Result<(), AllocError>
-    ensures { OnOk result (string_bytes out.new
-        ≡ string_bytes out.old ++ after_spaces (joiner_words joiner)) }
-{
-    match joiner {
-        Joiner::AllSucceed => write!(out, " all"),
-        Joiner::AnySucceeds => write!(out, " any"),
-        Joiner::AwaitOk => write!(out, " awaitok"),
-        Joiner::AwaitAll => write!(out, " awaitall"),
-        Joiner::Until(Pred::Failed(n)) => write!(out, " until failed {n}"),
-        Joiner::Until(Pred::Success(n)) => write!(out, " until success {n}"),
-        Joiner::Until(Pred::AtLeast(v)) => write!(out, " until atleast {v}"),
     }
 }
 

@@ -6,6 +6,7 @@ ghost use Rattle.sts_explain.specs.Sentences as def;
 use sts_asm::AsmKind;
 use sts_code::checking::CodeCause;
 use sts_rules::typing::Cause;
+use sts_wanted::wanted::Wanted;
 
 /// Why a program is refused, V1 to V20.
 pub(crate) fn cause_sentence(cause: Cause) -> &'static str
@@ -96,5 +97,46 @@ pub(crate) fn kind_sentence(kind: AsmKind) -> &'static str
         AsmKind::TextTooLong => "the text has more than 1048576 bytes",
         AsmKind::Memory => "memory was refused",
         AsmKind::Code(error) => code_sentence(error.cause),
+    }
+}
+
+/// What has to stand at a place of a line.
+pub(crate) fn wanted_sentence(wanted: Wanted) -> &'static str
+    ensures { result.now ≡ def.wanted_sentence wanted }
+{
+    match wanted {
+        Wanted::First => "func, end, a label or an instruction",
+        Wanted::Inside => "func: labels, instructions and end stand inside a function only",
+        Wanted::TopLine => "another word: profile stands on line 1 only",
+        Wanted::NewLabel => "a label that this function hasn't yet",
+        Wanted::Nothing => "nothing more",
+        Wanted::Byte => "a number from 0 to 255",
+        Wanted::Value => "a number of 64 bits with a sign",
+        Wanted::Turns => "the bound, a number from 0 to 65535",
+        Wanted::Slot => "a slot, s0 to s255",
+        Wanted::Label => "the name of a label",
+        Wanted::OpenSlot => "the slot of the scope, s0 to s255",
+        Wanted::Joiner => "the joiner: all, any, awaitok, awaitall or until",
+        Wanted::Condition => "failed, success or atleast",
+        Wanted::Count => "how many of them, a number of 32 bits",
+        Wanted::Least => "the least value, a number of 64 bits with a sign",
+        Wanted::Timed => "timed, or nothing more",
+        Wanted::ForkSlot => "the slot of the scope, s0 to s255",
+        Wanted::Function => "the name of the function",
+        Wanted::Handle => "the slot of the subtask, s0 to s255, or _ for none",
+        Wanted::JoinSlot => "the slot of the scope, s0 to s255",
+        Wanted::JoinFailed => "the label for failed, or - for none",
+        Wanted::JoinTimeout => "the label for timeout, or - for none",
+        Wanted::JoinInterrupted => "the label for interrupted",
+        Wanted::CaseSlot => "the slot of the subtask, s0 to s255",
+        Wanted::CaseSuccess => "the label for success",
+        Wanted::CaseFailed => "the label for failed",
+        Wanted::TallySlot => "the slot of the scope, s0 to s255",
+        Wanted::State => "S, F or U",
+        Wanted::Name => "the name of the function",
+        Wanted::Args => "how many arguments it takes, a number from 0 to 255",
+        Wanted::Needs => "needs, or nothing more",
+        Wanted::Key => "a key, a number from 0 to 15",
+        Wanted::Profile => "the profile, 1 or 2",
     }
 }

@@ -16,37 +16,37 @@ static FAULTS: [Row; 19] = [
     Row {
         name: "no such instruction",
         text: &[Part(1, "func main 0 / puhs 7 / ret / end")],
-        lines: "error A2, line 2: puhs 7 / its first word is none, or may not stand here: inside a function, outside, or line 1",
+        lines: "error A2, line 2: puhs 7 / its first word is none, or may not stand here: inside a function, outside, or line 1 / at [puhs]: wanted is func, end, a label or an instruction",
         status: 3,
     },
     Row {
         name: "an instruction outside a function",
         text: &[Part(1, "push 7")],
-        lines: "error A2, line 1: push 7 / its first word is none, or may not stand here: inside a function, outside, or line 1",
+        lines: "error A2, line 1: push 7 / its first word is none, or may not stand here: inside a function, outside, or line 1 / at [push]: wanted is func: labels, instructions and end stand inside a function only",
         status: 3,
     },
     Row {
         name: "a value that is too large",
         text: &[Part(1, "func main 0 / push 9223372036854775808 / ret / end")],
-        lines: "error A3, line 2: push 9223372036854775808 / a word that should be a number of its range isn't one",
+        lines: "error A3, line 2: push 9223372036854775808 / a word that should be a number of its range isn't one / at push [9223372036854775808]: wanted is a number of 64 bits with a sign",
         status: 3,
     },
     Row {
         name: "a key that is too large",
         text: &[Part(1, "func f 0 needs 16")],
-        lines: "error A3, line 1: func f 0 needs 16 / a word that should be a number of its range isn't one",
+        lines: "error A3, line 1: func f 0 needs 16 / a word that should be a number of its range isn't one / at func f 0 needs [16]: wanted is a key, a number from 0 to 15",
         status: 3,
     },
     Row {
         name: "a missing operand",
         text: &[Part(1, "func main 0 / push ; 7 / ret / end")],
-        lines: "error A4, line 2: push / an operand is missing, of another kind, left over or badly spelled",
+        lines: "error A4, line 2: push / an operand is missing, of another kind, left over or badly spelled / at push []: wanted is a number of 64 bits with a sign",
         status: 3,
     },
     Row {
         name: "a label that isn't alone",
         text: &[Part(1, "func main 0 / x: push 1 / ret / end")],
-        lines: "error A4, line 2: x: push 1 / an operand is missing, of another kind, left over or badly spelled",
+        lines: "error A4, line 2: x: push 1 / an operand is missing, of another kind, left over or badly spelled / at x: [push]: wanted is nothing more",
         status: 3,
     },
     Row {
@@ -58,7 +58,7 @@ static FAULTS: [Row; 19] = [
     Row {
         name: "a label twice",
         text: &[Part(1, "func main 0 / x: / push 1 / x: / ret / end")],
-        lines: "error A6, line 4: x: / this function has that label already",
+        lines: "error A6, line 4: x: / this function has that label already / at [x:]: wanted is a label that this function hasn't yet",
         status: 3,
     },
     Row {
@@ -82,7 +82,7 @@ static FAULTS: [Row; 19] = [
     Row {
         name: "65 functions",
         text: &[Part(65, "func f 0 / push 0 / ret / end")],
-        lines: "error A9 / there are more than 64 functions",
+        lines: "error A9 C1 / there are more than 64 functions",
         status: 3,
     },
     Row {
@@ -92,13 +92,13 @@ static FAULTS: [Row; 19] = [
             Part(4096, "push 1"),
             Part(1, "ret / end"),
         ],
-        lines: "error A9 / the function has more than 4096 instructions",
+        lines: "error A9 C2 in main / the function has more than 4096 instructions",
         status: 3,
     },
     Row {
         name: "a label at the end",
         text: &[Part(1, "func main 0 / jmp x / x: / end")],
-        lines: "error A9 / a label that stands behind the last instruction of its function",
+        lines: "error A9 C3 in main, line 2: jmp x / a label that stands behind the last instruction of its function",
         status: 3,
     },
     Row {
@@ -107,19 +107,19 @@ static FAULTS: [Row; 19] = [
             1,
             "func main 0 / open s0 all / fork s0 main _ / push 0 / ret / end",
         )],
-        lines: "error A9 / it forks a function that doesn't stand before this one",
+        lines: "error A9 C4 in main, line 3: fork s0 main _ / it forks a function that doesn't stand before this one",
         status: 3,
     },
     Row {
         name: "no main",
         text: &[Part(1, "func main 1 / ret / end")],
-        lines: "error A9 / the last function isn't main with no arguments and no needs, or there is none",
+        lines: "error A9 C5 / the last function isn't main with no arguments and no needs, or there is none",
         status: 3,
     },
     Row {
         name: "a bound of no turns",
         text: &[Part(1, "func main 0 / push 1 / times 0 / next / ret / end")],
-        lines: "error A9 / a number out of its range, more than 8 arguments, or no instruction",
+        lines: "error A9 C6 in main, line 3: times 0 / a number out of its range, more than 8 arguments, or no instruction",
         status: 3,
     },
     Row {
@@ -128,7 +128,7 @@ static FAULTS: [Row; 19] = [
             Part(2, "func kid 0 / push 0 / ret / end"),
             Part(1, "func main 0 / push 0 / ret / end"),
         ],
-        lines: "error A9 / an earlier function has the same name",
+        lines: "error A9 C7 in kid / an earlier function has the same name",
         status: 3,
     },
 ];

@@ -1,0 +1,4 @@
+pub mod StopLemmas
+pub mod OperandLemmas
+pub mod LineLemmas
+pub mod TextLemmas
