@@ -8,8 +8,8 @@ pub record Received : Type 0 where
   pub before : List ℕ
   pub after : List ℕ
 
--- these bytes and this status: the size is that of all bytes; the room has their front, as far as it goes, and behind it
--- what was there
+-- these bytes and this status: the size is that of all bytes; the room has their front, as far as
+-- it goes, and behind it what was there
 abbrev pub IsHanded : List ℕ → ℕ → Received → Type 0
 IsHanded bytes status r =
     (r.status ≡ status) × (r.size ≡ length bytes)

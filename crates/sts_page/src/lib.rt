@@ -1,4 +1,4 @@
-//! What a web page calls: what `sts` and `look` print, over bytes that the page has put into memory.
+//! What a web page calls: what `sts` and `look` print of bytes that the page has put into memory.
 #![tactic(auto)]
 
 ghost use Rattle.std.specs.Prelude.{[]};
