@@ -1,0 +1,85 @@
+"use strict";
+// Reads the lines that proved code prints. Nothing is worked out here: each word stays as it was printed.
+
+// The lines without the newlines that end them.
+function linesOf(printed) {
+  return printed.split("\n").slice(0, -1);
+}
+
+// What `view` prints before the first event and after each: the line that heads each part, and the part's lines. Nothing
+// heads the first one, so the words for that are given.
+function partsOf(printed, firstHead) {
+  const parts = [{ head: firstHead, lines: [] }];
+  for (const line of linesOf(printed)) {
+    if (line.startsWith("after ")) {
+      parts.push({ head: line, lines: [] });
+    } else {
+      parts.at(-1).lines.push(line);
+    }
+  }
+  return parts;
+}
+
+// `task T under S in NAME at PC WORD ..`, or null where the line is none.
+function taskOf(line) {
+  const [kind, number, , under, , name, , place, ...stands] = line.split(" ");
+  return kind === "task" ? { number, under, name, place, word: stands[0], stands: stands.join(" ") } : null;
+}
+
+// The words of a scope, those that say most of it first.
+const MARKS = ["closed", "expired", "cancelled", "closing", "joined", "attempted", "opened"];
+
+// `scope S of T WORD ..`, or null where the line is none.
+function scopeOf(line) {
+  const [kind, number, , , ...words] = line.split(" ");
+  const word = MARKS.find((mark) => words.includes(mark));
+  return kind === "scope" ? { number, word, stands: words.join(" "), mayExpire: words.includes("may-expire") } : null;
+}
+
+function tasksOf(part) {
+  return part.lines.map(taskOf).filter(Boolean);
+}
+
+function scopesOf(part) {
+  return part.lines.map(scopeOf).filter(Boolean);
+}
+
+function lives(task) {
+  return task.word === "ready" || task.word === "waits";
+}
+
+// Does the machine stand at a fault, where no event counts?
+function isAtFault(part) {
+  return part.lines[0].startsWith("fault ");
+}
+
+// The events that this line says would count.
+function eventsOf(line) {
+  const task = taskOf(line);
+  const scope = scopeOf(line);
+  return [
+    ...(task?.word === "ready" ? [`step ${task.number}`] : []),
+    ...(task && lives(task) ? [`interrupt ${task.number}`] : []),
+    ...(scope?.mayExpire ? [`expire ${scope.number}`] : []),
+  ];
+}
+
+// The line of the text that an explanation begins with, or null where it names none.
+function lineOf(explanation) {
+  return /^[^\n]*?, line (\d+):/.exec(explanation)?.[1] ?? null;
+}
+
+// The lines of a listing, with `NAME PC` for those that are instructions: after a line `func NAME ..` they are numbered from
+// 0, and a label is none.
+function listed(listing) {
+  let name = "";
+  let place = 0;
+  return linesOf(listing).map((line) => {
+    const isInstruction = line.startsWith("  ");
+    if (line.startsWith("func ")) {
+      name = line.split(" ")[1];
+      place = 0;
+    }
+    return { line, at: isInstruction ? `${name} ${place++}` : null };
+  });
+}
