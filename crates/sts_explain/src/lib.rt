@@ -4,7 +4,7 @@
 mod differences;
 pub mod explain;
 pub mod laws;
-mod lines;
+pub mod lines;
 pub mod parts;
 mod sentences;
 pub mod ways;
