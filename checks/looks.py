@@ -1,7 +1,9 @@
 #!/usr/bin/env python3
 """Runs the built program `look` over the examples.  usage: looks.py [LOOK [STS]]
 
-- what docs/LOOK.md shows of a beginning of a trace is what `view` prints of it;
+- what docs/LOOK.md shows of a beginning of a trace is what `view` prints of it, and what it shows of a text what `explain`
+  prints;
+- `explain` of each example says that it is accepted;
 - `view` of each beginning of each example's trace begins with what `plain` of `sts` prints, with its status;
 - `view --each` of the whole trace is `view` of each beginning in turn, behind a line `after N EVENT` for each event,
   with `--full` and without.
@@ -19,6 +21,7 @@ from documents import read
 ROOT = os.path.dirname(os.path.dirname(os.path.realpath(__file__)))
 LOOK, STS = (os.path.join(ROOT, "crates", name, "out", name) for name in ("sts_look", "sts"))
 SHOWN = re.compile(r"After the first (\d+) events of \[(\w+)\].*?:\n\n((?:    .*\n)+)")
+EXPLAINED = re.compile(r"\n\n((?:    .*\n)+)\n`explain` prints:\n\n((?:    .*\n)+)")
 
 
 def says(*words):
@@ -65,12 +68,30 @@ def shown(look, folder):
         text = os.path.join(ROOT, "examples", f"{name}.sts")
         with open(os.path.join(ROOT, "examples", f"{name}.trace")) as file:
             *_, path = beginnings(folder, file.readlines()[:int(count)])
-        yield f"{name} in LOOK.md", says(look, "view", text, path)[1] == re.sub("^    ", "", block, flags=re.M)
+        yield f"{name} in LOOK.md", says(look, "view", text, path)[1] == dedented(block)
+
+
+def dedented(block):
+    return re.sub("^    ", "", block, flags=re.M)
+
+
+def explained(look, folder):
+    """Yields whether what LOOK.md shows of texts is what is explained of them, and whether the examples are accepted."""
+    page = EXPLAINED.findall(read("docs/LOOK.md"))
+    yield "LOOK.md shows an explanation", page != []
+    path = os.path.join(folder, "text")
+    for text, block in page:
+        with open(path, "w") as file:
+            file.write(dedented(text))
+        yield "an explanation in LOOK.md", says(look, "explain", path)[1] == dedented(block)
+    for text in sorted(glob.glob(os.path.join(ROOT, "examples", "*.sts"))):
+        yield f"{os.path.basename(text)} explained", says(look, "explain", text) == (0, "accepted\n")
 
 
 def tried(look, sts):
     with tempfile.TemporaryDirectory() as folder:
         yield from shown(look, folder)
+        yield from explained(look, folder)
         for text in sorted(glob.glob(os.path.join(ROOT, "examples", "*.sts"))):
             yield from example(look, sts, folder, text)
 

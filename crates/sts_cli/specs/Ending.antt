@@ -55,10 +55,10 @@ pub data IsOfInput (input : Option (List ℕ)) (o : Output) : Type 0 where
       → Shows mode.Plain (halves_of bytes).text (halves_of bytes).trace o → IsOfInput input o
   failed : (e : TakeError) → o ≡ failure_output e → IsOfInput input o
 
--- the bytes of the outside text: of none where no file is named
-abbrev pub outside_of : Files → Option (Bor Text) → Option (List ℕ)
-outside_of files None = Some []
-outside_of files (Some path) = files path.now
+-- the bytes of a file of events: none where no file is named
+abbrev pub events_of : Files → Option (Bor Text) → Option (List ℕ)
+events_of files None = Some []
+events_of files (Some path) = files path.now
 
 -- what is printed of a run of a text with an outside text, or that memory or the trace's file
 -- failed
@@ -83,7 +83,7 @@ IsPlayed (line.Plain file trace) files input o = IsOfTextAndTrace mode.Plain (fi
 IsPlayed (line.Replay file trace) files input o = IsOfTextAndTrace mode.Replay (files file.now)
     (files trace.now) o
 IsPlayed (line.Run file workers outside trace) files input o = IsOfRun (files file.now)
-    (outside_of files outside) o
+    (events_of files outside) o
 
 -- the bytes that the two streams hold before and after, where they are known
 pub record Streams : Type 0 where

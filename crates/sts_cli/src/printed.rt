@@ -65,7 +65,8 @@ pub fn trace_fault_line(out: &mut String, error: TraceError) -> Result<(), Alloc
     }
 }
 
-fn fault_word(fault: Fault) -> &'static str
+/// The word of a fault of a run.
+pub fn fault_word(fault: Fault) -> &'static str
     ensures { result.now ≡ def.fault_word fault }
 {
     match fault {

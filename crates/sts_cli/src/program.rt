@@ -57,7 +57,7 @@ fn on_text<S: Sources, W: Write>(
     }
 }
 
-/// A mode that looks at a text and a trace; the text is read before the trace is opened.
+/// A mode that looks at a text and a trace.
 fn on_text_and_trace<S: Sources, W: Write>(
     alloc: Global,
     sources: &S,
@@ -70,11 +70,14 @@ fn on_text_and_trace<S: Sources, W: Write>(
         × def.IsOfTextAndTrace mode (S.held sources.now path.now) (S.held sources.now trace.now) o
         × Writes (W.contents out.old) (W.contents out.new) s o) }
 {
-    match file(alloc, sources, path, MOST_OF_A_TEXT) {
-        Ok(text) => match file(alloc, sources, trace, MOST_OF_A_STREAM) {
-            Ok(trace) => play(alloc, mode, text.as_slice(), trace.as_slice(), out),
-            Err(error) => failed(error, out),
-        },
+    match read_texts(alloc, sources, path, Some(trace)) {
+        Ok(texts) => play(
+            alloc,
+            mode,
+            texts.program.as_slice(),
+            texts.events.as_slice(),
+            out,
+        ),
         Err(error) => failed(error, out),
     }
 }
@@ -95,13 +98,13 @@ fn on_input<S: Sources, W: Write>(
     }
 }
 
-/// The bytes of the outside text: none where no file is named.
-fn outside_text<S: Sources>(
+/// The bytes of a file of events: none where no file is named.
+fn events_text<S: Sources>(
     alloc: Global,
     sources: &S,
     path: Option<&str>,
 ) -> Result<Vec<u8>, TakeError>
-    ensures { IfOk result (λ taken. IsTakenOf (def.outside_of (S.held sources.now) path.entry)
+    ensures { IfOk result (λ taken. IsTakenOf (def.events_of (S.held sources.now) path.entry)
         def.most_of_a_stream taken.items) }
 {
     match path {
@@ -110,29 +113,32 @@ fn outside_text<S: Sources>(
     }
 }
 
-/// What is read before a run.
+/// A program's text, and the text of the events that come to it: a trace or an outside text.
 #[derive(Drop)]
-struct Texts {
-    program: Vec<u8>,
-    outside: Vec<u8>,
+pub struct Texts {
+    pub program: Vec<u8>,
+    pub events: Vec<u8>,
 }
 
-/// The text and the outside text, in this order.
-fn read_texts<S: Sources>(
+/// A text and, once it is read, that of the events, which is empty where no file is named.
+///
+/// # Errors
+///
+/// Memory was refused, or a file could not be opened or read.
+pub fn read_texts<S: Sources>(
     alloc: Global,
     sources: &S,
     path: &str,
-    outside: Option<&str>,
+    events: Option<&str>,
 ) -> Result<Texts, TakeError>
     ensures program { IfOk result (λ t. IsTakenOf (S.held sources.now path.now)
         def.most_of_a_text t.program.items) }
-    ensures outside { IfOk result (λ t. IsTakenOf
-        (def.outside_of (S.held sources.now) outside.entry)
-        def.most_of_a_stream t.outside.items) }
+    ensures events { IfOk result (λ t. IsTakenOf (def.events_of (S.held sources.now) events.entry)
+        def.most_of_a_stream t.events.items) }
 {
     let program = file(alloc, sources, path, MOST_OF_A_TEXT)?;
-    let outside = outside_text(alloc, sources, outside)?;
-    Ok(Texts { program, outside })
+    let events = events_text(alloc, sources, events)?;
+    Ok(Texts { program, events })
 }
 
 /// A run of texts that were read; the file of the trace is made first, if one is named.
@@ -147,10 +153,10 @@ fn on_texts<R: Threads + Wait + Sync, S: Sinks, W: Write>(
 ) -> Result<u8, WriteFailed>
     requires { (1 ≤ workers) × (workers ≤ 16) }
     ensures { IfOk result (λ s. (o : Output)
-        × def.IsPrinted texts.now.program.items texts.now.outside.items o
+        × def.IsPrinted texts.now.program.items texts.now.events.items o
         × Writes (W.contents out.old) (W.contents out.new) s o) }
 {
-    let (program, outside) = (texts.program.as_slice(), texts.outside.as_slice());
+    let (program, outside) = (texts.program.as_slice(), texts.events.as_slice());
     match trace {
         None => play_untraced(rt, alloc, program, workers, outside, out),
         Some(path) => match made(alloc, sinks, path) {
@@ -180,7 +186,7 @@ fn on_run<R: Threads + Wait + Sync, S: Sources + Sinks, W: Write>(
     requires { (1 ≤ wanted.workers) × (wanted.workers ≤ 16) }
     ensures { IfOk result (λ s. (o : Output)
         × def.IsOfRun (S.held sources.now wanted.entry.file.now)
-        (def.outside_of (S.held sources.now) wanted.entry.outside) o
+        (def.events_of (S.held sources.now) wanted.entry.outside) o
         × Writes (W.contents out.old) (W.contents out.new) s o) }
 {
     match read_texts(alloc, sources, wanted.file, wanted.outside) {

@@ -1,7 +1,7 @@
 -- What is printed of a text and the status that goes with it (this project's own).
-use Rattle.std.specs.Prelude.{◌≡◌, ◌⊎◌, ℕ, List, [], ◌++◌, Option, Result, Ok, Err, codes}
-use Rattle.std.specs.Io.KnownBytes.{Appends}
+use Rattle.std.specs.Prelude.{◌≡◌, ◌⊎◌, ℕ, List, [], ◌++◌, Result, Ok, Err, codes}
 use Rattle.sts_code.specs.Program.{Program}
+use Rattle.sts_cli.specs.Output.{Output, memory_output}
 use Rattle.sts_asm.specs.Outline.{Outline}
 use Rattle.sts_asm.specs.Source.{outlined, sentence_at}
 use Rattle.sts_asm.specs.Text.{judged}
@@ -18,14 +18,6 @@ use Rattle.sts_budget.specs.declared.change.Resource.{Resource}
 use Rattle.sts_budget.specs.Change.{cause_of}
 use Rattle.sts_weights.specs.declared.heavy.Heavy.{Heavy}
 use Rattle.sts_weights.specs.Heavy.{IsHeavy}
-
--- what is printed, and the status
-pub record Output : Type 0 where
-  pub bytes : List ℕ
-  pub status : ℕ
-
-abbrev pub memory_output : Output
-memory_output = record { bytes = codes "error memory\n"; status = 6 }
 
 abbrev pub accepted_output : Output
 accepted_output = record { bytes = codes "accepted\n"; status = 0 }
@@ -73,7 +65,3 @@ Explains (Err e) text output = output ≡ fault_output e text
 -- the explanation of a text, or that memory was refused
 abbrev pub IsExplanation : List ℕ → Output → Type 0
 IsExplanation text output = Explains (judged text) text output ⊎ (output ≡ memory_output)
-
--- all of an output is written to a stream, and the status is its own
-abbrev pub Writes : Option (List ℕ) → Option (List ℕ) → ℕ → Output → Type 0
-Writes old new status output = (status ≡ output.status) × Appends old new output.bytes

@@ -8,6 +8,7 @@ ghost use Rattle.sts_asm.specs.Fault.{FailsAt};
 ghost use Rattle.sts_code.specs.Program.{Program as AnyProgram};
 ghost use Rattle.sts_asm.specs.declared.fault.AsmError.{AsmError};
 ghost use Rattle.sts_budget.specs.Change.{cause_of};
+ghost use Rattle.sts_cli.specs.Output as cli;
 ghost use Rattle.sts_explain.specs.Output as def;
 
 use crate::differences::difference_lines;
@@ -19,6 +20,8 @@ use std::io::Write;
 use std::marker::Model;
 use sts_asm::{AsmError, AsmKind, Outline, assemble, outlined};
 use sts_budget::change::Resource;
+use sts_cli::play::{WriteFailed, failed, written};
+use sts_cli::taking::TakeError;
 use sts_code::code::code_of;
 use sts_code::program::Program;
 use sts_rules::typing::Cause;
@@ -26,27 +29,27 @@ use sts_verify::error::VerifyError;
 use sts_verify::verified::verify;
 use sts_weights::heavy::heaviest;
 
-/// Writing what is printed failed; some of it may have been written.
-#[derive(Clone, Copy, Debug, PartialEq, Eq)]
-pub struct WriteFailed;
-
 /// What is printed, and the status.
 #[derive(Drop)]
-struct Output {
-    bytes: Vec<u8>,
-    status: u8,
+pub struct Output {
+    pub bytes: Vec<u8>,
+    pub status: u8,
 }
 
 impl Model for Output {
-    ghost use Rattle.sts_explain.specs.Output as def;
+    ghost use Rattle.sts_cli.specs.Output as cli;
 
-    ghost Value = { def.Output };
+    ghost Value = { cli.Output };
 
     ghost view = { λ o. record { bytes = o.bytes.items; status = o.status } };
 }
 
 /// The output for a fault of a text; want of memory is no fault of it.
-fn fault(alloc: Global, error: AsmError, text: &[u8]) -> Result<Output, AllocError>
+///
+/// # Errors
+///
+/// Memory was refused.
+pub fn text_fault(alloc: Global, error: AsmError, text: &[u8]) -> Result<Output, AllocError>
     ensures { (read : Result AnyProgram AsmError) → FailsAt error error.kind read
         → IfOk result (λ o. (read ≡ Err error) × (o ≡ def.fault_output error text.now)) }
 {
@@ -188,7 +191,7 @@ fn of_lines(alloc: Global, outline: &Outline<'_>, text: &[u8]) -> Result<Output,
 {
     match assemble(alloc, text) {
         Ok(program) => verdict(alloc, outline, program),
-        Err(error) => fault(alloc, error, text),
+        Err(error) => text_fault(alloc, error, text),
     }
 }
 
@@ -198,19 +201,7 @@ fn explanation(alloc: Global, text: &[u8]) -> Result<Output, AllocError>
 {
     match outlined(alloc, text) {
         Ok(outline) => of_lines(alloc, &outline, text),
-        Err(error) => fault(alloc, error, text),
-    }
-}
-
-/// Writes all of these bytes, and gives the status.
-fn written<W: Write>(out: &mut W, bytes: &[u8], status: u8) -> Result<u8, WriteFailed>
-    ensures { IfOk result (λ s. (o : def.Output)
-        × (o ≡ record { bytes = bytes.now; status = status })
-        × def.Writes (W.contents out.old) (W.contents out.new) s o) }
-{
-    match out.write_all(bytes) {
-        Ok(()) => Ok(status),
-        Err(_) => Err(WriteFailed),
+        Err(error) => text_fault(alloc, error, text),
     }
 }
 
@@ -223,11 +214,11 @@ fn written<W: Write>(out: &mut W, bytes: &[u8], status: u8) -> Result<u8, WriteF
 ///
 /// A write failed.
 pub fn explain<W: Write>(alloc: Global, text: &[u8], out: &mut W) -> Result<u8, WriteFailed>
-    ensures { IfOk result (λ s. (o : def.Output) × def.IsExplanation text.now o
-        × def.Writes (W.contents out.old) (W.contents out.new) s o) }
+    ensures { IfOk result (λ s. (o : cli.Output) × def.IsExplanation text.now o
+        × cli.Writes (W.contents out.old) (W.contents out.new) s o) }
 {
     match explanation(alloc, text) {
         Ok(output) => written(out, output.bytes.as_slice(), output.status),
-        Err(_) => written(out, b"error memory\n", 6),
+        Err(_) => failed(TakeError::Memory, out),
     }
 }

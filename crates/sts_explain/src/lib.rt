@@ -5,7 +5,7 @@ mod checks;
 mod differences;
 pub mod explain;
 pub mod laws;
-mod lines;
+pub mod lines;
 pub mod parts;
 mod sentences;
 pub mod ways;

@@ -16,7 +16,11 @@ use sts_rules::typing::Cause;
 use sts_text::Words;
 
 /// Appends a text.
-pub(crate) fn say(out: &mut Vec<u8>, text: &str) -> Result<(), AllocError>
+///
+/// # Errors
+///
+/// Memory was refused.
+pub fn say(out: &mut Vec<u8>, text: &str) -> Result<(), AllocError>
     ensures { OnOk result (out.new.items ≡ out.old.items ++ text.now) }
 {
     out.extend_from_slice(text.as_bytes())
@@ -47,8 +51,12 @@ pub(crate) fn say_line<'a>(
     say_words(out, words)
 }
 
-/// Appends the line of an instruction, if it has one.
-pub(crate) fn say_place(
+/// Where an instruction is: its line and its words, or that there is none.
+///
+/// # Errors
+///
+/// Memory was refused; a part of it may then stand in `out`.
+pub fn say_place(
     alloc: Global,
     out: &mut Vec<u8>,
     sentence: Option<&Sentence<'_>>,

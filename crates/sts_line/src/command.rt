@@ -51,7 +51,11 @@ fn file_option<'a>(alloc: Global, name: &'a str, help: &'a str) -> Arg<'a>
 }
 
 /// A command that takes one text file.
-fn on_file<'a>(alloc: Global, name: &'a str, about: &'a str) -> Result<Command<'a>, AllocError>
+///
+/// # Errors
+///
+/// Memory was refused.
+pub fn on_file<'a>(alloc: Global, name: &'a str, about: &'a str) -> Result<Command<'a>, AllocError>
     ensures app { IfOk result (λ c. app_of c ≡ with_rule (new_app name.entry.now) def.file_rule) }
     ensures local { IfOk result (λ c. (out-Command c).has_globals ≡ false) }
 {

@@ -1,7 +1,8 @@
 -- What a command line asks for, or why it asks for nothing, read off the words by `clap`'s own
 -- definitions (this project's own).
-use Rattle.std.specs.Prelude.{◌≡◌, ◌⊎◌, ◌&&◌, Bool, false, List, [], ◌∷◌, filter_map, Option, Some}
-use Rattle.std.specs.Prelude.{None, IsSomeAnd, is_some, codes}
+use Rattle.std.specs.Prelude.{◌≡◌, ◌⊎◌, ◌&&◌, ◌||◌, Bool, false, if◌then◌else◌, List, [], ◌∷◌}
+use Rattle.std.specs.Prelude.{filter_map, Option, Some, None, IsSomeAnd, is_some, codes}
+use Rattle.std.specs.List.{list_all}
 use Rattle.std.specs.Str.{bytes_eq}
 use Rattle.clap.specs.Words.{Text, Row, IsAmong, fault_of, first_of, subcommand_of}
 use Rattle.clap.specs.declared.error.kind.ErrorKind.TheVariants as kind
@@ -9,20 +10,26 @@ use Rattle.sts_line.specs.Refused.{HasMistake}
 use Rattle.sts_line.specs.declared.asked.LineError.{LineError}
 use Rattle.sts_line.specs.declared.asked.LineError.TheVariants as error
 use Rattle.sts_view.specs.declared.view.Wanted.{Wanted}
-use Rattle.sts_look.specs.declared.asked.View.{View}
+use Rattle.sts_look.specs.declared.asked.Asked.{Asked}
+use Rattle.sts_look.specs.declared.asked.Asked.TheVariants as asked
 use Rattle.sts_look.specs.Command.{program}
 
--- what a line says: the command, its files in order, and its options
+-- what a line says: the command, its files in order, and of `view` what is wanted of it
 pub record Said : Type 0 where
   pub name : Text
   pub files : List Text
-  pub wanted : Wanted
+  pub wanted : Option Wanted
 
-abbrev pub said : View → Said
-said v = record {
+abbrev pub said : Asked → Said
+said (asked.View file trace wanted) = record {
   name = codes "view";
-  files = v.file.now ∷ v.trace.now ∷ [];
-  wanted = v.wanted;
+  files = file.now ∷ trace.now ∷ [];
+  wanted = Some wanted;
+}
+said (asked.Explain file) = record {
+  name = codes "explain";
+  files = file.now ∷ [];
+  wanted = None;
 }
 
 -- an option without a value is given as `true`
@@ -36,32 +43,47 @@ is_set id rows = is_true (first_of id rows)
 abbrev pub wanted_at : List Row → Wanted
 wanted_at rows = record { each = is_set (codes "each") rows; full = is_set (codes "full") rows }
 
-abbrev pub files_at : List Row → List Text
-files_at rows = filter_map (λ id. first_of id rows) (codes "FILE" ∷ codes "TRACE" ∷ [])
+abbrev pub is_view : Text → Bool
+is_view name = bytes_eq name (codes "view")
+
+-- the files that a command takes
+abbrev pub ids_of : Text → List Text
+ids_of name = if is_view name then codes "FILE" ∷ codes "TRACE" ∷ [] else codes "FILE" ∷ []
+
+-- the texts under these ids
+abbrev pub texts_at : List Row → List Text → List Text
+texts_at rows ids = filter_map (λ id. first_of id rows) ids
 
 abbrev pub given : Text × List Row → Said
-given (name, rows) = record { name = name; files = files_at rows; wanted = wanted_at rows }
+given (name, rows) = record {
+  name = name;
+  files = texts_at rows (ids_of name);
+  wanted = if is_view name then Some (wanted_at rows) else None;
+}
 
--- the line is of a command, with the files and the options that it was given
-abbrev pub IsGiven : Text × List Row → View → Type 0
-IsGiven c l = said l ≡ given c
+-- a command is asked for, with the files and the options that it was given
+abbrev pub IsGiven : Text × List Row → Asked → Type 0
+IsGiven c a = said a ≡ given c
 
--- the line is that of the command that was found
-abbrev pub IsLineOf : Option (Text × List Row) → View → Type 0
-IsLineOf found l = IsSomeAnd found (λ c. IsGiven c l)
+-- the command that was found is asked for
+abbrev pub IsLineOf : Option (Text × List Row) → Asked → Type 0
+IsLineOf found a = IsSomeAnd found (λ c. IsGiven c a)
 
 -- what the words ask for: where `clap` finds no fault, the command that it finds
-pub record Asks (words : List Text) (l : View) : Type 0 where
+pub record Asks (words : List Text) (a : Asked) : Type 0 where
   pub faultless : fault_of program words ≡ []
-  pub line : IsLineOf (subcommand_of program words) l
+  pub line : IsLineOf (subcommand_of program words) a
 
 -- ---- why they ask for nothing
 
--- the words name a command of the program, and its two files
+abbrev pub is_command : Text → Bool
+is_command name = is_view name || bytes_eq name (codes "explain")
+
+-- the words name a command of the program, and all files that it takes
 abbrev pub is_whole : Option (Text × List Row) → Bool
 is_whole None = false
-is_whole (Some (name, rows)) = bytes_eq name (codes "view")
-    && (is_some (first_of (codes "FILE") rows) && is_some (first_of (codes "TRACE") rows))
+is_whole (Some (name, rows)) = is_command name
+    && list_all (λ id. is_some (first_of id rows)) (ids_of name)
 
 abbrev pub AsksForHelp : List Text → Type 0
 AsksForHelp words = IsAmong kind.DisplayHelp (fault_of program words)

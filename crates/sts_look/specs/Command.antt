@@ -12,6 +12,9 @@ abbrev pub view : App
 view = with_rule (with_rule (with_rule (with_rule (new_app (codes "view")) file_rule) trace_rule)
     (flag_rule (codes "each"))) (flag_rule (codes "full"))
 
+abbrev pub explain : App
+explain = with_rule (new_app (codes "explain")) file_rule
+
 -- the program: a command is required
 abbrev pub program : App
-program = with_subcommand (required (new_app (codes "look"))) view.top
+program = with_subcommand (with_subcommand (required (new_app (codes "look"))) view.top) explain.top

@@ -11,26 +11,37 @@ use Rattle.sts_cli.specs.Taking.{IsTakenOf}
 use Rattle.sts_cli.specs.declared.taking.TakeError.{TakeError}
 use Rattle.sts_cli.specs.declared.words.WordsError.{WordsError}
 use Rattle.sts_cli.specs.declared.words.WordsError.TheVariants as words_error
+use Rattle.sts_explain.specs.Output.{IsExplanation}
 use Rattle.sts_view.specs.View.{IsViewOf}
-use Rattle.sts_view.specs.declared.view.Wanted.{Wanted}
 use Rattle.sts_look.specs.Asked.{Asks, AsksForHelp, IsMistaken}
-use Rattle.sts_look.specs.declared.asked.View.{View}
+use Rattle.sts_look.specs.declared.asked.Asked.{Asked}
+use Rattle.sts_look.specs.declared.asked.Asked.TheVariants as asked
 
--- what stands of a file's text after another file's trace, or that memory or a file failed
-pub data IsOfView (wanted : Wanted) (file trace_file : Option (List ℕ)) (o : Output) : Type 0 where
+-- what is shown of a file's text, or that memory or the file failed
+pub data IsOfText (Shows : List ℕ → Output → Type 0) (file : Option (List ℕ)) (o : Output) : Type 0
+  where
+    shown : (text : List ℕ) → IsTakenOf file most_of_a_text text → Shows text o
+        → IsOfText Shows file o
+    failed : (e : TakeError) → o ≡ failure_output e → IsOfText Shows file o
+
+-- what is shown of a file's text and another file's trace, or that memory or a file failed
+pub data IsOfTexts (Shows : List ℕ → List ℕ → Output → Type 0) (file trace_file : Option (List ℕ))
+    (o : Output) : Type 0 where
   shown : (text trace : List ℕ) → IsTakenOf file most_of_a_text text
-      → IsTakenOf trace_file most_of_a_stream trace → IsViewOf wanted text trace o
-      → IsOfView wanted file trace_file o
-  failed : (e : TakeError) → o ≡ failure_output e → IsOfView wanted file trace_file o
+      → IsTakenOf trace_file most_of_a_stream trace → Shows text trace o
+      → IsOfTexts Shows file trace_file o
+  failed : (e : TakeError) → o ≡ failure_output e → IsOfTexts Shows file trace_file o
 
 -- what is shown for a line
-abbrev pub IsShown : View → Files → Output → Type 0
-IsShown v files o = IsOfView v.wanted (files v.file.now) (files v.trace.now) o
+abbrev pub IsShown : Asked → Files → Output → Type 0
+IsShown (asked.View file trace wanted) files o =
+    IsOfTexts (IsViewOf wanted) (files file.now) (files trace.now) o
+IsShown (asked.Explain file) files o = IsOfText IsExplanation (files file.now) o
 
 -- what the program writes, and its status: that of the line that the words ask for, 0 after help
 -- that they ask for, 2 where they are mistaken, or that memory was refused
 pub data Ends (words : List Text) (files : Files) (s : Streams) (status : ℕ) : Type 0 where
-  shown : (l : View) (o : Output) → Asks words l → IsShown l files o → Prints s status o
+  shown : (a : Asked) (o : Output) → Asks words a → IsShown a files o → Prints s status o
       → Ends words files s status
   helped : (o : Output) → AsksForHelp words → o.status ≡ 0 → Tells s status o
       → Ends words files s status

@@ -2,10 +2,17 @@
 
 use sts_view::view::Wanted;
 
-/// What `view` is asked to show: the names of the files come as they were written.
+/// What is to be shown: the names of the files come as they were written.
 #[derive(Clone, Copy, Debug)]
-pub struct View<'a> {
-    pub file: &'a str,
-    pub trace: &'a str,
-    pub wanted: Wanted,
+pub enum Asked<'a> {
+    /// What stands after a trace.
+    View {
+        file: &'a str,
+        trace: &'a str,
+        wanted: Wanted,
+    },
+    /// What is wrong with a text, if anything is.
+    Explain {
+        file: &'a str,
+    },
 }

@@ -7,7 +7,7 @@ ghost use Rattle.sts_look.specs.Command as def;
 
 use clap::{Arg, ArgAction, Command};
 use std::alloc::{AllocError, Global};
-use sts_line::command::on_trace;
+use sts_line::command::{on_file, on_trace};
 
 /// An option that takes no value.
 fn flag<'a>(alloc: Global, name: &'a str, help: &'a str) -> Arg<'a>
@@ -44,6 +44,18 @@ fn view<'a>(alloc: Global) -> Result<Command<'a>, AllocError>
     .arg(full)
 }
 
+/// The command `explain`.
+fn explain<'a>(alloc: Global) -> Result<Command<'a>, AllocError>
+    ensures app { IfOk result (λ c. app_of c ≡ def.explain) }
+    ensures local { IfOk result (λ c. (out-Command c).has_globals ≡ false) }
+{
+    on_file(
+        alloc,
+        "explain",
+        "Prints what is wrong with a text, by its lines, or that it is accepted",
+    )
+}
+
 /// The whole program.
 ///
 /// # Errors
@@ -53,8 +65,10 @@ pub fn program<'a>(alloc: Global) -> Result<Command<'a>, AllocError>
     ensures { IfOk result (λ c. app_of c ≡ def.program) }
 {
     let view = view(alloc)?;
+    let explain = explain(alloc)?;
     Command::new(alloc, "look")
         .about("Shows runs of structured task scopes")
         .subcommand_required(true)
-        .subcommand(view)
+        .subcommand(view)?
+        .subcommand(explain)
 }

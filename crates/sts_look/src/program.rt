@@ -1,19 +1,23 @@
-//! The program `look`, but for its `main`: opens what a command line names, and writes what is shown.
+//! The program `look`, but for its `main`: opens what a command line names, and writes what is
+//! shown.
 
 ghost use Rattle.std.specs.Prelude.{◌≡◌, IfOk, map};
 ghost use Rattle.sts_cli.specs.Output.{Output, Writes};
+ghost use Rattle.sts_explain.specs.Output.{IsExplanation};
+ghost use Rattle.sts_view.specs.View.{IsViewOf};
 ghost use Rattle.sts_look.specs.Ending as def;
 
-use crate::asked::View;
+use crate::asked::Asked;
 use crate::reading::line;
 use std::alloc::Global;
 use std::io::{Input, Write};
 use std::rt::{Env, Files};
 use sts_cli::play::{STATUS_OUTSIDE, WriteFailed, failed, written};
-use sts_cli::program::{MOST_OF_A_STREAM, MOST_OF_A_TEXT, NOT_TEXT, borrowed};
+use sts_cli::program::{MOST_OF_A_TEXT, NOT_TEXT, borrowed, read_texts};
 use sts_cli::sources::{Host, Sources, file};
 use sts_cli::taking::TakeError;
 use sts_cli::words::{WordsError, words};
+use sts_explain::explain::explain;
 use sts_line::asked::LineError;
 use sts_view::of_text::write_view;
 use sts_view::view::Wanted;
@@ -21,7 +25,7 @@ use sts_view::view::Wanted;
 /// The name that the program goes by.
 const NAME: &[u8] = b"look";
 
-/// What stands after a trace; the text is read before the trace is opened.
+/// What stands after a trace.
 fn on_view<S: Sources, W: Write>(
     alloc: Global,
     sources: &S,
@@ -31,14 +35,35 @@ fn on_view<S: Sources, W: Write>(
     out: &mut W,
 ) -> Result<u8, WriteFailed>
     ensures { IfOk result (λ s. (o : Output)
-        × def.IsOfView wanted (S.held sources.now path.now) (S.held sources.now trace.now) o
+        × def.IsOfTexts (IsViewOf wanted) (S.held sources.now path.now)
+        (S.held sources.now trace.now) o
+        × Writes (W.contents out.old) (W.contents out.new) s o) }
+{
+    match read_texts(alloc, sources, path, Some(trace)) {
+        Ok(texts) => write_view(
+            alloc,
+            wanted,
+            texts.program.as_slice(),
+            texts.events.as_slice(),
+            out,
+        ),
+        Err(error) => failed(error, out),
+    }
+}
+
+/// What is wrong with a text.
+fn on_explain<S: Sources, W: Write>(
+    alloc: Global,
+    sources: &S,
+    path: &str,
+    out: &mut W,
+) -> Result<u8, WriteFailed>
+    ensures { IfOk result (λ s. (o : Output)
+        × def.IsOfText IsExplanation (S.held sources.now path.now) o
         × Writes (W.contents out.old) (W.contents out.new) s o) }
 {
     match file(alloc, sources, path, MOST_OF_A_TEXT) {
-        Ok(text) => match file(alloc, sources, trace, MOST_OF_A_STREAM) {
-            Ok(trace) => write_view(alloc, wanted, text.as_slice(), trace.as_slice(), out),
-            Err(error) => failed(error, out),
-        },
+        Ok(text) => explain(alloc, text.as_slice(), out),
         Err(error) => failed(error, out),
     }
 }
@@ -47,19 +72,26 @@ fn on_view<S: Sources, W: Write>(
 fn on_line<S: Sources, W: Write>(
     alloc: Global,
     sources: &S,
-    asked: View<'_>,
+    asked: Asked<'_>,
     out: &mut W,
 ) -> Result<u8, WriteFailed>
     ensures { IfOk result (λ s. (o : Output)
         × def.IsShown asked.entry (S.held sources.now) o
         × Writes (W.contents out.old) (W.contents out.new) s o) }
 {
-    on_view(alloc, sources, asked.wanted, asked.file, asked.trace, out)
+    match asked {
+        Asked::View {
+            file,
+            trace,
+            wanted,
+        } => on_view(alloc, sources, wanted, file, trace, out),
+        Asked::Explain { file } => on_explain(alloc, sources, file, out),
+    }
 }
 
 /// Does what a command line asks for, its first word being the program's name, and gives the
-/// status: 0 root succeeded or help; 1 root failed; 2 usage; 3 a fault of a text; 5 a fault of the
-/// run, or it runs still; 6 memory, a file or a stream failed.
+/// status: 0 accepted, root succeeded or help; 1 root failed; 2 usage; 3 a fault of a text;
+/// 4 refused; 5 a fault of the run, or it runs still; 6 memory, a file or a stream failed.
 ///
 /// Help and usage faults are told to `err`, all else is written to `out`.
 ///

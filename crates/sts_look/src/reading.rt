@@ -5,7 +5,7 @@ ghost use Rattle.clap.specs.Words.{rows_of, found_of, subcommand_rows_of};
 ghost use Rattle.sts_line.specs.Refused.{BlamesUnless};
 ghost use Rattle.sts_look.specs.Asked.{Asks, IsGiven, IsLineOf, Refuses, is_set, is_whole, wanted_at};
 
-use crate::asked::View;
+use crate::asked::Asked;
 use crate::command::program;
 use clap::ArgMatches;
 use std::alloc::Global;
@@ -18,7 +18,7 @@ use sts_view::view::Wanted;
 /// # Errors
 ///
 /// Memory was refused, help was asked for, or the words are mistaken: then the text says how.
-pub fn line<'a>(alloc: Global, words: &'a [&'a str]) -> Result<View<'a>, LineError>
+pub fn line<'a>(alloc: Global, words: &'a [&'a str]) -> Result<Asked<'a>, LineError>
     ensures asked { IfOk result (Asks (map (λ w. w.now) words.entry.now)) }
     ensures refused { IfErr result (Refuses (map (λ w. w.now) words.entry.now)) }
 {
@@ -30,7 +30,7 @@ pub fn line<'a>(alloc: Global, words: &'a [&'a str]) -> Result<View<'a>, LineErr
 }
 
 /// What the command that `clap` found asks for.
-fn chosen<'a>(alloc: Global, matches: &ArgMatches<'a>) -> Result<View<'a>, LineError>
+fn chosen<'a>(alloc: Global, matches: &ArgMatches<'a>) -> Result<Asked<'a>, LineError>
     ensures asked { IfOk result (IsLineOf (subcommand_rows_of matches.now)) }
     ensures lacks { IfErr result (BlamesUnless (is_whole (subcommand_rows_of matches.now))) }
 {
@@ -40,7 +40,11 @@ fn chosen<'a>(alloc: Global, matches: &ArgMatches<'a>) -> Result<View<'a>, LineE
     }
 }
 
-fn asked_of<'a>(alloc: Global, name: &'a str, inner: &ArgMatches<'a>) -> Result<View<'a>, LineError>
+fn asked_of<'a>(
+    alloc: Global,
+    name: &'a str,
+    inner: &ArgMatches<'a>,
+) -> Result<Asked<'a>, LineError>
     ensures asked { IfOk result (IsGiven (name.now, rows_of (found_of inner.now))) }
     ensures lacks { IfErr result (BlamesUnless
         (is_whole (Some (name.now, rows_of (found_of inner.now))))) }
@@ -51,11 +55,13 @@ fn asked_of<'a>(alloc: Global, name: &'a str, inner: &ArgMatches<'a>) -> Result<
             if name == "view" {
                 let trace = trace_of(alloc, inner)?;
                 let wanted = wanted_of(inner);
-                Ok(View {
+                Ok(Asked::View {
                     file,
                     trace,
                     wanted,
                 })
+            } else if name == "explain" {
+                Ok(Asked::Explain { file })
             } else {
                 Err(unknown(alloc))
             }

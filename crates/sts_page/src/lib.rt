@@ -3,7 +3,7 @@
 
 ghost use Rattle.std.specs.Prelude.{[]};
 ghost use Rattle.sts_cli.specs.Output.{IsOutputOf, Output};
-ghost use Rattle.sts_explain.specs.Output.{IsExplanation, Output as Explained};
+ghost use Rattle.sts_explain.specs.Output.{IsExplanation};
 ghost use Rattle.sts_view.specs.View.{IsViewOf};
 ghost use Rattle.sts_page.specs.Handed.{IsHanded};
 
@@ -135,7 +135,7 @@ pub extern "C" fn sts_view(
 /// Why a text is no program or a program is refused, handed over as by `sts_verify`.
 #[unsafe(no_mangle)]
 pub extern "C" fn sts_explain(alloc: Global, text: &[u8], out: &mut [u8], size: &mut usize) -> u8
-    ensures { (o : Explained) × IsExplanation text.now o
+    ensures { (o : Output) × IsExplanation text.now o
         × IsHanded o.bytes o.status (record {
           status = result;
           size = size.new;

@@ -4,7 +4,8 @@ use crate::row::{Part, Row, all};
 use std::io;
 use std::io::{ErrorKind, Write};
 use std::test::Fail;
-use sts_explain::explain::{WriteFailed, explain};
+use sts_cli::play::WriteFailed;
+use sts_explain::explain::explain;
 
 static FAULTS: [Row; 19] = [
     Row {

@@ -58,7 +58,15 @@ fn event_line(out: &mut String, n: usize, event: Event, is_counted: bool) -> Res
 }
 
 /// The machine after these events.
-fn after<'p>(alloc: Global, program: &'p Program, events: &[Event]) -> Result<Watch<'p>, AllocError>
+///
+/// # Errors
+///
+/// Memory was refused.
+pub fn after<'p>(
+    alloc: Global,
+    program: &'p Program,
+    events: &[Event],
+) -> Result<Watch<'p>, AllocError>
     ensures { IfOk result (λ w. w ≡ watched program.now events.now) }
 {
     let mut watch = Watch::start(alloc, program)?;

@@ -9,9 +9,9 @@ pub returns-in-Ok : goal.returns-in-Ok
 returns-in-Ok g c =
     let sources = c.args.sources.now in
     let file = g.S.Sources.held sources c.args.wanted.file.now in
-    let outside = def.outside_of (g.S.Sources.held sources) c.args.wanted.outside in
+    let outside = def.events_of (g.S.Sources.held sources) c.args.wanted.outside in
     IfOk-weaker c.on_texts.result _ _
-    (λ s h. (h.0, of_texts file outside _ _ h.0 c.in-Ok.ensures.program c.in-Ok.ensures.outside h.1, h.2))
+    (λ s h. (h.0, of_texts file outside _ _ h.0 c.in-Ok.ensures.program c.in-Ok.ensures.events h.1, h.2))
     c.on_texts.ensures
 
 pub returns-in-Err : goal.returns-in-Err
