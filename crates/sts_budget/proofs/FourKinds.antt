@@ -23,8 +23,8 @@ use Rattle.sts_budget.specs.Change.{source_of, added_of, measured, own_of, limit
 use Rattle.sts_budget.specs.Change.{IsMost}
 use Rattle.sts_budget.proofs.Structured.{own_loop, IsInside, comes_inside, at_points}
 use Rattle.sts_budget.proofs.Sums.{IsTable, point_most, point_attained}
-use Rattle.sts_budget.proofs.Entries.{names, front, front_all, front_le, names_of, front_of}
-use Rattle.sts_budget.proofs.Entries.{source_low, source_kept, long}
+use Rattle.sts_budget.proofs.EntryLemmas.{names, front, front_all, front_le, names_of, front_of}
+use Rattle.sts_budget.proofs.EntryLemmas.{source_low, source_kept, long}
 use Rattle.sts_budget.specs.Flowing.{flows, flows_by}
 use Rattle.sts_budget.specs.Known.{KnowsNames}
 use Rattle.sts_budget.specs.Structured.{IsStructured}

@@ -5,7 +5,7 @@ pub mod Match
 pub mod Allowed
 pub mod Typed
 pub mod Named
-pub mod Entries
+pub mod EntryLemmas
 pub mod FourKinds
 pub mod Forward
 pub mod Laid

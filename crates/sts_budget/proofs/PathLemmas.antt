@@ -15,7 +15,7 @@ use Rattle.sts_budget.specs.Laws.{PointsLieOnPaths, PointsAreWithin, ChildrenAre
 use Rattle.sts_budget.specs.Layout.{Names, HasScope, FitsNames}
 use Rattle.sts_budget.specs.Change.{position_of}
 use Rattle.sts_budget.proofs.Structured.{at_points, comes_inside}
-use Rattle.sts_budget.proofs.Entries.{names, front, front_all, front_forked, length_forked, long}
+use Rattle.sts_budget.proofs.EntryLemmas.{names, front, front_all, front_forked, length_forked, long}
 use Rattle.sts_budget.proofs.FourKinds.{comes_names}
 use Rattle.sts_budget.proofs.Typed.{structured}
 use Rattle.sts_budget.proofs.Named.{knows_names}

@@ -21,7 +21,7 @@ use Rattle.sts_budget.specs.Ready.{names_in, IsLaidFor}
 use Rattle.sts_budget.specs.Structured.{IsStructured}
 use Rattle.sts_budget.specs.Sums.{Sums}
 use Rattle.sts_budget.proofs.CheckedLemmas.{IsChecked, is_checked}
-use Rattle.sts_budget.proofs.Entries.{front_all, long}
+use Rattle.sts_budget.proofs.EntryLemmas.{front_all, long}
 use Rattle.sts_budget.proofs.FourKinds.{from_sums, from_steps, comes_names, end_counts}
 use Rattle.sts_budget.proofs.Laid.{is_written}
 use Rattle.sts_budget.proofs.Typed.{fits}

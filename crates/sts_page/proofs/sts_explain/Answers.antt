@@ -1,5 +1,5 @@
 use Rattle.std.proofs.Common.{inr, refl}
-use Rattle.sts_explain.specs.Output.{memory_output}
+use Rattle.sts_cli.specs.Output.{memory_output}
 use Rattle.sts_page.proofs.sts_explain.Goals as goal
 
 pub returns : goal.returns
