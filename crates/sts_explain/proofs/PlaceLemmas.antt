@@ -2,7 +2,7 @@
 use Rattle.std.proofs.Common.{◌≡◌, ℕ, zero, suc, List, [], ◌∷◌, Some, None, Bool, true, false, cond, length, slice_get, refl, sym, ap, ◌∙◌, subst}
 use Rattle.std.specs.Prelude.{Result, Ok, Err, Option, nat_lt, slice_index_or}
 use Rattle.sts_code.specs.Checks.{program_fault}
-use Rattle.sts_code.specs.Program.{Program, Routine, routine, no_routine}
+use Rattle.sts_code.specs.Program.{Program, Routine, no_routine}
 use Rattle.sts_code.specs.declared.checking.CodeError.{CodeError}
 use Rattle.sts_code.specs.declared.instr.Instr.{Instr}
 use Rattle.sts_code.specs.declared.profile.Profile.{Profile}

@@ -91,10 +91,12 @@ pub(crate) fn say_code_place(
 {
     match outlined(alloc, text) {
         Ok(outline) => say_check_place(alloc, out, &outline, error),
-        Err(AsmError {
-            kind: AsmKind::Memory,
-            ..
-        }) => Err(AllocError),
+        Err(
+            AsmError {
+                kind: AsmKind::Memory,
+                ..
+            },
+        ) => Err(AllocError),
         Err(_) => Ok(()),
     }
 }

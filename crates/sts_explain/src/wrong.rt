@@ -38,11 +38,7 @@ fn say_missing(out: &mut Vec<u8>, wanted: Wanted) -> Result<(), AllocError>
 }
 
 /// Appends the words up to the first one that isn't what is wanted there, and what is wanted.
-fn say_stop<'a>(
-    out: &mut Vec<u8>,
-    wanted: Wanted,
-    words: Words<'a>,
-) -> Result<(), AllocError>
+fn say_stop<'a>(out: &mut Vec<u8>, wanted: Wanted, words: Words<'a>) -> Result<(), AllocError>
     ensures { OnOk result (out.new.items ≡ out.old.items
         ++ def.stop_words (stop wanted words.entry)) }
 {

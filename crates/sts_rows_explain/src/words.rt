@@ -99,13 +99,19 @@ static SCOPES: [Row; 16] = [
     },
     Row {
         name: "no count",
-        text: &[Part(1, "func main 0 / push 1 / open s0 until failed x timed / end")],
+        text: &[Part(
+            1,
+            "func main 0 / push 1 / open s0 until failed x timed / end",
+        )],
         lines: "error A3, line 3: open s0 until failed x timed / a word that should be a number of its range isn't one / at open s0 until failed [x]: wanted is how many of them, a number of 32 bits",
         status: 3,
     },
     Row {
         name: "no value",
-        text: &[Part(1, "func main 0 / push 1 / open s0 until atleast timed / end")],
+        text: &[Part(
+            1,
+            "func main 0 / push 1 / open s0 until atleast timed / end",
+        )],
         lines: "error A3, line 3: open s0 until atleast timed / a word that should be a number of its range isn't one / at open s0 until atleast [timed]: wanted is the least value, a number of 64 bits with a sign",
         status: 3,
     },
@@ -117,7 +123,10 @@ static SCOPES: [Row; 16] = [
     },
     Row {
         name: "a word behind timed",
-        text: &[Part(1, "func main 0 / push 1 / open s0 until success 2 timed 5 / end")],
+        text: &[Part(
+            1,
+            "func main 0 / push 1 / open s0 until success 2 timed 5 / end",
+        )],
         lines: "error A4, line 3: open s0 until success 2 timed 5 / an operand is missing, of another kind, left over or badly spelled / at open s0 until success 2 timed [5]: wanted is nothing more",
         status: 3,
     },
@@ -255,7 +264,10 @@ static CHECKS: [Row; 5] = [
     },
     Row {
         name: "too many arguments",
-        text: &[Part(1, "func kid 9 / push 0 / ret / end / func main 0 / push 0 / ret / end")],
+        text: &[Part(
+            1,
+            "func kid 9 / push 0 / ret / end / func main 0 / push 0 / ret / end",
+        )],
         lines: "error A9 C6 in kid / a number out of its range, more than 8 arguments, or no instruction",
         status: 3,
     },
@@ -267,7 +279,10 @@ static CHECKS: [Row; 5] = [
     },
     Row {
         name: "a fork of a later function",
-        text: &[Part(1, "func kid 0 / push 0 / ; on / fork s0 main _ / ret / end / func main 0 / push 0 / ret / end")],
+        text: &[Part(
+            1,
+            "func kid 0 / push 0 / ; on / fork s0 main _ / ret / end / func main 0 / push 0 / ret / end",
+        )],
         lines: "error A9 C4 in kid, line 4: fork s0 main _ / it forks a function that doesn't stand before this one",
         status: 3,
     },

@@ -9,16 +9,16 @@ use Rattle.sts_asm.specs.declared.fault.AsmKind.{AsmKind}
 use Rattle.sts_asm.specs.declared.fault.AsmKind.TheVariants.{BadNumber, BadOperands, UnknownWord, Unclosed, DuplicateLabel}
 use Rattle.sts_asm.specs.declared.mnemonic.Mnemonic.{Mnemonic}
 use Rattle.sts_asm.specs.Fault.{◌>>=◌}
-use Rattle.sts_asm.specs.Line.{known, mnemonic_of, instr_of}
-use Rattle.sts_asm.specs.Operand.{wanted, number_at, named, name_at, finished}
+use Rattle.sts_asm.specs.Line.{known, mnemonic_of}
+use Rattle.sts_asm.specs.Operand.{number_at, named, finished}
 use Rattle.sts_asm.specs.Marks.{marked}
 use Rattle.sts_asm.specs.Outline.{Draft, Outline, profile_of, profile_at, profiled, with_keys, no_needs, keys_at, needs_at}
 use Rattle.sts_asm.specs.Outline.{header_at, with_function, begun, ended, label_of, labelled, with_label, with_sentence, inner, inside, said}
 use Rattle.sts_wanted.specs.declared.wanted.Wanted.{Wanted}
 use Rattle.sts_wanted.specs.declared.wanted.Wanted.TheVariants as w
-use Rattle.sts_wanted.specs.Wanted.{fits, after, stop, of_mnemonic, after_inner, after_first, is_profile}
-use Rattle.sts_wanted.specs.Wrong.{Allows, IsWrong, wrong, missing, Stops, IsOfOperand}
-use Rattle.sts_wanted.proofs.StopLemmas.{StopsFrom, allows, one, one_on, spelled, nothing, some_of, none_of, same_kind}
+use Rattle.sts_wanted.specs.Wanted.{fits, stop, of_mnemonic, after_inner, after_first, is_profile}
+use Rattle.sts_wanted.specs.Wrong.{IsWrong, wrong, missing, Stops, IsOfOperand}
+use Rattle.sts_wanted.proofs.StopLemmas.{StopsFrom, allows, one, one_on, spelled, nothing, none_of, same_kind}
 use Rattle.sts_wanted.proofs.OperandLemmas.{or_left, or_right, same, named_fits, operands}
 
 -- ---- what is read is put elsewhere

@@ -18,15 +18,15 @@ use Rattle.sts_asm.specs.declared.mnemonic.Mnemonic.TheVariants as m
 use Rattle.sts_asm.specs.Fault.{◌>>=◌}
 use Rattle.sts_asm.specs.Line.{operated, with_number, with_slot, with_target}
 use Rattle.sts_asm.specs.Marks.{label_in, function_in}
-use Rattle.sts_asm.specs.Operand.{Read, wanted, looked_up, number_at, value_at, slot, slot_at, handle, handle_at}
-use Rattle.sts_asm.specs.Operand.{named, name_at, target_at, function_at, maybe_target_at, until_count_at}
+use Rattle.sts_asm.specs.Operand.{Read, wanted, looked_up, number_at, slot, slot_at, handle, handle_at}
+use Rattle.sts_asm.specs.Operand.{named, target_at, function_at, maybe_target_at, until_count_at}
 use Rattle.sts_asm.specs.Operand.{until_value_at, until_at, joiners, joiner_at, timed_at, kinds_counted}
 use Rattle.sts_asm.specs.Operand.{kind_at, finished}
 use Rattle.sts_wanted.specs.declared.wanted.Wanted.{Wanted}
 use Rattle.sts_wanted.specs.declared.wanted.Wanted.TheVariants as w
 use Rattle.sts_wanted.specs.Wanted.{fits, after, of_mnemonic}
 use Rattle.sts_wanted.specs.Wrong.{Allows}
-use Rattle.sts_wanted.proofs.StopLemmas.{StopsFrom, allows, one, spelled, nothing, some_of, none_of}
+use Rattle.sts_wanted.proofs.StopLemmas.{StopsFrom, allows, one, spelled, nothing, none_of}
 
 -- ---- truths
 

@@ -1,5 +1,5 @@
 -- Where a line stops being what is wanted, word by word.
-use Rattle.std.proofs.Common.{◌≡◌, ◌≢◌, ℕ, Bool, true, false, cond, List, [], ◌∷◌, ◌++◌, refl, sym, ap, ◌∙◌}
+use Rattle.std.proofs.Common.{◌≡◌, ℕ, Bool, true, false, cond, List, [], ◌∷◌, ◌++◌, refl, sym, ap, ◌∙◌}
 use Rattle.std.specs.Prelude.{Option, Some, None, Result, Ok, Err, is_some}
 use Rattle.sts_asm.specs.declared.fault.AsmKind.{AsmKind}
 use Rattle.sts_asm.specs.declared.fault.AsmKind.TheVariants.{BadOperands}
@@ -8,7 +8,7 @@ use Rattle.sts_asm.specs.Operand.{wanted, finished}
 use Rattle.sts_wanted.specs.declared.wanted.Wanted.{Wanted}
 use Rattle.sts_wanted.specs.declared.wanted.Wanted.TheVariants as w
 use Rattle.sts_wanted.specs.Wanted.{Stop, stop, behind, fits, after}
-use Rattle.sts_wanted.specs.Wrong.{Settles, Allows, IsWrong, wrong, missing, Stops}
+use Rattle.sts_wanted.specs.Wrong.{Allows, IsWrong, wrong, missing, Stops}
 
 -- Where reading begins, and what is wanted there.
 abbrev pub StopsFrom : {X : Type 0} → Wanted → (List (List ℕ) → Result X AsmKind) → Type 0

@@ -1,7 +1,7 @@
 -- The first fault of a text is found in its line, after the lines before.
-use Rattle.std.proofs.Common.{◌≡◌, ℕ, ◌+◌, ◌-◌, zero, suc, Bool, true, false, cond, List, [], ◌∷◌, ◌++◌, length, take, slice_get, refl, sym, ap, ◌∙◌, subst, inl, inr, arith}
+use Rattle.std.proofs.Common.{◌≡◌, ℕ, ◌+◌, ◌-◌, Bool, true, false, cond, List, [], ◌∷◌, ◌++◌, length, take, slice_get, refl, sym, ap, ◌∙◌, subst, inl, inr, arith}
 use Rattle.std.proofs.lemmas.Grind.{common_steps}
-use Rattle.std.specs.Prelude.{Option, Some, None, Result, Ok, Err, is_some, nat_lt}
+use Rattle.std.specs.Prelude.{Option, Some, Result, Ok, Err, is_some, nat_lt}
 use Rattle.std.specs.List.{list_all, before_first}
 use Rattle.sts_text.specs.Words.{lines, words}
 use Rattle.sts_asm.specs.declared.fault.AsmKind.{AsmKind}
@@ -9,7 +9,7 @@ use Rattle.sts_asm.specs.declared.fault.AsmKind.TheVariants.{NotAscii, BadNumber
 use Rattle.sts_asm.specs.declared.fault.AsmError.{AsmError}
 use Rattle.sts_asm.specs.Fault.{◌>>=◌, at_line}
 use Rattle.sts_asm.specs.Outline.{Outline, empty, said, is_allowed, is_semicolon, line_read, lines_read, closed, outline_of}
-use Rattle.sts_asm.specs.Source.{outlined, words_of, words_at}
+use Rattle.sts_asm.specs.Source.{words_of, words_at}
 use Rattle.sts_wanted.specs.declared.wanted.Wanted.TheVariants.{First}
 use Rattle.sts_wanted.specs.Wanted.{stop}
 use Rattle.sts_wanted.specs.Wrong.{Stops, IsOfOperand, OperandsStop}
@@ -32,7 +32,12 @@ found_here at o line more e k h same =
     let kinds : k ≡ e.kind = ap (λ (x : AsmError). x.kind) same in
     let numbers : at ≡ e.line = ap (λ (x : AsmError). x.line) same in
     record {
-      done = []; line = line; rest = more; read = o; parts = refl; before = refl;
+      done = [];
+      line = line;
+      rest = more;
+      read = o;
+      parts = refl;
+      before = refl;
       number = sym numbers ∙ omega arith;
       fault = ap (λ (n : ℕ). line_read n o line) (sym numbers) ∙ h ∙ ap (λ (x : AsmKind). Err x) kinds;
     }
@@ -42,7 +47,10 @@ unfolding lines_read
 found_later at o p line more e h f =
     let later : lines_read at o (line ∷ f.done) ≡ lines_read (at + 1) p f.done = rw h refl in
     record {
-      done = line ∷ f.done; line = f.line; rest = f.rest; read = f.read;
+      done = line ∷ f.done;
+      line = f.line;
+      rest = f.rest;
+      read = f.read;
       parts = ap (λ (xs : List (List ℕ)). line ∷ xs) f.parts;
       before = later ∙ f.before;
       number = let n : e.line ≡ at + 1 + length f.done = f.number in grind (arith, common_steps);
@@ -83,9 +91,11 @@ found_stops text e is f =
     let here : slice_get (lines text) (e.line - 1) ≡ Some f.line = ap (λ (k : ℕ). slice_get (lines text) k) n ∙ ap (λ (xs : List (List ℕ)). slice_get xs (length f.done)) f.parts ∙ got f.done f.line f.rest in
     let ws : List (List ℕ) = words (before_first is_semicolon f.line) in
     let same : words_at text e.line ≡ ws = ap (λ (l : Option (List ℕ)). words_of l) here in
-    let fault : said e.line f.read ws ≡ Err e.kind = allowed_line (list_all is_allowed f.line) e.line f.read ws e.kind is f.fault in
-    (f.read, ap (λ (ls : List (List ℕ)). lines_read 1 empty ls) before ∙ f.before,
-    subst (λ (xs : List (List ℕ)). Stops (said e.line f.read) e.kind xs (stop First xs)) (sym same) (words_operands e.line f.read e.kind ws is fault))
+    let fault : said e.line f.read ws ≡ Err e.kind = allowed_line (list_all is_allowed f.line) e.line f.read ws e.kind is f.fault in (
+      f.read,
+      ap (λ (ls : List (List ℕ)). lines_read 1 empty ls) before ∙ f.before,
+      subst (λ (xs : List (List ℕ)). Stops (said e.line f.read) e.kind xs (stop First xs)) (sym same) (words_operands e.line f.read e.kind ws is fault),
+    )
 
 closed_fault : (last : ℕ) (b : Bool) (o : Outline) (e : AsmError) → IsOfOperand e.kind → cond {A = Result Outline AsmError} b (Err (record { line = last; kind = Unclosed })) (Ok o) ≡ Err e → ⊥
 closed_fault last true o e is h =

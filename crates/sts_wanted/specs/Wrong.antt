@@ -26,8 +26,8 @@ Allows read kind words = (more : List (List ℕ)) × (read (words ++ more) ≢ E
 pub data IsWrong {X : Type 0} (read : List (List ℕ) → Result X AsmKind) (kind : AsmKind)
     (words before : List (List ℕ)) : Option (List ℕ) → Type 0 where
   wrong : (word : List ℕ) → (rest : List (List ℕ)) → words ≡ before ++ word ∷ rest
-    → Allows read kind before → Settles read kind (before ++ word ∷ [])
-    → IsWrong read kind words before (Some word)
+      → Allows read kind before → Settles read kind (before ++ word ∷ [])
+      → IsWrong read kind words before (Some word)
   missing : words ≡ before → Allows read kind before → IsWrong read kind words before None
 
 -- where a line stops being what is wanted is where reading finds its fault
