@@ -13,8 +13,8 @@ use Rattle.sts_rules.specs.ControlPaths.{Among}
 use Rattle.sts_budget.specs.Layout.{Names, names_after, HasEntryRoom}
 use Rattle.sts_budget.specs.Laid.{Writes, IsLaid, head_after, mates_after}
 use Rattle.sts_budget.proofs.CheckedLemmas.{is_checked}
-use Rattle.sts_budget.proofs.Laid.{is_written, fits_room, leads_inside, head_before, laid_more}
-use Rattle.sts_budget.proofs.Laid.{laid_none}
+use Rattle.sts_budget.proofs.LaidLemmas.{is_written, fits_room, leads_inside, head_before, laid_more}
+use Rattle.sts_budget.proofs.LaidLemmas.{laid_none}
 
 pub any_default : {A : Type 0} (xs : List A) (i : ℕ) (d e : A) → i < length xs → get_or xs i d ≡ get_or xs i e
 any_default [] i d e lt = absurd (omega arith)

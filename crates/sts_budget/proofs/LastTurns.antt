@@ -33,7 +33,7 @@ use Rattle.sts_budget.specs.Table.{read, IsPartial, Passes}
 use Rattle.sts_budget.specs.declared.change.Resource.TheVariants.{Steps, Tasks, Scopes, Binds}
 use Rattle.sts_budget.proofs.LaidStepLemmas.{any_default}
 use Rattle.sts_budget.proofs.Forward.{is_table}
-use Rattle.sts_budget.proofs.FourKinds.{stands_exceeds, top_is_most}
+use Rattle.sts_budget.proofs.FourKindLemmas.{stands_exceeds, top_is_most}
 use Rattle.sts_budget.proofs.HandOn.{fits_here, heads_right, counts_times, counts_next}
 use Rattle.sts_budget.proofs.Sums.{IsTable, point_attained, full_inside, full_outside}
 

@@ -34,9 +34,9 @@ use Rattle.sts_rules.specs.declared.budget.Budgets.{Budgets}
 use Rattle.sts_rules.specs.Budget.{skeleton, shape_of}
 use Rattle.sts_budget.specs.Layout.{Names, names_after, HasScope, FitsNames}
 use Rattle.sts_budget.proofs.Allowed.{allowed, not_false, neither}
-use Rattle.sts_budget.proofs.Typed.{IsEdge, over_go, into_loop, past_loop, over_next, edge_at, here}
-use Rattle.sts_budget.proofs.Typed.{times_at, next_at, goes_at, within_code, opened, ended}
-use Rattle.sts_budget.proofs.Typed.{none_past}
+use Rattle.sts_budget.proofs.TypedLemmas.{IsEdge, over_go, into_loop, past_loop, over_next, edge_at, here}
+use Rattle.sts_budget.proofs.TypedLemmas.{times_at, next_at, goes_at, within_code, opened, ended}
+use Rattle.sts_budget.proofs.TypedLemmas.{none_past}
 use Rattle.sts_budget.specs.Known.{KnowsNames, NamesRight}
 use Rattle.sts_budget.specs.Structured.{Led, from_go, from_head, from_end}
 use Rattle.sts_budget.specs.TypedNames.{names}

@@ -16,10 +16,10 @@ use Rattle.sts_budget.specs.Layout.{Names, HasScope, FitsNames}
 use Rattle.sts_budget.specs.Change.{position_of}
 use Rattle.sts_budget.proofs.Structured.{at_points, comes_inside}
 use Rattle.sts_budget.proofs.EntryLemmas.{names, front, front_all, front_forked, length_forked, long}
-use Rattle.sts_budget.proofs.FourKinds.{comes_names}
-use Rattle.sts_budget.proofs.Typed.{structured}
+use Rattle.sts_budget.proofs.FourKindLemmas.{comes_names}
+use Rattle.sts_budget.proofs.TypedLemmas.{structured}
 use Rattle.sts_budget.proofs.Named.{knows_names}
-use Rattle.sts_budget.proofs.Laid.{names_here, names_right}
+use Rattle.sts_budget.proofs.LaidLemmas.{names_here, names_right}
 use Rattle.sts_budget.proofs.CheckedLemmas.{is_checked}
 
 position_low : (x : ℕ) (ns : Names) → HasScope x ns → position_of x ns < length ns

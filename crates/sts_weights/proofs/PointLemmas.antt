@@ -22,9 +22,9 @@ use Rattle.sts_budget.specs.Structured.{IsStructured}
 use Rattle.sts_budget.specs.Sums.{Sums}
 use Rattle.sts_budget.proofs.CheckedLemmas.{IsChecked, is_checked}
 use Rattle.sts_budget.proofs.EntryLemmas.{front_all, long}
-use Rattle.sts_budget.proofs.FourKinds.{from_sums, from_steps, comes_names, end_counts}
-use Rattle.sts_budget.proofs.Laid.{is_written}
-use Rattle.sts_budget.proofs.Typed.{fits}
+use Rattle.sts_budget.proofs.FourKindLemmas.{from_sums, from_steps, comes_names, end_counts}
+use Rattle.sts_budget.proofs.LaidLemmas.{is_written}
+use Rattle.sts_budget.proofs.TypedLemmas.{fits}
 use Rattle.sts_weights.specs.declared.heavy.Heavy.{Heavy}
 use Rattle.sts_weights.specs.Adding.{total}
 use Rattle.sts_weights.specs.Found.{IsWeighedIn}

@@ -2,7 +2,7 @@ use Rattle.std.proofs.Common.{◌-◌, ◌∙◌, Ok, Err, ap, sym}
 use Rattle.sts_budget.specs.Change.{limit_of, own_of}
 use Rattle.sts_code.specs.Program.{routine}
 use Rattle.sts_budget.specs.declared.change.Resource.TheVariants.{Steps, Tasks, Scopes, Binds}
-use Rattle.sts_budget.proofs.Ready.{is_ready}
+use Rattle.sts_budget.proofs.ReadyLemmas.{is_ready}
 use Rattle.sts_budget.proofs.Found.{before_steps, before_tasks, before_scopes, before_binds}
 use Rattle.sts_budget.proofs.Found.{found_error, found_all, as_ready, as_number}
 use Rattle.sts_budget.proofs.budget.budget.Goals as goal

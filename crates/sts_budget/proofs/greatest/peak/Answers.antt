@@ -2,7 +2,7 @@ use Rattle.std.proofs.Common.{◌≤◌, ℕ, length, sym, subst, arith}
 use Rattle.sts_rules.specs.Around.{around}
 use Rattle.sts_budget.specs.Change.{IsMost}
 use Rattle.sts_budget.specs.Ready.{names_in}
-use Rattle.sts_budget.proofs.FourKinds.{own_is_most}
+use Rattle.sts_budget.proofs.FourKindLemmas.{own_is_most}
 use Rattle.sts_budget.proofs.LastTurns.{own_within}
 use Rattle.sts_budget.proofs.greatest.peak.Goals as goal
 

@@ -1,5 +1,5 @@
 use Rattle.std.proofs.Common.{None, refl}
-use Rattle.sts_budget.proofs.Laid.{writes_more}
+use Rattle.sts_budget.proofs.LaidLemmas.{writes_more}
 use Rattle.sts_budget.proofs.layout.write_heads.Goals as goal
 
 pub loop-i-preserved : goal.loop-i-preserved

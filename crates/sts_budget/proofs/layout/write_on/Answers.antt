@@ -1,6 +1,6 @@
 use Rattle.std.proofs.Common.{◌+◌, None, set, sym, ◌∙◌, subst}
 use Rattle.sts_budget.specs.Laid.{Writes}
-use Rattle.sts_budget.proofs.Laid.{writes_one}
+use Rattle.sts_budget.proofs.LaidLemmas.{writes_one}
 use Rattle.sts_budget.proofs.Listed.{straight}
 use Rattle.sts_budget.proofs.layout.write_on.Goals as goal
 

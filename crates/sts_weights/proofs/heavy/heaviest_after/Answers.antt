@@ -1,6 +1,6 @@
 use Rattle.std.proofs.Common.{Result, Ok, Err, Option, Some, None}
 use Rattle.std.specs.Prelude.{IfOk, IfSome}
-use Rattle.sts_budget.proofs.Ready.{is_ready}
+use Rattle.sts_budget.proofs.ReadyLemmas.{is_ready}
 use Rattle.sts_weights.specs.declared.heavy.Heavy.{Heavy}
 use Rattle.sts_weights.specs.Found.{IsWeighedIn}
 use Rattle.sts_weights.specs.Heavy.{IsHeavy}

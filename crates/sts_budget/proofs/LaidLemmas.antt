@@ -29,8 +29,8 @@ use Rattle.sts_budget.specs.Layout.{Names, names_after, HasEntryRoom}
 use Rattle.sts_budget.proofs.Sorts.{Sort, sort, is_times, is_next, is_end, goes_on, GoesOn}
 use Rattle.sts_budget.proofs.Sorts.{among_of, among_left, among_right}
 use Rattle.sts_budget.proofs.Forward.{among_cases}
-use Rattle.sts_budget.proofs.Typed.{among_next, goes_at, here, fits, opened, Opened, ended, inside}
-use Rattle.sts_budget.proofs.Typed.{structured, leading_go, times_of}
+use Rattle.sts_budget.proofs.TypedLemmas.{among_next, goes_at, here, fits, opened, Opened, ended, inside}
+use Rattle.sts_budget.proofs.TypedLemmas.{structured, leading_go, times_of}
 use Rattle.sts_budget.proofs.Named.{led, knows_names}
 use Rattle.sts_budget.specs.Structured.{IsStructured, Led, from_go, from_head, from_end}
 use Rattle.sts_budget.specs.Known.{KnowsNames, NamesRight}

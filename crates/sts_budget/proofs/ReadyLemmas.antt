@@ -20,9 +20,9 @@ use Rattle.sts_budget.specs.Laid.{IsLaidOut, IsRight, listed}
 use Rattle.sts_budget.specs.Ready.{IsLaidFor, names_in}
 use Rattle.sts_budget.proofs.Listed.{deep_listed}
 use Rattle.sts_budget.proofs.CheckedLemmas.{IsChecked, is_checked}
-use Rattle.sts_budget.proofs.Laid.{is_written}
+use Rattle.sts_budget.proofs.LaidLemmas.{is_written}
 use Rattle.sts_budget.proofs.Named.{led, knows_names}
-use Rattle.sts_budget.proofs.Typed.{fits, structured, opened}
+use Rattle.sts_budget.proofs.TypedLemmas.{fits, structured, opened}
 
 -- each fork is of an earlier function
 forks : (f pc : ℕ) (i : Instr) → ((x g : ℕ) (h : Option ℕ) → i ≡ Fork x g h → g < f) → ForksEarlier f i
