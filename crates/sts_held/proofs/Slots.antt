@@ -2,16 +2,14 @@
 use Rattle.std.proofs.Common.{◌≡◌, ◌≢◌, ℕ, zero, suc, ◌+◌, ◌<◌, ◌≤◌, List, [], ◌∷◌, ◌++◌, length}
 use Rattle.std.proofs.Common.{Option, Some, None, refl, sym, ◌∙◌, ap, arith, get_or, set, nat_eq}
 use Rattle.std.proofs.Common.{Bool, true, false, nat_lt, length-set, get_or-set_same}
-use Rattle.std.proofs.Common.{get_or-set_other, cond}
-use Rattle.std.proofs.lemmas.List.Sums.{sum_by-set}
+use Rattle.std.proofs.Common.{get_or-set_other}
 use Rattle.std.proofs.lemmas.Bool.Decides.{nat_tests}
 use Rattle.std.proofs.lemmas.List.{ext_get_or, get_or_past}
 use Rattle.std.specs.Borrow.{Bor, MutBor}
 use Rattle.std.specs.Option.{option_copied, option_copied_mut, IsSome}
 use Rattle.sts_held.specs.Holes.{Holes, key_at}
-use Rattle.sts_held.specs.Slots.{IsSpare, body_of, slots}
+use Rattle.sts_held.specs.Slots.{body_of, slots}
 use Rattle.sts_held.specs.declared.held.Entry.{Entry}
-use Rattle.std.specs.Prelude.{count_by, is_some}
 
 module _ {T : Type 0} where
   pub length-slots : (b : ℕ) (keys : List ℕ) (entries : List (Option (Entry T))) → length (slots b keys entries) ≡ length keys
@@ -61,7 +59,7 @@ module _ {T : Type 0} where
       by false q = absurd (h (slot_past keys entries birth (grind (arith, nat_tests))))
 
   -- two tables of one length, alike but at one birth
-  pub written : (keys : List ℕ) (old new : List (Option (Entry T))) (birth : ℕ) (o : Option T) → birth < length keys → body_of birth (get_or new (get_or keys birth 0) None) ≡ o → ((i : ℕ) → i < length keys → i ≢ birth → body_of i (get_or new (get_or keys i 0) None) ≡ body_of i (get_or old (get_or keys i 0) None)) → slots 0 keys new ≡ set (slots 0 keys old) birth o
+  pub written : (keys : List ℕ) (old new : List (Option (Entry T))) (birth : ℕ) (o : Option T) → birth < length keys → body_of birth (get_or new (get_or keys birth 0) None) ≡ o → ((i : ℕ) → i ≢ birth → body_of i (get_or new (get_or keys i 0) None) ≡ body_of i (get_or old (get_or keys i 0) None)) → slots 0 keys new ≡ set (slots 0 keys old) birth o
   written keys old new birth o less here others =
       ext_get_or None _ _ (length-slots 0 keys new ∙ sym (length-set (slots 0 keys old) birth o ∙ length-slots 0 keys old))
       (λ i l. let inside : i < length keys = rw (length-slots 0 keys new) at l in by i inside (nat_eq i birth) refl)
@@ -74,7 +72,7 @@ module _ {T : Type 0} where
           rw (s, get_or-set_same (slots 0 keys old) birth o None l) (slot_is keys new birth less ∙ here)
       by i inside false q =
           let s : i ≢ birth = grind (arith, nat_tests) in
-          rw (get_or-set_other (slots 0 keys old) birth i o None s) (slot_is keys new i inside ∙ others i inside s ∙ sym (slot_is keys old i inside))
+          rw (get_or-set_other (slots 0 keys old) birth i o None s) (slot_is keys new i inside ∙ others i s ∙ sym (slot_is keys old i inside))
 
   body_other : (i b : ℕ) (x : T) → i ≢ b → body_of i (Some (record { birth = b; body = x })) ≡ None
   body_other i b x ne = let q : nat_eq b i ≡ false = grind (arith, nat_tests) in rw q refl
@@ -86,7 +84,7 @@ module _ {T : Type 0} where
   pub rewritten : (keys : List ℕ) (old new : List (Option (Entry T))) (birth : ℕ) (e : Entry T) (x : T) → birth < length keys → get_or old (get_or keys birth 0) None ≡ Some e → e.birth ≡ birth → get_or new (get_or keys birth 0) None ≡ Some (record { birth = birth; body = x }) → ((j : ℕ) → j ≢ get_or keys birth 0 → get_or new j None ≡ get_or old j None) → slots 0 keys new ≡ set (slots 0 keys old) birth (Some x)
   rewritten keys old new birth e x less was own is others =
       written keys old new birth (Some x) less (rw is (body_own birth x))
-      (λ i _ ne. by i ne (nat_eq (get_or keys i 0) (get_or keys birth 0)) refl)
+      (λ i ne. by i ne (nat_eq (get_or keys i 0) (get_or keys birth 0)) refl)
     where
       by : (i : ℕ) → i ≢ birth → (t : Bool) → nat_eq (get_or keys i 0) (get_or keys birth 0) ≡ t → body_of i (get_or new (get_or keys i 0) None) ≡ body_of i (get_or old (get_or keys i 0) None)
       by i ne true q =
@@ -99,7 +97,7 @@ module _ {T : Type 0} where
   pub emptied : (keys : List ℕ) (old new : List (Option (Entry T))) (birth : ℕ) (e : Entry T) → birth < length keys → get_or old (get_or keys birth 0) None ≡ Some e → e.birth ≡ birth → get_or new (get_or keys birth 0) None ≡ None → ((j : ℕ) → j ≢ get_or keys birth 0 → get_or new j None ≡ get_or old j None) → slots 0 keys new ≡ set (slots 0 keys old) birth None
   emptied keys old new birth e less was own is others =
       written keys old new birth None less (rw is refl)
-      (λ i _ ne. by i ne (nat_eq (get_or keys i 0) (get_or keys birth 0)) refl)
+      (λ i ne. by i ne (nat_eq (get_or keys i 0) (get_or keys birth 0)) refl)
     where
       by : (i : ℕ) → i ≢ birth → (t : Bool) → nat_eq (get_or keys i 0) (get_or keys birth 0) ≡ t → body_of i (get_or new (get_or keys i 0) None) ≡ body_of i (get_or old (get_or keys i 0) None)
       by i ne true q =
@@ -107,34 +105,6 @@ module _ {T : Type 0} where
           let r : nat_eq e.birth i ≡ false = grind (arith, nat_tests) in
           rw (s, is, was) (rw r refl)
       by i ne false q = let s : get_or keys i 0 ≢ get_or keys birth 0 = grind (arith, nat_tests) in rw (others (get_or keys i 0) s) refl
-
-  -- the entry of one birth is let go: it is no birth's from now on
-  pub let_go : (keys : List ℕ) (old new : List (Option (Entry T))) (birth : ℕ) (e : Entry T) (x : T) → birth < length keys → length keys ≤ 1000000 → get_or old (get_or keys birth 0) None ≡ Some e → e.birth ≡ birth → get_or new (get_or keys birth 0) None ≡ Some (record { birth = 1000000; body = x }) → ((j : ℕ) → j ≢ get_or keys birth 0 → get_or new j None ≡ get_or old j None) → slots 0 keys new ≡ set (slots 0 keys old) birth None
-  let_go keys old new birth e x less few was own is others =
-      written keys old new birth None less (rw is (body_other birth 1000000 x (omega arith)))
-      (λ i inside ne. by i inside ne (nat_eq (get_or keys i 0) (get_or keys birth 0)) refl)
-    where
-      by : (i : ℕ) → i < length keys → i ≢ birth → (t : Bool) → nat_eq (get_or keys i 0) (get_or keys birth 0) ≡ t → body_of i (get_or new (get_or keys i 0) None) ≡ body_of i (get_or old (get_or keys i 0) None)
-      by i inside ne true q =
-          let s : get_or keys i 0 ≡ get_or keys birth 0 = grind (arith, nat_tests) in
-          let r : nat_eq e.birth i ≡ false = grind (arith, nat_tests) in
-          rw (s, is, was, body_other i 1000000 x (omega arith)) (rw r refl)
-      by i inside ne false q = let s : get_or keys i 0 ≢ get_or keys birth 0 = grind (arith, nat_tests) in rw (others (get_or keys i 0) s) refl
-
-  -- what lies under the spare key stays where the entry of a birth is changed
-  pub spare_stays : (old new : List (Option (Entry T))) (spare : Option ℕ) (key : ℕ) (e : Entry T) → get_or old key None ≡ Some e → e.birth < 1000000 → ((j : ℕ) → j ≢ key → get_or new j None ≡ get_or old j None) → IsSpare old spare → IsSpare new spare
-  spare_stays old new spare key e is small others h k same = let s = h k same in (s.0, others k (λ one. apart s.0 s.1 s.2 one) ∙ s.1, s.2)
-    where
-      apart : (x : Entry T) → get_or old k None ≡ Some x → 1000000 ≤ x.birth → k ≡ key → ⊥
-      apart x at big one =
-          let at_key : get_or old key None ≡ Some x = rw one at at in
-          let both : x ≡ e = cc in
-          let large : 1000000 ≤ e.birth = rw both at big in
-          absurd (omega (arith, large, small))
-
-  -- it is no birth's
-  pub spare_body : (entries : List (Option (Entry T))) (k n : ℕ) (e : Entry T) → get_or entries k None ≡ Some e → 1000000 ≤ e.birth → n ≤ 1000000 → (i : ℕ) → i < n → body_of i (get_or entries k None) ≡ None
-  spare_body entries k n e is big few i less = let r : nat_eq e.birth i ≡ false = grind (arith, nat_tests) in rw is (rw r refl)
 
   -- what a look-up finds
   pub none_past : (keys : List ℕ) (entries : List (Option (Entry T))) (birth : ℕ) → false ≡ nat_lt birth (length keys) → None ≡ get_or (slots 0 keys entries) birth None
@@ -149,28 +119,20 @@ module _ {T : Type 0} where
   pub none_other : (keys : List ℕ) (entries : List (Option (Entry T))) (birth k : ℕ) (x : Entry T) → birth < length keys → k ≡ get_or keys birth 0 → Some x ≡ get_or entries k None → x.birth ≢ birth → None ≡ get_or (slots 0 keys entries) birth None
   none_other keys entries birth k x less e h other = let q : nat_eq x.birth birth ≡ false = grind (arith, nat_tests) in rw (slot_is keys entries birth less, ← e, ← h) (rw q refl)
 
-  pub inside_of : (entries : List (Option (Entry T))) (k : ℕ) (e : Entry T) → get_or entries k None ≡ Some e → k < length entries
+  inside_of : (entries : List (Option (Entry T))) (k : ℕ) (e : Entry T) → get_or entries k None ≡ Some e → k < length entries
   inside_of [] k e h = cc
   inside_of (x ∷ xs) zero e h = omega arith
   inside_of (x ∷ xs) (suc k) e h = let i = inside_of xs k e h in omega (arith, i)
 
-  -- an entry is written over another: as many are there
-  pub same_count : (entries : List (Option (Entry T))) (k : ℕ) (x y : Entry T) → get_or entries k None ≡ Some x → count_by is_some (set entries k (Some y)) ≡ count_by is_some entries
-  same_count entries k x y is =
-      let counted : count_by is_some (set entries k (Some y)) + cond (is_some (get_or entries k None)) 1 0 ≡ count_by is_some entries + 1 =
-      sum_by-set (λ o. cond (is_some o) 1 0) entries k (Some y) None (inside_of entries k x is) in
-      let same : count_by is_some (set entries k (Some y)) + 1 ≡ count_by is_some entries + 1 = rw is at counted in
-      omega (arith, same)
-
-  -- a key with the entry of no birth gets that of the next birth
-  same_entries : (b n : ℕ) (keys : List ℕ) (old new : List (Option (Entry T))) (k : ℕ) (x : T) → b + length keys ≤ n → ((i : ℕ) → i < n → body_of i (get_or old k None) ≡ None) → get_or new k None ≡ Some (record { birth = n; body = x }) → ((j : ℕ) → j ≢ k → get_or new j None ≡ get_or old j None) → slots b keys new ≡ slots b keys old
+  -- a vacant key gets the entry of the next birth
+  same_entries : (b n : ℕ) (keys : List ℕ) (old new : List (Option (Entry T))) (k : ℕ) (x : T) → b + length keys ≤ n → get_or old k None ≡ None → get_or new k None ≡ Some (record { birth = n; body = x }) → ((j : ℕ) → j ≢ k → get_or new j None ≡ get_or old j None) → slots b keys new ≡ slots b keys old
   same_entries b n [] old new k x le was is others = refl
   same_entries b n (j ∷ keys) old new k x le was is others = by (nat_eq j k) refl (same_entries (suc b) n keys old new k x (omega arith) was is others)
     where
       by : (t : Bool) → nat_eq j k ≡ t → slots (suc b) keys new ≡ slots (suc b) keys old → slots b (j ∷ keys) new ≡ slots b (j ∷ keys) old
       by true q rest =
           let s : j ≡ k = grind (arith, nat_tests) in
-          rw (s, is, body_other b n x (omega arith), was b (omega arith), rest) refl
+          rw (s, is, was, body_other b n x (omega arith), rest) refl
       by false q rest = let s : j ≢ k = grind (arith, nat_tests) in rw (others j s, rest) refl
 
   more_keys : (b : ℕ) (keys : List ℕ) (entries : List (Option (Entry T))) (k : ℕ) → slots b (keys ++ k ∷ []) entries ≡ slots b keys entries ++ body_of (b + length keys) (get_or entries k None) ∷ []
@@ -179,7 +141,7 @@ module _ {T : Type 0} where
       let e : b + suc (length keys) ≡ suc b + length keys = omega arith in
       rw e (ap (λ l. body_of b (get_or entries j None) ∷ l) (more_keys (suc b) keys entries k))
 
-  pub born : (keys : List ℕ) (old new : List (Option (Entry T))) (k : ℕ) (x : T) → ((i : ℕ) → i < length keys → body_of i (get_or old k None) ≡ None) → get_or new k None ≡ Some (record { birth = length keys; body = x }) → ((j : ℕ) → j ≢ k → get_or new j None ≡ get_or old j None) → slots 0 (keys ++ k ∷ []) new ≡ slots 0 keys old ++ Some x ∷ []
+  pub born : (keys : List ℕ) (old new : List (Option (Entry T))) (k : ℕ) (x : T) → get_or old k None ≡ None → get_or new k None ≡ Some (record { birth = length keys; body = x }) → ((j : ℕ) → j ≢ k → get_or new j None ≡ get_or old j None) → slots 0 (keys ++ k ∷ []) new ≡ slots 0 keys old ++ Some x ∷ []
   born keys old new k x was is others =
       let e : 0 + length keys ≡ length keys = omega arith in
       rw (more_keys 0 keys new k, e, same_entries 0 (length keys) keys old new k x (omega arith) was is others, is, body_own (length keys) x) refl

@@ -18,9 +18,6 @@ struct Entry<T> {
     body: T,
 }
 
-/// The birth of an entry that stands no longer: no record's, since births stay below it.
-const NO_BIRTH: usize = 1000000;
-
 /// Records by birth, some of which no longer stand: contracts see a list by birth with holes.
 ///
 /// Births count from 0 and never come back. A record stands under a key that a later record may be
@@ -30,10 +27,7 @@ pub struct Held<T> {
     /// The key that each birth was given.
     keys: Vec<usize>,
     entries: Slab<Entry<T>>,
-    /// The key of an entry that was let go and lies there still: the next birth is given it.
-    spare: Option<usize>,
-    /// How many more entries fit beside the spare one.
-    free: u32,
+    room: u32,
 }
 
 impl<T> Model for Held<T> {
@@ -45,17 +39,16 @@ impl<T> Model for Held<T> {
 
     ghost coded = { holes_code T.code };
 
-    ghost use Rattle.sts_held.specs.Slots.{IsSpare, room_of, slots};
+    ghost use Rattle.sts_held.specs.Slots.{slots};
 
     ghost view = { λ h. record {
       slots = slots 0 h.keys.items h.entries.slots;
       keys = h.keys.items;
-      room = room_of h.free h.spare;
+      room = h.room;
     } };
 
-    ghost invariant = { λ h. HasRoomFor h.entries h.free × (slab_len h.entries + h.free < 2 ^ 32)
-        × (1000000 ≤ vec_capacity h.keys) × (length h.keys.items ≤ 1000000)
-        × IsSpare h.entries.slots h.spare };
+    ghost invariant = { λ h. HasRoomFor h.entries h.room × (slab_len h.entries + h.room < 2 ^ 32)
+        × (1000000 ≤ vec_capacity h.keys) × (length h.keys.items ≤ 1000000) };
 }
 
 impl<T: Drop> Held<T> {
@@ -73,8 +66,7 @@ impl<T: Drop> Held<T> {
         Ok(Held {
             keys,
             entries,
-            spare: None,
-            free: room,
+            room,
         })
     }
 
@@ -90,10 +82,7 @@ impl<T: Drop> Held<T> {
     pub fn room(&self) -> u32
         ensures { result ≡ self.now.room }
     {
-        match self.spare {
-            None => self.free,
-            Some(_) => self.free + 1,
-        }
+        self.room
     }
 
     /// The record of a birth, if it stands.
@@ -155,20 +144,9 @@ impl<T: Drop> Held<T> {
         ensures room { self.new.room ≡ self.old.room - 1 }
     {
         let birth = self.keys.len();
-        match self.spare {
-            Some(key) => {
-                let entry = self.entries.get_mut(key).unwrap();
-                entry.birth = birth;
-                entry.body = body;
-                self.spare = None;
-                self.keys.push_reserved(key);
-            }
-            None => {
-                self.free -= 1;
-                let key = self.entries.insert_reserved(Entry { birth, body });
-                self.keys.push_reserved(key);
-            }
-        }
+        let key = self.entries.insert_reserved(Entry { birth, body });
+        self.keys.push_reserved(key);
+        self.room -= 1;
         birth
     }
 
@@ -196,24 +174,7 @@ impl<T: Drop> Held<T> {
     {
         let key = self.keys[birth];
         let entry = self.entries.remove(key);
-        self.free += 1;
+        self.room += 1;
         entry.body
-    }
-
-    /// Lets the record of a birth go, as `remove` does. The next birth may be given its place, where
-    /// the record is written over and not moved.
-    pub fn discard(&mut self, birth: usize)
-        requires { slice_index_or self.old.slots birth None ≢ None }
-        ensures slots { self.new.slots ≡ slice_set self.old.slots birth None }
-        ensures keys { self.new.keys ≡ self.old.keys }
-        ensures room { self.new.room ≡ self.old.room + 1 }
-    {
-        if self.spare.is_some() {
-            self.remove(birth);
-            return;
-        }
-        let key = self.keys[birth];
-        self.entries.get_mut(key).unwrap().birth = NO_BIRTH;
-        self.spare = Some(key);
     }
 }

@@ -1,4 +1,4 @@
-use Rattle.std.proofs.Common.{◌∷◌, [], sym, ◌∙◌, arith, length-append}
+use Rattle.std.proofs.Common.{◌∷◌, [], refl, sym, ◌∙◌, arith, length-append}
 use Rattle.sts_held.proofs.Slots.{length-slots, skipped}
 use Rattle.sts_held.proofs.held.Held.skip.Goals as goal
 
@@ -17,7 +17,7 @@ invariant_of-self g c =
     let more = c.push_reserved.ensures.items in
     let long = length-append c.self.inside.keys.items (c.vacant_key.result ∷ []) in
     let capacity = c.push_reserved.ensures.capacity in
-    (i.0, i.1, omega arith, (rw more (omega arith)), i.4)
+    (i.0, i.1, omega arith, (rw more (omega arith)))
 
 pub returns-clause-birth : goal.returns-clause-birth
 returns-clause-birth g c = rw (← c.self.view_is) (c.len-birth.ensures ∙ c.self.inside.keys.ok.0 ∙ sym (length-slots 0 c.self.inside.keys.items c.self.inside.entries.slots))
