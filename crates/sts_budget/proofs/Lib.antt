@@ -18,3 +18,4 @@ pub mod LastTurns
 pub mod Ready
 pub mod Found
 pub mod PathLemmas
+pub mod PointLemmas
