@@ -1,19 +1,16 @@
 -- What a path weighs at its end, by the words of the budget.
-use Rattle.std.proofs.Common.{◌≡◌, ℕ, ◌+◌, ◌<◌, List, length, true, sym, ap, ◌∙◌, subst, arith}
-use Rattle.sts_code.specs.Checks.{program_fault}
+use Rattle.std.proofs.Common.{◌≡◌, ℕ, ◌+◌, List, length, true, sym, ap, subst, arith}
 use Rattle.sts_code.specs.Program.{Program, routine, instr_at}
 use Rattle.sts_code.specs.declared.instr.Instr.{Instr}
-use Rattle.std.specs.Prelude.{None}
 use Rattle.sts_rules.specs.Around.{around}
-use Rattle.sts_rules.specs.Refusal.{IsWellTyped}
 use Rattle.sts_rules.specs.declared.budget.Budgets.{Budgets}
-use Rattle.sts_rules.specs.Budget.{AreBudgets, skeleton, Measure, entries_sum, tasks_measure, scopes_measure, binds_measure}
-use Rattle.sts_rules.specs.ControlPaths.{Loops, OpenEntry, Comes}
+use Rattle.sts_rules.specs.Budget.{AreBudgets, skeleton, tasks_measure, scopes_measure, binds_measure}
+use Rattle.sts_rules.specs.ControlPaths.{Loops}
 use Rattle.sts_budget.specs.declared.change.Resource.{Resource}
 use Rattle.sts_budget.specs.declared.change.Resource.TheVariants.{Steps, Tasks, Scopes, Binds}
 use Rattle.sts_budget.specs.declared.layout.Layout.{Layout}
 use Rattle.sts_budget.specs.Change.{own_of, depth_of}
-use Rattle.sts_budget.specs.Flowing.{flows, flows_by}
+use Rattle.sts_budget.specs.Flowing.{flows}
 use Rattle.sts_budget.specs.Known.{KnowsNames, NamesRight}
 use Rattle.sts_budget.specs.Layout.{Names}
 use Rattle.sts_budget.specs.Ready.{names_in, IsLaidFor}
