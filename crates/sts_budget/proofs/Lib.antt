@@ -18,3 +18,4 @@ pub mod LastTurns
 pub mod ReadyLemmas
 pub mod Found
 pub mod PathLemmas
+pub mod PointLemmas

@@ -126,12 +126,7 @@ fn measured(resource: Resource, earlier: &[Budgets], instr: Instr, names: &Names
 }
 
 /// What the instruction does to the sums of this resource, where the open entries have these names.
-pub fn change_of(
-    resource: Resource,
-    earlier: &[Budgets],
-    instr: Instr,
-    names: &Names,
-) -> SumChange
+pub fn change_of(resource: Resource, earlier: &[Budgets], instr: Instr, names: &Names) -> SumChange
     requires { def.ForksEarlier (length earlier.now) instr }
     ensures { result ≡ def.change_of resource earlier.now instr names.now }
 {

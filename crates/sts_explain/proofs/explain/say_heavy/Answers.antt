@@ -1,4 +1,4 @@
-use Rattle.std.proofs.Common.{◌≡◌, ap, ◌∙◌, arith}
+use Rattle.std.proofs.Common.{ap, ◌∙◌, arith}
 use Rattle.std.specs.Prelude.{length}
 use Rattle.sts_budget.specs.Change.{cause_of}
 use Rattle.sts_weights.specs.Heavy.{IsHeavy}
