@@ -31,6 +31,11 @@ said (asked.Explain file) = record {
   files = file.now ∷ [];
   wanted = None;
 }
+said (asked.Draw file trace) = record {
+  name = codes "draw";
+  files = file.now ∷ trace.now ∷ [];
+  wanted = None;
+}
 
 -- an option without a value is given as `true`
 abbrev pub is_true : Option Text → Bool
@@ -46,9 +51,13 @@ wanted_at rows = record { each = is_set (codes "each") rows; full = is_set (code
 abbrev pub is_view : Text → Bool
 is_view name = bytes_eq name (codes "view")
 
+-- does a command run a text?
+abbrev pub takes_trace : Text → Bool
+takes_trace name = is_view name || bytes_eq name (codes "draw")
+
 -- the files that a command takes
 abbrev pub ids_of : Text → List Text
-ids_of name = if is_view name then codes "FILE" ∷ codes "TRACE" ∷ [] else codes "FILE" ∷ []
+ids_of name = if takes_trace name then codes "FILE" ∷ codes "TRACE" ∷ [] else codes "FILE" ∷ []
 
 -- the texts under these ids
 abbrev pub texts_at : List Row → List Text → List Text
@@ -77,7 +86,7 @@ pub record Asks (words : List Text) (a : Asked) : Type 0 where
 -- ---- why they ask for nothing
 
 abbrev pub is_command : Text → Bool
-is_command name = is_view name || bytes_eq name (codes "explain")
+is_command name = takes_trace name || bytes_eq name (codes "explain")
 
 -- the words name a command of the program, and all files that it takes
 abbrev pub is_whole : Option (Text × List Row) → Bool

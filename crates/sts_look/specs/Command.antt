@@ -15,6 +15,11 @@ view = with_rule (with_rule (with_rule (with_rule (new_app (codes "view")) file_
 abbrev pub explain : App
 explain = with_rule (new_app (codes "explain")) file_rule
 
+abbrev pub draw : App
+draw = with_rule (with_rule (new_app (codes "draw")) file_rule) trace_rule
+
 -- the program: a command is required
 abbrev pub program : App
-program = with_subcommand (with_subcommand (required (new_app (codes "look"))) view.top) explain.top
+program =
+    with_subcommand (with_subcommand (with_subcommand (required (new_app (codes "look"))) view.top) explain.top)
+      draw.top

@@ -11,6 +11,7 @@ use Rattle.sts_cli.specs.Taking.{IsTakenOf}
 use Rattle.sts_cli.specs.declared.taking.TakeError.{TakeError}
 use Rattle.sts_cli.specs.declared.words.WordsError.{WordsError}
 use Rattle.sts_cli.specs.declared.words.WordsError.TheVariants as words_error
+use Rattle.sts_draw.specs.Picture.{IsPictureOf}
 use Rattle.sts_explain.specs.Output.{IsExplanation}
 use Rattle.sts_view.specs.View.{IsViewOf}
 use Rattle.sts_look.specs.Asked.{Asks, AsksForHelp, IsMistaken}
@@ -37,6 +38,8 @@ abbrev pub IsShown : Asked → Files → Output → Type 0
 IsShown (asked.View file trace wanted) files o =
     IsOfTexts (IsViewOf wanted) (files file.now) (files trace.now) o
 IsShown (asked.Explain file) files o = IsOfText IsExplanation (files file.now) o
+IsShown (asked.Draw file trace) files o =
+    IsOfTexts IsPictureOf (files file.now) (files trace.now) o
 
 -- what the program writes, and its status: that of the line that the words ask for, 0 after help
 -- that they ask for, 2 where they are mistaken, or that memory was refused

@@ -15,4 +15,9 @@ pub enum Asked<'a> {
     Explain {
         file: &'a str,
     },
+    /// A run as a picture.
+    Draw {
+        file: &'a str,
+        trace: &'a str,
+    },
 }

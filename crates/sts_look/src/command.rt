@@ -56,6 +56,18 @@ fn explain<'a>(alloc: Global) -> Result<Command<'a>, AllocError>
     )
 }
 
+/// The command `draw`.
+fn draw<'a>(alloc: Global) -> Result<Command<'a>, AllocError>
+    ensures app { IfOk result (λ c. app_of c ≡ def.draw) }
+    ensures local { IfOk result (λ c. (out-Command c).has_globals ≡ false) }
+{
+    on_trace(
+        alloc,
+        "draw",
+        "Prints the run of a trace as a picture: SVG, a lane for each task, a column for each event",
+    )
+}
+
 /// The whole program.
 ///
 /// # Errors
@@ -66,9 +78,11 @@ pub fn program<'a>(alloc: Global) -> Result<Command<'a>, AllocError>
 {
     let view = view(alloc)?;
     let explain = explain(alloc)?;
+    let draw = draw(alloc)?;
     Command::new(alloc, "look")
         .about("Shows runs of structured task scopes")
         .subcommand_required(true)
         .subcommand(view)?
-        .subcommand(explain)
+        .subcommand(explain)?
+        .subcommand(draw)
 }

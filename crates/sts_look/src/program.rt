@@ -3,6 +3,7 @@
 
 ghost use Rattle.std.specs.Prelude.{◌≡◌, IfOk, map};
 ghost use Rattle.sts_cli.specs.Output.{Output, Writes};
+ghost use Rattle.sts_draw.specs.Picture.{IsPictureOf};
 ghost use Rattle.sts_explain.specs.Output.{IsExplanation};
 ghost use Rattle.sts_view.specs.View.{IsViewOf};
 ghost use Rattle.sts_look.specs.Ending as def;
@@ -17,6 +18,7 @@ use sts_cli::program::{MOST_OF_A_TEXT, NOT_TEXT, borrowed, read_texts};
 use sts_cli::sources::{Host, Sources, file};
 use sts_cli::taking::TakeError;
 use sts_cli::words::{WordsError, words};
+use sts_draw::of_text::write_picture;
 use sts_explain::explain::explain;
 use sts_line::asked::LineError;
 use sts_view::of_text::write_view;
@@ -68,6 +70,30 @@ fn on_explain<S: Sources, W: Write>(
     }
 }
 
+/// A run as a picture.
+fn on_draw<S: Sources, W: Write>(
+    alloc: Global,
+    sources: &S,
+    path: &str,
+    trace: &str,
+    out: &mut W,
+) -> Result<u8, WriteFailed>
+    ensures { IfOk result (λ s. (o : Output)
+        × def.IsOfTexts IsPictureOf (S.held sources.now path.now)
+        (S.held sources.now trace.now) o
+        × Writes (W.contents out.old) (W.contents out.new) s o) }
+{
+    match read_texts(alloc, sources, path, Some(trace)) {
+        Ok(texts) => write_picture(
+            alloc,
+            texts.program.as_slice(),
+            texts.events.as_slice(),
+            out,
+        ),
+        Err(error) => failed(error, out),
+    }
+}
+
 /// Does what a line asks for.
 fn on_line<S: Sources, W: Write>(
     alloc: Global,
@@ -86,6 +112,7 @@ fn on_line<S: Sources, W: Write>(
             wanted,
         } => on_view(alloc, sources, wanted, file, trace, out),
         Asked::Explain { file } => on_explain(alloc, sources, file, out),
+        Asked::Draw { file, trace } => on_draw(alloc, sources, file, trace, out),
     }
 }
 

@@ -62,6 +62,9 @@ fn asked_of<'a>(
                 })
             } else if name == "explain" {
                 Ok(Asked::Explain { file })
+            } else if name == "draw" {
+                let trace = trace_of(alloc, inner)?;
+                Ok(Asked::Draw { file, trace })
             } else {
                 Err(unknown(alloc))
             }

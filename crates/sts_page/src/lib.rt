@@ -3,6 +3,7 @@
 
 ghost use Rattle.std.specs.Prelude.{[]};
 ghost use Rattle.sts_cli.specs.Output.{IsOutputOf, Output};
+ghost use Rattle.sts_draw.specs.Picture.{IsPictureOf};
 ghost use Rattle.sts_explain.specs.Output.{IsExplanation};
 ghost use Rattle.sts_view.specs.View.{IsViewOf};
 ghost use Rattle.sts_page.specs.Handed.{IsHanded};
@@ -10,6 +11,7 @@ ghost use Rattle.sts_page.specs.Handed.{IsHanded};
 use std::alloc::Global;
 use sts_cli::mode::Mode;
 use sts_cli::play::{STATUS_OUTSIDE, play};
+use sts_draw::of_text::write_picture;
 use sts_explain::explain::explain;
 use sts_view::of_text::write_view;
 use sts_view::view::Wanted;
@@ -145,6 +147,30 @@ pub extern "C" fn sts_explain(alloc: Global, text: &[u8], out: &mut [u8], size: 
 {
     let mut printed = Vec::new(alloc);
     match explain(alloc, text, &mut printed) {
+        Ok(status) => hand(printed.as_slice(), status, out, size),
+        Err(_) => hand(OUT_OF_MEMORY, STATUS_OUTSIDE, out, size),
+    }
+}
+
+/// What `look draw` prints, handed over as by `sts_verify`.
+#[unsafe(no_mangle)]
+pub extern "C" fn sts_draw(
+    alloc: Global,
+    text: &[u8],
+    trace: &[u8],
+    out: &mut [u8],
+    size: &mut usize,
+) -> u8
+    ensures { (o : Output) × IsPictureOf text.now trace.now o
+        × IsHanded o.bytes o.status (record {
+          status = result;
+          size = size.new;
+          before = out.old;
+          after = out.new;
+        }) }
+{
+    let mut printed = Vec::new(alloc);
+    match write_picture(alloc, text, trace, &mut printed) {
         Ok(status) => hand(printed.as_slice(), status, out, size),
         Err(_) => hand(OUT_OF_MEMORY, STATUS_OUTSIDE, out, size),
     }

@@ -12,6 +12,8 @@ returns c =
     ap app_of_fields c.subcommand_required.ensures ∙ ap (λ f. required (app_of_fields f)) c.about.ensures ∙ ap required c.new.ensures.app in
     let one : app_of c.in_ok-subcommand.field-0 ≡ with_subcommand (required (new_app (codes "look"))) def.view.top =
     c.in_ok-subcommand.ensures.shape c.in_ok-view.ensures.local ∙ ap₂ with_subcommand bare (ap (λ (a : App). a.top) c.in_ok-view.ensures.app) in
-    IfOk-weaker c.subcommand-2.result _ _
-    (λ r h. h.shape c.in_ok-explain.ensures.local ∙ ap₂ with_subcommand one (ap (λ (a : App). a.top) c.in_ok-explain.ensures.app))
-    c.subcommand-2.ensures
+    let two : app_of c.in_ok-subcommand-2.field-0 ≡ with_subcommand (with_subcommand (required (new_app (codes "look"))) def.view.top) def.explain.top =
+    c.in_ok-subcommand-2.ensures.shape c.in_ok-explain.ensures.local ∙ ap₂ with_subcommand one (ap (λ (a : App). a.top) c.in_ok-explain.ensures.app) in
+    IfOk-weaker c.subcommand-3.result _ _
+    (λ r h. h.shape c.in_ok-draw.ensures.local ∙ ap₂ with_subcommand two (ap (λ (a : App). a.top) c.in_ok-draw.ensures.app))
+    c.subcommand-3.ensures

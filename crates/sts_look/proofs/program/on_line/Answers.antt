@@ -5,3 +5,6 @@ returns-in-View g c = rw c.in-View.is c.on_view.ensures
 
 pub returns-in-Explain : goal.returns-in-Explain
 returns-in-Explain g c = rw c.in-Explain.is c.on_explain.ensures
+
+pub returns-in-Draw : goal.returns-in-Draw
+returns-in-Draw g c = rw c.in-Draw.is c.on_draw.ensures
