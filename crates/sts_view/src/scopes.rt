@@ -22,7 +22,8 @@ fn only_if(out: &mut String, holds: bool, word: &str) -> Result<(), AllocError>
     if holds { write!(out, "{word}") } else { Ok(()) }
 }
 
-fn phase_word(phase: Phase) -> &'static str
+/// The word of a phase.
+pub fn phase_word(phase: Phase) -> &'static str
     ensures { result.now ≡ def.phase_word phase }
 {
     match phase {
@@ -35,7 +36,11 @@ fn phase_word(phase: Phase) -> &'static str
 }
 
 /// `scope S of OWNER JOINER`
-fn scope_place(out: &mut String, records: &Records, s: u32) -> Result<(), AllocError>
+///
+/// # Errors
+///
+/// Memory was refused; a part of it may then stand in `out`.
+pub fn scope_place(out: &mut String, records: &Records, s: u32) -> Result<(), AllocError>
     ensures { OnOk result (string_bytes out.new
         ≡ string_bytes out.old ++ def.scope_place s (model.scope_at records.now s)) }
 {

@@ -17,8 +17,8 @@ use sts_plain::stand::{can_step, stand_at};
 use sts_world::records::Records;
 use sts_world::world::World;
 
-/// The name of a function of the program.
-fn name_of(program: &Program, function: u32) -> &str
+/// The name of a function of the program; nothing where it has none.
+pub fn name_of(program: &Program, function: u32) -> &str
     ensures { result.now ≡ (routine program.now function).name }
 {
     match program.functions().get(function as usize) {
@@ -62,7 +62,7 @@ fn wait_words(out: &mut String, stand: Stand) -> Result<(), AllocError>
 }
 
 /// Is the end of a task the root's, or was its scope told of it?
-fn is_heard(world: &World, t: u32) -> bool
+pub fn is_heard(world: &World, t: u32) -> bool
     ensures { result ≡ def.is_heard world.now t (model.task_at world.now t).scope }
 {
     match world.records().parent(t) {
@@ -94,7 +94,17 @@ fn rest_words(out: &mut String, world: &World, t: u32) -> Result<(), AllocError>
     }
 }
 
-fn stand_words(out: &mut String, program: &Program, world: &World, t: u32) -> Result<(), AllocError>
+/// How a task stands: ready, what it waits for, or how it ended.
+///
+/// # Errors
+///
+/// Memory was refused; a part of it may then stand in `out`.
+pub fn stand_words(
+    out: &mut String,
+    program: &Program,
+    world: &World,
+    t: u32,
+) -> Result<(), AllocError>
     requires { t < length world.now.tasks }
     ensures { OnOk result (string_bytes out.new
         ≡ string_bytes out.old ++ def.stand_words program.now world.now t) }
@@ -108,7 +118,12 @@ fn stand_words(out: &mut String, program: &Program, world: &World, t: u32) -> Re
     wait_words(out, stand_at(world, program, t))
 }
 
-fn under_words(out: &mut String, scope: Option<u32>) -> Result<(), AllocError>
+/// The scope that a task is a subtask of, or `-` for the root.
+///
+/// # Errors
+///
+/// Memory was refused; a part of it may then stand in `out`.
+pub fn under_words(out: &mut String, scope: Option<u32>) -> Result<(), AllocError>
     ensures { OnOk result (string_bytes out.new ≡ string_bytes out.old ++ def.under_words scope) }
 {
     match scope {

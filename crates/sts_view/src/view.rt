@@ -27,7 +27,11 @@ pub struct Wanted {
 }
 
 /// How the machine stands, the steps that it took, then the tasks and the scopes.
-fn lines(out: &mut String, watch: &Watch<'_>, full: bool) -> Result<(), AllocError>
+///
+/// # Errors
+///
+/// Memory was refused; a part of them may then stand in `out`.
+pub fn lines(out: &mut String, watch: &Watch<'_>, full: bool) -> Result<(), AllocError>
     ensures { OnOk result (string_bytes out.new
         ≡ string_bytes out.old ++ def.lines_of full watch.now) }
 {
@@ -37,7 +41,12 @@ fn lines(out: &mut String, watch: &Watch<'_>, full: bool) -> Result<(), AllocErr
     scope_lines(out, full, watch.world().records())
 }
 
-fn event_words(out: &mut String, event: Event) -> Result<(), AllocError>
+/// An event as a trace spells it.
+///
+/// # Errors
+///
+/// Memory was refused; a part of it may then stand in `out`.
+pub fn event_words(out: &mut String, event: Event) -> Result<(), AllocError>
     ensures { OnOk result (string_bytes out.new ≡ string_bytes out.old ++ event_text event) }
 {
     match event {

@@ -1,7 +1,7 @@
 use Rattle.std.proofs.Common.{◌∙◌, ap, arith, get_or}
 use Rattle.sts_model.specs.declared.event.Event.TheVariants.{Step}
 use Rattle.sts_view.specs.Watched.{after_event}
-use Rattle.sts_view.proofs.Runs.{watched_next}
+use Rattle.sts_view.proofs.WatchedLemmas.{watched_next}
 use Rattle.sts_view.proofs.view.after.Goals as goal
 
 pub loop-i-preserved : goal.loop-i-preserved

@@ -4,7 +4,8 @@ use Rattle.std.specs.String.{string_bytes}
 use Rattle.sts_model.specs.Run as run
 use Rattle.sts_view.specs.View as def
 use Rattle.sts_view.specs.Watched.{Watched, after_event, watched}
-use Rattle.sts_view.proofs.Runs.{views_next, watched_next}
+use Rattle.sts_view.proofs.Runs.{views_next}
+use Rattle.sts_view.proofs.WatchedLemmas.{watched_next}
 use Rattle.sts_view.proofs.view.event_blocks.Goals as goal
 
 pub loop-i-preserved : goal.loop-i-preserved
