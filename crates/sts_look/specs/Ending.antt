@@ -1,5 +1,5 @@
 -- What `look` writes, and the status that it ends with (this project's own).
-use Rattle.std.specs.Prelude.{◌≡◌, ℕ, List, Option, Result, Ok, Err, map}
+use Rattle.std.specs.Prelude.{◌≡◌, ℕ, List, Option, Some, None, Result, Ok, Err, map}
 use Rattle.std.specs.Prelude.{String, Vec}
 use Rattle.std.specs.String.{string_bytes}
 use Rattle.std.specs.declared.alloc.Global.{Global}
@@ -11,6 +11,7 @@ use Rattle.sts_cli.specs.declared.taking.TakeError.{TakeError}
 use Rattle.sts_cli.specs.declared.words.WordsError.{WordsError}
 use Rattle.sts_cli.specs.declared.words.WordsError.TheVariants as words_error
 use Rattle.sts_explain.specs.Output.{IsExplanation}
+use Rattle.sts_explain_run.specs.Output.{IsRunExplanation}
 use Rattle.sts_view.specs.View.{IsViewOf}
 use Rattle.sts_look.specs.Asked.{Asks, AsksForHelp, IsMistaken}
 use Rattle.sts_look.specs.declared.asked.Asked.{Asked}
@@ -35,7 +36,9 @@ pub data IsOfTexts (Shows : List ℕ → List ℕ → Output → Type 0) (file t
 abbrev pub IsShown : Asked → Files → Output → Type 0
 IsShown (asked.View file trace wanted) files o =
     IsOfTexts (IsViewOf wanted) (files file.now) (files trace.now) o
-IsShown (asked.Explain file) files o = IsOfText IsExplanation (files file.now) o
+IsShown (asked.Explain file None) files o = IsOfText IsExplanation (files file.now) o
+IsShown (asked.Explain file (Some trace)) files o =
+    IsOfTexts IsRunExplanation (files file.now) (files trace.now) o
 
 -- what the program writes, and its status: that of the line that the words ask for, 0 after help
 -- that they ask for, 2 where they are mistaken, or that memory was refused

@@ -61,7 +61,8 @@ fn asked_of<'a>(
                     wanted,
                 })
             } else if name == "explain" {
-                Ok(Asked::Explain { file })
+                let trace = text_of(inner, "TRACE");
+                Ok(Asked::Explain { file, trace })
             } else {
                 Err(unknown(alloc))
             }

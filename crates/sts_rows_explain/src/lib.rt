@@ -7,3 +7,5 @@ mod faults;
 mod refusals;
 #[cfg(test)]
 mod row;
+#[cfg(test)]
+mod runs;

@@ -2,6 +2,3 @@ use Rattle.sts_look.proofs.program.on_line.Goals as goal
 
 pub returns-in-View : goal.returns-in-View
 returns-in-View g c = rw c.in-View.is c.on_view.ensures
-
-pub returns-in-Explain : goal.returns-in-Explain
-returns-in-Explain g c = rw c.in-Explain.is c.on_explain.ensures
