@@ -36,7 +36,7 @@ fn say_task(
     pc: u32,
 ) -> Result<(), AllocError>
     ensures { OnOk result (out.new.items ≡ out.old.items
-        ++ def.task_place told.program.now told.outline.now t function pc) }
+        ++ def.task_place told.entry.program.now told.entry.outline.now t function pc) }
 {
     let name = name_of(told.program, function);
     let head = format!(in alloc; "task {t} in {name}")?;
@@ -55,7 +55,7 @@ fn say_fault(
     pc: u32,
 ) -> Result<(), AllocError>
     ensures { OnOk result (out.new.items ≡ out.old.items
-        ++ def.fault_lines told.program.now told.outline.now kind task function pc) }
+        ++ def.fault_lines told.entry.program.now told.entry.outline.now kind task function pc) }
 {
     say(out, "fault ")?;
     say(out, printed::fault_word(kind))?;
@@ -86,7 +86,7 @@ pub(crate) fn say_state(
     state: PlainState,
 ) -> Result<(), AllocError>
     ensures { OnOk result (out.new.items ≡ out.old.items
-        ++ def.state_lines told.program.now told.outline.now state) }
+        ++ def.state_lines told.entry.program.now told.entry.outline.now state) }
 {
     match state {
         PlainState::Running => say(out, "running\n"),
@@ -202,7 +202,7 @@ fn say_task_line(
     requires born { t < length world.now.tasks }
     requires lives { living.lives (model.task_at world.now t) ≡ true }
     ensures { OnOk result (out.new.items ≡ out.old.items
-        ++ def.task_line told.program.now told.outline.now world.now t) }
+        ++ def.task_line told.entry.program.now told.entry.outline.now world.now t) }
 {
     let records = world.records();
     say_task(alloc, out, told, t, records.function(t), records.pc(t))?;
@@ -219,7 +219,7 @@ fn say_if_living(
     t: u32,
 ) -> Result<(), AllocError>
     ensures { OnOk result (out.new.items ≡ out.old.items
-        ++ def.living_line told.program.now told.outline.now world.now t) }
+        ++ def.living_line told.entry.program.now told.entry.outline.now world.now t) }
 {
     if world.records().lives(t) {
         say_task_line(alloc, out, told, world, t)
@@ -240,7 +240,7 @@ pub(crate) fn say_living(
     world: &World,
 ) -> Result<(), AllocError>
     ensures { OnOk result (out.new.items ≡ out.old.items
-        ++ def.living_lines told.program.now told.outline.now world.now world.now.tasks 0) }
+        ++ def.living_lines told.entry.program.now told.entry.outline.now world.now world.now.tasks 0) }
 {
     for t in 0..world.records().tasks_born() {
         say_if_living(alloc, out, told, world, t as u32)?;
