@@ -23,11 +23,7 @@ use sts_view::view::after;
 use sts_view::watch::Watch;
 
 /// How the machine stands that is watched, and each task that lives.
-fn of_watch(
-    alloc: Global,
-    outline: &Outline<'_>,
-    watch: &Watch<'_>,
-) -> Result<Output, AllocError>
+fn of_watch(alloc: Global, outline: &Outline<'_>, watch: &Watch<'_>) -> Result<Output, AllocError>
     ensures { IfOk result (λ o. o ≡ def.watched_output outline.now watch.now) }
 {
     let told = Told {

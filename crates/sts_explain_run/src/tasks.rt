@@ -21,16 +21,16 @@ use sts_world::world::World;
 
 /// A program, and the lines of its text.
 #[derive(Clone, Copy)]
-pub(crate) struct Told<'a> {
-    pub(crate) program: &'a Program,
-    pub(crate) outline: &'a Outline<'a>,
+pub(crate) struct Told<'p, 'o, 't> {
+    pub(crate) program: &'p Program,
+    pub(crate) outline: &'o Outline<'t>,
 }
 
 /// `task T in NAME, line L: WORDS`
 fn say_task(
     alloc: Global,
     out: &mut Vec<u8>,
-    told: Told<'_>,
+    told: Told<'_, '_, '_>,
     t: u32,
     function: u32,
     pc: u32,
@@ -48,7 +48,7 @@ fn say_task(
 fn say_fault(
     alloc: Global,
     out: &mut Vec<u8>,
-    told: Told<'_>,
+    told: Told<'_, '_, '_>,
     kind: Fault,
     task: u32,
     function: u32,
@@ -82,7 +82,7 @@ fn say_end(alloc: Global, out: &mut Vec<u8>, end: End) -> Result<(), AllocError>
 pub(crate) fn say_state(
     alloc: Global,
     out: &mut Vec<u8>,
-    told: Told<'_>,
+    told: Told<'_, '_, '_>,
     state: PlainState,
 ) -> Result<(), AllocError>
     ensures { OnOk result (out.new.items ≡ out.old.items
@@ -183,7 +183,8 @@ fn say_life(
 ) -> Result<(), AllocError>
     requires born { t < length world.now.tasks }
     requires lives { living.lives (model.task_at world.now t) ≡ true }
-    ensures { OnOk result (out.new.items ≡ out.old.items ++ def.life_words program.now world.now t) }
+    ensures { OnOk result (out.new.items ≡ out.old.items
+        ++ def.life_words program.now world.now t) }
 {
     if can_step(world, program, t) {
         return say(out, "ready");
@@ -195,7 +196,7 @@ fn say_life(
 fn say_task_line(
     alloc: Global,
     out: &mut Vec<u8>,
-    told: Told<'_>,
+    told: Told<'_, '_, '_>,
     world: &World,
     t: u32,
 ) -> Result<(), AllocError>
@@ -214,7 +215,7 @@ fn say_task_line(
 fn say_if_living(
     alloc: Global,
     out: &mut Vec<u8>,
-    told: Told<'_>,
+    told: Told<'_, '_, '_>,
     world: &World,
     t: u32,
 ) -> Result<(), AllocError>
@@ -236,11 +237,12 @@ fn say_if_living(
 pub(crate) fn say_living(
     alloc: Global,
     out: &mut Vec<u8>,
-    told: Told<'_>,
+    told: Told<'_, '_, '_>,
     world: &World,
 ) -> Result<(), AllocError>
     ensures { OnOk result (out.new.items ≡ out.old.items
-        ++ def.living_lines told.entry.program.now told.entry.outline.now world.now world.now.tasks 0) }
+        ++ def.living_lines told.entry.program.now told.entry.outline.now world.now world.now.tasks
+        0) }
 {
     for t in 0..world.records().tasks_born() {
         say_if_living(alloc, out, told, world, t as u32)?;
