@@ -1,8 +1,8 @@
 #!/usr/bin/env python3
 """Runs the built program `look` over the examples.  usage: looks.py [LOOK [STS]]
 
-- what docs/LOOK.md shows of a beginning of a trace is what `view` prints of it, and what it shows of a text what `explain`
-  prints;
+- what docs/LOOK.md shows of a beginning of a trace is what `view` or `explain` prints of it, and what it shows of a
+  text what `explain` prints;
 - `explain` of each example says that it is accepted;
 - `view` of each beginning of each example's trace begins with what `plain` of `sts` prints, with its status;
 - `view --each` of the whole trace is `view` of each beginning in turn, behind a line `after N EVENT` for each event,
@@ -21,6 +21,7 @@ from documents import read
 ROOT = os.path.dirname(os.path.dirname(os.path.realpath(__file__)))
 LOOK, STS = (os.path.join(ROOT, "crates", name, "out", name) for name in ("sts_look", "sts"))
 SHOWN = re.compile(r"After the first (\d+) events of \[(\w+)\].*?:\n\n((?:    .*\n)+)")
+TOLD = re.compile(r"Told after the first (\d+) events of \[(\w+)\].*?:\n\n((?:    .*\n)+)")
 EXPLAINED = re.compile(r"\n\n((?:    .*\n)+)\n`explain` prints:\n\n((?:    .*\n)+)")
 
 
@@ -62,13 +63,18 @@ def example(look, sts, folder, text):
 
 def shown(look, folder):
     """Yields whether what LOOK.md shows is printed."""
-    page = SHOWN.findall(read("docs/LOOK.md"))
-    yield "LOOK.md shows something", page != []
+    for command, pattern in (("view", SHOWN), ("explain", TOLD)):
+        page = pattern.findall(read("docs/LOOK.md"))
+        yield f"LOOK.md shows something of {command}", page != []
+        yield from shown_of(look, folder, command, page)
+
+
+def shown_of(look, folder, command, page):
     for count, name, block in page:
         text = os.path.join(ROOT, "examples", f"{name}.sts")
         with open(os.path.join(ROOT, "examples", f"{name}.trace")) as file:
             *_, path = beginnings(folder, file.readlines()[:int(count)])
-        yield f"{name} in LOOK.md", says(look, "view", text, path)[1] == dedented(block)
+        yield f"{command} of {name} in LOOK.md", says(look, command, text, path)[1] == dedented(block)
 
 
 def dedented(block):

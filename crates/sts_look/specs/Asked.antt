@@ -2,6 +2,7 @@
 -- definitions (this project's own).
 use Rattle.std.specs.Prelude.{◌≡◌, ◌⊎◌, ◌&&◌, ◌||◌, Bool, false, if◌then◌else◌, List, [], ◌∷◌}
 use Rattle.std.specs.Prelude.{filter_map, Option, Some, None, IsSomeAnd, is_some, codes}
+use Rattle.std.specs.Borrow.{Bor}
 use Rattle.std.specs.List.{list_all}
 use Rattle.std.specs.Str.{bytes_eq}
 use Rattle.clap.specs.Words.{Text, Row, IsAmong, fault_of, first_of, subcommand_of}
@@ -20,15 +21,20 @@ pub record Said : Type 0 where
   pub files : List Text
   pub wanted : Option Wanted
 
+-- the file that is named, if one is
+abbrev pub named : Option (Bor Text) → List Text
+named None = []
+named (Some path) = path.now ∷ []
+
 abbrev pub said : Asked → Said
 said (asked.View file trace wanted) = record {
   name = codes "view";
   files = file.now ∷ trace.now ∷ [];
   wanted = Some wanted;
 }
-said (asked.Explain file) = record {
+said (asked.Explain file trace) = record {
   name = codes "explain";
-  files = file.now ∷ [];
+  files = file.now ∷ named trace;
   wanted = None;
 }
 said (asked.Draw file trace) = record {
@@ -51,22 +57,18 @@ wanted_at rows = record { each = is_set (codes "each") rows; full = is_set (code
 abbrev pub is_view : Text → Bool
 is_view name = bytes_eq name (codes "view")
 
--- does a command run a text?
-abbrev pub takes_trace : Text → Bool
-takes_trace name = is_view name || bytes_eq name (codes "draw")
+-- does a command want a trace?
+abbrev pub wants_trace : Text → Bool
+wants_trace name = is_view name || bytes_eq name (codes "draw")
 
--- the files that a command takes
-abbrev pub ids_of : Text → List Text
-ids_of name = if takes_trace name then codes "FILE" ∷ codes "TRACE" ∷ [] else codes "FILE" ∷ []
-
--- the texts under these ids
-abbrev pub texts_at : List Row → List Text → List Text
-texts_at rows ids = filter_map (λ id. first_of id rows) ids
+-- the files that a command is given
+abbrev pub files_at : List Row → List Text
+files_at rows = filter_map (λ id. first_of id rows) (codes "FILE" ∷ codes "TRACE" ∷ [])
 
 abbrev pub given : Text × List Row → Said
 given (name, rows) = record {
   name = name;
-  files = texts_at rows (ids_of name);
+  files = files_at rows;
   wanted = if is_view name then Some (wanted_at rows) else None;
 }
 
@@ -86,9 +88,13 @@ pub record Asks (words : List Text) (a : Asked) : Type 0 where
 -- ---- why they ask for nothing
 
 abbrev pub is_command : Text → Bool
-is_command name = takes_trace name || bytes_eq name (codes "explain")
+is_command name = wants_trace name || bytes_eq name (codes "explain")
 
--- the words name a command of the program, and all files that it takes
+-- the files that a command has to be given
+abbrev pub ids_of : Text → List Text
+ids_of name = if wants_trace name then codes "FILE" ∷ codes "TRACE" ∷ [] else codes "FILE" ∷ []
+
+-- the words name a command of the program, and all files that it has to be given
 abbrev pub is_whole : Option (Text × List Row) → Bool
 is_whole None = false
 is_whole (Some (name, rows)) = is_command name

@@ -12,8 +12,12 @@ abbrev pub view : App
 view = with_rule (with_rule (with_rule (with_rule (new_app (codes "view")) file_rule) trace_rule)
     (flag_rule (codes "each"))) (flag_rule (codes "full"))
 
+-- a trace that may be left out
+abbrev pub maybe_trace_rule : Rule
+maybe_trace_rule = new_rule (codes "TRACE")
+
 abbrev pub explain : App
-explain = with_rule (new_app (codes "explain")) file_rule
+explain = with_rule (with_rule (new_app (codes "explain")) file_rule) maybe_trace_rule
 
 abbrev pub draw : App
 draw = with_rule (with_rule (new_app (codes "draw")) file_rule) trace_rule

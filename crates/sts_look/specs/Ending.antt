@@ -1,5 +1,5 @@
 -- What `look` writes, and the status that it ends with (this project's own).
-use Rattle.std.specs.Prelude.{◌≡◌, ℕ, List, Option, Result, Ok, Err, map}
+use Rattle.std.specs.Prelude.{◌≡◌, ℕ, List, Option, Some, None, Result, Ok, Err, map}
 use Rattle.std.specs.Prelude.{String, Vec}
 use Rattle.std.specs.String.{string_bytes}
 use Rattle.std.specs.declared.alloc.Global.{Global}
@@ -13,6 +13,7 @@ use Rattle.sts_cli.specs.declared.words.WordsError.{WordsError}
 use Rattle.sts_cli.specs.declared.words.WordsError.TheVariants as words_error
 use Rattle.sts_draw.specs.Picture.{IsPictureOf}
 use Rattle.sts_explain.specs.Output.{IsExplanation}
+use Rattle.sts_explain_run.specs.Output.{IsRunExplanation}
 use Rattle.sts_view.specs.View.{IsViewOf}
 use Rattle.sts_look.specs.Asked.{Asks, AsksForHelp, IsMistaken}
 use Rattle.sts_look.specs.declared.asked.Asked.{Asked}
@@ -37,7 +38,9 @@ pub data IsOfTexts (Shows : List ℕ → List ℕ → Output → Type 0) (file t
 abbrev pub IsShown : Asked → Files → Output → Type 0
 IsShown (asked.View file trace wanted) files o =
     IsOfTexts (IsViewOf wanted) (files file.now) (files trace.now) o
-IsShown (asked.Explain file) files o = IsOfText IsExplanation (files file.now) o
+IsShown (asked.Explain file None) files o = IsOfText IsExplanation (files file.now) o
+IsShown (asked.Explain file (Some trace)) files o =
+    IsOfTexts IsRunExplanation (files file.now) (files trace.now) o
 IsShown (asked.Draw file trace) files o =
     IsOfTexts IsPictureOf (files file.now) (files trace.now) o
 

@@ -11,9 +11,10 @@ pub enum Asked<'a> {
         trace: &'a str,
         wanted: Wanted,
     },
-    /// What is wrong with a text, if anything is.
+    /// What is wrong with a text, if anything is; with a trace how a run of it stands after that.
     Explain {
         file: &'a str,
+        trace: Option<&'a str>,
     },
     /// A run as a picture.
     Draw {

@@ -44,6 +44,14 @@ fn view<'a>(alloc: Global) -> Result<Command<'a>, AllocError>
     .arg(full)
 }
 
+/// A trace that may be left out.
+fn maybe_trace<'a>(alloc: Global) -> Arg<'a>
+    ensures rule { rule_of result ≡ def.maybe_trace_rule }
+    ensures local { result.global ≡ false }
+{
+    Arg::new(alloc, "TRACE").help("a trace, after which the run is told")
+}
+
 /// The command `explain`.
 fn explain<'a>(alloc: Global) -> Result<Command<'a>, AllocError>
     ensures app { IfOk result (λ c. app_of c ≡ def.explain) }
@@ -52,8 +60,9 @@ fn explain<'a>(alloc: Global) -> Result<Command<'a>, AllocError>
     on_file(
         alloc,
         "explain",
-        "Prints what is wrong with a text, by its lines, or that it is accepted",
-    )
+        "Prints what is wrong with a text, by its lines; after a trace where its run stands",
+    )?
+    .arg(maybe_trace(alloc))
 }
 
 /// The command `draw`.

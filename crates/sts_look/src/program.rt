@@ -5,6 +5,7 @@ ghost use Rattle.std.specs.Prelude.{◌≡◌, IfOk, map};
 ghost use Rattle.sts_cli.specs.Output.{Output, Writes};
 ghost use Rattle.sts_draw.specs.Picture.{IsPictureOf};
 ghost use Rattle.sts_explain.specs.Output.{IsExplanation};
+ghost use Rattle.sts_explain_run.specs.Output.{IsRunExplanation};
 ghost use Rattle.sts_view.specs.View.{IsViewOf};
 ghost use Rattle.sts_look.specs.Ending as def;
 
@@ -20,6 +21,7 @@ use sts_cli::taking::TakeError;
 use sts_cli::words::{WordsError, words};
 use sts_draw::of_text::write_picture;
 use sts_explain::explain::explain;
+use sts_explain_run::explain_run::explain_run;
 use sts_line::asked::LineError;
 use sts_view::of_text::write_view;
 use sts_view::view::Wanted;
@@ -70,6 +72,30 @@ fn on_explain<S: Sources, W: Write>(
     }
 }
 
+/// How a run of a text stands after a trace.
+fn on_explain_run<S: Sources, W: Write>(
+    alloc: Global,
+    sources: &S,
+    path: &str,
+    trace: &str,
+    out: &mut W,
+) -> Result<u8, WriteFailed>
+    ensures { IfOk result (λ s. (o : Output)
+        × def.IsOfTexts IsRunExplanation (S.held sources.now path.now)
+        (S.held sources.now trace.now) o
+        × Writes (W.contents out.old) (W.contents out.new) s o) }
+{
+    match read_texts(alloc, sources, path, Some(trace)) {
+        Ok(texts) => explain_run(
+            alloc,
+            texts.program.as_slice(),
+            texts.events.as_slice(),
+            out,
+        ),
+        Err(error) => failed(error, out),
+    }
+}
+
 /// A run as a picture.
 fn on_draw<S: Sources, W: Write>(
     alloc: Global,
@@ -111,7 +137,11 @@ fn on_line<S: Sources, W: Write>(
             trace,
             wanted,
         } => on_view(alloc, sources, wanted, file, trace, out),
-        Asked::Explain { file } => on_explain(alloc, sources, file, out),
+        Asked::Explain { file, trace: None } => on_explain(alloc, sources, file, out),
+        Asked::Explain {
+            file,
+            trace: Some(trace),
+        } => on_explain_run(alloc, sources, file, trace, out),
         Asked::Draw { file, trace } => on_draw(alloc, sources, file, trace, out),
     }
 }

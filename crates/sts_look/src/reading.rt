@@ -61,7 +61,8 @@ fn asked_of<'a>(
                     wanted,
                 })
             } else if name == "explain" {
-                Ok(Asked::Explain { file })
+                let trace = text_of(inner, "TRACE");
+                Ok(Asked::Explain { file, trace })
             } else if name == "draw" {
                 let trace = trace_of(alloc, inner)?;
                 Ok(Asked::Draw { file, trace })

@@ -8,4 +8,6 @@ mod refusals;
 #[cfg(test)]
 mod row;
 #[cfg(test)]
+mod runs;
+#[cfg(test)]
 mod words;

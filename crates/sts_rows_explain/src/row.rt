@@ -5,6 +5,7 @@ use std::process::Abort;
 use std::str;
 use std::test::Fail;
 use sts_explain::explain::explain;
+use sts_explain_run::explain_run::explain_run;
 
 /// Lines, and how many times they stand one after the other; ` / ` stands between two lines.
 #[derive(Clone, Copy)]
@@ -14,6 +15,15 @@ pub struct Part(pub u16, pub &'static str);
 pub struct Row {
     pub name: &'static str,
     pub text: &'static [Part],
+    pub lines: &'static str,
+    pub status: u8,
+}
+
+/// A text and a trace, the lines that explain the run, and the status.
+pub struct RunRow {
+    pub name: &'static str,
+    pub text: &'static [Part],
+    pub trace: &'static [Part],
     pub lines: &'static str,
     pub status: u8,
 }
@@ -60,10 +70,37 @@ fn explains<R: Abort>(rt: &R, alloc: Global, row: &Row) -> Result<(), Fail> {
     Ok(())
 }
 
+/// Explains the run of a row, and compares what is printed and the status.
+fn explains_run<R: Abort>(rt: &R, alloc: Global, row: &RunRow) -> Result<(), Fail> {
+    let text = assembled(alloc, row.text)?;
+    let trace = assembled(alloc, row.trace)?;
+    let mut printed = Vec::new(alloc);
+    let status = explain_run(alloc, text.as_bytes(), trace.as_bytes(), &mut printed).map_err(
+        |_| "not written",
+    )?;
+    let want = lines(alloc, row.lines)?;
+    assert_eq!(rt;
+        str::from_utf8(printed.as_slice())?,
+        want.as_str(),
+        "at {:?}",
+        row.name
+    );
+    assert_eq!(rt; status, row.status, "the status at {:?}", row.name);
+    Ok(())
+}
+
 /// Explains the text of each row.
 pub fn all<R: Abort>(rt: &R, alloc: Global, rows: &[Row]) -> Result<(), Fail> {
     for row in rows {
         explains(rt, alloc, row)?;
+    }
+    Ok(())
+}
+
+/// Explains the run of each row.
+pub fn all_runs<R: Abort>(rt: &R, alloc: Global, rows: &[RunRow]) -> Result<(), Fail> {
+    for row in rows {
+        explains_run(rt, alloc, row)?;
     }
     Ok(())
 }
