@@ -1,5 +1,5 @@
 -- The columns of a list of events, one after another.
-use Rattle.std.proofs.Common.{◌≡◌, ℕ, ◌+◌, ◌-◌, ◌≤◌, ◌<◌, ◌^◌, List, ◌++◌, length, arith, ap, ap₂, sym, ◌∙◌, take, drop, get_or}
+use Rattle.std.proofs.Common.{◌≡◌, ℕ, ◌+◌, ◌<◌, List, ◌++◌, length, arith, ap, ap₂, sym, ◌∙◌, take, drop, get_or}
 use Rattle.std.proofs.lemmas.List.{take_more, length-take-le, drop_more}
 use Rattle.sts_code.specs.Program.{Program}
 use Rattle.sts_model.specs.declared.event.Event.{Event}

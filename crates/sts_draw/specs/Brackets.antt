@@ -1,11 +1,10 @@
 -- What a column shows of the scopes (this project's own).
-use Rattle.std.specs.Prelude.{ℕ, ◌+◌, Bool, true, false, not, ◌&&◌, ◌==◌, if◌then◌else◌, List, ◌∷◌, [], ◌++◌, codes}
+use Rattle.std.specs.Prelude.{ℕ, ◌+◌, not, ◌&&◌, ◌==◌, if◌then◌else◌, List, ◌∷◌, [], ◌++◌, codes}
 use Rattle.std.specs.Fmt.{decimal}
 use Rattle.sts_model.specs.declared.event.Phase.{Phase}
 use Rattle.sts_model.specs.declared.event.Phase.TheVariants as phase
 use Rattle.sts_model.specs.declared.record.Scope.{Scope}
 use Rattle.sts_model.specs.Living.{is_closed}
-use Rattle.sts_model.specs.Misuse.{is_closing}
 use Rattle.sts_model.specs.World.{World, scope_at}
 use Rattle.sts_view.specs.Lines.{phase_word, scope_place}
 use Rattle.sts_draw.specs.declared.marks.Mark.{Mark}
