@@ -6,7 +6,10 @@
 - `explain` of each example says that it is accepted;
 - `view` of each beginning of each example's trace begins with what `plain` of `sts` prints, with its status;
 - `view --each` of the whole trace is `view` of each beginning in turn, behind a line `after N EVENT` for each event,
-  with `--full` and without.
+  with `--full` and without;
+- `draw` of each example is well formed, has the status and the heading of `plain`, a lane for each task and a column
+  for each event that was told by `view --each`, and the same bytes a second time;
+- the stored pictures are what `draw` prints.
 The last line is `N passed, M failed`, of comparisons.
 """
 import glob
@@ -15,10 +18,13 @@ import re
 import subprocess
 import sys
 import tempfile
+from xml.etree import ElementTree
 
 from documents import read
 
 ROOT = os.path.dirname(os.path.dirname(os.path.realpath(__file__)))
+sys.path.insert(0, os.path.join(ROOT, "docs", "pictures"))
+import drawn  # noqa: E402
 LOOK, STS = (os.path.join(ROOT, "crates", name, "out", name) for name in ("sts_look", "sts"))
 SHOWN = re.compile(r"After the first (\d+) events of \[(\w+)\].*?:\n\n((?:    .*\n)+)")
 TOLD = re.compile(r"Told after the first (\d+) events of \[(\w+)\].*?:\n\n((?:    .*\n)+)")
@@ -61,6 +67,36 @@ def example(look, sts, folder, text):
             yield f"{name} after {count}, each", each[count:count + 1] == [printed]
 
 
+def of_class(picture, name):
+    """Returns the elements of a class outside the legend."""
+    return [it for it in picture if it.get("class", "").split()[:1] == [name]]
+
+
+def drawing(look, sts, text):
+    """Yields each comparison of an example's picture, and whether it holds."""
+    name, trace = os.path.basename(text), text[:-4] + ".trace"
+    status, printed = says(look, "draw", text, trace)
+    ended, plain = says(sts, "plain", text, trace)
+    told = says(look, "view", text, trace, "--each")[1]
+    heads = parts(told)[1]
+    last = says(look, "view", text, trace)[1]
+    try:
+        picture = ElementTree.fromstring(printed)
+    except ElementTree.ParseError as fault:
+        yield f"{name} drawn: {fault}", False
+        return
+    title, described = (picture.find("{http://www.w3.org/2000/svg}" + it).text for it in ("title", "desc"))
+    yield f"{name} drawn, status", status == ended
+    yield f"{name} drawn, title", title.split() == plain.split()
+    yield f"{name} drawn, description", described == last
+    yield f"{name} drawn, lanes", len(of_class(picture, "name")) == len(re.findall("^task ", last, flags=re.M))
+    yield f"{name} drawn, columns", len(of_class(picture, "number")) == len(heads)
+    idle = [it for it in of_class(picture, "number") if "idle" in it.get("class")]
+    yield f"{name} drawn, idle", len(idle) == sum(it.endswith(" idle\n") for it in heads)
+    yield f"{name} drawn, steps", len(of_class(picture, "step")) == int(plain.split()[-1])
+    yield f"{name} drawn twice", says(look, "draw", text, trace) == (status, printed)
+
+
 def shown(look, folder):
     """Yields whether what LOOK.md shows is printed."""
     for command, pattern in (("view", SHOWN), ("explain", TOLD)):
@@ -100,6 +136,8 @@ def tried(look, sts):
         yield from explained(look, folder)
         for text in sorted(glob.glob(os.path.join(ROOT, "examples", "*.sts"))):
             yield from example(look, sts, folder, text)
+            yield from drawing(look, sts, text)
+    yield "the stored pictures", list(drawn.stale(look)) == []
 
 
 def main():
