@@ -37,6 +37,10 @@ class Calls {
     return this.call("sts_view", [Number(each), Number(full)], [text, trace]);
   }
 
+  draw(text, trace) {
+    return this.call("sts_draw", [], [text, trace]);
+  }
+
   explain(text) {
     return this.call("sts_explain", [], [text]);
   }

@@ -9,6 +9,7 @@ const HAS_NO_RUN = [3, 6];
 let calls = null;
 let parts = []; // what stands before the first event and after each
 let at = 0; // how many events are shown
+let drawn = ""; // the picture of the whole run
 let hasRun = false; // or is there a fault of the text or the trace, or no memory?
 
 function trace() {
@@ -111,7 +112,7 @@ function show() {
   element("head").textContent = part.head;
   element("stands").replaceChildren(...part.lines.map((line) => standing(line, canPlay)));
   markTasks(part, canPlay);
-  element("picture").replaceChildren(...(hasRun ? picture(parts, at, move) : []));
+  element("picture").replaceChildren(...(hasRun ? picture(drawn, parts, at, move) : []));
   element("first").disabled = element("back").disabled = at === 0;
   element("last").disabled = element("forward").disabled = at === parts.length - 1;
   if (focused) {
@@ -129,6 +130,7 @@ function run() {
   const options = { each: true, full: element("full").checked };
   const viewed = calls.view(element("text").value, traced(trace()), options);
   hasRun = !HAS_NO_RUN.includes(viewed.status);
+  drawn = hasRun ? calls.draw(element("text").value, traced(trace())).text : "";
   parts = partsOf(viewed.text, hasRun ? "before the first event" : "");
   move(at);
 }

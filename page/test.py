@@ -105,12 +105,14 @@ class Page:
 
 def same_calls(page, programs, name, text, traces):
     """Yields whether the calls over a text and these traces answer what the programs print."""
-    for mode in ("verify", "list"):
-        yield f"{mode} of {name}", page.call(mode, text) == programs.says(programs.sts, mode, [text])
+    for mode, program in (("verify", programs.sts), ("list", programs.sts), ("explain", programs.look)):
+        yield f"{mode} of {name}", page.call(mode, text) == programs.says(program, mode, [text])
     for trace in traces:
         events = trace.count("\n")
         plain = programs.says(programs.sts, "plain", [text, trace])
         yield f"plain of {name} after {events}", page.call("plain", text, trace) == plain
+        drawn = programs.says(programs.look, "draw", [text, trace])
+        yield f"draw of {name} after {events}", page.call("draw", text, trace) == drawn
         for option in ("each", "full"):
             viewed = programs.view(text, trace, f"--{option}")
             yield f"view of {name} after {events}, {option}", page.call("view", text, trace, {option: True}) == viewed
