@@ -26,4 +26,4 @@ draw = with_rule (with_rule (new_app (codes "draw")) file_rule) trace_rule
 abbrev pub program : App
 program =
     with_subcommand (with_subcommand (with_subcommand (required (new_app (codes "look"))) view.top) explain.top)
-      draw.top
+    draw.top

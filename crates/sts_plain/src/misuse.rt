@@ -134,7 +134,8 @@ fn is_illegal(world: &World, program: &Program, frame: &Frame, instr: Instr) -> 
         },
         Instr::Get(x) => match slot(frame, x) {
             Slot::Sub(t) => {
-                !(is_readable_of(records, program.profile(), t) && has_succeeded(world.sub_state(t)))
+                !(is_readable_of(records, program.profile(), t)
+                    && has_succeeded(world.sub_state(t)))
             }
             _ => false,
         },

@@ -14,8 +14,8 @@ use sts_code::profile::Profile;
 use sts_code::program::Program;
 use sts_rules::typing::{SlotKind, TypedEntry, TypedScope};
 use sts_states::slots::{
-    can_join, is_binding, is_empty, is_known_failed, is_lent, is_opened, is_own, is_readable,
-    is_scope_in, is_sub, is_known_success,
+    can_join, is_binding, is_empty, is_known_failed, is_known_success, is_lent, is_opened, is_own,
+    is_readable, is_scope_in, is_sub,
 };
 use sts_states::state::TypeState;
 
