@@ -46,7 +46,11 @@ pub record Family : Type 0 where
 
 abbrev pub family_of : {E : Type 0} → ScopeRecord E → Family
 family_of r = record {
-    forks = r.forks; fork_count = r.fork_count; living = r.living; ends = ends_told r.scope.tally }
+  forks = r.forks;
+  fork_count = r.fork_count;
+  living = r.living;
+  ends = ends_told r.scope.tally;
+}
 
 abbrev pub scope_of : {E : Type 0} → ScopeRecord E → Scope E
 scope_of r = r.scope
@@ -71,17 +75,17 @@ pub record IsForest (at : ℕ → ℕ → Option Link)
     (tasks : List (Option Task)) (families : List (Option Family))
     (ready : Ends) (keys : List ℕ) (room : ℕ) : Type 0 where
   pub forks : (s : ℕ) (f : Family) → slice_index_or families s None ≡ Some f
-    → IsList (at 0) f.forks (births (is_of s) 0 tasks)
+      → IsList (at 0) f.forks (births (is_of s) 0 tasks)
   pub living : (s : ℕ) (f : Family) → slice_index_or families s None ≡ Some f
-    → IsList (at 1) f.living (births (lives_in s) 0 tasks)
+      → IsList (at 1) f.living (births (lives_in s) 0 tasks)
   pub counts : (s : ℕ) (f : Family) → slice_index_or families s None ≡ Some f
-    → f.fork_count ≡ length (births (is_of s) 0 tasks)
+      → f.fork_count ≡ length (births (is_of s) 0 tasks)
   pub told : (s : ℕ) (f : Family) → slice_index_or families s None ≡ Some f
-    → f.ends + length (births (lives_in s) 0 tasks) ≤ f.fork_count
+      → f.ends + length (births (lives_in s) 0 tasks) ≤ f.fork_count
   pub is_ready : IsList (at 2) ready keys
   pub flags : (t : ℕ) (x : Task) → slice_index_or tasks t None ≡ Some x → x.ready ≡ has t keys
   pub homes : (t s : ℕ) (x : Task) → slice_index_or tasks t None ≡ Some x → x.scope ≡ Some s
-    → slice_index_or families s None ≢ None
+      → slice_index_or families s None ≢ None
   pub few : count_by is_some tasks + room ≤ 65536
   pub born : length tasks ≤ 1000000
 
@@ -91,13 +95,25 @@ pub record IsForest (at : ℕ → ℕ → Option Link)
 abbrev pub opened : {E : Type 0} → ℕ → Joiner → Bool → E → Scope E
 opened owner joiner timed environment =
     record {
-      owner = owner; timed = timed; phase = Opened; cancelled = false; expired = false;
-      tally = tallied joiner []; environment = environment }
+      owner = owner;
+      timed = timed;
+      phase = Opened;
+      cancelled = false;
+      expired = false;
+      tally = tallied joiner [];
+      environment = environment;
+    }
 
 -- a new subtask of s
 abbrev pub subtask : ℕ → Bool → Task
 subtask s lives = record {
-    scope = Some s; flag = false; lives = lives; state = None; stand = Free; ready = false }
+  scope = Some s;
+  flag = false;
+  lives = lives;
+  state = None;
+  stand = Free;
+  ready = false;
+}
 
 -- the root task, ready
 abbrev pub root : Task
@@ -106,8 +122,11 @@ root = record { scope = None; flag = false; lives = true; state = None; stand = 
 -- the lists of a scope without subtasks
 abbrev pub no_family : Family
 no_family = record {
-    forks = record { first = None; last = None }; fork_count = 0;
-    living = record { first = None; last = None }; ends = 0 }
+  forks = record { first = None; last = None };
+  fork_count = 0;
+  living = record { first = None; last = None };
+  ends = 0;
+}
 
 -- a scope that stands was told fewer ends than it has subtasks that don't live
 abbrev pub HasSpare : {E : Type 0} → Forest E → ℕ → Type 0
@@ -122,5 +141,8 @@ asks c end = cancels_told c.tally.joiner (with_end c.tally end).told
 abbrev pub closed : {E : Type 0} → Forest E → ℕ → Forest E
 closed f s =
     record f {
-      tasks = map (drop_if (is_of s)) f.tasks; scopes = slice_set f.scopes s None;
-      task_room = f.task_room + length (births (is_of s) 0 f.tasks); scope_room = f.scope_room + 1 }
+      tasks = map (drop_if (is_of s)) f.tasks;
+      scopes = slice_set f.scopes s None;
+      task_room = f.task_room + length (births (is_of s) 0 f.tasks);
+      scope_room = f.scope_room + 1;
+    }
