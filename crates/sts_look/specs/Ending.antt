@@ -1,6 +1,7 @@
 -- What `look` writes, and the status that it ends with (this project's own).
 use Rattle.std.specs.Prelude.{◌≡◌, ℕ, List, Option, Some, None, Result, Ok, Err, map}
 use Rattle.std.specs.Prelude.{String, Vec}
+use Rattle.std.specs.Borrow.{Bor}
 use Rattle.std.specs.String.{string_bytes}
 use Rattle.std.specs.declared.alloc.Global.{Global}
 use Rattle.clap.specs.Words.{Text}
@@ -34,13 +35,16 @@ pub data IsOfTexts (Shows : List ℕ → List ℕ → Output → Type 0) (file t
       → IsOfTexts Shows file trace_file o
   failed : (e : TakeError) → o ≡ failure_output e → IsOfTexts Shows file trace_file o
 
+-- what is wrong with a file's text, or where its run stands after the trace that is named
+abbrev pub IsExplained : Files → Option (List ℕ) → Option (Bor Text) → Output → Type 0
+IsExplained files file None o = IsOfText IsExplanation file o
+IsExplained files file (Some trace) o = IsOfTexts IsRunExplanation file (files trace.now) o
+
 -- what is shown for a line
 abbrev pub IsShown : Asked → Files → Output → Type 0
 IsShown (asked.View file trace wanted) files o =
     IsOfTexts (IsViewOf wanted) (files file.now) (files trace.now) o
-IsShown (asked.Explain file None) files o = IsOfText IsExplanation (files file.now) o
-IsShown (asked.Explain file (Some trace)) files o =
-    IsOfTexts IsRunExplanation (files file.now) (files trace.now) o
+IsShown (asked.Explain file trace) files o = IsExplained files (files file.now) trace o
 IsShown (asked.Draw file trace) files o =
     IsOfTexts IsPictureOf (files file.now) (files trace.now) o
 

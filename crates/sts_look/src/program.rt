@@ -56,7 +56,7 @@ fn on_view<S: Sources, W: Write>(
 }
 
 /// What is wrong with a text.
-fn on_explain<S: Sources, W: Write>(
+fn on_text<S: Sources, W: Write>(
     alloc: Global,
     sources: &S,
     path: &str,
@@ -72,8 +72,8 @@ fn on_explain<S: Sources, W: Write>(
     }
 }
 
-/// How a run of a text stands after a trace.
-fn on_explain_run<S: Sources, W: Write>(
+/// Where a run of a text stands after a trace.
+fn on_run<S: Sources, W: Write>(
     alloc: Global,
     sources: &S,
     path: &str,
@@ -93,6 +93,24 @@ fn on_explain_run<S: Sources, W: Write>(
             out,
         ),
         Err(error) => failed(error, out),
+    }
+}
+
+/// What is wrong with a text, or where its run stands after a trace that is named.
+fn on_explain<S: Sources, W: Write>(
+    alloc: Global,
+    sources: &S,
+    path: &str,
+    trace: Option<&str>,
+    out: &mut W,
+) -> Result<u8, WriteFailed>
+    ensures { IfOk result (λ s. (o : Output)
+        × def.IsExplained (S.held sources.now) (S.held sources.now path.now) trace.entry o
+        × Writes (W.contents out.old) (W.contents out.new) s o) }
+{
+    match trace {
+        None => on_text(alloc, sources, path, out),
+        Some(trace) => on_run(alloc, sources, path, trace, out),
     }
 }
 
@@ -137,11 +155,7 @@ fn on_line<S: Sources, W: Write>(
             trace,
             wanted,
         } => on_view(alloc, sources, wanted, file, trace, out),
-        Asked::Explain { file, trace: None } => on_explain(alloc, sources, file, out),
-        Asked::Explain {
-            file,
-            trace: Some(trace),
-        } => on_explain_run(alloc, sources, file, trace, out),
+        Asked::Explain { file, trace } => on_explain(alloc, sources, file, trace, out),
         Asked::Draw { file, trace } => on_draw(alloc, sources, file, trace, out),
     }
 }

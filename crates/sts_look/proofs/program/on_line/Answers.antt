@@ -3,15 +3,8 @@ use Rattle.sts_look.proofs.program.on_line.Goals as goal
 pub returns-in-View : goal.returns-in-View
 returns-in-View g c = rw c.in-View.is c.on_view.ensures
 
-pub returns-in-Explain-default-None : goal.returns-in-Explain-default-None
-returns-in-Explain-default-None g c =
-    let untraced = rw c.in-Explain-default-None.is at c.in-Explain-default-None.trace-is in
-    rw c.in-Explain-default-None.is (rw untraced c.on_explain.ensures)
-
-pub returns-in-Explain-default-Some : goal.returns-in-Explain-default-Some
-returns-in-Explain-default-Some g c =
-    let traced = rw c.in-Explain-default-Some.is at c.in-Explain-default-Some.trace-is in
-    rw c.in-Explain-default-Some.is (rw traced c.on_explain_run.ensures)
+pub returns-in-Explain : goal.returns-in-Explain
+returns-in-Explain g c = rw c.in-Explain.is c.on_explain.ensures
 
 pub returns-in-Draw : goal.returns-in-Draw
 returns-in-Draw g c = rw c.in-Draw.is c.on_draw.ensures

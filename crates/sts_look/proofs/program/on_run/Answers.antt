@@ -4,7 +4,7 @@ use Rattle.sts_cli.specs.Ending as cli
 use Rattle.sts_cli.specs.Output.{failure_output}
 use Rattle.sts_cli.specs.Taking.{IsTakenOf}
 use Rattle.sts_look.specs.Ending as def
-use Rattle.sts_look.proofs.program.on_explain_run.Goals as goal
+use Rattle.sts_look.proofs.program.on_run.Goals as goal
 
 pub returns-in-Ok : goal.returns-in-Ok
 returns-in-Ok g c =
