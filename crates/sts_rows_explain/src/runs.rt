@@ -159,7 +159,7 @@ static TRACES: [RunRow; 6] = [
         name: "a fault of the text comes first",
         text: &[Part(1, "func main 0 / puhs 7 / ret / end")],
         trace: &[Part(1, "stp 0")],
-        lines: "error A2, line 2: puhs 7 / its first word is none, or may not stand here: inside a function, outside, or line 1",
+        lines: "error A2, line 2: puhs 7 / its first word is none, or may not stand here: inside a function, outside, or line 1 / at [puhs]: wanted is func, end, a label or an instruction",
         status: 3,
     },
     RunRow {
