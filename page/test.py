@@ -4,7 +4,8 @@
 - each call answers what `sts` and `look` print, with their status: over every example and every beginning of its trace, and
   over texts and traces with faults, refused texts, and runs that come to a fault;
 - texts are explained as the rows of crates/sts_rows_explain say;
-- every example is played by the page's own buttons: after each event the page shows what `look view` prints;
+- every example is played by the page's own buttons, which only an event that counts has: after each event the page shows
+  what `look view` prints;
 - a line that is refused is marked; the keyboard plays; every control has a name for screen readers.
 
 Pictures of the page, light and dark, are left in page/out. The last line is `N passed, M failed`, of comparisons; where no
@@ -147,17 +148,25 @@ def explanations(page):
         yield f"explanation {lines!r}", page.call("explain", text) == [status, lines]
 
 
+def event_played(page, programs, name, text, before, after):
+    """Plays an event by its button; one that doesn't count has none, and is written into the trace."""
+    event, number = after[len(before):].rstrip(), after.count("\n")
+    if not page.click(f'#stands [data-event="{event}"]'):
+        told = programs.view(text, after, "--each")[1]
+        yield f"{name}: {event} is idle", f"after {number} {event} idle\n" in told
+        page.write("trace", after)
+        page.click("#last")
+    yield f"{name}: the trace with {event}", page.written("trace") == after
+    yield f"{name}: what stands after {event}", page.shown() == programs.view(text, after)[1]
+
+
 def played(page, programs, number, path):
     """Plays an example by the buttons, event by event, and back."""
     name, text, trace = os.path.basename(path), read(path), read(f"{path[:-4]}.trace")
     page.choose(number)
     page.write("trace", "")
     for before, after in zip(beginnings(trace), beginnings(trace)[1:]):
-        event = after[len(before):].rstrip()
-        clicked = page.click(f'#stands [data-event="{event}"]')
-        yield f"{name}: a button for {event}", clicked
-        yield f"{name}: the trace with {event}", page.written("trace") == after
-        yield f"{name}: what stands after {event}", page.shown() == programs.view(text, after)[1]
+        yield from event_played(page, programs, name, text, before, after)
     yield f"{name}: nothing counts in the end", page.click("#stands [data-event^=step]") is False
     marks = page.chromium.value("document.querySelectorAll('#listing .task').length")
     yield f"{name}: no task lives in the end", marks == 0
