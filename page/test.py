@@ -26,7 +26,8 @@ ROOT = os.path.dirname(HERE)
 PAGE = os.path.join(HERE, "out", "index.html")
 STS, LOOK = (os.path.join(ROOT, "crates", name, "out", name) for name in ("sts", "sts_look"))
 EXAMPLES = sorted(glob.glob(os.path.join(ROOT, "examples", "*.sts")))
-ROWS = glob.glob(os.path.join(ROOT, "crates", "sts_rows_explain", "src", "*.rt"))
+# The rows of texts; those of runs.rt have a trace as well.
+ROWS = [os.path.join(ROOT, "crates", "sts_rows_explain", "src", name) for name in ("faults.rt", "refusals.rt", "words.rt")]
 ROW = re.compile(r'text: &\[(.*?)\],\s+lines: (".*?[^\\]"),\s+status: (\d)', re.S)
 PART = re.compile(r'Part\(\s*(\d+),\s*(".*?[^\\]"),?\s*\)', re.S)
 
