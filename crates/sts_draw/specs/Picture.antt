@@ -122,8 +122,8 @@ grid style wide high =
     ++ (codes "' height='" ++ (decimal high ++ codes "'/>\n"))))
 
 -- the grid, and how the run stands above it
-abbrev pub ground : Watched → ℕ → List ℕ
-ground m events =
+abbrev pub backdrop : Watched → ℕ → List ℕ
+backdrop m events =
     grid style (24 * events + 24) (52 * length m.last.tasks)
     ++ (text_start (codes "heading") 12 22 ++ (heading m ++ text_end))
 
@@ -140,7 +140,7 @@ below m = lane_names m.program m.last m.last.tasks 0 ++ foot (length m.last.task
 
 -- these columns among what stands round them
 abbrev pub framed : Watched → ℕ → List ℕ → List ℕ
-framed m events columns = head m events ++ (ground m events ++ (columns ++ below m))
+framed m events columns = head m events ++ (backdrop m events ++ (columns ++ below m))
 
 unfoldable pub picture : Program → List Event → List ℕ
 picture p events = framed (watched p events) (length events) (columns p events)

@@ -284,9 +284,9 @@ fn grid(out: &mut String, style: &str, wide: u128, high: usize) -> Result<(), Al
 }
 
 /// The grid, and how the run stands above it.
-fn ground(out: &mut String, watch: &Watch<'_>, events: usize) -> Result<(), AllocError>
+fn backdrop(out: &mut String, watch: &Watch<'_>, events: usize) -> Result<(), AllocError>
     ensures { OnOk result (string_bytes out.new
-        ≡ string_bytes out.old ++ def.ground watch.now events) }
+        ≡ string_bytes out.old ++ def.backdrop watch.now events) }
 {
     let tasks = watch.world().records().tasks_born();
     grid(out, style(), 24 * events as u128 + 24, 52 * tasks)?;
@@ -333,7 +333,7 @@ fn framed(
         ≡ string_bytes out.old ++ def.framed watch.now events columns.now) }
 {
     head(out, watch, events)?;
-    ground(out, watch, events)?;
+    backdrop(out, watch, events)?;
     out.push_str(columns)?;
     below(out, watch)
 }
