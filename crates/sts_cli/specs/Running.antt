@@ -1,9 +1,9 @@
 -- What comes of `run`: what is printed, and the journal that its trace spells (this project's own).
 use Rattle.std.specs.Prelude.{◌≡◌, ◌⊎◌, ℕ, List, [], ◌∷◌, ◌++◌, Option, Some, None, Result, Ok, Err}
-use Rattle.std.specs.Prelude.{nat_le, if◌then◌else◌}
+use Rattle.std.specs.Prelude.{nat_le, if◌then◌else◌, Bool, true, count_by}
 use Rattle.std.specs.Io.KnownBytes.{Appends}
 use Rattle.sts_code.specs.Program.{Program}
-use Rattle.sts_model.specs.Run.{taken}
+use Rattle.sts_model.specs.Run.{is_step, taken}
 use Rattle.sts_model.specs.declared.event.End.{End}
 use Rattle.sts_model.specs.declared.event.Event.{Event}
 use Rattle.sts_rules.specs.Refusal.{IsAccepted}
@@ -15,6 +15,7 @@ use Rattle.sts_trace.specs.declared.error.TraceError.{TraceError}
 use Rattle.sts_trace.specs.declared.outside.Due.{Due}
 use Rattle.sts_pool.specs.Report.{IsReport}
 use Rattle.sts_pool.specs.declared.report.PoolError.{PoolError}
+use Rattle.sts_pool.specs.declared.report.Report.{Report}
 use Rattle.sts_pool.specs.declared.report.PoolError.TheVariants as pool
 use Rattle.sts_cli.specs.Output.{AreLines, IsRefused, Output, Writes, end_status, file_output}
 use Rattle.sts_cli.specs.Output.{memory_output, text_fault_output, trace_fault_output}
@@ -83,6 +84,20 @@ TextRuns (Err e) outside o = o ≡ alone (text_fault_output e)
 -- what comes of a text and an outside text, or that memory was refused
 abbrev pub IsOutcomeOf : List ℕ → List ℕ → Outcome → Type 0
 IsOutcomeOf text outside o = TextRuns (judged text) outside o ⊎ (o ≡ alone memory_output)
+
+-- what is told of a run: an outcome of this kind, whose journal is held where it is kept
+pub record Holds (kept : Bool) (P : Outcome → Type 0) (r : Outcome) : Type 0 where
+  pub outcome : Outcome
+  pub is : P outcome
+  pub output : r.output ≡ outcome.output
+  pub journal : kept ≡ true → r.journal ≡ outcome.journal
+
+-- the report of a run by some journal, which it holds where that is kept
+pub record IsReportOf (kept : Bool) (p : Program) (r : Report) : Type 0 where
+  pub journal : List Event
+  pub report : IsReport p journal r.end
+  pub steps : r.steps ≡ count_by is_step journal
+  pub held : kept ≡ true → r.journal.items ≡ journal
 
 -- ---- what is written
 

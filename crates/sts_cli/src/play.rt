@@ -9,6 +9,7 @@ ghost use Rattle.sts_cli.specs.Running.{IsOutcomeOf, Outcome, RunWrites};
 
 use crate::joined::split;
 use crate::mode::Mode;
+use crate::modes::run::Manner;
 use crate::modes::{list, plain, replay, run, verify};
 use crate::output::Output;
 use crate::taking::TakeError;
@@ -117,7 +118,7 @@ fn traced<T: Write>(journal: &[Event], trace: &mut T) -> io::Result<()>
     trace.flush()
 }
 
-/// `play_run` where no trace is asked for: no event of the journal is spelled.
+/// `play_run` where no trace is asked for: no journal is kept.
 ///
 /// # Errors
 ///
@@ -134,7 +135,11 @@ pub(crate) fn play_untraced<R: Threads + Wait + Sync, W: Write>(
     ensures { IfOk result (λ s. (o : Outcome) × IsOutcomeOf text.now outside.now o
         × def.Writes (W.contents out.old) (W.contents out.new) s o.output) }
 {
-    match run::outcome(rt, alloc, text, workers, outside) {
+    let manner = Manner {
+        workers,
+        kept: false,
+    };
+    match run::outcome(rt, alloc, text, manner, outside) {
         Ok(ran) => written(out, ran.output.text.as_bytes(), ran.output.status),
         Err(_) => failed(TakeError::Memory, out),
     }
@@ -167,7 +172,11 @@ pub fn play_run<R: Threads + Wait + Sync, T: Write, W: Write>(
           out_new = W.contents out.new;
         }) s o) }
 {
-    match run::outcome(rt, alloc, text, workers, outside) {
+    let manner = Manner {
+        workers,
+        kept: true,
+    };
+    match run::outcome(rt, alloc, text, manner, outside) {
         Ok(ran) => match traced(ran.journal.as_slice(), trace) {
             Ok(()) => written(out, ran.output.text.as_bytes(), ran.output.status),
             Err(_) => failed(TakeError::Read, out),

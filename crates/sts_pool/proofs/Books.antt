@@ -51,7 +51,7 @@ opening_book m stands none =
 
 -- ---- an event more
 
-entries_more : (journal events : List Event) → outside_entries (journal ++ events) ≡ outside_entries journal + outside_entries events
+pub entries_more : (journal events : List Event) → outside_entries (journal ++ events) ≡ outside_entries journal + outside_entries events
 entries_more journal events = sum_by-append (λ x. cond (not (is_step x)) 1 0) journal events
 
 -- steps come from no outside

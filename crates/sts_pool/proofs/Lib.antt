@@ -1,2 +1,3 @@
 pub mod Outs
 pub mod Books
+pub mod Unwrittens

@@ -66,3 +66,12 @@ pub record HasBookRoom (p : Program) (journal out : ℕ) : Type 0 where
   pub within : ViewsAreWithin p
   pub journal_room : main.budget.steps + MAX_OUTSIDE ≤ journal
   pub out_room : main.budget.tasks ≤ out
+
+-- a book whose journal is not written: some journal leads where its machine stands, with as many
+-- entries from outside as were counted, and there is room for the tasks that are out
+pub record IsUnwritten (m : Seen) (out : List ℕ) (outside : ℕ) (room : ℕ) : Type 0 where
+  pub journal : List Event
+  pub book : IsBook (book_of m journal out)
+  pub entries : outside_entries journal ≡ outside
+  pub journal_room : ℕ
+  pub has_room : HasBookRoom m.program journal_room room

@@ -1,3 +1,4 @@
 pub mod Outside
 pub mod Book
 pub mod Report
+pub mod Ledger

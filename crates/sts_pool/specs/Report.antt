@@ -1,5 +1,5 @@
 -- What is reported of a run (this project's own).
-use Rattle.std.specs.Prelude.{◌≡◌, ◌+◌, ◌≤◌, List, length, count_by, Some}
+use Rattle.std.specs.Prelude.{◌≡◌, ◌+◌, ◌≤◌, ℕ, List, length, count_by, Some}
 use Rattle.sts_code.specs.Program.{Program}
 use Rattle.sts_code.specs.declared.limits.TheConstants.{MAX_OUTSIDE}
 use Rattle.sts_rules.specs.declared.budget.Budgets.{Budgets}
@@ -24,3 +24,9 @@ pub record IsReport (p : Program) (journal : List Event) (end : End) : Type 0 wh
   pub ended : (task_at world 0).outcome ≡ Some end
   pub steps : taken p journal ≡ count_by is_step journal
   pub bounded : (b : Budgets) → IsBudgetOf p (main_of p) b → IsBounded p journal b
+
+-- some journal leads to no fault and to this end of the root, with this many steps
+pub record IsEnding (p : Program) (end : End) (steps : ℕ) : Type 0 where
+  pub journal : List Event
+  pub report : IsReport p journal end
+  pub counted : steps ≡ count_by is_step journal

@@ -276,7 +276,7 @@ fn record_steps(journal: &mut Vec<Event>, task: u32, count: u32)
 }
 
 /// Takes one task out of a list.
-fn forget(out: &mut Vec<u32>, task: u32)
+pub(crate) fn forget(out: &mut Vec<u32>, task: u32)
     ensures items { out.new.items ≡ filter (λ o. not (o == task)) out.old.items }
     ensures capacity { vec_capacity out.new ≡ vec_capacity out.old }
 {

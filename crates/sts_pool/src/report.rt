@@ -11,6 +11,13 @@ pub struct Report {
     pub steps: u64,
 }
 
+/// How the root ended, and how many steps were taken.
+#[derive(Clone, Copy, Debug, PartialEq, Eq)]
+pub struct Ending {
+    pub end: End,
+    pub steps: u64,
+}
+
 /// Why a run has no report.
 #[derive(Clone, Copy, Debug, PartialEq, Eq, Error)]
 pub enum PoolError {

@@ -1,6 +1,8 @@
 //! A start that is refused.
 
+use crate::book::Book;
 use crate::gate::{Gate, Outside};
+use crate::ledger::Ledger;
 use crate::report::PoolError;
 use crate::workers::{STACK, run_on};
 use std::alloc::Global;
@@ -48,14 +50,8 @@ fn seven(alloc: Global) -> Result<Verified, Fail> {
 fn a_refused_start_ends_the_others(rt: HostRuntime) -> Result<(), Fail> {
     let verified = seven(rt.alloc())?;
     let stacks = &[STACK, STACK, STACK, usize::MAX];
-    let report = run_on::<Brand, HostRuntime, Open, Silent>(
-        &rt,
-        rt.alloc(),
-        &verified,
-        stacks,
-        &Open,
-        Silent,
-    );
-    assert_eq!(rt; report.err(), Some(PoolError::SpawnRefused));
+    let book = Ledger::Written(Book::start(rt.alloc(), &verified)?);
+    let ended = run_on::<Brand, HostRuntime, Open, Silent>(&rt, book, stacks, &Open, Silent);
+    assert_eq!(rt; ended.err(), Some(PoolError::SpawnRefused));
     Ok(())
 }

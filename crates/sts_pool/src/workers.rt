@@ -2,11 +2,14 @@
 
 ghost use Rattle.std.specs.Prelude.{◌≡◌, ◌≤◌, IfOk, count_by};
 ghost use Rattle.sts_model.specs.Run.{is_step};
-ghost use Rattle.sts_pool.specs.Report.{IsReport};
+ghost use Rattle.sts_pool.specs.Ledger.{program_of};
+ghost use Rattle.sts_pool.specs.Report.{IsEnding, IsReport};
 
 use crate::book::Book;
 use crate::gate::{Gate, Outside};
-use crate::report::{PoolError, Report};
+use crate::ledger::Ledger;
+use crate::report::{Ending, PoolError, Report};
+use crate::unwritten::Unwritten;
 use std::alloc::Global;
 use std::marker::{Brand, PhantomData};
 use std::sync::{Condvar, Mutex, MutexGuard, Wait};
@@ -50,13 +53,13 @@ impl Runs for Brand {
 /// them are awake with no slice out, and how many tasks may still be claimed by several at once.
 #[derive(Drop)]
 struct Shared<'p, O, B: Runs> {
-    book: Book<'p>,
+    book: Ledger<'p>,
     outside: O,
     stop: bool,
     awake: usize,
     tries: u32,
     of: PhantomData<B>,
-    ghost ours: { book.program ≡ B.program },
+    ghost ours: { program_of book ≡ B.program },
 }
 
 /// One lock over it, and what wakes those that wait.
@@ -77,7 +80,7 @@ impl<'p, O: Outside, B: Runs> Shared<'p, O, B> {
             if self.book.is_full() {
                 break;
             }
-            let entries = self.book.journal().len() as u64;
+            let entries = self.book.entries();
             let Some(event) = self.outside.next(entries) else {
                 break;
             };
@@ -125,7 +128,7 @@ impl<'p, O: Outside, B: Runs> Shared<'p, O, B> {
         if done >= WORTH {
             self.tries = TRIES;
         }
-        if self.book.check_in(slice).is_err() {
+        if !self.book.check_in(slice) {
             self.stop = true;
         }
     }
@@ -148,7 +151,7 @@ impl<'p, O: Outside, B: Runs> Pool<'p, O, B> {
         for _ in rt.forever() {
             let shared = &mut *guard;
             shared.ask();
-            if shared.stop || shared.book.root_end().is_some() {
+            if shared.stop || shared.book.has_ended() {
                 self.woken.notify_all();
                 return None;
             }
@@ -248,30 +251,55 @@ pub fn run<R: Threads + Wait + Sync, G: Gate + Sync, O: Outside + Send + Drop>(
     ensures steps { IfOk result (λ r. r.steps ≡ count_by is_step r.journal.items) }
 {
     let stacks = &[STACK; 16][..workers as usize];
-    run_on::<Brand, R, G, O>(rt, alloc, verified, stacks, gate, outside)
+    let Ok(book) = Book::start(alloc, verified) else {
+        return Err(PoolError::Memory);
+    };
+    let book = Ledger::Written(book);
+    match run_on::<Brand, R, G, O>(rt, book, stacks, gate, outside)? {
+        Ledger::Written(book) => book.report(),
+        Ledger::Unwritten(_) => Err(PoolError::Unfinished),
+    }
 }
 
-/// The same of the program that was picked, with a worker for each of these sizes of a stack.
+/// The same with no journal written: how its root ended, and the steps taken.
+///
+/// # Errors
+///
+/// Those of `run`.
+pub fn run_unwritten<R: Threads + Wait + Sync, G: Gate + Sync, O: Outside + Send + Drop>(
+    rt: &R,
+    alloc: Global,
+    verified: &Verified,
+    workers: u32,
+    gate: &G,
+    outside: O,
+) -> Result<Ending, PoolError>
+    requires { (1 ≤ workers) × (workers ≤ 16) }
+    ensures { IfOk result (λ r. IsEnding verified.now r.end r.steps) }
+{
+    let stacks = &[STACK; 16][..workers as usize];
+    let Ok(book) = Unwritten::start(alloc, verified) else {
+        return Err(PoolError::Memory);
+    };
+    let book = Ledger::Unwritten(book);
+    match run_on::<Brand, R, G, O>(rt, book, stacks, gate, outside)? {
+        Ledger::Unwritten(book) => book.ending(),
+        Ledger::Written(_) => Err(PoolError::Unfinished),
+    }
+}
+
+/// The book of the program that was picked once its root has ended, with a worker for each of these
+/// sizes of a stack.
 pub(crate) fn run_on<
+    'p,
     B: Runs + Send + Sync,
     R: Threads + Wait + Sync,
     G: Gate + Sync,
     O: Outside + Send + Drop,
->(
-    rt: &R,
-    alloc: Global,
-    verified: &Verified,
-    stacks: &[usize],
-    gate: &G,
-    outside: O,
-) -> Result<Report, PoolError>
-    requires { verified.now ≡ B.program }
-    ensures report { IfOk result (λ r. IsReport B.program r.journal.items r.end) }
-    ensures steps { IfOk result (λ r. r.steps ≡ count_by is_step r.journal.items) }
+>(rt: &R, book: Ledger<'p>, stacks: &[usize], gate: &G, outside: O) -> Result<Ledger<'p>, PoolError>
+    requires { program_of book ≡ B.program }
+    ensures { IfOk result (λ l. program_of l ≡ B.program) }
 {
-    let Ok(book) = Book::start(alloc, verified) else {
-        return Err(PoolError::Memory);
-    };
     let pool = Pool::<O, B> {
         shared: Mutex::new(Shared {
             book,
@@ -295,7 +323,7 @@ pub(crate) fn run_on<
         tries: _,
         of: _,
     } = shared.into_inner();
-    book.report()
+    Ok(book)
 }
 
 /// Starts a worker with a stack of each of these sizes, and waits for all of them to end: false where

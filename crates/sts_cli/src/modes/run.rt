@@ -1,9 +1,8 @@
 //! Mode `run`: workers bring an accepted program to its end.
 
-ghost use Rattle.std.specs.Prelude.{◌≡◌, ◌≤◌, ◌++◌, ℕ, IfOk, [], count_by};
+ghost use Rattle.std.specs.Prelude.{◌≡◌, ◌≤◌, ◌++◌, ℕ, IfOk, []};
 ghost use Rattle.std.specs.String.{string_bytes};
 ghost use Rattle.sts_asm.specs.Text.{judged};
-ghost use Rattle.sts_model.specs.Run.{is_step};
 ghost use Rattle.sts_trace.specs.Reading.{outside_read};
 ghost use Rattle.sts_cli.specs.Running as def;
 
@@ -19,11 +18,19 @@ use std::thread::Threads;
 use sts_asm::assemble;
 use sts_code::program::Program;
 use sts_model::event::Event;
-use sts_pool::{Gate, PoolError, Report, run};
+use sts_pool::{Ending, Gate, PoolError, Report, run, run_unwritten};
 use sts_trace::read_outside;
 use sts_verify::verified::Verified;
 
-/// What comes of a run: what is printed, and the journal, which is empty where there is no report.
+/// How a program is run: by 1 to 16 workers, and with its journal kept or not.
+#[derive(Clone, Copy)]
+pub(crate) struct Manner {
+    pub(crate) workers: u32,
+    pub(crate) kept: bool,
+}
+
+/// What comes of a run: what is printed, and the journal, which is empty where there is no report,
+/// or it isn't kept.
 #[derive(Drop)]
 pub(crate) struct Ran {
     pub(crate) output: Output,
@@ -56,12 +63,33 @@ fn alone(alloc: Global, output: Output) -> Ran
     }
 }
 
+/// How an accepted program ended, with its journal if that is kept.
+fn report<R: Threads + Wait + Sync>(
+    rt: &R,
+    alloc: Global,
+    verified: &Verified,
+    manner: Manner,
+    dues: Dues,
+) -> Result<Report, PoolError>
+    requires { (1 ≤ manner.workers) × (manner.workers ≤ 16) }
+    ensures { IfOk result (def.IsReportOf manner.kept verified.now) }
+{
+    if manner.kept {
+        return run(rt, alloc, verified, manner.workers, &Open, dues);
+    }
+    let Ending { end, steps } = run_unwritten(rt, alloc, verified, manner.workers, &Open, dues)?;
+    Ok(Report {
+        end,
+        journal: Vec::new(alloc),
+        steps,
+    })
+}
+
 /// What comes of a report: how the root ended and the steps, after the lines of the budgets.
 fn reported(budgets: String, report: Report) -> Result<Ran, AllocError>
-    requires { report.steps ≡ count_by is_step report.journal.items }
     ensures journal { IfOk result (λ r. r.journal ≡ report.journal.items) }
-    ensures output { IfOk result (λ r. r.output ≡ def.report_output (string_bytes budgets)
-        report.end (count_by is_step report.journal.items)) }
+    ensures output { IfOk result (λ r. r.output
+        ≡ def.report_output (string_bytes budgets) report.end report.steps) }
 {
     let mut text = budgets;
     printed::end_line(&mut text, report.end)?;
@@ -93,14 +121,14 @@ fn run_accepted<R: Threads + Wait + Sync>(
     rt: &R,
     alloc: Global,
     verified: &Verified,
-    workers: u32,
+    manner: Manner,
     dues: Dues,
 ) -> Result<Ran, AllocError>
-    requires { (1 ≤ workers) × (workers ≤ 16) }
-    ensures { IfOk result (def.IsRun verified.now) }
+    requires { (1 ≤ manner.workers) × (manner.workers ≤ 16) }
+    ensures { IfOk result (def.Holds manner.kept (def.IsRun verified.now)) }
 {
     let budgets = verify::lines(alloc, verified)?;
-    match run(rt, alloc, verified, workers, &Open, dues) {
+    match report(rt, alloc, verified, manner, dues) {
         Ok(report) => reported(budgets, report),
         Err(error) => unreported(alloc, error),
     }
@@ -111,14 +139,14 @@ fn verdict<R: Threads + Wait + Sync>(
     rt: &R,
     alloc: Global,
     program: Program,
-    workers: u32,
+    manner: Manner,
     dues: Dues,
 ) -> Result<Ran, AllocError>
-    requires { (1 ≤ workers) × (workers ≤ 16) }
-    ensures { IfOk result (def.IsRun program) }
+    requires { (1 ≤ manner.workers) × (manner.workers ≤ 16) }
+    ensures { IfOk result (def.Holds manner.kept (def.IsRun program)) }
 {
     match accepted(alloc, program)? {
-        Ok(verified) => run_accepted(rt, alloc, &verified, workers, dues),
+        Ok(verified) => run_accepted(rt, alloc, &verified, manner, dues),
         Err(refusal) => Ok(alone(alloc, refusal)),
     }
 }
@@ -128,14 +156,15 @@ fn with_outside<R: Threads + Wait + Sync>(
     rt: &R,
     alloc: Global,
     program: Program,
-    workers: u32,
+    manner: Manner,
     outside: &[u8],
 ) -> Result<Ran, AllocError>
-    requires { (1 ≤ workers) × (workers ≤ 16) }
-    ensures { IfOk result (def.OutsideRuns program (outside_read outside.now)) }
+    requires { (1 ≤ manner.workers) × (manner.workers ≤ 16) }
+    ensures { IfOk result (def.Holds manner.kept
+        (def.OutsideRuns program (outside_read outside.now))) }
 {
     match read_outside(alloc, outside) {
-        Ok(dues) => verdict(rt, alloc, program, workers, Dues::new(dues)),
+        Ok(dues) => verdict(rt, alloc, program, manner, Dues::new(dues)),
         Err(error) => Ok(alone(alloc, output::trace_fault(alloc, error)?)),
     }
 }
@@ -149,14 +178,14 @@ pub(crate) fn outcome<R: Threads + Wait + Sync>(
     rt: &R,
     alloc: Global,
     text: &[u8],
-    workers: u32,
+    manner: Manner,
     outside: &[u8],
 ) -> Result<Ran, AllocError>
-    requires { (1 ≤ workers) × (workers ≤ 16) }
-    ensures { IfOk result (def.TextRuns (judged text.now) outside.now) }
+    requires { (1 ≤ manner.workers) × (manner.workers ≤ 16) }
+    ensures { IfOk result (def.Holds manner.kept (def.TextRuns (judged text.now) outside.now)) }
 {
     match assemble(alloc, text) {
-        Ok(program) => with_outside(rt, alloc, program, workers, outside),
+        Ok(program) => with_outside(rt, alloc, program, manner, outside),
         Err(error) => Ok(alone(alloc, output::text_fault(alloc, error)?)),
     }
 }
