@@ -1,13 +1,43 @@
 -- What comes of a run, and what is printed of it.
-use Rattle.std.proofs.Common.{◌≡◌, ℕ, List, Option, Result, Err, MatchResult, subst, refl}
+use Rattle.std.proofs.Common.{◌≡◌, ℕ, List, Bool, Option, Result, Err, MatchResult, ap, subst, sym, ◌∙◌, refl}
 use Rattle.sts_code.specs.Program.{Program}
-use Rattle.sts_cli.specs.Output.{IsRefused, Output, Writes, file_output}
+use Rattle.sts_pool.specs.declared.report.Report.{Report}
+use Rattle.sts_rules.specs.Refusal.{IsAccepted}
+use Rattle.sts_cli.specs.Output.{AreLines, IsRefused, Output, Writes, file_output}
 use Rattle.sts_cli.specs.Running.{IsOutcomeOf, IsRun, Outcome, RunWrites, Written, alone, no_trace}
-use Rattle.sts_cli.specs.Running.{refused, whole}
+use Rattle.sts_cli.specs.Running.{Holds, IsReportOf, refused, report_output, reported, whole}
 use Rattle.sts_cli.specs.Taking.{IsTakenOf}
 use Rattle.sts_cli.specs.Ending.{IsOfRun, IsPrinted, most_of_a_text, most_of_a_stream, of_run}
 use Rattle.sts_cli.specs.Ending.{shown, without_file}
 use Rattle.sts_cli.specs.declared.taking.TakeError.TheVariants.{Read}
+
+-- an outcome is told whole
+pub whole_told : (kept : Bool) (P : Outcome → Type 0) (o : Outcome) → P o → Holds kept P o
+whole_told kept P o is = record { outcome = o; is = is; output = refl; journal = λ k. refl }
+
+-- an outcome of one kind, told, is one of another
+pub told_as : (kept : Bool) (P Q : Outcome → Type 0) (r : Outcome) → ((o : Outcome) → P o → Q o) → Holds kept P r → Holds kept Q r
+told_as kept P Q r more h = record { outcome = h.outcome; is = more h.outcome h.is; output = h.output; journal = h.journal }
+
+-- what is printed of a report
+pub reported_run : (kept : Bool) (p : Program) (budgets : List ℕ) (r : Report) (o : Outcome) → IsAccepted p → AreLines p budgets → IsReportOf kept p r
+    → o ≡ record { output = report_output budgets r.end r.steps; journal = r.journal.items } → Holds kept (IsRun p) o
+reported_run kept p budgets r o accepted lines is same =
+    subst (Holds kept (IsRun p)) (sym same)
+    (record {
+      outcome = record { output = report_output budgets r.end r.steps; journal = is.journal };
+      is =
+          reported (record {
+            accepted = accepted;
+            budgets = budgets;
+            told = lines;
+            end = r.end;
+            report = is.report;
+            printed = ap (report_output budgets r.end) (is.steps ∙ sym is.report.steps);
+          });
+      output = refl;
+      journal = is.held;
+    })
 
 -- a program that isn't accepted is refused
 pub refused_run : (p : Program) (judged : Result Program Output) (refusal : Output) (o : Outcome) → MatchResult judged (λ v. v ≡ p) (IsRefused p) → judged ≡ Err refusal → o ≡ alone refusal → IsRun p o

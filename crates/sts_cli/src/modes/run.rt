@@ -87,9 +87,10 @@ fn report<R: Threads + Wait + Sync>(
 
 /// What comes of a report: how the root ended and the steps, after the lines of the budgets.
 fn reported(budgets: String, report: Report) -> Result<Ran, AllocError>
-    ensures journal { IfOk result (λ r. r.journal ≡ report.journal.items) }
-    ensures output { IfOk result (λ r. r.output
-        ≡ def.report_output (string_bytes budgets) report.end report.steps) }
+    ensures { IfOk result (λ r. r ≡ record {
+      output = def.report_output (string_bytes budgets) report.end report.steps;
+      journal = report.journal.items;
+    }) }
 {
     let mut text = budgets;
     printed::end_line(&mut text, report.end)?;
