@@ -9,7 +9,7 @@ use std::test::Fail;
 use std::thread::Threads;
 use sts_machine::runs::replay;
 use sts_model::event::{End, Event};
-use sts_pool::run;
+use sts_pool::{run, run_unwritten};
 
 /// A text, what comes from outside, with how many workers it runs, the ends that it may have, and
 /// the steps that it takes, where each run takes as many.
@@ -121,6 +121,40 @@ fn ends<R: Abort + Threads + Wait + Sync>(
         steps.saturating_add(row.weather.entries()),
         "{workers} workers tell {name:?}"
     );
+    Ok(())
+}
+
+/// Runs a text with so many workers and no journal.
+fn ends_unwritten<R: Abort + Threads + Wait + Sync>(
+    rt: &R,
+    alloc: Global,
+    row: &Run,
+    workers: u32,
+) -> Result<(), Fail> {
+    assert!(rt; 1 <= workers && workers <= 16);
+    let name = row.text;
+    let verified = accepted(alloc, name)?;
+    let ending = run_unwritten(rt, alloc, &verified, workers, &Open, row.weather)?;
+    assert!(rt;
+        row.ends.contains(&ending.end),
+        "{workers} workers end {name:?} with no journal"
+    );
+    let steps = row.steps.unwrap_or(ending.steps);
+    assert_eq!(rt;
+        ending.steps,
+        steps,
+        "{workers} workers step {name:?} with no journal"
+    );
+    Ok(())
+}
+
+#[test]
+fn runs_end_alike_with_no_journal(rt: HostRuntime) -> Result<(), Fail> {
+    for row in &RUNS {
+        for workers in row.workers {
+            ends_unwritten(&rt, rt.alloc(), row, *workers)?;
+        }
+    }
     Ok(())
 }
 
