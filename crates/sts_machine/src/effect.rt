@@ -19,23 +19,23 @@ use sts_model::event::End;
 use sts_store::store::Store;
 
 /// Does the instruction that a living task is at, which is no misuse and for which there is room.
-pub(crate) fn effect(store: &mut Store, program: &Program, code: &[Instr], t: u32, instr: Instr)
+pub(crate) fn effect(store: &mut Store, program: &Program, code: &[Instr], t: u32, instr: &Instr)
     requires lives { lives_in (live_of store.old) t ≡ true }
     requires own_code { code.now ≡ world.code program.now (frame_of store.old t) }
     requires inside { (frame_of store.old t).pc < length code.now }
     requires short { length code.now ≤ MAX_INSTRUCTIONS }
-    requires fine { IsLiveFine program.now (live_of store.old) t (frame_of store.old t) instr }
-    requires room { HasRoomLeft (unseen_of store.old) (frame_of store.old t) instr }
+    requires fine { IsLiveFine program.now (live_of store.old) t (frame_of store.old t) instr.now }
+    requires room { HasRoomLeft (unseen_of store.old) (frame_of store.old t) instr.now }
     requires order { InOrder (live_of store.old) }
     ensures live { live_of store.new
-        ≡ live_effect program.now (live_of store.old) t (frame_of store.old t) instr }
+        ≡ live_effect program.now (live_of store.old) t (frame_of store.old t) instr.now }
     ensures rest { Changes (live_of store.old) (unseen_of store.old)
         (live_of store.new) (unseen_of store.new) t }
-    ensures own { may_wait instr ≡ false
+    ensures own { may_wait instr.now ≡ false
         → stand_in (unseen_of store.new) t ≡ stand_in (unseen_of store.old) t }
-    ensures stays { may_leave instr ≡ false → lives_in (live_of store.new) t ≡ true }
+    ensures stays { may_leave instr.now ≡ false → lives_in (live_of store.new) t ≡ true }
 {
-    match instr {
+    match *instr {
         Instr::Open {
             slot,
             joiner,
@@ -68,20 +68,20 @@ pub(crate) fn effect(store: &mut Store, program: &Program, code: &[Instr], t: u3
 }
 
 /// Does an instruction that leaves as many tasks, scopes and bindings as there were.
-fn quiet(store: &mut Store, program: &Program, code: &[Instr], t: u32, instr: Instr)
+fn quiet(store: &mut Store, program: &Program, code: &[Instr], t: u32, instr: &Instr)
     requires lives { lives_in (live_of store.old) t ≡ true }
     requires own_code { code.now ≡ world.code program.now (frame_of store.old t) }
     requires inside { (frame_of store.old t).pc < length code.now }
     requires short { length code.now ≤ MAX_INSTRUCTIONS }
-    requires fine { IsLiveFine program.now (live_of store.old) t (frame_of store.old t) instr }
+    requires fine { IsLiveFine program.now (live_of store.old) t (frame_of store.old t) instr.now }
     requires order { InOrder (live_of store.old) }
-    requires is_quiet { is_quiet instr ≡ true }
+    requires is_quiet { is_quiet instr.now ≡ true }
     ensures live { live_of store.new
-        ≡ live_effect program.now (live_of store.old) t (frame_of store.old t) instr }
+        ≡ live_effect program.now (live_of store.old) t (frame_of store.old t) instr.now }
     ensures unseen { unseen_of store.new ≡ unseen_of store.old }
 {
-    match instr {
-        _ if is_local(instr) => store.local(program, code, t, instr),
+    match *instr {
+        _ if is_local(*instr) => store.local(program, code, t, *instr),
         Instr::Join {
             slot,
             failed,

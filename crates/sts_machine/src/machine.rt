@@ -23,7 +23,7 @@ use crate::perform::perform;
 use crate::turned::Turned;
 use std::alloc::{AllocError, Global};
 use std::marker::Model;
-use sts_frames::code::instr_at;
+use sts_frames::code::{code, instr_at};
 use sts_model::event::{End, Event};
 use sts_seen::run_is_seen;
 use sts_store::store::{Room, Store};
@@ -91,6 +91,7 @@ impl<'p> Machine<'p> {
     }
 
     /// Does the event count?
+    #[inline(always)]
     fn counts(&self, event: Event) -> bool
         ensures { result ≡ live_counts self.now.program self.now.live event }
     {
@@ -102,6 +103,7 @@ impl<'p> Machine<'p> {
     }
 
     /// Does what an event that counts does.
+    #[inline(always)]
     fn take(&mut self, event: Event)
         requires { live_counts self.old.program self.old.live event ≡ true }
         ensures program { self.new.program ≡ self.old.program }
@@ -112,8 +114,10 @@ impl<'p> Machine<'p> {
         let program = self.verified.program();
         match event {
             Event::Step(t) => {
-                let instr = instr_at(program, self.store.frame(t)).unwrap();
-                perform(&mut self.store, program, t, instr);
+                let frame = self.store.frame(t);
+                let code = code(program, frame);
+                let instr = instr_at(program, frame).unwrap();
+                perform(&mut self.store, program, code, t, &instr);
                 self.steps += 1;
             }
             Event::Interrupt(t) => interrupt(&mut self.store, program, t),
@@ -123,6 +127,7 @@ impl<'p> Machine<'p> {
 
     /// One event. At each list of events at which the machine stood, it stands afterwards at that
     /// list and the event, the answer says whether the event counted there, and the run goes well.
+    #[inline(always)]
     pub fn turn(&mut self, event: Event) -> Turned
         ensures program { self.new.program ≡ self.old.program }
         ensures live { self.new.live ≡ live_apply self.old.program self.old.live event }

@@ -67,6 +67,7 @@ fn is_free(stand: Stand) -> bool
 
 /// Says where a living task stands. One that can't have waited was last said to stand at no scope,
 /// and needn't say so again.
+#[inline(always)]
 pub(crate) fn say_stand(store: &mut Store, program: &Program, t: u32, waited: bool)
     requires lives { lives_in (live_of store.old) t ≡ true }
     requires order { InOrder (live_of store.old) }
@@ -87,6 +88,7 @@ pub(crate) fn say_stand(store: &mut Store, program: &Program, t: u32, waited: bo
 }
 
 /// The same of a task that may have ended: then it stands nowhere.
+#[inline(always)]
 pub(crate) fn say_stand_if_alive(store: &mut Store, program: &Program, t: u32, waited: bool)
     requires order { InOrder (live_of store.old) }
     requires others { AreStandingBut program.now (live_of store.old) (unseen_of store.old) t }

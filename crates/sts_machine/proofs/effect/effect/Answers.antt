@@ -86,7 +86,7 @@ returns-in_default-clause-rest c =
     let v = live_of m in
     let t = c.args.t in
     as_are v _ _ (unseen_of m) _ _ t c.quiet.ensures.live c.quiet.ensures.unseen
-    (changes-quiet v _ (unseen_of m) t (quiet-effect c.args.program.now v t c.args.instr (search rules)))
+    (changes-quiet v _ (unseen_of m) t (quiet-effect c.args.program.now v t c.args.instr.now (search rules)))
 
 pub returns-in-Open-clause-own : goal.returns-in-Open-clause-own
 returns-in-Open-clause-own c = λ e. ap (λ (u : Unseen). stand_in u c.args.t) c.open.ensures.unseen.1
@@ -131,5 +131,5 @@ pub returns-in_default-clause-stays : goal.returns-in_default-clause-stays
 returns-in_default-clause-stays c = λ e.
     let v = live_of c.args.store.now in
     ap (λ (x : Live). lives_in x c.args.t) c.quiet.ensures.live
-    ∙ lives_quiet v _ c.args.t (quiet-effect c.args.program.now v c.args.t c.args.instr (search rules))
+    ∙ lives_quiet v _ c.args.t (quiet-effect c.args.program.now v c.args.t c.args.instr.now (search rules))
     ∙ c.requires.lives

@@ -12,8 +12,8 @@ returns-then-is_local-clause-live c =
     let v = live_of c.args.store.now in
     let f = frame_of c.args.store.now c.args.t in
     c.local.ensures.live
-    ∙ ap (λ (is : List Instr). with_live_frame v c.args.t (local is c.args.instr f)) c.requires.own_code
-    ∙ sym (local_effect c.args.program.now v c.args.t f c.args.instr (sym c.is_local.ensures ∙ c.if-is_local.true))
+    ∙ ap (λ (is : List Instr). with_live_frame v c.args.t (local is c.args.instr.now f)) c.requires.own_code
+    ∙ sym (local_effect c.args.program.now v c.args.t f c.args.instr.now (sym c.is_local.ensures ∙ c.if-is_local.true))
 
 pub returns-in-Cancelled-clause-live : goal.returns-in-Cancelled-clause-live
 returns-in-Cancelled-clause-live c = c.push_cancelled.ensures.live c.args.program.now ∙ ap (live_effect c.args.program.now (live_of c.args.store.now) c.args.t (frame_of c.args.store.now c.args.t)) (sym c.in-Cancelled.is)

@@ -1,6 +1,6 @@
 use Rattle.std.proofs.Common.{◌≡◌, ◌+◌, Some, true, sym, ◌∙◌, ap, refl, subst, arith}
 use Rattle.sts_model.specs.declared.event.Event.TheVariants as event
-use Rattle.sts_model.specs.World.{instr_at}
+use Rattle.sts_model.specs.World.{code, instr_at}
 use Rattle.sts_seen.specs.Waiting.{live_can_step}
 use Rattle.sts_store.specs.Parts.{frame_of, live_of}
 use Rattle.sts_views.specs.Order.{InOrder}
@@ -13,7 +13,10 @@ unwrap-instr-requires c =
     let m = c.self.inside.store in
     let can : live_can_step p (live_of m) c.in-Step.t ≡ true = asked _ _ _ _ c.self.view_is c.in-Step.is c.requires in
     let i = next p m c.self.inside.steps c.self.invariant c.in-Step.t can in
-    rw (looked_up p _ (frame_of m c.in-Step.t) _ _ i.0 c.program-program.ensures.value c.frame.ensures c.instr_at.ensures.value i.1) refl
+    rw (looked_up p _ (frame_of m c.in-Step.t) _ _ i.0 c.program-program.ensures.value c.frame-frame.ensures c.instr_at.ensures.value i.1) refl
+
+pub perform-requires-clause-own_code : goal.perform-requires-clause-own_code
+perform-requires-clause-own_code c = c.code-code.ensures.value ∙ ap (code c.program-program.result.now) c.frame-frame.ensures
 
 pub perform-requires-clause-fine : goal.perform-requires-clause-fine
 perform-requires-clause-fine c =
@@ -21,7 +24,7 @@ perform-requires-clause-fine c =
     let m = c.self.inside.store in
     let can : live_can_step p (live_of m) c.in-Step.t ≡ true = asked _ _ _ _ c.self.view_is c.in-Step.is c.requires in
     let at : instr_at p (frame_of m c.in-Step.t) ≡ Some c.unwrap-instr.result =
-    is_next p _ (frame_of m c.in-Step.t) _ _ _ c.program-program.ensures.value c.frame.ensures c.instr_at.ensures.value c.unwrap-instr.ensures in
+    is_next p _ (frame_of m c.in-Step.t) _ _ _ c.program-program.ensures.value c.frame-frame.ensures c.instr_at.ensures.value c.unwrap-instr.ensures in
     rw c.program-program.ensures.value (fine p m c.self.inside.steps c.self.invariant c.in-Step.t c.unwrap-instr.result can at)
 
 pub perform-requires-clause-room : goal.perform-requires-clause-room
@@ -30,7 +33,7 @@ perform-requires-clause-room c =
     let m = c.self.inside.store in
     let can : live_can_step p (live_of m) c.in-Step.t ≡ true = asked _ _ _ _ c.self.view_is c.in-Step.is c.requires in
     let at : instr_at p (frame_of m c.in-Step.t) ≡ Some c.unwrap-instr.result =
-    is_next p _ (frame_of m c.in-Step.t) _ _ _ c.program-program.ensures.value c.frame.ensures c.instr_at.ensures.value c.unwrap-instr.ensures in
+    is_next p _ (frame_of m c.in-Step.t) _ _ _ c.program-program.ensures.value c.frame-frame.ensures c.instr_at.ensures.value c.unwrap-instr.ensures in
     has_room p m c.self.inside.steps c.self.invariant c.in-Step.t c.unwrap-instr.result can at
 
 pub perform-requires-clause-order : goal.perform-requires-clause-order
@@ -43,7 +46,7 @@ perform-requires-clause-after c =
     let t = c.in-Step.t in
     let can : live_can_step p (live_of m) t ≡ true = asked _ _ _ _ c.self.view_is c.in-Step.is c.requires in
     let at : instr_at p (frame_of m t) ≡ Some c.unwrap-instr.result =
-    is_next p _ (frame_of m t) _ _ _ c.program-program.ensures.value c.frame.ensures c.instr_at.ensures.value c.unwrap-instr.ensures in
+    is_next p _ (frame_of m t) _ _ _ c.program-program.ensures.value c.frame-frame.ensures c.instr_at.ensures.value c.unwrap-instr.ensures in
     rw c.program-program.ensures.value
     (subst InOrder (stepped p (live_of m) t c.unwrap-instr.result can at)
     (ordered_after p m c.self.inside.steps c.self.invariant (event.Step t)))
@@ -61,7 +64,7 @@ invariant_of-self c =
     let same = c.program-program.ensures.value in
     let can : live_can_step p (live_of m) t ≡ true = asked _ _ _ _ c.self.view_is c.in-Step.is c.requires in
     let at : instr_at p (frame_of m t) ≡ Some c.unwrap-instr.result =
-    is_next p _ (frame_of m t) _ _ _ same c.frame.ensures c.instr_at.ensures.value c.unwrap-instr.ensures in
+    is_next p _ (frame_of m t) _ _ _ same c.frame-frame.ensures c.instr_at.ensures.value c.unwrap-instr.ensures in
     moved p m c.self.inside.steps c.self.invariant (event.Step t) c.perform.new.store (c.self.inside.steps + 1)
     ((rw same at c.perform.ensures.live) ∙ sym (stepped p (live_of m) t c.unwrap-instr.result can at))
     (sym (ap (λ k. c.self.inside.steps + k) (one_step p (live_of m) t can)))
