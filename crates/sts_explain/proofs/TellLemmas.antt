@@ -1,12 +1,14 @@
 -- What is told beside a cause.
-use Rattle.std.proofs.Common.{◌≡◌, ℕ, ◌<◌, List, [], ◌++◌, refl, sym, arith}
+use Rattle.std.proofs.Common.{◌≡◌, ◌≢◌, ℕ, ◌<◌, List, [], ◌++◌, refl, sym, subst, arith}
 use Rattle.std.proofs.lemmas.List.{append-nil}
-use Rattle.sts_code.specs.Program.{Program}
+use Rattle.sts_code.specs.Program.{Program, routine}
 use Rattle.sts_asm.specs.Outline.{Outline}
 use Rattle.sts_rules.specs.declared.typing.Cause.{Cause}
 use Rattle.sts_rules.specs.declared.typing.Cause.TheVariants.{StatesDiffer}
-use Rattle.sts_rules.specs.Refusal.{IsUnsound, IsWellTyped, ill_typed, too_much, size}
+use Rattle.sts_rules.specs.Budget.{Exceeds}
+use Rattle.sts_rules.specs.Refusal.{IsUnsound, IsWellTyped, IsTypeRefusal, ill_typed, too_much, size}
 use Rattle.sts_budget.specs.declared.change.Resource.{Resource}
+use Rattle.sts_budget.specs.declared.change.Resource.TheVariants.{Steps, Tasks, Scopes, Binds}
 use Rattle.sts_budget.specs.Change.{cause_of}
 use Rattle.sts_weights.specs.declared.heavy.Heavy.{Heavy}
 use Rattle.sts_weights.specs.Heavy.{IsHeavy}
@@ -16,8 +18,20 @@ use Rattle.sts_explain.specs.Ways.{Meets}
 use Rattle.sts_explain.specs.Differences.{difference_lines}
 use Rattle.sts_explain.specs.Output.{Tells, told, meets, weighs, none}
 
-pub nothing_told : (p : Program) (o : Outline) (f pc : ℕ) (c : Cause) (before : List ℕ) → Tells p o f pc c before before
-nothing_told p o f pc c before = told [] none (sym (append-nil before))
+pub nothing_told : (p : Program) (o : Outline) (f pc : ℕ) (c : Cause) (before : List ℕ) → c ≢ StatesDiffer → Tells p o f pc c before before
+nothing_told p o f pc c before other = told [] (none other) (sym (append-nil before))
+
+-- no budget is why ways differ
+pub heavy_cause : (k : Resource) → cause_of k ≢ StatesDiffer
+heavy_cause Steps e = absurd (cc)
+heavy_cause Tasks e = absurd (cc)
+heavy_cause Scopes e = absurd (cc)
+heavy_cause Binds e = absurd (cc)
+
+-- nor is there a budget that is passed where ways differ
+pub type_refusal : (p : Program) (f pc : ℕ) (c : Cause) → c ≡ StatesDiffer → IsUnsound p f pc c → IsTypeRefusal p f pc StatesDiffer
+type_refusal p f pc c e (ill_typed r) = subst (λ (x : Cause). IsTypeRefusal p f pc x) e r
+type_refusal p f pc c e (too_much earlier typed long right excess) = absurd (subst (λ (x : Cause). Exceeds earlier (routine p f).code x) e excess.0)
 
 pub meeting_told : (p : Program) (o : Outline) (f pc : ℕ) (m : Meeting) (before after : List ℕ) → Meets p f pc m → after ≡ before ++ difference_lines o p f m → Tells p o f pc StatesDiffer before after
 meeting_told p o f pc m before after is e = told (difference_lines o p f m) (meets m is) e

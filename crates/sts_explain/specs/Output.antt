@@ -1,5 +1,5 @@
 -- What is printed of a text and the status that goes with it (this project's own).
-use Rattle.std.specs.Prelude.{◌≡◌, ◌⊎◌, ℕ, List, [], ◌++◌, Result, Ok, Err, codes}
+use Rattle.std.specs.Prelude.{◌≡◌, ◌≢◌, ◌⊎◌, ℕ, List, [], ◌++◌, Result, Ok, Err, codes}
 use Rattle.sts_code.specs.Program.{Program}
 use Rattle.sts_cli.specs.Output.{Output, memory_output}
 use Rattle.sts_asm.specs.Outline.{Outline}
@@ -27,11 +27,11 @@ fault_output e text = record { bytes = fault_lines e text; status = 3 }
 
 -- ---- refusals
 
--- what is told beside the cause: where two ways differ, or what weighs too much, if that is why
+-- what is told beside the cause: where two ways differ, always if that is why; or what weighs too much, if that is why
 pub data IsDetail (p : Program) (o : Outline) (f pc : ℕ) : Cause → List ℕ → Type 0 where
   meets : (m : Meeting) → Meets p f pc m → IsDetail p o f pc StatesDiffer (difference_lines o p f m)
   weighs : (k : Resource) (h : Heavy) {c : Cause} → c ≡ cause_of k → IsHeavy p f k h → IsDetail p o f pc c (weight_lines o f k h)
-  none : {c : Cause} → IsDetail p o f pc c []
+  none : {c : Cause} → c ≢ StatesDiffer → IsDetail p o f pc c []
 
 -- what was printed before, and then the detail
 pub data Tells (p : Program) (o : Outline) (f pc : ℕ) (c : Cause) (before after : List ℕ) : Type 0 where

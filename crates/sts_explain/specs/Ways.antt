@@ -1,8 +1,8 @@
 -- The ways that arrive at a place, and the places where two with different typestates meet (this project's own).
-use Rattle.std.specs.Prelude.{◌≡◌, ◌≢◌, ◌⊎◌, ℕ, List, Option, Some, Ok, None, IfSome, slice_get, slice_index_or}
+use Rattle.std.specs.Prelude.{◌≡◌, ◌≢◌, ◌⊎◌, ◌<◌, ◌≤◌, ◌+◌, ℕ, List, Option, Some, Ok, None, IfSome, length, slice_get, slice_index_or, is_some, true}
 use Rattle.sts_code.specs.Program.{Program, routine, instr_at}
 use Rattle.sts_rules.specs.Edges.{edges, back_of, typing}
-use Rattle.sts_rules.specs.Flow.{Reaches}
+use Rattle.sts_rules.specs.Flow.{Reaches, Leads}
 use Rattle.sts_rules.specs.TypeState.{TypeState, entry}
 use Rattle.sts_explain.specs.declared.ways.Origin.{Origin}
 use Rattle.sts_explain.specs.declared.ways.Origin.TheVariants.{Beginning, Edge, Turn}
@@ -32,3 +32,49 @@ pub record Meets (p : Program) (f pc : ℕ) (m : Meeting) : Type 0 where
   pub other : Arrives p f m.at m.other.origin m.other.state
   pub differ : m.one.state ≢ m.other.state
   pub here : (m.at ≡ pc) ⊎ (m.other.origin ≡ Turn pc)
+
+-- ---- that no way is left out
+
+-- a way is kept for the place
+abbrev pub HasWay : List (Option Way) → ℕ → Type 0
+HasWay table to = is_some (slice_index_or table to None) ≡ true
+
+-- so is one for each place of the table to which one of these edges leads
+abbrev pub HaveWays : List (ℕ × TypeState) → List (Option Way) → Type 0
+HaveWays out table = (to : ℕ) (s : TypeState) → Leads out to s → to < length table → HasWay table to
+
+-- so are those along the edges of the instruction at a place, in this typestate
+abbrev pub IsSpread : Program → ℕ → ℕ → TypeState → List (Option Way) → Type 0
+IsSpread p f from s table = (out : List (ℕ × TypeState)) → edges p f from s ≡ Ok out → HaveWays out table
+
+-- so are those along the edges of the instruction at a place, in the typestate of the way that is kept for it
+abbrev pub IsSpreadFrom : Program → ℕ → ℕ → List (Option Way) → Type 0
+IsSpreadFrom p f from table = IfSome (slice_index_or table from None) (λ w. IsSpread p f from w.state table)
+
+-- more ways are kept, for later places alone
+pub record KeepsMore (pc : ℕ) (before after : List (Option Way)) : Type 0 where
+  pub long : length after ≡ length before
+  pub same : (to : ℕ) → to ≤ pc → slice_index_or after to None ≡ slice_index_or before to None
+  pub still : (to : ℕ) → HasWay before to → HasWay after to
+
+-- the table has the places up to the last one: the first has a way, and of so many places each has spread its ways
+pub record AreSpread (p : Program) (f last count : ℕ) (table : List (Option Way)) : Type 0 where
+  pub long : length table ≡ last + 1
+  pub first : HasWay table 0
+  pub spread : (from : ℕ) → from < count → IsSpreadFrom p f from table
+
+-- each edge of the instruction at a place, in this typestate, that leads to the other place leads there with the typestate told
+abbrev pub LeadsAlike : Program → ℕ → ℕ → TypeState → ℕ → TypeState → Type 0
+LeadsAlike p f from s to told = (out : List (ℕ × TypeState)) (x : TypeState) → edges p f from s ≡ Ok out → Leads out to x → x ≡ told
+
+-- no way from a place before leads here with another typestate than the way that is kept
+abbrev pub NoneMeet : Program → ℕ → ℕ → List (Option Way) → Type 0
+NoneMeet p f pc table =
+    IfSome (slice_index_or table pc None) (λ one. (from : ℕ) → from < pc
+    → IfSome (slice_index_or table from None) (λ way. LeadsAlike p f from way.state pc one.state))
+
+-- the turn that ends here, if one does, began in the same typestate
+abbrev pub TurnsAlike : Program → ℕ → ℕ → List (Option Way) → Type 0
+TurnsAlike p f pc table =
+    IfSome (slice_index_or table pc None) (λ last. (at : ℕ) → back_of (instr_at (routine p f).code pc) last.state ≡ Some at
+    → IfSome (slice_index_or table at None) (λ one. one.state ≡ last.state))

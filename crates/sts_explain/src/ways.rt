@@ -1,10 +1,11 @@
 //! The ways that arrive at a place, and two of them that differ.
 
-ghost use Rattle.std.specs.Prelude.{◌≡◌, ◌≢◌, ◌<◌, IfOk, IfSome, None, Some, length, slice_set, is_some, if◌then◌else◌, slice_index_or, replicate};
+ghost use Rattle.std.specs.Prelude.{◌≡◌, ◌≢◌, ◌<◌, ◌^◌, IfOk, IfSome, MatchOption, None, Some, length, slice_set, is_some, if◌then◌else◌, slice_index_or, replicate};
 ghost use Rattle.std.specs.Option.{option_copied};
 ghost use Rattle.sts_rules.specs.Edges as rules;
 ghost use Rattle.sts_rules.specs.Flow.{Reaches};
-ghost use Rattle.sts_rules.specs.Refusal.{size};
+ghost use Rattle.sts_rules.specs.Refusal.{IsTypeRefusal, size};
+ghost use Rattle.sts_rules.specs.declared.typing.Cause.TheVariants.{StatesDiffer};
 ghost use Rattle.sts_explain.specs.Ways as def;
 
 use std::alloc::{AllocError, Global};
@@ -85,6 +86,8 @@ fn spread(
     requires reached { Reaches (rules.typing program.now function) pc state.now }
     requires ways { def.AreWays program.now function table.old.items }
     ensures ways { def.AreWays program.now function table.new.items }
+    ensures more { def.KeepsMore pc table.old.items table.new.items }
+    ensures spread { def.IsSpread program.now function pc state.now table.new.items }
 {
     if let Ok(edges) = edges(program, function, pc, state) {
         let edges = edges.as_slice();
@@ -124,6 +127,8 @@ fn spread_from(program: &Program, function: u32, pc: u32, table: &mut Vec<Option
     requires pc { pc < size program.now function }
     requires ways { def.AreWays program.now function table.old.items }
     ensures ways { def.AreWays program.now function table.new.items }
+    ensures more { def.KeepsMore pc table.old.items table.new.items }
+    ensures spread { def.IsSpreadFrom program.now function pc table.new.items }
 {
     let way = match way_at(table.as_slice(), pc) {
         Some(way) => copy(way),
@@ -141,7 +146,8 @@ fn first_ways(
 ) -> Result<Vec<Option<Way>>, AllocError>
     requires function { function < length program.now.routines }
     requires last { last < size program.now function }
-    ensures { IfOk result (λ t. def.AreWays program.now function t.items) }
+    ensures { IfOk result (λ t. def.AreWays program.now function t.items
+        × def.AreSpread program.now function last last t.items) }
 {
     let mut table = none(alloc, last as usize + 1)?;
     let way = Way {
@@ -167,8 +173,9 @@ fn other_from(
     requires function { function < length program.now.routines }
     requires from { from < size program.now function }
     requires reached { Reaches (rules.typing program.now function) from state.now }
-    ensures { IfSome result (λ w. def.Arrives program.now function to w.origin w.state
-        × (w.state ≢ told.now)) }
+    ensures { MatchOption result
+        (def.LeadsAlike program.now function from state.now to told.now)
+        (λ w. def.Arrives program.now function to w.origin w.state × (w.state ≢ told.now)) }
 {
     let Ok(edges) = edges(program, function, from, state) else {
         return None;
@@ -191,7 +198,8 @@ fn meeting_at(program: &Program, function: u32, pc: u32, table: &[Option<Way>]) 
     requires function { function < length program.now.routines }
     requires pc { pc < size program.now function }
     requires ways { def.AreWays program.now function table.now }
-    ensures { IfSome result (def.Meets program.now function pc) }
+    ensures { MatchOption result (def.NoneMeet program.now function pc table.now)
+        (def.Meets program.now function pc) }
 {
     let one = way_at(table, pc)?;
     for from in 0..pc {
@@ -210,10 +218,14 @@ fn meeting_at(program: &Program, function: u32, pc: u32, table: &[Option<Way>]) 
 
 /// The place where the turn began that ends here.
 fn back_to(instr: Instr, state: &TypeState) -> Option<u32>
-    ensures { IfSome result (λ q. rules.back_of instr state.now ≡ Some q) }
+    requires { IfSome (rules.back_of instr state.now) (λ q. q < 2 ^ 32) }
+    ensures { result ≡ rules.back_of instr state.now }
 {
     match instr {
-        Instr::Next => state.loops().get(0)?.at.checked_add(1),
+        Instr::Next => {
+            let innermost = state.loops().get(0)?;
+            Some(innermost.at + 1)
+        }
         _ => None,
     }
 }
@@ -223,7 +235,8 @@ fn turn_at(program: &Program, function: u32, pc: u32, table: &[Option<Way>]) -> 
     requires function { function < length program.now.routines }
     requires pc { pc < size program.now function }
     requires ways { def.AreWays program.now function table.now }
-    ensures { IfSome result (def.Meets program.now function pc) }
+    ensures { MatchOption result (def.TurnsAlike program.now function pc table.now)
+        (def.Meets program.now function pc) }
 {
     let last = way_at(table, pc)?;
     let at = back_to(
@@ -246,7 +259,7 @@ fn turn_at(program: &Program, function: u32, pc: u32, table: &[Option<Way>]) -> 
 }
 
 /// Two ways that meet with typestates that differ, at a place or at the beginning of the turn that
-/// ends there.
+/// ends there: they are found wherever the function is refused for such a meeting.
 ///
 /// # Errors
 ///
@@ -259,7 +272,9 @@ pub fn find_meeting(
 ) -> Result<Option<Meeting>, AllocError>
     requires function { function < length program.now.routines }
     requires pc { pc < size program.now function }
-    ensures { IfOk result (λ found. IfSome found (def.Meets program.now function pc)) }
+    ensures { IfOk result (λ found. MatchOption found
+        (¬ IsTypeRefusal program.now function pc StatesDiffer)
+        (def.Meets program.now function pc)) }
 {
     let table = first_ways(alloc, program, function, pc)?;
     match meeting_at(program, function, pc, table.as_slice()) {

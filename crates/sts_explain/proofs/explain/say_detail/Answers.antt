@@ -2,4 +2,4 @@ use Rattle.sts_explain.proofs.TellLemmas.{nothing_told}
 use Rattle.sts_explain.proofs.explain.say_detail.Goals as goal
 
 pub returns-in_default : goal.returns-in_default
-returns-in_default c = nothing_told c.args.program.now c.args.outline.now c.args.function c.args.pc c.args.cause c.args.out.now.items
+returns-in_default c = nothing_told c.args.program.now c.args.outline.now c.args.function c.args.pc c.args.cause c.args.out.now.items c.in_default.not-StatesDiffer
