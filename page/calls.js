@@ -45,6 +45,10 @@ class Calls {
     return this.call("sts_explain", [], [text]);
   }
 
+  explainRun(text, trace) {
+    return this.call("sts_explain_run", [], [text, trace]);
+  }
+
   call(name, flags, texts) {
     try {
       return this.answer(name, flags, texts.map((text) => new TextEncoder().encode(text)));

@@ -74,7 +74,7 @@ function play(event) {
 }
 
 function button(event, words) {
-  const node = made("button", { onclick: () => play(event), title: event }, words);
+  const node = made("button", { onclick: guarded(() => play(event)), title: event }, words);
   node.dataset.event = event;
   return node;
 }
@@ -105,6 +105,12 @@ function refocused(event) {
   (buttons.find((it) => it.dataset.event === event) ?? buttons[0] ?? element("back")).focus();
 }
 
+// Where the run stands after the events that are shown, by the lines of the text; where there is no run, why.
+function told() {
+  const events = hasRun ? trace().slice(0, at) : trace();
+  return calls.explainRun(element("text").value, traced(events)).text;
+}
+
 function show() {
   const part = parts[at];
   const canPlay = !isAtFault(part);
@@ -112,7 +118,8 @@ function show() {
   element("head").textContent = part.head;
   element("stands").replaceChildren(...part.lines.map((line) => standing(line, canPlay)));
   markTasks(part, canPlay);
-  element("picture").replaceChildren(...(hasRun ? picture(drawn, parts, at, move) : []));
+  element("told").textContent = told();
+  element("picture").replaceChildren(...(hasRun ? picture(drawn, parts, at, guarded(move)) : []));
   element("first").disabled = element("back").disabled = at === 0;
   element("last").disabled = element("forward").disabled = at === parts.length - 1;
   if (focused) {
@@ -139,9 +146,9 @@ function run() {
 
 // What fails outside of proved code is shown in place of the verdict.
 function guarded(act) {
-  return () => {
+  return (...given) => {
     try {
-      act();
+      act(...given);
     } catch (error) {
       element("verdict").textContent = `the page failed: ${error.message}`;
     }
@@ -167,10 +174,10 @@ function connect() {
   element("text").oninput = guarded(change);
   element("trace").oninput = guarded(run);
   element("full").onchange = guarded(run);
-  element("first").onclick = () => move(0);
-  element("back").onclick = () => move(at - 1);
-  element("forward").onclick = () => move(at + 1);
-  element("last").onclick = () => move(parts.length - 1);
+  element("first").onclick = guarded(() => move(0));
+  element("back").onclick = guarded(() => move(at - 1));
+  element("forward").onclick = guarded(() => move(at + 1));
+  element("last").onclick = guarded(() => move(parts.length - 1));
 }
 
 async function begin() {

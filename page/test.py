@@ -5,7 +5,8 @@
   over texts and traces with faults, refused texts, and runs that come to a fault;
 - texts are explained as the rows of crates/sts_rows_explain say;
 - every example is played by the page's own buttons, which only an event that counts has: after each event the page shows
-  what `look view` prints;
+  what `look view` prints, and what `look explain` prints of the text and the trace;
+- so it shows of texts and traces with faults, and of runs that come to a fault;
 - a line that is refused is marked; the keyboard plays; every control has a name for screen readers.
 
 Pictures of the page, light and dark, are left in page/out. The last line is `N passed, M failed`, of comparisons; where no
@@ -69,6 +70,9 @@ class Programs:
     def view(self, text, trace, *options):
         return self.says(self.look, "view", [text, trace], *options)
 
+    def explain(self, text, trace):
+        return self.says(self.look, "explain", [text, trace])
+
 
 class Page:
     """The page in the browser."""
@@ -113,6 +117,8 @@ def same_calls(page, programs, name, text, traces):
         events = trace.count("\n")
         plain = programs.says(programs.sts, "plain", [text, trace])
         yield f"plain of {name} after {events}", page.call("plain", text, trace) == plain
+        explained = programs.explain(text, trace)
+        yield f"explain of {name} after {events}", page.call("explainRun", text, trace) == explained
         drawn = programs.says(programs.look, "draw", [text, trace])
         yield f"draw of {name} after {events}", page.call("draw", text, trace) == drawn
         for option in ("each", "full"):
@@ -159,6 +165,7 @@ def event_played(page, programs, name, text, before, after):
         page.click("#last")
     yield f"{name}: the trace with {event}", page.written("trace") == after
     yield f"{name}: what stands after {event}", page.shown() == programs.view(text, after)[1]
+    yield f"{name}: what is told after {event}", page.text_of("told") == programs.explain(text, after)[1]
 
 
 def played(page, programs, number, path):
@@ -174,6 +181,7 @@ def played(page, programs, number, path):
     for step, events in (("back", beginnings(trace)[-2]), ("first", ""), ("forward", beginnings(trace)[1]), ("last", trace)):
         page.click(f"#{step}")
         yield f"{name}: what stands by {step}", page.shown() == programs.view(text, events)[1]
+        yield f"{name}: what is told by {step}", page.text_of("told") == programs.explain(text, events)[1]
     page.click("#full")
     yield f"{name}: in full", page.shown() == programs.view(text, trace, "--full")[1]
     page.click("#full")
@@ -182,6 +190,15 @@ def played(page, programs, number, path):
 def all_played(page, programs):
     for number, path in enumerate(EXAMPLES):
         yield from played(page, programs, number, path)
+
+
+def faults_told(page, programs):
+    """Yields whether it is told by lines where a run stands or faulted, or what is wrong with a text or a trace."""
+    for text, trace in ODD:
+        page.write("text", text)
+        page.write("trace", trace)
+        page.click("#last")
+        yield f"what is told of {text[:40]!r}", page.text_of("told") == programs.explain(text, trace)[1]
 
 
 def verdicts(page, programs):
@@ -234,6 +251,7 @@ def tried(path, programs):
         yield from all_calls(page, programs)
         yield from explanations(page)
         yield from all_played(page, programs)
+        yield from faults_told(page, programs)
         yield from verdicts(page, programs)
         yield from keyboard(page)
         yield from names(page)

@@ -19,6 +19,8 @@ use Rattle.sts_view.specs.View.{IsViewOf}
 use Rattle.sts_look.specs.Asked.{Asks, AsksForHelp, IsMistaken}
 use Rattle.sts_look.specs.declared.asked.Asked.{Asked}
 use Rattle.sts_look.specs.declared.asked.Asked.TheVariants as asked
+use Rattle.sts_look.specs.declared.program.Showing.{Showing}
+use Rattle.sts_look.specs.declared.program.Showing.TheVariants as showing
 
 -- what is shown of a file's text, or that memory or the file failed
 pub data IsOfText (Shows : List ℕ → Output → Type 0) (file : Option (List ℕ)) (o : Output) : Type 0
@@ -34,6 +36,12 @@ pub data IsOfTexts (Shows : List ℕ → List ℕ → Output → Type 0) (file t
       → IsTakenOf trace_file most_of_a_stream trace → Shows text trace o
       → IsOfTexts Shows file trace_file o
   failed : (e : TakeError) → o ≡ failure_output e → IsOfTexts Shows file trace_file o
+
+-- what is shown of a text and a trace
+abbrev pub Shows : Showing → List ℕ → List ℕ → Output → Type 0
+Shows (showing.View wanted) = IsViewOf wanted
+Shows showing.Run = IsRunExplanation
+Shows showing.Picture = IsPictureOf
 
 -- what is wrong with a file's text, or where its run stands after the trace that is named
 abbrev pub IsExplained : Files → Option (List ℕ) → Option (Bor Text) → Output → Type 0

@@ -3,10 +3,7 @@
 
 ghost use Rattle.std.specs.Prelude.{◌≡◌, IfOk, map};
 ghost use Rattle.sts_cli.specs.Output.{Output, Writes};
-ghost use Rattle.sts_draw.specs.Picture.{IsPictureOf};
 ghost use Rattle.sts_explain.specs.Output.{IsExplanation};
-ghost use Rattle.sts_explain_run.specs.Output.{IsRunExplanation};
-ghost use Rattle.sts_view.specs.View.{IsViewOf};
 ghost use Rattle.sts_look.specs.Ending as def;
 
 use crate::asked::Asked;
@@ -29,24 +26,49 @@ use sts_view::view::Wanted;
 /// The name that the program goes by.
 const NAME: &[u8] = b"look";
 
-/// What stands after a trace.
-fn on_view<S: Sources, W: Write>(
+/// What is shown of a text and a trace.
+#[derive(Clone, Copy)]
+enum Showing {
+    View(Wanted),
+    Run,
+    Picture,
+}
+
+fn show<W: Write>(
+    alloc: Global,
+    showing: Showing,
+    text: &[u8],
+    trace: &[u8],
+    out: &mut W,
+) -> Result<u8, WriteFailed>
+    ensures { IfOk result (λ s. (o : Output) × def.Shows showing text.now trace.now o
+        × Writes (W.contents out.old) (W.contents out.new) s o) }
+{
+    match showing {
+        Showing::View(wanted) => write_view(alloc, wanted, text, trace, out),
+        Showing::Run => explain_run(alloc, text, trace, out),
+        Showing::Picture => write_picture(alloc, text, trace, out),
+    }
+}
+
+/// The same of two files.
+fn on_texts<S: Sources, W: Write>(
     alloc: Global,
     sources: &S,
-    wanted: Wanted,
+    showing: Showing,
     path: &str,
     trace: &str,
     out: &mut W,
 ) -> Result<u8, WriteFailed>
     ensures { IfOk result (λ s. (o : Output)
-        × def.IsOfTexts (IsViewOf wanted) (S.held sources.now path.now)
+        × def.IsOfTexts (def.Shows showing) (S.held sources.now path.now)
         (S.held sources.now trace.now) o
         × Writes (W.contents out.old) (W.contents out.new) s o) }
 {
     match read_texts(alloc, sources, path, Some(trace)) {
-        Ok(texts) => write_view(
+        Ok(texts) => show(
             alloc,
-            wanted,
+            showing,
             texts.program.as_slice(),
             texts.events.as_slice(),
             out,
@@ -72,30 +94,6 @@ fn on_text<S: Sources, W: Write>(
     }
 }
 
-/// Where a run of a text stands after a trace.
-fn on_run<S: Sources, W: Write>(
-    alloc: Global,
-    sources: &S,
-    path: &str,
-    trace: &str,
-    out: &mut W,
-) -> Result<u8, WriteFailed>
-    ensures { IfOk result (λ s. (o : Output)
-        × def.IsOfTexts IsRunExplanation (S.held sources.now path.now)
-        (S.held sources.now trace.now) o
-        × Writes (W.contents out.old) (W.contents out.new) s o) }
-{
-    match read_texts(alloc, sources, path, Some(trace)) {
-        Ok(texts) => explain_run(
-            alloc,
-            texts.program.as_slice(),
-            texts.events.as_slice(),
-            out,
-        ),
-        Err(error) => failed(error, out),
-    }
-}
-
 /// What is wrong with a text, or where its run stands after a trace that is named.
 fn on_explain<S: Sources, W: Write>(
     alloc: Global,
@@ -110,31 +108,7 @@ fn on_explain<S: Sources, W: Write>(
 {
     match trace {
         None => on_text(alloc, sources, path, out),
-        Some(trace) => on_run(alloc, sources, path, trace, out),
-    }
-}
-
-/// A run as a picture.
-fn on_draw<S: Sources, W: Write>(
-    alloc: Global,
-    sources: &S,
-    path: &str,
-    trace: &str,
-    out: &mut W,
-) -> Result<u8, WriteFailed>
-    ensures { IfOk result (λ s. (o : Output)
-        × def.IsOfTexts IsPictureOf (S.held sources.now path.now)
-        (S.held sources.now trace.now) o
-        × Writes (W.contents out.old) (W.contents out.new) s o) }
-{
-    match read_texts(alloc, sources, path, Some(trace)) {
-        Ok(texts) => write_picture(
-            alloc,
-            texts.program.as_slice(),
-            texts.events.as_slice(),
-            out,
-        ),
-        Err(error) => failed(error, out),
+        Some(trace) => on_texts(alloc, sources, Showing::Run, path, trace, out),
     }
 }
 
@@ -154,9 +128,11 @@ fn on_line<S: Sources, W: Write>(
             file,
             trace,
             wanted,
-        } => on_view(alloc, sources, wanted, file, trace, out),
+        } => on_texts(alloc, sources, Showing::View(wanted), file, trace, out),
         Asked::Explain { file, trace } => on_explain(alloc, sources, file, trace, out),
-        Asked::Draw { file, trace } => on_draw(alloc, sources, file, trace, out),
+        Asked::Draw { file, trace } => {
+            on_texts(alloc, sources, Showing::Picture, file, trace, out)
+        }
     }
 }
 

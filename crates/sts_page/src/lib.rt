@@ -2,18 +2,20 @@
 #![tactic(auto)]
 
 ghost use Rattle.std.specs.Prelude.{[]};
-ghost use Rattle.sts_cli.specs.Output.{IsOutputOf, Output};
+ghost use Rattle.sts_cli.specs.Output.{IsOutputOf};
 ghost use Rattle.sts_draw.specs.Picture.{IsPictureOf};
 ghost use Rattle.sts_explain.specs.Output.{IsExplanation};
+ghost use Rattle.sts_explain_run.specs.Output.{IsRunExplanation};
 ghost use Rattle.sts_view.specs.View.{IsViewOf};
-ghost use Rattle.sts_page.specs.Handed.{IsHanded};
+ghost use Rattle.sts_page.specs.Handed.{Hands, IsHanded};
+ghost use Rattle.sts_page.specs.Printed.{Prints};
 
+mod printing;
+
+use crate::printing::{Asked, print};
 use std::alloc::Global;
 use sts_cli::mode::Mode;
-use sts_cli::play::{STATUS_OUTSIDE, play};
-use sts_draw::of_text::write_picture;
-use sts_explain::explain::explain;
-use sts_view::of_text::write_view;
+use sts_cli::play::STATUS_OUTSIDE;
 use sts_view::view::Wanted;
 
 /// What is printed where memory was refused.
@@ -34,25 +36,20 @@ fn hand(bytes: &[u8], status: u8, out: &mut [u8], size: &mut usize) -> u8
     status
 }
 
-/// What a mode prints of a text and a trace.
-fn played(
+/// Hands over what is printed.
+fn shown(
     alloc: Global,
-    mode: Mode,
+    asked: Asked,
     text: &[u8],
     trace: &[u8],
     out: &mut [u8],
     size: &mut usize,
 ) -> u8
-    ensures { (o : Output) × IsOutputOf mode text.now trace.now o
-        × IsHanded o.bytes o.status (record {
-          status = result;
-          size = size.new;
-          before = out.old;
-          after = out.new;
-        }) }
+    ensures { Hands (Prints asked text.now trace.now)
+        (record { status = result; size = size.new; before = out.old; after = out.new }) }
 {
     let mut printed = Vec::new(alloc);
-    match play(alloc, mode, text, trace, &mut printed) {
+    match print(alloc, asked, text, trace, &mut printed) {
         Ok(status) => hand(printed.as_slice(), status, out, size),
         Err(_) => hand(OUT_OF_MEMORY, STATUS_OUTSIDE, out, size),
     }
@@ -62,29 +59,19 @@ fn played(
 /// all; and the status.
 #[unsafe(no_mangle)]
 pub extern "C" fn sts_verify(alloc: Global, text: &[u8], out: &mut [u8], size: &mut usize) -> u8
-    ensures { (o : Output) × IsOutputOf Mode.Verify text.now [] o
-        × IsHanded o.bytes o.status (record {
-          status = result;
-          size = size.new;
-          before = out.old;
-          after = out.new;
-        }) }
+    ensures { Hands (IsOutputOf Mode.Verify text.now [])
+        (record { status = result; size = size.new; before = out.old; after = out.new }) }
 {
-    played(alloc, Mode::Verify, text, &[], out, size)
+    shown(alloc, Asked::Mode(Mode::Verify), text, &[], out, size)
 }
 
 /// What `sts list` prints, handed over as by `sts_verify`.
 #[unsafe(no_mangle)]
 pub extern "C" fn sts_list(alloc: Global, text: &[u8], out: &mut [u8], size: &mut usize) -> u8
-    ensures { (o : Output) × IsOutputOf Mode.List text.now [] o
-        × IsHanded o.bytes o.status (record {
-          status = result;
-          size = size.new;
-          before = out.old;
-          after = out.new;
-        }) }
+    ensures { Hands (IsOutputOf Mode.List text.now [])
+        (record { status = result; size = size.new; before = out.old; after = out.new }) }
 {
-    played(alloc, Mode::List, text, &[], out, size)
+    shown(alloc, Asked::Mode(Mode::List), text, &[], out, size)
 }
 
 /// What `sts plain` prints, handed over as by `sts_verify`.
@@ -96,15 +83,10 @@ pub extern "C" fn sts_plain(
     out: &mut [u8],
     size: &mut usize,
 ) -> u8
-    ensures { (o : Output) × IsOutputOf Mode.Plain text.now trace.now o
-        × IsHanded o.bytes o.status (record {
-          status = result;
-          size = size.new;
-          before = out.old;
-          after = out.new;
-        }) }
+    ensures { Hands (IsOutputOf Mode.Plain text.now trace.now)
+        (record { status = result; size = size.new; before = out.old; after = out.new }) }
 {
-    played(alloc, Mode::Plain, text, trace, out, size)
+    shown(alloc, Asked::Mode(Mode::Plain), text, trace, out, size)
 }
 
 /// What `look view` prints, with `--each` and `--full` as wanted, handed over as by `sts_verify`.
@@ -118,38 +100,41 @@ pub extern "C" fn sts_view(
     out: &mut [u8],
     size: &mut usize,
 ) -> u8
-    ensures { (o : Output)
-        × IsViewOf (record { each = each; full = full }) text.now trace.now o
-        × IsHanded o.bytes o.status (record {
-          status = result;
-          size = size.new;
-          before = out.old;
-          after = out.new;
-        }) }
+    ensures { Hands (IsViewOf (record { each = each; full = full }) text.now trace.now)
+        (record { status = result; size = size.new; before = out.old; after = out.new }) }
 {
-    let mut printed = Vec::new(alloc);
-    match write_view(alloc, Wanted { each, full }, text, trace, &mut printed) {
-        Ok(status) => hand(printed.as_slice(), status, out, size),
-        Err(_) => hand(OUT_OF_MEMORY, STATUS_OUTSIDE, out, size),
-    }
+    shown(
+        alloc,
+        Asked::View(Wanted { each, full }),
+        text,
+        trace,
+        out,
+        size,
+    )
 }
 
 /// Why a text is no program or a program is refused, handed over as by `sts_verify`.
 #[unsafe(no_mangle)]
 pub extern "C" fn sts_explain(alloc: Global, text: &[u8], out: &mut [u8], size: &mut usize) -> u8
-    ensures { (o : Output) × IsExplanation text.now o
-        × IsHanded o.bytes o.status (record {
-          status = result;
-          size = size.new;
-          before = out.old;
-          after = out.new;
-        }) }
+    ensures { Hands (IsExplanation text.now)
+        (record { status = result; size = size.new; before = out.old; after = out.new }) }
 {
-    let mut printed = Vec::new(alloc);
-    match explain(alloc, text, &mut printed) {
-        Ok(status) => hand(printed.as_slice(), status, out, size),
-        Err(_) => hand(OUT_OF_MEMORY, STATUS_OUTSIDE, out, size),
-    }
+    shown(alloc, Asked::Explanation, text, &[], out, size)
+}
+
+/// How a run stands after a trace, by the lines of the text, handed over as by `sts_verify`.
+#[unsafe(no_mangle)]
+pub extern "C" fn sts_explain_run(
+    alloc: Global,
+    text: &[u8],
+    trace: &[u8],
+    out: &mut [u8],
+    size: &mut usize,
+) -> u8
+    ensures { Hands (IsRunExplanation text.now trace.now)
+        (record { status = result; size = size.new; before = out.old; after = out.new }) }
+{
+    shown(alloc, Asked::RunExplanation, text, trace, out, size)
 }
 
 /// What `look draw` prints, handed over as by `sts_verify`.
@@ -161,17 +146,8 @@ pub extern "C" fn sts_draw(
     out: &mut [u8],
     size: &mut usize,
 ) -> u8
-    ensures { (o : Output) × IsPictureOf text.now trace.now o
-        × IsHanded o.bytes o.status (record {
-          status = result;
-          size = size.new;
-          before = out.old;
-          after = out.new;
-        }) }
+    ensures { Hands (IsPictureOf text.now trace.now)
+        (record { status = result; size = size.new; before = out.old; after = out.new }) }
 {
-    let mut printed = Vec::new(alloc);
-    match write_picture(alloc, text, trace, &mut printed) {
-        Ok(status) => hand(printed.as_slice(), status, out, size),
-        Err(_) => hand(OUT_OF_MEMORY, STATUS_OUTSIDE, out, size),
-    }
+    shown(alloc, Asked::Picture, text, trace, out, size)
 }

@@ -4,7 +4,7 @@ use Rattle.sts_cli.specs.Ending as cli
 use Rattle.sts_cli.specs.Output.{failure_output}
 use Rattle.sts_cli.specs.Taking.{IsTakenOf}
 use Rattle.sts_look.specs.Ending as def
-use Rattle.sts_look.proofs.program.on_draw.Goals as goal
+use Rattle.sts_look.proofs.program.on_texts.Goals as goal
 
 pub returns-in-Ok : goal.returns-in-Ok
 returns-in-Ok g c =
@@ -12,7 +12,7 @@ returns-in-Ok g c =
     let trace_file = g.S.Sources.held c.args.sources.now c.args.trace.now in
     let taken = subst (λ xs. IsTakenOf file cli.most_of_a_text xs) (sym c.as_slice.ensures.value) c.in-Ok.ensures.program in
     let traced = subst (λ xs. IsTakenOf trace_file cli.most_of_a_stream xs) (sym c.as_slice-in-Ok.ensures.value) c.in-Ok.ensures.events in
-    IfOk-weaker c.write_picture.result _ _ (λ s h. (h.0, def.shown _ _ taken traced h.1, h.2)) c.write_picture.ensures
+    IfOk-weaker c.show.result _ _ (λ s h. (h.0, def.shown _ _ taken traced h.1, h.2)) c.show.ensures
 
 pub returns-in-Err : goal.returns-in-Err
 returns-in-Err g c =
