@@ -112,6 +112,7 @@ impl<'p> Book<'p> {
     }
 
     /// A step of a task that can step and isn't out, recorded; else nothing.
+    #[inline(always)]
     pub fn turn(&mut self, task: u32) -> Turned
         ensures turned { result ≡ turned (may_turn self.old task) }
         ensures journal { may_turn self.old task ≡ true
@@ -137,6 +138,7 @@ impl<'p> Book<'p> {
     /// # Errors
     ///
     /// The journal has 4,096 of them: nothing changed.
+    #[inline(never)]
     pub fn outside(&mut self, event: Event) -> Result<Turned, OutsideFull>
         requires { IsOutside event }
         ensures full { IsErr result ↔ (outside_entries self.old.journal ≡ MAX_OUTSIDE) }

@@ -51,6 +51,7 @@ impl<'p> Ledger<'p> {
     }
 
     /// A step of a task that can step and isn't out; else nothing.
+    #[inline(always)]
     pub(crate) fn turn(&mut self, task: u32) -> Turned
         ensures { program_of self.new ≡ program_of self.old }
     {

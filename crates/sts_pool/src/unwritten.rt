@@ -96,6 +96,7 @@ impl<'p> Unwritten<'p> {
     }
 
     /// A step of a task that can step and isn't out; else nothing.
+    #[inline(always)]
     pub(crate) fn turn(&mut self, task: u32) -> Turned
         ensures { self.new.program ≡ self.old.program }
     {
@@ -106,6 +107,7 @@ impl<'p> Unwritten<'p> {
     }
 
     /// An interrupt or an expiry, unless it is full.
+    #[inline(never)]
     pub(crate) fn outside(&mut self, event: Event) -> Result<Turned, OutsideFull>
         requires { IsOutside event }
         ensures { self.new.program ≡ self.old.program }

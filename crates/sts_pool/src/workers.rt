@@ -75,6 +75,7 @@ struct Pool<'p, O, B: Runs> {
 
 impl<'p, O: Outside, B: Runs> Shared<'p, O, B> {
     /// Records outside events until there is none or the book is full.
+    #[inline(always)]
     fn ask(&mut self) {
         for _ in 0..MAX_OUTSIDE {
             if self.book.is_full() {
