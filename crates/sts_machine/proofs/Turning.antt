@@ -1,7 +1,9 @@
 -- What the laws of runs give a machine at an event.
-use Rattle.std.proofs.Common.{◌≡◌, ℕ, ◌+◌, ◌≤◌, List, [], ◌∷◌, ◌++◌, Bool, true, false, Option, Some, None, refl, sym, ◌∙◌, ap, subst, cond, arith}
+use Rattle.std.proofs.Common.{◌≡◌, ℕ, ◌+◌, ◌<◌, ◌≤◌, List, [], ◌∷◌, ◌++◌, length, Bool, true, false, Option, Some, None, refl, sym, ◌∙◌, ap, subst, cond, arith, get_or}
 use Rattle.std.specs.Prelude.{count_by, is_some}
 use Rattle.std.proofs.lemmas.Bool.{and_parts}
+use Rattle.std.proofs.lemmas.Option.{get_or_from_slice_get, slice_get_within}
+use Rattle.std.specs.List.{slice_get}
 use Rattle.std.proofs.lemmas.List.Sums.{sum_by-cons}
 use Rattle.sts_code.specs.Program.{Program}
 use Rattle.sts_code.specs.declared.instr.Instr.{Instr}
@@ -13,7 +15,7 @@ use Rattle.sts_model.specs.declared.event.Event.TheVariants as event
 use Rattle.sts_model.specs.declared.record.Frame.{Frame}
 use Rattle.sts_model.specs.Live.{Live, LiveTask}
 use Rattle.sts_model.specs.Run.{after, counts}
-use Rattle.sts_model.specs.World.{instr_at}
+use Rattle.sts_model.specs.World.{code, instr_at}
 use Rattle.sts_runs.specs.Runs.{In}
 use Rattle.sts_seen.specs.Effect.{live_effect}
 use Rattle.sts_seen.specs.Reading.{alive_at, lives_in, live_scope_at}
@@ -51,13 +53,16 @@ asked s u e f same is counts =
     subst (λ x. live_counts s.program s.live x ≡ true) is
     (subst (λ (x : Seen). live_counts x.program x.live e ≡ true) (sym same) counts)
 
--- the instruction that was looked up is the one that is next
-pub looked_up : (p q : Program) (f g : Frame) (o : Option Instr) (i : Instr) → q ≡ p → g ≡ f → o ≡ instr_at q g → instr_at p f ≡ Some i → o ≡ Some i
-looked_up p q f g o i same here is at = is ∙ ap (instr_at q) here ∙ ap (λ r. instr_at r f) same ∙ at
+-- the instruction at hand is the one that is next
+module _ (p q : Program) (f g : Frame) (xs : List Instr) (same : q ≡ p) (here : g ≡ f) (is : xs ≡ code q g) (next : (i : Instr) × (instr_at p f ≡ Some i)) where
+  got : slice_get xs g.pc ≡ Some next.0
+  got = ap (λ ys. slice_get ys g.pc) is ∙ ap (instr_at q) here ∙ ap (λ r. instr_at r f) same ∙ next.1
 
-pub is_next : (p q : Program) (f g : Frame) (o : Option Instr) (i : Instr) → q ≡ p → g ≡ f → o ≡ instr_at q g → o ≡ Some i → instr_at p f ≡ Some i
-is_next p q f g o i same here is some =
-    ap (λ r. instr_at r f) (sym same) ∙ ap (instr_at q) (sym here) ∙ sym is ∙ some
+  pub within : g.pc < length xs
+  within = slice_get_within xs g.pc next.0 got
+
+  pub at_hand : (d : Instr) → instr_at p f ≡ Some (get_or xs g.pc d)
+  at_hand d = next.1 ∙ ap (λ i. Some i) (sym (get_or_from_slice_get xs g.pc next.0 d got))
 
 -- a step of a task that can step
 pub stepped : (p : Program) (v : Live) (t : ℕ) (i : Instr) → live_can_step p v t ≡ true → instr_at p (alive_at v t).frame ≡ Some i → live_apply p v (event.Step t) ≡ live_effect p v t (alive_at v t).frame i

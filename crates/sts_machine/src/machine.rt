@@ -23,7 +23,7 @@ use crate::perform::perform;
 use crate::turned::Turned;
 use std::alloc::{AllocError, Global};
 use std::marker::Model;
-use sts_frames::code::{code, instr_at};
+use sts_frames::code::code;
 use sts_model::event::{End, Event};
 use sts_seen::run_is_seen;
 use sts_store::store::{Room, Store};
@@ -116,8 +116,8 @@ impl<'p> Machine<'p> {
             Event::Step(t) => {
                 let frame = self.store.frame(t);
                 let code = code(program, frame);
-                let instr = instr_at(program, frame).unwrap();
-                perform(&mut self.store, program, code, t, &instr);
+                let instr = &code[frame.pc as usize];
+                perform(&mut self.store, program, code, t, instr);
                 self.steps += 1;
             }
             Event::Interrupt(t) => interrupt(&mut self.store, program, t),

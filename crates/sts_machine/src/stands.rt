@@ -13,7 +13,7 @@ ghost use Rattle.sts_views.specs.Order.{InOrder};
 use crate::slots::slot;
 use sts_code::instr::Instr;
 use sts_code::program::Program;
-use sts_frames::code::instr_at;
+use sts_frames::code::code;
 use sts_model::event::Stand;
 use sts_model::record::Slot;
 use sts_store::store::Store;
@@ -51,9 +51,9 @@ fn stand_at(store: &Store, program: &Program, t: u32) -> Stand
     ensures { result ≡ live_stand_at program.now (live_of store.now) t }
 {
     let frame = store.frame(t);
-    match instr_at(program, frame) {
-        Some(Instr::Join { slot: x, .. }) => stands_at_join(slot(frame, x)),
-        Some(Instr::Close(x)) => stands_at_close(store, slot(frame, x)),
+    match code(program, frame).get(frame.pc as usize) {
+        Some(Instr::Join { slot: x, .. }) => stands_at_join(slot(frame, *x)),
+        Some(Instr::Close(x)) => stands_at_close(store, slot(frame, *x)),
         _ => Stand::Free,
     }
 }

@@ -4,6 +4,7 @@ ghost use Rattle.std.specs.Prelude.{◌≡◌, ◌≢◌, ℕ, ◌+◌, ◌≤�
 ghost use Rattle.std.specs.Prelude.{IfSome, IfNone, IsErr, IsOk, IsTrue, true, false, filter, not, ◌==◌};
 ghost use Rattle.std.specs.Prelude.{MatchBool, count_by};
 ghost use Rattle.std.specs.Prelude.{vec_len, vec_capacity};
+ghost use Rattle.std.specs.List.{list_any};
 ghost use Rattle.sts_machine.specs.Machine.{Stands};
 ghost use Rattle.sts_machine.specs.Slice.{steps_of};
 ghost use Rattle.sts_machine.specs.Turned.{Picks, turned};
@@ -121,7 +122,7 @@ impl<'p> Book<'p> {
         ensures program { self.new.program ≡ self.old.program }
         ensures out { self.new.out ≡ self.old.out }
     {
-        if self.out.contains(&task) {
+        if is_among(self.out.as_slice(), task) {
             return Turned::Idle;
         }
         match self.machine.turn(Event::Step(task)) {
@@ -265,6 +266,14 @@ impl<'p> Book<'p> {
     {
         self.outside >= MAX_OUTSIDE
     }
+}
+
+/// Is the task in the list? Most often nothing is.
+#[inline(always)]
+pub(crate) fn is_among(out: &[u32], task: u32) -> bool
+    ensures { result ≡ list_any (λ o. o == task) out.now }
+{
+    !out.is_empty() && out.contains(&task)
 }
 
 /// As many steps of a task, at the end of a journal.

@@ -5,7 +5,7 @@ ghost use Rattle.sts_pool.specs.Outside.{IsOutside};
 ghost use Rattle.sts_pool.specs.Report.{IsEnding};
 ghost use Rattle.sts_seen.specs.Waiting.{live_can_step};
 
-use crate::book::{OutsideFull, forget};
+use crate::book::{OutsideFull, forget, is_among};
 use crate::report::{Ending, PoolError};
 use std::alloc::{AllocError, Global};
 use std::marker::Model;
@@ -100,7 +100,7 @@ impl<'p> Unwritten<'p> {
     pub(crate) fn turn(&mut self, task: u32) -> Turned
         ensures { self.new.program ≡ self.old.program }
     {
-        if self.out.contains(&task) {
+        if is_among(self.out.as_slice(), task) {
             return Turned::Idle;
         }
         self.machine.turn(Event::Step(task))

@@ -11,6 +11,7 @@ use crate::ledger::Ledger;
 use crate::report::{Ending, PoolError, Report};
 use crate::unwritten::Unwritten;
 use std::alloc::Global;
+use std::hint::spin_loop;
 use std::marker::{Brand, PhantomData};
 use std::sync::{Condvar, Mutex, MutexGuard, Wait};
 use std::thread;
@@ -31,6 +32,12 @@ const WORTH: u32 = 512;
 
 /// So many tasks are claimed by several workers at once, until a slice is worth it again.
 const TRIES: u32 = 64;
+
+/// So often a worker that finds no task looks again before it waits: to be woken costs more.
+const LOOKS: u32 = 64;
+
+/// How long it pauses between two looks.
+const PAUSE: u32 = 128;
 
 /// The bytes of a worker's stack.
 pub(crate) const STACK: usize = 1 << 20;
@@ -145,10 +152,18 @@ fn turns_after(done: u32, before: u32) -> u32 {
     }
 }
 
+/// Lets some time pass, with no lock held.
+fn pause() {
+    for _ in 0..PAUSE {
+        spin_loop();
+    }
+}
+
 impl<'p, O: Outside, B: Runs> Pool<'p, O, B> {
     /// A task to work on, or none where the worker is to end.
     fn find<'b, R: Wait>(&'b self, rt: &R, guard: MutexGuard<'b, Shared<'p, O, B>>) -> Option<u32> {
         let mut guard = guard;
+        let mut looks = LOOKS;
         for _ in rt.forever() {
             let shared = &mut *guard;
             shared.ask();
@@ -162,9 +177,17 @@ impl<'p, O: Outside, B: Runs> Pool<'p, O, B> {
                 }
                 return Some(task);
             }
+            if shared.tries > 0 && looks > 0 {
+                looks -= 1;
+                drop(guard);
+                pause();
+                guard = self.shared.lock(rt);
+                continue;
+            }
             shared.awake = shared.awake.saturating_sub(1);
             guard = self.woken.wait(rt, guard);
             guard.awake = guard.awake.saturating_add(1);
+            looks = LOOKS;
         }
         unreachable!()
     }

@@ -21,3 +21,4 @@ pub mod BindingLemmas
 pub mod Stands
 pub mod CloseLemmas
 pub mod Gone
+pub mod Clearing

@@ -1,7 +1,13 @@
--- What becomes of what the view doesn't show, when a scope is closed (this project's own).
-use Rattle.std.specs.Prelude.{ℕ, ◌+◌, List, [], ◌∷◌, Option, Some, None, if◌then◌else◌}
+-- What becomes of what the view doesn't show, when a scope is closed, and which slots are emptied
+-- (this project's own).
+use Rattle.std.specs.Prelude.{ℕ, ◌+◌, ◌==◌, List, [], ◌∷◌, map, Bool, false, Option, Some, None}
+use Rattle.std.specs.Prelude.{if◌then◌else◌, slice_index_or}
+use Rattle.sts_env.specs.declared.env.Env.{Env}
+use Rattle.sts_forest.specs.Forest.{Forest}
 use Rattle.sts_model.specs.declared.event.Stand.{Stand}
 use Rattle.sts_model.specs.declared.event.Stand.TheVariants.{Free, AtClose}
+use Rattle.sts_model.specs.declared.record.Slot.{Slot}
+use Rattle.sts_model.specs.declared.record.Slot.TheVariants.{Empty, Own, Sub}
 use Rattle.sts_model.specs.Living.{is_in}
 use Rattle.sts_model.specs.Live.{Live, LiveTask}
 use Rattle.sts_seen.specs.Reading.{live_any_lives, live_count}
@@ -33,3 +39,18 @@ close_unseen v u t s =
     if live_any_lives v s
     then stood_unseen u t (AtClose s)
     else gone_unseen v (stood_unseen u t Free) s
+
+-- ---- slots, by the records that stand
+
+-- the scope that a task is a subtask of
+abbrev pub home_in : Forest Env → ℕ → Option ℕ
+home_in f t = elim (slice_index_or f.tasks t None) [ None ↦ None | Some x ↦ x.scope ]
+
+-- does a slot name the scope or one of its subtasks?
+abbrev pub is_slot_of : Forest Env → ℕ → Slot → Bool
+is_slot_of f s (Own r) = r == s
+is_slot_of f s (Sub t) = is_in s (home_in f t)
+is_slot_of f s _ = false
+
+abbrev pub slots_cleared : Forest Env → ℕ → List Slot → List Slot
+slots_cleared f s slots = map (λ x. if is_slot_of f s x then Empty else x) slots

@@ -5,53 +5,53 @@ ghost use Rattle.sts_model.specs.Misuse.{innermost, is_entry_of};
 ghost use Rattle.sts_model.specs.declared.event.Phase.TheVariants.{Closing};
 ghost use Rattle.sts_model.specs.declared.event.Stand.TheVariants.{AtClose, Free};
 ghost use Rattle.sts_seen.specs.Cancelling.{live_cancel};
-ghost use Rattle.sts_seen.specs.Effect.{is_live_of, live_cleared, live_close, live_closed};
-ghost use Rattle.sts_seen.specs.Reading.{live_any_lives, live_task_at, lives_in, scope_in};
+ghost use Rattle.sts_seen.specs.Effect.{live_close, live_closed};
+ghost use Rattle.sts_seen.specs.Reading.{live_any_lives, lives_in, scope_in};
 ghost use Rattle.sts_seen.specs.Reading.{with_live_phase};
-ghost use Rattle.sts_store.specs.Closing.{close_unseen, gone_unseen};
+ghost use Rattle.sts_store.specs.Closing.{close_unseen, gone_unseen, home_in, is_slot_of};
+ghost use Rattle.sts_store.specs.Closing.{slots_cleared};
 ghost use Rattle.sts_store.specs.Parts.{frame_of, live_of, stand_in, stood_unseen, unseen_of};
 ghost use Rattle.sts_views.specs.Order.{InOrder, IsOwned};
 
 use crate::store::Store;
 use sts_cancel::cancel::cancel;
-use sts_frames::steps::leave_scope;
+use sts_env::env::Env;
+use sts_frames::steps::leave_entry;
 use sts_model::event::{Phase, Stand};
 use sts_model::record::Slot;
+use sts_tree::tree::Tree;
 
-impl Store {
-    /// The scope that a task is a subtask of, if it stands and has one.
-    fn home(&self, t: u32) -> Option<u32>
-        ensures { result ≡ (live_task_at (live_of self.now) t).scope }
-    {
-        match self.tree.task(t) {
-            None => None,
-            Some(task) => task.scope,
-        }
+/// The scope that a task is a subtask of, if it stands and has one.
+fn home(tree: &Tree<Env>, t: u32) -> Option<u32>
+    ensures { result ≡ home_in tree.now t }
+{
+    match tree.task(t) {
+        None => None,
+        Some(task) => task.scope,
     }
+}
 
-    /// Does the slot own the scope, or name a subtask of it?
-    fn is_of(&self, s: u32, slot: Slot) -> bool
-        ensures { result ≡ is_live_of (live_of self.now) s slot }
-    {
-        match slot {
-            Slot::Own(r) => r == s,
-            Slot::Sub(t) => self.home(t) == Some(s),
-            _ => false,
-        }
+/// Does the slot own the scope, or name a subtask of it?
+fn is_of(tree: &Tree<Env>, s: u32, slot: Slot) -> bool
+    ensures { result ≡ is_slot_of tree.now s slot }
+{
+    if let Slot::Own(r) = slot {
+        return r == s;
     }
+    if let Slot::Sub(t) = slot {
+        return home(tree, t) == Some(s);
+    }
+    false
+}
 
-    /// The slots of a living task, those emptied that own the scope or name a subtask of it.
-    fn cleared(&self, t: u32, s: u32) -> [Slot; 16]
-        requires { lives_in (live_of self.now) t ≡ true }
-        ensures { result ≡ live_cleared (live_of self.now) s (frame_of self.now t).slots }
-    {
-        let mut slots = self.frame(t).slots;
-        for x in slots.iter_mut() {
-            if self.is_of(s, *x) {
-                *x = Slot::Empty;
-            }
+/// Empties the slots that own the scope or name a subtask of it.
+fn clear(slots: &mut [Slot; 16], tree: &Tree<Env>, s: u32)
+    ensures { slots.new ≡ slots_cleared tree.now s slots.old }
+{
+    for x in slots.iter_mut() {
+        if is_of(tree, s, *x) {
+            *x = Slot::Empty;
         }
-        slots
     }
 }
 
@@ -91,9 +91,10 @@ impl Store {
         ensures unseen { unseen_of self.new
             ≡ gone_unseen (live_of self.old) (unseen_of self.old) s }
     {
-        let slots = self.cleared(t, s);
+        let frame = &mut self.frames.at(t as usize).frame;
+        clear(&mut frame.slots, &self.tree, s);
+        leave_entry(frame);
         self.tree.close_scope(s);
-        leave_scope(&mut self.frames.at(t as usize).frame, slots);
     }
 
     /// Ends a close.

@@ -6,10 +6,10 @@ use Rattle.sts_pool.specs.Book.{BookSeen, is_out, may_turn}
 use Rattle.sts_pool.proofs.Books.{entries_fit, idle_from, idle_no_turn, out_no_turn, room_kept, stepped_book, stepped_from, still_entries_one, turns}
 use Rattle.sts_pool.proofs.book.Book.turn.Goals as goal
 
-pub returns-then-contains-clause-journal : goal.returns-then-contains-clause-journal
-returns-then-contains-clause-journal c =
+pub returns-then-is_among-clause-journal : goal.returns-then-is_among-clause-journal
+returns-then-is_among-clause-journal c =
     let t = c.args.task in
-    let out : list_any (λ o. o == t) c.self.inside.out.items ≡ true = rw (← c.deref.ensures.value) (sym c.contains.ensures.value ∙ c.if-contains.true) in
+    let out : list_any (λ o. o == t) c.self.inside.out.items ≡ true = rw (← c.as_slice.ensures.value) (sym c.is_among.ensures ∙ c.if-is_among.true) in
     let none = out_no_turn c.args.self.now t (subst (λ (b : BookSeen). is_out b t ≡ true) c.self.view_is out) in
     λ may. absurd (cc)
 
@@ -21,7 +21,7 @@ push_reserved-requires c =
     let out = c.self.inside.out.items in
     let room = c.self.invariant.2 in
     let turn = c.turn.ensures in
-    let absent : list_any (λ o. o == t) out ≡ false = rw (← c.deref.ensures.value) (sym c.contains.ensures.value ∙ c.if-contains.false) in
+    let absent : list_any (λ o. o == t) out ≡ false = rw (← c.as_slice.ensures.value) (sym c.is_among.ensures ∙ c.if-is_among.false) in
     let can : live_can_step m.program m.live t ≡ true = stepped_from _ (sym c.in-Stepped.is ∙ turn.answer) in
     let b = stepped_book m c.turn.new.self journal out t c.self.invariant.0 room.stay turn.stands turn.live turn.steps can absent in
     let fits = entries_fit m c.turn.new.self journal (event.Step t ∷ []) out _ _ turn.program room b in
@@ -36,7 +36,7 @@ invariant_of-self-in-Stepped c =
     let out = c.self.inside.out.items in
     let room = c.self.invariant.2 in
     let turn = c.turn.ensures in
-    let absent : list_any (λ o. o == t) out ≡ false = rw (← c.deref.ensures.value) (sym c.contains.ensures.value ∙ c.if-contains.false) in
+    let absent : list_any (λ o. o == t) out ≡ false = rw (← c.as_slice.ensures.value) (sym c.is_among.ensures ∙ c.if-is_among.false) in
     let can : live_can_step m.program m.live t ≡ true = stepped_from _ (sym c.in-Stepped.is ∙ turn.answer) in
     let b = stepped_book m c.turn.new.self journal out t c.self.invariant.0 room.stay turn.stands turn.live turn.steps can absent in
     let there = room_kept m.program c.turn.new.self.program _ _ _ _ turn.program (omega arith) (omega arith) room in
@@ -54,7 +54,7 @@ pub returns-in-Stepped-clause-idle : goal.returns-in-Stepped-clause-idle
 returns-in-Stepped-clause-idle c =
     let m = c.self.inside.machine in
     let t = c.args.task in
-    let absent : list_any (λ o. o == t) c.self.inside.out.items ≡ false = rw (← c.deref.ensures.value) (sym c.contains.ensures.value ∙ c.if-contains.false) in
+    let absent : list_any (λ o. o == t) c.self.inside.out.items ≡ false = rw (← c.as_slice.ensures.value) (sym c.is_among.ensures ∙ c.if-is_among.false) in
     let can : live_can_step m.program m.live t ≡ true = stepped_from _ (sym c.in-Stepped.is ∙ c.turn.ensures.answer) in
     let may : may_turn c.args.self.now t ≡ true =
     turns c.args.self.now t (subst (λ (b : BookSeen). live_can_step b.program b.machine.live t ≡ true) c.self.view_is can)

@@ -11,6 +11,7 @@ use Rattle.sts_store.specs.declared.running.Running.{Running}
 use Rattle.sts_env.specs.declared.env.Env.{Env}
 use Rattle.sts_forest.specs.Forest.{Forest}
 use Rattle.sts_store.proofs.Views.{some_not, with_running}
+use Rattle.sts_store.proofs.Clearing.{cleared_seen}
 use Rattle.sts_store.proofs.CloseLemmas.{gone_on}
 use Rattle.sts_store.proofs.Gone.{leaves, scope, none_left, free, gone_live, gone_rest, gone_kept}
 use Rattle.sts_store.proofs.Writing.{has_frame, at_hand, frame_is}
@@ -41,8 +42,8 @@ at-requires c =
     let k = leaves m c.args.self.now c.self.invariant c.self.view_is c.args.t c.args.s c.requires.lives c.requires.order c.requires.entry c.requires.ended in
     has_frame k.lived
 
-pub leave_scope-requires : goal.leave_scope-requires
-leave_scope-requires c =
+pub leave_entry-requires : goal.leave_entry-requires
+leave_entry-requires c =
     let m = the_view c.self.inside in
     let k = leaves m c.args.self.now c.self.invariant c.self.view_is c.args.t c.args.s c.requires.lives c.requires.order c.requires.entry c.requires.ended in
     at_hand m c.args.self.now c.args.t c.at.result.now k.lived c.at.ensures.value c.self.view_is (λ f. f.pc + 1 < 2 ^ 32) c.requires.more
@@ -53,8 +54,8 @@ invariant_of-self c =
     let t = c.args.t in
     let k = leaves m c.args.self.now c.self.invariant c.self.view_is t c.args.s c.requires.lives c.requires.order c.requires.entry c.requires.ended in
     let r = c.at.result.now in
-    subst (λ (f : Forest Env). IsStore (with_running (record m { tree = f }) t (record r { frame = c.leave_scope.new.frame }) m.chains)) (sym c.close_scope.ensures)
-    (gone_kept m t c.args.s k r c.leave_scope.new.frame c.at.ensures.value (ap (λ (f : Frame). f.entries) c.leave_scope.ensures))
+    subst (λ (f : Forest Env). IsStore (with_running (record m { tree = f }) t (record r { frame = c.leave_entry.new.frame }) m.chains)) (sym c.close_scope.ensures)
+    (gone_kept m t c.args.s k r c.leave_entry.new.frame c.at.ensures.value (ap (λ (f : Frame). f.entries) c.leave_entry.ensures))
 
 pub returns-clause-live : goal.returns-clause-live
 returns-clause-live c =
@@ -65,13 +66,20 @@ returns-clause-live c =
     let k = leaves m now c.self.invariant c.self.view_is t s c.requires.lives c.requires.order c.requires.entry c.requires.ended in
     let r = c.at.result.now in
     let slots = live_cleared (live_of now) s (frame_of now t).slots in
-    let frame : c.leave_scope.new.frame ≡ gone_on (frame_of now t) slots =
-    c.leave_scope.ensures
-    ∙ ap (gone_on r.frame) c.cleared-slots.ensures
-    ∙ ap (λ f. gone_on f slots) (sym (frame_is m now t r k.lived c.at.ensures.value c.self.view_is))
+    let same = sym (frame_is m now t r k.lived c.at.ensures.value c.self.view_is) in
+    let cleared : c.clear.new.slots ≡ slots =
+    c.clear.ensures
+    ∙ cleared_seen m s r.frame.slots
+    ∙ ap (λ n. live_cleared (live_of n) s r.frame.slots) c.self.view_is
+    ∙ ap (λ (f : Frame). live_cleared (live_of now) s f.slots) same
     in
-    ap (λ (f : Forest Env). live_of (with_running (record m { tree = f }) t (record r { frame = c.leave_scope.new.frame }) m.chains)) c.close_scope.ensures
-    ∙ gone_live m t s k r c.leave_scope.new.frame c.at.ensures.value
+    let frame : c.leave_entry.new.frame ≡ gone_on (frame_of now t) slots =
+    c.leave_entry.ensures
+    ∙ ap (gone_on r.frame) cleared
+    ∙ ap (λ f. gone_on f slots) same
+    in
+    ap (λ (f : Forest Env). live_of (with_running (record m { tree = f }) t (record r { frame = c.leave_entry.new.frame }) m.chains)) c.close_scope.ensures
+    ∙ gone_live m t s k r c.leave_entry.new.frame c.at.ensures.value
     ∙ ap (with_live_frame (live_gone (live_of m) s) t) frame
     ∙ ap (λ n. with_live_frame (live_gone (live_of n) s) t (gone_on (frame_of now t) slots)) c.self.view_is
 
@@ -81,7 +89,7 @@ returns-clause-unseen c =
     let t = c.args.t in
     let s = c.args.s in
     let k = leaves m c.args.self.now c.self.invariant c.self.view_is t s c.requires.lives c.requires.order c.requires.entry c.requires.ended in
-    let q : Running = record c.at.result.now { frame = c.leave_scope.new.frame } in
+    let q : Running = record c.at.result.now { frame = c.leave_entry.new.frame } in
     ap (λ (f : Forest Env). unseen_of (with_running (record m { tree = f }) t q m.chains)) c.close_scope.ensures
     ∙ gone_rest m t s k q
     ∙ ap (λ n. gone_unseen (live_of n) (unseen_of n) s) c.self.view_is
