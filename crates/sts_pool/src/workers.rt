@@ -22,7 +22,7 @@ use sts_machine::turned::Turned;
 use sts_verify::verified::Verified;
 
 /// As many local instructions as a worker does at most with no lock held.
-const AT_ONCE: u32 = 4096;
+const AT_ONCE: u32 = 65_536;
 
 /// After so many steps in a row a task's slice is taken.
 const IN_A_ROW: u32 = 16;
