@@ -5,3 +5,5 @@ pub mod TellLemmas
 pub mod PlaceLemmas
 pub mod ForwardLemmas
 pub mod MeetingLemmas
+pub mod FullLemmas
+pub mod PartLemmas

@@ -15,8 +15,9 @@ use Rattle.sts_weights.specs.Heavy.{IsHeavy}
 use Rattle.sts_explain.specs.Weights.{weight_lines}
 use Rattle.sts_explain.specs.declared.ways.Meeting.{Meeting}
 use Rattle.sts_explain.specs.Ways.{Meets}
-use Rattle.sts_explain.specs.Differences.{difference_lines}
+use Rattle.sts_explain.specs.Differences.{difference_lines, SaysDifferences}
 use Rattle.sts_explain.specs.Output.{Tells, told, meets, weighs, none}
+use Rattle.sts_explain.proofs.PartLemmas.{some_differ}
 
 pub nothing_told : (p : Program) (o : Outline) (f pc : ℕ) (c : Cause) (before : List ℕ) → c ≢ StatesDiffer → Tells p o f pc c before before
 nothing_told p o f pc c before other = told [] (none other) (sym (append-nil before))
@@ -33,8 +34,8 @@ pub type_refusal : (p : Program) (f pc : ℕ) (c : Cause) → c ≡ StatesDiffer
 type_refusal p f pc c e (ill_typed r) = subst (λ (x : Cause). IsTypeRefusal p f pc x) e r
 type_refusal p f pc c e (too_much earlier typed long right excess) = absurd (subst (λ (x : Cause). Exceeds earlier (routine p f).code x) e excess.0)
 
-pub meeting_told : (p : Program) (o : Outline) (f pc : ℕ) (m : Meeting) (before after : List ℕ) → Meets p f pc m → after ≡ before ++ difference_lines o p f m → Tells p o f pc StatesDiffer before after
-meeting_told p o f pc m before after is e = told (difference_lines o p f m) (meets m is) e
+pub meeting_told : (p : Program) (o : Outline) (f pc : ℕ) (m : Meeting) (before after : List ℕ) → Meets p f pc m → SaysDifferences o p f m before after → Tells p o f pc StatesDiffer before after
+meeting_told p o f pc m before after is h = told (difference_lines o p f m h.found) (meets m h.found is (some_differ p f pc m h.found is h.differ)) h.said
 
 pub heavy_told : (p : Program) (o : Outline) (f pc : ℕ) (k : Resource) (h : Heavy) (before after : List ℕ) → IsHeavy p f k h → after ≡ before ++ weight_lines o f k h → Tells p o f pc (cause_of k) before after
 heavy_told p o f pc k h before after is e = told (weight_lines o f k h) (weighs k h refl is) e

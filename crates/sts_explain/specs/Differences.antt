@@ -1,5 +1,5 @@
 -- What differs between two ways that meet, part by part (this project's own).
-use Rattle.std.specs.Prelude.{ℕ, List, [], ◌∷◌, ◌++◌, Bool, ◌==◌, ◌&&◌, ◌||◌, Option, Some, None, is_some, if◌then◌else◌, codes, bytes_eq}
+use Rattle.std.specs.Prelude.{◌≡◌, ◌≢◌, ℕ, List, [], ◌∷◌, ◌++◌, map, Bool, ◌==◌, ◌&&◌, ◌||◌, Option, Some, None, is_some, if◌then◌else◌, codes}
 use Rattle.std.specs.List.{flat_map, range_with_len}
 use Rattle.std.specs.Fmt.{decimal}
 use Rattle.sts_code.specs.Program.{Program, routine, instr_at}
@@ -24,7 +24,35 @@ use Rattle.sts_explain.specs.declared.ways.Meeting.{Meeting}
 use Rattle.sts_explain.specs.declared.parts.Part.{Part}
 use Rattle.sts_explain.specs.declared.parts.Part.TheVariants.{Operands, Loops, Open, Slot}
 
--- ---- the parts of a typestate, each word after a space
+-- ---- the parts in which two typestates differ
+
+-- the two are the same in this part
+abbrev pub IsSamePart : Part → TypeState → TypeState → Type 0
+IsSamePart Operands a b = a.height ≡ b.height
+IsSamePart Loops a b = a.loops ≡ b.loops
+IsSamePart Open a b = a.entries ≡ b.entries
+IsSamePart (Slot x) a b = kind a x ≡ kind b x
+
+-- of some parts those in which the two differ, in order: all of these, and no other
+pub data Differing (a b : TypeState) : List Part → List Part → Type 0 where
+  none : Differing a b [] []
+  same : (part : Part) {parts found : List Part} → IsSamePart part a b → Differing a b parts found → Differing a b (part ∷ parts) found
+  differs : (part : Part) {parts found : List Part} → ¬ IsSamePart part a b → Differing a b parts found → Differing a b (part ∷ parts) (part ∷ found)
+
+-- so many slots
+unfoldable pub slots : ℕ → List Part
+slots count = map Slot (range_with_len 0 count)
+
+-- a typestate as a whole
+unfoldable pub all_parts : List Part
+all_parts = Operands ∷ Loops ∷ Open ∷ slots 16
+
+-- the parts in which the two differ: there is one at least
+pub record AreDifferences (a b : TypeState) (parts : List Part) : Type 0 where
+  pub each : Differing a b all_parts parts
+  pub some : parts ≢ []
+
+-- ---- the parts of a typestate in words, each after a space
 
 -- what is known of the state of a subtask
 abbrev pub known_word : Known → List ℕ
@@ -112,21 +140,28 @@ origin_words o p f (Turn pc) = codes "the turn that ends at " ++ place_name (sen
 abbrev pub side : List ℕ → List ℕ → List ℕ
 side words way = words ++ codes " on the way from " ++ way
 
--- `slot s1: success, of s0 on the way from line 12; failed, of s0 on the way from line 15`, where they differ
+-- `slot s1: success, of s0 on the way from line 12; failed, of s0 on the way from line 15`
 abbrev pub difference : List ℕ → List ℕ → List ℕ → List ℕ → List ℕ → List ℕ
-difference name a one b other = if bytes_eq a b then [] else (name ++ codes ":" ++ side a one ++ codes ";" ++ side b other ++ codes "\n")
+difference name a one b other = name ++ codes ":" ++ side a one ++ codes ";" ++ side b other ++ codes "\n"
 
 -- the line of a part; the two ways go by these names
 unfoldable pub part_line : Meeting → List ℕ → List ℕ → Part → List ℕ
 part_line m one other part = difference (part_name part) (part_words part m.one.state) one (part_words part m.other.state) other
 
--- the lines of so many slots
-abbrev pub slot_lines : Meeting → List ℕ → List ℕ → ℕ → List ℕ
-slot_lines m one other count = flat_map (λ x. part_line m one other (Slot x)) (range_with_len 0 count)
+-- a line for each of these parts
+abbrev pub part_lines : Meeting → List ℕ → List ℕ → List Part → List ℕ
+part_lines m one other parts = flat_map (part_line m one other) parts
 
-unfoldable pub part_lines : Meeting → List ℕ → List ℕ → List ℕ
-part_lines m one other = part_line m one other Operands ++ part_line m one other Loops ++ part_line m one other Open ++ slot_lines m one other 16
+-- the ways go by the places that they come from
+abbrev pub difference_lines : Outline → Program → ℕ → Meeting → List Part → List ℕ
+difference_lines o p f m parts = part_lines m (origin_words o p f m.one.origin) (origin_words o p f m.other.origin) parts
 
--- a line for each part in which the typestates of the two ways differ
-abbrev pub difference_lines : Outline → Program → ℕ → Meeting → List ℕ
-difference_lines o p f m = part_lines m (origin_words o p f m.one.origin) (origin_words o p f m.other.origin)
+-- what was said before, and then a line for each of these parts in which the typestates of the two ways differ
+pub record SaysParts (m : Meeting) (one other : List ℕ) (parts : List Part) (before after : List ℕ) : Type 0 where
+  pub found : List Part
+  pub differ : Differing m.one.state m.other.state parts found
+  pub said : after ≡ before ++ part_lines m one other found
+
+-- what was said before, and then a line for each part in which they differ
+abbrev pub SaysDifferences : Outline → Program → ℕ → Meeting → List ℕ → List ℕ → Type 0
+SaysDifferences o p f m before after = SaysParts m (origin_words o p f m.one.origin) (origin_words o p f m.other.origin) all_parts before after

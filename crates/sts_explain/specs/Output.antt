@@ -10,8 +10,9 @@ use Rattle.sts_rules.specs.Refusal.{IsAccepted, IsRefusal}
 use Rattle.sts_rules.specs.declared.typing.Cause.{Cause}
 use Rattle.sts_rules.specs.declared.typing.Cause.TheVariants.{StatesDiffer}
 use Rattle.sts_explain.specs.declared.ways.Meeting.{Meeting}
+use Rattle.sts_explain.specs.declared.parts.Part.{Part}
 use Rattle.sts_explain.specs.Ways.{Meets}
-use Rattle.sts_explain.specs.Differences.{difference_lines}
+use Rattle.sts_explain.specs.Differences.{AreDifferences, difference_lines}
 use Rattle.sts_explain.specs.Lines.{refused_lines, fault_lines}
 use Rattle.sts_explain.specs.Weights.{weight_lines}
 use Rattle.sts_budget.specs.declared.change.Resource.{Resource}
@@ -27,9 +28,10 @@ fault_output e text = record { bytes = fault_lines e text; status = 3 }
 
 -- ---- refusals
 
--- what is told beside the cause: where two ways differ, always if that is why; or what weighs too much, if that is why
+-- what is told beside the cause: the parts in which two ways that meet differ, always if that is why, and then one part at least; or what
+-- weighs too much, if that is why
 pub data IsDetail (p : Program) (o : Outline) (f pc : ℕ) : Cause → List ℕ → Type 0 where
-  meets : (m : Meeting) → Meets p f pc m → IsDetail p o f pc StatesDiffer (difference_lines o p f m)
+  meets : (m : Meeting) (parts : List Part) → Meets p f pc m → AreDifferences m.one.state m.other.state parts → IsDetail p o f pc StatesDiffer (difference_lines o p f m parts)
   weighs : (k : Resource) (h : Heavy) {c : Cause} → c ≡ cause_of k → IsHeavy p f k h → IsDetail p o f pc c (weight_lines o f k h)
   none : {c : Cause} → c ≢ StatesDiffer → IsDetail p o f pc c []
 

@@ -1,13 +1,13 @@
 //! What differs between two ways that meet, part by part.
 
-ghost use Rattle.std.specs.Prelude.{◌≡◌, ◌++◌, OnOk, IfOk};
+ghost use Rattle.std.specs.Prelude.{◌≡◌, [], ◌∷◌, ◌++◌, OnOk, IfOk};
 ghost use Rattle.std.specs.Option.{option_copied};
 ghost use Rattle.std.specs.String.{string_bytes};
 ghost use Rattle.sts_code.specs.Program.{routine, instr_at};
 ghost use Rattle.sts_explain.specs.Differences as def;
 
 use crate::lines::say;
-use crate::parts::{Part, part_name, part_words};
+use crate::parts::{Part, is_same_part, part_name, part_words};
 use crate::ways::{Meeting, Origin};
 use std::alloc::{AllocError, Global};
 use std::fmt::Write;
@@ -139,9 +139,9 @@ fn say_side(out: &mut Vec<u8>, words: &str, way: &str) -> Result<(), AllocError>
     say(out, way)
 }
 
-/// The line of a part, where the two differ in it.
+/// The line of a part.
 #[tactic(auto, unfolding(crate::specs::Differences::part_line))]
-fn say_part(
+fn say_part_line(
     alloc: Global,
     out: &mut Vec<u8>,
     named: &Named<'_>,
@@ -152,9 +152,6 @@ fn say_part(
 {
     let one = part_words(alloc, part, &named.meeting.one.state)?;
     let other = part_words(alloc, part, &named.meeting.other.state)?;
-    if one.as_bytes() == other.as_bytes() {
-        return Ok(());
-    }
     let name = part_name(alloc, part)?;
     say(out, name.as_str())?;
     say(out, ":")?;
@@ -164,10 +161,26 @@ fn say_part(
     say(out, "\n")
 }
 
+/// The line of a part, where the two differ in it.
+fn say_part(
+    alloc: Global,
+    out: &mut Vec<u8>,
+    named: &Named<'_>,
+    part: Part,
+) -> Result<(), AllocError>
+    ensures { OnOk result (def.SaysParts named.now.meeting.now named.now.one.now
+        named.now.other.now (part ∷ []) out.old.items out.new.items) }
+{
+    if is_same_part(part, &named.meeting.one.state, &named.meeting.other.state) {
+        return Ok(());
+    }
+    say_part_line(alloc, out, named, part)
+}
+
 /// The lines of the slots in which the two differ.
 fn say_slots(alloc: Global, out: &mut Vec<u8>, named: &Named<'_>) -> Result<(), AllocError>
-    ensures { OnOk result (out.new.items ≡ out.old.items ++ def.slot_lines
-        named.now.meeting.now named.now.one.now named.now.other.now 16) }
+    ensures { OnOk result (def.SaysParts named.now.meeting.now named.now.one.now
+        named.now.other.now (def.slots 16) out.old.items out.new.items) }
 {
     for slot in 0..16 {
         say_part(alloc, out, named, Part::Slot(slot))?;
@@ -176,10 +189,9 @@ fn say_slots(alloc: Global, out: &mut Vec<u8>, named: &Named<'_>) -> Result<(), 
 }
 
 /// The lines of the parts in which the two differ.
-#[tactic(auto, unfolding(crate::specs::Differences::part_lines))]
 fn say_parts(alloc: Global, out: &mut Vec<u8>, named: &Named<'_>) -> Result<(), AllocError>
-    ensures { OnOk result (out.new.items ≡ out.old.items ++ def.part_lines
-        named.now.meeting.now named.now.one.now named.now.other.now) }
+    ensures { OnOk result (def.SaysParts named.now.meeting.now named.now.one.now
+        named.now.other.now def.all_parts out.old.items out.new.items) }
 {
     say_part(alloc, out, named, Part::Operands)?;
     say_part(alloc, out, named, Part::Loops)?;
@@ -200,8 +212,8 @@ pub(crate) fn difference_lines(
     function: u32,
     meeting: &Meeting,
 ) -> Result<(), AllocError>
-    ensures { OnOk result (out.new.items ≡ out.old.items
-        ++ def.difference_lines outline.now program.now function meeting.now) }
+    ensures { OnOk result (def.SaysDifferences outline.now program.now function meeting.now
+        out.old.items out.new.items) }
 {
     let one = origin_words(alloc, outline, program, function, meeting.one.origin)?;
     let other = origin_words(alloc, outline, program, function, meeting.other.origin)?;

@@ -1,6 +1,6 @@
 //! The parts of a typestate in words.
 
-ghost use Rattle.std.specs.Prelude.{◌≡◌, ◌++◌, OnOk, IfOk};
+ghost use Rattle.std.specs.Prelude.{◌≡◌, ◌↔◌, ◌++◌, IsTrue, OnOk, IfOk};
 ghost use Rattle.std.specs.String.{string_bytes};
 ghost use Rattle.sts_list.specs.Spelling.{after_spaces, joiner_words, timed_words};
 ghost use Rattle.sts_explain.specs.Differences as def;
@@ -20,6 +20,18 @@ pub enum Part {
     Loops,
     Open,
     Slot(u8),
+}
+
+/// Are two typestates the same in this part?
+pub(crate) fn is_same_part(part: Part, one: &TypeState, other: &TypeState) -> bool
+    ensures { IsTrue result ↔ def.IsSamePart part one.now other.now }
+{
+    match part {
+        Part::Operands => one.height() == other.height(),
+        Part::Loops => one.loops().as_slice() == other.loops().as_slice(),
+        Part::Open => one.entries().as_slice() == other.entries().as_slice(),
+        Part::Slot(slot) => one.kind(slot) == other.kind(slot),
+    }
 }
 
 fn known_word(known: Known) -> &'static str

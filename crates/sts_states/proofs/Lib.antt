@@ -1,1 +1,1 @@
-pub mod Comparing
+pub mod ComparingLemmas

@@ -1,4 +1,4 @@
-use Rattle.sts_states.proofs.Comparing.{are_same_entries}
+use Rattle.sts_states.proofs.ComparingLemmas.{are_same_entries}
 use Rattle.sts_states.proofs.same.are_same_entries.Goals as goal
 
 pub returns : goal.returns

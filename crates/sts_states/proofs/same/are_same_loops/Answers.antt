@@ -1,4 +1,4 @@
-use Rattle.sts_states.proofs.Comparing.{are_same_loops}
+use Rattle.sts_states.proofs.ComparingLemmas.{are_same_loops}
 use Rattle.sts_states.proofs.same.are_same_loops.Goals as goal
 
 pub returns : goal.returns
