@@ -1,17 +1,17 @@
 -- Each typestate that reaches a place, or arrives there, tells of 16 slots.
-use Rattle.std.proofs.Common.{◌≡◌, ℕ, ◌+◌, inl, inr, List, [], ◌∷◌, ◌++◌, Bool, true, false, cond, Option, Some, None, Ok, map, length, option_map, option_to_list, refl, sym, ap, ◌∙◌, subst}
+use Rattle.std.proofs.Common.{◌≡◌, ℕ, ◌+◌, inl, inr, List, [], ◌∷◌, ◌++◌, Bool, true, false, cond, Option, Some, None, Ok, map, length, option_map, option_to_list, refl, ap, ◌∙◌, subst}
 use Rattle.std.proofs.lemmas.List.{length-set, length-map}
 use Rattle.sts_code.specs.Program.{Program, routine, instr_at}
 use Rattle.sts_code.specs.declared.instr.Instr.{Instr}
-use Rattle.sts_code.specs.declared.instr.Instr.TheVariants.{Div, Jmp, Jz, Times, Next, Open, Fork, Join, Close, Case, Forget, Bind, Unbind, Ret, Fail}
+use Rattle.sts_code.specs.declared.instr.Instr.TheVariants.{Div, Jmp, Jz, Times, Open, Fork, Join, Close, Case, Forget, Ret, Fail}
 use Rattle.sts_code.specs.Loops.{match_of}
 use Rattle.sts_rules.specs.declared.typing.Cause.{Cause}
 use Rattle.sts_rules.specs.declared.typing.SlotKind.{SlotKind}
 use Rattle.sts_rules.specs.declared.typing.SlotKind.TheVariants.{Empty}
 use Rattle.sts_rules.specs.Causes.{least_cause}
-use Rattle.sts_rules.specs.Edges.{edges, follows, to_optional, moved, or_cause, with_slot, is_all_success, is_sub_of, joiner_of, succeeded, cleared, typing}
+use Rattle.sts_rules.specs.Edges.{edges, follows, to_optional, moved, or_cause, with_slot, is_all_success, is_sub_of, joiner_of, succeeded, typing}
 use Rattle.sts_rules.specs.Flow.{Reaches, Leads, first, then}
-use Rattle.sts_rules.specs.TypeState.{TypeState, entry, scope_in}
+use Rattle.sts_rules.specs.TypeState.{TypeState, scope_in}
 use Rattle.sts_explain.specs.declared.ways.Origin.{Origin}
 use Rattle.sts_explain.specs.declared.ways.Origin.TheVariants.{Beginning, Edge, Turn}
 use Rattle.sts_explain.specs.Ways.{Arrives}

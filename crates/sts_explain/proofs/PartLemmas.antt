@@ -1,5 +1,5 @@
 -- The parts in which typestates differ, and their lines.
-use Rattle.std.proofs.Common.{◌≡◌, ◌≢◌, ℕ, zero, suc, ◌+◌, ◌<◌, ◌≤◌, ◌⊎◌, inl, inr, List, [], ◌∷◌, ◌++◌, map, length, get_or, refl, sym, ap, ◌∙◌, append_assoc, arith}
+use Rattle.std.proofs.Common.{◌≡◌, ◌≢◌, ℕ, zero, suc, ◌+◌, ◌<◌, ◌≤◌, ◌⊎◌, inl, inr, List, [], ◌∷◌, ◌++◌, map, refl, sym, ap, ◌∙◌, append_assoc, arith}
 use Rattle.std.specs.List.{flat_map, range_with_len}
 use Rattle.std.proofs.lemmas.Bool.{cases_eq}
 use Rattle.std.proofs.lemmas.Grind.{flat_map-append}
@@ -65,7 +65,7 @@ module _ (m : Meeting) (one other : List ℕ) where
   unfolding all_parts
   all_said before first second third after a b d e =
       both_said (Operands ∷ []) (Loops ∷ Open ∷ slots 16) before first after a
-          (both_said (Loops ∷ []) (Open ∷ slots 16) first second after b (both_said (Open ∷ []) (slots 16) second third after d e))
+      (both_said (Loops ∷ []) (Open ∷ slots 16) first second after b (both_said (Open ∷ []) (slots 16) second third after d e))
 
 -- ---- that some part differs
 
