@@ -6,6 +6,7 @@ use Rattle.std.specs.List.{before_first}
 use Rattle.sts_text.specs.Words.{lines, words}
 use Rattle.sts_asm.specs.declared.fault.AsmKind.TheVariants.{TextTooLong}
 use Rattle.sts_asm.specs.declared.fault.AsmError.{AsmError}
+use Rattle.sts_asm.specs.Marks.{Mark, Names}
 use Rattle.sts_asm.specs.Outline.{Sentence, Draft, Outline, is_semicolon, outline_of}
 
 -- the functions of a text with their lines; of a text that is too long there are none
@@ -31,6 +32,19 @@ name_at o f = option_map (λ (d : Draft). d.name) (slice_get o.done f)
 abbrev pub args_at : Outline → ℕ → Option ℕ
 args_at o f = option_map (λ (d : Draft). d.args) (slice_get o.done f)
 
+-- the labels of a function, where there is one
+abbrev pub labels_of : Option Draft → List Mark
+labels_of None = []
+labels_of (Some d) = d.labels
+
+-- the names that are known in a function: its labels, and the functions of the text
+abbrev pub names_at : Outline → ℕ → Names
+names_at o f = record { labels = labels_of (slice_get o.done f); functions = o.functions }
+
+-- the line of this number, counted from 1
+abbrev pub line_at : List ℕ → ℕ → Option (List ℕ)
+line_at text number = slice_get (lines text) (number - 1)
+
 -- the words of a line, its comment left out
 abbrev pub words_of : Option (List ℕ) → List (List ℕ)
 words_of None = []
@@ -38,4 +52,4 @@ words_of (Some line) = words (before_first is_semicolon line)
 
 -- the words of the line of this number, counted from 1
 abbrev pub words_at : List ℕ → ℕ → List (List ℕ)
-words_at text number = words_of (slice_get (lines text) (number - 1))
+words_at text number = words_of (line_at text number)

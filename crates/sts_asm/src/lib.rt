@@ -16,6 +16,6 @@ pub use fault::{AsmError, AsmKind};
 pub use laws::instructions_are_read_by_the_table;
 pub use mnemonic::{Mnemonic, first_word};
 pub use operand::{handle, kind_counted, one_word_joiner, slot};
-pub use outline::{Outline, Sentence, label_of};
-pub use source::{outlined, words_at};
+pub use outline::{Outline, Sentence, is_allowed, label_of};
+pub use source::{line_at, outlined, words_at};
 pub use text::assemble;

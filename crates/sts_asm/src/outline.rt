@@ -273,11 +273,18 @@ impl<'a> Model for Outline<'a> {
     } };
 }
 
+/// A tab, a carriage return, or a byte from the space to `~`?
+#[inline(always)]
+pub fn is_allowed(byte: u8) -> bool
+    ensures { result ≡ is_allowed byte }
+{
+    matches!(byte, b'\t' | b'\r' | b' '..=b'~')
+}
+
 fn all_allowed(line: &[u8]) -> bool
     ensures { result ≡ list_all is_allowed line.now }
 {
-    line.iter()
-        .all(|b| matches!(*b, b'\t' | b'\r' | b' '..=b'~'))
+    line.iter().all(|b| is_allowed(*b))
 }
 
 /// Is each byte from the space to `~`, and none the beginning of a comment? Most lines are so, and

@@ -1,10 +1,12 @@
 //! Where a text says what: the line of each instruction, and the words of a line.
 
-ghost use Rattle.std.specs.Prelude.{◌≡◌, slice_get, option_map};
+ghost use Rattle.std.specs.Prelude.{◌≡◌, ◌<◌, slice_get, option_map, is_some, length};
 ghost use Rattle.std.specs.Option.{option_copied};
 ghost use Rattle.sts_text.specs.Words.{lines};
 ghost use Rattle.sts_asm.specs.Fault.{Judges};
-ghost use Rattle.sts_asm.specs.Source.{outlined, sentence_at, name_at, args_at, words_at};
+ghost use Rattle.sts_asm.specs.Marks.{marked};
+ghost use Rattle.sts_asm.specs.Source.{outlined, sentence_at, name_at, args_at, names_at};
+ghost use Rattle.sts_asm.specs.Source.{sentences_of, line_at, words_at};
 
 use crate::fault::{AsmError, AsmKind};
 use crate::outline::{Outline, Sentence, uncommented};
@@ -59,6 +61,38 @@ impl<'a> Outline<'a> {
             None => None,
         }
     }
+
+    /// How many functions there are.
+    pub fn function_count(&self) -> usize
+        ensures { result ≡ length self.now.done }
+    {
+        self.done.len()
+    }
+
+    /// The lines of the instructions of a function.
+    pub fn sentences(&self, function: usize) -> &[Sentence<'a>]
+        requires { function < length self.now.done }
+        ensures { result.now ≡ sentences_of (slice_get self.now.done function) }
+    {
+        self.done[function].code.sentences.as_slice()
+    }
+
+    /// Has a function this label?
+    pub fn has_label(&self, function: usize, name: &[u8]) -> bool
+        ensures { result ≡ is_some (marked (names_at self.now function).labels name.now) }
+    {
+        match self.done.get(function) {
+            Some(draft) => draft.labels.find(name).is_some(),
+            None => false,
+        }
+    }
+
+    /// Is there a function of this name?
+    pub fn has_function(&self, name: &[u8]) -> bool
+        ensures { result ≡ is_some (marked self.now.functions name.now) }
+    {
+        self.functions.find(name).is_some()
+    }
 }
 
 impl<'a> Sentence<'a> {
@@ -94,11 +128,18 @@ fn line_in(text: &[u8], number: u32) -> Option<&[u8]>
     if left == 0 { Some(rest) } else { None }
 }
 
+/// The line of this number, counted from 1.
+pub fn line_at(text: &[u8], number: u32) -> Option<&[u8]>
+    ensures { option_copied result ≡ line_at text.now number }
+{
+    line_in(text, number.saturating_sub(1))
+}
+
 /// The words of the line of this number, counted from 1, its comment left out.
 pub fn words_at(text: &[u8], number: u32) -> Words<'_>
     ensures { result ≡ words_at text.now number }
 {
-    match line_in(text, number.saturating_sub(1)) {
+    match line_at(text, number) {
         Some(line) => Words::new(uncommented(line)),
         None => Words::new(&[]),
     }

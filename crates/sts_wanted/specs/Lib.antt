@@ -1,2 +1,3 @@
 pub mod Wanted
 pub mod Wrong
+pub mod Names

@@ -2,6 +2,7 @@
 
 ghost use Rattle.std.specs.Prelude.{◌≡◌};
 ghost use Rattle.sts_text.specs.Number.{number_up_to};
+ghost use Rattle.sts_asm.specs.Line.{mnemonic_of};
 ghost use Rattle.sts_wanted.specs.Wanted as def;
 
 use sts_asm::{Mnemonic, first_word, handle, kind_counted, label_of, one_word_joiner, slot};
@@ -19,6 +20,10 @@ pub enum Wanted {
     TopLine,
     /// A label that the function hasn't.
     NewLabel,
+    /// A label that the function has.
+    KnownLabel,
+    /// A function that the text has.
+    KnownFunction,
     /// Nothing more.
     Nothing,
     /// The local or key of an instruction.
@@ -151,7 +156,11 @@ impl Wanted {
         match self {
             Wanted::First => begins_line(word),
             Wanted::Inside => word == b"func".as_slice(),
-            Wanted::TopLine | Wanted::NewLabel | Wanted::Nothing => false,
+            Wanted::TopLine
+            | Wanted::NewLabel
+            | Wanted::KnownLabel
+            | Wanted::KnownFunction
+            | Wanted::Nothing => false,
             Wanted::Byte | Wanted::Args => number_up_to(word, 255).is_some(),
             Wanted::Value | Wanted::Least => number(word).is_some(),
             Wanted::Turns => number_up_to(word, 65535).is_some(),
@@ -205,6 +214,13 @@ impl Wanted {
             _ => Wanted::Nothing,
         }
     }
+}
+
+/// What is wanted behind the first word of an instruction.
+pub fn operand(first: &[u8]) -> Wanted
+    ensures { result ≡ def.of_mnemonic (mnemonic_of first.now) }
+{
+    of_mnemonic(first_word(first))
 }
 
 /// What is wanted instead of a first word that may not stand there.
