@@ -1,5 +1,5 @@
 -- What instructions do to a path.
-use Rattle.std.proofs.Common.{◌≡◌, ◌<◌, ℕ, ◌++◌, true, refl, arith}
+use Rattle.std.proofs.Common.{◌≡◌, ◌<◌, ℕ, List, ◌++◌, true, refl, arith}
 use Rattle.sts_code.specs.declared.instr.Instr.{Instr}
 use Rattle.sts_code.specs.declared.instr.Instr.TheVariants.{Push, Pop, Dup, Swap, Load, Store, Add}
 use Rattle.sts_code.specs.declared.instr.Instr.TheVariants.{Sub, Mul, Lt, Eq, Div, Jmp, Jz, Times}
@@ -124,3 +124,41 @@ opens pc (OrElse k) lt = absurd (omega arith)
 opens pc Interrupted lt = absurd (omega arith)
 opens pc Ret lt = absurd (omega arith)
 opens pc Fail lt = absurd (omega arith)
+
+-- where an instruction goes on
+pub leads_on : (pc : ℕ) (i : Instr) (places : List ℕ) → shape_of pc i ≡ GoesTo places → targets i ++ next_place pc i ≡ places
+leads_on pc (Push k) places e = cc
+leads_on pc Pop places e = cc
+leads_on pc Dup places e = cc
+leads_on pc Swap places e = cc
+leads_on pc (Load x) places e = cc
+leads_on pc (Store x) places e = cc
+leads_on pc Add places e = cc
+leads_on pc Sub places e = cc
+leads_on pc Mul places e = cc
+leads_on pc Lt places e = cc
+leads_on pc Eq places e = cc
+leads_on pc (Div to) places e = cc
+leads_on pc (Jmp to) places e = cc
+leads_on pc (Jz to) places e = cc
+leads_on pc (Times n) places e = absurd (cc)
+leads_on pc Next places e = absurd (cc)
+leads_on pc (Open x j timed) places e = cc
+leads_on pc (Fork x g h) places e = cc
+leads_on pc (Join x a b c) places e = cc
+leads_on pc (Close x) places e = cc
+leads_on pc (Cancelled x) places e = cc
+leads_on pc (Case h a b) places e = cc
+leads_on pc (Get h) places e = cc
+leads_on pc (Except h) places e = cc
+leads_on pc (Tally x k) places e = cc
+leads_on pc (Total x) places e = cc
+leads_on pc (Forget h) places e = cc
+leads_on pc (Bind k) places e = cc
+leads_on pc Unbind places e = cc
+leads_on pc (Read k) places e = cc
+leads_on pc (Bound k) places e = cc
+leads_on pc (OrElse k) places e = cc
+leads_on pc Interrupted places e = cc
+leads_on pc Ret places e = absurd (cc)
+leads_on pc Fail places e = absurd (cc)

@@ -3,3 +3,7 @@ pub mod Instrs
 pub mod Extending
 pub mod Walking
 pub mod PointLemmas
+pub mod Inside
+pub mod Bounding
+pub mod Most
+pub mod Within

@@ -19,7 +19,7 @@ use Rattle.sts_budget.specs.Sums.{Sums}
 use Rattle.sts_weights.specs.declared.heavy.Heavy.{Heavy}
 use Rattle.sts_weights.specs.Adding.{total}
 use Rattle.sts_weights.specs.Found.{IsWeighedIn}
-use Rattle.sts_weights.specs.Heavy.{IsHeavy, Weighs}
+use Rattle.sts_weights.specs.Heavy.{IsHeavy, Weighs, NoneHeavier}
 use Rattle.sts_weights.specs.Search.{ends_for}
 use Rattle.sts_weights.proofs.Extending.{sums}
 use Rattle.sts_weights.proofs.Instrs.{ends}
@@ -36,8 +36,8 @@ module _ (earlier : List Budgets) (code : List Instr) (round : ℕ → List ℕ)
   weighs Scopes pc loops sum may h = let w = stands earlier code round good names_at known (scopes_measure earlier) pc loops sum h in (loops, (w.0, (w.1.0, (w.1.1.0, (let e = w.1.1.1 in omega arith)))))
   weighs Binds pc loops sum may h = let w = stands earlier code round good names_at known (binds_measure earlier) pc loops sum h in (loops, (w.0, (w.1.0, (w.1.1.0, (let e = w.1.1.1 in omega arith)))))
 
-pub heavy : (p : Program) (f : ℕ) (k : Resource) (earlier : List Budgets) (code : List Instr) (l : Layout) (h : Heavy) → length earlier ≡ f → AreBudgets p earlier → NamesRight p f (names_in l) → IsLaidFor earlier code l → code ≡ (routine p f).code → IsWeighedIn k earlier code l h → IsHeavy p f k h
-heavy p f k earlier code l h size right named ready is w = by (subst (λ xs. IsLaidFor earlier xs l) is ready) (subst (λ xs. IsWeighedIn k earlier xs l h) is w)
+pub heavy : (p : Program) (f : ℕ) (k : Resource) (earlier : List Budgets) (code : List Instr) (l : Layout) (h : Heavy) → length earlier ≡ f → AreBudgets p earlier → NamesRight p f (names_in l) → IsLaidFor earlier code l → code ≡ (routine p f).code → IsWeighedIn k earlier code l h → NoneHeavier k earlier code h.weight → IsHeavy p f k h
+heavy p f k earlier code l h size right named ready is w most = by (subst (λ xs. IsLaidFor earlier xs l) is ready) (subst (λ xs. IsWeighedIn k earlier xs l h) is w)
   where
     by : IsLaidFor earlier (routine p f).code l → IsWeighedIn k earlier (routine p f).code l h → IsHeavy p f k h
     by r v = record {
@@ -53,5 +53,6 @@ heavy p f k earlier code l h size right named ready is w = by (subst (λ xs. IsL
       shares = v.shares;
       weight = v.weight;
       weighs = subst (λ m. Weighs k earlier (routine p f).code h.place m) (sym v.weight) (weighs earlier (routine p f).code (around (routine p f).code) r.good (names_in l) r.known k h.place v.loops (total v.steps) v.may (sums (skeleton earlier (routine p f).code) (flows k earlier (routine p f).code (names_in l)) (depth_of k (names_in l h.place)) h.place v.loops v.steps v.path));
+      most = subst (λ xs. NoneHeavier k earlier xs h.weight) is most;
       over = v.over;
     }

@@ -1,5 +1,5 @@
 -- A path, or a point of one, that weighs more than its budget may (this project's own).
-use Rattle.std.specs.Prelude.{◌≡◌, ℕ, ◌+◌, ◌<◌, List, length, get_or}
+use Rattle.std.specs.Prelude.{◌≡◌, ℕ, ◌+◌, ◌<◌, ◌≤◌, List, length, get_or}
 use Rattle.sts_code.specs.declared.instr.Instr.{Instr}
 use Rattle.sts_code.specs.Program.{Program, routine}
 use Rattle.sts_rules.specs.declared.budget.Budgets.{Budgets}
@@ -31,6 +31,10 @@ Weighs k earlier code pc m =
     × (Comes (skeleton earlier code) pc loops before es
     × Counts k earlier (skeleton earlier code) pc before es m)))
 
+-- whatever some control path comes to, the budget counts no more there
+abbrev pub NoneHeavier : Resource → List Budgets → List Instr → ℕ → Type 0
+NoneHeavier k earlier code most = (pc m : ℕ) → Weighs k earlier code pc m → m ≤ most
+
 -- A control path of the function comes to the place that is told; the budget counts there what is
 -- told, which is more than its limit; and what is told of each place is what the steps of the path
 -- at that place add to it, beside what the function counts itself.
@@ -48,4 +52,5 @@ pub record IsHeavy (p : Program) (f : ℕ) (k : Resource) (h : Heavy) : Type 0 w
   pub shares : (x : ℕ) → get_or h.shares.items x 0 ≡ share steps x
   pub weight : h.weight ≡ own_of k + total steps
   pub weighs : Weighs k earlier (routine p f).code h.place h.weight
+  pub most : NoneHeavier k earlier (routine p f).code h.weight
   pub over : limit_of k < h.weight

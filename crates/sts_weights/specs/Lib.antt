@@ -3,3 +3,4 @@ pub mod Search
 pub mod Walk
 pub mod Heavy
 pub mod Found
+pub mod Bound

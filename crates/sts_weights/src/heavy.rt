@@ -7,10 +7,11 @@ ghost use Rattle.sts_weights.specs.Heavy.{IsHeavy};
 ghost use Rattle.sts_weights.specs.Search as def;
 ghost use Rattle.sts_weights.specs.Found as found;
 
+use crate::bound::is_most;
 use crate::earlier::budgets_before;
 use crate::search::{Search, Spot, depth_at};
 use crate::shares::Shares;
-use crate::trail::{Trail, find_trail, heaviest_place, may_end};
+use crate::trail::{Trail, find_top, find_trail, may_end};
 use crate::walk::back_to_beginning;
 use std::alloc::{AllocError, Global};
 use sts_budget::change::Resource;
@@ -90,8 +91,13 @@ fn heaviest_after(
         layout: &layout,
     };
     let trail = find_trail(alloc, &search)?;
-    let place = heaviest_place(alloc, &search, &trail)?;
-    weigh(alloc, &search, &trail, place)
+    let top = find_top(alloc, &search, &trail)?;
+    match weigh(alloc, &search, &trail, top.place)? {
+        Some(heavy) if is_most(&search, &trail, top.bases.as_slice(), heavy.weight) => {
+            Ok(Some(heavy))
+        }
+        _ => Ok(None),
+    }
 }
 
 /// A point of a control path of the function that weighs more than the budget of this resource may:

@@ -2,6 +2,7 @@
 //! what each of its instructions adds.
 #![tactic(auto)]
 
+pub mod bound;
 pub mod earlier;
 pub mod heavy;
 pub mod search;

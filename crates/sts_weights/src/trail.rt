@@ -1,7 +1,9 @@
 //! A trail: for each place the one before it on the way there that adds most. It is found by one
 //! forward pass, and nothing is promised of it: who walks it back tests each step.
 
-ghost use Rattle.std.specs.Prelude.{◌<◌, ◌≡◌, length, IfSome};
+ghost use Rattle.std.specs.Prelude.{◌<◌, ◌≡◌, length, IfSome, [], get_or, None};
+ghost use Rattle.sts_budget.specs.Handing.{base_of};
+ghost use Rattle.sts_weights.specs.Bound.{sum_in};
 ghost use Rattle.sts_weights.specs.Search as def;
 
 use crate::search::{Search, Spot, added_at, depth_at, depth_before, ends_path, turns_of};
@@ -29,16 +31,37 @@ pub(crate) struct Trail {
 }
 
 /// Where no way was found yet.
-fn none() -> Best {
+fn none() -> Best
+    ensures { result ≡ record { sum = 0; from = None } }
+{
     Best { sum: 0, from: None }
 }
 
-fn best_at(rows: &[Row], place: usize, depth: usize) -> Best {
-    if place < rows.len() && depth < 17 {
-        rows[place][depth]
+fn in_row(row: &[Best], depth: usize) -> Best
+    ensures { result ≡ get_or row.now depth (record { sum = 0; from = None }) }
+{
+    if depth < row.len() {
+        row[depth]
     } else {
         none()
     }
+}
+
+fn best_at(rows: &[Row], place: usize, depth: usize) -> Best
+    ensures { result ≡ get_or (get_or rows.now place []) depth (record { sum = 0; from = None }) }
+{
+    if place < rows.len() {
+        in_row(&rows[place], depth)
+    } else {
+        none()
+    }
+}
+
+/// The sum that the trail has at a place over so many entries.
+pub(crate) fn sum_at(trail: &Trail, place: usize, depth: usize) -> u64
+    ensures { result ≡ sum_in trail.now place depth }
+{
+    best_at(trail.rows.as_slice(), place, depth).sum
 }
 
 /// The place before a spot.
@@ -147,7 +170,9 @@ pub(crate) fn find_trail(alloc: Global, search: &Search<'_>) -> Result<Trail, Al
 }
 
 /// What stands before the last turn of a loop, or 0 outside of loops.
-fn base_at(bases: &[u64], head: Option<u32>) -> u64 {
+pub(crate) fn base_at(bases: &[u64], head: Option<u32>) -> u64
+    ensures { result ≡ base_of bases.now head }
+{
     match head {
         Some(at) if (at as usize) < bases.len() => bases[at as usize],
         _ => 0,
@@ -165,7 +190,7 @@ fn full_at(search: &Search<'_>, trail: &Trail, bases: &[u64], pc: usize) -> u64
 }
 
 /// What stands before the last turn of the loop that opens at a place.
-fn base_of(search: &Search<'_>, trail: &Trail, full: u64, pc: usize) -> u64
+fn found_base(search: &Search<'_>, trail: &Trail, full: u64, pc: usize) -> u64
     requires ready { def.IsReady search.now }
     requires in_code { pc < length search.now.code.now }
 {
@@ -189,12 +214,15 @@ pub(crate) fn may_end(search: &Search<'_>, pc: usize) -> bool
     }
 }
 
+/// Where most stands, and for each `times` what stands before the last turn of its loop.
+#[derive(Drop)]
+pub(crate) struct Top {
+    pub place: u32,
+    pub bases: Vec<u64>,
+}
+
 /// The place of a function where most stands.
-pub(crate) fn heaviest_place(
-    alloc: Global,
-    search: &Search<'_>,
-    trail: &Trail,
-) -> Result<u32, AllocError>
+pub(crate) fn find_top(alloc: Global, search: &Search<'_>, trail: &Trail) -> Result<Top, AllocError>
     requires { def.IsReady search.now }
 {
     let mut bases = filled(alloc, search.code.len(), 0)?;
@@ -206,7 +234,7 @@ pub(crate) fn heaviest_place(
             place = pc as u32;
             most = full;
         }
-        bases[pc] = base_of(search, trail, full, pc);
+        bases[pc] = found_base(search, trail, full, pc);
     }
-    Ok(place)
+    Ok(Top { place, bases })
 }
