@@ -7,3 +7,4 @@ pub mod ForwardLemmas
 pub mod MeetingLemmas
 pub mod FullLemmas
 pub mod PartLemmas
+pub mod NameLineLemmas

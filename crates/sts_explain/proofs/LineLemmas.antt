@@ -40,7 +40,7 @@ three_said a b d before one two three e f g =
     g ∙ ap (λ (x : List ℕ). x ++ d) (f ∙ ap (λ (x : List ℕ). x ++ b) e ∙ append_assoc before a b)
     ∙ append_assoc before (a ++ b) d ∙ ap (λ (x : List ℕ). before ++ x) (append_assoc a b d)
 
-behind_words : (word : List ℕ) (s : Stop) → stop_words (behind word s) ≡ (32 ∷ word) ++ stop_words s
+pub behind_words : (word : List ℕ) (s : Stop) → stop_words (behind word s) ≡ (32 ∷ word) ++ stop_words s
 behind_words word s =
     ap (λ (x : List ℕ). x ++ wanted_words s.wanted) (append_assoc (32 ∷ word) (after_spaces s.before) (bracketed s.word))
     ∙ append_assoc (32 ∷ word) (after_spaces s.before ++ bracketed s.word) (wanted_words s.wanted)

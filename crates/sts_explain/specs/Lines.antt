@@ -17,9 +17,8 @@ use Rattle.sts_asm.specs.declared.fault.AsmError.{AsmError}
 use Rattle.sts_list.specs.Spelling.{after_spaces}
 use Rattle.sts_rules.specs.Causes.{cause_number as refusal_number}
 use Rattle.sts_rules.specs.declared.typing.Cause.{Cause}
-use Rattle.sts_wanted.specs.Wanted.{wrong_place}
 use Rattle.sts_explain.specs.Sentences.{cause_sentence, kind_sentence}
-use Rattle.sts_explain.specs.Wrong.{wrong_line}
+use Rattle.sts_explain.specs.Wrong.{wrong_part}
 
 -- `, line 9: close s0`, the words as they stand in the text
 abbrev pub line_words : ℕ → List (List ℕ) → List ℕ
@@ -96,8 +95,8 @@ fault_head e text =
     codes "error A" ++ decimal (kind_number e.kind) ++ check_words e.kind
     ++ fault_place e.kind e.line text
 
--- where it is; what is wrong; and the wrong word in its place, where the fault is of one
+-- where it is; what is wrong; and the wrong word or byte in its place, where the fault is of one
 abbrev pub fault_lines : AsmError → List ℕ → List ℕ
 fault_lines e text =
     fault_head e text ++ codes "\n" ++ kind_sentence e.kind ++ codes "\n"
-    ++ wrong_line (wrong_place e.kind (words_at text e.line))
+    ++ wrong_part e.kind text e.line

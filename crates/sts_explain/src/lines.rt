@@ -7,7 +7,7 @@ ghost use Rattle.sts_explain.specs.Lines as def;
 
 use crate::checks::say_code_place;
 use crate::sentences::{cause_sentence, kind_sentence};
-use crate::wrong::wrong_line;
+use crate::wrong::wrong_part;
 use std::alloc::{AllocError, Global};
 use sts_asm::{AsmError, AsmKind, Sentence, words_at};
 use sts_code::code::name_of;
@@ -165,7 +165,8 @@ fn say_fault_head(
     say_fault_place(alloc, out, error, text)
 }
 
-/// The lines of a fault of a text: where it is, what is wrong, and the wrong word in its place.
+/// The lines of a fault of a text: where it is, what is wrong, and the wrong word or byte in its
+/// place.
 ///
 /// # Errors
 ///
@@ -182,5 +183,5 @@ pub(crate) fn fault_lines(
     say(out, "\n")?;
     say(out, kind_sentence(error.kind))?;
     say(out, "\n")?;
-    wrong_line(out, error.kind, text, error.line)
+    wrong_part(alloc, out, error.kind, text, error.line)
 }

@@ -109,6 +109,8 @@ pub(crate) fn wanted_sentence(wanted: Wanted) -> &'static str
         Wanted::Inside => "func: labels, instructions and end stand inside a function only",
         Wanted::TopLine => "another word: profile stands on line 1 only",
         Wanted::NewLabel => "a label that this function hasn't yet",
+        Wanted::KnownLabel => "a label of this function",
+        Wanted::KnownFunction => "a function of this text",
         Wanted::Nothing => "nothing more",
         Wanted::Byte => "a number from 0 to 255",
         Wanted::Value => "a number of 64 bits with a sign",
