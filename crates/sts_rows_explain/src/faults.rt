@@ -11,7 +11,7 @@ static FAULTS: [Row; 19] = [
     Row {
         name: "a byte that isn't allowed",
         text: &[Part(1, "func main 0 / push 1 ; é / ret / end")],
-        lines: "error A1, line 2: / a byte that isn't allowed: tabs, returns and the bytes 32 to 126 are",
+        lines: "error A1, line 2: / a byte that isn't allowed: tabs, returns and the bytes 32 to 126 are / at column 10: byte 195",
         status: 3,
     },
     Row {
@@ -53,7 +53,7 @@ static FAULTS: [Row; 19] = [
     Row {
         name: "no such label",
         text: &[Part(1, "func main 0 / push 1 / jmp   there ; on / ret / end")],
-        lines: "error A5, line 3: jmp there / a label that isn't in this function, or a function that isn't in this text",
+        lines: "error A5, line 3: jmp there / a label that isn't in this function, or a function that isn't in this text / at jmp [there]: wanted is a label of this function",
         status: 3,
     },
     Row {

@@ -255,6 +255,60 @@ static FIRST_LINES: [Row; 12] = [
     },
 ];
 
+static NAMES: [Row; 8] = [
+    Row {
+        name: "a fork of no function",
+        text: &[Part(1, "func main 0 / open s0 all / fork s0 kid _ / end")],
+        lines: "error A5, line 3: fork s0 kid _ / a label that isn't in this function, or a function that isn't in this text / at fork s0 [kid]: wanted is a function of this text",
+        status: 3,
+    },
+    Row {
+        name: "a fork of a label",
+        text: &[Part(1, "func main 0 / x: / fork s0 x _ / end")],
+        lines: "error A5, line 3: fork s0 x _ / a label that isn't in this function, or a function that isn't in this text / at fork s0 [x]: wanted is a function of this text",
+        status: 3,
+    },
+    Row {
+        name: "a label of another function",
+        text: &[Part(
+            1,
+            "func f 0 / x: / ret / end / func main 0 / jmp x / ret / end",
+        )],
+        lines: "error A5, line 6: jmp x / a label that isn't in this function, or a function that isn't in this text / at jmp [x]: wanted is a label of this function",
+        status: 3,
+    },
+    Row {
+        name: "a jump to a function",
+        text: &[Part(1, "func f 0 / ret / end / func main 0 / jz f / ret / end")],
+        lines: "error A5, line 5: jz f / a label that isn't in this function, or a function that isn't in this text / at jz [f]: wanted is a label of this function",
+        status: 3,
+    },
+    Row {
+        name: "a case whose second label isn't there",
+        text: &[Part(1, "func main 0 / case s1 yes no / yes: / ret / end")],
+        lines: "error A5, line 2: case s1 yes no / a label that isn't in this function, or a function that isn't in this text / at case s1 yes [no]: wanted is a label of this function",
+        status: 3,
+    },
+    Row {
+        name: "a join whose labels are there but the last",
+        text: &[Part(1, "func main 0 / x: / join s0 x - intr / end")],
+        lines: "error A5, line 3: join s0 x - intr / a label that isn't in this function, or a function that isn't in this text / at join s0 x - [intr]: wanted is a label of this function",
+        status: 3,
+    },
+    Row {
+        name: "a join of which no label is there",
+        text: &[Part(1, "func main 0 / join s0 - late intr / end")],
+        lines: "error A5, line 2: join s0 - late intr / a label that isn't in this function, or a function that isn't in this text / at join s0 - [late]: wanted is a label of this function",
+        status: 3,
+    },
+    Row {
+        name: "a byte in a word",
+        text: &[Part(1, "func main 0 / \tpu\u{7f}sh 1 / end")],
+        lines: "error A1, line 2: / a byte that isn't allowed: tabs, returns and the bytes 32 to 126 are / at column 4: byte 127",
+        status: 3,
+    },
+];
+
 static CHECKS: [Row; 5] = [
     Row {
         name: "a slot past the last",
@@ -307,6 +361,11 @@ fn tell_the_wrong_word_of_scopes(rt: HostRuntime) -> Result<(), Fail> {
 #[test]
 fn tell_the_wrong_word_of_headers(rt: HostRuntime) -> Result<(), Fail> {
     all(&rt, rt.alloc(), &FIRST_LINES)
+}
+
+#[test]
+fn tell_the_name_that_is_not_there(rt: HostRuntime) -> Result<(), Fail> {
+    all(&rt, rt.alloc(), &NAMES)
 }
 
 #[test]
