@@ -170,7 +170,8 @@ fn byte_line(alloc: Global, out: &mut Vec<u8>, line: &[u8]) -> Result<(), AllocE
 }
 
 fn byte_line_of(alloc: Global, out: &mut Vec<u8>, line: Option<&[u8]>) -> Result<(), AllocError>
-    ensures { OnOk result (out.new.items ≡ out.old.items ++ def.byte_line_of (option_copied line.entry)) }
+    ensures { OnOk result (out.new.items
+        ≡ out.old.items ++ def.byte_line_of (option_copied line.entry)) }
 {
     match line {
         None => Ok(()),
