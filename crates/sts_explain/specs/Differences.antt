@@ -1,5 +1,6 @@
 -- What differs between two ways that meet, part by part (this project's own).
-use Rattle.std.specs.Prelude.{◌≡◌, ◌≢◌, ℕ, List, [], ◌∷◌, ◌++◌, map, Bool, ◌==◌, ◌&&◌, ◌||◌, Option, Some, None, is_some, if◌then◌else◌, codes}
+use Rattle.std.specs.Prelude.{◌≡◌, ◌≢◌, ℕ, List, [], ◌∷◌, ◌++◌, map, Bool, ◌==◌, ◌&&◌, ◌||◌, codes}
+use Rattle.std.specs.Prelude.{Option, Some, None, is_some, if◌then◌else◌}
 use Rattle.std.specs.List.{flat_map, range_with_len}
 use Rattle.std.specs.Fmt.{decimal}
 use Rattle.sts_code.specs.Program.{Program, routine, instr_at}
@@ -36,8 +37,10 @@ IsSamePart (Slot x) a b = kind a x ≡ kind b x
 -- of some parts those in which the two differ, in order: all of these, and no other
 pub data Differing (a b : TypeState) : List Part → List Part → Type 0 where
   none : Differing a b [] []
-  same : (part : Part) {parts found : List Part} → IsSamePart part a b → Differing a b parts found → Differing a b (part ∷ parts) found
-  differs : (part : Part) {parts found : List Part} → ¬ IsSamePart part a b → Differing a b parts found → Differing a b (part ∷ parts) (part ∷ found)
+  same : (part : Part) {parts found : List Part} → IsSamePart part a b → Differing a b parts found
+      → Differing a b (part ∷ parts) found
+  differs : (part : Part) {parts found : List Part} → ¬ IsSamePart part a b
+      → Differing a b parts found → Differing a b (part ∷ parts) (part ∷ found)
 
 -- so many slots
 unfoldable pub slots : ℕ → List Part
@@ -76,12 +79,14 @@ phase_words Late = codes " late"
 -- ` (s0 awaitall timed joined)`, or ` (key 3)`
 abbrev pub entry_words : TypedEntry → List ℕ
 entry_words (Scope r) =
-    codes " (s" ++ decimal r.slot ++ after_spaces (joiner_words r.joiner) ++ after_spaces (timed_words r.timed) ++ phase_words r.phase ++ codes ")"
+    codes " (s" ++ decimal r.slot ++ after_spaces (joiner_words r.joiner)
+    ++ after_spaces (timed_words r.timed) ++ phase_words r.phase ++ codes ")"
 entry_words (Binding k) = codes " (key " ++ decimal k ++ codes ")"
 
 -- ` (times at 7, 2 open)`
 abbrev pub loop_words : TypedLoop → List ℕ
-loop_words l = codes " (times at " ++ decimal l.at ++ codes ", " ++ decimal l.entries ++ codes " open)"
+loop_words l =
+    codes " (times at " ++ decimal l.at ++ codes ", " ++ decimal l.entries ++ codes " open)"
 
 -- the words of each, or that there is none
 abbrev pub listed : {A : Type 0} → (A → List ℕ) → List A → List ℕ
@@ -112,11 +117,14 @@ outcome_words failed timeout number =
 
 -- which of the outcomes of `case`
 abbrev pub case_words : ℕ → List ℕ
-case_words number = if number == 0 then codes " (unavailable)" else (if number == 1 then codes " (success)" else codes " (failed)")
+case_words number =
+    if number == 0 then codes " (unavailable)"
+    else (if number == 1 then codes " (success)" else codes " (failed)")
 
 -- which edge of an instruction this is, where there are several
 abbrev pub edge_words : Instr → ℕ → List ℕ
-edge_words (Join x failed timeout interrupted) number = outcome_words (is_some failed) (is_some timeout) number
+edge_words (Join x failed timeout interrupted) number =
+    outcome_words (is_some failed) (is_some timeout) number
 edge_words (Case h success failed) number = case_words number
 edge_words (Jz to) number = if number == 0 then [] else codes " (it was 0)"
 edge_words (Div to) number = if number == 0 then [] else codes " (by 0)"
@@ -131,8 +139,10 @@ place_name (Some s) pc = codes "line " ++ decimal s.line
 -- where a way comes from, by its line
 abbrev pub origin_words : Outline → Program → ℕ → Origin → List ℕ
 origin_words o p f Beginning = codes "the beginning"
-origin_words o p f (Edge pc number) = place_name (sentence_at o f pc) pc ++ edge_words (instr_at (routine p f).code pc) number
-origin_words o p f (Turn pc) = codes "the turn that ends at " ++ place_name (sentence_at o f pc) pc
+origin_words o p f (Edge pc number) =
+    place_name (sentence_at o f pc) pc ++ edge_words (instr_at (routine p f).code pc) number
+origin_words o p f (Turn pc) =
+    codes "the turn that ends at " ++ place_name (sentence_at o f pc) pc
 
 -- ---- the lines
 
@@ -142,11 +152,14 @@ side words way = words ++ codes " on the way from " ++ way
 
 -- `slot s1: success, of s0 on the way from line 12; failed, of s0 on the way from line 15`
 abbrev pub difference : List ℕ → List ℕ → List ℕ → List ℕ → List ℕ → List ℕ
-difference name a one b other = name ++ codes ":" ++ side a one ++ codes ";" ++ side b other ++ codes "\n"
+difference name a one b other =
+    name ++ codes ":" ++ side a one ++ codes ";" ++ side b other ++ codes "\n"
 
 -- the line of a part; the two ways go by these names
 unfoldable pub part_line : Meeting → List ℕ → List ℕ → Part → List ℕ
-part_line m one other part = difference (part_name part) (part_words part m.one.state) one (part_words part m.other.state) other
+part_line m one other part =
+    difference (part_name part) (part_words part m.one.state) one (part_words part m.other.state)
+    other
 
 -- a line for each of these parts
 abbrev pub part_lines : Meeting → List ℕ → List ℕ → List Part → List ℕ
@@ -154,14 +167,19 @@ part_lines m one other parts = flat_map (part_line m one other) parts
 
 -- the ways go by the places that they come from
 abbrev pub difference_lines : Outline → Program → ℕ → Meeting → List Part → List ℕ
-difference_lines o p f m parts = part_lines m (origin_words o p f m.one.origin) (origin_words o p f m.other.origin) parts
+difference_lines o p f m parts =
+    part_lines m (origin_words o p f m.one.origin) (origin_words o p f m.other.origin) parts
 
--- what was said before, and then a line for each of these parts in which the typestates of the two ways differ
-pub record SaysParts (m : Meeting) (one other : List ℕ) (parts : List Part) (before after : List ℕ) : Type 0 where
+-- what was said before, and then a line for each of these parts in which the typestates of the two
+-- ways differ
+pub record SaysParts (m : Meeting) (one other : List ℕ) (parts : List Part)
+    (before after : List ℕ) : Type 0 where
   pub found : List Part
   pub differ : Differing m.one.state m.other.state parts found
   pub said : after ≡ before ++ part_lines m one other found
 
 -- what was said before, and then a line for each part in which they differ
 abbrev pub SaysDifferences : Outline → Program → ℕ → Meeting → List ℕ → List ℕ → Type 0
-SaysDifferences o p f m before after = SaysParts m (origin_words o p f m.one.origin) (origin_words o p f m.other.origin) all_parts before after
+SaysDifferences o p f m before after =
+    SaysParts m (origin_words o p f m.one.origin) (origin_words o p f m.other.origin) all_parts
+    before after

@@ -59,7 +59,8 @@ check_place o f pc code.NoMain = []
 check_place o f pc code.TooLong = in_function (name_at o f)
 check_place o f pc code.DuplicateName = in_function (name_at o f)
 check_place o f pc code.BadTarget = in_function (name_at o f) ++ instr_place (sentence_at o f pc)
-check_place o f pc code.LaterFunction = in_function (name_at o f) ++ instr_place (sentence_at o f pc)
+check_place o f pc code.LaterFunction =
+    in_function (name_at o f) ++ instr_place (sentence_at o f pc)
 check_place o f pc code.BadRange =
     in_function (name_at o f)
     ++ (if takes_too_many (args_at o f) then [] else instr_place (sentence_at o f pc))

@@ -28,21 +28,28 @@ fault_output e text = record { bytes = fault_lines e text; status = 3 }
 
 -- ---- refusals
 
--- what is told beside the cause: the parts in which two ways that meet differ, always if that is why, and then one part at least; or what
--- weighs too much, if that is why
+-- what is told beside the cause: the parts in which two ways that meet differ, always if that is
+-- why, and then one part at least; or what weighs too much, if that is why
 pub data IsDetail (p : Program) (o : Outline) (f pc : ℕ) : Cause → List ℕ → Type 0 where
-  meets : (m : Meeting) (parts : List Part) → Meets p f pc m → AreDifferences m.one.state m.other.state parts → IsDetail p o f pc StatesDiffer (difference_lines o p f m parts)
-  weighs : (k : Resource) (h : Heavy) {c : Cause} → c ≡ cause_of k → IsHeavy p f k h → IsDetail p o f pc c (weight_lines o f k h)
+  meets : (m : Meeting) (parts : List Part) → Meets p f pc m
+      → AreDifferences m.one.state m.other.state parts
+      → IsDetail p o f pc StatesDiffer (difference_lines o p f m parts)
+  weighs : (k : Resource) (h : Heavy) {c : Cause} → c ≡ cause_of k → IsHeavy p f k h
+      → IsDetail p o f pc c (weight_lines o f k h)
   none : {c : Cause} → c ≢ StatesDiffer → IsDetail p o f pc c []
 
 -- what was printed before, and then the detail
-pub data Tells (p : Program) (o : Outline) (f pc : ℕ) (c : Cause) (before after : List ℕ) : Type 0 where
-  told : (detail : List ℕ) → IsDetail p o f pc c detail → after ≡ before ++ detail → Tells p o f pc c before after
+pub data Tells (p : Program) (o : Outline) (f pc : ℕ) (c : Cause)
+    (before after : List ℕ) : Type 0 where
+  told : (detail : List ℕ) → IsDetail p o f pc c detail → after ≡ before ++ detail
+      → Tells p o f pc c before after
 
 abbrev pub refused_output : Program → Outline → ℕ → ℕ → Cause → List ℕ → Output
-refused_output p o f pc c detail = record { bytes = refused_lines p (sentence_at o f pc) f c ++ detail; status = 4 }
+refused_output p o f pc c detail =
+    record { bytes = refused_lines p (sentence_at o f pc) f c ++ detail; status = 4 }
 
--- what is printed of a program that is refused at its least place with a cause, for the least cause there
+-- what is printed of a program that is refused at its least place with a cause, for the least cause
+-- there
 pub record IsRefused (p : Program) (o : Outline) (output : Output) : Type 0 where
   pub function : ℕ
   pub place : ℕ

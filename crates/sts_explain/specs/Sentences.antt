@@ -14,9 +14,9 @@ abbrev pub cause_sentence : Cause → List ℕ
 cause_sentence cause.StackUnder = codes "it pops more operands than there are here"
 cause_sentence cause.StackOver = codes "more than 32 operands would be on the stack afterwards"
 cause_sentence cause.FallsOff =
-    codes "it leads to the end of the function: a ret, a fail or a jmp is missing"
+    codes "it leads behind the last instruction of the function: a ret or a fail is missing"
 cause_sentence cause.BackJump =
-    codes "it names an instruction that isn't a later one: only times and next go back"
+    codes "it names an instruction that isn't a later one: only next goes back"
 cause_sentence cause.LoopMismatch =
     codes "a times without its next, a next without its times, or a way into a loop or out of it"
 cause_sentence cause.LoopDepth = codes "8 loops are open here, and it would open a ninth"
@@ -26,17 +26,17 @@ cause_sentence cause.DeadCode = codes "no way leads here"
 cause_sentence cause.SlotKind =
     codes "a slot that it names doesn't hold what it is about: a scope, or a subtask"
 cause_sentence cause.SlotBusy =
-    codes "the slot that it would fill isn't empty: a forget or a close is missing"
+    codes "the slot that it fills isn't empty: forget or close what it holds, or take another"
 cause_sentence cause.WrongThread =
     codes "the scope is the one that this function is a subtask of: only its owner may do this"
 cause_sentence cause.IllegalState =
     codes "the scope or subtask isn't known to be in the state for it: see its join or case"
 cause_sentence cause.Structure =
-    codes "what was opened last is ended first, and all that is open before a ret or fail"
+    codes "what opened last ends first, in its loop, all before ret or fail; no fork after a bind"
 cause_sentence cause.Nesting =
     codes "16 scopes and bindings are open here, and it would open one more"
 cause_sentence cause.Unbound =
-    codes "a key that is neither bound here nor named in the function's needs"
+    codes "a key that it or its subtask needs is neither bound here nor in the function's needs"
 cause_sentence cause.JoinEdges =
     codes "failed has a label just under all, any and awaitok, and timeout just where timed"
 cause_sentence cause.TooManySteps = codes "some path takes more than 1000000 steps"
@@ -55,7 +55,7 @@ code_sentence code.LaterFunction = codes "it forks a function that doesn't stand
 code_sentence code.NoMain =
     codes "the last function isn't main with no arguments and no needs, or there is none"
 code_sentence code.BadRange =
-    codes "a number out of its range, more than 8 arguments, or no instruction"
+    codes "a slot, local or key above 15, turns not 1 to 10000, ends not 1 to 65536, over 8 arguments, or no code"
 code_sentence code.DuplicateName = codes "an earlier function has the same name"
 
 -- what is wrong with a text, A1 to A10
@@ -63,53 +63,55 @@ abbrev pub kind_sentence : AsmKind → List ℕ
 kind_sentence asm.NotAscii =
     codes "a byte that isn't allowed: tabs, returns and the bytes 32 to 126 are"
 kind_sentence asm.UnknownWord =
-    codes "its first word is none, or may not stand here: inside a function, outside, or line 1"
+    codes "its first word is unknown, or may not stand here: outside a function, or below line 1"
 kind_sentence asm.BadNumber = codes "a word that should be a number of its range isn't one"
 kind_sentence asm.BadOperands =
     codes "an operand is missing, of another kind, left over or badly spelled"
 kind_sentence asm.UnknownLabel =
     codes "a label that isn't in this function, or a function that isn't in this text"
 kind_sentence asm.DuplicateLabel = codes "this function has that label already"
-kind_sentence asm.Unclosed = codes "the function before isn't ended: an end is missing"
+kind_sentence asm.Unclosed = codes "a function is open here: an end is missing before this line"
 kind_sentence asm.TextTooLong = codes "the text has more than 1048576 bytes"
 kind_sentence (asm.Code e) = code_sentence e.cause
 kind_sentence asm.Memory = codes "memory was refused"
 
 -- what has to stand at a place of a line
 abbrev pub wanted_sentence : Wanted → List ℕ
-wanted_sentence wanted.First = codes "func, end, a label or an instruction"
+wanted_sentence wanted.First =
+    codes "an instruction, a label or end inside a function, func outside, profile on line 1"
 wanted_sentence wanted.Inside =
     codes "func: labels, instructions and end stand inside a function only"
 wanted_sentence wanted.TopLine = codes "another word: profile stands on line 1 only"
 wanted_sentence wanted.NewLabel = codes "a label that this function hasn't yet"
 wanted_sentence wanted.KnownLabel = codes "a label of this function"
-wanted_sentence wanted.KnownFunction = codes "a function of this text"
+wanted_sentence wanted.KnownFunction = codes "a function that stands before this one"
 wanted_sentence wanted.Nothing = codes "nothing more"
-wanted_sentence wanted.Byte = codes "a number from 0 to 255"
-wanted_sentence wanted.Value = codes "a number of 64 bits with a sign"
-wanted_sentence wanted.Turns = codes "the bound, a number from 0 to 65535"
-wanted_sentence wanted.Slot = codes "a slot, s0 to s255"
+wanted_sentence wanted.Byte = codes "a number from 0 to 15"
+wanted_sentence wanted.Value = codes "a number from -9223372036854775808 to 9223372036854775807"
+wanted_sentence wanted.Turns = codes "the bound, a number from 1 to 10000"
+wanted_sentence wanted.Slot = codes "a slot, s0 to s15"
 wanted_sentence wanted.Label = codes "the name of a label"
-wanted_sentence wanted.OpenSlot = codes "the slot of the scope, s0 to s255"
+wanted_sentence wanted.OpenSlot = codes "the slot of the scope, s0 to s15"
 wanted_sentence wanted.Joiner = codes "the joiner: all, any, awaitok, awaitall or until"
 wanted_sentence wanted.Condition = codes "failed, success or atleast"
-wanted_sentence wanted.Count = codes "how many of them, a number of 32 bits"
-wanted_sentence wanted.Least = codes "the least value, a number of 64 bits with a sign"
+wanted_sentence wanted.Count = codes "how many of them, a number from 1 to 65536"
+wanted_sentence wanted.Least =
+    codes "the least value, a number from -9223372036854775808 to 9223372036854775807"
 wanted_sentence wanted.Timed = codes "timed, or nothing more"
-wanted_sentence wanted.ForkSlot = codes "the slot of the scope, s0 to s255"
+wanted_sentence wanted.ForkSlot = codes "the slot of the scope, s0 to s15"
 wanted_sentence wanted.Function = codes "the name of the function"
-wanted_sentence wanted.Handle = codes "the slot of the subtask, s0 to s255, or _ for none"
-wanted_sentence wanted.JoinSlot = codes "the slot of the scope, s0 to s255"
+wanted_sentence wanted.Handle = codes "the slot of the subtask, s0 to s15, or _ for none"
+wanted_sentence wanted.JoinSlot = codes "the slot of the scope, s0 to s15"
 wanted_sentence wanted.JoinFailed = codes "the label for failed, or - for none"
 wanted_sentence wanted.JoinTimeout = codes "the label for timeout, or - for none"
 wanted_sentence wanted.JoinInterrupted = codes "the label for interrupted"
-wanted_sentence wanted.CaseSlot = codes "the slot of the subtask, s0 to s255"
+wanted_sentence wanted.CaseSlot = codes "the slot of the subtask, s0 to s15"
 wanted_sentence wanted.CaseSuccess = codes "the label for success"
 wanted_sentence wanted.CaseFailed = codes "the label for failed"
-wanted_sentence wanted.TallySlot = codes "the slot of the scope, s0 to s255"
+wanted_sentence wanted.TallySlot = codes "the slot of the scope, s0 to s15"
 wanted_sentence wanted.State = codes "S, F or U"
 wanted_sentence wanted.Name = codes "the name of the function"
-wanted_sentence wanted.Args = codes "how many arguments it takes, a number from 0 to 255"
+wanted_sentence wanted.Args = codes "how many arguments it takes, a number from 0 to 8"
 wanted_sentence wanted.Needs = codes "needs, or nothing more"
 wanted_sentence wanted.Key = codes "a key, a number from 0 to 15"
 wanted_sentence wanted.Profile = codes "the profile, 1 or 2"

@@ -1,5 +1,6 @@
 -- The lines of a path, or a point of one, that weighs too much (this project's own).
-use Rattle.std.specs.Prelude.{ℕ, List, [], ◌++◌, Bool, ◌&&◌, ◌||◌, ◌==◌, nat_lt, not, if◌then◌else◌, length, get_or, sum_by, codes}
+use Rattle.std.specs.Prelude.{ℕ, List, [], ◌++◌, Bool, ◌&&◌, ◌||◌, ◌==◌, nat_lt, not, length}
+use Rattle.std.specs.Prelude.{get_or, if◌then◌else◌, sum_by, codes}
 use Rattle.std.specs.List.{flat_map, range_with_len}
 use Rattle.std.specs.Fmt.{decimal}
 use Rattle.sts_asm.specs.Outline.{Outline}
@@ -55,7 +56,8 @@ others shares = sum_by (λ x. one_if (is_other shares x)) (range_with_len 0 (len
 abbrev pub share_line : Outline → ℕ → List ℕ → ℕ → List ℕ
 share_line o f shares x =
     if is_shown shares x
-    then codes "adds " ++ decimal (get_or shares x 0) ++ place_words (sentence_at o f x) ++ codes "\n"
+    then codes "adds " ++ decimal (get_or shares x 0) ++ place_words (sentence_at o f x)
+    ++ codes "\n"
     else []
 
 abbrev pub share_lines : Outline → ℕ → List ℕ → List ℕ
@@ -63,10 +65,16 @@ share_lines o f shares = flat_map (share_line o f shares) (range_with_len 0 (len
 
 abbrev pub others_line : ℕ → List ℕ
 others_line count =
-    if count == 0 then [] else codes "and so do " ++ decimal count ++ codes " other lines, none of them more\n"
+    if count == 0 then []
+    else codes "other lines that add something, none of them more: " ++ decimal count ++ codes "\n"
 
--- `1000001 steps on a path that ends here, line 11: ret`, and what each of its instructions adds
+-- `1000001 steps on a path that ends here, line 11: ret`
+abbrev pub weight_line : Outline → ℕ → Resource → Heavy → List ℕ
+weight_line o f k h =
+    decimal h.weight ++ count_words k ++ place_words (sentence_at o f h.place) ++ codes "\n"
+
+-- the weight, and what each instruction of the path adds to it
 abbrev pub weight_lines : Outline → ℕ → Resource → Heavy → List ℕ
 weight_lines o f k h =
-    decimal h.weight ++ count_words k ++ place_words (sentence_at o f h.place) ++ codes "\n"
-    ++ share_lines o f h.shares.items ++ others_line (others h.shares.items) ++ own_line k
+    weight_line o f k h ++ share_lines o f h.shares.items ++ others_line (others h.shares.items)
+    ++ own_line k

@@ -23,7 +23,7 @@ bracketed (Some word) = codes " [" ++ word ++ codes "]"
 abbrev pub wanted_words : Wanted → List ℕ
 wanted_words wanted = codes ": wanted is " ++ wanted_sentence wanted ++ codes "\n"
 
--- ` push [seven]: wanted is a number of 64 bits with a sign`
+-- ` push [seven]: wanted is a number from -9223372036854775808 to 9223372036854775807`
 abbrev pub stop_words : Stop → List ℕ
 stop_words s = after_spaces s.before ++ bracketed s.word ++ wanted_words s.wanted
 

@@ -16,11 +16,9 @@ pub(crate) fn cause_sentence(cause: Cause) -> &'static str
         Cause::StackUnder => "it pops more operands than there are here",
         Cause::StackOver => "more than 32 operands would be on the stack afterwards",
         Cause::FallsOff => {
-            "it leads to the end of the function: a ret, a fail or a jmp is missing"
+            "it leads behind the last instruction of the function: a ret or a fail is missing"
         }
-        Cause::BackJump => {
-            "it names an instruction that isn't a later one: only times and next go back"
-        }
+        Cause::BackJump => { "it names an instruction that isn't a later one: only next goes back" }
         Cause::LoopMismatch => {
             "a times without its next, a next without its times, or a way into a loop or out of it"
         }
@@ -32,7 +30,7 @@ pub(crate) fn cause_sentence(cause: Cause) -> &'static str
             "a slot that it names doesn't hold what it is about: a scope, or a subtask"
         }
         Cause::SlotBusy => {
-            "the slot that it would fill isn't empty: a forget or a close is missing"
+            "the slot that it fills isn't empty: forget or close what it holds, or take another"
         }
         Cause::WrongThread => {
             "the scope is the one that this function is a subtask of: only its owner may do this"
@@ -41,10 +39,11 @@ pub(crate) fn cause_sentence(cause: Cause) -> &'static str
             "the scope or subtask isn't known to be in the state for it: see its join or case"
         }
         Cause::Structure => {
-            "what was opened last is ended first, and all that is open before a ret or fail"
+            "what opened last ends first, in its loop, all before ret or fail; no fork after a bind"
         }
         Cause::Nesting => "16 scopes and bindings are open here, and it would open one more",
-        Cause::Unbound => "a key that is neither bound here nor named in the function's needs",
+        Cause::Unbound =>
+            "a key that it or its subtask needs is neither bound here nor in the function's needs",
         Cause::JoinEdges => {
             "failed has a label just under all, any and awaitok, and timeout just where timed"
         }
@@ -68,7 +67,8 @@ pub(crate) fn code_sentence(code: CodeCause) -> &'static str
             "the last function isn't main with no arguments and no needs, or there is none"
         }
         CodeCause::BadRange => {
-            "a number out of its range, more than 8 arguments, or no instruction"
+            "a slot, local or key above 15, turns not 1 to 10000, ends not 1 to 65536, \
+                over 8 arguments, or no code"
         }
         CodeCause::DuplicateName => "an earlier function has the same name",
     }
@@ -83,7 +83,7 @@ pub(crate) fn kind_sentence(kind: AsmKind) -> &'static str
             "a byte that isn't allowed: tabs, returns and the bytes 32 to 126 are"
         }
         AsmKind::UnknownWord => {
-            "its first word is none, or may not stand here: inside a function, outside, or line 1"
+            "its first word is unknown, or may not stand here: outside a function, or below line 1"
         }
         AsmKind::BadNumber => "a word that should be a number of its range isn't one",
         AsmKind::BadOperands => {
@@ -93,7 +93,7 @@ pub(crate) fn kind_sentence(kind: AsmKind) -> &'static str
             "a label that isn't in this function, or a function that isn't in this text"
         }
         AsmKind::DuplicateLabel => "this function has that label already",
-        AsmKind::Unclosed => "the function before isn't ended: an end is missing",
+        AsmKind::Unclosed => "a function is open here: an end is missing before this line",
         AsmKind::TextTooLong => "the text has more than 1048576 bytes",
         AsmKind::Memory => "memory was refused",
         AsmKind::Code(error) => code_sentence(error.cause),
@@ -105,38 +105,40 @@ pub(crate) fn wanted_sentence(wanted: Wanted) -> &'static str
     ensures { result.now ≡ def.wanted_sentence wanted }
 {
     match wanted {
-        Wanted::First => "func, end, a label or an instruction",
+        Wanted::First =>
+            "an instruction, a label or end inside a function, func outside, profile on line 1",
         Wanted::Inside => "func: labels, instructions and end stand inside a function only",
         Wanted::TopLine => "another word: profile stands on line 1 only",
         Wanted::NewLabel => "a label that this function hasn't yet",
         Wanted::KnownLabel => "a label of this function",
-        Wanted::KnownFunction => "a function of this text",
+        Wanted::KnownFunction => "a function that stands before this one",
         Wanted::Nothing => "nothing more",
-        Wanted::Byte => "a number from 0 to 255",
-        Wanted::Value => "a number of 64 bits with a sign",
-        Wanted::Turns => "the bound, a number from 0 to 65535",
-        Wanted::Slot => "a slot, s0 to s255",
+        Wanted::Byte => "a number from 0 to 15",
+        Wanted::Value => "a number from -9223372036854775808 to 9223372036854775807",
+        Wanted::Turns => "the bound, a number from 1 to 10000",
+        Wanted::Slot => "a slot, s0 to s15",
         Wanted::Label => "the name of a label",
-        Wanted::OpenSlot => "the slot of the scope, s0 to s255",
+        Wanted::OpenSlot => "the slot of the scope, s0 to s15",
         Wanted::Joiner => "the joiner: all, any, awaitok, awaitall or until",
         Wanted::Condition => "failed, success or atleast",
-        Wanted::Count => "how many of them, a number of 32 bits",
-        Wanted::Least => "the least value, a number of 64 bits with a sign",
+        Wanted::Count => "how many of them, a number from 1 to 65536",
+        Wanted::Least =>
+            "the least value, a number from -9223372036854775808 to 9223372036854775807",
         Wanted::Timed => "timed, or nothing more",
-        Wanted::ForkSlot => "the slot of the scope, s0 to s255",
+        Wanted::ForkSlot => "the slot of the scope, s0 to s15",
         Wanted::Function => "the name of the function",
-        Wanted::Handle => "the slot of the subtask, s0 to s255, or _ for none",
-        Wanted::JoinSlot => "the slot of the scope, s0 to s255",
+        Wanted::Handle => "the slot of the subtask, s0 to s15, or _ for none",
+        Wanted::JoinSlot => "the slot of the scope, s0 to s15",
         Wanted::JoinFailed => "the label for failed, or - for none",
         Wanted::JoinTimeout => "the label for timeout, or - for none",
         Wanted::JoinInterrupted => "the label for interrupted",
-        Wanted::CaseSlot => "the slot of the subtask, s0 to s255",
+        Wanted::CaseSlot => "the slot of the subtask, s0 to s15",
         Wanted::CaseSuccess => "the label for success",
         Wanted::CaseFailed => "the label for failed",
-        Wanted::TallySlot => "the slot of the scope, s0 to s255",
+        Wanted::TallySlot => "the slot of the scope, s0 to s15",
         Wanted::State => "S, F or U",
         Wanted::Name => "the name of the function",
-        Wanted::Args => "how many arguments it takes, a number from 0 to 255",
+        Wanted::Args => "how many arguments it takes, a number from 0 to 8",
         Wanted::Needs => "needs, or nothing more",
         Wanted::Key => "a key, a number from 0 to 15",
         Wanted::Profile => "the profile, 1 or 2",

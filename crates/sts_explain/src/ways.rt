@@ -1,6 +1,8 @@
 //! The ways that arrive at a place, and two of them that differ.
 
-ghost use Rattle.std.specs.Prelude.{◌≡◌, ◌≢◌, ◌<◌, ◌^◌, IfOk, IfSome, MatchOption, None, Some, length, slice_set, is_some, if◌then◌else◌, slice_index_or, replicate};
+ghost use Rattle.std.specs.Prelude.{◌≡◌, ◌≢◌, ◌<◌, ◌^◌, IfOk, IfSome, MatchOption, None, Some};
+ghost use Rattle.std.specs.Prelude.{if◌then◌else◌, length, slice_set, is_some, slice_index_or};
+ghost use Rattle.std.specs.Prelude.{replicate};
 ghost use Rattle.std.specs.Option.{option_copied};
 ghost use Rattle.sts_rules.specs.Edges as rules;
 ghost use Rattle.sts_rules.specs.Flow.{Reaches};

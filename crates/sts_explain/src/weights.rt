@@ -37,7 +37,7 @@ fn own_line(resource: Resource) -> &'static str
 }
 
 /// Does one place add more than this one, or as much and stands before it?
-fn is_weightier(shares: &[u64], this: usize, one: usize) -> bool
+fn is_weightier(shares: &[u128], this: usize, one: usize) -> bool
     requires this { this < length shares.now }
     requires one { one < length shares.now }
     ensures { result ≡ def.is_weightier shares.now this one }
@@ -54,7 +54,7 @@ fn one_if(so: bool) -> usize
 }
 
 /// How many places are weightier.
-fn rank(shares: &[u64], this: usize) -> usize
+fn rank(shares: &[u128], this: usize) -> usize
     requires { this < length shares.now }
     ensures { result ≡ def.rank shares.now this }
 {
@@ -66,7 +66,7 @@ fn rank(shares: &[u64], this: usize) -> usize
 }
 
 /// Is the place one of the weightiest, and adds anything?
-fn is_shown(shares: &[u64], this: usize) -> bool
+fn is_shown(shares: &[u128], this: usize) -> bool
     requires { this < length shares.now }
     ensures { result ≡ def.is_shown shares.now this }
 {
@@ -74,7 +74,7 @@ fn is_shown(shares: &[u64], this: usize) -> bool
 }
 
 /// Does the place add something, and is not shown?
-fn is_other(shares: &[u64], this: usize) -> bool
+fn is_other(shares: &[u128], this: usize) -> bool
     requires { this < length shares.now }
     ensures { result ≡ def.is_other shares.now this }
 {
@@ -82,7 +82,7 @@ fn is_other(shares: &[u64], this: usize) -> bool
 }
 
 /// How many others add something.
-fn others(shares: &[u64]) -> usize
+fn others(shares: &[u128]) -> usize
     ensures { result ≡ def.others shares.now }
 {
     let mut count = 0;
@@ -98,7 +98,7 @@ fn say_share(
     out: &mut Vec<u8>,
     outline: &Outline<'_>,
     function: u32,
-    shares: &[u64],
+    shares: &[u128],
     place: usize,
 ) -> Result<(), AllocError>
     requires place { place < length shares.now }
@@ -121,7 +121,7 @@ fn say_shares(
     out: &mut Vec<u8>,
     outline: &Outline<'_>,
     function: u32,
-    shares: &[u64],
+    shares: &[u128],
 ) -> Result<(), AllocError>
     requires { length shares.now ≤ MAX_INSTRUCTIONS }
     ensures { OnOk result (out.new.items
@@ -139,8 +139,28 @@ fn say_others(alloc: Global, out: &mut Vec<u8>, count: usize) -> Result<(), Allo
     if count == 0 {
         return Ok(());
     }
-    let line = format!(in alloc; "and so do {count} other lines, none of them more\n")?;
+    let line = format!(in alloc; "other lines that add something, none of them more: {count}\n")?;
     say(out, line.as_str())
+}
+
+/// What weighs too much, and where.
+fn say_weight(
+    alloc: Global,
+    out: &mut Vec<u8>,
+    outline: &Outline<'_>,
+    function: u32,
+    resource: Resource,
+    heavy: &Heavy,
+) -> Result<(), AllocError>
+    ensures { OnOk result (out.new.items
+        ≡ out.old.items ++ def.weight_line outline.now function resource heavy.now) }
+{
+    let weight = heavy.weight;
+    let head = format!(in alloc; "{weight}")?;
+    say(out, head.as_str())?;
+    say(out, count_words(resource))?;
+    say_place(alloc, out, outline.sentence(function, heavy.place))?;
+    say(out, "\n")
 }
 
 /// What weighs too much, and a line for each of the instructions that add most to it.
@@ -160,12 +180,7 @@ pub(crate) fn weight_lines(
     ensures { OnOk result (out.new.items
         ≡ out.old.items ++ def.weight_lines outline.now function resource heavy.now) }
 {
-    let weight = heavy.weight;
-    let head = format!(in alloc; "{weight}")?;
-    say(out, head.as_str())?;
-    say(out, count_words(resource))?;
-    say_place(alloc, out, outline.sentence(function, heavy.place))?;
-    say(out, "\n")?;
+    say_weight(alloc, out, outline, function, resource, heavy)?;
     let shares = heavy.shares.as_slice();
     say_shares(alloc, out, outline, function, shares)?;
     say_others(alloc, out, others(shares))?;

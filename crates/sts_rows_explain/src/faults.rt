@@ -17,19 +17,19 @@ static FAULTS: [Row; 19] = [
     Row {
         name: "no such instruction",
         text: &[Part(1, "func main 0 / puhs 7 / ret / end")],
-        lines: "error A2, line 2: puhs 7 / its first word is none, or may not stand here: inside a function, outside, or line 1 / at [puhs]: wanted is func, end, a label or an instruction",
+        lines: "error A2, line 2: puhs 7 / its first word is unknown, or may not stand here: outside a function, or below line 1 / at [puhs]: wanted is an instruction, a label or end inside a function, func outside, profile on line 1",
         status: 3,
     },
     Row {
         name: "an instruction outside a function",
         text: &[Part(1, "push 7")],
-        lines: "error A2, line 1: push 7 / its first word is none, or may not stand here: inside a function, outside, or line 1 / at [push]: wanted is func: labels, instructions and end stand inside a function only",
+        lines: "error A2, line 1: push 7 / its first word is unknown, or may not stand here: outside a function, or below line 1 / at [push]: wanted is func: labels, instructions and end stand inside a function only",
         status: 3,
     },
     Row {
         name: "a value that is too large",
         text: &[Part(1, "func main 0 / push 9223372036854775808 / ret / end")],
-        lines: "error A3, line 2: push 9223372036854775808 / a word that should be a number of its range isn't one / at push [9223372036854775808]: wanted is a number of 64 bits with a sign",
+        lines: "error A3, line 2: push 9223372036854775808 / a word that should be a number of its range isn't one / at push [9223372036854775808]: wanted is a number from -9223372036854775808 to 9223372036854775807",
         status: 3,
     },
     Row {
@@ -41,7 +41,7 @@ static FAULTS: [Row; 19] = [
     Row {
         name: "a missing operand",
         text: &[Part(1, "func main 0 / push ; 7 / ret / end")],
-        lines: "error A4, line 2: push / an operand is missing, of another kind, left over or badly spelled / at push []: wanted is a number of 64 bits with a sign",
+        lines: "error A4, line 2: push / an operand is missing, of another kind, left over or badly spelled / at push []: wanted is a number from -9223372036854775808 to 9223372036854775807",
         status: 3,
     },
     Row {
@@ -65,13 +65,13 @@ static FAULTS: [Row; 19] = [
     Row {
         name: "a function in a function",
         text: &[Part(1, "func main 0 / func kid 0 / end")],
-        lines: "error A7, line 2: func kid 0 / the function before isn't ended: an end is missing",
+        lines: "error A7, line 2: func kid 0 / a function is open here: an end is missing before this line",
         status: 3,
     },
     Row {
         name: "a function that isn't ended",
         text: &[Part(1, "func main 0")],
-        lines: "error A7, line 2: / the function before isn't ended: an end is missing",
+        lines: "error A7, line 2: / a function is open here: an end is missing before this line",
         status: 3,
     },
     Row {
@@ -120,7 +120,7 @@ static FAULTS: [Row; 19] = [
     Row {
         name: "a bound of no turns",
         text: &[Part(1, "func main 0 / push 1 / times 0 / next / ret / end")],
-        lines: "error A9 C6 in main, line 3: times 0 / a number out of its range, more than 8 arguments, or no instruction",
+        lines: "error A9 C6 in main, line 3: times 0 / a slot, local or key above 15, turns not 1 to 10000, ends not 1 to 65536, over 8 arguments, or no code",
         status: 3,
     },
     Row {

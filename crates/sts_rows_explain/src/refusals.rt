@@ -23,13 +23,13 @@ static OPERANDS_AND_WAYS: [Row; 5] = [
     Row {
         name: "a function without an end",
         text: &[Part(1, "func main 0 / push 1 / end")],
-        lines: "refused V3 in main, line 2: push 1 / it leads to the end of the function: a ret, a fail or a jmp is missing",
+        lines: "refused V3 in main, line 2: push 1 / it leads behind the last instruction of the function: a ret or a fail is missing",
         status: 4,
     },
     Row {
         name: "a label that stands before",
         text: &[Part(1, "func main 0 / x: / jmp   x  ; again / end")],
-        lines: "refused V4 in main, line 3: jmp x / it names an instruction that isn't a later one: only times and next go back",
+        lines: "refused V4 in main, line 3: jmp x / it names an instruction that isn't a later one: only next goes back",
         status: 4,
     },
     Row {
@@ -73,7 +73,7 @@ static LOOPS_AND_SLOTS: [Row; 5] = [
             1,
             "func main 0 / open s0 awaitall / open s0 awaitall / join s0 - - intr / close s0 / push 1 / ret / intr: / push 0 / close s0 / fail / end",
         )],
-        lines: "refused V10 in main, line 3: open s0 awaitall / the slot that it would fill isn't empty: a forget or a close is missing",
+        lines: "refused V10 in main, line 3: open s0 awaitall / the slot that it fills isn't empty: forget or close what it holds, or take another",
         status: 4,
     },
     Row {
@@ -87,7 +87,7 @@ static LOOPS_AND_SLOTS: [Row; 5] = [
     },
 ];
 
-static SCOPES_AND_BINDINGS: [Row; 5] = [
+static SCOPES_AND_BINDINGS: [Row; 8] = [
     Row {
         name: "a close before a join",
         text: &[Part(
@@ -100,7 +100,7 @@ static SCOPES_AND_BINDINGS: [Row; 5] = [
     Row {
         name: "a scope is open at ret",
         text: &[Part(1, "func main 0 / open s0 awaitall / push 1 / ret / end")],
-        lines: "refused V13 in main, line 4: ret / what was opened last is ended first, and all that is open before a ret or fail",
+        lines: "refused V13 in main, line 4: ret / what opened last ends first, in its loop, all before ret or fail; no fork after a bind",
         status: 4,
     },
     Row {
@@ -117,7 +117,7 @@ static SCOPES_AND_BINDINGS: [Row; 5] = [
     Row {
         name: "a key that isn't bound",
         text: &[Part(1, "func main 0 / read 2 / ret / end")],
-        lines: "refused V15 in main, line 2: read 2 / a key that is neither bound here nor named in the function's needs",
+        lines: "refused V15 in main, line 2: read 2 / a key that it or its subtask needs is neither bound here nor in the function's needs",
         status: 4,
     },
     Row {
@@ -127,6 +127,33 @@ static SCOPES_AND_BINDINGS: [Row; 5] = [
             "func main 0 / open s0 awaitall / join s0 x - x / close s0 / push 1 / ret / x: / close s0 / push 2 / ret / end",
         )],
         lines: "refused V16 in main, line 3: join s0 x - x / failed has a label just under all, any and awaitok, and timeout just where timed",
+        status: 4,
+    },
+    Row {
+        name: "a fork behind a bind",
+        text: &[Part(
+            1,
+            "func kid 0 / push 0 / ret / end / func main 0 / open s0 awaitall / push 5 / bind 1 / fork s0 kid _ / unbind / join s0 - - intr / close s0 / push 1 / ret / intr: / push 0 / close s0 / fail / end",
+        )],
+        lines: "refused V13 in main, line 9: fork s0 kid _ / what opened last ends first, in its loop, all before ret or fail; no fork after a bind",
+        status: 4,
+    },
+    Row {
+        name: "a loop ends what stood before it",
+        text: &[Part(
+            1,
+            "func main 0 / push 5 / bind 1 / push 2 / times 2 / unbind / next / push 0 / ret / end",
+        )],
+        lines: "refused V13 in main, line 6: unbind / what opened last ends first, in its loop, all before ret or fail; no fork after a bind",
+        status: 4,
+    },
+    Row {
+        name: "a key that the subtask needs",
+        text: &[Part(
+            1,
+            "func kid 0 needs 3 / read 3 / ret / end / func main 0 / open s0 awaitall / fork s0 kid _ / join s0 - - intr / close s0 / push 1 / ret / intr: / push 0 / close s0 / fail / end",
+        )],
+        lines: "refused V15 in main, line 7: fork s0 kid _ / a key that it or its subtask needs is neither bound here nor in the function's needs",
         status: 4,
     },
 ];
@@ -182,7 +209,7 @@ static BUDGETS: [Row; 4] = [
     },
 ];
 
-static WAYS: [Row; 6] = [
+static WAYS: [Row; 11] = [
     Row {
         name: "one way pushes",
         text: &[Part(
@@ -237,9 +264,51 @@ static WAYS: [Row; 6] = [
         lines: "refused V7 in main, line 11: join s0 - late intr / two ways meet here, or two turns of a loop, and what is known of the task differs / slot s3: empty on the way from line 8 (it was 0); unknown, of s0 on the way from line 9",
         status: 4,
     },
+    Row {
+        name: "two outcomes of a case",
+        text: &[Part(
+            1,
+            "func kid 0 / push 5 / ret / end / func main 0 / open s0 awaitall / fork s0 kid s1 / join s0 - - intr / case s1 out out / close s0 / push -1 / ret / out: / close s0 / push 0 / ret / intr: / push 0 / close s0 / fail / end",
+        )],
+        lines: "refused V7 in main, line 14: close s0 / two ways meet here, or two turns of a loop, and what is known of the task differs / slot s1: success, of s0 on the way from line 9 (success); failed, of s0 on the way from line 9 (failed)",
+        status: 4,
+    },
+    Row {
+        name: "a case that falls through to its label",
+        text: &[Part(
+            1,
+            "func kid 0 / push 5 / ret / end / func main 0 / open s0 awaitall / fork s0 kid s1 / join s0 - - intr / case s1 yes no / yes: / close s0 / push 1 / ret / no: / close s0 / push 0 / ret / intr: / push 0 / close s0 / fail / end",
+        )],
+        lines: "refused V7 in main, line 11: close s0 / two ways meet here, or two turns of a loop, and what is known of the task differs / slot s1: unknown, of s0 on the way from line 9 (unavailable); success, of s0 on the way from line 9 (success)",
+        status: 4,
+    },
+    Row {
+        name: "a timeout and an interrupt",
+        text: &[Part(
+            1,
+            "func main 0 / open s0 awaitall timed / join s0 - out out / close s0 / push 1 / ret / out: / close s0 / push 0 / ret / end",
+        )],
+        lines: "refused V7 in main, line 8: close s0 / two ways meet here, or two turns of a loop, and what is known of the task differs / open, the last one first: (s0 awaitall timed late) on the way from line 3 (timeout); (s0 awaitall timed attempted) on the way from line 3 (interrupted)",
+        status: 4,
+    },
+    Row {
+        name: "a division by 0",
+        text: &[Part(1, "func main 0 / push 6 / push 2 / div x / x: / ret / end")],
+        lines: "refused V7 in main, line 6: ret / two ways meet here, or two turns of a loop, and what is known of the task differs / operands: 1 on the way from line 4; 0 on the way from line 4 (by 0)",
+        status: 4,
+    },
+    Row {
+        name: "a loop without a turn",
+        text: &[Part(
+            1,
+            "func main 0 / push 7 / push 0 / jz on / pop / push 2 / times 2 / next / on: / ret / end",
+        )],
+        lines: "refused V7 in main, line 10: ret / two ways meet here, or two turns of a loop, and what is known of the task differs / operands: 1 on the way from line 4 (it was 0); 0 on the way from line 7 (no turn)",
+        status: 4,
+    },
 ];
 
-static WEIGHTS: [Row; 6] = [
+static WEIGHTS: [Row; 7] = [
     Row {
         name: "of two ways the one with the loops",
         text: &[Part(
@@ -271,7 +340,7 @@ static WEIGHTS: [Row; 6] = [
                 "join s0 - - intr / close s0 / push 1 / ret / intr: / push 0 / close s0 / fail / end",
             ),
         ],
-        lines: "refused V17 in main, at its end / some path takes more than 1000000 steps / 1000506 steps on a path that ends here, line 113: ret / adds 10005, line 10: fork s0 kid _ / adds 10005, line 11: fork s0 kid _ / adds 10005, line 12: fork s0 kid _ / adds 10005, line 13: fork s0 kid _ / adds 10005, line 14: fork s0 kid _ / adds 10005, line 15: fork s0 kid _ / adds 10005, line 16: fork s0 kid _ / adds 10005, line 17: fork s0 kid _ / adds 10005, line 18: fork s0 kid _ / adds 10005, line 19: fork s0 kid _ / adds 10005, line 20: fork s0 kid _ / adds 10005, line 21: fork s0 kid _ / adds 10005, line 22: fork s0 kid _ / adds 10005, line 23: fork s0 kid _ / adds 10005, line 24: fork s0 kid _ / adds 10005, line 25: fork s0 kid _ / adds 10005, line 26: fork s0 kid _ / adds 10005, line 27: fork s0 kid _ / adds 10005, line 28: fork s0 kid _ / adds 10005, line 29: fork s0 kid _ / adds 10005, line 30: fork s0 kid _ / adds 10005, line 31: fork s0 kid _ / adds 10005, line 32: fork s0 kid _ / adds 10005, line 33: fork s0 kid _ / adds 10005, line 34: fork s0 kid _ / adds 10005, line 35: fork s0 kid _ / adds 10005, line 36: fork s0 kid _ / adds 10005, line 37: fork s0 kid _ / adds 10005, line 38: fork s0 kid _ / adds 10005, line 39: fork s0 kid _ / adds 10005, line 40: fork s0 kid _ / adds 10005, line 41: fork s0 kid _ / adds 10005, line 42: fork s0 kid _ / adds 10005, line 43: fork s0 kid _ / adds 10005, line 44: fork s0 kid _ / adds 10005, line 45: fork s0 kid _ / adds 10005, line 46: fork s0 kid _ / adds 10005, line 47: fork s0 kid _ / adds 10005, line 48: fork s0 kid _ / adds 10005, line 49: fork s0 kid _ / adds 10005, line 50: fork s0 kid _ / adds 10005, line 51: fork s0 kid _ / adds 10005, line 52: fork s0 kid _ / adds 10005, line 53: fork s0 kid _ / adds 10005, line 54: fork s0 kid _ / adds 10005, line 55: fork s0 kid _ / adds 10005, line 56: fork s0 kid _ / adds 10005, line 57: fork s0 kid _ / adds 10005, line 58: fork s0 kid _ / adds 10005, line 59: fork s0 kid _ / and so do 54 other lines, none of them more / adds 1, its last step",
+        lines: "refused V17 in main, at its end / some path takes more than 1000000 steps / 1000506 steps on a path that ends here, line 113: ret / adds 10005, line 10: fork s0 kid _ / adds 10005, line 11: fork s0 kid _ / adds 10005, line 12: fork s0 kid _ / adds 10005, line 13: fork s0 kid _ / adds 10005, line 14: fork s0 kid _ / adds 10005, line 15: fork s0 kid _ / adds 10005, line 16: fork s0 kid _ / adds 10005, line 17: fork s0 kid _ / adds 10005, line 18: fork s0 kid _ / adds 10005, line 19: fork s0 kid _ / adds 10005, line 20: fork s0 kid _ / adds 10005, line 21: fork s0 kid _ / adds 10005, line 22: fork s0 kid _ / adds 10005, line 23: fork s0 kid _ / adds 10005, line 24: fork s0 kid _ / adds 10005, line 25: fork s0 kid _ / adds 10005, line 26: fork s0 kid _ / adds 10005, line 27: fork s0 kid _ / adds 10005, line 28: fork s0 kid _ / adds 10005, line 29: fork s0 kid _ / adds 10005, line 30: fork s0 kid _ / adds 10005, line 31: fork s0 kid _ / adds 10005, line 32: fork s0 kid _ / adds 10005, line 33: fork s0 kid _ / adds 10005, line 34: fork s0 kid _ / adds 10005, line 35: fork s0 kid _ / adds 10005, line 36: fork s0 kid _ / adds 10005, line 37: fork s0 kid _ / adds 10005, line 38: fork s0 kid _ / adds 10005, line 39: fork s0 kid _ / adds 10005, line 40: fork s0 kid _ / adds 10005, line 41: fork s0 kid _ / adds 10005, line 42: fork s0 kid _ / adds 10005, line 43: fork s0 kid _ / adds 10005, line 44: fork s0 kid _ / adds 10005, line 45: fork s0 kid _ / adds 10005, line 46: fork s0 kid _ / adds 10005, line 47: fork s0 kid _ / adds 10005, line 48: fork s0 kid _ / adds 10005, line 49: fork s0 kid _ / adds 10005, line 50: fork s0 kid _ / adds 10005, line 51: fork s0 kid _ / adds 10005, line 52: fork s0 kid _ / adds 10005, line 53: fork s0 kid _ / adds 10005, line 54: fork s0 kid _ / adds 10005, line 55: fork s0 kid _ / adds 10005, line 56: fork s0 kid _ / adds 10005, line 57: fork s0 kid _ / adds 10005, line 58: fork s0 kid _ / adds 10005, line 59: fork s0 kid _ / other lines that add something, none of them more: 54 / adds 1, its last step",
         status: 4,
     },
     Row {
@@ -306,6 +375,17 @@ static WEIGHTS: [Row; 6] = [
             "func a 0 / push 1 / bind 0 / push 1 / bind 0 / unbind / unbind / push 0 / ret / end / func main 0 / push 1 / bind 3 / unbind / push 2 / bind 4 / open s0 awaitall / push 4 / times 4 / push 8192 / times 8192 / fork s0 a _ / next / next / join s0 - - x / close s0 / unbind / push 1 / ret / x: / close s0 / unbind / push 2 / ret / end",
         )],
         lines: "refused V20 in main, at its end / at some point of a path more than 65536 bindings are open / 65537 bindings are open here, line 23: next / adds 1, line 16: bind 4 / adds 65536, line 22: fork s0 a _",
+        status: 4,
+    },
+    Row {
+        name: "eight loops, the one in the other",
+        text: &[
+            Part(1, "func main 0"),
+            Part(8, "push 10000 / times 10000"),
+            Part(8, "next"),
+            Part(1, "push 0 / ret / end"),
+        ],
+        lines: "refused V17 in main, at its end / some path takes more than 1000000 steps / 100030003000300030003000300030004 steps on a path that ends here, line 27: ret / adds 1, line 2: push 10000 / adds 1, line 3: times 10000 / adds 10000, line 4: push 10000 / adds 10000, line 5: times 10000 / adds 100000000, line 6: push 10000 / adds 100000000, line 7: times 10000 / adds 1000000000000, line 8: push 10000 / adds 1000000000000, line 9: times 10000 / adds 10000000000000000, line 10: push 10000 / adds 10000000000000000, line 11: times 10000 / adds 100000000000000000000, line 12: push 10000 / adds 100000000000000000000, line 13: times 10000 / adds 1000000000000000000000000, line 14: push 10000 / adds 1000000000000000000000000, line 15: times 10000 / adds 10000000000000000000000000000, line 16: push 10000 / adds 10000000000000000000000000000, line 17: times 10000 / adds 100000000000000000000000000000000, line 18: next / adds 10000000000000000000000000000, line 19: next / adds 1000000000000000000000000, line 20: next / adds 100000000000000000000, line 21: next / adds 10000000000000000, line 22: next / adds 1000000000000, line 23: next / adds 100000000, line 24: next / adds 10000, line 25: next / adds 1, line 26: push 0 / adds 1, its last step",
         status: 4,
     },
 ];

@@ -159,7 +159,7 @@ static TRACES: [RunRow; 6] = [
         name: "a fault of the text comes first",
         text: &[Part(1, "func main 0 / puhs 7 / ret / end")],
         trace: &[Part(1, "stp 0")],
-        lines: "error A2, line 2: puhs 7 / its first word is none, or may not stand here: inside a function, outside, or line 1 / at [puhs]: wanted is func, end, a label or an instruction",
+        lines: "error A2, line 2: puhs 7 / its first word is unknown, or may not stand here: outside a function, or below line 1 / at [puhs]: wanted is an instruction, a label or end inside a function, func outside, profile on line 1",
         status: 3,
     },
     RunRow {

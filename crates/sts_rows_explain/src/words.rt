@@ -7,19 +7,19 @@ static OPERANDS: [Row; 11] = [
     Row {
         name: "a local that is too large",
         text: &[Part(1, "func main 0 / push 1 / load 256 / end")],
-        lines: "error A3, line 3: load 256 / a word that should be a number of its range isn't one / at load [256]: wanted is a number from 0 to 255",
+        lines: "error A3, line 3: load 256 / a word that should be a number of its range isn't one / at load [256]: wanted is a number from 0 to 15",
         status: 3,
     },
     Row {
         name: "a bound that is too large",
         text: &[Part(1, "func main 0 / push 1 / times 65536 / end")],
-        lines: "error A3, line 3: times 65536 / a word that should be a number of its range isn't one / at times [65536]: wanted is the bound, a number from 0 to 65535",
+        lines: "error A3, line 3: times 65536 / a word that should be a number of its range isn't one / at times [65536]: wanted is the bound, a number from 1 to 10000",
         status: 3,
     },
     Row {
         name: "a slot that is too large",
         text: &[Part(1, "func main 0 / push 1 / close s256 / end")],
-        lines: "error A4, line 3: close s256 / an operand is missing, of another kind, left over or badly spelled / at close [s256]: wanted is a slot, s0 to s255",
+        lines: "error A4, line 3: close s256 / an operand is missing, of another kind, left over or badly spelled / at close [s256]: wanted is a slot, s0 to s15",
         status: 3,
     },
     Row {
@@ -49,7 +49,7 @@ static OPERANDS: [Row; 11] = [
     Row {
         name: "a tally of no slot",
         text: &[Part(1, "func main 0 / push 1 / tally S / end")],
-        lines: "error A4, line 3: tally S / an operand is missing, of another kind, left over or badly spelled / at tally [S]: wanted is the slot of the scope, s0 to s255",
+        lines: "error A4, line 3: tally S / an operand is missing, of another kind, left over or badly spelled / at tally [S]: wanted is the slot of the scope, s0 to s15",
         status: 3,
     },
     Row {
@@ -67,7 +67,7 @@ static OPERANDS: [Row; 11] = [
     Row {
         name: "a case of no slot",
         text: &[Part(1, "func main 0 / push 1 / case yes no / end")],
-        lines: "error A4, line 3: case yes no / an operand is missing, of another kind, left over or badly spelled / at case [yes]: wanted is the slot of the subtask, s0 to s255",
+        lines: "error A4, line 3: case yes no / an operand is missing, of another kind, left over or badly spelled / at case [yes]: wanted is the slot of the subtask, s0 to s15",
         status: 3,
     },
 ];
@@ -76,7 +76,7 @@ static SCOPES: [Row; 16] = [
     Row {
         name: "a scope of no slot",
         text: &[Part(1, "func main 0 / push 1 / open 0 all / end")],
-        lines: "error A4, line 3: open 0 all / an operand is missing, of another kind, left over or badly spelled / at open [0]: wanted is the slot of the scope, s0 to s255",
+        lines: "error A4, line 3: open 0 all / an operand is missing, of another kind, left over or badly spelled / at open [0]: wanted is the slot of the scope, s0 to s15",
         status: 3,
     },
     Row {
@@ -103,7 +103,7 @@ static SCOPES: [Row; 16] = [
             1,
             "func main 0 / push 1 / open s0 until failed x timed / end",
         )],
-        lines: "error A3, line 3: open s0 until failed x timed / a word that should be a number of its range isn't one / at open s0 until failed [x]: wanted is how many of them, a number of 32 bits",
+        lines: "error A3, line 3: open s0 until failed x timed / a word that should be a number of its range isn't one / at open s0 until failed [x]: wanted is how many of them, a number from 1 to 65536",
         status: 3,
     },
     Row {
@@ -112,7 +112,7 @@ static SCOPES: [Row; 16] = [
             1,
             "func main 0 / push 1 / open s0 until atleast timed / end",
         )],
-        lines: "error A3, line 3: open s0 until atleast timed / a word that should be a number of its range isn't one / at open s0 until atleast [timed]: wanted is the least value, a number of 64 bits with a sign",
+        lines: "error A3, line 3: open s0 until atleast timed / a word that should be a number of its range isn't one / at open s0 until atleast [timed]: wanted is the least value, a number from -9223372036854775808 to 9223372036854775807",
         status: 3,
     },
     Row {
@@ -133,7 +133,7 @@ static SCOPES: [Row; 16] = [
     Row {
         name: "a fork without its slot",
         text: &[Part(1, "func main 0 / push 1 / fork s0 kid / end")],
-        lines: "error A4, line 3: fork s0 kid / an operand is missing, of another kind, left over or badly spelled / at fork s0 kid []: wanted is the slot of the subtask, s0 to s255, or _ for none",
+        lines: "error A4, line 3: fork s0 kid / an operand is missing, of another kind, left over or badly spelled / at fork s0 kid []: wanted is the slot of the subtask, s0 to s15, or _ for none",
         status: 3,
     },
     Row {
@@ -145,7 +145,7 @@ static SCOPES: [Row; 16] = [
     Row {
         name: "a fork in no slot",
         text: &[Part(1, "func main 0 / push 1 / fork kid _ / end")],
-        lines: "error A4, line 3: fork kid _ / an operand is missing, of another kind, left over or badly spelled / at fork [kid]: wanted is the slot of the scope, s0 to s255",
+        lines: "error A4, line 3: fork kid _ / an operand is missing, of another kind, left over or badly spelled / at fork [kid]: wanted is the slot of the scope, s0 to s15",
         status: 3,
     },
     Row {
@@ -175,7 +175,7 @@ static SCOPES: [Row; 16] = [
     Row {
         name: "a join of no slot",
         text: &[Part(1, "func main 0 / push 1 / join - - intr / end")],
-        lines: "error A4, line 3: join - - intr / an operand is missing, of another kind, left over or badly spelled / at join [-]: wanted is the slot of the scope, s0 to s255",
+        lines: "error A4, line 3: join - - intr / an operand is missing, of another kind, left over or badly spelled / at join [-]: wanted is the slot of the scope, s0 to s15",
         status: 3,
     },
 ];
@@ -190,13 +190,13 @@ static FIRST_LINES: [Row; 12] = [
     Row {
         name: "a function without its arguments",
         text: &[Part(1, "func f")],
-        lines: "error A4, line 1: func f / an operand is missing, of another kind, left over or badly spelled / at func f []: wanted is how many arguments it takes, a number from 0 to 255",
+        lines: "error A4, line 1: func f / an operand is missing, of another kind, left over or badly spelled / at func f []: wanted is how many arguments it takes, a number from 0 to 8",
         status: 3,
     },
     Row {
         name: "arguments that are no number",
         text: &[Part(1, "func f x")],
-        lines: "error A3, line 1: func f x / a word that should be a number of its range isn't one / at func f [x]: wanted is how many arguments it takes, a number from 0 to 255",
+        lines: "error A3, line 1: func f x / a word that should be a number of its range isn't one / at func f [x]: wanted is how many arguments it takes, a number from 0 to 8",
         status: 3,
     },
     Row {
@@ -238,19 +238,19 @@ static FIRST_LINES: [Row; 12] = [
     Row {
         name: "a profile on line 2",
         text: &[Part(1, "; two / profile 2")],
-        lines: "error A2, line 2: profile 2 / its first word is none, or may not stand here: inside a function, outside, or line 1 / at [profile]: wanted is another word: profile stands on line 1 only",
+        lines: "error A2, line 2: profile 2 / its first word is unknown, or may not stand here: outside a function, or below line 1 / at [profile]: wanted is another word: profile stands on line 1 only",
         status: 3,
     },
     Row {
         name: "an end outside a function",
         text: &[Part(1, "end")],
-        lines: "error A2, line 1: end / its first word is none, or may not stand here: inside a function, outside, or line 1 / at [end]: wanted is func: labels, instructions and end stand inside a function only",
+        lines: "error A2, line 1: end / its first word is unknown, or may not stand here: outside a function, or below line 1 / at [end]: wanted is func: labels, instructions and end stand inside a function only",
         status: 3,
     },
     Row {
         name: "a label outside a function",
         text: &[Part(1, "x:")],
-        lines: "error A2, line 1: x: / its first word is none, or may not stand here: inside a function, outside, or line 1 / at [x:]: wanted is func: labels, instructions and end stand inside a function only",
+        lines: "error A2, line 1: x: / its first word is unknown, or may not stand here: outside a function, or below line 1 / at [x:]: wanted is func: labels, instructions and end stand inside a function only",
         status: 3,
     },
 ];
@@ -259,13 +259,13 @@ static NAMES: [Row; 8] = [
     Row {
         name: "a fork of no function",
         text: &[Part(1, "func main 0 / open s0 all / fork s0 kid _ / end")],
-        lines: "error A5, line 3: fork s0 kid _ / a label that isn't in this function, or a function that isn't in this text / at fork s0 [kid]: wanted is a function of this text",
+        lines: "error A5, line 3: fork s0 kid _ / a label that isn't in this function, or a function that isn't in this text / at fork s0 [kid]: wanted is a function that stands before this one",
         status: 3,
     },
     Row {
         name: "a fork of a label",
         text: &[Part(1, "func main 0 / x: / fork s0 x _ / end")],
-        lines: "error A5, line 3: fork s0 x _ / a label that isn't in this function, or a function that isn't in this text / at fork s0 [x]: wanted is a function of this text",
+        lines: "error A5, line 3: fork s0 x _ / a label that isn't in this function, or a function that isn't in this text / at fork s0 [x]: wanted is a function that stands before this one",
         status: 3,
     },
     Row {
@@ -313,7 +313,7 @@ static CHECKS: [Row; 5] = [
     Row {
         name: "a slot past the last",
         text: &[Part(1, "func main 0 / open s16 all / ret / end")],
-        lines: "error A9 C6 in main, line 2: open s16 all / a number out of its range, more than 8 arguments, or no instruction",
+        lines: "error A9 C6 in main, line 2: open s16 all / a slot, local or key above 15, turns not 1 to 10000, ends not 1 to 65536, over 8 arguments, or no code",
         status: 3,
     },
     Row {
@@ -322,13 +322,13 @@ static CHECKS: [Row; 5] = [
             1,
             "func kid 9 / push 0 / ret / end / func main 0 / push 0 / ret / end",
         )],
-        lines: "error A9 C6 in kid / a number out of its range, more than 8 arguments, or no instruction",
+        lines: "error A9 C6 in kid / a slot, local or key above 15, turns not 1 to 10000, ends not 1 to 65536, over 8 arguments, or no code",
         status: 3,
     },
     Row {
         name: "no instruction",
         text: &[Part(1, "func kid 0 / end / func main 0 / push 0 / ret / end")],
-        lines: "error A9 C6 in kid / a number out of its range, more than 8 arguments, or no instruction",
+        lines: "error A9 C6 in kid / a slot, local or key above 15, turns not 1 to 10000, ends not 1 to 65536, over 8 arguments, or no code",
         status: 3,
     },
     Row {

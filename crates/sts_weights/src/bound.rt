@@ -14,8 +14,8 @@ use crate::trail::{Trail, base_at, sum_at};
 use sts_budget::greatest::own_of;
 use sts_budget::layout::next_places;
 
-/// Is this no more than so much? What 64 bits don't hold is more.
-fn is_within(sum: Option<u64>, most: u64) -> bool
+/// Is this no more than so much? What 128 bits don't hold is more.
+fn is_within(sum: Option<u128>, most: u128) -> bool
     ensures { IsTrue result → IsSomeAnd sum (λ s. s ≤ most) }
 {
     match sum {
@@ -24,8 +24,8 @@ fn is_within(sum: Option<u64>, most: u64) -> bool
     }
 }
 
-/// What an instruction that is no loop's hands on, if 64 bits hold it.
-fn handed(search: &Search<'_>, trail: &Trail, pc: usize, depth: usize) -> Option<u64>
+/// What an instruction that is no loop's hands on, if 128 bits hold it.
+fn handed(search: &Search<'_>, trail: &Trail, pc: usize, depth: usize) -> Option<u128>
     requires ready { def.IsReady search.now }
     requires in_code { pc < length search.now.code.now }
     ensures { IfSome result (λ sum. sum ≡
@@ -36,16 +36,16 @@ fn handed(search: &Search<'_>, trail: &Trail, pc: usize, depth: usize) -> Option
     before.checked_add(added_at(search, pc, depth))
 }
 
-/// What stands after so many turns of a loop, where so much stood at its `times`, if 64 bits hold
+/// What stands after so many turns of a loop, where so much stood at its `times`, if 128 bits hold
 /// it.
 fn after_turns(
     search: &Search<'_>,
     trail: &Trail,
     around: Loop,
-    turns: u64,
+    turns: u128,
     depth: usize,
-    before: u64,
-) -> Option<u64>
+    before: u128,
+) -> Option<u128>
     requires ready { def.IsReady search.now }
     requires around { def.IsLoop search.now around }
     ensures { IfSome result (λ sum. sum ≡
@@ -98,7 +98,7 @@ fn holds_loop(search: &Search<'_>, trail: &Trail, around: Loop) -> bool
     ensures { IsTrue result → HoldsFrom (def.paths search.now) (def.flow search.now)
         (sum_in trail.now) around.head }
 {
-    let turns = around.turns as u64;
+    let turns = around.turns as u128;
     for depth in 0..depth_at(search, around.head as usize) + 1 {
         let before = sum_at(trail, around.head as usize, depth);
         let all = after_turns(search, trail, around, turns, depth, before);
@@ -127,7 +127,7 @@ fn holds_from(search: &Search<'_>, trail: &Trail, pc: u32) -> bool
 
 /// Is what stands before the last turn of the loop that opens at a place no more than its base,
 /// where so much stands at the place?
-fn has_base(search: &Search<'_>, trail: &Trail, bases: &[u64], pc: u32, stands: u64) -> bool
+fn has_base(search: &Search<'_>, trail: &Trail, bases: &[u128], pc: u32, stands: u128) -> bool
     requires ready { def.IsReady search.now }
     requires in_code { pc < length search.now.code.now }
     requires stands { stands ≡ stands_at search.now trail.now bases.now pc }
@@ -138,7 +138,7 @@ fn has_base(search: &Search<'_>, trail: &Trail, bases: &[u64], pc: u32, stands: 
     }
     match loop_from(search, pc) {
         Some(around) => {
-            let turns = around.turns as u64 - 1;
+            let turns = around.turns as u128 - 1;
             let depth = depth_at(search, pc as usize);
             let all = after_turns(search, trail, around, turns, depth, stands);
             is_within(all, base_at(bases, Some(pc)))
@@ -148,7 +148,7 @@ fn has_base(search: &Search<'_>, trail: &Trail, bases: &[u64], pc: u32, stands: 
 }
 
 /// Stands no more than so much at a place?
-fn is_light(search: &Search<'_>, trail: &Trail, bases: &[u64], most: u64, pc: u32) -> bool
+fn is_light(search: &Search<'_>, trail: &Trail, bases: &[u128], most: u128, pc: u32) -> bool
     requires ready { def.IsReady search.now }
     requires in_code { pc < length search.now.code.now }
     ensures { IsTrue result → IsLight search.now trail.now bases.now most pc }
@@ -161,7 +161,7 @@ fn is_light(search: &Search<'_>, trail: &Trail, bases: &[u64], most: u64, pc: u3
 }
 
 /// Are these bounds of what stands at all places?
-fn are_bounds(search: &Search<'_>, trail: &Trail, bases: &[u64], most: u64) -> bool
+fn are_bounds(search: &Search<'_>, trail: &Trail, bases: &[u128], most: u128) -> bool
     requires { def.IsReady search.now }
     ensures { IsTrue result → AreBounds search.now trail.now bases.now most }
 {
@@ -174,12 +174,12 @@ fn are_bounds(search: &Search<'_>, trail: &Trail, bases: &[u64], most: u64) -> b
 }
 
 /// Does no path weigh more than this, as the trail and the bases show?
-pub(crate) fn is_most(search: &Search<'_>, trail: &Trail, bases: &[u64], weight: u64) -> bool
+pub(crate) fn is_most(search: &Search<'_>, trail: &Trail, bases: &[u128], weight: u128) -> bool
     requires { def.IsReady search.now }
     ensures { IsTrue result → NoneHeavier search.now.resource search.now.earlier.now
         search.now.code.now weight }
 {
-    match weight.checked_sub(own_of(search.resource) as u64) {
+    match weight.checked_sub(own_of(search.resource) as u128) {
         Some(most) => are_bounds(search, trail, bases, most),
         None => false,
     }

@@ -27,8 +27,8 @@ use sts_rules::fill::filled;
 #[derive(Drop)]
 pub struct Heavy {
     pub place: u32,
-    pub weight: u64,
-    pub shares: Vec<u64>,
+    pub weight: u128,
+    pub shares: Vec<u128>,
 }
 
 /// What the trail weighs up to a place, if that is more than the limit.
@@ -58,8 +58,8 @@ fn weigh(
         None => return Ok(None),
     }
     let Shares { places, total } = shares;
-    match total.checked_add(own_of(search.resource) as u64) {
-        Some(weight) if weight > limit_of(search.resource) as u64 => Ok(Some(Heavy {
+    match total.checked_add(own_of(search.resource) as u128) {
+        Some(weight) if weight > limit_of(search.resource) as u128 => Ok(Some(Heavy {
             place,
             weight,
             shares: places,
@@ -101,7 +101,7 @@ fn heaviest_after(
 }
 
 /// A point of a control path of the function that weighs more than the budget of this resource may:
-/// the heaviest, as far as 64 bits tell one.
+/// the heaviest, as far as 128 bits tell one.
 ///
 /// # Errors
 ///

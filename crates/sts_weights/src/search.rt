@@ -65,7 +65,7 @@ pub(crate) fn depth_before(search: &Search<'_>, pc: usize, depth: usize) -> usiz
 }
 
 /// What the instruction adds to the sum.
-pub(crate) fn added_at(search: &Search<'_>, pc: usize, depth: usize) -> u64
+pub(crate) fn added_at(search: &Search<'_>, pc: usize, depth: usize) -> u128
     requires ready { def.IsReady search.now }
     requires in_code { pc < length search.now.code.now }
     ensures { result ≡ (def.flow search.now).added pc depth }

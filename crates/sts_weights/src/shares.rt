@@ -5,12 +5,12 @@ ghost use Rattle.std.specs.Prelude.{◌≡◌, ◌+◌, ◌*◌, ◌<◌, length
 /// For each place what its instruction adds, and all of it in one.
 #[derive(Drop)]
 pub struct Shares {
-    pub places: Vec<u64>,
-    pub total: u64,
+    pub places: Vec<u128>,
+    pub total: u128,
 }
 
-/// Adds so much at a place, so many times; none where a number is too great for 64 bits.
-pub(crate) fn add(shares: &mut Shares, place: u32, amount: u64, times: u64) -> Option<()>
+/// Adds so much at a place, so many times; none where a number is too great for 128 bits.
+pub(crate) fn add(shares: &mut Shares, place: u32, amount: u128, times: u128) -> Option<()>
     requires { place < length shares.old.places.items }
     ensures { IfSome result (λ _.
         (shares.new.places.items ≡ slice_set shares.old.places.items place

@@ -17,7 +17,7 @@ use sts_rules::fill::filled;
 /// and the place before it on that way.
 #[derive(Clone, Copy)]
 pub(crate) struct Best {
-    sum: u64,
+    sum: u128,
     from: Option<u32>,
 }
 
@@ -58,7 +58,7 @@ fn best_at(rows: &[Row], place: usize, depth: usize) -> Best
 }
 
 /// The sum that the trail has at a place over so many entries.
-pub(crate) fn sum_at(trail: &Trail, place: usize, depth: usize) -> u64
+pub(crate) fn sum_at(trail: &Trail, place: usize, depth: usize) -> u128
     ensures { result ≡ sum_in trail.now place depth }
 {
     best_at(trail.rows.as_slice(), place, depth).sum
@@ -81,7 +81,7 @@ fn keep(rows: &mut Vec<Row>, place: usize, depth: usize, way: Best) {
 }
 
 /// What `times` at the head of a loop, all its turns and its `next` here add, and what was before.
-fn sum_after_loop(search: &Search<'_>, rows: &[Row], end: usize, depth: usize) -> u64
+fn sum_after_loop(search: &Search<'_>, rows: &[Row], end: usize, depth: usize) -> u128
     requires ready { def.IsReady search.now }
     requires in_code { end < length search.now.code.now }
 {
@@ -94,7 +94,7 @@ fn sum_after_loop(search: &Search<'_>, rows: &[Row], end: usize, depth: usize) -
     }
     let own = added_at(search, end, depth);
     let turn = best_at(rows, end, depth).sum.saturating_add(own);
-    let turns = turns_of(search.code[head]) as u64;
+    let turns = turns_of(search.code[head]) as u128;
     best_at(rows, head, depth)
         .sum
         .saturating_add(own)
@@ -102,7 +102,7 @@ fn sum_after_loop(search: &Search<'_>, rows: &[Row], end: usize, depth: usize) -
 }
 
 /// The greatest sum after an instruction.
-fn sum_after(search: &Search<'_>, rows: &[Row], pc: usize, depth: usize) -> u64
+fn sum_after(search: &Search<'_>, rows: &[Row], pc: usize, depth: usize) -> u128
     requires ready { def.IsReady search.now }
     requires in_code { pc < length search.now.code.now }
 {
@@ -170,7 +170,7 @@ pub(crate) fn find_trail(alloc: Global, search: &Search<'_>) -> Result<Trail, Al
 }
 
 /// What stands before the last turn of a loop, or 0 outside of loops.
-pub(crate) fn base_at(bases: &[u64], head: Option<u32>) -> u64
+pub(crate) fn base_at(bases: &[u128], head: Option<u32>) -> u128
     ensures { result ≡ base_of bases.now head }
 {
     match head {
@@ -180,7 +180,7 @@ pub(crate) fn base_at(bases: &[u64], head: Option<u32>) -> u64
 }
 
 /// All that stands at a place, each open loop being in its last turn.
-fn full_at(search: &Search<'_>, trail: &Trail, bases: &[u64], pc: usize) -> u64
+fn full_at(search: &Search<'_>, trail: &Trail, bases: &[u128], pc: usize) -> u128
     requires ready { def.IsReady search.now }
     requires in_code { pc < length search.now.code.now }
 {
@@ -190,7 +190,7 @@ fn full_at(search: &Search<'_>, trail: &Trail, bases: &[u64], pc: usize) -> u64
 }
 
 /// What stands before the last turn of the loop that opens at a place.
-fn found_base(search: &Search<'_>, trail: &Trail, full: u64, pc: usize) -> u64
+fn found_base(search: &Search<'_>, trail: &Trail, full: u128, pc: usize) -> u128
     requires ready { def.IsReady search.now }
     requires in_code { pc < length search.now.code.now }
 {
@@ -198,7 +198,7 @@ fn found_base(search: &Search<'_>, trail: &Trail, full: u64, pc: usize) -> u64
     let own = added_at(search, pc, depth);
     let end = search.layout.mates[pc] as usize;
     let turn = best_at(trail.rows.as_slice(), end, depth).sum;
-    let before = (turns_of(search.code[pc]) as u64).saturating_sub(1);
+    let before = (turns_of(search.code[pc]) as u128).saturating_sub(1);
     full.saturating_add(own)
         .saturating_add(turn.saturating_add(own).saturating_mul(before))
 }
@@ -218,7 +218,7 @@ pub(crate) fn may_end(search: &Search<'_>, pc: usize) -> bool
 #[derive(Drop)]
 pub(crate) struct Top {
     pub place: u32,
-    pub bases: Vec<u64>,
+    pub bases: Vec<u128>,
 }
 
 /// The place of a function where most stands.

@@ -28,7 +28,7 @@ fn back_to(
     search: &Search<'_>,
     from: u32,
     to: Spot,
-    times: u64,
+    times: u128,
     shares: &mut Shares,
 ) -> Option<Spot>
     requires ready { def.IsReady search.now }
@@ -51,7 +51,7 @@ fn back_straight(
     search: &Search<'_>,
     from: u32,
     to: Spot,
-    times: u64,
+    times: u128,
     shares: &mut Shares,
 ) -> Option<Spot>
     requires ready { def.IsReady search.now }
@@ -72,7 +72,7 @@ fn back(
     search: &Search<'_>,
     trail: &Trail,
     to: Spot,
-    times: u64,
+    times: u128,
     shares: &mut Shares,
 ) -> Option<Spot>
     requires ready { def.IsReady search.now }
@@ -97,7 +97,7 @@ fn back(
                 if at.place != from + 1 || !is_spot(search, at) || !is_spot(search, turn) {
                     return None;
                 }
-                let turns = times.checked_mul(around.turns as u64)?;
+                let turns = times.checked_mul(around.turns as u128)?;
                 let end = back_to(search, from, at, turns, shares)?;
                 if !is_same(back(search, trail, end, turns, shares)?, turn) {
                     return None;
@@ -121,7 +121,7 @@ fn back_out(search: &Search<'_>, trail: &Trail, turn: Spot, shares: &mut Shares)
     if !is_spot(search, turn) {
         return None;
     }
-    let before = around.turns as u64 - 1;
+    let before = around.turns as u128 - 1;
     let end = back_to(search, around.end, turn, before, shares)?;
     if !is_same(back(search, trail, end, before, shares)?, turn) {
         return None;
