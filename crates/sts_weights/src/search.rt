@@ -72,7 +72,7 @@ pub(crate) fn added_at(search: &Search<'_>, pc: usize, depth: usize) -> u128
 {
     let names = names_at(search.layout, pc);
     let change = change_of(search.resource, search.earlier, search.code[pc], names);
-    added_of(change, depth_of(search.resource, names), depth)
+    added_of(change, depth_of(search.resource, names), depth) as u128
 }
 
 /// Does the instruction go on elsewhere than at a loop's turn, and does not end the path?
