@@ -3,6 +3,7 @@ pub mod LineLemmas
 pub mod FaultLemmas
 pub mod TellLemmas
 pub mod PlaceLemmas
+pub mod StandLemmas
 pub mod ForwardLemmas
 pub mod MeetingLemmas
 pub mod FullLemmas

@@ -13,9 +13,9 @@ use Rattle.sts_asm.specs.Fault.{◌>>=◌, at_line}
 use Rattle.sts_asm.specs.Line.{instr_of}
 use Rattle.sts_asm.specs.Marks.{Mark, Names}
 use Rattle.sts_asm.specs.Outline.{Sentence, Draft, Outline, outline_of}
-use Rattle.sts_asm.specs.Source.{sentences_of}
+use Rattle.sts_asm.specs.Source.{sentences_of, labels_of}
 use Rattle.sts_asm.specs.Text.{each, instr_at, routine_of, checked, program_of}
-use Rattle.sts_explain.specs.Places.{Says, LinesSayInstructions, FunctionsSayInstructions}
+use Rattle.sts_explain.specs.Places.{LinesSayInstructions, FunctionsSayInstructions}
 
 -- what is read of a list at some number is read of its element there
 abbrev ReadAt : {A B : Type 0} → (A → Result B AsmError) → List A → List B → Type 0
@@ -39,20 +39,21 @@ each_read read (x ∷ xs) ys e = first_read read x xs (read x) ys refl (λ zs q.
 
 -- ---- a function
 
-line_says : (at : ℕ) (r : Result Instr AsmKind) (i : Instr) → at_line at r ≡ Ok i → r ≡ Ok i
-line_says at (Ok x) i e = cc
-line_says at (Err k) i e = absurd (cc)
+-- what was read with the number of its line was read
+pub line_says : {A : Type 0} (at : ℕ) (r : Result A AsmKind) (x : A) → at_line at r ≡ Ok x → r ≡ Ok x
+line_says at (Ok y) x e = cc
+line_says at (Err k) x e = absurd (cc)
 
 code_read : (functions : List Mark) (d : Draft) (r : Result (List Instr) AsmError) (rt : Routine) → (r >>= λ code. Ok (record { name = d.name; args = d.args; needs = d.needs; code = code })) ≡ Ok rt → r ≡ Ok rt.code
 code_read functions d (Ok code) rt e = let out : record { name = d.name; args = d.args; needs = d.needs; code = code } ≡ rt = cc in let same : code ≡ rt.code = ap (λ (x : Routine). x.code) out in ap (λ (x : List Instr). Ok x) same
 code_read functions d (Err k) rt e = absurd (cc)
 
-routine_says : (functions : List Mark) (d : Draft) (rt : Routine) (pc : ℕ) (i : Instr) → routine_of functions d ≡ Ok rt → slice_get rt.code pc ≡ Some i → (s : Sentence) × ((slice_get d.code pc ≡ Some s) × Says s i)
+routine_says : (functions : List Mark) (d : Draft) (rt : Routine) (pc : ℕ) (i : Instr) → routine_of functions d ≡ Ok rt → slice_get rt.code pc ≡ Some i → (s : Sentence) × ((slice_get d.code pc ≡ Some s) × (instr_of (Some (record { labels = d.labels; functions = functions })) s.words ≡ Ok i))
 routine_says functions d rt pc i e g =
     let names : Names = record { labels = d.labels; functions = functions } in
     let code = code_read functions d (each (instr_at names) d.code) rt e in
     let at = each_read (instr_at names) d.code rt.code code pc i g in
-    (at.0, (at.1.0, (names, line_says at.0.line (instr_of (Some names) at.0.words) i at.1.1)))
+    (at.0, (at.1.0, line_says at.0.line (instr_of (Some names) at.0.words) i at.1.1))
 
 -- ---- a program
 
@@ -79,7 +80,7 @@ functions_say o rs f pc i all g =
     let rt : Routine = slice_index_or rs f no_routine in
     let at = each_read (routine_of o.functions) o.done rs all f rt (routine_at rs f pc i g) in
     let says = routine_says o.functions at.0 rt pc i at.1.1 g in
-    (says.0, (subst (λ (d : Option Draft). slice_get (sentences_of d) pc ≡ Some says.0) (sym at.1.0) says.1.0, says.1.1))
+    (says.0, subst (λ (d : Option Draft). (slice_get (sentences_of d) pc ≡ Some says.0) × (instr_of (Some (record { labels = labels_of d; functions = o.functions })) says.0.words ≡ Ok i)) (sym at.1.0) says.1)
 
 pub lines_say : LinesSayInstructions
 lines_say text p o f pc i j l g =
