@@ -139,13 +139,18 @@ def all_calls(page, programs):
         yield from same_calls(page, programs, f"odd text {number}", text, [trace])
 
 
+def spelled(literal):
+    """What a string literal of Rust stands for."""
+    return json.loads(re.sub(r"\\u\{(\w+)\}", lambda it: f"\\u{int(it[1], 16):04x}", literal))
+
+
 def rows():
     """Yields the text, the explanation and the status of each row of explanations."""
     for path in ROWS:
         for parts, lines, status in ROW.findall(read(path)):
-            short = [(int(times), json.loads(part)) for times, part in PART.findall(parts)]
+            short = [(int(times), spelled(part)) for times, part in PART.findall(parts)]
             text = "".join(times * (part.replace(" / ", "\n") + "\n") for times, part in short)
-            yield text, json.loads(lines).replace(" / ", "\n") + "\n", int(status)
+            yield text, spelled(lines).replace(" / ", "\n") + "\n", int(status)
 
 
 def explanations(page):
