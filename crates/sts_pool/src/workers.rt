@@ -33,7 +33,7 @@ const WORTH: u32 = 512;
 /// So many tasks are claimed by several workers at once, until a slice is worth it again.
 const TRIES: u32 = 64;
 
-/// So often a worker that finds no task looks again before it waits: to be woken costs more.
+/// So often a worker looks again, for a task or for the lock, before it waits: to be woken costs more.
 const LOOKS: u32 = 64;
 
 /// How long it pauses between two looks.
@@ -160,6 +160,17 @@ fn pause() {
 }
 
 impl<'p, O: Outside, B: Runs> Pool<'p, O, B> {
+    /// The lock, which the worker waits for once it was taken by others at so many looks.
+    fn locked<R: Wait>(&self, rt: &R) -> MutexGuard<'_, Shared<'p, O, B>> {
+        for _ in 0..LOOKS {
+            if let Some(guard) = self.shared.try_lock() {
+                return guard;
+            }
+            pause();
+        }
+        self.shared.lock(rt)
+    }
+
     /// A task to work on, or none where the worker is to end.
     fn find<'b, R: Wait>(&'b self, rt: &R, guard: MutexGuard<'b, Shared<'p, O, B>>) -> Option<u32> {
         let mut guard = guard;
@@ -181,7 +192,7 @@ impl<'p, O: Outside, B: Runs> Pool<'p, O, B> {
                 looks -= 1;
                 drop(guard);
                 pause();
-                guard = self.shared.lock(rt);
+                guard = self.locked(rt);
                 continue;
             }
             shared.awake = shared.awake.saturating_sub(1);
@@ -195,7 +206,7 @@ impl<'p, O: Outside, B: Runs> Pool<'p, O, B> {
     /// Does a task's steps under the lock, or by slices where it makes many in a row, until it can't
     /// step; then another task to work on is found.
     fn exchange<R: Wait, G: Gate>(&self, rt: &R, gate: &G, worker: u32, task: u32) -> Option<u32> {
-        let mut guard = self.shared.lock(rt);
+        let mut guard = self.locked(rt);
         guard.book.release(task);
         if !guard.stop && guard.turns(task, IN_A_ROW) {
             return self.slices(rt, gate, worker, guard);
@@ -225,7 +236,7 @@ impl<'p, O: Outside, B: Runs> Pool<'p, O, B> {
             let task = slice.task();
             gate.enter(worker, task);
             let done = slice.run_local(AT_ONCE);
-            guard = self.shared.lock(rt);
+            guard = self.locked(rt);
             guard.take_back(slice, done);
             most = turns_after(done, most);
             if guard.stop || !guard.turns(task, most) {
@@ -245,7 +256,7 @@ impl<'p, O: Outside, B: Runs> Pool<'p, O, B> {
     /// What one worker does: it claims a task, passes the gate and does the task's steps, and so on
     /// until the root has ended.
     fn work<R: Wait, G: Gate>(&self, rt: &R, gate: &G, worker: u32) {
-        let mut next = self.find(rt, self.shared.lock(rt));
+        let mut next = self.find(rt, self.locked(rt));
         for _ in rt.forever() {
             let Some(task) = next else {
                 return;
