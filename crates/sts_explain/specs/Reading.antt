@@ -16,8 +16,7 @@ use Rattle.sts_explain.specs.declared.parts.Part.{Part}
 use Rattle.sts_explain.specs.declared.parts.Part.TheVariants.{Operands, Loops, Open, Slot}
 use Rattle.sts_explain.specs.Differences.{IsSamePart, part_words}
 
--- ---- the numbers are of 64 bits, as all are that the code holds: of a longer number the kit writes
--- the last 64 digits
+-- ---- the numbers are of 64 bits, as all are that the code holds
 
 abbrev pub IsHeldCondition : Pred → Type 0
 IsHeldCondition (Failed n) = n < 2 ^ 64
@@ -46,7 +45,8 @@ IsHeldIn Loops s = AllByRecursion IsHeldLoop s.loops
 IsHeldIn Open s = AllByRecursion IsHeldEntry s.entries
 IsHeldIn (Slot x) s = IsHeldKind (kind s x)
 
--- Where typestates differ in a part with such numbers, so do the words for it.
+-- Where typestates differ in a part, of such numbers, so do the words for it: of a number with more
+-- than 64 digits the last 64 would be written.
 abbrev pub PartsReadApart : Type 0
 PartsReadApart =
     (part : Part) (a b : TypeState) → IsHeldIn part a → IsHeldIn part b → ¬ IsSamePart part a b
