@@ -9,3 +9,5 @@ pub mod MeetingLemmas
 pub mod FullLemmas
 pub mod PartLemmas
 pub mod NameLineLemmas
+pub mod Digits
+pub mod Reading

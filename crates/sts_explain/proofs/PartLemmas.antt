@@ -13,7 +13,9 @@ use Rattle.sts_explain.specs.declared.parts.Part.{Part}
 use Rattle.sts_explain.specs.declared.parts.Part.TheVariants.{Operands, Loops, Open, Slot}
 use Rattle.sts_explain.specs.Ways.{Meets}
 use Rattle.sts_explain.specs.Differences.{IsSamePart, Differing, none, same, differs, slots, all_parts, AreDifferences, part_line, SaysParts}
+use Rattle.sts_explain.specs.Reading.{IsHeldIn}
 use Rattle.sts_explain.proofs.FullLemmas.{IsFull, arrived_full}
+use Rattle.sts_explain.proofs.Reading.{parts_apart}
 
 -- ---- what is said
 
@@ -23,18 +25,18 @@ module _ (m : Meeting) (one other : List ℕ) where
   same_said part before is = record { found = []; differ = same part is none; said = sym (append-nil before) }
 
   -- of one that differs its line
-  pub line_said : (part : Part) (before after : List ℕ) → ¬ IsSamePart part m.one.state m.other.state → after ≡ before ++ part_line m one other part → SaysParts m one other (part ∷ []) before after
-  line_said part before after unlike e =
+  pub line_said : (part : Part) (before after : List ℕ) → ¬ IsSamePart part m.one.state m.other.state → IsHeldIn part m.one.state × IsHeldIn part m.other.state → after ≡ before ++ part_line m one other part → SaysParts m one other (part ∷ []) before after
+  line_said part before after unlike held e =
       record {
         found = part ∷ [];
-        differ = differs part unlike none;
+        differ = differs part unlike (parts_apart part m.one.state m.other.state held.0 held.1 unlike) none;
         said = e ∙ ap (λ (xs : List ℕ). before ++ xs) (sym (append-nil (part_line m one other part)));
       }
 
   both_differing : (ps qs xs ys : List Part) → Differing m.one.state m.other.state ps xs → Differing m.one.state m.other.state qs ys → Differing m.one.state m.other.state (ps ++ qs) (xs ++ ys)
   both_differing ps qs xs ys none d = d
   both_differing ps qs xs ys (same part {parts = rest} is more) d = same part is (both_differing rest qs xs ys more d)
-  both_differing ps qs xs ys (differs part {parts = rest} {found = left} unlike more) d = differs part unlike (both_differing rest qs left ys more d)
+  both_differing ps qs xs ys (differs part {parts = rest} {found = left} unlike words more) d = differs part unlike words (both_differing rest qs left ys more d)
 
   -- of some parts, and then of more
   pub both_said : (ps qs : List Part) (before between after : List ℕ) → SaysParts m one other ps before between → SaysParts m one other qs between after → SaysParts m one other (ps ++ qs) before after
@@ -78,7 +80,7 @@ module _ (a b : TypeState) where
   none_differ : (parts found : List Part) → Differing a b parts found → found ≡ [] → AreSame parts
   none_differ parts found none e = tt
   none_differ parts found (same part {parts = rest} is more) e = (is, none_differ rest found more e)
-  none_differ parts found (differs part unlike more) e = absurd (cc)
+  none_differ parts found (differs part unlike words more) e = absurd (cc)
 
   slot_same : (from count x : ℕ) → AreSame (map Slot (range_with_len from count)) → from ≤ x → x < from + count → kind a x ≡ kind b x
   slot_same from zero x h le lt = absurd (omega arith)

@@ -25,36 +25,6 @@ use Rattle.sts_explain.specs.declared.ways.Meeting.{Meeting}
 use Rattle.sts_explain.specs.declared.parts.Part.{Part}
 use Rattle.sts_explain.specs.declared.parts.Part.TheVariants.{Operands, Loops, Open, Slot}
 
--- ---- the parts in which two typestates differ
-
--- the two are the same in this part
-abbrev pub IsSamePart : Part → TypeState → TypeState → Type 0
-IsSamePart Operands a b = a.height ≡ b.height
-IsSamePart Loops a b = a.loops ≡ b.loops
-IsSamePart Open a b = a.entries ≡ b.entries
-IsSamePart (Slot x) a b = kind a x ≡ kind b x
-
--- of some parts those in which the two differ, in order: all of these, and no other
-pub data Differing (a b : TypeState) : List Part → List Part → Type 0 where
-  none : Differing a b [] []
-  same : (part : Part) {parts found : List Part} → IsSamePart part a b → Differing a b parts found
-      → Differing a b (part ∷ parts) found
-  differs : (part : Part) {parts found : List Part} → ¬ IsSamePart part a b
-      → Differing a b parts found → Differing a b (part ∷ parts) (part ∷ found)
-
--- so many slots
-unfoldable pub slots : ℕ → List Part
-slots count = map Slot (range_with_len 0 count)
-
--- a typestate as a whole
-unfoldable pub all_parts : List Part
-all_parts = Operands ∷ Loops ∷ Open ∷ slots 16
-
--- the parts in which the two differ: there is one at least
-pub record AreDifferences (a b : TypeState) (parts : List Part) : Type 0 where
-  pub each : Differing a b all_parts parts
-  pub some : parts ≢ []
-
 -- ---- the parts of a typestate in words, each after a space
 
 -- what is known of the state of a subtask
@@ -104,6 +74,38 @@ part_name Operands = codes "operands"
 part_name Loops = codes "open loops"
 part_name Open = codes "open, the last one first"
 part_name (Slot x) = codes "slot s" ++ decimal x
+
+-- ---- the parts in which two typestates differ
+
+-- the two are the same in this part
+abbrev pub IsSamePart : Part → TypeState → TypeState → Type 0
+IsSamePart Operands a b = a.height ≡ b.height
+IsSamePart Loops a b = a.loops ≡ b.loops
+IsSamePart Open a b = a.entries ≡ b.entries
+IsSamePart (Slot x) a b = kind a x ≡ kind b x
+
+-- of some parts those in which the two differ, in order: all of these, and no other; so do the
+-- words for each of them
+pub data Differing (a b : TypeState) : List Part → List Part → Type 0 where
+  none : Differing a b [] []
+  same : (part : Part) {parts found : List Part} → IsSamePart part a b → Differing a b parts found
+      → Differing a b (part ∷ parts) found
+  differs : (part : Part) {parts found : List Part} → ¬ IsSamePart part a b
+      → part_words part a ≢ part_words part b → Differing a b parts found
+      → Differing a b (part ∷ parts) (part ∷ found)
+
+-- so many slots
+unfoldable pub slots : ℕ → List Part
+slots count = map Slot (range_with_len 0 count)
+
+-- a typestate as a whole
+unfoldable pub all_parts : List Part
+all_parts = Operands ∷ Loops ∷ Open ∷ slots 16
+
+-- the parts in which the two differ: there is one at least
+pub record AreDifferences (a b : TypeState) (parts : List Part) : Type 0 where
+  pub each : Differing a b all_parts parts
+  pub some : parts ≢ []
 
 -- ---- the ways
 

@@ -6,3 +6,4 @@ pub mod Output
 pub mod Ways
 pub mod Differences
 pub mod Weights
+pub mod Reading

@@ -5,6 +5,7 @@ ghost use Rattle.std.specs.Option.{option_copied};
 ghost use Rattle.std.specs.String.{string_bytes};
 ghost use Rattle.sts_code.specs.Program.{routine, instr_at};
 ghost use Rattle.sts_explain.specs.Differences as def;
+ghost use Rattle.sts_explain.specs.Reading.{IsHeldIn};
 
 use crate::lines::say;
 use crate::parts::{Part, is_same_part, part_name, part_words};
@@ -147,8 +148,10 @@ fn say_part_line(
     named: &Named<'_>,
     part: Part,
 ) -> Result<(), AllocError>
-    ensures { OnOk result (out.new.items ≡ out.old.items ++ def.part_line
+    ensures line { OnOk result (out.new.items ≡ out.old.items ++ def.part_line
         named.now.meeting.now named.now.one.now named.now.other.now part) }
+    ensures held { OnOk result (IsHeldIn part named.now.meeting.now.one.state
+        × IsHeldIn part named.now.meeting.now.other.state) }
 {
     let one = part_words(alloc, part, &named.meeting.one.state)?;
     let other = part_words(alloc, part, &named.meeting.other.state)?;

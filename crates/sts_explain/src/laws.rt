@@ -1,7 +1,8 @@
-//! The laws that tie the line of an instruction to it.
+//! The laws of what is told: by the line of an instruction, and by the words for a part.
 
 ghost use Rattle.sts_explain.specs.Places.{LinesSayInstructions, FunctionsSayInstructions};
 ghost use Rattle.sts_explain.specs.Places.{LinesStandInText};
+ghost use Rattle.sts_explain.specs.Reading.{PartsReadApart};
 
 /// Each instruction of the program that a text spells has a line in the text, whose words spell it:
 /// the line by which a refusal of it is told. Nothing is done.
@@ -19,4 +20,10 @@ pub fn lines_say_the_instructions_of_functions()
 /// Nothing is done.
 pub fn lines_stand_in_the_text()
     ensures { LinesStandInText }
+{}
+
+/// Of a part in which two typestates differ the words for the one differ from those for the other,
+/// where its numbers are of 64 bits, as all are that the code holds. Nothing is done.
+pub fn parts_read_apart()
+    ensures { PartsReadApart }
 {}

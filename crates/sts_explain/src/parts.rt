@@ -1,9 +1,11 @@
 //! The parts of a typestate in words.
 
 ghost use Rattle.std.specs.Prelude.{◌≡◌, ◌↔◌, ◌++◌, IsTrue, OnOk, IfOk};
+ghost use Rattle.std.specs.List.{AllByRecursion};
 ghost use Rattle.std.specs.String.{string_bytes};
 ghost use Rattle.sts_list.specs.Spelling.{after_spaces, joiner_words, timed_words};
 ghost use Rattle.sts_explain.specs.Differences as def;
+ghost use Rattle.sts_explain.specs.Reading.{IsHeldKind, IsHeldEntry, IsHeldLoop, IsHeldIn};
 
 use std::alloc::{AllocError, Global};
 use std::fmt::Write;
@@ -45,7 +47,9 @@ fn known_word(known: Known) -> &'static str
 }
 
 fn write_kind(out: &mut String, kind: SlotKind) -> Result<(), AllocError>
-    ensures { OnOk result (string_bytes out.new ≡ string_bytes out.old ++ def.kind_words kind) }
+    ensures words { OnOk result (string_bytes out.new
+        ≡ string_bytes out.old ++ def.kind_words kind) }
+    ensures held { IsHeldKind kind }
 {
     match kind {
         SlotKind::Empty => write!(out, " empty"),
@@ -77,8 +81,9 @@ fn write_phase(out: &mut String, phase: TypedPhase) -> Result<(), AllocError>
 }
 
 fn write_scope(out: &mut String, scope: TypedScope) -> Result<(), AllocError>
-    ensures { OnOk result (string_bytes out.new
+    ensures words { OnOk result (string_bytes out.new
         ≡ string_bytes out.old ++ def.entry_words (TypedEntry.Scope scope)) }
+    ensures held { IsHeldEntry (TypedEntry.Scope scope) }
 {
     let slot = scope.slot;
     write!(out, " (s{slot}")?;
@@ -89,7 +94,9 @@ fn write_scope(out: &mut String, scope: TypedScope) -> Result<(), AllocError>
 }
 
 fn write_entry(out: &mut String, entry: TypedEntry) -> Result<(), AllocError>
-    ensures { OnOk result (string_bytes out.new ≡ string_bytes out.old ++ def.entry_words entry) }
+    ensures words { OnOk result (string_bytes out.new
+        ≡ string_bytes out.old ++ def.entry_words entry) }
+    ensures held { IsHeldEntry entry }
 {
     match entry {
         TypedEntry::Scope(scope) => write_scope(out, scope),
@@ -98,8 +105,9 @@ fn write_entry(out: &mut String, entry: TypedEntry) -> Result<(), AllocError>
 }
 
 fn write_entries(out: &mut String, entries: &Stack<TypedEntry, 16>) -> Result<(), AllocError>
-    ensures { OnOk result (string_bytes out.new
+    ensures words { OnOk result (string_bytes out.new
         ≡ string_bytes out.old ++ def.listed def.entry_words entries.now) }
+    ensures held { OnOk result (AllByRecursion IsHeldEntry entries.now) }
 {
     if entries.len() == 0 {
         return write!(out, " none");
@@ -111,7 +119,9 @@ fn write_entries(out: &mut String, entries: &Stack<TypedEntry, 16>) -> Result<()
 }
 
 fn write_loop(out: &mut String, around: TypedLoop) -> Result<(), AllocError>
-    ensures { OnOk result (string_bytes out.new ≡ string_bytes out.old ++ def.loop_words around) }
+    ensures words { OnOk result (string_bytes out.new
+        ≡ string_bytes out.old ++ def.loop_words around) }
+    ensures held { IsHeldLoop around }
 {
     let at = around.at;
     let entries = around.entries;
@@ -119,8 +129,9 @@ fn write_loop(out: &mut String, around: TypedLoop) -> Result<(), AllocError>
 }
 
 fn write_loops(out: &mut String, loops: &Stack<TypedLoop, 8>) -> Result<(), AllocError>
-    ensures { OnOk result (string_bytes out.new
+    ensures words { OnOk result (string_bytes out.new
         ≡ string_bytes out.old ++ def.listed def.loop_words loops.now) }
+    ensures held { OnOk result (AllByRecursion IsHeldLoop loops.now) }
 {
     if loops.len() == 0 {
         return write!(out, " none");
@@ -132,8 +143,9 @@ fn write_loops(out: &mut String, loops: &Stack<TypedLoop, 8>) -> Result<(), Allo
 }
 
 fn write_part(out: &mut String, part: Part, state: &TypeState) -> Result<(), AllocError>
-    ensures { OnOk result (string_bytes out.new
+    ensures words { OnOk result (string_bytes out.new
         ≡ string_bytes out.old ++ def.part_words part state.now) }
+    ensures held { OnOk result (IsHeldIn part state.now) }
 {
     match part {
         Part::Operands => {
@@ -152,7 +164,10 @@ fn write_part(out: &mut String, part: Part, state: &TypeState) -> Result<(), All
 ///
 /// Memory was refused.
 pub(crate) fn part_words(alloc: Global, part: Part, state: &TypeState) -> Result<String, AllocError>
-    ensures { IfOk result (λ s. string_bytes s ≡ def.part_words part state.now) }
+    ensures words { IfOk result (λ s. string_bytes s ≡ def.part_words part state.now) }
+
+    // Its numbers are of 64 bits: of two typestates that differ in it the words differ too.
+    ensures held { OnOk result (IsHeldIn part state.now) }
 {
     let mut out = String::new(alloc);
     write_part(&mut out, part, state)?;
