@@ -1,5 +1,5 @@
 -- A path, or a point of one, that weighs more than its budget may (this project's own).
-use Rattle.std.specs.Prelude.{◌≡◌, ℕ, ◌+◌, ◌<◌, ◌≤◌, List, length, get_or}
+use Rattle.std.specs.Prelude.{◌≡◌, ℕ, ◌+◌, ◌<◌, ◌≤◌, ◌⊎◌, List, length, get_or}
 use Rattle.sts_code.specs.declared.instr.Instr.{Instr}
 use Rattle.sts_code.specs.Program.{Program, routine}
 use Rattle.sts_rules.specs.declared.budget.Budgets.{Budgets}
@@ -54,3 +54,17 @@ pub record IsHeavy (p : Program) (f : ℕ) (k : Resource) (h : Heavy) : Type 0 w
   pub weighs : Weighs k earlier (routine p f).code h.place h.weight
   pub most : NoneHeavier k earlier (routine p f).code h.weight
   pub over : limit_of k < h.weight
+
+-- some point of a path weighs more than 128 bits hold
+abbrev pub IsTooHeavy : Resource → List Budgets → List Instr → Type 0
+IsTooHeavy k earlier code =
+    (pc : ℕ)
+    × ((m : ℕ) × (Weighs k earlier code pc m × (340282366920938463463374607431768211455 < m)))
+
+-- nothing weighs more than the limit, or something weighs more than 128 bits hold
+pub record IsUntold (p : Program) (f : ℕ) (k : Resource) : Type 0 where
+  pub earlier : List Budgets
+  pub long : length earlier ≡ f
+  pub right : AreBudgets p earlier
+  pub why : NoneHeavier k earlier (routine p f).code (limit_of k)
+      ⊎ IsTooHeavy k earlier (routine p f).code
