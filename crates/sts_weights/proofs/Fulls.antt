@@ -6,8 +6,7 @@ use Rattle.std.proofs.lemmas.List.{get_or_append_left}
 use Rattle.std.proofs.Math.Seq.{get_or-append_seam}
 use Rattle.sts_rules.specs.Around.{around}
 use Rattle.sts_budget.specs.Structured.{bound_of}
-use Rattle.sts_budget.specs.Sums.{gain}
-use Rattle.sts_budget.specs.Table.{Passes}
+use Rattle.sts_budget.specs.Sums.{gain, Stands}
 use Rattle.sts_weights.specs.declared.search.Loop.{Loop}
 use Rattle.sts_weights.specs.declared.search.Search.{Search}
 use Rattle.sts_weights.specs.declared.trail.Trail.{Trail}
@@ -35,14 +34,20 @@ module _ (s : Search) (ready : IsReady s) (t : Trail) (trail : IsTrail s t) wher
   full_alone pc round = full_outside (paths s) (around s.code.now) ready.good (flow s) (fits_here s ready) (sum_in t) (is_table s ready t trail) pc round
 
   -- it stands there on some path
+  pub full_stands : (pc : ℕ) → pc < length s.code.now → Stands (paths s) (flow s) (full_in s t pc)
+  full_stands pc within = ((flow s).depth pc, (pc, (_, (full_in s t pc, (omega arith, point_attained (paths s) (around s.code.now) ready.good (flow s) (fits_here s ready) (sum_in t) (is_table s ready t trail) pc within, omega arith)))))
+
   pub full_wide : (pc : ℕ) → pc < length s.code.now → greatest_number < full_in s t pc → IsTooWide s
-  full_wide pc within over = (full_in s t pc, (((flow s).depth pc, (pc, (_, (full_in s t pc, (omega arith, point_attained (paths s) (around s.code.now) ready.good (flow s) (fits_here s ready) (sum_in t) (is_table s ready t trail) pc within, omega arith))))), over))
+  full_wide pc within over = (full_in s t pc, (full_stands pc within, over))
 
 pub fulls_more : (s : Search) (t : Trail) (k v : ℕ) (fulls : List ℕ) → AreFulls s t k fulls → v ≡ full_in s t k → AreFulls s t (k + 1) (fulls ++ v ∷ [])
-fulls_more s t k v fulls (long, right) is = (omega (arith, length-append fulls (v ∷ [])), λ pc lt. elim (cases_lt pc k) [
-  | inl less ↦ get_or_append_left fulls (v ∷ []) 0 pc (omega arith) ∙ right pc less
-  | inr ge ↦ (let last : pc ≡ length fulls = omega arith in let here : k ≡ pc = omega arith in ap (λ x. get_or (fulls ++ v ∷ []) x 0) last ∙ get_or-append_seam fulls v [] 0 ∙ is ∙ ap (λ x. full_in s t x) here)
-])
+fulls_more s t k v fulls (long, right) is = (
+  omega (arith, length-append fulls (v ∷ [])),
+  λ pc lt. elim (cases_lt pc k) [
+    | inl less ↦ get_or_append_left fulls (v ∷ []) 0 pc (omega arith) ∙ right pc less
+    | inr ge ↦ (let last : pc ≡ length fulls = omega arith in let here : k ≡ pc = omega arith in ap (λ x. get_or (fulls ++ v ∷ []) x 0) last ∙ get_or-append_seam fulls v [] 0 ∙ is ∙ ap (λ x. full_in s t x) here)
+  ],
+)
 
 -- a sum, if 128 bits hold it
 pub summed : (o : Option ℕ) (sum full : ℕ) → SomeIff o (sum < 340282366920938463463374607431768211456) sum → sum ≡ full → MatchOption o (greatest_number < full) (λ x. x ≡ full)

@@ -1,5 +1,5 @@
 -- What paths weigh by a trail, by the words of the budget.
-use Rattle.std.proofs.Common.{◌≡◌, ℕ, ◌+◌, ◌≤◌, ◌<◌, List, [], length, true, refl, sym, ap, ◌∙◌, subst, arith}
+use Rattle.std.proofs.Common.{◌≡◌, ℕ, ◌+◌, ◌≤◌, ◌<◌, List, [], length, true, inl, inr, refl, sym, ap, ◌∙◌, subst, arith}
 use Rattle.sts_code.specs.Program.{instr_at}
 use Rattle.sts_code.specs.declared.instr.Instr.{Instr}
 use Rattle.sts_rules.specs.declared.budget.Budgets.{Budgets}
@@ -18,9 +18,10 @@ use Rattle.sts_budget.specs.Sums.{Sums, none, more}
 use Rattle.sts_weights.specs.declared.search.Search.{Search}
 use Rattle.sts_weights.specs.declared.trail.Trail.{Trail}
 use Rattle.sts_weights.specs.Heavy.{Weighs, NoneHeavier, IsTooHeavy}
-use Rattle.sts_weights.specs.Search.{IsReady, ends_for, paths, flow}
+use Rattle.sts_weights.specs.Search.{IsReady, ends_for, may_end, paths, flow}
 use Rattle.sts_weights.specs.Top.{IsTop}
 use Rattle.sts_weights.specs.Trail.{IsTrail, IsTooWide, sum_in, full_in, greatest_number}
+use Rattle.sts_weights.proofs.Fulls.{full_stands}
 use Rattle.sts_weights.proofs.Inside.{comes_inside}
 use Rattle.sts_weights.proofs.Instrs.{counts_one, ends_paths}
 use Rattle.sts_weights.proofs.Summing.{bounded, point_most}
@@ -90,8 +91,8 @@ module _ (earlier : List Budgets) (code : List Instr) (round : ℕ → List ℕ)
   too_heavy Binds lie v h over = let e = entries_weigh (binds_measure earlier) v h in (e.0, (_, ((e.1.0, (e.1.1.0, (e.1.1.1.0, (e.1.1.1.1.0, refl)))), omega (arith, e.1.1.1.1.1))))
 
 -- no path weighs more than the most of what stands by the trail
-pub top_most : (s : Search) (t : Trail) (place most weight : ℕ) → IsReady s → IsTrail s t → IsTop s t (length s.code.now) place most → own_of s.resource + most ≤ weight → NoneHeavier s.resource s.earlier.now s.code.now weight
-top_most s t place most weight ready trail top le = none_heavier s.earlier.now s.code.now (around s.code.now) ready.good (names_in s.layout.now) ready.known s.resource weight below
+pub top_most : (s : Search) (t : Trail) (place most weight : ℕ) → IsTop s t (length s.code.now) place most → IsTrail s t → IsReady s → own_of s.resource + most ≤ weight → NoneHeavier s.resource s.earlier.now s.code.now weight
+top_most s t place most weight top trail ready le = none_heavier s.earlier.now s.code.now (around s.code.now) ready.good (names_in s.layout.now) ready.known s.resource weight below
   where
     below : (pc : ℕ) (loops : Loops) (sum : ℕ) → ends_for s.resource (instr_at s.code.now pc) ≡ true → Sums (skeleton s.earlier.now s.code.now) (flows s.resource s.earlier.now s.code.now (names_in s.layout.now)) (depth_of s.resource (names_in s.layout.now pc)) pc loops sum → own_of s.resource + sum ≤ weight
     below pc loops sum may r =
@@ -100,6 +101,22 @@ top_most s t place most weight ready trail top le = none_heavier s.earlier.now s
         let top_le = top.none_more pc b.at.within may in
         omega arith
 
+own_small : (k : Resource) → own_of k ≤ 1
+own_small Steps = omega arith
+own_small Tasks = omega arith
+own_small Scopes = omega arith
+own_small Binds = omega arith
+
+-- where the most of what stands is not all but nothing
+pub top_there : (s : Search) (t : Trail) (place most : ℕ) → IsTop s t (length s.code.now) place most → 1 < own_of s.resource + most → (place < length s.code.now) × (may_end s place ≡ true) × (full_in s t place ≡ most)
+top_there s t place most top some = elim top.there [ inl empty ↦ (let own = own_small s.resource in absurd (omega arith)) | inr there ↦ there ]
+
 -- what is too wide is too heavy
 pub wide_heavy : (s : Search) → IsReady s → PointsLieOnPaths s.earlier.now s.code.now → IsTooWide s → IsTooHeavy s.resource s.earlier.now s.code.now
 wide_heavy s ready lie (v, (stands, over)) = too_heavy s.earlier.now s.code.now (around s.code.now) ready.good (names_in s.layout.now) ready.known s.resource lie v stands (omega arith)
+
+pub top_heavy : (s : Search) (t : Trail) (place most : ℕ) → IsTop s t (length s.code.now) place most → IsTrail s t → IsReady s → PointsLieOnPaths s.earlier.now s.code.now → greatest_number < own_of s.resource + most → IsTooHeavy s.resource s.earlier.now s.code.now
+top_heavy s t place most top trail ready lie over =
+    let there = top_there s t place most top (omega arith) in
+    let stands = full_stands s ready t trail place there.0 in
+    too_heavy s.earlier.now s.code.now (around s.code.now) ready.good (names_in s.layout.now) ready.known s.resource lie (full_in s t place) stands (omega (arith, there.2))

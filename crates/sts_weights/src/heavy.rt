@@ -48,7 +48,8 @@ fn weigh(
     requires weight { weight ≡
         change.own_of search.now.resource + trails.full_in search.now trail.now place }
     requires over { change.limit_of search.now.resource < weight }
-    ensures { IfOk result (IsWeighed search.now) }
+    ensures weighed { IfOk result (IsWeighed search.now) }
+    ensures weight { IfOk result (λ h. h.weight ≡ weight) }
 {
     let to = Spot {
         place,

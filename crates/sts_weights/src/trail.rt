@@ -106,14 +106,7 @@ fn handed(search: &Search<'_>, trail: &Trail, pc: u32, depth: usize) -> Option<u
     if ends_turn(search.code[pc as usize]) {
         let around = loop_to(search, pc);
         let before = sum_at(trail, around.head as usize, depth);
-        return after_turns(
-            search,
-            trail,
-            around,
-            around.turns as u128,
-            depth,
-            before,
-        );
+        return after_turns(search, trail, around, around.turns as u128, depth, before);
     }
     let before = sum_at(trail, pc as usize, depth_before(search, pc as usize, depth));
     before.checked_add(added_at(search, pc as usize, depth))

@@ -101,12 +101,7 @@ fn back_out(
 }
 
 /// The walk back to the beginning of the function, out of each loop that is open.
-pub(crate) fn back_to_beginning(
-    search: &Search<'_>,
-    trail: &Trail,
-    to: Spot,
-    shares: &mut Shares,
-)
+pub(crate) fn back_to_beginning(search: &Search<'_>, trail: &Trail, to: Spot, shares: &mut Shares)
     requires ready { def.IsReady search.now }
     requires trail { trails.IsTrail search.now trail.now }
     requires spot { def.IsSpot search.now to }
