@@ -8,7 +8,7 @@ pub mod Instrs
 pub mod Leading
 pub mod Most
 pub mod PointLemmas
-pub mod Same
+pub mod SameLemmas
 pub mod Summing
 pub mod Tables
 pub mod Walking

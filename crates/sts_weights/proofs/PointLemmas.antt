@@ -59,6 +59,7 @@ heavy p f k earlier code l h size right named ready is w most = by (subst (λ xs
       steps = v.steps;
       path = v.path;
       one_each = v.one_each;
+      few = (let short = r.short in omega (arith, v.one_each));
       shares = v.shares;
       weight = v.weight;
       weighs = subst (λ m. Weighs k earlier (routine p f).code h.place m) (sym v.weight) (weighs earlier (routine p f).code (around (routine p f).code) r.good (names_in l) r.known k h.place v.loops (total v.steps) v.may (sums (skeleton earlier (routine p f).code) (flows k earlier (routine p f).code (names_in l)) (depth_of k (names_in l h.place)) h.place v.loops v.steps v.path));

@@ -48,7 +48,6 @@ fn higher(search: &Search<'_>, trail: &Trail, top: Top, pc: u32, full: u128) -> 
     requires full { full ≡ trails.full_in search.now trail.now pc }
     ensures { tops.IsTop search.now trail.now (pc + 1) result.place result.most }
 {
-    let _ = trail;
     if may_end(search, pc as usize) && full > top.most {
         Top {
             place: pc,

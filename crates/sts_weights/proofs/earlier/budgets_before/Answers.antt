@@ -3,7 +3,7 @@ use Rattle.sts_budget.specs.Outcome.{IsFound}
 use Rattle.sts_code.specs.Program.{routine}
 use Rattle.sts_rules.specs.Budget.{AreBudgets, IsBudget, Exceeds}
 use Rattle.sts_verify.proofs.BudgetLemmas.{budgets_more}
-use Rattle.sts_weights.proofs.Same.{same_budgets}
+use Rattle.sts_weights.proofs.SameLemmas.{same_budgets}
 use Rattle.sts_weights.proofs.earlier.budgets_before.Goals as goal
 
 pub budget-requires-clause-typed : goal.budget-requires-clause-typed
