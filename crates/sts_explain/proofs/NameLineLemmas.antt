@@ -6,7 +6,7 @@ use Rattle.std.specs.Option.{option_or}
 use Rattle.std.proofs.lemmas.List.{drop_more}
 use Rattle.std.proofs.lemmas.Option.{slice_get_cases, get_or_from_slice_get}
 use Rattle.sts_asm.specs.Line.{mnemonic_of}
-use Rattle.sts_asm.specs.Marks.{Mark, Names}
+use Rattle.sts_asm.specs.Marks.{Names}
 use Rattle.sts_asm.specs.Outline.{Sentence, Draft, Outline}
 use Rattle.sts_asm.specs.Source.{names_at, labels_of, sentences_of}
 use Rattle.sts_wanted.specs.declared.wanted.Wanted.{Wanted}

@@ -1,9 +1,9 @@
 -- The walk back along a trail: what each step of it adds, and that its numbers fit.
-use Rattle.std.proofs.Common.{◌≡◌, ℕ, zero, suc, ◌+◌, ◌-◌, ◌*◌, ◌<◌, ◌≤◌, ◌⊎◌, min, List, [], ◌∷◌, length, get_or, Option, Some, None, Bool, true, false, inl, inr, refl, sym, ap, ◌∙◌, subst, arith, mul-le-mul_left}
+use Rattle.std.proofs.Common.{◌≡◌, ℕ, ◌+◌, ◌-◌, ◌*◌, ◌<◌, ◌≤◌, ◌⊎◌, min, List, [], ◌∷◌, length, Some, None, true, false, inl, inr, refl, sym, ap, ◌∙◌, subst, arith, mul-le-mul_left}
 use Rattle.std.proofs.lemmas.Bool.{cases_eq}
 use Rattle.sts_code.specs.Program.{instr_at}
 use Rattle.sts_rules.specs.Around.{around}
-use Rattle.sts_rules.specs.ControlPaths.{GoesTo, Repeats, EndsTurn, Among}
+use Rattle.sts_rules.specs.ControlPaths.{GoesTo, Among}
 use Rattle.sts_budget.specs.Structured.{Led, from_go, from_head, from_end, bound_of}
 use Rattle.sts_budget.specs.Sums.{FitsEntries, gain, base, last_turns}
 use Rattle.sts_weights.specs.declared.search.Loop.{Loop}
@@ -16,7 +16,7 @@ use Rattle.sts_weights.specs.Trail.{IsTrail, IsFrom, handed, looped, sum_in, bes
 use Rattle.sts_weights.specs.Walk.{AreParts, IsBegin, IsStepBack, IsWalked, IsWalkedBack, IsWalkedBackOut, rest_in}
 use Rattle.sts_weights.proofs.Leading.{Way, straight, looping, way_of, leads_straight, leads_loop, leads_later, handed_straight, handed_loop}
 use Rattle.sts_weights.proofs.Tables.{fits_here}
-use Rattle.sts_weights.proofs.Walking.{walked_none, walked_both, walked_straight, walked_skip, walked_loop, walked_out, IsOpenWalk, open_walked, open_out}
+use Rattle.sts_weights.proofs.Walking.{walked_none, walked_both, walked_straight, walked_skip, walked_loop, walked_out}
 
 -- a walk back from one spot, which came to another
 pub record IsUnderWay (s : Search) (t : Trail) (times : ℕ) (at to : Spot) (before now : Shares) : Type 0 where

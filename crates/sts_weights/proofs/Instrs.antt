@@ -11,7 +11,7 @@ use Rattle.sts_code.specs.Facts.{targets}
 use Rattle.sts_rules.specs.Around.{next_place}
 use Rattle.sts_rules.specs.declared.budget.Budgets.{Budgets}
 use Rattle.sts_rules.specs.Budget.{shape_of, steps_of}
-use Rattle.sts_rules.specs.ControlPaths.{Shape, GoesTo, Repeats, EndsTurn, EndsPath}
+use Rattle.sts_rules.specs.ControlPaths.{GoesTo, Repeats, EndsTurn, EndsPath}
 use Rattle.sts_weights.specs.Search.{ends_turn, ends_path, turns_of}
 
 -- it goes on without a loop, opens one, ends a turn of one, or ends the path

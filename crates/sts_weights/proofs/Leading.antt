@@ -1,5 +1,5 @@
 -- Where instructions lead, and what they hand on.
-use Rattle.std.proofs.Common.{◌≡◌, ℕ, ◌+◌, ◌-◌, ◌*◌, ◌<◌, ◌≤◌, List, [], ◌∷◌, ◌++◌, length, get_or, Bool, true, false, cond, Option, Some, None, unwrap_or, inl, inr, refl, sym, ap, ◌∙◌, subst, arith}
+use Rattle.std.proofs.Common.{◌≡◌, ℕ, ◌+◌, ◌*◌, ◌<◌, List, [], ◌∷◌, ◌++◌, length, get_or, Bool, true, false, cond, Some, None, unwrap_or, inl, inr, refl, sym, ap, ◌∙◌, subst, arith}
 use Rattle.sts_code.specs.Facts.{targets}
 use Rattle.sts_code.specs.Program.{instr_at}
 use Rattle.sts_rules.specs.Around.{next_place, around}
@@ -8,7 +8,6 @@ use Rattle.sts_budget.specs.Laid.{first_of}
 use Rattle.sts_budget.specs.Ready.{head_in}
 use Rattle.sts_budget.specs.Sums.{gain}
 use Rattle.sts_weights.specs.declared.search.Search.{Search}
-use Rattle.sts_weights.specs.declared.search.Loop.{Loop}
 use Rattle.sts_weights.specs.Search.{IsReady, IsLoop, LeadsOn, paths, flow, ends_turn, turns_of}
 use Rattle.sts_weights.specs.Trail.{handed, looped}
 use Rattle.sts_weights.proofs.Instrs.{Kind, kind, goes, opens, turns, ends}

@@ -28,7 +28,6 @@ use Rattle.sts_weights.proofs.Summing.{bounded, point_most}
 use Rattle.sts_weights.proofs.Tables.{fits_here, is_table}
 use Rattle.sts_budget.specs.Laws.{PointsLieOnPaths}
 use Rattle.sts_budget.specs.Sums.{Stands}
-use Rattle.sts_budget.specs.Table.{Passes}
 use Rattle.sts_budget.proofs.EntryLemmas.{names, front, front_all, front_le, names_of, front_of, source_low, long}
 use Rattle.sts_budget.proofs.FourKindLemmas.{comes_names, from_sums, from_steps}
 use Rattle.sts_budget.proofs.PointLemmas.{end_counts_one}

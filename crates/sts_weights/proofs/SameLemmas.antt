@@ -1,5 +1,5 @@
 -- The budgets of the first functions are the same, however they were found.
-use Rattle.std.proofs.Common.{◌≡◌, ℕ, List, length, refl, arith}
+use Rattle.std.proofs.Common.{◌≡◌, List, length, refl, arith}
 use Rattle.std.proofs.lemmas.List.{ext_get_or}
 use Rattle.sts_code.specs.Program.{Program}
 use Rattle.sts_rules.specs.Budget.{AreBudgets, budget_at, no_budget}

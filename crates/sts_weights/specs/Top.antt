@@ -1,7 +1,6 @@
 -- Where most stands (this project's own).
 use Rattle.std.specs.Prelude.{◌≡◌, ℕ, ◌<◌, ◌≤◌, ◌⊎◌, true, List, length, get_or}
 use Rattle.sts_weights.specs.declared.search.Search.{Search}
-use Rattle.sts_weights.specs.declared.top.Top.{Top}
 use Rattle.sts_weights.specs.declared.trail.Trail.{Trail}
 use Rattle.sts_weights.specs.Search.{may_end}
 use Rattle.sts_weights.specs.Trail.{full_in}

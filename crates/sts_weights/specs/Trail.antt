@@ -1,6 +1,6 @@
 -- A table of greatest sums, each with the place before it on the way there (this project's own).
 use Rattle.std.specs.Prelude.{◌≡◌, ℕ, ◌+◌, ◌*◌, ◌<◌, ◌≤◌, List, [], length, get_or, Option, Some}
-use Rattle.std.specs.Prelude.{None, Bool, ◌||◌, is_none, nat_lt, if◌then◌else◌}
+use Rattle.std.specs.Prelude.{None, ◌||◌, is_none, nat_lt, if◌then◌else◌}
 use Rattle.sts_code.specs.Program.{instr_at}
 use Rattle.sts_rules.specs.Around.{around}
 use Rattle.sts_budget.specs.Ready.{head_in}

@@ -1,4 +1,4 @@
-use Rattle.std.proofs.Common.{◌≡◌, ◌+◌, ◌<◌, ◌≤◌, subst, sym, arith}
+use Rattle.std.proofs.Common.{◌+◌, ◌<◌, ◌≤◌, arith}
 use Rattle.sts_budget.specs.Change.{own_of, limit_of}
 use Rattle.sts_budget.proofs.PointLemmas.{laid_for, names_right}
 use Rattle.sts_weights.specs.declared.search.Search.{Search}

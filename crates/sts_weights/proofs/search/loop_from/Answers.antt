@@ -1,4 +1,4 @@
-use Rattle.std.proofs.Common.{◌≡◌, ◌<◌, ◌∙◌, ap, length, arith}
+use Rattle.std.proofs.Common.{◌<◌, ◌∙◌, ap, length, arith}
 use Rattle.sts_code.specs.declared.instr.Instr.TheVariants.{Ret}
 use Rattle.sts_budget.proofs.LaidStepLemmas.{any_default}
 use Rattle.sts_weights.specs.Search.{turns_of}

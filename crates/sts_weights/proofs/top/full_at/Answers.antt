@@ -1,4 +1,4 @@
-use Rattle.std.proofs.Common.{◌≡◌, ◌+◌, ◌-◌, ◌<◌, ◌∷◌, Some, None, sym, ap, ◌∙◌, subst, arith, get_or, length}
+use Rattle.std.proofs.Common.{◌≡◌, ◌+◌, ◌-◌, ◌<◌, ◌∷◌, Some, None, sym, ap, ◌∙◌, subst, arith, get_or}
 use Rattle.std.specs.Prelude.{MatchOption}
 use Rattle.sts_rules.specs.Around.{around}
 use Rattle.sts_budget.proofs.LaidStepLemmas.{any_default}

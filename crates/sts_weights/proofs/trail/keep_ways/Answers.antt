@@ -1,4 +1,4 @@
-use Rattle.std.proofs.Common.{◌≡◌, ◌<◌, ◌≤◌, length, Some, ap, ◌∙◌, arith}
+use Rattle.std.proofs.Common.{◌<◌, ◌≤◌, length, Some, ap, ◌∙◌, arith}
 use Rattle.sts_weights.specs.Search.{flow}
 use Rattle.sts_weights.specs.Trail.{sum_in}
 use Rattle.sts_weights.proofs.Bests.{row_more}

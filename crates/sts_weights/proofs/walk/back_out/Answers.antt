@@ -1,6 +1,5 @@
-use Rattle.std.proofs.Common.{◌≡◌, ◌+◌, ◌-◌, ◌*◌, ◌≤◌, sym, ap, ◌∙◌, arith, refl}
-use Rattle.sts_weights.specs.Trail.{sum_in, greatest_number}
-use Rattle.sts_weights.proofs.Backwards.{out_step, turn_of, step_spot}
+use Rattle.std.proofs.Common.{◌-◌, arith, refl}
+use Rattle.sts_weights.proofs.Backwards.{out_step}
 use Rattle.sts_weights.proofs.walk.back_out.Goals as goal
 
 pub back_to-end-requires-clause-fits : goal.back_to-end-requires-clause-fits

@@ -1,4 +1,4 @@
-use Rattle.std.proofs.Common.{◌≡◌, ◌+◌, ◌<◌, ◌≤◌, min, ◌∷◌, get_or, length, Some, None, refl, sym, ap, ◌∙◌, subst, arith}
+use Rattle.std.proofs.Common.{◌≡◌, ◌+◌, ◌<◌, min, ◌∷◌, get_or, length, Some, None, refl, sym, ap, ◌∙◌, subst, arith}
 use Rattle.sts_rules.specs.Around.{around}
 use Rattle.sts_budget.proofs.LaidStepLemmas.{any_default}
 use Rattle.sts_weights.specs.declared.search.Spot.{Spot}
