@@ -14,6 +14,9 @@ use Rattle.sts_rules.specs.declared.typing.Cause.{Cause}
 use Rattle.sts_rules.specs.declared.typing.Cause.TheVariants as cause
 use Rattle.sts_rules.specs.declared.typing.TypedLoop.{TypedLoop}
 use Rattle.sts_rules.specs.Around.{around, is_inside}
+use Rattle.sts_budget.specs.declared.change.Resource.{Resource}
+use Rattle.sts_budget.specs.declared.change.Resource.TheVariants.{Steps, Tasks, Scopes, Binds}
+use Rattle.sts_budget.specs.Change.{cause_of}
 use Rattle.sts_rules.specs.Causes.{causes, holds, least_cause, jumps_back}
 use Rattle.sts_rules.specs.Edges.{edges, follows, to_optional, moved, or_cause, back_of, typing}
 use Rattle.sts_rules.specs.Flow.{Reaches, Leads}
@@ -115,6 +118,19 @@ never_differs p f pc s e =
     let o = differs (least_cause p f pc i s) (follows p (routine p f).code pc i s) cause.StatesDiffer e in
     let holds_here : holds p f pc i s cause.StatesDiffer ≡ true = found (holds p f pc i s) causes cause.StatesDiffer o in
     absurd (cc)
+
+-- nor is that a budget is passed
+pub never_budget : (p : Program) (f pc : ℕ) (s : TypeState) (k : Resource) → edges p f pc s ≡ Err (cause_of k) → ⊥
+never_budget p f pc s k e =
+    let i : Instr = instr_at (routine p f).code pc in
+    let o = differs (least_cause p f pc i s) (follows p (routine p f).code pc i s) (cause_of k) e in
+    never k i (found (holds p f pc i s) causes (cause_of k) o)
+  where
+    never : (k : Resource) (i : Instr) → holds p f pc i s (cause_of k) ≡ true → ⊥
+    never Steps i h = absurd (cc)
+    never Tasks i h = absurd (cc)
+    never Scopes i h = absurd (cc)
+    never Binds i h = absurd (cc)
 
 -- ---- turns
 

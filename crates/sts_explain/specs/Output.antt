@@ -18,7 +18,7 @@ use Rattle.sts_explain.specs.Weights.{weight_lines}
 use Rattle.sts_budget.specs.declared.change.Resource.{Resource}
 use Rattle.sts_budget.specs.Change.{cause_of}
 use Rattle.sts_weights.specs.declared.heavy.Heavy.{Heavy}
-use Rattle.sts_weights.specs.Heavy.{IsHeavy}
+use Rattle.sts_weights.specs.Heavy.{IsHeavy, NeedsMoreBits}
 
 abbrev pub accepted_output : Output
 accepted_output = record { bytes = codes "accepted\n"; status = 0 }
@@ -29,14 +29,16 @@ fault_output e text = record { bytes = fault_lines e text; status = 3 }
 -- ---- refusals
 
 -- what is told beside the cause: the parts in which two ways that meet differ, always if that is
--- why, and then one part at least; or what weighs too much, if that is why
+-- why, and then one part at least; or what weighs too much, always if that is why and 128 bits hold
+-- what each point weighs
 pub data IsDetail (p : Program) (o : Outline) (f pc : ℕ) : Cause → List ℕ → Type 0 where
   meets : (m : Meeting) (parts : List Part) → Meets p f pc m
       → AreDifferences m.one.state m.other.state parts
       → IsDetail p o f pc StatesDiffer (difference_lines o p f m parts)
   weighs : (k : Resource) (h : Heavy) {c : Cause} → c ≡ cause_of k → IsHeavy p f k h
       → IsDetail p o f pc c (weight_lines o f k h)
-  none : {c : Cause} → c ≢ StatesDiffer → IsDetail p o f pc c []
+  none : {c : Cause} → c ≢ StatesDiffer
+      → ((k : Resource) → c ≡ cause_of k → NeedsMoreBits p f k) → IsDetail p o f pc c []
 
 -- what was printed before, and then the detail
 pub data Tells (p : Program) (o : Outline) (f pc : ℕ) (c : Cause)

@@ -22,7 +22,6 @@ use sts_asm::{AsmError, AsmKind, Outline, assemble, outlined};
 use sts_budget::change::Resource;
 use sts_cli::play::{WriteFailed, failed, written};
 use sts_cli::taking::TakeError;
-use sts_code::code::code_of;
 use sts_code::program::Program;
 use sts_rules::typing::Cause;
 use sts_verify::error::VerifyError;
@@ -97,9 +96,6 @@ fn say_heavy(
     ensures { OnOk result (def.Tells program.now outline.now function pc (cause_of resource)
         out.old.items out.new.items) }
 {
-    if pc as usize != code_of(program, function as usize).len() {
-        return Ok(());
-    }
     match heaviest(alloc, program, function, resource)? {
         None => Ok(()),
         Some(heavy) => {

@@ -1,5 +1,5 @@
--- No path weighs more than the bounds of its sums allow, by the words of the budget.
-use Rattle.std.proofs.Common.{◌≡◌, ℕ, ◌+◌, ◌≤◌, List, [], length, get_or, None, sym, ap, ◌∙◌, subst, arith}
+-- What paths weigh by a trail, by the words of the budget.
+use Rattle.std.proofs.Common.{◌≡◌, ℕ, ◌+◌, ◌≤◌, ◌<◌, List, [], length, true, inl, inr, refl, sym, ap, ◌∙◌, subst, arith}
 use Rattle.sts_code.specs.Program.{instr_at}
 use Rattle.sts_code.specs.declared.instr.Instr.{Instr}
 use Rattle.sts_rules.specs.declared.budget.Budgets.{Budgets}
@@ -13,18 +13,23 @@ use Rattle.sts_budget.specs.Flowing.{flows, flows_by}
 use Rattle.sts_budget.specs.Known.{KnowsNames}
 use Rattle.sts_budget.specs.Layout.{Names, names_after, FitsNames}
 use Rattle.sts_budget.specs.Ready.{names_in}
-use Rattle.sts_budget.specs.declared.layout.Layout.{Layout}
 use Rattle.sts_budget.specs.Structured.{IsStructured}
 use Rattle.sts_budget.specs.Sums.{Sums, none, more}
 use Rattle.sts_weights.specs.declared.search.Search.{Search}
 use Rattle.sts_weights.specs.declared.trail.Trail.{Trail}
-use Rattle.sts_weights.specs.Bound.{sum_in, AreBounds}
-use Rattle.sts_weights.specs.Heavy.{Weighs, NoneHeavier}
-use Rattle.sts_weights.specs.Search.{IsReady, paths, flow}
-use Rattle.sts_weights.proofs.Bounding.{point_below}
+use Rattle.sts_weights.specs.Heavy.{Weighs, NoneHeavier, IsTooHeavy}
+use Rattle.sts_weights.specs.Search.{IsReady, ends_for, may_end, paths, flow}
+use Rattle.sts_weights.specs.Top.{IsTop}
+use Rattle.sts_weights.specs.Trail.{IsTrail, IsTooWide, sum_in, full_in, greatest_number}
+use Rattle.sts_weights.proofs.Fulls.{full_stands}
 use Rattle.sts_weights.proofs.Inside.{comes_inside}
-use Rattle.sts_budget.proofs.EntryLemmas.{names, front, front_all, names_of, front_of, source_low, long}
-use Rattle.sts_budget.proofs.FourKindLemmas.{comes_names, fits}
+use Rattle.sts_weights.proofs.Instrs.{counts_one, ends_paths}
+use Rattle.sts_weights.proofs.Summing.{bounded, point_most}
+use Rattle.sts_weights.proofs.Tables.{fits_here, is_table}
+use Rattle.sts_budget.specs.Laws.{PointsLieOnPaths}
+use Rattle.sts_budget.specs.Sums.{Stands}
+use Rattle.sts_budget.proofs.EntryLemmas.{names, front, front_all, front_le, names_of, front_of, source_low, long}
+use Rattle.sts_budget.proofs.FourKindLemmas.{comes_names, from_sums, from_steps}
 use Rattle.sts_budget.proofs.PointLemmas.{end_counts_one}
 
 module _ (earlier : List Budgets) (code : List Instr) (round : ℕ → List ℕ) (good : IsStructured (skeleton earlier code) round) (names_at : ℕ → Names) (known : KnowsNames code (skeleton earlier code) round names_at) where
@@ -56,30 +61,61 @@ module _ (earlier : List Budgets) (code : List Instr) (round : ℕ → List ℕ)
       let all = front_all m es (length (names_at pc)) (sym (long es) ∙ ap length n) in
       subst (λ x. Sums (skeleton earlier code) (flows_by m code names_at) (length (names_at pc)) pc loops x) all (to_sums m pc loops before es r (length (names_at pc)) (omega arith))
 
-  pub none_heavier : (k : Resource) (most : ℕ) → ((pc : ℕ) (loops : Loops) (sum : ℕ) → Sums (skeleton earlier code) (flows k earlier code names_at) (depth_of k (names_at pc)) pc loops sum → own_of k + sum ≤ most) → (pc m : ℕ) → Weighs k earlier code pc m → m ≤ most
+  pub none_heavier : (k : Resource) (most : ℕ) → ((pc : ℕ) (loops : Loops) (sum : ℕ) → ends_for k (instr_at code pc) ≡ true → Sums (skeleton earlier code) (flows k earlier code names_at) (depth_of k (names_at pc)) pc loops sum → own_of k + sum ≤ most) → (pc m : ℕ) → Weighs k earlier code pc m → m ≤ most
   none_heavier Steps most below pc m (loops, (before, (es, (r, (e, is))))) =
       let one = end_counts_one earlier pc (instr_at code pc) e in
-      let le = below pc loops before (to_steps pc loops before es r) in
+      let le = below pc loops before (ends_paths pc (instr_at code pc) e) (to_steps pc loops before es r) in
       omega (arith, is)
-  none_heavier Tasks most below pc m (loops, (before, (es, (r, is)))) = let le = below pc loops _ (all_sums (tasks_measure earlier) pc loops before es r) in omega (arith, is)
-  none_heavier Scopes most below pc m (loops, (before, (es, (r, is)))) = let le = below pc loops _ (all_sums (scopes_measure earlier) pc loops before es r) in omega (arith, is)
-  none_heavier Binds most below pc m (loops, (before, (es, (r, is)))) = let le = below pc loops _ (all_sums (binds_measure earlier) pc loops before es r) in omega (arith, is)
+  none_heavier Tasks most below pc m (loops, (before, (es, (r, is)))) = let le = below pc loops _ refl (all_sums (tasks_measure earlier) pc loops before es r) in omega (arith, is)
+  none_heavier Scopes most below pc m (loops, (before, (es, (r, is)))) = let le = below pc loops _ refl (all_sums (scopes_measure earlier) pc loops before es r) in omega (arith, is)
+  none_heavier Binds most below pc m (loops, (before, (es, (r, is)))) = let le = below pc loops _ refl (all_sums (binds_measure earlier) pc loops before es r) in omega (arith, is)
 
--- no path weighs more where these are bounds
-pub bounds_most : (s : Search) (t : Trail) (bases : List ℕ) (most weight : ℕ) → IsReady s → own_of s.resource + most ≡ weight → AreBounds s t bases most → NoneHeavier s.resource s.earlier.now s.code.now weight
-bounds_most s t bases most weight ready is h = none_heavier earlier code (around code) ready.good (names_in l) ready.known s.resource weight below
+  -- what stands over some of the entries weighs no more than all of them
+  entries_weigh : (m : Measure) (v : ℕ) → Stands (skeleton earlier code) (flows_by m code names_at) v → (pc : ℕ) × ((loops : Loops) × ((before : ℕ) × ((es : List OpenEntry) × (Comes (skeleton earlier code) pc loops before es × (v ≤ entries_sum m es)))))
+  entries_weigh m v (d, (pc, (loops, (sum, h)))) =
+      let w = from_sums earlier code round good names_at known m d pc loops sum h.1 in
+      let le = front_le m w.1.0 d in
+      (pc, (loops, (w.0, (w.1.0, (w.1.1.0, omega (arith, h.2, w.1.1.1))))))
+
+  pub too_heavy : (k : Resource) → PointsLieOnPaths earlier code → (v : ℕ) → Stands (skeleton earlier code) (flows k earlier code names_at) v → greatest_number < own_of k + v → IsTooHeavy k earlier code
+  too_heavy Steps lie v (d, (pc, (loops, (sum, h)))) over =
+      let w = from_steps earlier code round good names_at known d pc loops sum h.1 in
+      let p = lie pc loops sum w.0 w.1 in
+      let path = p.1.0 in
+      let last = path.1.1.1.1 in
+      let one = counts_one earlier (instr_at code pc) in
+      (path.0, (p.0, ((path.1.0, (path.1.1.0, (path.1.1.1.0, (last.0, (last.1, last.2))))), omega (arith, h.2, p.1.1))))
+  too_heavy Tasks lie v h over = let e = entries_weigh (tasks_measure earlier) v h in (e.0, (_, ((e.1.0, (e.1.1.0, (e.1.1.1.0, (e.1.1.1.1.0, refl)))), omega (arith, e.1.1.1.1.1))))
+  too_heavy Scopes lie v h over = let e = entries_weigh (scopes_measure earlier) v h in (e.0, (_, ((e.1.0, (e.1.1.0, (e.1.1.1.0, (e.1.1.1.1.0, refl)))), omega (arith, e.1.1.1.1.1))))
+  too_heavy Binds lie v h over = let e = entries_weigh (binds_measure earlier) v h in (e.0, (_, ((e.1.0, (e.1.1.0, (e.1.1.1.0, (e.1.1.1.1.0, refl)))), omega (arith, e.1.1.1.1.1))))
+
+-- no path weighs more than the most of what stands by the trail
+pub top_most : (s : Search) (t : Trail) (place most weight : ℕ) → IsTop s t (length s.code.now) place most → IsTrail s t → IsReady s → own_of s.resource + most ≤ weight → NoneHeavier s.resource s.earlier.now s.code.now weight
+top_most s t place most weight top trail ready le = none_heavier s.earlier.now s.code.now (around s.code.now) ready.good (names_in s.layout.now) ready.known s.resource weight below
   where
-    earlier : List Budgets
-    earlier = s.earlier.now
+    below : (pc : ℕ) (loops : Loops) (sum : ℕ) → ends_for s.resource (instr_at s.code.now pc) ≡ true → Sums (skeleton s.earlier.now s.code.now) (flows s.resource s.earlier.now s.code.now (names_in s.layout.now)) (depth_of s.resource (names_in s.layout.now pc)) pc loops sum → own_of s.resource + sum ≤ weight
+    below pc loops sum may r =
+        let b = bounded (paths s) (around s.code.now) ready.good (flow s) (fits_here s ready) (sum_in t) (is_table s ready t trail) (depth_of s.resource (names_in s.layout.now pc)) pc loops sum r in
+        let m = point_most (paths s) (around s.code.now) ready.good (flow s) (fits_here s ready) (sum_in t) (is_table s ready t trail) pc loops sum r in
+        let top_le = top.none_more pc b.at.within may in
+        omega arith
 
-    code : List Instr
-    code = s.code.now
+own_small : (k : Resource) → own_of k ≤ 1
+own_small Steps = omega arith
+own_small Tasks = omega arith
+own_small Scopes = omega arith
+own_small Binds = omega arith
 
-    l : Layout
-    l = s.layout.now
+-- where the most of what stands is not all but nothing
+pub top_there : (s : Search) (t : Trail) (place most : ℕ) → IsTop s t (length s.code.now) place most → 1 < own_of s.resource + most → (place < length s.code.now) × (may_end s place ≡ true) × (full_in s t place ≡ most)
+top_there s t place most top some = elim top.there [ inl empty ↦ (let own = own_small s.resource in absurd (omega arith)) | inr there ↦ there ]
 
-    below : (pc : ℕ) (loops : Loops) (sum : ℕ) → Sums (skeleton s.earlier.now s.code.now) (flows s.resource s.earlier.now s.code.now (names_in s.layout.now)) (depth_of s.resource (names_in s.layout.now pc)) pc loops sum → own_of s.resource + sum ≤ weight
-    below pc loops sum r =
-        let b = point_below (paths s) (around code) ready.good (flow s) (fits earlier code (around code) ready.good (names_in l) ready.known s.resource) (sum_in t) h.holds bases (λ q. get_or s.layout.now.heads.items q None) ready.heads (λ p n lt e. (h.light p lt).base n e) pc loops sum r in
-        let light = (h.light pc b.0).within in
-        omega (arith, b.1)
+-- what is too wide is too heavy
+pub wide_heavy : (s : Search) → IsReady s → PointsLieOnPaths s.earlier.now s.code.now → IsTooWide s → IsTooHeavy s.resource s.earlier.now s.code.now
+wide_heavy s ready lie (v, (stands, over)) = too_heavy s.earlier.now s.code.now (around s.code.now) ready.good (names_in s.layout.now) ready.known s.resource lie v stands (omega arith)
+
+pub top_heavy : (s : Search) (t : Trail) (place most : ℕ) → IsTop s t (length s.code.now) place most → IsTrail s t → IsReady s → PointsLieOnPaths s.earlier.now s.code.now → greatest_number < own_of s.resource + most → IsTooHeavy s.resource s.earlier.now s.code.now
+top_heavy s t place most top trail ready lie over =
+    let there = top_there s t place most top (omega arith) in
+    let stands = full_stands s ready t trail place there.0 in
+    too_heavy s.earlier.now s.code.now (around s.code.now) ready.good (names_in s.layout.now) ready.known s.resource lie (full_in s t place) stands (omega (arith, there.2))

@@ -1,7 +1,7 @@
 -- Stretches that were walked back, one after the other.
 use Rattle.std.proofs.Common.{◌≡◌, ◌≢◌, ℕ, zero, suc, ◌+◌, ◌-◌, ◌*◌, ◌<◌, ◌≤◌, List, [], ◌∷◌, length, get_or, set, Bool, true, false, ◌==◌, cond, refl, sym, subst, ap, ◌∙◌, arith, length-set, get_or-set_same, get_or-set_other}
 use Rattle.std.proofs.lemmas.Bool.{eqb-true, eqb-false}
-use Rattle.sts_rules.specs.ControlPaths.{Skeleton, Loops, GoesTo, Repeats, Among, go}
+use Rattle.sts_rules.specs.ControlPaths.{Skeleton, Loops, GoesTo, Repeats, Among, go, skip}
 use Rattle.sts_budget.specs.Sums.{Flows}
 use Rattle.sts_weights.specs.declared.search.Spot.{Spot}
 use Rattle.sts_weights.specs.declared.search.Loop.{Loop}
@@ -167,6 +167,12 @@ walked_out z l many turn end at s t u v is begins low many_is last (body, (way, 
             subst (λ x. Extends c f at.depth x loops turn.depth turn.place ((x, 1) ∷ loops) a) (sym first.place)
             (subst (λ x. Extends c f x h loops turn.depth turn.place ((h, 1) ∷ loops) a) (sym first.depth)
             (subst (λ x. Extends c f (f.source h d) h loops d x ((h, 1) ∷ loops) a) (sym begins) w))
+
+-- over a whole loop that makes no turn
+pub walked_skip : (c : Skeleton) (f : Flows) (h n times : ℕ) (to at : Spot) (s t : Shares) → c.shape h ≡ Repeats n → to.place ≡ c.mate h + 1 → to.depth ≤ f.depth to.place → IsStepBack f h to times s t at → IsWalked c f times at to s t
+walked_skip c f h n times to at s t shape behind low is =
+    let low' : to.depth ≤ f.depth (c.mate h + 1) = subst (λ x. to.depth ≤ f.depth x) behind low in
+    (one h (f.added h to.depth), (λ loops. step_as c f h to at loops loops (one h (f.added h to.depth)) is.place is.depth (subst (λ x. Extends c f (f.source h to.depth) h loops to.depth x loops (one h (f.added h to.depth))) (sym behind) (extends_step c f to.depth h (c.mate h + 1) loops loops low' (skip n shape))), is.raised))
 
 -- ---- out of all loops
 

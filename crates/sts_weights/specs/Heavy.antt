@@ -1,6 +1,7 @@
 -- A path, or a point of one, that weighs more than its budget may (this project's own).
-use Rattle.std.specs.Prelude.{◌≡◌, ℕ, ◌+◌, ◌<◌, ◌≤◌, List, length, get_or}
+use Rattle.std.specs.Prelude.{◌≡◌, ℕ, ◌+◌, ◌<◌, ◌≤◌, ◌⊎◌, List, length, get_or}
 use Rattle.sts_code.specs.declared.instr.Instr.{Instr}
+use Rattle.sts_code.specs.declared.limits.TheConstants.{MAX_INSTRUCTIONS}
 use Rattle.sts_code.specs.Program.{Program, routine}
 use Rattle.sts_rules.specs.declared.budget.Budgets.{Budgets}
 use Rattle.sts_rules.specs.Budget.{AreBudgets, skeleton, tasks_sum, scopes_sum, binds_sum}
@@ -49,8 +50,30 @@ pub record IsHeavy (p : Program) (f : ℕ) (k : Resource) (h : Heavy) : Type 0 w
   pub path : Adds (skeleton earlier (routine p f).code) (flows k earlier (routine p f).code names_at)
       (depth_of k (names_at h.place)) h.place loops steps
   pub one_each : length h.shares.items ≡ length (routine p f).code
+  pub few : length h.shares.items ≤ MAX_INSTRUCTIONS
   pub shares : (x : ℕ) → get_or h.shares.items x 0 ≡ share steps x
   pub weight : h.weight ≡ own_of k + total steps
   pub weighs : Weighs k earlier (routine p f).code h.place h.weight
   pub most : NoneHeavier k earlier (routine p f).code h.weight
   pub over : limit_of k < h.weight
+
+-- some point of a path weighs more than 128 bits hold
+abbrev pub IsTooHeavy : Resource → List Budgets → List Instr → Type 0
+IsTooHeavy k earlier code =
+    (pc : ℕ)
+    × ((m : ℕ) × (Weighs k earlier code pc m × (340282366920938463463374607431768211455 < m)))
+
+-- nothing weighs more than the limit, or something weighs more than 128 bits hold
+pub record IsUntold (p : Program) (f : ℕ) (k : Resource) : Type 0 where
+  pub earlier : List Budgets
+  pub long : length earlier ≡ f
+  pub right : AreBudgets p earlier
+  pub why : NoneHeavier k earlier (routine p f).code (limit_of k)
+      ⊎ IsTooHeavy k earlier (routine p f).code
+
+-- something weighs more than 128 bits hold
+pub record NeedsMoreBits (p : Program) (f : ℕ) (k : Resource) : Type 0 where
+  pub earlier : List Budgets
+  pub long : length earlier ≡ f
+  pub right : AreBudgets p earlier
+  pub more : IsTooHeavy k earlier (routine p f).code

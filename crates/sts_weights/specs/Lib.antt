@@ -3,4 +3,5 @@ pub mod Search
 pub mod Walk
 pub mod Heavy
 pub mod Found
-pub mod Bound
+pub mod Trail
+pub mod Top

@@ -1,10 +1,12 @@
 -- What a search is about (this project's own).
-use Rattle.std.specs.Prelude.{◌≡◌, ℕ, ◌<◌, ◌≤◌, Bool, true, false, IsTrue, List, length}
+use Rattle.std.specs.Prelude.{◌≡◌, ℕ, ◌<◌, ◌≤◌, ◌++◌, Bool, true, false, length}
 use Rattle.sts_code.specs.declared.instr.Instr.{Instr}
 use Rattle.sts_code.specs.declared.instr.Instr.TheVariants.{Times, Next, Ret, Fail}
+use Rattle.sts_code.specs.Facts.{targets}
 use Rattle.sts_code.specs.Program.{instr_at}
+use Rattle.sts_rules.specs.Around.{next_place}
 use Rattle.sts_rules.specs.Budget.{skeleton}
-use Rattle.sts_rules.specs.ControlPaths.{Skeleton, GoesTo, Repeats, EndsTurn, Among}
+use Rattle.sts_rules.specs.ControlPaths.{Skeleton, Repeats, EndsTurn, Among}
 use Rattle.sts_budget.specs.declared.change.Resource.{Resource}
 use Rattle.sts_budget.specs.declared.change.Resource.TheVariants.{Steps}
 use Rattle.sts_budget.specs.Ready.{IsLaidFor, flows_in}
@@ -25,13 +27,10 @@ paths s = skeleton s.earlier.now s.code.now
 abbrev pub flow : Search → Flows
 flow s = flows_in s.resource s.earlier.now s.code.now s.layout.now
 
--- does it go on elsewhere than at a loop's turn, and does not end the path?
-abbrev pub goes_on : Instr → Bool
-goes_on (Times n) = false
-goes_on Next = false
-goes_on Ret = false
-goes_on Fail = false
-goes_on i = true
+-- does it end a loop's turn?
+abbrev pub ends_turn : Instr → Bool
+ends_turn Next = true
+ends_turn i = false
 
 -- does it end the path?
 abbrev pub ends_path : Instr → Bool
@@ -58,11 +57,16 @@ pub record IsLoop (s : Search) (l : Loop) : Type 0 where
   pub mate : (paths s).mate l.head ≡ l.end
   pub ends : (paths s).shape l.end ≡ EndsTurn
 
--- if so, an instruction that is no loop's leads from one place to the other
-abbrev pub Leads : Search → ℕ → ℕ → Bool → Type 0
-Leads s from to answer =
-    IsTrue answer
-    → (places : List ℕ) × (((paths s).shape from ≡ GoesTo places) × Among places to)
+-- a loop opens at the place
+abbrev pub OpensLoop : Search → ℕ → Type 0
+OpensLoop s pc = (n : ℕ) × ((paths s).shape pc ≡ Repeats n)
+
+-- the instruction, which opens no loop, leads from one place to the other; at the end of a turn
+-- that is on from its loop
+abbrev pub LeadsOn : Search → ℕ → ℕ → Type 0
+LeadsOn s from to =
+    (turns_of (instr_at s.code.now from) ≡ 0)
+    × Among (targets (instr_at s.code.now from) ++ next_place from (instr_at s.code.now from)) to
 
 -- steps are told of whole paths
 abbrev pub ends_for : Resource → Instr → Bool

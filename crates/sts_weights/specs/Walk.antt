@@ -1,10 +1,16 @@
 -- A stretch of a control path, and what it adds (this project's own).
-use Rattle.std.specs.Prelude.{◌≡◌, ℕ, ◌+◌, ◌*◌, [], ◌∷◌, length, get_or}
+use Rattle.std.specs.Prelude.{◌≡◌, ℕ, ◌+◌, ◌-◌, ◌*◌, ◌≤◌, min, List, [], ◌∷◌, length, get_or}
+use Rattle.sts_rules.specs.Around.{around}
 use Rattle.sts_rules.specs.ControlPaths.{Skeleton, Loops}
-use Rattle.sts_budget.specs.Sums.{Flows}
+use Rattle.sts_budget.specs.Sums.{Flows, base, last_turns}
+use Rattle.sts_weights.specs.declared.search.Loop.{Loop}
+use Rattle.sts_weights.specs.declared.search.Search.{Search}
 use Rattle.sts_weights.specs.declared.search.Spot.{Spot}
 use Rattle.sts_weights.specs.declared.shares.Shares.{Shares}
+use Rattle.sts_weights.specs.declared.trail.Trail.{Trail}
 use Rattle.sts_weights.specs.Adding.{Adds, Steps, share, total, at_place}
+use Rattle.sts_weights.specs.Search.{paths, flow}
+use Rattle.sts_weights.specs.Trail.{sum_in, looped}
 
 -- so much at each place, and all of it in one
 pub record Amounts : Type 0 where
@@ -63,3 +69,36 @@ IsWholeWalk c f to before after =
     (after_loops : Loops)
     × ((a : Amounts)
     × (Extends c f 0 0 [] to.depth to.place after_loops a × IsRaised 1 a before after))
+
+-- no place adds more than all do
+abbrev pub AreParts : Shares → Type 0
+AreParts s = (x : ℕ) → get_or s.places.items x 0 ≤ s.total
+
+-- a spot is at the beginning of the function, or of a turn of the innermost loop around the other
+pub record IsBegin (s : Search) (to at : Spot) : Type 0 where
+  pub outside : around s.code.now to.place ≡ [] → at ≡ record { place = 0; depth = 0 }
+  pub inside : (p : ℕ) (ps : List ℕ) → around s.code.now to.place ≡ p ∷ ps
+      → at ≡ record { place = p + 1; depth = min to.depth ((flow s).depth p) }
+
+-- a stretch that was walked back to its beginning, and adds what the trail has
+pub record IsWalkedBack (s : Search) (t : Trail) (times : ℕ) (at to : Spot) (before after : Shares)
+    : Type 0 where
+  pub begin : IsBegin s to at
+  pub walked : IsWalked (paths s) (flow s) times at to before after
+  pub total : after.total ≡ before.total + times * sum_in t to.place to.depth
+  pub parts : AreParts after
+
+-- the turns of a loop before the last one, and its `times`, which were walked back
+pub record IsWalkedBackOut (s : Search) (t : Trail) (l : Loop) (turn at : Spot)
+    (before after : Shares) : Type 0 where
+  pub place : at.place ≡ l.head
+  pub depth : at.depth ≡ turn.depth
+  pub walked : IsWalkedOut (paths s) (flow s) at turn before after
+  pub total : after.total ≡ looped s (sum_in t) l.head l.end (l.turns - 1) before.total turn.depth
+  pub parts : AreParts after
+
+-- the sum at a spot, each open loop being in its last turn
+abbrev pub rest_in : Search → Trail → Spot → ℕ
+rest_in s t at =
+    base (paths s) (flow s) (sum_in t) (last_turns (around s.code.now at.place)) at.depth
+    + sum_in t at.place at.depth

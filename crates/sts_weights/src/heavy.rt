@@ -1,17 +1,19 @@
 //! A path, or a point of one, that weighs more than its budget may.
 
-ghost use Rattle.std.specs.Prelude.{◌≡◌, ◌<◌, ℕ, length, IfOk, IfSome};
+ghost use Rattle.std.specs.Prelude.{◌≡◌, ◌<◌, ◌≤◌, ◌+◌, ℕ, length, true, IfOk, MatchOption};
+ghost use Rattle.sts_budget.specs.Change as change;
 ghost use Rattle.sts_rules.specs.Budget.{AreBudgets};
 ghost use Rattle.sts_rules.specs.Refusal.{IsSound, IsWellTyped};
-ghost use Rattle.sts_weights.specs.Heavy.{IsHeavy};
+ghost use Rattle.sts_weights.specs.Heavy.{IsHeavy, IsUntold};
+ghost use Rattle.sts_weights.specs.Found.{IsWeighed};
 ghost use Rattle.sts_weights.specs.Search as def;
-ghost use Rattle.sts_weights.specs.Found as found;
+ghost use Rattle.sts_weights.specs.Trail as trails;
 
-use crate::bound::is_most;
 use crate::earlier::budgets_before;
 use crate::search::{Search, Spot, depth_at};
 use crate::shares::Shares;
-use crate::trail::{Trail, find_top, find_trail, may_end};
+use crate::top::find_top;
+use crate::trail::{Trail, find_trail};
 use crate::walk::back_to_beginning;
 use std::alloc::{AllocError, Global};
 use sts_budget::change::Resource;
@@ -31,41 +33,39 @@ pub struct Heavy {
     pub shares: Vec<u128>,
 }
 
-/// What the trail weighs up to a place, if that is more than the limit.
+/// What the trail weighs up to a place.
 fn weigh(
     alloc: Global,
     search: &Search<'_>,
     trail: &Trail,
     place: u32,
-) -> Result<Option<Heavy>, AllocError>
-    requires { def.IsReady search.now }
-    ensures { IfOk result (λ o. IfSome o (found.IsWeighed search.now)) }
+    weight: u128,
+) -> Result<Heavy, AllocError>
+    requires ready { def.IsReady search.now }
+    requires trail { trails.IsTrail search.now trail.now }
+    requires in_code { place < length search.now.code.now }
+    requires may { def.may_end search.now place ≡ true }
+    requires weight { weight ≡
+        change.own_of search.now.resource + trails.full_in search.now trail.now place }
+    requires over { change.limit_of search.now.resource < weight }
+    ensures weighed { IfOk result (IsWeighed search.now) }
+    ensures weight { IfOk result (λ h. h.weight ≡ weight) }
 {
-    let pc = place as usize;
-    if pc >= search.code.len() || !may_end(search, pc) {
-        return Ok(None);
-    }
     let to = Spot {
         place,
-        depth: depth_at(search, pc),
+        depth: depth_at(search, place as usize),
     };
     let mut shares = Shares {
         places: filled(alloc, search.code.len(), 0)?,
         total: 0,
     };
-    match back_to_beginning(search, trail, to, &mut shares) {
-        Some(()) => {}
-        None => return Ok(None),
-    }
-    let Shares { places, total } = shares;
-    match total.checked_add(own_of(search.resource) as u128) {
-        Some(weight) if weight > limit_of(search.resource) as u128 => Ok(Some(Heavy {
-            place,
-            weight,
-            shares: places,
-        })),
-        _ => Ok(None),
-    }
+    back_to_beginning(search, trail, to, &mut shares);
+    let Shares { places, .. } = shares;
+    Ok(Heavy {
+        place,
+        weight,
+        shares: places,
+    })
 }
 
 /// What weighs most in the function, where these are the budgets of those before it.
@@ -80,7 +80,8 @@ fn heaviest_after(
     requires typed { IsWellTyped program.now function }
     requires long { length earlier.now ≡ function }
     requires right { AreBudgets program.now earlier.now }
-    ensures { IfOk result (λ o. IfSome o (IsHeavy program.now function resource)) }
+    ensures { IfOk result (λ o. MatchOption o (IsUntold program.now function resource)
+        (IsHeavy program.now function resource)) }
 {
     let code = code_of(program, function as usize);
     let layout = lay_out(alloc, program, function as usize)?;
@@ -90,18 +91,27 @@ fn heaviest_after(
         code,
         layout: &layout,
     };
-    let trail = find_trail(alloc, &search)?;
-    let top = find_top(alloc, &search, &trail)?;
-    match weigh(alloc, &search, &trail, top.place)? {
-        Some(heavy) if is_most(&search, &trail, top.bases.as_slice(), heavy.weight) => {
-            Ok(Some(heavy))
-        }
-        _ => Ok(None),
+    let trail = match find_trail(alloc, &search)? {
+        Some(trail) => trail,
+        None => return Ok(None),
+    };
+    let top = match find_top(alloc, &search, &trail)? {
+        Some(top) => top,
+        None => return Ok(None),
+    };
+    let weight = match top.most.checked_add(own_of(resource) as u128) {
+        Some(weight) => weight,
+        None => return Ok(None),
+    };
+    if weight <= limit_of(resource) as u128 {
+        return Ok(None);
     }
+    Ok(Some(weigh(alloc, &search, &trail, top.place, weight)?))
 }
 
 /// A point of a control path of the function that weighs more than the budget of this resource may:
-/// the heaviest, as far as 128 bits tell one.
+/// the heaviest. None is told where nothing weighs more, and where 128 bits don't hold what
+/// something weighs.
 ///
 /// # Errors
 ///
@@ -115,10 +125,9 @@ pub fn heaviest(
     requires in_program { function < length program.now.routines }
     requires typed { IsWellTyped program.now function }
     requires sound { (g : ℕ) → g < function → IsSound program.now g }
-    ensures { IfOk result (λ o. IfSome o (IsHeavy program.now function resource)) }
+    ensures { IfOk result (λ o. MatchOption o (IsUntold program.now function resource)
+        (IsHeavy program.now function resource)) }
 {
-    match budgets_before(alloc, program, function)? {
-        Some(earlier) => heaviest_after(alloc, program, function, resource, earlier.as_slice()),
-        None => Ok(None),
-    }
+    let earlier = budgets_before(alloc, program, function)?;
+    heaviest_after(alloc, program, function, resource, earlier.as_slice())
 }

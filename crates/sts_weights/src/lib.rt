@@ -2,10 +2,10 @@
 //! what each of its instructions adds.
 #![tactic(auto)]
 
-pub mod bound;
 pub mod earlier;
 pub mod heavy;
 pub mod search;
 pub mod shares;
+pub mod top;
 pub mod trail;
 pub mod walk;

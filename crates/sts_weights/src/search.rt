@@ -1,12 +1,13 @@
 //! What is searched: the sums of one resource in one function.
 
-ghost use Rattle.std.specs.Prelude.{◌≡◌, ◌<◌, ◌≤◌, length, IsTrue, IfSome};
-ghost use Rattle.sts_budget.specs.Ready.{IsLaidFor};
+ghost use Rattle.std.specs.Prelude.{◌≡◌, ◌<◌, ◌≤◌, length, IsTrue, true, ◌↔◌};
+ghost use Rattle.sts_budget.specs.Ready.{IsLaidFor, head_in};
+ghost use Rattle.sts_code.specs.Program.{instr_at};
 ghost use Rattle.sts_rules.specs.ControlPaths.{Among};
 ghost use Rattle.sts_weights.specs.Search as def;
 
 use sts_budget::change::{Resource, added_of, change_of, depth_of, source_of};
-use sts_budget::layout::{Layout, names_at};
+use sts_budget::layout::{Layout, names_at, next_places};
 use sts_code::instr::Instr;
 use sts_code::limits::MAX_ENTRIES;
 use sts_rules::budget::Budgets;
@@ -34,13 +35,6 @@ pub struct Loop {
     pub head: u32,
     pub end: u32,
     pub turns: u16,
-}
-
-/// Are these the same?
-pub(crate) fn is_same(one: Spot, other: Spot) -> bool
-    ensures { IsTrue result → one ≡ other }
-{
-    one.place == other.place && one.depth == other.depth
 }
 
 /// How many entries count at a place.
@@ -75,14 +69,11 @@ pub(crate) fn added_at(search: &Search<'_>, pc: usize, depth: usize) -> u128
     added_of(change, depth_of(search.resource, names), depth) as u128
 }
 
-/// Does the instruction go on elsewhere than at a loop's turn, and does not end the path?
-pub(crate) fn goes_on(instr: Instr) -> bool
-    ensures { result ≡ def.goes_on instr }
+/// Does the instruction end a loop's turn?
+pub(crate) fn ends_turn(instr: Instr) -> bool
+    ensures { result ≡ def.ends_turn instr }
 {
-    !matches!(
-        instr,
-        Instr::Times(_) | Instr::Next | Instr::Ret | Instr::Fail
-    )
+    matches!(instr, Instr::Next)
 }
 
 /// Does the instruction end the path?
@@ -102,9 +93,20 @@ pub(crate) fn turns_of(instr: Instr) -> u16
     }
 }
 
+/// May a path be told up to this place? Steps are told of whole paths.
+pub(crate) fn may_end(search: &Search<'_>, pc: usize) -> bool
+    requires { pc < length search.now.code.now }
+    ensures { result ≡ def.may_end search.now pc }
+{
+    match search.resource {
+        Resource::Steps => ends_path(search.code[pc]),
+        _ => true,
+    }
+}
+
 /// Is the place one of these?
-pub(crate) fn is_among(places: &[u32], to: u32) -> bool
-    ensures { IsTrue result → Among places.now to }
+fn is_among(places: &[u32], to: u32) -> bool
+    ensures { IsTrue result ↔ Among places.now to }
 {
     for i in 0..places.len() {
         if places[i] == to {
@@ -114,46 +116,43 @@ pub(crate) fn is_among(places: &[u32], to: u32) -> bool
     false
 }
 
-/// Is the place one of the code, and the sum there over no more entries than are open?
-pub(crate) fn is_spot(search: &Search<'_>, at: Spot) -> bool
-    requires { def.IsReady search.now }
-    ensures { IsTrue result → def.IsSpot search.now at }
+/// Does the instruction, which opens no loop, lead from one place to the other? At the end of a
+/// turn that is on from its loop.
+pub(crate) fn leads_on(search: &Search<'_>, from: u32, to: u32) -> bool
+    requires ready { def.IsReady search.now }
+    requires in_code { from < length search.now.code.now }
+    ensures { IsTrue result ↔ def.LeadsOn search.now from to }
 {
-    let place = at.place as usize;
-    place < search.code.len() && at.depth <= depth_at(search, place)
+    let instr = search.code[from as usize];
+    turns_of(instr) == 0 && is_among(next_places(instr, from).as_slice(), to)
 }
 
 /// The loop that opens at a place.
-pub(crate) fn loop_from(search: &Search<'_>, head: u32) -> Option<Loop>
-    requires { def.IsReady search.now }
-    ensures { IfSome result (λ l. (l.head ≡ head) × def.IsLoop search.now l) }
+pub(crate) fn loop_from(search: &Search<'_>, head: u32) -> Loop
+    requires ready { def.IsReady search.now }
+    requires opens { def.OpensLoop search.now head }
+    ensures head { result.head ≡ head }
+    ensures right { def.IsLoop search.now result }
 {
-    let at = head as usize;
-    if at >= search.code.len() {
-        return None;
-    }
-    let turns = turns_of(search.code[at]);
-    let end = search.layout.mates[at];
-    if turns == 0 || end as usize >= search.code.len() {
-        return None;
-    }
-    match search.code[end as usize] {
-        Instr::Next => Some(Loop { head, end, turns }),
-        _ => None,
+    Loop {
+        head,
+        end: search.layout.mates[head as usize],
+        turns: turns_of(search.code[head as usize]),
     }
 }
 
 /// The loop that ends at a place.
-pub(crate) fn loop_to(search: &Search<'_>, end: u32) -> Option<Loop>
+pub(crate) fn loop_to(search: &Search<'_>, end: u32) -> Loop
     requires ready { def.IsReady search.now }
     requires in_code { end < length search.now.code.now }
-    ensures { IfSome result (λ l. (l.end ≡ end) × (l.head < end) × def.IsLoop search.now l) }
+    requires ends { def.ends_turn (instr_at search.now.code.now end) ≡ true }
+    ensures head { result.head ≡ head_in search.now.layout.now end }
+    ensures end { result.end ≡ end }
+    ensures before { result.head < end }
+    ensures right { def.IsLoop search.now result }
 {
-    let head = search.layout.heads[end as usize]?;
-    let around = loop_from(search, head)?;
-    if around.end == end && around.head < end {
-        Some(around)
-    } else {
-        None
+    match search.layout.heads[end as usize] {
+        Some(head) => loop_from(search, head),
+        None => unreachable!(),
     }
 }

@@ -1,39 +1,163 @@
-use Rattle.std.proofs.Common.{◌≡◌, ◌+◌, ◌*◌, sym, subst, ◌∙◌, refl, arith}
-use Rattle.sts_weights.specs.declared.search.Spot.{Spot}
-use Rattle.sts_weights.specs.Search.{paths, flow}
-use Rattle.sts_weights.specs.Walk.{IsStepBack, IsWalked}
-use Rattle.sts_weights.proofs.Walking.{walked_none, walked_both, walked_loop}
+use Rattle.std.proofs.Common.{◌≡◌, ◌+◌, ◌*◌, ◌<◌, ◌≤◌, length, true, false, Some, sym, ap, ◌∙◌, refl, arith}
+use Rattle.sts_code.specs.declared.instr.Instr.TheVariants.{Ret}
+use Rattle.sts_code.specs.Program.{instr_at}
+use Rattle.sts_budget.proofs.LaidStepLemmas.{any_default}
+use Rattle.sts_weights.specs.Search.{flow, ends_turn}
+use Rattle.sts_weights.specs.Trail.{best_in, sum_in, greatest_number}
+use Rattle.sts_weights.proofs.Backwards.{under_none, from_is, many_fit, loop_total, body_fits, head_fits, straight_fits, straight_step, loop_step, skip_step, begins}
 use Rattle.sts_weights.proofs.walk.+back.Goals as goal
 
 pub loop-from-init : goal.loop-from-init
-loop-from-init t c = (omega arith, c.requires.places, walked_none (paths c.args.search.now) (flow c.args.search.now) c.args.times c.args.to c.args.shares.now)
+loop-from-init t c = under_none c.args.search.now c.requires.ready c.args.trail.now c.requires.trail c.args.times c.args.to c.args.shares.now c.requires.spot c.requires.places c.requires.parts
 
-pub loop-from-preserved-in_ok-at-in-None : goal.loop-from-preserved-in_ok-at-in-None
-loop-from-preserved-in_ok-at-in-None t c =
-    let e = c.in_ok-at-in-None.ensures {u = tt} in (
-      omega (arith, e.0, c.in-Some.ensures, c.loop-from.invariant.0),
-      e.1.1.1.long ∙ c.loop-from.invariant.1,
-      walked_both (paths c.args.search.now) (flow c.args.search.now) c.args.times c.in_ok-at-in-None.at c.loop-from.at c.args.to c.args.shares.now c.loop-from.shares c.back_straight.new.shares c.loop-from.invariant.2 e.1,
-    )
+pub overflow_mul-turns : goal.overflow_mul-turns
+overflow_mul-turns t c =
+    let s = c.args.search.now in
+    let q = c.in-Some.from in
+    let at = c.loop-from.at in
+    let now = c.loop-from.shares in
+    let u = c.loop-from.invariant in
+    let e : (best_in c.args.trail.now c.loop-from.at.place c.loop-from.at.depth).from ≡ Some c.in-Some.from = sym c.before-in-loop-from.ensures ∙ c.in-Some.is in
+    let f = from_is c.args.search.now c.requires.ready c.args.trail.now c.requires.trail at q u.spot e in
+    let within : c.in-Some.from < length c.args.search.now.code.now = omega (arith, f.0, u.spot.in_code) in
+    let kind = c.ends_turn.ensures ∙ ap ends_turn (any_default c.args.search.now.code.now c.in-Some.from _ Ret within) in
+    let turning : ends_turn (instr_at c.args.search.now.code.now c.in-Some.from) ≡ true = sym kind ∙ c.if-ends_turn.true in
+    let l = c.loop_to-around.result in
+    let le = c.loop_to-around.ensures in
+    let total = loop_total c.args.search.now c.requires.ready c.args.trail.now c.requires.trail c.args.times q l at c.args.to c.args.shares.now now le.right le.end u c.requires.fits e in
+    let pos = c.turn_adds.ensures.0 c.if-turn_adds.true in
+    let many : c.args.times * l.turns ≤ greatest_number = many_fit c.args.search.now c.requires.ready c.args.trail.now c.requires.trail c.args.times l.turns (sum_in c.args.trail.now q at.depth + (flow s).added q at.depth) (now.total + (c.args.times * sum_in c.args.trail.now l.head at.depth + c.args.times * (flow s).added l.head at.depth)) pos (omega (arith, total)) in
+    omega (arith, many)
+
+pub back_to-end-requires-clause-fits : goal.back_to-end-requires-clause-fits
+back_to-end-requires-clause-fits t c =
+    let s = c.args.search.now in
+    let q = c.in-Some.from in
+    let at = c.loop-from.at in
+    let now = c.loop-from.shares in
+    let u = c.loop-from.invariant in
+    let e : (best_in c.args.trail.now c.loop-from.at.place c.loop-from.at.depth).from ≡ Some c.in-Some.from = sym c.before-in-loop-from.ensures ∙ c.in-Some.is in
+    let f = from_is c.args.search.now c.requires.ready c.args.trail.now c.requires.trail at q u.spot e in
+    let within : c.in-Some.from < length c.args.search.now.code.now = omega (arith, f.0, u.spot.in_code) in
+    let kind = c.ends_turn.ensures ∙ ap ends_turn (any_default c.args.search.now.code.now c.in-Some.from _ Ret within) in
+    let turning : ends_turn (instr_at c.args.search.now.code.now c.in-Some.from) ≡ true = sym kind ∙ c.if-ends_turn.true in
+    let l = c.loop_to-around.result in
+    let le = c.loop_to-around.ensures in
+    let total = loop_total c.args.search.now c.requires.ready c.args.trail.now c.requires.trail c.args.times q l at c.args.to c.args.shares.now now le.right le.end u c.requires.fits e in
+    omega (arith, total)
+
+pub back-requires : goal.back-requires
+back-requires t c =
+    let s = c.args.search.now in
+    let q = c.in-Some.from in
+    let at = c.loop-from.at in
+    let now = c.loop-from.shares in
+    let u = c.loop-from.invariant in
+    let e : (best_in c.args.trail.now c.loop-from.at.place c.loop-from.at.depth).from ≡ Some c.in-Some.from = sym c.before-in-loop-from.ensures ∙ c.in-Some.is in
+    let f = from_is c.args.search.now c.requires.ready c.args.trail.now c.requires.trail at q u.spot e in
+    let within : c.in-Some.from < length c.args.search.now.code.now = omega (arith, f.0, u.spot.in_code) in
+    let kind = c.ends_turn.ensures ∙ ap ends_turn (any_default c.args.search.now.code.now c.in-Some.from _ Ret within) in
+    let turning : ends_turn (instr_at c.args.search.now.code.now c.in-Some.from) ≡ true = sym kind ∙ c.if-ends_turn.true in
+    let l = c.loop_to-around.result in
+    let le = c.loop_to-around.ensures in
+    let b = body_fits c.args.search.now c.requires.ready c.args.trail.now c.requires.trail c.args.times q l at c.args.to c.back_to-end.result c.args.shares.now now c.back_to-end.new.shares le.right le.end u c.requires.fits e turning c.back_to-end.ensures.step in
+    let place = c.back_to-end.ensures.step.place in
+    (omega (arith, place, f.0, u.low), (c.requires.ready, (c.requires.trail, (b.0, (c.back_to-end.ensures.step.raised.long ∙ u.long, (c.back_to-end.ensures.parts, b.1))))))
+
+pub back_to-requires-clause-fits : goal.back_to-requires-clause-fits
+back_to-requires-clause-fits t c =
+    let s = c.args.search.now in
+    let q = c.in-Some.from in
+    let at = c.loop-from.at in
+    let now = c.loop-from.shares in
+    let u = c.loop-from.invariant in
+    let e : (best_in c.args.trail.now c.loop-from.at.place c.loop-from.at.depth).from ≡ Some c.in-Some.from = sym c.before-in-loop-from.ensures ∙ c.in-Some.is in
+    let f = from_is c.args.search.now c.requires.ready c.args.trail.now c.requires.trail at q u.spot e in
+    let within : c.in-Some.from < length c.args.search.now.code.now = omega (arith, f.0, u.spot.in_code) in
+    let kind = c.ends_turn.ensures ∙ ap ends_turn (any_default c.args.search.now.code.now c.in-Some.from _ Ret within) in
+    let turning : ends_turn (instr_at c.args.search.now.code.now c.in-Some.from) ≡ true = sym kind ∙ c.if-ends_turn.true in
+    let l = c.loop_to-around.result in
+    let le = c.loop_to-around.ensures in
+    head_fits c.args.search.now c.requires.ready c.args.trail.now c.requires.trail c.args.times q l at c.args.to c.back_to-end.result c.back.result c.args.shares.now now c.back_to-end.new.shares c.back.new.shares le.right le.end u c.requires.fits e turning c.back_to-end.ensures.step c.back.ensures
+
+pub back_to-requires-else-turn_adds-clause-fits : goal.back_to-requires-else-turn_adds-clause-fits
+back_to-requires-else-turn_adds-clause-fits t c =
+    let s = c.args.search.now in
+    let q = c.in-Some.from in
+    let at = c.loop-from.at in
+    let now = c.loop-from.shares in
+    let u = c.loop-from.invariant in
+    let e : (best_in c.args.trail.now c.loop-from.at.place c.loop-from.at.depth).from ≡ Some c.in-Some.from = sym c.before-in-loop-from.ensures ∙ c.in-Some.is in
+    let f = from_is c.args.search.now c.requires.ready c.args.trail.now c.requires.trail at q u.spot e in
+    let within : c.in-Some.from < length c.args.search.now.code.now = omega (arith, f.0, u.spot.in_code) in
+    let kind = c.ends_turn.ensures ∙ ap ends_turn (any_default c.args.search.now.code.now c.in-Some.from _ Ret within) in
+    let turning : ends_turn (instr_at c.args.search.now.code.now c.in-Some.from) ≡ true = sym kind ∙ c.if-ends_turn.true in
+    let l = c.loop_to-around.result in
+    let le = c.loop_to-around.ensures in
+    let total = loop_total c.args.search.now c.requires.ready c.args.trail.now c.requires.trail c.args.times q l at c.args.to c.args.shares.now now le.right le.end u c.requires.fits e in
+    omega (arith, total)
+
+pub back_to-at-requires-clause-fits : goal.back_to-at-requires-clause-fits
+back_to-at-requires-clause-fits t c =
+    let s = c.args.search.now in
+    let q = c.in-Some.from in
+    let at = c.loop-from.at in
+    let now = c.loop-from.shares in
+    let u = c.loop-from.invariant in
+    let e : (best_in c.args.trail.now c.loop-from.at.place c.loop-from.at.depth).from ≡ Some c.in-Some.from = sym c.before-in-loop-from.ensures ∙ c.in-Some.is in
+    let f = from_is c.args.search.now c.requires.ready c.args.trail.now c.requires.trail at q u.spot e in
+    let within : c.in-Some.from < length c.args.search.now.code.now = omega (arith, f.0, u.spot.in_code) in
+    let kind = c.ends_turn.ensures ∙ ap ends_turn (any_default c.args.search.now.code.now c.in-Some.from _ Ret within) in
+    let straight : ends_turn (instr_at c.args.search.now.code.now c.in-Some.from) ≡ false = sym kind ∙ c.if-ends_turn.false in
+    straight_fits c.args.search.now c.requires.ready c.args.trail.now c.requires.trail c.args.times q at c.args.to c.args.shares.now now u c.requires.fits e straight
+
+pub loop-from-preserved-then-turn_adds : goal.loop-from-preserved-then-turn_adds
+loop-from-preserved-then-turn_adds t c =
+    let s = c.args.search.now in
+    let q = c.in-Some.from in
+    let at = c.loop-from.at in
+    let now = c.loop-from.shares in
+    let u = c.loop-from.invariant in
+    let e : (best_in c.args.trail.now c.loop-from.at.place c.loop-from.at.depth).from ≡ Some c.in-Some.from = sym c.before-in-loop-from.ensures ∙ c.in-Some.is in
+    let f = from_is c.args.search.now c.requires.ready c.args.trail.now c.requires.trail at q u.spot e in
+    let within : c.in-Some.from < length c.args.search.now.code.now = omega (arith, f.0, u.spot.in_code) in
+    let kind = c.ends_turn.ensures ∙ ap ends_turn (any_default c.args.search.now.code.now c.in-Some.from _ Ret within) in
+    let turning : ends_turn (instr_at c.args.search.now.code.now c.in-Some.from) ≡ true = sym kind ∙ c.if-ends_turn.true in
+    let l = c.loop_to-around.result in
+    let le = c.loop_to-around.ensures in
+    loop_step c.args.search.now c.requires.ready c.args.trail.now c.requires.trail c.args.times (c.args.times * l.turns) q l at c.args.to c.back_to-end.result c.back.result c.back_to.result c.args.shares.now now c.back_to-end.new.shares c.back.new.shares c.back_to.new.shares le.right le.end u e turning refl c.back_to-end.ensures.step c.back.ensures c.back_to.ensures.step c.back_to.ensures.parts
+
+pub loop-from-preserved-else-turn_adds : goal.loop-from-preserved-else-turn_adds
+loop-from-preserved-else-turn_adds t c =
+    let s = c.args.search.now in
+    let q = c.in-Some.from in
+    let at = c.loop-from.at in
+    let now = c.loop-from.shares in
+    let u = c.loop-from.invariant in
+    let e : (best_in c.args.trail.now c.loop-from.at.place c.loop-from.at.depth).from ≡ Some c.in-Some.from = sym c.before-in-loop-from.ensures ∙ c.in-Some.is in
+    let f = from_is c.args.search.now c.requires.ready c.args.trail.now c.requires.trail at q u.spot e in
+    let within : c.in-Some.from < length c.args.search.now.code.now = omega (arith, f.0, u.spot.in_code) in
+    let kind = c.ends_turn.ensures ∙ ap ends_turn (any_default c.args.search.now.code.now c.in-Some.from _ Ret within) in
+    let turning : ends_turn (instr_at c.args.search.now.code.now c.in-Some.from) ≡ true = sym kind ∙ c.if-ends_turn.true in
+    let l = c.loop_to-around.result in
+    let le = c.loop_to-around.ensures in
+    let none : (0 < sum_in c.args.trail.now c.in-Some.from c.loop-from.at.depth + (flow c.args.search.now).added c.in-Some.from c.loop-from.at.depth) → ⊥ = λ pos. (let yes = c.turn_adds.ensures.1 pos in let not = c.if-turn_adds.false in absurd (cc)) in
+    let nothing : sum_in c.args.trail.now c.in-Some.from c.loop-from.at.depth + (flow c.args.search.now).added c.in-Some.from c.loop-from.at.depth ≡ 0 = omega (arith, none) in
+    skip_step c.args.search.now c.requires.ready c.args.trail.now c.requires.trail c.args.times q l at c.args.to c.back_to-else-turn_adds.result c.args.shares.now now c.back_to-else-turn_adds.new.shares le.right le.end u e turning (omega (arith, nothing)) (omega (arith, nothing)) c.back_to-else-turn_adds.ensures.step c.back_to-else-turn_adds.ensures.parts
 
 pub loop-from-preserved : goal.loop-from-preserved
 loop-from-preserved t c =
-    let l = c.in-Some-loop_to.around in
-    let le = c.in-Some-loop_to.ensures in
-    let many = c.in_ok-turns-in-Some-loop_to.turns in
-    let turn : Spot = record { place = l.head + 1; depth = c.loop-from.at.depth } in
-    let end = c.in_ok-end-in-Some-loop_to.end in
-    let body = c.in_ok-back-in-Some-loop_to.ensures {u = tt} in
-    let same = c.is_same.ensures c.if-not-is_same.false in
-    let s = c.loop-from.shares in
-    let v = c.back_to-in-Some-loop_to.new.shares in
-    let last = subst (λ x. IsStepBack (flow c.args.search.now) x c.loop-from.at many s c.back_to.new.shares end) (sym le.0) (c.in_ok-end-in-Some-loop_to.ensures {u = tt}) in
-    let first = c.in_ok-at-in-Some-loop_to.ensures {u = tt} in
-    let walked : IsWalked (paths c.args.search.now) (flow c.args.search.now) many turn end c.back_to.new.shares c.back.new.shares = subst (λ x. IsWalked (paths c.args.search.now) (flow c.args.search.now) many x end c.back_to.new.shares c.back.new.shares) same body.1 in
-    let many_is : many ≡ c.args.times * l.turns = (c.in_ok-turns-in-Some-loop_to.ensures {u = tt}).1 in
-    let behind : c.loop-from.at.place ≡ l.end + 1 = omega (arith, le.0, c.if-at-from.false) in
-    let all = walked_loop c.args.search.now l c.args.times many c.loop-from.at turn end c.in_ok-at-in-Some-loop_to.at s c.back_to.new.shares c.back.new.shares v le.2 behind (c.is_spot.ensures c.if-not-is_spot.false) refl refl (c.is_spot-else-not-is_spot.ensures c.if-not-is_spot-2.false) many_is last walked first in (
-      omega (arith, first.place, le.1, c.in-Some.ensures, c.loop-from.invariant.0),
-      all.1.1.long ∙ c.loop-from.invariant.1,
-      walked_both (paths c.args.search.now) (flow c.args.search.now) c.args.times c.in_ok-at-in-Some-loop_to.at c.loop-from.at c.args.to c.args.shares.now s v c.loop-from.invariant.2 all,
-    )
+    let s = c.args.search.now in
+    let q = c.in-Some.from in
+    let at = c.loop-from.at in
+    let now = c.loop-from.shares in
+    let u = c.loop-from.invariant in
+    let e : (best_in c.args.trail.now c.loop-from.at.place c.loop-from.at.depth).from ≡ Some c.in-Some.from = sym c.before-in-loop-from.ensures ∙ c.in-Some.is in
+    let f = from_is c.args.search.now c.requires.ready c.args.trail.now c.requires.trail at q u.spot e in
+    let within : c.in-Some.from < length c.args.search.now.code.now = omega (arith, f.0, u.spot.in_code) in
+    let kind = c.ends_turn.ensures ∙ ap ends_turn (any_default c.args.search.now.code.now c.in-Some.from _ Ret within) in
+    let straight : ends_turn (instr_at c.args.search.now.code.now c.in-Some.from) ≡ false = sym kind ∙ c.if-ends_turn.false in
+    straight_step c.args.search.now c.requires.ready c.args.trail.now c.requires.trail c.args.times q at c.args.to c.back_to-at.result c.args.shares.now now c.back_to-at.new.shares u e straight c.back_to-at.ensures.step c.back_to-at.ensures.parts
+
+pub returns : goal.returns
+returns t c = begins c.args.search.now c.requires.ready c.args.trail.now c.requires.trail c.args.times c.loop-from.at c.args.to c.args.shares.now c.loop-from.shares c.loop-from.invariant (sym c.before-in-loop-from.ensures ∙ c.in_default.is)
