@@ -33,7 +33,7 @@ const WORTH: u32 = 512;
 /// So many tasks are claimed by several workers at once, until a slice is worth it again.
 const TRIES: u32 = 64;
 
-/// So often a worker looks again, for a task or for the lock, before it waits: to be woken costs more.
+/// So often a worker looks again, for a task or the lock, before it waits: a wake-up costs more.
 const LOOKS: u32 = 64;
 
 /// How long it pauses between two looks.

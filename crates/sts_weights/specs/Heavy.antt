@@ -14,11 +14,13 @@ use Rattle.sts_budget.specs.Known.{NamesRight}
 use Rattle.sts_budget.specs.Layout.{Names}
 use Rattle.sts_weights.specs.declared.heavy.Heavy.{Heavy}
 use Rattle.sts_weights.specs.Adding.{Adds, Steps, share, total}
+use Rattle.sts_weights.specs.Trail.{greatest_number}
 
 -- what the budget counts at a point of a control path: of steps those of the whole path that ends
 -- there, else what stands there
 abbrev pub Counts : Resource → List Budgets → Skeleton → ℕ → ℕ → List OpenEntry → ℕ → Type 0
-Counts resource.Steps earlier c pc before es m = (c.shape pc ≡ EndsPath) × (before + c.weight pc ≡ m)
+Counts resource.Steps earlier c pc before es m =
+    (c.shape pc ≡ EndsPath) × (before + c.weight pc ≡ m)
 Counts resource.Tasks earlier c pc before es m = tasks_sum earlier es ≡ m
 Counts resource.Scopes earlier c pc before es m = scopes_sum earlier es ≡ m
 Counts resource.Binds earlier c pc before es m = binds_sum earlier es ≡ m
@@ -47,7 +49,8 @@ pub record IsHeavy (p : Program) (f : ℕ) (k : Resource) (h : Heavy) : Type 0 w
   pub named : NamesRight p f names_at
   pub loops : Loops
   pub steps : Steps
-  pub path : Adds (skeleton earlier (routine p f).code) (flows k earlier (routine p f).code names_at)
+  pub path : Adds (skeleton earlier (routine p f).code)
+      (flows k earlier (routine p f).code names_at)
       (depth_of k (names_at h.place)) h.place loops steps
   pub one_each : length h.shares.items ≡ length (routine p f).code
   pub few : length h.shares.items ≤ MAX_INSTRUCTIONS
@@ -60,8 +63,7 @@ pub record IsHeavy (p : Program) (f : ℕ) (k : Resource) (h : Heavy) : Type 0 w
 -- some point of a path weighs more than 128 bits hold
 abbrev pub IsTooHeavy : Resource → List Budgets → List Instr → Type 0
 IsTooHeavy k earlier code =
-    (pc : ℕ)
-    × ((m : ℕ) × (Weighs k earlier code pc m × (340282366920938463463374607431768211455 < m)))
+    (pc : ℕ) × ((m : ℕ) × (Weighs k earlier code pc m × (greatest_number < m)))
 
 -- nothing weighs more than the limit, or something weighs more than 128 bits hold
 pub record IsUntold (p : Program) (f : ℕ) (k : Resource) : Type 0 where

@@ -1,7 +1,7 @@
 //! A trail: for each place the one before it on the way there that adds most, found by one pass.
 
-ghost use Rattle.std.specs.Prelude.{◌≡◌, ◌<◌, ◌≤◌, ◌+◌, ℕ, length, get_or, IfOk, IsTrue, IsFalse, []};
-ghost use Rattle.std.specs.Prelude.{MatchOption, None};
+ghost use Rattle.std.specs.Prelude.{◌≡◌, ◌<◌, ◌≤◌, ◌+◌, ℕ, length, get_or, IfOk, IsTrue, IsFalse};
+ghost use Rattle.std.specs.Prelude.{MatchOption, None, []};
 ghost use Rattle.sts_weights.specs.Search as def;
 ghost use Rattle.sts_weights.specs.Trail as trails;
 
@@ -81,10 +81,10 @@ pub(crate) fn after_turns(
     requires ready { def.IsReady search.now }
     requires around { def.IsLoop search.now around }
     ensures { MatchOption result
-        (trails.greatest_number <
-        trails.looped search.now (trails.sum_in trail.now) around.head around.end turns before depth)
-        (λ sum. sum ≡
-        trails.looped search.now (trails.sum_in trail.now) around.head around.end turns before depth) }
+        (trails.greatest_number < trails.looped search.now (trails.sum_in trail.now)
+        around.head around.end turns before depth)
+        (λ sum. sum ≡ trails.looped search.now (trails.sum_in trail.now)
+        around.head around.end turns before depth) }
 {
     let opened = before.checked_add(added_at(search, around.head as usize, depth))?;
     if turns == 0 {
