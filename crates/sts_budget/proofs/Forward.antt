@@ -4,7 +4,7 @@ use Rattle.std.proofs.Common.{sym, ap, ◌∙◌, subst, arith}
 use Rattle.std.proofs.lemmas.Bool.{cases_eq, cases_lt}
 use Rattle.sts_rules.specs.ControlPaths.{Shape, GoesTo, Repeats, EndsTurn, EndsPath, Skeleton}
 use Rattle.sts_rules.specs.ControlPaths.{Among}
-use Rattle.sts_budget.proofs.Sums.{IsTable, IsSourced, Source, by_go, by_turn, by_loop}
+use Rattle.sts_budget.proofs.SumsLemmas.{IsTable, IsSourced, Source, by_go, by_turn, by_loop}
 use Rattle.sts_budget.specs.Structured.{IsStructured, bound_of, Led, from_go, from_head, from_end}
 use Rattle.sts_budget.specs.Sums.{Flows, FitsEntries, gain}
 use Rattle.sts_budget.specs.Table.{MaxOf, read, Handed, New, IsSpread, IsPartial, over_go}

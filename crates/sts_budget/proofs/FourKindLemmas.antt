@@ -21,8 +21,8 @@ use Rattle.sts_budget.specs.declared.change.Resource.{Resource}
 use Rattle.sts_budget.specs.declared.change.Resource.TheVariants.{Steps, Tasks, Scopes, Binds}
 use Rattle.sts_budget.specs.Change.{source_of, added_of, measured, own_of, limit_of, cause_of}
 use Rattle.sts_budget.specs.Change.{IsMost}
-use Rattle.sts_budget.proofs.Structured.{own_loop, IsInside, comes_inside, at_points}
-use Rattle.sts_budget.proofs.Sums.{IsTable, point_most, point_attained}
+use Rattle.sts_budget.proofs.StructuredLemmas.{own_loop, IsInside, comes_inside, at_points}
+use Rattle.sts_budget.proofs.SumsLemmas.{IsTable, point_most, point_attained}
 use Rattle.sts_budget.proofs.EntryLemmas.{names, front, front_all, front_le, names_of, front_of}
 use Rattle.sts_budget.proofs.EntryLemmas.{source_low, source_kept, long}
 use Rattle.sts_budget.specs.Flowing.{flows, flows_by}

@@ -31,7 +31,7 @@ use Rattle.sts_budget.specs.Table.{read, New, Handed, over_go, over_loop, IsSpre
 use Rattle.sts_budget.specs.Table.{IsSent, IsStopped, HandsTooMuch, Passes}
 use Rattle.sts_budget.proofs.Sorts.{Sort, sort, is_times, is_next, is_end, goes_on, GoesOn}
 use Rattle.sts_budget.proofs.TypedLemmas.{next_of}
-use Rattle.sts_budget.proofs.Sums.{IsSourced, go_stands, loop_stands}
+use Rattle.sts_budget.proofs.SumsLemmas.{IsSourced, go_stands, loop_stands}
 use Rattle.sts_budget.proofs.Forward.{among_cases, partial_more, sourced}
 use Rattle.sts_budget.proofs.FourKindLemmas.{fits}
 

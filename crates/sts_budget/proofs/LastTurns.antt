@@ -35,7 +35,7 @@ use Rattle.sts_budget.proofs.LaidStepLemmas.{any_default}
 use Rattle.sts_budget.proofs.Forward.{is_table}
 use Rattle.sts_budget.proofs.FourKindLemmas.{stands_exceeds, top_is_most}
 use Rattle.sts_budget.proofs.HandOn.{fits_here, heads_right, counts_times, counts_next}
-use Rattle.sts_budget.proofs.Sums.{IsTable, point_attained, full_inside, full_outside}
+use Rattle.sts_budget.proofs.SumsLemmas.{IsTable, point_attained, full_inside, full_outside}
 
 pub limit_small : (k : Resource) → limit_of k ≤ 1000000
 limit_small Steps = omega arith

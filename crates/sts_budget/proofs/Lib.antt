@@ -1,5 +1,5 @@
-pub mod Structured
-pub mod Sums
+pub mod StructuredLemmas
+pub mod SumsLemmas
 pub mod Sorts
 pub mod Match
 pub mod Allowed

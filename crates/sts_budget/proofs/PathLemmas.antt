@@ -14,7 +14,7 @@ use Rattle.sts_rules.specs.Budget.{binds_measure}
 use Rattle.sts_budget.specs.Laws.{PointsLieOnPaths, PointsAreWithin, ChildrenArePart}
 use Rattle.sts_budget.specs.Layout.{Names, HasScope, FitsNames}
 use Rattle.sts_budget.specs.Change.{position_of}
-use Rattle.sts_budget.proofs.Structured.{at_points, comes_inside}
+use Rattle.sts_budget.proofs.StructuredLemmas.{at_points, comes_inside}
 use Rattle.sts_budget.proofs.EntryLemmas.{names, front, front_all, front_forked, length_forked, long}
 use Rattle.sts_budget.proofs.FourKindLemmas.{comes_names}
 use Rattle.sts_budget.proofs.TypedLemmas.{structured}

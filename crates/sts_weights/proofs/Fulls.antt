@@ -13,7 +13,7 @@ use Rattle.sts_weights.specs.declared.trail.Trail.{Trail}
 use Rattle.sts_weights.specs.Search.{IsReady, IsLoop, paths, flow}
 use Rattle.sts_weights.specs.Top.{AreFulls}
 use Rattle.sts_weights.specs.Trail.{IsTrail, IsTooWide, full_in, looped, sum_in, greatest_number}
-use Rattle.sts_weights.proofs.Summing.{point_attained, full_inside, full_outside}
+use Rattle.sts_budget.proofs.SumsLemmas.{point_attained, full_inside, full_outside}
 use Rattle.sts_weights.proofs.Tables.{fits_here, is_table}
 
 module _ (s : Search) (ready : IsReady s) (t : Trail) (trail : IsTrail s t) where

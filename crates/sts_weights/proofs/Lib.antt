@@ -3,12 +3,10 @@ pub mod Backwards
 pub mod Bests
 pub mod Extending
 pub mod Fulls
-pub mod Inside
 pub mod Instrs
 pub mod Leading
 pub mod Most
 pub mod PointLemmas
 pub mod SameLemmas
-pub mod Summing
 pub mod Tables
 pub mod Walking

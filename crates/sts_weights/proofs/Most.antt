@@ -22,9 +22,9 @@ use Rattle.sts_weights.specs.Search.{IsReady, ends_for, may_end, paths, flow}
 use Rattle.sts_weights.specs.Top.{IsTop}
 use Rattle.sts_weights.specs.Trail.{IsTrail, IsTooWide, sum_in, full_in, greatest_number}
 use Rattle.sts_weights.proofs.Fulls.{full_stands}
-use Rattle.sts_weights.proofs.Inside.{comes_inside}
+use Rattle.sts_budget.proofs.StructuredLemmas.{comes_inside}
 use Rattle.sts_weights.proofs.Instrs.{counts_one, ends_paths}
-use Rattle.sts_weights.proofs.Summing.{bounded, point_most}
+use Rattle.sts_budget.proofs.SumsLemmas.{bounded, point_most}
 use Rattle.sts_weights.proofs.Tables.{fits_here, is_table}
 use Rattle.sts_budget.specs.Laws.{PointsLieOnPaths}
 use Rattle.sts_budget.specs.Sums.{Stands}

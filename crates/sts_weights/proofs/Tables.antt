@@ -16,7 +16,7 @@ use Rattle.sts_weights.specs.Search.{IsReady, LeadsOn, paths, flow}
 use Rattle.sts_weights.specs.Trail.{handed, sum_in, best_in, no_way, IsFrom, IsBest, IsRow, IsBegun, IsTrail, HandsTooMuch, IsTooWide, greatest_number}
 use Rattle.sts_weights.proofs.Leading.{Way, straight, looping, way_of, leads_straight, leads_loop, leads_later, handed_straight, handed_loop}
 use Rattle.sts_weights.proofs.Bests.{best_same}
-use Rattle.sts_weights.proofs.Summing.{Source, by_go, by_turn, by_loop, IsSourced, IsTable, go_stands, loop_stands}
+use Rattle.sts_budget.proofs.SumsLemmas.{Source, by_go, by_turn, by_loop, IsSourced, IsTable, go_stands, loop_stands}
 
 module _ (s : Search) (ready : IsReady s) where
   pub fits_here : FitsEntries (paths s) (around s.code.now) (flow s)

@@ -1,12 +1,12 @@
--- Sums over the first open entries: a table that holds what is handed on, each of whose values is
--- that of some path, has the greatest sum of all points.
+-- One pass that keeps, for each d, the greatest sum over the first d open entries finds the
+-- greatest sum of all points. The steps of paths are such a sum over no entry.
 use Rattle.std.proofs.Common.{◌≡◌, ◌≢◌, ℕ, zero, suc, ◌+◌, ◌-◌, ◌*◌, ◌<◌, ◌≤◌, ◌⊎◌, min, inl, inr}
 use Rattle.std.proofs.Common.{List, [], ◌∷◌, refl, sym, ap, ◌∙◌, subst, arith, suc-mul, zero-mul}
 use Rattle.std.proofs.Common.{mul-le-mul_right}
 use Rattle.std.proofs.lemmas.Bool.{cases_eq}
 use Rattle.sts_rules.specs.ControlPaths.{GoesTo, Repeats, Skeleton, Among, Loops, Follows, go, skip}
 use Rattle.sts_rules.specs.ControlPaths.{enter, again, leave}
-use Rattle.sts_weights.proofs.Inside.{FitTurns, own_loop, IsInside, inside_step, inside_start}
+use Rattle.sts_budget.proofs.StructuredLemmas.{FitTurns, own_loop, IsInside, inside_step, inside_start}
 use Rattle.sts_budget.specs.Structured.{IsStructured, heads, bound_of}
 use Rattle.sts_budget.specs.Sums.{Flows, Sums, FitsEntries, Stands, gain, last_turns, base, full}
 use Rattle.sts_budget.specs.Sums.{turn_base, none, more}
