@@ -31,7 +31,7 @@ use Rattle.sts_budget.specs.Structured.{IsStructured}
 use Rattle.sts_budget.specs.Sums.{Sums, none, more, FitsEntries, Stands, full}
 
 -- each instruction counts a step
-counts_one : (earlier : List Budgets) (i : Instr) → 1 ≤ steps_of earlier i
+pub counts_one : (earlier : List Budgets) (i : Instr) → 1 ≤ steps_of earlier i
 counts_one earlier (Push k) = omega arith
 counts_one earlier Pop = omega arith
 counts_one earlier Dup = omega arith
@@ -166,7 +166,7 @@ module _ (earlier : List Budgets) (code : List Instr) (round : ℕ → List ℕ)
   -- ---- paths and sums
 
   -- each sum over the first entries at a point is one of the sums
-  to_sums : (m : Measure) (pc : ℕ) (loops : Loops) (before : ℕ) (es : List OpenEntry) → Comes c pc loops before es → (d : ℕ) → d ≤ length (names_at pc) → Sums c (flows_by m code names_at) d pc loops (front m es d)
+  pub to_sums : (m : Measure) (pc : ℕ) (loops : Loops) (before : ℕ) (es : List OpenEntry) → Comes c pc loops before es → (d : ℕ) → d ≤ length (names_at pc) → Sums c (flows_by m code names_at) d pc loops (front m es d)
   to_sums m pc loops before es start d le = let z : 0 ≡ d = omega (arith, ap length known.empty) in subst (λ x. Sums c (flows_by m code names_at) x 0 [] 0) z none
   to_sums m pc loops before es (step {pc = from} {loops = ls} {before = b} {entries = entries} r s) d le =
       let i = comes_inside c round good from ls b entries r in
@@ -198,7 +198,7 @@ module _ (earlier : List Budgets) (code : List Instr) (round : ℕ → List ℕ)
       subst (λ ns. front m (entries_of (instr_at code from) entries) d ≡ front m entries (source_of (measured m (instr_at code from) ns) (length ns) d) + added_of (measured m (instr_at code from) ns) (length ns) d) n f in
       (w.0 + c.weight from, (entries_of (instr_at code from) entries, (step w.1.1.0 s, f' ∙ ap (λ x. x + added_of (measured m (instr_at code from) (names_at from)) (length (names_at from)) d) w.1.1.1)))
 
-  to_steps : (pc : ℕ) (loops : Loops) (before : ℕ) (es : List OpenEntry) → Comes c pc loops before es → Sums c (flows Steps earlier code names_at) 0 pc loops before
+  pub to_steps : (pc : ℕ) (loops : Loops) (before : ℕ) (es : List OpenEntry) → Comes c pc loops before es → Sums c (flows Steps earlier code names_at) 0 pc loops before
   to_steps pc loops before es start = none
   to_steps pc loops before es (step {pc = from} {loops = ls} {before = b} {entries = entries} r s) = more (omega arith) (to_steps from ls b entries r) s
 

@@ -1,5 +1,5 @@
 -- What instructions do to a path.
-use Rattle.std.proofs.Common.{◌≡◌, ◌+◌, ℕ, List, [], ◌∷◌, ◌++◌, ◌≤◌, true, false, refl, sym, ◌∙◌, arith}
+use Rattle.std.proofs.Common.{◌≡◌, ◌+◌, ℕ, [], ◌∷◌, ◌++◌, true, false, refl, sym, ◌∙◌, arith}
 use Rattle.sts_code.specs.declared.instr.Instr.{Instr}
 use Rattle.sts_code.specs.declared.instr.Instr.TheVariants.{Push, Pop, Dup, Swap, Load, Store, Add}
 use Rattle.sts_code.specs.declared.instr.Instr.TheVariants.{Sub, Mul, Lt, Eq, Div, Jmp, Jz, Times}
@@ -9,8 +9,7 @@ use Rattle.sts_code.specs.declared.instr.Instr.TheVariants.{Total, Forget, Bind,
 use Rattle.sts_code.specs.declared.instr.Instr.TheVariants.{Bound, OrElse, Interrupted, Ret, Fail}
 use Rattle.sts_code.specs.Facts.{targets}
 use Rattle.sts_rules.specs.Around.{next_place}
-use Rattle.sts_rules.specs.declared.budget.Budgets.{Budgets}
-use Rattle.sts_rules.specs.Budget.{shape_of, steps_of}
+use Rattle.sts_rules.specs.Budget.{shape_of}
 use Rattle.sts_rules.specs.ControlPaths.{GoesTo, Repeats, EndsTurn, EndsPath}
 use Rattle.sts_weights.specs.Search.{ends_turn, ends_path, turns_of}
 
@@ -76,41 +75,3 @@ ends_paths pc i e = by (kind pc i)
     by (opens t p s) = let no : EndsPath ≡ Repeats (turns_of i) = sym e ∙ s in absurd (cc)
     by (turns t p n a s) = let no : EndsPath ≡ EndsTurn = sym e ∙ s in absurd (cc)
     by (ends t p a s) = p
-
--- each counts a step
-pub counts_one : (earlier : List Budgets) (i : Instr) → 1 ≤ steps_of earlier i
-counts_one earlier (Push k) = omega arith
-counts_one earlier Pop = omega arith
-counts_one earlier Dup = omega arith
-counts_one earlier Swap = omega arith
-counts_one earlier (Load x) = omega arith
-counts_one earlier (Store x) = omega arith
-counts_one earlier Add = omega arith
-counts_one earlier Sub = omega arith
-counts_one earlier Mul = omega arith
-counts_one earlier Lt = omega arith
-counts_one earlier Eq = omega arith
-counts_one earlier (Div to) = omega arith
-counts_one earlier (Jmp to) = omega arith
-counts_one earlier (Jz to) = omega arith
-counts_one earlier (Times n) = omega arith
-counts_one earlier Next = omega arith
-counts_one earlier (Open x j timed) = omega arith
-counts_one earlier (Fork x g h) = omega arith
-counts_one earlier (Join x a b c) = omega arith
-counts_one earlier (Close x) = omega arith
-counts_one earlier (Cancelled x) = omega arith
-counts_one earlier (Case h a b) = omega arith
-counts_one earlier (Get h) = omega arith
-counts_one earlier (Except h) = omega arith
-counts_one earlier (Tally x k) = omega arith
-counts_one earlier (Total x) = omega arith
-counts_one earlier (Forget h) = omega arith
-counts_one earlier (Bind k) = omega arith
-counts_one earlier Unbind = omega arith
-counts_one earlier (Read k) = omega arith
-counts_one earlier (Bound k) = omega arith
-counts_one earlier (OrElse k) = omega arith
-counts_one earlier Interrupted = omega arith
-counts_one earlier Ret = omega arith
-counts_one earlier Fail = omega arith

@@ -18,10 +18,6 @@ overflow_mul-turns t c =
     let now = c.loop-from.shares in
     let u = c.loop-from.invariant in
     let e : (best_in c.args.trail.now c.loop-from.at.place c.loop-from.at.depth).from ≡ Some c.in-Some.from = sym c.before-in-loop-from.ensures ∙ c.in-Some.is in
-    let f = from_is c.args.search.now c.requires.ready c.args.trail.now c.requires.trail at q u.spot e in
-    let within : c.in-Some.from < length c.args.search.now.code.now = omega (arith, f.0, u.spot.in_code) in
-    let kind = c.ends_turn.ensures ∙ ap ends_turn (any_default c.args.search.now.code.now c.in-Some.from _ Ret within) in
-    let turning : ends_turn (instr_at c.args.search.now.code.now c.in-Some.from) ≡ true = sym kind ∙ c.if-ends_turn.true in
     let l = c.loop_to-around.result in
     let le = c.loop_to-around.ensures in
     let total = loop_total c.args.search.now c.requires.ready c.args.trail.now c.requires.trail c.args.times q l at c.args.to c.args.shares.now now le.right le.end u c.requires.fits e in
@@ -31,16 +27,11 @@ overflow_mul-turns t c =
 
 pub back_to-end-requires-clause-fits : goal.back_to-end-requires-clause-fits
 back_to-end-requires-clause-fits t c =
-    let s = c.args.search.now in
     let q = c.in-Some.from in
     let at = c.loop-from.at in
     let now = c.loop-from.shares in
     let u = c.loop-from.invariant in
     let e : (best_in c.args.trail.now c.loop-from.at.place c.loop-from.at.depth).from ≡ Some c.in-Some.from = sym c.before-in-loop-from.ensures ∙ c.in-Some.is in
-    let f = from_is c.args.search.now c.requires.ready c.args.trail.now c.requires.trail at q u.spot e in
-    let within : c.in-Some.from < length c.args.search.now.code.now = omega (arith, f.0, u.spot.in_code) in
-    let kind = c.ends_turn.ensures ∙ ap ends_turn (any_default c.args.search.now.code.now c.in-Some.from _ Ret within) in
-    let turning : ends_turn (instr_at c.args.search.now.code.now c.in-Some.from) ≡ true = sym kind ∙ c.if-ends_turn.true in
     let l = c.loop_to-around.result in
     let le = c.loop_to-around.ensures in
     let total = loop_total c.args.search.now c.requires.ready c.args.trail.now c.requires.trail c.args.times q l at c.args.to c.args.shares.now now le.right le.end u c.requires.fits e in
@@ -48,7 +39,6 @@ back_to-end-requires-clause-fits t c =
 
 pub back-requires : goal.back-requires
 back-requires t c =
-    let s = c.args.search.now in
     let q = c.in-Some.from in
     let at = c.loop-from.at in
     let now = c.loop-from.shares in
@@ -66,7 +56,6 @@ back-requires t c =
 
 pub back_to-requires-clause-fits : goal.back_to-requires-clause-fits
 back_to-requires-clause-fits t c =
-    let s = c.args.search.now in
     let q = c.in-Some.from in
     let at = c.loop-from.at in
     let now = c.loop-from.shares in
@@ -82,16 +71,11 @@ back_to-requires-clause-fits t c =
 
 pub back_to-requires-else-turn_adds-clause-fits : goal.back_to-requires-else-turn_adds-clause-fits
 back_to-requires-else-turn_adds-clause-fits t c =
-    let s = c.args.search.now in
     let q = c.in-Some.from in
     let at = c.loop-from.at in
     let now = c.loop-from.shares in
     let u = c.loop-from.invariant in
     let e : (best_in c.args.trail.now c.loop-from.at.place c.loop-from.at.depth).from ≡ Some c.in-Some.from = sym c.before-in-loop-from.ensures ∙ c.in-Some.is in
-    let f = from_is c.args.search.now c.requires.ready c.args.trail.now c.requires.trail at q u.spot e in
-    let within : c.in-Some.from < length c.args.search.now.code.now = omega (arith, f.0, u.spot.in_code) in
-    let kind = c.ends_turn.ensures ∙ ap ends_turn (any_default c.args.search.now.code.now c.in-Some.from _ Ret within) in
-    let turning : ends_turn (instr_at c.args.search.now.code.now c.in-Some.from) ≡ true = sym kind ∙ c.if-ends_turn.true in
     let l = c.loop_to-around.result in
     let le = c.loop_to-around.ensures in
     let total = loop_total c.args.search.now c.requires.ready c.args.trail.now c.requires.trail c.args.times q l at c.args.to c.args.shares.now now le.right le.end u c.requires.fits e in
@@ -99,7 +83,6 @@ back_to-requires-else-turn_adds-clause-fits t c =
 
 pub back_to-at-requires-clause-fits : goal.back_to-at-requires-clause-fits
 back_to-at-requires-clause-fits t c =
-    let s = c.args.search.now in
     let q = c.in-Some.from in
     let at = c.loop-from.at in
     let now = c.loop-from.shares in
@@ -113,7 +96,6 @@ back_to-at-requires-clause-fits t c =
 
 pub loop-from-preserved-then-turn_adds : goal.loop-from-preserved-then-turn_adds
 loop-from-preserved-then-turn_adds t c =
-    let s = c.args.search.now in
     let q = c.in-Some.from in
     let at = c.loop-from.at in
     let now = c.loop-from.shares in
@@ -129,7 +111,6 @@ loop-from-preserved-then-turn_adds t c =
 
 pub loop-from-preserved-else-turn_adds : goal.loop-from-preserved-else-turn_adds
 loop-from-preserved-else-turn_adds t c =
-    let s = c.args.search.now in
     let q = c.in-Some.from in
     let at = c.loop-from.at in
     let now = c.loop-from.shares in
@@ -147,7 +128,6 @@ loop-from-preserved-else-turn_adds t c =
 
 pub loop-from-preserved : goal.loop-from-preserved
 loop-from-preserved t c =
-    let s = c.args.search.now in
     let q = c.in-Some.from in
     let at = c.loop-from.at in
     let now = c.loop-from.shares in

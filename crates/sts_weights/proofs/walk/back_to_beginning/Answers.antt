@@ -14,23 +14,17 @@ loop-head-init c = (open_none (paths c.args.search.now) (flow c.args.search.now)
 
 pub index-requires : goal.index-requires
 index-requires c =
-    let s = c.args.search.now in
     let at = c.loop-head.at in
-    let now = c.loop-head.shares in
     let turn = c.back-turn.result in
     let b = c.back-turn.ensures in
-    let inv = c.loop-head.invariant in
     let within : c.back-turn.result.place < length c.args.search.now.code.now = turn_in c.args.search.now c.requires.ready c.args.trail.now c.requires.trail at turn b.begin in
     omega (arith, c.requires.ready.heads_long, within)
 
 pub loop_from-requires-clause-opens : goal.loop_from-requires-clause-opens
 loop_from-requires-clause-opens c =
-    let s = c.args.search.now in
     let at = c.loop-head.at in
-    let now = c.loop-head.shares in
     let turn = c.back-turn.result in
     let b = c.back-turn.ensures in
-    let inv = c.loop-head.invariant in
     let within : c.back-turn.result.place < length c.args.search.now.code.now = turn_in c.args.search.now c.requires.ready c.args.trail.now c.requires.trail at turn b.begin in
     let heads : get_or c.args.search.now.layout.now.heads.items c.back-turn.result.place None ≡ Some c.in-Some.head = sym (c.index.ensures ∙ any_default c.args.search.now.layout.now.heads.items c.back-turn.result.place _ None (omega (arith, c.requires.ready.heads_long, within))) ∙ c.in-Some.is in
     let r = around_head c.args.search.now c.requires.ready c.back-turn.result.place c.in-Some.head within heads in
@@ -39,30 +33,22 @@ loop_from-requires-clause-opens c =
 
 pub back_out-at-requires-clause-begins : goal.back_out-at-requires-clause-begins
 back_out-at-requires-clause-begins c =
-    let s = c.args.search.now in
     let at = c.loop-head.at in
-    let now = c.loop-head.shares in
     let turn = c.back-turn.result in
     let b = c.back-turn.ensures in
-    let inv = c.loop-head.invariant in
     let within : c.back-turn.result.place < length c.args.search.now.code.now = turn_in c.args.search.now c.requires.ready c.args.trail.now c.requires.trail at turn b.begin in
     let heads : get_or c.args.search.now.layout.now.heads.items c.back-turn.result.place None ≡ Some c.in-Some.head = sym (c.index.ensures ∙ any_default c.args.search.now.layout.now.heads.items c.back-turn.result.place _ None (omega (arith, c.requires.ready.heads_long, within))) ∙ c.in-Some.is in
     let r = around_head c.args.search.now c.requires.ready c.back-turn.result.place c.in-Some.head within heads in
-    let l = c.loop_from.result in
     let le = c.loop_from.ensures in
     let t = turn_inside c.args.search.now c.requires.ready c.args.trail.now c.requires.trail at turn c.in-Some.head r.0 b.begin r.1 in
     let ti = subst (λ h. (c.back-turn.result ≡ record { place = h + 1; depth = min c.loop-head.at.depth ((flow c.args.search.now).depth h) }) × (around c.args.search.now.code.now c.loop-head.at.place ≡ h ∷ around c.args.search.now.code.now h)) (sym le.head) t in
-    let deep : c.back-turn.result.depth ≡ min c.loop-head.at.depth ((flow c.args.search.now).depth c.loop_from.result.head) = ap (λ (x : Spot). x.depth) ti.0 in
     ap (λ (x : Spot). x.place) ti.0
 
 pub back_out-at-requires-clause-spot : goal.back_out-at-requires-clause-spot
 back_out-at-requires-clause-spot c =
-    let s = c.args.search.now in
     let at = c.loop-head.at in
-    let now = c.loop-head.shares in
     let turn = c.back-turn.result in
     let b = c.back-turn.ensures in
-    let inv = c.loop-head.invariant in
     let within : c.back-turn.result.place < length c.args.search.now.code.now = turn_in c.args.search.now c.requires.ready c.args.trail.now c.requires.trail at turn b.begin in
     let heads : get_or c.args.search.now.layout.now.heads.items c.back-turn.result.place None ≡ Some c.in-Some.head = sym (c.index.ensures ∙ any_default c.args.search.now.layout.now.heads.items c.back-turn.result.place _ None (omega (arith, c.requires.ready.heads_long, within))) ∙ c.in-Some.is in
     let r = around_head c.args.search.now c.requires.ready c.back-turn.result.place c.in-Some.head within heads in
@@ -70,12 +56,10 @@ back_out-at-requires-clause-spot c =
     let le = c.loop_from.ensures in
     let t = turn_inside c.args.search.now c.requires.ready c.args.trail.now c.requires.trail at turn c.in-Some.head r.0 b.begin r.1 in
     let ti = subst (λ h. (c.back-turn.result ≡ record { place = h + 1; depth = min c.loop-head.at.depth ((flow c.args.search.now).depth h) }) × (around c.args.search.now.code.now c.loop-head.at.place ≡ h ∷ around c.args.search.now.code.now h)) (sym le.head) t in
-    let deep : c.back-turn.result.depth ≡ min c.loop-head.at.depth ((flow c.args.search.now).depth c.loop_from.result.head) = ap (λ (x : Spot). x.depth) ti.0 in
     turn_spot c.args.search.now c.requires.ready c.args.trail.now c.requires.trail l at turn le.right ti.0
 
 pub back_out-at-requires-clause-fits : goal.back_out-at-requires-clause-fits
 back_out-at-requires-clause-fits c =
-    let s = c.args.search.now in
     let at = c.loop-head.at in
     let now = c.loop-head.shares in
     let turn = c.back-turn.result in
@@ -93,27 +77,20 @@ back_out-at-requires-clause-fits c =
 
 pub loop-head-smaller : goal.loop-head-smaller
 loop-head-smaller c =
-    let s = c.args.search.now in
     let at = c.loop-head.at in
-    let now = c.loop-head.shares in
     let turn = c.back-turn.result in
     let b = c.back-turn.ensures in
-    let inv = c.loop-head.invariant in
     let within : c.back-turn.result.place < length c.args.search.now.code.now = turn_in c.args.search.now c.requires.ready c.args.trail.now c.requires.trail at turn b.begin in
     let heads : get_or c.args.search.now.layout.now.heads.items c.back-turn.result.place None ≡ Some c.in-Some.head = sym (c.index.ensures ∙ any_default c.args.search.now.layout.now.heads.items c.back-turn.result.place _ None (omega (arith, c.requires.ready.heads_long, within))) ∙ c.in-Some.is in
     let r = around_head c.args.search.now c.requires.ready c.back-turn.result.place c.in-Some.head within heads in
-    let l = c.loop_from.result in
     let le = c.loop_from.ensures in
     let t = turn_inside c.args.search.now c.requires.ready c.args.trail.now c.requires.trail at turn c.in-Some.head r.0 b.begin r.1 in
-    let ti = subst (λ h. (c.back-turn.result ≡ record { place = h + 1; depth = min c.loop-head.at.depth ((flow c.args.search.now).depth h) }) × (around c.args.search.now.code.now c.loop-head.at.place ≡ h ∷ around c.args.search.now.code.now h)) (sym le.head) t in
-    let deep : c.back-turn.result.depth ≡ min c.loop-head.at.depth ((flow c.args.search.now).depth c.loop_from.result.head) = ap (λ (x : Spot). x.depth) ti.0 in
     let less = c.requires.ready.good.lesser c.loop-head.at.place c.in-Some.head (around c.args.search.now.code.now c.in-Some.head) t.1 in
     let place = c.back_out-at.ensures.place in
     omega (arith, place, le.head, less)
 
 pub loop-head-preserved : goal.loop-head-preserved
 loop-head-preserved c =
-    let s = c.args.search.now in
     let at = c.loop-head.at in
     let now = c.loop-head.shares in
     let turn = c.back-turn.result in
@@ -137,7 +114,6 @@ loop-head-preserved c =
 
 pub returns-in-None-clause-walk : goal.returns-in-None-clause-walk
 returns-in-None-clause-walk c =
-    let s = c.args.search.now in
     let at = c.loop-head.at in
     let now = c.loop-head.shares in
     let turn = c.back-turn.result in
@@ -150,9 +126,7 @@ returns-in-None-clause-walk c =
 
 pub returns-in-None-clause-total : goal.returns-in-None-clause-total
 returns-in-None-clause-total c =
-    let s = c.args.search.now in
     let at = c.loop-head.at in
-    let now = c.loop-head.shares in
     let turn = c.back-turn.result in
     let b = c.back-turn.ensures in
     let inv = c.loop-head.invariant in
