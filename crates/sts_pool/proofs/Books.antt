@@ -1,6 +1,6 @@
 -- What keeps the facts of a book.
-use Rattle.std.proofs.Common.{◌≡◌, ℕ, ◌+◌, ◌≤◌, List, [], ◌∷◌, ◌++◌, length, Bool, true, false, not, Option, Some, None, inl, inr, refl, sym, ◌∙◌, subst, cond, is_some, ◌==◌, arith, length-append, count_by, filter}
-use Rattle.std.proofs.lemmas.Bool.{and_parts, and_from, and_left, and_right, cond-true, not_from_false, not_from_true}
+use Rattle.std.proofs.Common.{◌≡◌, ℕ, ◌+◌, ◌≤◌, List, [], ◌∷◌, ◌++◌, length, Bool, true, false, not, Option, Some, None, inl, inr, refl, sym, ap, ◌∙◌, subst, cond, is_some, ◌==◌, ◌&&◌, arith, length-append, count_by, filter}
+use Rattle.std.proofs.lemmas.Bool.{and_parts, and_from, and_left, and_right, cond-true, not-true, not_from_false, not_from_true}
 use Rattle.std.proofs.lemmas.Bool.Decides.{nat_tests}
 use Rattle.std.proofs.lemmas.List.{length-replicate}
 use Rattle.std.proofs.lemmas.List.Filters.{length-filter_both}
@@ -16,12 +16,13 @@ use Rattle.sts_model.specs.declared.event.Event.{Event}
 use Rattle.sts_model.specs.declared.event.Event.TheVariants as event
 use Rattle.sts_model.specs.declared.record.Frame.{Frame}
 use Rattle.sts_model.specs.Live.{Live, LiveTask, Alive}
-use Rattle.sts_model.specs.Run.{after, is_step, taken}
+use Rattle.sts_model.specs.Run.{after, counts, is_step, taken}
 use Rattle.sts_model.specs.World.{task_at}
 use Rattle.sts_runs.specs.Runs.{In}
 use Rattle.sts_runs.proofs.ListLemmas.{at_set}
 use Rattle.sts_seen.specs.Reading.{task_in, no_live_task, lives_in, with_live_frame}
 use Rattle.sts_seen.specs.Run.{live_apply, live_steps_in}
+use Rattle.sts_seen.specs.Seen.{TurnsAreSeen}
 use Rattle.sts_seen.specs.Waiting.{live_can_go, live_can_step, live_stand_at}
 use Rattle.sts_views.specs.Stands.{StandsStay}
 use Rattle.sts_views.specs.Waking.{is_step_of}
@@ -195,7 +196,7 @@ room_kept p q j k l n same more most room =
     let journal = room.journal_room in
     let out = room.out_room in
     subst (λ z. HasBookRoom z l n) (sym same)
-    (record { main = room.main; stay = room.stay; within = room.within; journal_room = omega (arith, journal, more); out_room = omega (arith, out, most) })
+    (record { main = room.main; stay = room.stay; turns = room.turns; within = room.within; journal_room = omega (arith, journal, more); out_room = omega (arith, out, most) })
 
 -- entries with which it is a book still had room in the journal
 pub entries_fit : (m x : Seen) (journal events : List Event) (out : List ℕ) (j k : ℕ) → x.program ≡ m.program → HasBookRoom m.program j k → IsBook (book_of x (journal ++ events) out) → length journal + length events ≤ j
@@ -224,15 +225,34 @@ pub idle_from : (c : Bool) → Idle ≡ turned c → c ≡ false
 idle_from true e = absurd (cc)
 idle_from false e = refl
 
--- none of a task that is out, and none of one that can't step
+-- it is seen in the view whether a step of a task counts
+pub step_seen : (m : Seen) (journal : List Event) → Stands m journal → TurnsAreSeen m.program → (t : ℕ) → counts m.program (after m.program journal) (event.Step t) ≡ live_can_step m.program m.live t
+step_seen m journal stands seen t = (seen journal m.live m.steps (event.Step t) stands).count
+
+-- and so, of a book, which task may turn
+pub turn_seen : (m : Seen) (journal : List Event) (out : List ℕ) → IsBook (book_of m journal out) → TurnsAreSeen m.program → (t : ℕ) → may_turn (book_of m journal out) t ≡ (live_can_step m.program m.live t && not (among out t))
+turn_seen m journal out is seen t = ap (λ can. can && not (among out t)) (step_seen m journal is.stands seen t)
+
+-- a test that answers alike picks alike
+pub picks_alike : (a b : ℕ → Bool) (o : Option ℕ) → ((t : ℕ) → b t ≡ a t) → Picks a o → Picks b o
+picks_alike a b (Some t) same picks = same t ∙ picks
+picks_alike a b None same picks = λ t. same t ∙ picks t
+
+-- who may turn can step as the view shows it, and isn't out
+pub may_parts : (m : Seen) (journal : List Event) (out : List ℕ) (t : ℕ) → IsBook (book_of m journal out) → TurnsAreSeen m.program → may_turn (book_of m journal out) t ≡ true → (live_can_step m.program m.live t ≡ true) × (among out t ≡ false)
+may_parts m journal out t is seen may =
+    let both = and_parts (live_can_step m.program m.live t) (not (among out t)) (sym (turn_seen m journal out is seen t) ∙ may) in
+    (both.0, not-true _ both.1)
+
+-- none of a task that is out, and none of one whose step doesn't count
 pub out_no_turn : (b : BookSeen) (t : ℕ) → is_out b t ≡ true → may_turn b t ≡ false
-out_no_turn b t out = and_right (live_can_step b.program b.machine.live t) (not (is_out b t)) (not_from_true (is_out b t) out)
+out_no_turn b t out = and_right (counts b.program (after b.program b.journal) (event.Step t)) (not (is_out b t)) (not_from_true (is_out b t) out)
 
-pub idle_no_turn : (b : BookSeen) (t : ℕ) → live_can_step b.program b.machine.live t ≡ false → may_turn b t ≡ false
-idle_no_turn b t idle = and_left (live_can_step b.program b.machine.live t) (not (is_out b t)) idle
+pub idle_no_turn : (b : BookSeen) (t : ℕ) → counts b.program (after b.program b.journal) (event.Step t) ≡ false → may_turn b t ≡ false
+idle_no_turn b t idle = and_left (counts b.program (after b.program b.journal) (event.Step t)) (not (is_out b t)) idle
 
-pub turns : (b : BookSeen) (t : ℕ) → live_can_step b.program b.machine.live t ≡ true → is_out b t ≡ false → may_turn b t ≡ true
-turns b t can absent = and_from (live_can_step b.program b.machine.live t) (not (is_out b t)) can (not_from_false (is_out b t) absent)
+pub turns : (b : BookSeen) (t : ℕ) → counts b.program (after b.program b.journal) (event.Step t) ≡ true → is_out b t ≡ false → may_turn b t ≡ true
+turns b t can absent = and_from (counts b.program (after b.program b.journal) (event.Step t)) (not (is_out b t)) can (not_from_false (is_out b t) absent)
 
 -- ---- what is reported
 

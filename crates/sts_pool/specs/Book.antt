@@ -7,9 +7,10 @@ use Rattle.sts_code.specs.Program.{Program}
 use Rattle.sts_code.specs.declared.limits.TheConstants.{MAX_OUTSIDE}
 use Rattle.sts_code.specs.declared.profile.Profile.TheVariants.{One}
 use Rattle.sts_model.specs.declared.event.Event.{Event}
-use Rattle.sts_model.specs.Run.{is_step}
+use Rattle.sts_model.specs.declared.event.Event.TheVariants.{Step}
+use Rattle.sts_model.specs.Run.{after, counts, is_step}
 use Rattle.sts_seen.specs.Reading.{lives_in}
-use Rattle.sts_seen.specs.Waiting.{live_can_step}
+use Rattle.sts_seen.specs.Seen.{TurnsAreSeen}
 use Rattle.sts_views.specs.Stands.{StandsStay}
 use Rattle.sts_laws_accepted.specs.Views.{ViewsAreWithin}
 use Rattle.sts_machine.specs.Laws.{MainBudget}
@@ -36,9 +37,9 @@ book_of m journal out = record { program = m.program; machine = m; journal = jou
 abbrev pub is_out : BookSeen → ℕ → Bool
 is_out b t = list_any (λ o. o == t) b.out
 
--- is a turn of the task a step?
+-- would a step of the task count where the journal leads, and is the task not out?
 abbrev pub may_turn : BookSeen → ℕ → Bool
-may_turn b t = live_can_step b.program b.machine.live t && not (is_out b t)
+may_turn b t = counts b.program (after b.program b.journal) (Step t) && not (is_out b t)
 
 -- the slice was taken out of this book, and its task is as it was
 abbrev pub IsOurs : BookSeen → Cut → Type 0
@@ -63,6 +64,7 @@ pub record IsBook (b : BookSeen) : Type 0 where
 pub record HasBookRoom (p : Program) (journal out : ℕ) : Type 0 where
   pub main : MainBudget p
   pub stay : StandsStay p
+  pub turns : TurnsAreSeen p
   pub within : ViewsAreWithin p
   pub journal_room : main.budget.steps + MAX_OUTSIDE ≤ journal
   pub out_room : main.budget.tasks ≤ out

@@ -21,7 +21,7 @@ use crate::report::{PoolError, Report};
 use std::alloc::{AllocError, Global};
 use std::marker::Model;
 use sts_code::limits::MAX_OUTSIDE;
-use sts_laws_accepted::{every_run, stands_stay, views_are_within};
+use sts_laws_accepted::{every_run, stands_stay, turns_are_seen, views_are_within};
 use sts_machine::machine::Machine;
 use sts_machine::slice::Slice;
 use sts_machine::turned::Turned;
@@ -73,6 +73,7 @@ impl<'p> Book<'p> {
         ensures out { IfOk result (λ b. b.out ≡ []) }
     {
         stands_stay(verified);
+        turns_are_seen(verified);
         views_are_within(verified);
         let budget = every_run(verified);
         let machine = Machine::prepare(alloc, verified)?;
@@ -167,7 +168,7 @@ impl<'p> Book<'p> {
         ensures out { IfSome result (λ t.
             self.new ≡ record self.old { out = self.old.out ++ t ∷ [] }) }
     {
-        let task = self.machine.ready_beside(self.out.as_slice())?;
+        let task = self.pick()?;
         self.out.push_reserved(task);
         Some(task)
     }
@@ -257,7 +258,14 @@ impl<'p> Book<'p> {
         ensures { MatchBool result ((t : ℕ) × (may_turn self.now t ≡ true))
             ((t : ℕ) → may_turn self.now t ≡ false) }
     {
-        self.machine.ready_beside(self.out.as_slice()).is_some()
+        self.pick().is_some()
+    }
+
+    /// Some task that can step and isn't out: none only where there is none.
+    fn pick(&self) -> Option<u32>
+        ensures { Picks (may_turn self.now) result }
+    {
+        self.machine.ready_beside(self.out.as_slice())
     }
 
     /// Does the book take no further outside event?

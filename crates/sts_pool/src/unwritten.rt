@@ -10,7 +10,7 @@ use crate::report::{Ending, PoolError};
 use std::alloc::{AllocError, Global};
 use std::marker::Model;
 use sts_code::limits::MAX_OUTSIDE;
-use sts_laws_accepted::{every_run, stands_stay, views_are_within};
+use sts_laws_accepted::{every_run, stands_stay, turns_are_seen, views_are_within};
 use sts_machine::machine::Machine;
 use sts_machine::slice::Slice;
 use sts_machine::turned::Turned;
@@ -49,6 +49,7 @@ impl<'p> Unwritten<'p> {
         ensures { IfOk result (λ b. b.program ≡ verified.now) }
     {
         stands_stay(verified);
+        turns_are_seen(verified);
         views_are_within(verified);
         let budget = every_run(verified);
         let machine = Machine::prepare(alloc, verified)?;

@@ -272,7 +272,8 @@ impl<'p, O: Outside, B: Runs> Pool<'p, O, B> {
 /// # Errors
 ///
 /// Memory was refused, or a worker could not be started: then the others were stopped and have ended.
-/// That the root had not ended when the workers were done is told too, and never comes.
+/// That the root had not ended when the workers were done would be told too: no test has met it, and
+/// nothing is proved of it.
 pub fn run<R: Threads + Wait + Sync, G: Gate + Sync, O: Outside + Send + Drop>(
     rt: &R,
     alloc: Global,

@@ -10,6 +10,8 @@ mod meeting;
 #[cfg(test)]
 mod outsides;
 #[cfg(test)]
+mod replayed;
+#[cfg(test)]
 mod runs;
 #[cfg(test)]
 mod slices;

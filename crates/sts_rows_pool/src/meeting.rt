@@ -3,6 +3,7 @@
 ghost use Rattle.std.specs.Prelude.{IfSome};
 
 use crate::outsides::Weather;
+use crate::replayed::replays;
 use crate::texts::{DOUBLES, TIMED, accepted};
 use std::sync::atomic::{AtomicU64, Ordering};
 use std::test::Fail;
@@ -89,6 +90,7 @@ fn two_workers_meet(rt: HostRuntime) -> Result<(), Fail> {
     let report = run(&rt, rt.alloc(), &verified, 2, &meeting, herald)?;
     assert!(rt; meeting.has_met());
     assert_eq!(rt; report.end, End::Success(42));
+    replays(&rt, rt.alloc(), &verified, &report)?;
     let journal = report.journal.as_slice();
     assert_eq!(rt; count(journal, Event::Interrupt(76)), 1);
     assert_eq!(rt; count(journal, Event::Interrupt(77)), 1);
@@ -114,8 +116,8 @@ impl Gate for Holding {
     }
 }
 
-/// A subtask of one local instruction and a `ret` is worked on once: nobody else takes it while it
-/// is out, the slice does its first instruction, and the turn behind it the other.
+/// A subtask of two steps is worked on once: nobody else takes it while it is out, and who took it
+/// does both.
 #[test]
 fn out_is_out(rt: HostRuntime) -> Result<(), Fail> {
     let verified = accepted(rt.alloc(), TIMED)?;
@@ -124,6 +126,7 @@ fn out_is_out(rt: HostRuntime) -> Result<(), Fail> {
     };
     let report = run(&rt, rt.alloc(), &verified, 2, &holding, Weather::Calm)?;
     assert_eq!(rt; report.end, End::Success(1));
+    replays(&rt, rt.alloc(), &verified, &report)?;
     assert_eq!(rt; holding.entries.load(Ordering::SeqCst), 1);
     Ok(())
 }

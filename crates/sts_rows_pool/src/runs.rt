@@ -1,87 +1,87 @@
 //! Runs with several workers, and their journals replayed.
 
 use crate::outsides::{Open, Weather};
+use crate::replayed::replays;
 use crate::texts::{BOUND, DOUBLES, LOOPED, SEVEN, THOUSAND, TIMED, TURNS, accepted};
 use std::alloc::Global;
 use std::process::Abort;
 use std::sync::Wait;
 use std::test::Fail;
 use std::thread::Threads;
-use sts_machine::runs::replay;
-use sts_model::event::{End, Event};
+use sts_model::event::End;
 use sts_pool::{run, run_unwritten};
 
-/// A text, what comes from outside, with how many workers it runs, the ends that it may have, and
-/// the steps that it takes, where each run takes as many.
+/// With so many workers each text runs.
+static WORKERS: [u32; 4] = [1, 2, 8, 16];
+
+/// A text, what comes from outside, the ends that it may have, and the steps that it takes, where
+/// each run takes as many.
 struct Run {
     text: &'static str,
     weather: Weather,
-    workers: &'static [u32],
     ends: &'static [End],
     steps: Option<u64>,
 }
 
-static RUNS: [Run; 9] = [
+static RUNS: [Run; 10] = [
     Run {
         text: SEVEN,
         weather: Weather::Calm,
-        workers: &[1, 16],
         ends: &[End::Success(7)],
         steps: Some(2),
     },
     Run {
         text: DOUBLES,
         weather: Weather::Calm,
-        workers: &[1, 2, 16],
         ends: &[End::Success(42)],
         steps: Some(20),
     },
     Run {
         text: THOUSAND,
         weather: Weather::Calm,
-        workers: &[1, 8],
         ends: &[End::Success(5)],
         steps: Some(8004),
     },
     Run {
         text: BOUND,
         weather: Weather::Calm,
-        workers: &[1, 2],
         ends: &[End::Success(6)],
         steps: Some(10),
     },
     Run {
         text: LOOPED,
         weather: Weather::Calm,
-        workers: &[1, 2],
         ends: &[End::Success(1)],
         steps: Some(15),
     },
     Run {
         text: TURNS,
         weather: Weather::Calm,
-        workers: &[1, 8],
         ends: &[End::Success(0)],
         steps: Some(500_034),
     },
     Run {
         text: TIMED,
         weather: Weather::Due { at: 1, scope: 0 },
-        workers: &[1, 2],
         ends: &[End::Success(2)],
         steps: Some(6),
+    },
+    // what is due when the root ends is recorded behind its last step
+    Run {
+        text: SEVEN,
+        weather: Weather::Due { at: 2, scope: 0 },
+        ends: &[End::Success(7)],
+        steps: Some(2),
     },
     Run {
         text: DOUBLES,
         weather: Weather::Storm { task: 77 },
-        workers: &[1, 2, 16],
         ends: &[End::Success(42)],
         steps: Some(20),
     },
     Run {
         text: DOUBLES,
         weather: Weather::Storm { task: 0 },
-        workers: &[1, 2, 16],
         ends: &[End::Success(42), End::Failed(0)],
         steps: None,
     },
@@ -102,19 +102,9 @@ fn ends<R: Abort + Threads + Wait + Sync>(
         row.ends.contains(&report.end),
         "{workers} workers end {name:?}"
     );
-    let machine = replay(alloc, &verified, report.journal.as_slice())?;
-    assert_eq!(rt;
-        machine.root_end(),
-        Some(report.end),
-        "{workers} workers replay {name:?}"
-    );
-    assert_eq!(rt;
-        machine.steps(),
-        report.steps,
-        "{workers} workers count {name:?}"
-    );
-    let steps = row.steps.unwrap_or(machine.steps());
-    assert_eq!(rt; machine.steps(), steps, "{workers} workers step {name:?}");
+    replays(rt, alloc, &verified, &report)?;
+    let steps = row.steps.unwrap_or(report.steps);
+    assert_eq!(rt; report.steps, steps, "{workers} workers step {name:?}");
     let entries = report.journal.len() as u64;
     assert_eq!(rt;
         entries,
@@ -151,7 +141,7 @@ fn ends_unwritten<R: Abort + Threads + Wait + Sync>(
 #[test]
 fn runs_end_alike_with_no_journal(rt: HostRuntime) -> Result<(), Fail> {
     for row in &RUNS {
-        for workers in row.workers {
+        for workers in &WORKERS {
             ends_unwritten(&rt, rt.alloc(), row, *workers)?;
         }
     }
@@ -161,7 +151,7 @@ fn runs_end_alike_with_no_journal(rt: HostRuntime) -> Result<(), Fail> {
 #[test]
 fn runs_end_with_any_number_of_workers(rt: HostRuntime) -> Result<(), Fail> {
     for row in &RUNS {
-        for workers in row.workers {
+        for workers in &WORKERS {
             ends(&rt, rt.alloc(), row, *workers)?;
         }
     }

@@ -3,6 +3,7 @@
 ghost use Rattle.std.specs.Prelude.{IfSome};
 
 use crate::outsides::{Open, Weather};
+use crate::replayed::replays;
 use crate::texts::{LOOPS, accepted};
 use std::sync::atomic::{AtomicU64, Ordering};
 use std::test::Fail;
@@ -43,6 +44,7 @@ fn steps_of_a_slice_come_at_once(rt: HostRuntime) -> Result<(), Fail> {
     let report = run(&rt, rt.alloc(), &verified, 1, &Open, leaps)?;
     assert_eq!(rt; report.end, End::Success(20_000));
     assert_eq!(rt; report.steps, 100_017);
+    replays(&rt, rt.alloc(), &verified, &report)?;
     assert!(rt; greatest.load(Ordering::SeqCst) >= 1024);
     Ok(())
 }
@@ -80,8 +82,8 @@ impl Gate for Both {
     }
 }
 
-/// A worker comes to a subtask a second time when it has taken its slice: both are out at once, so
-/// neither worker waits for the other one's slice.
+/// A worker comes to a subtask a second time when it has taken its slice: both slices are out at
+/// once.
 #[test]
 fn two_slices_are_out_at_once(rt: HostRuntime) -> Result<(), Fail> {
     let verified = accepted(rt.alloc(), LOOPS)?;
@@ -91,6 +93,7 @@ fn two_slices_are_out_at_once(rt: HostRuntime) -> Result<(), Fail> {
     };
     let report = run(&rt, rt.alloc(), &verified, 2, &both, Weather::Calm)?;
     assert_eq!(rt; report.end, End::Success(20_000));
+    replays(&rt, rt.alloc(), &verified, &report)?;
     assert!(rt; both.has_second(0) && both.has_second(1));
     assert_eq!(rt; both.missed.load(Ordering::SeqCst), 0);
     Ok(())

@@ -1,6 +1,7 @@
 //! A storm of interrupts, counted in the journal.
 
 use crate::outsides::{Open, Weather};
+use crate::replayed::replays;
 use crate::texts::{DOUBLES, accepted};
 use std::test::Fail;
 use sts_model::event::{End, Event};
@@ -11,11 +12,12 @@ use sts_pool::run;
 #[test]
 fn a_storm_stands_in_the_journal(rt: HostRuntime) -> Result<(), Fail> {
     let verified = accepted(rt.alloc(), DOUBLES)?;
-    for workers in [1, 2, 16] {
+    for workers in [1, 2, 8, 16] {
         assert!(rt; 1 <= workers && workers <= 16);
         let storm = Weather::Storm { task: 77 };
         let report = run(&rt, rt.alloc(), &verified, workers, &Open, storm)?;
         assert_eq!(rt; report.end, End::Success(42), "{workers} workers");
+        replays(&rt, rt.alloc(), &verified, &report)?;
         let came = report
             .journal
             .iter()

@@ -20,5 +20,5 @@ invariant_of-result c =
       runs_well = c.every_run-budget.ensures.runs_well;
     } in
     let room = room_kept p m.program _ _ _ _ c.in_ok-machine.ensures.program journal out
-    (record { main = main; stay = c.stands_stay.ensures; within = c.views_are_within.ensures; journal_room = omega arith; out_room = omega arith }) in
+    (record { main = main; stay = c.stands_stay.ensures; turns = c.turns_are_seen.ensures; within = c.views_are_within.ensures; journal_room = omega arith; out_room = omega arith }) in
     rw (c.in_ok-journal.ensures.items, c.in_ok-out.ensures.items) (opening_book m c.in_ok-machine.ensures.stands c.in_ok-machine.ensures.steps, refl, room)

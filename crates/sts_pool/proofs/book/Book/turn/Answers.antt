@@ -1,6 +1,7 @@
 use Rattle.std.proofs.Common.{◌≡◌, ◌==◌, ◌∷◌, [], true, false, length, rules, subst, sym, ◌∙◌, vec_len, arith}
 use Rattle.std.specs.List.{list_any}
 use Rattle.sts_model.specs.declared.event.Event.TheVariants as event
+use Rattle.sts_model.specs.Run.{after, counts}
 use Rattle.sts_seen.specs.Waiting.{live_can_step}
 use Rattle.sts_pool.specs.Book.{BookSeen, is_out, may_turn}
 use Rattle.sts_pool.proofs.Books.{entries_fit, idle_from, idle_no_turn, out_no_turn, room_kept, stepped_book, stepped_from, still_entries_one, turns}
@@ -46,17 +47,19 @@ pub returns-in-Idle-clause-journal : goal.returns-in-Idle-clause-journal
 returns-in-Idle-clause-journal c =
     let m = c.self.inside.machine in
     let t = c.args.task in
-    let idle : live_can_step m.program m.live t ≡ false = idle_from _ (sym c.in-Idle.is ∙ c.turn.ensures.answer) in
-    let none = idle_no_turn c.args.self.now t (subst (λ (b : BookSeen). live_can_step b.program b.machine.live t ≡ false) c.self.view_is idle) in
+    let journal = c.self.inside.journal.items in
+    let idle : counts m.program (after m.program journal) (event.Step t) ≡ false = idle_from _ (sym c.in-Idle.is ∙ c.turn.ensures.counted journal c.self.invariant.0.stands) in
+    let none = idle_no_turn c.args.self.now t (subst (λ (b : BookSeen). counts b.program (after b.program b.journal) (event.Step t) ≡ false) c.self.view_is idle) in
     λ may. absurd (cc)
 
 pub returns-in-Stepped-clause-idle : goal.returns-in-Stepped-clause-idle
 returns-in-Stepped-clause-idle c =
     let m = c.self.inside.machine in
     let t = c.args.task in
+    let journal = c.self.inside.journal.items in
     let absent : list_any (λ o. o == t) c.self.inside.out.items ≡ false = rw (← c.as_slice.ensures.value) (sym c.is_among.ensures ∙ c.if-is_among.false) in
-    let can : live_can_step m.program m.live t ≡ true = stepped_from _ (sym c.in-Stepped.is ∙ c.turn.ensures.answer) in
+    let can : counts m.program (after m.program journal) (event.Step t) ≡ true = stepped_from _ (sym c.in-Stepped.is ∙ c.turn.ensures.counted journal c.self.invariant.0.stands) in
     let may : may_turn c.args.self.now t ≡ true =
-    turns c.args.self.now t (subst (λ (b : BookSeen). live_can_step b.program b.machine.live t ≡ true) c.self.view_is can)
+    turns c.args.self.now t (subst (λ (b : BookSeen). counts b.program (after b.program b.journal) (event.Step t) ≡ true) c.self.view_is can)
     (subst (λ (b : BookSeen). is_out b t ≡ false) c.self.view_is absent) in
     λ none. absurd (cc)

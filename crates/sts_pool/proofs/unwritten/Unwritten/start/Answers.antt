@@ -21,5 +21,5 @@ invariant_of-result c =
     } in
     let entries = c.every_run-budget.result.steps + 4096 in
     let room = room_kept p m.program entries _ entries _ c.in_ok-machine.ensures.program (omega arith) out
-    (record { main = main; stay = c.stands_stay.ensures; within = c.views_are_within.ensures; journal_room = omega arith; out_room = omega arith }) in
+    (record { main = main; stay = c.stands_stay.ensures; turns = c.turns_are_seen.ensures; within = c.views_are_within.ensures; journal_room = omega arith; out_room = omega arith }) in
     rw c.in_ok-out.ensures.items (opening_unwritten m entries _ c.in_ok-machine.ensures.stands c.in_ok-machine.ensures.steps room)
