@@ -1,4 +1,4 @@
-use Rattle.std.proofs.Common.{◌≡◌, length, rules, sym, subst, vec_len, arith}
+use Rattle.std.proofs.Common.{◌≡◌, true, length, rules, sym, subst, vec_len, arith}
 use Rattle.sts_pool.specs.Book.{BookSeen, may_turn}
 use Rattle.sts_pool.proofs.Books.{lives, may_parts, out_book, out_fits}
 use Rattle.sts_pool.proofs.book.Book.claim.Goals as goal

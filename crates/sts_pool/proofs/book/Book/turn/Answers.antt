@@ -1,6 +1,7 @@
-use Rattle.std.proofs.Common.{◌≡◌, ◌==◌, ◌∷◌, [], true, false, length, rules, subst, sym, ◌∙◌, vec_len, arith}
+use Rattle.std.proofs.Common.{◌≡◌, ◌==◌, ◌∷◌, [], true, false, length, rules, subst, sym, ap, ◌∙◌, vec_len, arith}
 use Rattle.std.specs.List.{list_any}
 use Rattle.sts_model.specs.declared.event.Event.TheVariants as event
+use Rattle.sts_machine.specs.Turned.{turned}
 use Rattle.sts_model.specs.Run.{after, counts}
 use Rattle.sts_seen.specs.Waiting.{live_can_step}
 use Rattle.sts_pool.specs.Book.{BookSeen, is_out, may_turn}
@@ -51,6 +52,14 @@ returns-in-Idle-clause-journal c =
     let idle : counts m.program (after m.program journal) (event.Step t) ≡ false = idle_from _ (sym c.in-Idle.is ∙ c.turn.ensures.counted journal c.self.invariant.0.stands) in
     let none = idle_no_turn c.args.self.now t (subst (λ (b : BookSeen). counts b.program (after b.program b.journal) (event.Step t) ≡ false) c.self.view_is idle) in
     λ may. absurd (cc)
+
+pub returns-in-Idle-clause-turned : goal.returns-in-Idle-clause-turned
+returns-in-Idle-clause-turned c =
+    let m = c.self.inside.machine in
+    let t = c.args.task in
+    let journal = c.self.inside.journal.items in
+    let idle : counts m.program (after m.program journal) (event.Step t) ≡ false = idle_from _ (sym c.in-Idle.is ∙ c.turn.ensures.counted journal c.self.invariant.0.stands) in
+    sym (ap turned (idle_no_turn c.args.self.now t (subst (λ (b : BookSeen). counts b.program (after b.program b.journal) (event.Step t) ≡ false) c.self.view_is idle)))
 
 pub returns-in-Stepped-clause-idle : goal.returns-in-Stepped-clause-idle
 returns-in-Stepped-clause-idle c =
