@@ -1,11 +1,13 @@
 #!/usr/bin/env python3
-"""Refuses what the program asks of the system, one request after the other.  usage: memory.py [PROGRAM [CALLS]]
+"""Refuses what the programs ask of the system, one request after the other.  usage: memory.py [PROGRAM [CALLS [LOOK]]]
 
-Each case is a command with the answer that its rules give.  For n = 1, 2, .. until nothing is refused any more:
+Each case is a command of `sts`, the program PROGRAM, or of `look`, the program LOOK, with the answer that its rules give.
+For n = 1, 2, .. until nothing is refused any more:
 - the nth request for memory is refused, or that and all later ones: the answer is `error memory` alone with status
   6, or the right one;
 - the nth read fails: `error file` alone with status 6;
 - the nth write fails: a beginning of the right answer with status 6, or `error file` alone where it was the journal's.
+Of `look draw` the right answer is what it draws where nothing is refused: what that should be is compared elsewhere.
 A run by workers may also say `error threads`, where what was refused was a worker's own.
 And all reads and writes take one byte at a time; or the output is full, closed, or read by nobody: status 6.
 Then the same for memory alone and for single calls, by the program CALLS (sts_refusals), which says what each answers:
@@ -27,15 +29,15 @@ import tempfile
 
 HERE = os.path.dirname(os.path.realpath(__file__))
 BUILT = os.path.join(os.path.dirname(HERE), "crates")
-PROGRAM, CALLS = (os.path.join(BUILT, name, "out", name) for name in ("sts", "sts_refusals"))
+PROGRAM, CALLS, LOOK = (os.path.join(BUILT, name, "out", name) for name in ("sts", "sts_refusals", "sts_look"))
 NO_MEMORY, NO_FILE, NO_THREADS = (b"error memory\n", 6), (b"error file\n", 6), (b"error threads\n", 6)
 
 Case = collections.namedtuple("Case", "name words text trace answer status")
 
 
 def lines(short):
-    """A text or a trace of lines, written with ' / ' between them."""
-    return "".join(f"{it.strip()}\n" for it in short.split(" / ")).encode()
+    """A text, a trace or an answer of lines, written with ' / ' between them."""
+    return "".join(f"{it}\n" for it in short.split(" / ")).encode()
 
 
 def events(short):
@@ -94,26 +96,111 @@ ROWS = {
     "many scopes": ("kid 2 1 0 0 / main 9004 2 1 0", "success 5"),
     "a binding": ("kid 2 1 0 0 / main 12 2 1 1", "success 6"),
 }
+# no task has the first number, and no scope of a text that is run with these is timed: they change nothing
 DUES = "at 0 interrupt 77 / at 3 expire 0"
+# What `look` says after these events of "a timeout", whose subtask is at its `ret` as the time is up.
+SEEN = "0*2 1*1 x0"
+EXPIRED = "task 1 under 0 in kid at 1 ready interrupted"
+SCOPE = "scope 0 of 0 awaitall opened timed"
+VIEWS = [
+    ([], f"running / steps 3 / task 0 under - in main at 2 ready / {EXPIRED} / {SCOPE} cancelled expired"),
+    (
+        ["--full"],
+        "running / steps 3 / task 0 under - in main at 2 ready /   operands /   locals /   bound / "
+        f"{EXPIRED} /   operands 0 /   locals /   bound / {SCOPE} cancelled expired",
+    ),
+    (
+        ["--each"],
+        "running / steps 0 / task 0 under - in main at 0 ready / "
+        f"after 1 step 0 / running / steps 1 / task 0 under - in main at 1 ready / {SCOPE} may-expire / "
+        "after 2 step 0 / running / steps 2 / task 0 under - in main at 2 waits join 0 / task 1 under 0 in kid at 0 ready / "
+        f"{SCOPE} may-expire / "
+        "after 3 step 1 / running / steps 3 / task 0 under - in main at 2 waits join 0 / task 1 under 0 in kid at 1 ready / "
+        f"{SCOPE} may-expire / "
+        f"after 4 expire 0 / running / steps 3 / task 0 under - in main at 2 ready / {EXPIRED} / {SCOPE} cancelled expired",
+    ),
+]
+TOLD = "running / task 0 in main, line 8: join s0 - late intr (ready) / task 1 in kid, line 3: ret (ready)"
+EXPLAINED = [
+    ("an accepted text", TIMED, "accepted", 0),
+    (
+        "two ways that differ",
+        "func main 0 / push 1 / jz x / push 2 / x: / push 3 / ret / end",
+        "refused V7 in main, line 6: push 3 / two ways meet here, or two turns of a loop, and what is known of the task differs / "
+        "operands: 0 on the way from line 3 (it was 0); 1 on the way from line 4",
+        4,
+    ),
+    (
+        "too many steps",
+        "func main 0 / push 499 / times 499 / push 2001 / times 2001 / next / next / push 0 / push 0 / ret / end",
+        "refused V17 in main, at its end / some path takes more than 1000000 steps / "
+        "1000001 steps on a path that ends here, line 10: ret / adds 1, line 2: push 499 / adds 1, line 3: times 499 / "
+        "adds 499, line 4: push 2001 / adds 499, line 5: times 2001 / adds 998499, line 6: next / adds 499, line 7: next / "
+        "adds 1, line 8: push 0 / adds 1, line 9: push 0 / adds 1, its last step",
+        4,
+    ),
+    (
+        "a word that is missing",
+        "func main 0 / push 1 / case s1 yes / end",
+        "error A4, line 3: case s1 yes / an operand is missing, of another kind, left over or badly spelled / "
+        "at case s1 yes []: wanted is the label for failed",
+        3,
+    ),
+]
 UNCHANGED = b"refused, unchanged\n"
 FROM_HERE, TO_HERE = b"from here\n", b"to here\n"
 
 
+def runs(name, text, answer, status):
+    """A run by workers with a journal and without one, and so with events from outside, in the place of a trace."""
+    for journal, said in ([], ""), (["--trace", "journal"], " with a journal"):
+        for workers in ("1", "3"):
+            words = ["run", "text", "--workers", workers, *journal]
+            yield Case(f"run by {workers}{said}: {name}", words, lines(text), None, answer, status)
+        words = ["run", "text", "--workers", "2", "--outside", "trace", *journal]
+        yield Case(f"run with outside events{said}: {name}", words, lines(text), lines(DUES), answer, status)
+
+
 def cases():
-    """Each command on the texts and traces that fit it."""
+    """Each command of `sts` on the texts and traces that fit it."""
     for name, text, trace, answer, status in RUNS:
         for mode in ("plain", "replay"):
             yield Case(f"{mode}: {name}", [mode, "text", "trace"], lines(text), events(trace), lines(answer), status)
         yield Case(f"joined: {name}", [], None, lines(text) + b"%\n" + events(trace), lines(answer), status)
         if name in BUDGETS:
-            for workers in ("1", "3"):
-                words = ["run", "text", "--workers", workers, "--trace", "journal"]
-                yield Case(f"run by {workers}: {name}", words, lines(text), None, lines(BUDGETS[name]) + lines(answer), status)
+            yield from runs(name, text, lines(BUDGETS[name]) + lines(answer), status)
     for name, text, answer, status in VERDICTS:
         yield Case(f"verify: {name}", ["verify", "text"], lines(text), None, lines(answer), status)
     yield Case("list", ["list", "text"], LISTED.encode(), None, LISTED.encode(), 0)
+    words = ["run", "text", "--workers", "2"]
+    yield Case("run: a way back", words, lines(VERDICTS[2][1]), None, lines(VERDICTS[2][2]), 4)
+    faulty, answer = b"at 0 stop 1\n", b"error T1 line 1\n"
+    yield Case("run: an outside text with a fault", [*words, "--outside", "trace"], lines(WORK), faulty, answer, 3)
     for name, words, status in (("help", ["--help"], 0), ("an unknown command", ["plane", "text"], 2), ("a missing file", ["replay", "text"], 2)):
         yield Case(name, words, None, None, b"", status)
+
+
+def looks(look):
+    """Each command of `look`, on a run with a scope whose time is up, and on texts with a verdict of each kind."""
+    text, trace = lines(TIMED), events(SEEN)
+    for words, answer in VIEWS:
+        yield Case(" ".join(["view", *words]), ["view", "text", "trace", *words], text, trace, lines(answer), 5)
+    for name, of_text, answer, status in EXPLAINED:
+        yield Case(f"explain: {name}", ["explain", "text"], lines(of_text), None, lines(answer), status)
+    yield Case("explain: a run", ["explain", "text", "trace"], text, trace, lines(TOLD), 5)
+    yield Case("draw", ["draw", "text", "trace"], text, trace, picture(look, text, trace), 5)
+    for name, words, status in (("help", ["--help"], 0), ("an unknown command", ["veiw", "text"], 2), ("a missing file", ["draw", "text"], 2)):
+        yield Case(f"look: {name}", words, None, None, b"", status)
+
+
+def picture(look, text, trace):
+    """What `look draw` writes of a text and a trace where nothing is refused; if that is no picture, what it never writes."""
+    with tempfile.TemporaryDirectory() as folder:
+        case = Case("draw", ["draw", "text", "trace"], text, trace, None, 5)
+        refusing = Refusing(look, "", folder)
+        refusing.put(case)
+        (written, _), _ = refusing.run(case, "")
+        return written if written.startswith(b"<svg") else b"no picture\n"
 
 
 def routines(text):
@@ -213,22 +300,21 @@ class Refusing:
         return (done.stdout, done.returncode), refused
 
 
-def is_right(kind, answer, right, by_workers):
-    """Is it an answer to a run in which something of this kind was refused?"""
-    if kind.startswith("memory"):
-        return answer in (NO_MEMORY, right, *([NO_THREADS] if by_workers else []))
+def is_right(kind, answer, case):
+    """Is it an answer to a case in which something of this kind was refused?"""
+    if kind == "memory":
+        return answer in (NO_MEMORY, (case.answer, case.status), *([NO_THREADS] if case.words[:1] == ["run"] else []))
     if kind == "read":
         return answer == NO_FILE
-    return (by_workers and answer == NO_FILE) or answer[1] == 6 and right[0].startswith(answer[0])
+    return ("journal" in case.words and answer == NO_FILE) or answer[1] == 6 and case.answer.startswith(answer[0])
 
 
 def refusals(refusing, case, kind, later=""):
     """Yields for each n whether the answer is right where the nth request of this kind is refused."""
-    right, by_workers, n = (case.answer, case.status), case.words[:1] == ["run"], 0
-    while True:
-        n += 1
+    for n in itertools.count(1):
         answer, refused = refusing.run(case, f"{kind}:{n}{later}")
-        yield (answer == right) if not refused else is_right(kind, answer, right, by_workers), f"{kind}:{n}{later}", answer
+        right = is_right(kind, answer, case) if refused else answer == (case.answer, case.status)
+        yield right, f"{kind}:{n}{later}", answer
         if not refused:
             return
 
@@ -303,25 +389,27 @@ def tried_call(refusing, call):
 
 def answered(programs, library):
     """Yields for each case, and each call, its name, how many answers are right, and what was answered wrongly; as many
-    at a time as there are processors."""
+    at a time as there are processors for this script."""
 
     def outcome(program, tries, case):
         with tempfile.TemporaryDirectory() as folder:
             answers = list(tries(Refusing(program, library, folder), case))
         return case.name, sum(right for right, _, _ in answers), [(what, answer) for right, what, answer in answers if not right]
 
-    with concurrent.futures.ThreadPoolExecutor(os.cpu_count()) as pool:
-        begun = [pool.submit(outcome, programs[0], tried, it) for it in cases()]
-        begun += [pool.submit(outcome, programs[1], tried_call, it) for it in calls()]
+    program, single, look = programs
+    with concurrent.futures.ThreadPoolExecutor(len(os.sched_getaffinity(0))) as pool:
+        begun = [pool.submit(outcome, program, tried, it) for it in cases()]
+        begun += [pool.submit(outcome, single, tried_call, it) for it in calls()]
+        begun += [pool.submit(outcome, look, tried, it) for it in looks(look)]
         for it in begun:
             yield it.result()
 
 
 def main():
-    programs = [*sys.argv[1:], *(PROGRAM, CALLS)[len(sys.argv) - 1 :]]
+    programs = [*sys.argv[1:], *(PROGRAM, CALLS, LOOK)[len(sys.argv) - 1 :]]
     for program in programs:
         if not os.access(program, os.X_OK):
-            print(f"memory.py: no program at {program}: ./sts builds the first, rt run in crates/sts_refusals the other", file=sys.stderr)
+            print(f"memory.py: no program at {program}: ./sts, ./look, and rt run in crates/sts_refusals build them", file=sys.stderr)
             return 2
     if not compiler():
         print("memory.py: NOT RUN, NOTHING WAS REFUSED: there is no C compiler (cc, gcc or clang)", file=sys.stderr)
