@@ -1,11 +1,12 @@
 #!/usr/bin/env python3
-"""Gives the program readers that never end and writers that fail.  usage: streams.py [PROGRAM]
+"""Gives the programs readers that never end and writers that fail.  usage: streams.py [PROGRAM [LOOK]]
 
-Each run has 64 MiB of addresses and a minute. A text without end is too long (`error A8 line 0`, status 3): no more of it
-is read than a text may have and a byte. A trace, an outside text or an input without end is read until there is no memory
-(`error memory`, status 6). Where standard output, or standard error for help and mistakes, is full, closed or read by
-nobody, the status is 6, and the journal of a run is whole. A journal that can't be made or written is told (`error file`,
-status 6); one of a run that never begins is made and stays empty, but where a file that is read first can't be.
+PROGRAM is `sts`, LOOK is `look`; each of their commands is tried. Each run has 64 MiB of addresses and a minute. A text
+without end is too long (`error A8`, status 3): no more of it is read than a text may have and a byte. A trace, an outside
+text or an input without end is read until there is no memory (`error memory`, status 6). Where standard output, or
+standard error for help and mistakes, is full, closed or read by nobody, the status is 6, and the journal of a run is
+whole. A journal that can't be made or written is told (`error file`, status 6); one of a run that never begins is made
+and stays empty, but where a file that is read first can't be.
 The last line is `N passed, M failed`, of runs.
 """
 import contextlib
@@ -17,10 +18,13 @@ import sys
 import tempfile
 
 ROOT = os.path.dirname(os.path.dirname(os.path.realpath(__file__)))
-PROGRAM = os.path.join(ROOT, "crates", "sts", "out", "sts")
-SUM, TRACE = (os.path.join(ROOT, "examples", name) for name in ("sum.sts", "sum.trace"))
+PROGRAM, LOOK = (os.path.join(ROOT, "crates", name, "out", name) for name in ("sts", "sts_look"))
+SUM, TRACE, DEADLINE, DUE = (
+    os.path.join(ROOT, "examples", name) for name in ("sum.sts", "sum.trace", "deadline.sts", "deadline.outside")
+)
 ADDRESSES, SECONDS = 64 << 20, 60
 TOO_LONG, NO_MEMORY, NO_FILE = ("error A8 line 0\n", 3), ("error memory\n", 6), ("error file\n", 6)
+EXPLAINED_TOO_LONG = ("error A8\nthe text has more than 1048576 bytes\n", 3)
 FAILED = ("", 6)
 END = ("success 50\nsteps 24\n", 0)
 REFUSED = ("func main 0\nx:\njmp x\nend\n", ("refused V4 in main at 0: jmp L0\n", 4))
@@ -56,13 +60,26 @@ def without_end(line):
         endless.stdout.close()
 
 
-def unended(program):
+def looks(text, trace):
+    """The commands of `look` on a text and a trace."""
+    files = [text, trace]
+    return [["view", *files], ["view", *files, "--each", "--full"], ["explain", text], ["explain", *files], ["draw", *files]]
+
+
+def unended(program, look):
     """Yields for each reader without end what it is, what is answered, and what is right."""
     workers = ["--workers", "2"]
     for file, line in (("/dev/zero", "push 7"), ("/dev/stdin", "push 7"), ("/dev/stdin", "func main 0"), ("/dev/stdin", "")):
         for words in (["verify", file], ["list", file], ["plain", file, TRACE], ["replay", file, TRACE], ["run", file, *workers]):
             with without_end(line) as given:
                 yield f"{line!r} as {words}", answer(program, words, given), TOO_LONG
+        for words in looks(file, TRACE):
+            with without_end(line) as given:
+                yield f"{line!r} as {words}", answer(look, words, given), EXPLAINED_TOO_LONG if "explain" in words else TOO_LONG
+    for file, line in (("/dev/zero", "step 0"), ("/dev/stdin", "step 0")):
+        for words in (it for it in looks(SUM, file) if file in it):
+            with without_end(line) as given:
+                yield f"{line!r} as {words}", answer(look, words, given), NO_MEMORY
     for file, line in (("/dev/zero", "step 0"), ("/dev/stdin", "step 0"), ("/dev/stdin", "at 0 interrupt 0")):
         for words in (["plain", SUM, file], ["replay", SUM, file], ["run", SUM, *workers, "--outside", file]):
             with without_end(line) as given:
@@ -86,18 +103,21 @@ def broken(stream):
         yield "read by nobody", {stream: nobody}
 
 
-def unwritten(program, folder):
+def unwritten(program, look, folder):
     """Yields the same for each stream that fails, and for what is left of a journal."""
-    journal = os.path.join(folder, "journal")
-    for words in (["verify", SUM], ["list", SUM], ["plain", SUM, TRACE], ["replay", SUM, TRACE], []):
-        for what, around in broken("stdout"):
-            yield f"{words}, output {what}", answer(program, words, **around), FAILED
+    journal, workers = os.path.join(folder, "journal"), ["--workers", "2"]
+    printing = [["verify", SUM], ["list", SUM], ["plain", SUM, TRACE], ["replay", SUM, TRACE], []]
+    runs = [["run", SUM, *workers], ["run", DEADLINE, *workers, "--outside", DUE]]
     for what, around in broken("stdout"):
-        yield f"a run, output {what}", answer(program, ["run", SUM, "--workers", "2", "--trace", journal], **around), FAILED
+        for name, commands in (program, [*printing, *runs]), (look, looks(SUM, TRACE)):
+            for words in commands:
+                yield f"{words}, output {what}", answer(name, words, **around), FAILED
+        yield f"a run, output {what}", answer(program, ["run", SUM, *workers, "--trace", journal], **around), FAILED
         yield f"its journal, output {what}", answer(program, ["replay", SUM, journal]), END
-    for words in (["--help"], ["run", "--help"], ["plane"]):
-        for what, around in broken("stderr"):
-            yield f"{words}, errors {what}", answer(program, words, **around), FAILED
+    for what, around in broken("stderr"):
+        for name, told in (program, ["run", "plane"]), (look, ["draw", "veiw"]):
+            for words in (["--help"], [told[0], "--help"], [told[1]]):
+                yield f"{words}, errors {what}", answer(name, words, **around), FAILED
 
 
 def journals(program, folder):
@@ -118,13 +138,15 @@ def journals(program, folder):
 
 
 def main():
-    program = os.path.realpath(sys.argv[1] if len(sys.argv) > 1 else PROGRAM)
-    if not os.access(program, os.X_OK):
-        print(f"streams.py: no program at {program}: ./sts builds it", file=sys.stderr)
-        return 2
+    program, look = map(os.path.realpath, [*sys.argv[1:], *(PROGRAM, LOOK)[len(sys.argv) - 1 :]])
+    for it in (program, look):
+        if not os.access(it, os.X_OK):
+            print(f"streams.py: no program at {it}: ./sts and ./look build them", file=sys.stderr)
+            return 2
     passed = failed = 0
     with tempfile.TemporaryDirectory() as folder:
-        for what, said, right in itertools.chain(unended(program), unwritten(program, folder), journals(program, folder)):
+        tried = itertools.chain(unended(program, look), unwritten(program, look, folder), journals(program, folder))
+        for what, said, right in tried:
             passed, failed = passed + (said == right), failed + (said != right)
             if said != right:
                 print(f"{what}: {said}, and not {right}", file=sys.stderr)
