@@ -1,13 +1,17 @@
 #!/usr/bin/env python3
-"""Shows one text for each cause, fault and check to `look`, and keeps the table of what it says of them.
+"""Shows one text for each cause, fault and check to `look`, and each example, and keeps the tables of what it says of them.
 
     checks/each_cause.py [LOOK [STS]]          compares; the last line is `N passed, M failed`
     checks/each_cause.py write [LOOK [STS]]    writes docs/CAUSES.md
 
 Of each text: `explain` names the code that `sts` prints, with its status; `view` begins with what `sts plain` prints, with
-its status; `draw` is a well-formed picture, or says of the fault what `view` says; and docs/CAUSES.md shows all of it.
+its status; `draw` is a well-formed picture, or says of the fault what `view` says. Of each cause V1 to V20: `view` and
+`explain` with a trace say what the plain machine comes to, by the rules of docs/BEHAVIOUR.md. Of each example: `view`
+begins with what examples/README.md shows, `explain` says that it is accepted, and with the trace how it ends, with no task
+that lives. And docs/CAUSES.md shows all of it.
 What the sentences should be is compared elsewhere, with rows that were written by hand (crates/sts_rows_explain).
 """
+import collections
 import os
 import re
 import subprocess
@@ -15,21 +19,34 @@ import sys
 import tempfile
 import xml.dom.minidom
 
-from documents import read
-from looks import LOOK, STS
+from documents import STATUS, read, shown_commands
+from looks import LOOK, STS, place_words
 from write_trace import trace
 
 PAGE = "docs/CAUSES.md"
 HEAD = """# Each cause and fault, shown
 
 What `look explain` prints of one text for each cause of a refusal, each fault of a text or a trace, and each fault of a run;
-beside it the status of `look view` and `look draw` and what they begin with. Lines are parted by ` / `. This table is written
-by `checks/each_cause.py write`, and the gate compares it with what the program prints. What the words mean is in
-[LOOK.md](LOOK.md), the causes are in [VERIFIER.md](VERIFIER.md), the faults in [LANGUAGE.md](LANGUAGE.md) and
-[BEHAVIOUR.md](BEHAVIOUR.md#misuse).
+beside it the status of `look view` and `look draw` and what they begin with. Lines are parted by ` / `; of an explanation of
+more than seven lines the first six stand here, and `..` for the others. Traces are written short: `0*5` is five lines
+`step 0`, and `1..3*2` stands for `1*2 2*2 3*2`. These tables are written by `checks/each_cause.py write`, and the gate compares them with what the program prints.
+What the words mean is in [LOOK.md](LOOK.md), the causes are in [VERIFIER.md](VERIFIER.md), the faults in
+[LANGUAGE.md](LANGUAGE.md) and [BEHAVIOUR.md](BEHAVIOUR.md#misuse).
+
+- Of V1 to V20 `explain` has the text alone, `view` and `draw` the trace too: the plain machine runs refused programs, and the
+  trace brings it to the fault, or where there is none to the end of the root, or round the loop of V4 once more.
+- The runs of V17 to V20 have more columns and lanes than a browser shows: `draw` has the beginning that stands beside it.
+- A10 and T4 have no row. They are want of memory, which no text or trace brings about at will: each command then prints
+  `error memory` alone, with status 6, as `checks/memory.py` has it with each request for memory refused.
 
 | Code | Text | Trace | `look explain` | `look view` | `look draw` |
 |---|---|---|---|---|---|
+"""
+EXAMPLES_HEAD = """
+Each of the [examples](../examples/README.md), with its trace:
+
+| Example | `look view` | `look explain FILE` | `look explain FILE TRACE` | `look draw` |
+|---|---|---|---|---|
 """
 SEVEN = "`func main 0 / push 7 / ret / end`"
 KID = "func kid 0 / push 0 / ret / end"
@@ -54,6 +71,35 @@ IN_FULL = {
     "A9 C7": f"`{KID} / {KID} / func main 0 / ret / end`",
 }
 TRACES = {"T1": "Step 0\n", "T2": "step 01\n", "T3": "step 0"}
+# How the plain machine runs the text of each cause, worked out by hand: a trace in short notation, and what it comes to.
+RUNS = {
+    "V1": ("0*1", "fault Operand task 0 in main at 0 / steps 1"),
+    "V2": ("0*33", "fault Operand task 0 in main at 32 / steps 33"),
+    "V3": ("0*2", "fault Operand task 0 in main at 1 / steps 2"),
+    "V4": ("0*3", "running / steps 3"),
+    "V5": ("0*5", "success 0 / steps 5"),
+    "V6": ("0*18", "fault Operand task 0 in main at 17 / steps 18"),
+    "V7": ("0*5", "success 3 / steps 5"),
+    "V8": ("0*3", "success 2 / steps 3"),
+    "V9": ("0*1", "fault Operand task 0 in main at 0 / steps 1"),
+    "V10": ("0*2", "fault Operand task 0 in main at 1 / steps 2"),
+    "V11": ("0*2 1*1", "fault WrongThread task 1 in kid at 0 / steps 3"),
+    "V12": ("0*4", "success 1 / steps 4"),
+    "V13": ("0*3", "fault Structure task 0 in main at 2 / steps 3"),
+    "V14": ("0*34", "fault Operand task 0 in main at 33 / steps 34"),
+    "V15": ("0*1", "fault Unbound task 0 in main at 0 / steps 1"),
+    "V16": ("0*2", "fault Operand task 0 in main at 1 / steps 2"),
+    # 2 steps, 499 turns of 2,004, and 3 steps
+    "V17": ("0*1000001", "success 0 / steps 1000001"),
+    # 3 steps, 6 turns of 20,003 with 10,000 forks, 2 steps, 5,535 forks with a next each, and the fork that finds no room
+    "V18": ("0*131094", "fault Operand task 0 in main at 5 / steps 131094"),
+    # 5 steps, 8,192 forks with a next each; 65,535 scopes of subtasks are open as the last subtask's eighth finds no room
+    "V19": ("0*16389 1..8192*8", "fault Operand task 8192 in a at 7 / steps 81925"),
+    # the same forks; each subtask does its 26 steps, all their bindings being open after the first 16, and the root 5 more
+    "V20": ("0*16389 1..8192*16 1..8192*10 0*5", "success 1 / steps 229386"),
+}
+# What is drawn of the runs whose pictures would be too large.
+BEGINNINGS = {"V17": "0*8", "V18": "0*9", "V19": "0*7 1*8", "V20": "0*7 1*16"}
 # Faults of a run: a text, and a trace in short notation.
 FAULTS = {
     "Operand": ("`func main 0 / pop / push 0 / ret / end`", "0*1"),
@@ -65,10 +111,19 @@ FAULTS = {
 }
 
 
+Case = collections.namedtuple("Case", "code text_name text trace_name trace drawn")
+
+
 def spelled(words):
     """Returns the bytes of a text like "`func main 0` / 33 times `push 1` / `ret / end`"."""
     parts = re.findall(r"(?:(\d+) times )?`([^`]*)`", words)
     return "".join(f"{line}\n" for times, code in parts for line in code.split(" / ") * int(times or 1)).encode()
+
+
+def events(short):
+    """Returns the bytes of a trace that is written short, where `1..3*2` stands for `1*2 2*2 3*2`."""
+    spans = re.compile(r"(\d+)\.\.(\d+)(\*\d+)")
+    return trace(spans.sub(lambda it: " ".join(f"{task}{it[3]}" for task in range(int(it[1]), int(it[2]) + 1)), short)).encode()
 
 
 def refusals():
@@ -78,16 +133,19 @@ def refusals():
 
 
 def cases():
-    """Yields each code, what the table calls its text, the text's bytes, what the table calls its trace, and the trace's."""
+    """Yields each code, what the table calls its text and the text's bytes, the same of its trace, and of the trace that is
+    drawn where this is another one, a beginning."""
     for code, text in refusals():
-        yield code, text, spelled(text), "", b""
+        short, drawn = RUNS[code][0], BEGINNINGS.get(code, "")
+        yield Case(code, text, spelled(text), f"`{short}`", events(short), drawn)
     for code in sorted([*IN_WORDS, *IN_FULL], key=lambda it: [int(n) for n in re.findall(r"\d+", it)]):
         name, text = IN_WORDS.get(code) or (IN_FULL[code], spelled(IN_FULL[code]))
-        yield code, name, text, "", b""
-    for code, events in TRACES.items():
-        yield code, SEVEN, spelled(SEVEN), f"`{events.rstrip()}`" + ("" if events[-1] == "\n" else " without newline"), events.encode()
-    for code, (text, events) in FAULTS.items():
-        yield code, text, spelled(text), f"`{events}`", trace(events).encode()
+        yield Case(code, name, text, "", b"", "")
+    for code, lines in TRACES.items():
+        name = f"`{lines.rstrip()}`" + ("" if lines[-1] == "\n" else " without newline")
+        yield Case(code, SEVEN, spelled(SEVEN), name, lines.encode(), "")
+    for code, (text, short) in FAULTS.items():
+        yield Case(code, text, spelled(text), f"`{short}`", events(short), "")
 
 
 def says(*words):
@@ -102,30 +160,86 @@ def is_picture(printed):
         return False
 
 
-def looked_at(look, sts, folder, case):
-    """Returns the table's line of a case, and yields nothing: the comparisons are in the list."""
-    code, text_name, text, trace_name, events = case
-    file, steps = (os.path.join(folder, name) for name in ("text", "trace"))
-    for path, content in (file, text), (steps, events):
-        with open(path, "wb") as out:
-            out.write(content)
-    is_of_run = trace_name != ""
-    explained = says(look, "explain", file, *([steps] if is_of_run else []))
-    viewed, drawn = (says(look, word, file, steps) for word in ("view", "draw"))
-    told, plain = says(sts, *(("plain", file, steps) if is_of_run else ("verify", file))), says(sts, "plain", file, steps)
-    picture = is_picture(drawn[1])
-    right = [
-        (f"explain {code}, its status", explained[0] == told[0]),
-        (f"explain {code}, its code", code.split(" ")[0] in explained[1].split("\n")[0].replace(",", "").split(" ")),
-        (f"{code} is what sts prints", code in told[1]),
-        (f"view {code}", viewed[0] == plain[0] and viewed[1].startswith(plain[1])),
-        (f"draw {code}", drawn[0] == viewed[0] and (picture if plain[0] in (0, 1, 5) else drawn == viewed)),
+def kept(folder, name, content):
+    """Returns the path of a file in the folder that has these bytes now."""
+    path = os.path.join(folder, name)
+    with open(path, "wb") as file:
+        file.write(content)
+    return path
+
+
+def code_words(lines, most):
+    """Returns lines as a cell has them: all, or where there are more than so many, all but one of these and `..`."""
+    shown = lines if len(lines) <= most else [*lines[: most - 1], ".."]
+    return " / ".join(f"`{it}`" for it in shown).replace("|", "\\|")
+
+
+def drawn_words(status, printed):
+    return f"{status}: a picture" if is_picture(printed) else f"{status}: the same"
+
+
+def run_right(look, case, file, steps, viewed):
+    """Returns of a cause what is compared of its run, and whether it is as it was worked out."""
+    ends = RUNS[case.code][1].split(" / ")
+    fault = re.fullmatch(r"(fault \w+) (task \d+) in (\S+) at (\d+)", ends[0])
+    told = f"{fault[1]}, {fault[2]} in {place_words(case.text.decode(), fault[3], int(fault[4]))}" if fault else ends[0]
+    status, explained = says(look, "explain", file, steps)
+    by_rules = STATUS[ends[0].split(" ")[0]]
+    return [
+        (f"view {case.code}, by the rules", viewed[0] == by_rules and viewed[1].split("\n")[:2] == ends),
+        (f"explain {case.code} with its trace", status == by_rules and explained.split("\n")[0] == told),
     ]
-    lines = explained[1].rstrip("\n").replace("|", "\\|").split("\n")
-    said = " / ".join(f"`{it}`" for it in (lines if len(lines) < 8 else [*lines[:6], ".."]))
-    seen = f"{viewed[0]}: `{viewed[1].split(chr(10))[0]}`"
-    shown = f"{drawn[0]}: a picture" if picture else f"{drawn[0]}: the same"
-    return f"| {code} | {text_name} | {trace_name} | {said} | {seen} | {shown} |\n", right
+
+
+def looked_at(look, sts, folder, case):
+    """Returns the table's line of a case, and what is compared of it."""
+    file, steps = kept(folder, "text", case.text), kept(folder, "trace", case.trace)
+    beginning = kept(folder, "beginning", events(case.drawn) if case.drawn else case.trace)
+    is_of_run = case.trace_name != "" and case.code not in RUNS
+    explained = says(look, "explain", file, *([steps] if is_of_run else []))
+    viewed, drawn = says(look, "view", file, steps), says(look, "draw", file, beginning)
+    plain, begun = says(sts, "plain", file, steps), says(sts, "plain", file, beginning)
+    told = plain if is_of_run else says(sts, "verify", file)
+    right = [
+        (f"explain {case.code}, its status", explained[0] == told[0]),
+        (f"explain {case.code}, its code", case.code.split(" ")[0] in explained[1].split("\n")[0].replace(",", "").split(" ")),
+        (f"{case.code} is what sts prints", case.code in told[1]),
+        (f"view {case.code}", viewed[0] == plain[0] and viewed[1].startswith(plain[1])),
+        (f"draw {case.code}", drawn[0] == begun[0] and (is_picture(drawn[1]) if begun[0] in (0, 1, 5) else drawn == viewed)),
+    ]
+    if case.code in RUNS:
+        right += run_right(look, case, file, steps, viewed)
+    said, seen = code_words(explained[1].rstrip("\n").split("\n"), 7), code_words(plain[1].rstrip("\n").split("\n"), 2)
+    shown = drawn_words(*drawn) + (f", of `{case.drawn}`" if case.drawn else "")
+    return f"| {case.code} | {case.text_name} | {case.trace_name} | {said} | {viewed[0]}: {seen} | {shown} |\n", right
+
+
+def example_at(look, text, steps, printed):
+    """Returns the line of an example, of which this is printed by `plain`, and what is compared of it."""
+    root, name = os.path.dirname(os.path.dirname(os.path.realpath(__file__))), os.path.basename(text)[:-4]
+    file, steps = os.path.join(root, text), os.path.join(root, steps)
+    viewed, drawn = (says(look, word, file, steps) for word in ("view", "draw"))
+    accepted, told = says(look, "explain", file), says(look, "explain", file, steps)
+    status, ends = STATUS[printed.split(" ")[0]], printed.split(" / ")
+    right = [
+        (f"view {name}", viewed[0] == status and viewed[1].split("\n")[:2] == ends),
+        (f"explain {name}", accepted == (0, "accepted\n")),
+        (f"explain {name} with its trace", told == (status, f"{ends[0]}\n")),
+        (f"draw {name}", drawn[0] == status and is_picture(drawn[1])),
+    ]
+    said = [f"{it[0]}: {code_words(it[1].rstrip(chr(10)).split(chr(10)), 7)}" for it in (accepted, told)]
+    seen = f"{viewed[0]}: {code_words(viewed[1].split(chr(10))[:2], 2)}"
+    return f"| [{name}](../{text}) | {seen} | {said[0]} | {said[1]} | {drawn_words(*drawn)} |\n", right
+
+
+def page_of(look, sts):
+    """Returns the page, and what was compared for it."""
+    with tempfile.TemporaryDirectory() as folder:
+        seen = [looked_at(look, sts, folder, case) for case in cases()]
+    shown = [it for it in shown_commands("examples/README.md") if it[0] == "plain"]
+    examples = [example_at(look, text, steps, printed) for _, text, steps, printed in shown]
+    page = HEAD + "".join(line for line, _ in seen) + EXAMPLES_HEAD + "".join(line for line, _ in examples)
+    return page, [it for _, answers in [*seen, *examples] for it in answers]
 
 
 def main():
@@ -136,13 +250,11 @@ def main():
         if not os.access(program, os.X_OK):
             print(f"each_cause.py: no program at {program}: ./sts and ./look build them", file=sys.stderr)
             return 2
-    with tempfile.TemporaryDirectory() as folder:
-        seen = [looked_at(look, sts, folder, case) for case in cases()]
-    page = HEAD + "".join(line for line, _ in seen)
+    page, right = page_of(look, sts)
     if is_writing:
         with open(os.path.join(os.path.dirname(os.path.dirname(os.path.realpath(__file__))), PAGE), "w") as file:
             file.write(page)
-    right = [it for _, answers in seen for it in answers] + [(f"{PAGE} shows it", page == read(PAGE))]
+    right.append((f"{PAGE} shows it", page == read(PAGE)))
     for what, holds in right:
         if not holds:
             print(f"{what}: not what is expected", file=sys.stderr)

@@ -5,6 +5,8 @@
   text what `explain` prints;
 - `explain` of each example says that it is accepted;
 - `view` of each beginning of each example's trace begins with what `plain` of `sts` prints, with its status;
+- `explain` of each of these says with that status how the run stands, and of each task that lives in `view`, and of no
+  other, the line of the text that its place is, and for which living subtasks it waits;
 - `view --each` of the whole trace is `view` of each beginning in turn, behind a line `after N EVENT` for each event,
   with `--full` and without;
 - `draw` of each example is well formed, has the status and the heading of `plain`, a lane for each task and a column
@@ -29,6 +31,7 @@ LOOK, STS = (os.path.join(ROOT, "crates", name, "out", name) for name in ("sts_l
 SHOWN = re.compile(r"After the first (\d+) events of \[(\w+)\].*?:\n\n((?:    .*\n)+)")
 TOLD = re.compile(r"Told after the first (\d+) events of \[(\w+)\].*?:\n\n((?:    .*\n)+)")
 EXPLAINED = re.compile(r"\n\n((?:    .*\n)+)\n`explain` prints:\n\n((?:    .*\n)+)")
+LIVING = re.compile(r"task (\d+) under (\S+) in (\S+) at (\d+) (ready|waits (?:join|close) (\d+))(?: interrupted)?")
 
 
 def says(*words):
@@ -51,11 +54,42 @@ def parts(printed):
     return [pieces[0]] + pieces[2::2], pieces[1::2]
 
 
+def instructions(source):
+    """Returns the number and the words of the line of each instruction of each function of a text, by the function's name."""
+    found, name = {}, ""
+    for number, line in enumerate(source.split("\n"), 1):
+        words = line.split(";")[0].split()
+        if words[:1] == ["func"]:
+            name = words[1]
+            found[name] = []
+        elif words and words[0] not in ("end", "profile") and not words[0].endswith(":"):
+            found[name].append((number, " ".join(words)))
+    return found
+
+
+def place_words(source, name, pc):
+    """Returns how a place of a function is told by the lines of the text."""
+    lines = instructions(source)[name]
+    return f"{name}, line {lines[pc][0]}: {lines[pc][1]}" if pc < len(lines) else f"{name}, at its end"
+
+
+def by_lines(source, viewed):
+    """Returns what `explain` has to print of a run without a fault, from the text and what `view` prints of it."""
+    first, *rest = viewed.split("\n")
+    living = [found.groups() for found in map(LIVING.fullmatch, rest) if found]
+    told = [first]
+    for task, _, name, pc, stand, scope in living:
+        waits = "".join(f" {other}" for other, under, *_ in living if under == scope)
+        stands = f"{stand} for{waits}" if scope else stand
+        told.append(f"task {task} in {place_words(source, name, int(pc))} ({stands})")
+    return "".join(f"{line}\n" for line in told)
+
+
 def example(look, sts, folder, text):
     """Yields each comparison of an example, and whether it holds."""
     name, trace = os.path.basename(text), text[:-4] + ".trace"
-    with open(trace) as file:
-        events = file.readlines()
+    with open(text) as file, open(trace) as steps:
+        source, events = file.read(), steps.readlines()
     for words in ([], ["--full"]):
         each, heads = parts(says(look, "view", text, trace, "--each", *words)[1])
         right = [f"after {n} {event.rstrip()}" for n, event in enumerate(events, 1)]
@@ -65,6 +99,8 @@ def example(look, sts, folder, text):
             ended, plain = says(sts, "plain", text, path)
             yield f"{name} after {count}", status == ended and printed.startswith(plain)
             yield f"{name} after {count}, each", each[count:count + 1] == [printed]
+            if not words:
+                yield f"{name} after {count}, by lines", says(look, "explain", text, path) == (status, by_lines(source, printed))
 
 
 def of_class(picture, name):
