@@ -56,6 +56,16 @@ FAN_OUT = lines(
 )
 
 
+# Forty subtasks of 23,436 local steps each, which several workers can do at once. In FAN_OUT they gain nothing: its
+# scopes come one after the other, each with one short subtask.
+FAN_OF_LOOPS = lines(
+    "func work 1 / push 8 / times 8 / push 266 / times 266 / load 0 / push 3 / mul / push 1 / add / store 0 / "
+    "load 0 / push 7 / lt / pop / next / next / load 0 / ret / end / func main 0 / open s0 awaitall / push 40 / times 40 / "
+    "load 0 / push 1 / add / dup / store 0 / fork s0 work _ / next / join s0 - - intr / total s0 / close s0 / ret / "
+    "intr: / push 0 / close s0 / fail / end"
+)
+
+
 def fan_out_trace():
     """Each subtask does its two steps as soon as it is forked."""
     steps = ["step 0\n" * 2]
@@ -221,6 +231,7 @@ def main():
     write(folder, "loop.sts", LOOP)
     write(folder, "loop.trace", "step 0\n" * 1_000_000)
     write(folder, "fan_out.sts", FAN_OUT)
+    write(folder, "fan_of_loops.sts", FAN_OF_LOOPS)
     write(folder, "fan_out.trace", fan_out_trace())
     for name, make, least in GROWTH:
         for times in (1, 2, 4, 8):

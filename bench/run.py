@@ -1,10 +1,14 @@
 #!/usr/bin/env python3
-"""Prints a table of the throughputs of `sts`, each the least time of several runs.  usage: run.py [PATH_OF_sts]  (RUNS=9)
+"""Prints tables of the throughputs of `sts`, each the least time of several runs.  usage: run.py [PATH_OF_sts]  (RUNS=9)
 
-Rates are of the whole process less the time that a text of one function takes.
+ONLY=workers prints one of the tables: texts, machines, workers, growth or labels. Rates are of the whole process less the
+time that a text of one function takes. Runs by workers are taken in turns, one by each number of workers after the other,
+and have no journal; their median stands there too. Few runs of them mislead where processors are shared: to take figures
+like those of README.md, RUNS=300 ONLY=workers on a machine that does nothing else.
 """
 import itertools
 import os
+import statistics
 import subprocess
 import sys
 import tempfile
@@ -12,17 +16,22 @@ import time
 
 HERE = os.path.dirname(os.path.abspath(__file__))
 RUNS = int(os.environ.get("RUNS", "9"))
+WORKERS = (1, 2, 4)
+
+
+def once(command):
+    """How long one run takes, and what it prints."""
+    start = time.perf_counter()
+    done = subprocess.run(command, stdout=subprocess.PIPE, stderr=subprocess.PIPE)
+    seconds = time.perf_counter() - start
+    if done.returncode not in (0, 1):
+        raise SystemExit(f"{' '.join(command)}: status {done.returncode}: {done.stdout[:200]!r}")
+    return seconds, done.stdout
 
 
 def least_seconds(command):
-    times = []
-    for _ in range(RUNS):
-        start = time.perf_counter()
-        done = subprocess.run(command, stdout=subprocess.PIPE, stderr=subprocess.PIPE)
-        times.append(time.perf_counter() - start)
-        if done.returncode not in (0, 1):
-            raise SystemExit(f"{' '.join(command)}: status {done.returncode}: {done.stdout[:200]!r}")
-    return min(times), done.stdout
+    times, printed = zip(*(once(command) for _ in range(RUNS)))
+    return min(times), printed[-1]
 
 
 # Run by itself, as a child begins with the memory of the process that started it.
@@ -47,21 +56,72 @@ def instructions(path):
 
 
 def steps_of(output):
-    return int(output.decode().split("steps ")[1])
+    """The steps that a run took, which stand last."""
+    return int(output.decode().split("steps ")[-1])
 
 
-def grown(program, name, at):
+def million(count, seconds, base):
+    return count / 1e6 / max(seconds - base, 1e-6)
+
+
+def texts(program, at, base):
+    """Rows of texts that are read."""
+    print(f"\n{'case':38}{'ms':>9}{'MB/s':>9}{'million/s':>11}")
+    for mode, name in itertools.product(("list", "verify"), ("straight.sts", "scopes.sts")):
+        seconds, _ = least_seconds([program, mode, at(name)])
+        bytes_, lines = (million(it, seconds, base) for it in (os.path.getsize(at(name)), instructions(at(name))))
+        print(f"{'assemble and ' + mode + ' ' + name:38}{seconds * 1e3:9.2f}{bytes_:9.1f}{lines:11.2f}")
+
+
+def machines(program, at, base):
+    """Rows of traces that are run."""
+    print(f"\n{'case':38}{'ms':>9}{'million/s':>11}")
+    for mode, name in itertools.product(("plain", "replay"), ("loop", "fan_out")):
+        seconds, output = least_seconds([program, mode, at(name + ".sts"), at(name + ".trace")])
+        print(f"{mode + ' ' + name + ', steps':38}{seconds * 1e3:9.2f}{million(steps_of(output), seconds, base):11.2f}")
+
+
+def workers(program, at, base):
+    """Rows of runs by workers: of subtasks with long work of their own, and of 90,000 scopes with a short subtask each."""
+    print(f"\n{'case':38}{'ms':>9}{'median':>9}{'million/s':>11}")
+    for name in ("fan_of_loops", "fan_out"):
+        times, output = {count: [] for count in WORKERS}, b""
+        for _, count in itertools.product(range(RUNS), WORKERS):
+            seconds, output = once([program, "run", at(name + ".sts"), "--workers", str(count)])
+            times[count].append(seconds)
+        for count, taken in times.items():
+            rate = million(steps_of(output), min(taken), base)
+            print(f"{f'run {name} by {count}, steps':38}{min(taken) * 1e3:9.2f}{statistics.median(taken) * 1e3:9.2f}{rate:11.2f}")
+
+
+def growth(program, at, base):
+    """Rows of programs with 1, 2, 4 and 8 times the work, and the memory that a run takes."""
+    print(f"\n{'plain, so many times the work':38}{'ms':>9}{'MiB':>9}")
+    for name, times in itertools.product(("chain", "last_of_many", "fifties", "never_run"), (1, 2, 4, 8)):
+        command = [program, "plain", at(f"{name}{times}.sts"), at(f"{name}{times}.trace")]
+        seconds, _ = least_seconds(command)
+        print(f"{name + ', ' + str(times) + ' times':38}{seconds * 1e3:9.2f}{most_megabytes(command):9.0f}")
+
+
+def labels(program, at, base):
     """Rows of texts with 1, 2, 4 and 8 times as many labels, and the time over that of the least."""
-    first = None
-    for times in (1, 2, 4, 8):
-        seconds, _ = least_seconds([program, "list", at(f"{name}{times}.sts")])
-        first = first or seconds
-        case = f"list {name} labels, {times} times"
-        print(f"{case:38}{seconds * 1e3:9.2f}{'':9}{'':11}{seconds / first:9.1f} times the first")
+    print(f"\n{'case':38}{'ms':>9}{'times the first':>18}")
+    for name in ("colliding", "alike"):
+        first = None
+        for times in (1, 2, 4, 8):
+            seconds, _ = least_seconds([program, "list", at(f"{name}{times}.sts")])
+            first = first or seconds
+            print(f"{f'list {name} labels, {times} times':38}{seconds * 1e3:9.2f}{seconds / first:18.1f}")
+
+
+TABLES = {it.__name__: it for it in (texts, machines, workers, growth, labels)}
 
 
 def main():
     program = os.path.abspath(sys.argv[1] if len(sys.argv) > 1 else os.path.join(HERE, "..", "sts"))
+    only = os.environ.get("ONLY")
+    if only and only not in TABLES:
+        raise SystemExit(f"ONLY={only}: the tables are {', '.join(TABLES)}")
     with tempfile.TemporaryDirectory() as folder:
         subprocess.run([sys.executable, os.path.join(HERE, "make_texts.py"), folder], check=True)
         at = lambda name: os.path.join(folder, name)
@@ -69,27 +129,9 @@ def main():
         with open(small, "w") as file:
             file.write("func main 0\npush 7\nret\nend\n")
         base, _ = least_seconds([program, "list", small])
-        print(f"{'case':38}{'ms':>9}{'MB/s':>9}{'million/s':>11}")
-        print(f"{'a text of one function':38}{base * 1e3:9.2f}")
-        for mode in ("list", "verify"):
-            for name in ("straight.sts", "scopes.sts"):
-                seconds, _ = least_seconds([program, mode, at(name)])
-                net = max(seconds - base, 1e-6)
-                megabytes = os.path.getsize(at(name)) / 1e6 / net
-                million = instructions(at(name)) / 1e6 / net
-                print(f"{'assemble and ' + mode + ' ' + name:38}{seconds * 1e3:9.2f}{megabytes:9.1f}{million:11.2f}")
-        for mode, name in itertools.product(("plain", "replay"), ("loop", "fan_out")):
-            seconds, output = least_seconds([program, mode, at(name + ".sts"), at(name + ".trace")])
-            million = steps_of(output) / 1e6 / max(seconds - base, 1e-6)
-            print(f"{mode + ' ' + name + ', steps':38}{seconds * 1e3:9.2f}{'':9}{million:11.2f}")
-        print(f"\n{'plain, so many times the work':38}{'ms':>9}{'MiB':>9}")
-        for name in ("chain", "last_of_many", "fifties", "never_run"):
-            for times in (1, 2, 4, 8):
-                command = [program, "plain", at(f"{name}{times}.sts"), at(f"{name}{times}.trace")]
-                seconds, _ = least_seconds(command)
-                print(f"{name + ', ' + str(times) + ' times':38}{seconds * 1e3:9.2f}{most_megabytes(command):9.0f}")
-        for name in ("colliding", "alike"):
-            grown(program, name, at)
+        print(f"{'a text of one function':38}{base * 1e3:9.2f} ms")
+        for table in [TABLES[only]] if only else TABLES.values():
+            table(program, at, base)
 
 
 main()
