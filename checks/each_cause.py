@@ -148,6 +148,14 @@ def cases():
         yield Case(code, text, spelled(text), f"`{short}`", events(short), "")
 
 
+def listed():
+    """Returns the codes of LANGUAGE.md, and the faults of BEHAVIOUR.md, that a text or a trace can be made for: those of A9
+    are C1 to C7, and A10 and T4 are want of memory."""
+    codes = re.findall(r"^\| ([ACT]\d+) \|", read("docs/LANGUAGE.md"), re.M)
+    faults = re.findall(r"^\d\. \*(\w+)\*:", read("docs/BEHAVIOUR.md"), re.M)
+    return {*codes, *faults} - {"A9", "A10", "T4"}
+
+
 def says(*words):
     done = subprocess.run(words, stdin=subprocess.DEVNULL, capture_output=True, text=True, timeout=120)
     return done.returncode, done.stdout
@@ -239,7 +247,9 @@ def page_of(look, sts):
     shown = [it for it in shown_commands("examples/README.md") if it[0] == "plain"]
     examples = [example_at(look, text, steps, printed) for _, text, steps, printed in shown]
     page = HEAD + "".join(line for line, _ in seen) + EXAMPLES_HEAD + "".join(line for line, _ in examples)
-    return page, [it for _, answers in [*seen, *examples] for it in answers]
+    rows = {case.code.split(" ")[-1] for case in cases() if case.code not in RUNS}
+    right = [("each code has a row", rows == listed()), ("each cause has a run", [code for code, _ in refusals()] == list(RUNS))]
+    return page, [*right, *(it for _, answers in [*seen, *examples] for it in answers)]
 
 
 def main():
