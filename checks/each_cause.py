@@ -29,9 +29,9 @@ HEAD = """# Each cause and fault, shown
 What `look explain` prints of one text for each cause of a refusal, each fault of a text or a trace, and each fault of a run;
 beside it the status of `look view` and `look draw` and what they begin with. Lines are parted by ` / `; of an explanation of
 more than seven lines the first six stand here, and `..` for the others. Traces are written short: `0*5` is five lines
-`step 0`, and `1..3*2` stands for `1*2 2*2 3*2`. These tables are written by `checks/each_cause.py write`, and the gate compares them with what the program prints.
-What the words mean is in [LOOK.md](LOOK.md), the causes are in [VERIFIER.md](VERIFIER.md), the faults in
-[LANGUAGE.md](LANGUAGE.md) and [BEHAVIOUR.md](BEHAVIOUR.md#misuse).
+`step 0`, and `1..3*2` stands for `1*2 2*2 3*2`. These tables are written by `checks/each_cause.py write`, and the gate
+compares them with what the program prints. What the words mean is in [LOOK.md](LOOK.md), the causes are in
+[VERIFIER.md](VERIFIER.md), the faults in [LANGUAGE.md](LANGUAGE.md) and [BEHAVIOUR.md](BEHAVIOUR.md#misuse).
 
 - Of V1 to V20 `explain` has the text alone, `view` and `draw` the trace too: the plain machine runs refused programs, and the
   trace brings it to the fault, or where there is none to the end of the root, or round the loop of V4 once more.
