@@ -1,5 +1,6 @@
 "use strict";
-// What the page shows and does: each word of a program and of a run comes from a call.
+// What the page shows and does: each line that tells of a program or a run comes from a call. What is decided here and in
+// reading.js, docs/PAGE.md lists.
 
 const element = (id) => document.getElementById(id);
 
@@ -142,6 +143,7 @@ function show() {
   const part = parts[at];
   const canPlay = !isAtFault(part);
   const focused = document.activeElement.dataset.event;
+  const isOnColumn = document.activeElement.closest(".columns") !== null;
   element("head").textContent = part.head;
   element("stands").replaceChildren(...part.lines.map((line) => standing(line, canPlay)));
   markTasks(part, canPlay);
@@ -151,6 +153,8 @@ function show() {
   element("last").disabled = element("forward").disabled = at === parts.length - 1;
   if (focused) {
     refocused(focused);
+  } else if (isOnColumn) {
+    element("picture").querySelector("[aria-current]")?.focus();
   }
 }
 

@@ -1,5 +1,5 @@
 "use strict";
-// Reads the lines that proved code prints: each word stays as it was printed. What is made of them here, docs/PAGE.md lists.
+// Reads the lines that proved code prints: each word stays as it was printed.
 
 // The lines without the newlines that end them.
 function linesOf(printed) {

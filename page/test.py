@@ -156,8 +156,8 @@ class Page:
         return self.chromium.value(f"element({json.dumps(identity)}).value")
 
     def write(self, identity, text):
-        event = "dispatchEvent(new Event('input'))"
-        self.chromium.value(f"element({json.dumps(identity)}).value = {json.dumps(text)}, element({json.dumps(identity)}).{event}")
+        found = f"element({json.dumps(identity)})"
+        self.chromium.value(f"{found}.value = {json.dumps(text)}, {found}.dispatchEvent(new Event('input'))")
 
     def choose(self, number):
         self.chromium.value(f"element('example').selectedIndex = {number}, element('example').onchange()")
@@ -170,7 +170,8 @@ class Page:
         """Clicks with the mouse where an element is seen."""
         found = f"document.querySelector({json.dumps(selector)})"
         self.chromium.value(f"{found}.scrollIntoView({{ block: 'center' }})")
-        self.chromium.tap(*self.chromium.value(f"((it) => [it.x + it.width / 2, it.y + it.height / 2])({found}.getBoundingClientRect())"))
+        middle = f"((it) => [it.x + it.width / 2, it.y + it.height / 2])({found}.getBoundingClientRect())"
+        self.chromium.tap(*self.chromium.value(middle))
 
     def shown(self):
         """Returns the lines of what stands, as they are shown."""
@@ -288,7 +289,8 @@ def columns(page, programs, name, text, trace):
     for number, (head, events) in enumerate(zip(heads, beginnings(trace))):
         page.click(f".columns button:nth-child({number + 1})")
         yield f"{name}: the head of column {number}", page.text_of("head") == head
-        yield f"{name}: column {number} is the current one", page.each(".columns [aria-current]", "it.textContent") == [str(number)]
+        current = page.each(".columns [aria-current]", "it.textContent")
+        yield f"{name}: column {number} is the current one", current == [str(number)]
         yield from stands(page, programs, f"{name}: column {number}", text, events, trace)
     yield f"{name}: the columns leave the trace", page.written("trace") == trace
 
@@ -374,6 +376,10 @@ def verdicts(page, programs):
         about = ABOUT.match(lines)
         page.write("text", text)
         yield f"the line of {lines[:60]!r}", page.marked() == ([int(about[1] or about[2])] * 2 if about else [])
+    text = "\n" * 150000 + "puhs 7\n"
+    page.write("text", text)
+    yield "a text of many lines", page.text_of("verdict") == programs.says(programs.look, "explain", [text])[1]
+    yield "its line", page.marked() == [150001, 150001]
     head = page.chromium.value(r"lineOf('error A9 C6 in kid, line 7: func kid 9\na slot, local or key above 15\n')")
     yield "the line of a function's head", head == 7
 
@@ -441,6 +447,10 @@ def keyboard(page):
     page.chromium.press("Enter", 13)
     yield "two steps by the keyboard", page.written("trace") == "step 0\nstep 0\n"
     yield "the focus stays", page.chromium.value("document.activeElement.dataset.event") == "step 0"
+    page.chromium.value("document.querySelector('.columns button:nth-child(2)').focus()")
+    page.chromium.press("Enter", 13)
+    yield "a column by the keyboard", page.text_of("head") == "after 1 step 0"
+    yield "the focus stays on it", page.each(".columns :focus", "it.textContent") == ["1"]
 
 
 def names(page):
