@@ -170,7 +170,7 @@ function run() {
   hasRun = !HAS_NO_RUN.includes(viewed.status);
   drawn = hasRun ? calls.draw(text, trace()).text : "";
   parts = partsOf(viewed.text, hasRun ? "before the first event" : "");
-  element("course").textContent = viewed.text;
+  element("course-words").textContent = viewed.text;
   show();
 }
 

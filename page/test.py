@@ -305,10 +305,12 @@ def by_steps(page, programs, name, text, trace):
 
 def in_full(page, programs, name, text, trace):
     """Yields whether all is shown on request, of the course as well."""
-    yield f"{name}: the course", page.text_of("course") == programs.view(text, trace, "--each")[1]
+    details = page.each("#picture img", "document.getElementById(it.getAttribute('aria-details')).id")
+    yield f"{name}: the picture leads to its course", details == ["course"]
+    yield f"{name}: the course", page.text_of("course-words") == programs.view(text, trace, "--each")[1]
     page.click("#full")
     yield f"{name}: in full", page.shown() == programs.view(text, trace, "--full")[1]
-    yield f"{name}: the course in full", page.text_of("course") == programs.view(text, trace, "--each", "--full")[1]
+    yield f"{name}: the course in full", page.text_of("course-words") == programs.view(text, trace, "--each", "--full")[1]
     page.click("#full")
 
 
