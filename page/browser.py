@@ -43,10 +43,11 @@ class Browser:
         self.attach()
 
     def attach(self):
-        """Takes the first page for all later commands."""
+        """Takes the first page for all later commands, and gives it the focus, as a window in front has it."""
         pages = [it for it in self.ask("Target.getTargets")["targetInfos"] if it["type"] == "page"]
         self.session = self.ask("Target.attachToTarget", targetId=pages[0]["targetId"], flatten=True)["sessionId"]
         self.ask("Page.enable")
+        self.ask("Emulation.setFocusEmulationEnabled", enabled=True)
 
     def send(self, message):
         data = json.dumps(message).encode() + b"\0"
@@ -98,6 +99,10 @@ class Browser:
         for kind in ("rawKeyDown", "char", "keyUp"):
             text = {"text": "\r"} if kind == "char" and key == "Enter" else {}
             self.ask("Input.dispatchKeyEvent", type=kind, key=key, code=key, windowsVirtualKeyCode=code, **text)
+
+    def tap(self, x, y):
+        for kind in ("mousePressed", "mouseReleased"):
+            self.ask("Input.dispatchMouseEvent", type=kind, x=x, y=y, button="left", clickCount=1)
 
     def picture(self, path):
         with open(path, "wb") as file:

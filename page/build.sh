@@ -40,11 +40,11 @@ compiled() {
   "$clang" "${flags[@]}" -O3 -c -x ir "$work/wasm64.ll" -o "$work/page.o"
   "$clang" "${flags[@]}" -O2 -fwrapv -ffreestanding -nostdinc -fno-builtin -c "$page/heap.c" -o "$work/heap.o"
   "$kit/toolchain/bin/llvm-ar" rcs --format=gnu "$work/page.a" "$work/page.o" "$work/heap.o"
-  "$kit/bin/rattle-link" --target wasm64-unknown-unknown --toolchain "$kit/toolchain" -o "$work/page.wasm" "$work/page.a" \
+  "$kit/bin/rattle-link" --target wasm64-unknown-unknown --toolchain "$kit/toolchain" -o "$out/page.wasm" "$work/page.a" \
     >> "$out/build.log" 2>&1
 }
 
 python3 "$page/keeping_kit.py" "$kit" "$work/kit" "$work/module.bc"
 proved
 compiled
-python3 "$page/pack.py" "$work/page.wasm" "$out/index.html"
+python3 "$page/pack.py" "$out/page.wasm" "$out/index.html"

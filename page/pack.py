@@ -1,11 +1,13 @@
 #!/usr/bin/env python3
-"""Writes the page as one file: index.html with its style, its scripts, the module and the examples in it.
+"""Writes the page as one file: index.html with its style, its scripts, the module, the examples, and the words and marks
+as docs/LOOK.md explains them, in it.
 
     pack.py MODULE.wasm PAGE.html
 """
 import base64
 import glob
 import gzip
+import html
 import json
 import os
 import re
@@ -13,6 +15,7 @@ import sys
 
 HERE = os.path.dirname(os.path.realpath(__file__))
 EXAMPLES = os.path.join(os.path.dirname(HERE), "examples", "*.sts")
+LOOK = os.path.join(os.path.dirname(HERE), "docs", "LOOK.md")
 
 
 def read(path):
@@ -35,10 +38,30 @@ def module(path):
     return f'const MODULE = "{base64.b64encode(packed).decode()}";\n'
 
 
+def row(line, kind):
+    """Returns a line of a table of a document as one of a page."""
+    cells = [re.sub("`(.*?)`", r"<code>\1</code>", html.escape(it.strip())) for it in line.strip().strip("|").split("|")]
+    return "<tr>" + "".join(f"<{kind}>{it}</{kind}>" for it in cells) + "</tr>\n"
+
+
+def table(lines):
+    head, _, *rows = lines.splitlines()
+    return "<table>\n" + row(head, "th") + "".join(row(it, "td") for it in rows) + "</table>"
+
+
+def legend(title):
+    """Returns the tables of the section of docs/LOOK.md that has this title."""
+    section = re.search(rf"^## {re.escape(title)}\n(.*?)(?=^## |\Z)", read(LOOK), re.M | re.S)
+    tables = re.findall(r"(?:^\|.*\n)+", section[1], re.M) if section else []
+    if not tables:
+        sys.exit(f"pack.py: docs/LOOK.md has no table under: {title}")
+    return "\n".join(map(table, tables))
+
+
 def whole(made):
     """Returns the page; a script that is made is taken from there, all else from the files beside this one."""
     source = lambda name: made[name]() if name in made else read(os.path.join(HERE, name))
-    page = read(os.path.join(HERE, "index.html"))
+    page = re.sub("<!-- legend: (.*) -->", lambda it: legend(it[1]), read(os.path.join(HERE, "index.html")))
     page = re.sub(r'<link rel="stylesheet" href="([\w.]+)">', lambda it: f"<style>\n{source(it[1])}</style>", page)
     return re.sub(r'<script src="([\w.]+)"></script>', lambda it: f"<script>\n{source(it[1])}</script>", page)
 

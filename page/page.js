@@ -1,5 +1,6 @@
 "use strict";
-// What the page shows and does: each word of a program and of a run comes from a call.
+// What the page shows and does: each line that tells of a program or a run comes from a call. What is decided here and in
+// reading.js, docs/PAGE.md lists.
 
 const element = (id) => document.getElementById(id);
 
@@ -7,41 +8,68 @@ const element = (id) => document.getElementById(id);
 const HAS_NO_RUN = [3, 6];
 
 let calls = null;
+let marked = null; // the line of the text that is marked
 let parts = []; // what stands before the first event and after each
-let at = 0; // how many events are shown
+let place = 0; // how many events are to be shown
+let at = 0; // how many are shown: fewer where the trace has fewer, or is at fault
 let drawn = ""; // the picture of the whole run
 let hasRun = false; // or is there a fault of the text or the trace, or no memory?
 
+// The trace as it is written. A last line that nothing ends yet gets its newline: in a text area it looks like any other.
 function trace() {
-  return element("trace").value.split("\n").filter((line) => line.trim() !== "");
+  const written = element("trace").value;
+  return written === "" || written.endsWith("\n") ? written : `${written}\n`;
 }
 
-function traced(events) {
-  return events.map((event) => `${event}\n`).join("");
+// So many lines of the trace, or all that there are.
+function beginning(count) {
+  return linesOf(trace()).slice(0, count).map((line) => `${line}\n`).join("");
 }
 
 // ---- the program
-
-function gutterLine(number) {
-  const line = made("div", {}, String(number));
-  line.dataset.line = number;
-  return line;
-}
 
 function layLines() {
   const text = element("text");
   const lines = text.value.split("\n");
   text.rows = lines.length;
-  text.style.minWidth = `${Math.max(...lines.map((line) => line.length)) + 2}ch`;
-  element("gutter").replaceChildren(...lines.map((_, n) => gutterLine(n + 1)));
+  text.style.minWidth = `${lines.reduce((most, line) => Math.max(most, line.length), 0) + 2}ch`;
+  element("gutter").textContent = lines.map((_, before) => before + 1).join("\n");
 }
 
-function markLine(number) {
-  element("mark").hidden = number === null;
-  if (number !== null) {
-    element("mark").style.setProperty("--line", number);
-    element("gutter").children[number - 1]?.classList.add("refused");
+// Where the editor has to be scrolled to for a line to be in view: where it is, or as near to that as may be.
+function scrollFor(line, scroll) {
+  const text = element("text");
+  const height = parseFloat(getComputedStyle(text).lineHeight);
+  const top = text.offsetTop + (line - 1) * height;
+  return Math.min(Math.max(scroll, top + height - element("editor").clientHeight), top);
+}
+
+// The line of the text in which someone is writing, or null.
+function caretLine() {
+  const text = element("text");
+  return document.activeElement === text ? text.value.slice(0, text.selectionEnd).split("\n").length : null;
+}
+
+// Scrolls to a line, but never away from where someone is writing.
+function reveal(line) {
+  const scroll = scrollFor(line, element("editor").scrollTop);
+  const caret = caretLine();
+  if (caret === null || scrollFor(caret, scroll) === scroll) {
+    element("editor").scrollTop = scroll;
   }
+}
+
+function revealMark() {
+  if (marked !== null) {
+    reveal(marked);
+  }
+}
+
+function markLine(line) {
+  marked = line;
+  element("editor").dataset.marked = line ?? "";
+  element("editor").style.setProperty("--line", line ?? 0);
+  revealMark();
 }
 
 // What is told of the text: its budgets where it is accepted, else why it isn't.
@@ -68,8 +96,8 @@ function judge() {
 
 // Writes the event behind those that are shown, in place of the later ones.
 function play(event) {
-  element("trace").value = traced([...trace().slice(0, at), event]);
-  at += 1;
+  element("trace").value = `${beginning(at)}${event}\n`;
+  place = at + 1;
   run();
 }
 
@@ -107,14 +135,15 @@ function refocused(event) {
 
 // Where the run stands after the events that are shown, by the lines of the text; where there is no run, why.
 function told() {
-  const events = hasRun ? trace().slice(0, at) : trace();
-  return calls.explainRun(element("text").value, traced(events)).text;
+  return calls.explainRun(element("text").value, hasRun ? beginning(at) : trace()).text;
 }
 
 function show() {
+  at = Math.min(place, parts.length - 1);
   const part = parts[at];
   const canPlay = !isAtFault(part);
   const focused = document.activeElement.dataset.event;
+  const isOnColumn = document.activeElement.closest(".columns") !== null;
   element("head").textContent = part.head;
   element("stands").replaceChildren(...part.lines.map((line) => standing(line, canPlay)));
   markTasks(part, canPlay);
@@ -124,22 +153,25 @@ function show() {
   element("last").disabled = element("forward").disabled = at === parts.length - 1;
   if (focused) {
     refocused(focused);
+  } else if (isOnColumn) {
+    element("picture").querySelector("[aria-current]")?.focus();
   }
 }
 
 function move(to) {
-  at = Math.max(0, Math.min(to, parts.length - 1));
+  place = Math.max(0, Math.min(to, parts.length - 1));
   show();
 }
 
 // Runs the trace; where there is no run, what is told of the text or the trace stands in its place.
 function run() {
-  const options = { each: true, full: element("full").checked };
-  const viewed = calls.view(element("text").value, traced(trace()), options);
+  const text = element("text").value;
+  const viewed = calls.view(text, trace(), { each: true, full: element("full").checked });
   hasRun = !HAS_NO_RUN.includes(viewed.status);
-  drawn = hasRun ? calls.draw(element("text").value, traced(trace())).text : "";
+  drawn = hasRun ? calls.draw(text, trace()).text : "";
   parts = partsOf(viewed.text, hasRun ? "before the first event" : "");
-  move(at);
+  element("course-words").textContent = viewed.text;
+  show();
 }
 
 // ---- the whole page
@@ -164,7 +196,7 @@ function choose() {
   const example = EXAMPLES[element("example").selectedIndex];
   element("text").value = example.text;
   element("trace").value = example.trace;
-  at = trace().length;
+  place = linesOf(example.trace).length;
   change();
 }
 
@@ -172,6 +204,7 @@ function connect() {
   element("example").append(...EXAMPLES.map((example) => new Option(example.name)));
   element("example").onchange = guarded(choose);
   element("text").oninput = guarded(change);
+  element("text").onblur = guarded(revealMark);
   element("trace").oninput = guarded(run);
   element("full").onchange = guarded(run);
   element("first").onclick = guarded(() => move(0));

@@ -13,9 +13,11 @@ function columnButton(part, number, isNow, choose) {
   return node;
 }
 
-// The picture's own style holds within it alone, since it is an image.
+// The picture's own style holds within it alone, since it is an image. Its course stands beside it as text.
 function drawing(svg, words) {
-  return made("img", { src: `data:image/svg+xml,${encodeURIComponent(svg)}`, alt: words });
+  const image = made("img", { src: `data:image/svg+xml,${encodeURIComponent(svg)}`, alt: words });
+  image.setAttribute("aria-details", "course");
+  return image;
 }
 
 // The buttons of all parts and the picture; `choose` is called with the number of the part that is clicked.

@@ -1,5 +1,5 @@
 "use strict";
-// Reads the lines that proved code prints. Nothing is worked out here: each word stays as it was printed.
+// Reads the lines that proved code prints: each word stays as it was printed.
 
 // The lines without the newlines that end them.
 function linesOf(printed) {
@@ -22,26 +22,18 @@ function partsOf(printed, firstHead) {
 
 // `task T under S in NAME at PC WORD ..`, or null where the line is none.
 function taskOf(line) {
-  const [kind, number, , under, , name, , place, ...stands] = line.split(" ");
-  return kind === "task" ? { number, under, name, place, word: stands[0], stands: stands.join(" ") } : null;
+  const [kind, number, , , , name, , place, ...stands] = line.split(" ");
+  return kind === "task" ? { number, name, place, word: stands[0], stands: stands.join(" ") } : null;
 }
-
-// The words of a scope, those that say most of it first.
-const MARKS = ["closed", "expired", "cancelled", "closing", "joined", "attempted", "opened"];
 
 // `scope S of T WORD ..`, or null where the line is none.
 function scopeOf(line) {
   const [kind, number, , , ...words] = line.split(" ");
-  const word = MARKS.find((mark) => words.includes(mark));
-  return kind === "scope" ? { number, word, stands: words.join(" "), mayExpire: words.includes("may-expire") } : null;
+  return kind === "scope" ? { number, mayExpire: words.includes("may-expire") } : null;
 }
 
 function tasksOf(part) {
   return part.lines.map(taskOf).filter(Boolean);
-}
-
-function scopesOf(part) {
-  return part.lines.map(scopeOf).filter(Boolean);
 }
 
 function lives(task) {
@@ -64,9 +56,12 @@ function eventsOf(line) {
   ];
 }
 
-// The line of the text that an explanation begins with, or null where it names none.
+// The number of the line of the text that an explanation is about, or null where it names none. Its first line names it; of
+// a budget that is passed this says `at its end`, and the third line says where the path ends or the point stands.
 function lineOf(explanation) {
-  return /^[^\n]*?, line (\d+):/.exec(explanation)?.[1] ?? null;
+  const [first, , third] = linesOf(explanation);
+  const named = /, line (\d+):/.exec(first) ?? / here, line (\d+):/.exec(third);
+  return named && Number(named[1]);
 }
 
 // The lines of a listing, with `NAME PC` for those that are instructions: after a line `func NAME ..` they are numbered from

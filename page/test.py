@@ -3,11 +3,14 @@
 
 - each call answers what `sts` and `look` print, with their status: over every example and every beginning of its trace, and
   over texts and traces with faults, refused texts, and runs that come to a fault;
-- texts are explained as the rows of crates/sts_rows_explain say;
-- every example is played by the page's own buttons, which only an event that counts has: after each event the page shows
-  what `look view` prints, and what `look explain` prints of the text and the trace;
-- so it shows of texts and traces with faults, and of runs that come to a fault;
-- a line that is refused is marked; the keyboard plays; every control has a name for screen readers.
+- texts are explained as the rows of crates/sts_rows_explain say, and the line that is told is marked and in view;
+- every example is played by the page's own buttons, after each event of its trace: there is one for each event that counts
+  there and none else, as `look view --each` tells; beside the listing a number stands for each task that lives, at its
+  instruction, and each that is ready can be clicked: that writes its step; the page shows what `look view`, `look explain`
+  and `look draw` print of the trace; the buttons of the columns, and First to Last, show what stands after each event;
+- so it shows of texts and traces with faults, and of runs that come to a fault; a trace is passed on as it is written, but
+  for the last newline; the place is kept over faults;
+- the words and marks are explained as docs/LOOK.md does; the keyboard plays; every control has a name for screen readers.
 
 Pictures of the page, light and dark, are left in page/out. The last line is `N passed, M failed`, of comparisons; where no
 Chromium is here it is `page: skipped, no Chromium here`, with status 0.
@@ -27,23 +30,45 @@ ROOT = os.path.dirname(HERE)
 PAGE = os.path.join(HERE, "out", "index.html")
 STS, LOOK = (os.path.join(ROOT, "crates", name, "out", name) for name in ("sts", "sts_look"))
 EXAMPLES = sorted(glob.glob(os.path.join(ROOT, "examples", "*.sts")))
+NAMES = [os.path.basename(it) for it in EXAMPLES]
+LOOK_PAGE = os.path.join(ROOT, "docs", "LOOK.md")
 # The rows of texts; those of runs.rt have a trace as well.
 ROWS = [os.path.join(ROOT, "crates", "sts_rows_explain", "src", name) for name in ("faults.rt", "refusals.rt", "words.rt")]
 ROW = re.compile(r'text: &\[(.*?)\],\s+lines: (".*?[^\\]"),\s+status: (\d)', re.S)
 PART = re.compile(r'Part\(\s*(\d+),\s*(".*?[^\\]"),?\s*\)', re.S)
+# Lines of `view`.
+BORN = re.compile(r"^(task|scope) (\d+) ", re.M)
+LIVING = re.compile(r"^task (\d+) under \S+ in (\S+) at (\d+) (ready|waits)\b", re.M)
+HEAD = re.compile(r"^after .*", re.M)
+# The line that an explanation is about: in its first line, or where a budget is passed in its third.
+ABOUT = re.compile(r".*?, line (\d+):|.*, at its end\n.*\n.* here, line (\d+):")
 
 # Texts with a fault, texts that are refused, and traces with a fault or up to a fault of the run.
 ODD = [
     ("", ""),
     ("func main 0\npuhs 7\nret\nend\n", "step 0\n"),
     ("func main 0\npush 1 ; \u00e9\nret\nend\n", ""),
-    ("\n" * 1048577, ""),
+    ((";" * 1023 + "\n") * 1024 + "\n", ""),
     ("func main 0\npop\nret\nend\n", "step 0\n"),
     ("func main 0\npush 1\nret\nend\n", "step 0\nstep 01\n"),
     ("func main 0\npush 1\nret\nend\n", "step 7\nexpire 0\ninterrupt 0\nstep 0\nstep 0\n"),
     ("func main 0\nopen s0 all\npush 1\nret\nend\n", "step 0\nstep 0\nstep 0\nstep 0\n"),
     ("func main 0\npush 1\npush 0\ndiv\nret\nend\n", "step 0\nstep 0\nstep 0\n"),
 ]
+
+# Traces as they are written, with an empty line or an unended one, and as they are passed on.
+WRITTEN = [
+    ("", ""),
+    ("\n", "\n"),
+    ("step 0\n\nstep 0\n", "step 0\n\nstep 0\n"),
+    ("step 0\n\n", "step 0\n\n"),
+    ("\n\nstep 01\n", "\n\nstep 01\n"),
+    ("step 0\n  \nstep 01\n", "step 0\n  \nstep 01\n"),
+    ("step 0\nstep 0", "step 0\nstep 0\n"),
+    ("step 0\n ", "step 0\n \n"),
+]
+# A text whose longest path ends in line 10, as docs/LOOK.md shows it.
+TOO_LONG = "func main 0\npush 499\ntimes 499\npush 2001\ntimes 2001\nnext\nnext\npush 0\npush 0\nret\nend\n"
 
 
 def read(path):
@@ -73,6 +98,40 @@ class Programs:
     def explain(self, text, trace):
         return self.says(self.look, "explain", [text, trace])
 
+    def draw(self, text, trace):
+        return self.says(self.look, "draw", [text, trace])
+
+    def heads(self, text, trace):
+        """Returns the lines that tell each event, and whether it counted."""
+        return HEAD.findall(self.view(text, trace, "--each")[1])
+
+    def counting(self, text, trace):
+        """Returns those events that count behind the trace, of all for a task or a scope that was born."""
+        words = {"task": ("step", "interrupt"), "scope": ("expire",)}
+        born = BORN.findall(self.view(text, trace)[1])
+        events = [f"{word} {number}" for kind, number in born for word in words[kind]]
+        return [it for it in events if not self.heads(text, f"{trace}{it}\n")[-1].endswith(" idle")]
+
+    def marks(self, text, trace):
+        """Returns of each task that lives the line of the listing where it is, its number, and whether it can step."""
+        lines = places(self.says(self.sts, "list", [text])[1])
+        viewed = self.view(text, trace)[1]
+        living = [(lines.get((name, int(place))), task, stands) for task, name, place, stands in LIVING.findall(viewed)]
+        can_step = not viewed.startswith("fault ")
+        return [[line, task, can_step and stands == "ready"] for line, task, stands in living if line is not None]
+
+
+def places(listing):
+    """Returns the line of a listing for each function's name and number of an instruction; lines count from 0."""
+    found, name, count = {}, None, 0
+    for number, line in enumerate(listing.splitlines()):
+        if line.startswith("func "):
+            name, count = line.split()[1], 0
+        elif line.startswith("  "):
+            found[name, count] = number
+            count += 1
+    return found
+
 
 class Page:
     """The page in the browser."""
@@ -97,16 +156,47 @@ class Page:
         return self.chromium.value(f"element({json.dumps(identity)}).value")
 
     def write(self, identity, text):
-        event = "dispatchEvent(new Event('input'))"
-        self.chromium.value(f"element({json.dumps(identity)}).value = {json.dumps(text)}, element({json.dumps(identity)}).{event}")
+        found = f"element({json.dumps(identity)})"
+        self.chromium.value(f"{found}.value = {json.dumps(text)}, {found}.dispatchEvent(new Event('input'))")
 
     def choose(self, number):
         self.chromium.value(f"element('example').selectedIndex = {number}, element('example').onchange()")
 
+    def each(self, selector, told):
+        """Returns what an expression tells of each element `it`."""
+        return self.chromium.value(f"[...document.querySelectorAll({json.dumps(selector)})].map((it) => {told})")
+
+    def tap(self, selector):
+        """Clicks with the mouse where an element is seen."""
+        found = f"document.querySelector({json.dumps(selector)})"
+        self.chromium.value(f"{found}.scrollIntoView({{ block: 'center' }})")
+        middle = f"((it) => [it.x + it.width / 2, it.y + it.height / 2])({found}.getBoundingClientRect())"
+        self.chromium.tap(*self.chromium.value(middle))
+
     def shown(self):
         """Returns the lines of what stands, as they are shown."""
-        words = "[...document.querySelectorAll('#stands .words')].map((it) => it.textContent + '\\n').join('')"
-        return self.chromium.value(words)
+        return "".join(self.each("#stands .words", "it.textContent + '\\n'"))
+
+    def buttons(self):
+        """Returns the events that have a button beside what stands."""
+        return self.each("#stands button", "it.dataset.event")
+
+    def marks(self):
+        """Returns of each number beside the listing its line, the number, and whether it can be clicked."""
+        line = "[...element('listing').children].indexOf(it.parentElement)"
+        return self.each("#listing .task", f"[{line}, it.textContent, it.matches('button:enabled')]")
+
+    def drawn(self):
+        """Returns the picture that is shown, or nothing where none is."""
+        return "".join(self.each("#picture img", "decodeURIComponent(it.getAttribute('src').replace(/^[^,]*,/, ''))"))
+
+    def marked(self):
+        """Returns the lines of the text and of its numbers at which a mark is seen, whole, within the editor."""
+        seen = "((mark, box) => mark.height > 0 && mark.top >= box.top && mark.bottom <= box.bottom)"
+        seen += "(it.getBoundingClientRect(), element('editor').getBoundingClientRect())"
+        top = "(it.getBoundingClientRect().top - element('text').getBoundingClientRect().top)"
+        line = f"Math.round({top} / it.getBoundingClientRect().height) + 1"
+        return [it for it in self.each(".mark", f"{seen} ? {line} : null") if it is not None]
 
 
 def same_calls(page, programs, name, text, traces):
@@ -160,17 +250,68 @@ def explanations(page):
         yield f"explanation {lines!r}", page.call("explain", text) == [status, lines]
 
 
-def event_played(page, programs, name, text, before, after):
+def stands(page, programs, what, text, trace, whole):
+    """Yields whether the page shows how the run of a whole trace stands after a beginning of it."""
+    yield f"{what}: what stands", page.shown() == programs.view(text, trace)[1]
+    yield f"{what}: what is told", page.text_of("told") == programs.explain(text, trace)[1]
+    yield f"{what}: the picture", page.drawn() == programs.draw(text, whole)[1]
+    yield f"{what}: the numbers beside the listing", sorted(page.marks()) == sorted(programs.marks(text, trace))
+
+
+def marks_clicked(page, programs, what, text, before):
+    """Clicks each number beside the listing that can be clicked, and yields whether that plays a step of its task."""
+    for task in [task for _, task, is_ready in programs.marks(text, before) if is_ready]:
+        after = f"{before}step {task}\n"
+        yield f"{what}: the number {task} is there", page.click(f'#listing button[data-event="step {task}"]')
+        yield f"{what}: the trace with step {task}", page.written("trace") == after
+        yield from stands(page, programs, f"{what} and a click on {task}", text, after, after)
+        page.write("trace", before)
+        page.click("#last")
+
+
+def event_played(page, programs, what, text, before, after):
     """Plays an event by its button; one that doesn't count has none, and is written into the trace."""
-    event, number = after[len(before):].rstrip(), after.count("\n")
+    event = after[len(before):].rstrip()
+    yield f"{what}: a button for each event that counts", sorted(page.buttons()) == sorted(programs.counting(text, before))
+    yield from marks_clicked(page, programs, what, text, before)
     if not page.click(f'#stands [data-event="{event}"]'):
-        told = programs.view(text, after, "--each")[1]
-        yield f"{name}: {event} is idle", f"after {number} {event} idle\n" in told
+        yield f"{what}: {event} is idle", programs.heads(text, after)[-1].endswith(f" {event} idle")
         page.write("trace", after)
         page.click("#last")
-    yield f"{name}: the trace with {event}", page.written("trace") == after
-    yield f"{name}: what stands after {event}", page.shown() == programs.view(text, after)[1]
-    yield f"{name}: what is told after {event}", page.text_of("told") == programs.explain(text, after)[1]
+    yield f"{what}: the trace with {event}", page.written("trace") == after
+    yield from stands(page, programs, f"{what} and {event}", text, after, after)
+
+
+def columns(page, programs, name, text, trace):
+    """Clicks the button of each column, and yields whether that shows what stands after its event."""
+    heads = ["before the first event", *programs.heads(text, trace)]
+    yield f"{name}: a button for each column", len(page.each(".columns button", "0")) == len(heads)
+    for number, (head, events) in enumerate(zip(heads, beginnings(trace))):
+        page.click(f".columns button:nth-child({number + 1})")
+        yield f"{name}: the head of column {number}", page.text_of("head") == head
+        current = page.each(".columns [aria-current]", "it.textContent")
+        yield f"{name}: column {number} is the current one", current == [str(number)]
+        yield from stands(page, programs, f"{name}: column {number}", text, events, trace)
+    yield f"{name}: the columns leave the trace", page.written("trace") == trace
+
+
+def by_steps(page, programs, name, text, trace):
+    """Goes through the run by First, Back, Forward and Last."""
+    page.click("#last")
+    for step, events in (("back", beginnings(trace)[-2]), ("first", ""), ("forward", beginnings(trace)[1]), ("last", trace)):
+        page.click(f"#{step}")
+        yield from stands(page, programs, f"{name}: by {step}", text, events, trace)
+
+
+def in_full(page, programs, name, text, trace):
+    """Yields whether all is shown on request, of the course as well."""
+    details = page.each("#picture img", "document.getElementById(it.getAttribute('aria-details')).id")
+    yield f"{name}: the picture leads to its course", details == ["course"]
+    yield f"{name}: the course", page.text_of("course-words") == programs.view(text, trace, "--each")[1]
+    page.click("#full")
+    yield f"{name}: in full", page.shown() == programs.view(text, trace, "--full")[1]
+    yield f"{name}: the course in full", page.text_of("course-words") == programs.view(text, trace, "--each", "--full")[1]
+    page.click("#full")
 
 
 def played(page, programs, number, path):
@@ -178,18 +319,15 @@ def played(page, programs, number, path):
     name, text, trace = os.path.basename(path), read(path), read(f"{path[:-4]}.trace")
     page.choose(number)
     page.write("trace", "")
-    for before, after in zip(beginnings(trace), beginnings(trace)[1:]):
-        yield from event_played(page, programs, name, text, before, after)
-    yield f"{name}: nothing counts in the end", page.click("#stands [data-event^=step]") is False
-    marks = page.chromium.value("document.querySelectorAll('#listing .task').length")
-    yield f"{name}: no task lives in the end", marks == 0
-    for step, events in (("back", beginnings(trace)[-2]), ("first", ""), ("forward", beginnings(trace)[1]), ("last", trace)):
-        page.click(f"#{step}")
-        yield f"{name}: what stands by {step}", page.shown() == programs.view(text, events)[1]
-        yield f"{name}: what is told by {step}", page.text_of("told") == programs.explain(text, events)[1]
-    page.click("#full")
-    yield f"{name}: in full", page.shown() == programs.view(text, trace, "--full")[1]
-    page.click("#full")
+    yield f"{name}: the root stands in the beginning", [it[1:] for it in page.marks()] == [["0", True]]
+    for count, (before, after) in enumerate(zip(beginnings(trace), beginnings(trace)[1:])):
+        yield from event_played(page, programs, f"{name}: after {count}", text, before, after)
+    yield f"{name}: nothing counts in the end", page.buttons() == programs.counting(text, trace)
+    yield f"{name}: no task steps in the end", page.click("#stands [data-event^=step]") is False
+    yield f"{name}: no task lives in the end", page.marks() == []
+    yield from columns(page, programs, name, text, trace)
+    yield from by_steps(page, programs, name, text, trace)
+    yield from in_full(page, programs, name, text, trace)
 
 
 def all_played(page, programs):
@@ -203,7 +341,27 @@ def faults_told(page, programs):
         page.write("text", text)
         page.write("trace", trace)
         page.click("#last")
-        yield f"what is told of {text[:40]!r}", page.text_of("told") == programs.explain(text, trace)[1]
+        what = repr(text[:40])
+        verdict = programs.says(programs.look, "explain", [text])[1]
+        yield f"the verdict of {what}", page.text_of("verdict").startswith(verdict)
+        yield f"what stands of {what}", page.shown() == programs.view(text, trace)[1]
+        yield f"what is told of {what}", page.text_of("told") == programs.explain(text, trace)[1]
+        yield f"what can be played of {what}", sorted(page.buttons()) == sorted(programs.counting(text, trace))
+        yield f"the numbers beside {what}", sorted(page.marks()) == sorted(programs.marks(text, trace))
+
+
+def as_written(page, programs):
+    """Yields whether a trace is passed on as it is written, with the newline that its last line lacks and no other."""
+    text = read(EXAMPLES[0])
+    page.write("text", text)
+    for trace, passed in WRITTEN:
+        page.write("trace", trace)
+        page.click("#last")
+        yield f"what is told of the trace {trace!r}", page.text_of("told") == programs.explain(text, passed)[1]
+        yield f"what stands of the trace {trace!r}", page.shown() == programs.view(text, passed)[1]
+        yield f"the trace {trace!r} stays", page.written("trace") == trace
+    page.write("trace", "step 0\n\n")
+    yield "an empty line is T1", page.text_of("told").startswith('error T1, line 2: ""\n')
 
 
 def verdicts(page, programs):
@@ -211,12 +369,75 @@ def verdicts(page, programs):
     text = read(EXAMPLES[0])
     page.write("text", text)
     yield "accepted", page.text_of("verdict") == "accepted\n" + programs.says(programs.sts, "verify", [text])[1]
-    yield "no mark", page.chromium.value("element('mark').hidden")
-    for text, line in (("func main 0\npush 1\npuhs 7\nret\nend\n", 3), ("func main 0\n\npop\nret\nend\n", 3)):
+    yield "no mark", page.marked() == []
+    for text, line in (("func main 0\npush 1\npuhs 7\nret\nend\n", 3), ("func main 0\n\npop\nret\nend\n", 3), (TOO_LONG, 10)):
         page.write("text", text)
-        marked = "[...document.querySelectorAll('#gutter .refused')].map((it) => it.dataset.line).join()"
-        yield f"line {line} is marked", page.chromium.value(marked) == str(line)
+        yield f"line {line} is marked", page.marked() == [line, line]
         yield f"line {line} is explained", f", line {line}:" in page.text_of("verdict")
+    for text, lines, _ in rows():
+        about = ABOUT.match(lines)
+        page.write("text", text)
+        yield f"the line of {lines[:60]!r}", page.marked() == ([int(about[1] or about[2])] * 2 if about else [])
+    text = "\n" * 150000 + "puhs 7\n"
+    page.write("text", text)
+    yield "a text of many lines", page.text_of("verdict") == programs.says(programs.look, "explain", [text])[1]
+    yield "its line", page.marked() == [150001, 150001]
+    head = page.chromium.value(r"lineOf('error A9 C6 in kid, line 7: func kid 9\na slot, local or key above 15\n')")
+    yield "the line of a function's head", head == 7
+
+
+def in_view(page):
+    """Yields whether the editor is scrolled to the line that is marked, but not away from where someone writes."""
+    before = "func main 0\n" + "push 1\npop\n" * 40
+    page.write("text", f"{before}puhs 7\nret\nend\n")
+    yield "line 82 is in view", page.marked() == [82, 82]
+    page.write("text", f"{before}push 7\nret\nend\n")
+    page.chromium.value("element('text').focus(), element('text').setSelectionRange(0, 0), element('editor').scrollTop = 0")
+    write = f"element('text').setRangeText({json.dumps(before + 'puhs')}, 0, {len(before) + 4}, 'start')"
+    page.chromium.value(f"{write}, element('text').dispatchEvent(new Event('input'))")
+    yield "it stays where someone writes", page.chromium.value("element('editor').scrollTop") == 0
+    page.chromium.value("element('text').blur()")
+    yield "line 82 is in view afterwards", page.marked() == [82, 82]
+
+
+def place_kept(page, programs):
+    """Yields whether the page shows as many events as before, once a fault is mended or the trace is long enough again."""
+    path = EXAMPLES[NAMES.index("failure_stops_siblings.sts")]
+    text, trace = read(path), read(f"{path[:-4]}.trace")
+    fifth = programs.view(text, beginnings(trace)[5])[1]
+    page.choose(EXAMPLES.index(path))
+    page.click(".columns button:nth-child(6)")
+    for identity, whole, other in (("text", text, f"puhs\n{text}"), ("trace", trace, f"\n{trace}"), ("trace", trace, "")):
+        page.write(identity, other)
+        yield f"event 5 isn't there with {other[:8]!r}", page.shown() != fifth
+        page.write(identity, whole)
+        yield f"event 5 is shown again after {other[:8]!r}", page.shown() == fifth
+
+
+def legends(page):
+    """Yields whether the words and marks are explained as docs/LOOK.md explains them, once they are opened."""
+    tables = re.findall(r"^(\| (?:Line|Drawn) \|.*\n)\|.*\n((?:\|.*\n)+)", read(LOOK_PAGE), re.M)
+    lines = [line for head, body in tables for line in [head.strip(), *body.splitlines()]]
+    wanted = [[it.strip().replace("`", "") for it in line.strip("|").split("|")] for line in lines]
+    yield "the words and marks", page.each(".legend tr", "[...it.children].map((cell) => cell.textContent)") == wanted
+    for word in ("unheard", "may-expire", "waits close"):
+        yield f"{word} is explained", any(word in it[0] for it in wanted)
+    yield "they are closed", set(page.each(".legend table", "it.checkVisibility()")) == {False}
+    for number in range(len(page.each(".legend", "0"))):
+        page.chromium.value(f"document.querySelectorAll('.legend summary')[{number}].click()")
+    yield "they are open", set(page.each(".legend table", "it.checkVisibility()")) == {True}
+    page.each(".legend", "it.open = false")
+
+
+def mouse(page):
+    """Yields whether a number beside the listing and a column can be reached by the mouse."""
+    page.choose(NAMES.index("failure_stops_siblings.sts"))
+    page.write("trace", "step 0\nstep 0\n")
+    page.click("#last")
+    page.tap('#listing [data-event="step 1"]')
+    yield "a number is clicked", page.written("trace") == "step 0\nstep 0\nstep 1\n"
+    page.tap(".columns button:nth-child(2)")
+    yield "a column is clicked", page.text_of("head") == "after 1 step 0"
 
 
 def keyboard(page):
@@ -228,12 +449,16 @@ def keyboard(page):
     page.chromium.press("Enter", 13)
     yield "two steps by the keyboard", page.written("trace") == "step 0\nstep 0\n"
     yield "the focus stays", page.chromium.value("document.activeElement.dataset.event") == "step 0"
+    page.chromium.value("document.querySelector('.columns button:nth-child(2)').focus()")
+    page.chromium.press("Enter", 13)
+    yield "a column by the keyboard", page.text_of("head") == "after 1 step 0"
+    yield "the focus stays on it", page.each(".columns :focus", "it.textContent") == ["1"]
 
 
 def names(page):
     """Yields whether each control has a name for those who can't see the page."""
     nodes = page.chromium.ask("Accessibility.getFullAXTree")["nodes"]
-    kinds = {"button", "textbox", "combobox", "checkbox"}
+    kinds = {"button", "textbox", "combobox", "checkbox", "DisclosureTriangle", "image"}
     controls = [it for it in nodes if it.get("role", {}).get("value") in kinds and not it.get("ignored")]
     yield "there are controls", len(controls) > 8
     for node in controls:
@@ -241,7 +466,7 @@ def names(page):
 
 
 def photographed(page):
-    page.choose([os.path.basename(it) for it in EXAMPLES].index("failure_stops_siblings.sts"))
+    page.choose(NAMES.index("failure_stops_siblings.sts"))
     page.click('[title^="after 9 "]')
     for scheme in ("dark", "light"):
         page.chromium.prefer(scheme)
@@ -253,11 +478,17 @@ def tried(path, programs):
     try:
         page = Page(chromium)
         chromium.open(f"file://{PAGE}", "document.body?.dataset.ready === 'yes'")
+        print(chromium.ask("Browser.getVersion")["product"])
         yield from all_calls(page, programs)
         yield from explanations(page)
         yield from all_played(page, programs)
         yield from faults_told(page, programs)
+        yield from as_written(page, programs)
         yield from verdicts(page, programs)
+        yield from in_view(page)
+        yield from place_kept(page, programs)
+        yield from legends(page)
+        yield from mouse(page)
         yield from keyboard(page)
         yield from names(page)
         photographed(page)
