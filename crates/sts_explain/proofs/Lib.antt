@@ -4,6 +4,8 @@ pub mod FaultLemmas
 pub mod TellLemmas
 pub mod PlaceLemmas
 pub mod StandLemmas
+pub mod HeadLemmas
+pub mod HeadLaw
 pub mod ForwardLemmas
 pub mod MeetingLemmas
 pub mod FullLemmas

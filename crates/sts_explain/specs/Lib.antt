@@ -1,5 +1,7 @@
 pub mod Sentences
 pub mod Wrong
+pub mod Heads
+pub mod Checks
 pub mod Lines
 pub mod Places
 pub mod Output

@@ -2,6 +2,7 @@
 
 ghost use Rattle.sts_explain.specs.Places.{LinesSayInstructions, FunctionsSayInstructions};
 ghost use Rattle.sts_explain.specs.Places.{LinesStandInText};
+ghost use Rattle.sts_explain.specs.Heads.{HeadsBeginFunctions};
 ghost use Rattle.sts_explain.specs.Reading.{PartsReadApart};
 
 /// Each instruction of the program that a text spells has a line in the text, whose words spell it:
@@ -20,6 +21,12 @@ pub fn lines_say_the_instructions_of_functions()
 /// Nothing is done.
 pub fn lines_stand_in_the_text()
     ensures { LinesStandInText }
+{}
+
+/// So does the line by which a function is told: it begins with `func` and the name of the function.
+/// Nothing is done.
+pub fn heads_begin_functions()
+    ensures { HeadsBeginFunctions }
 {}
 
 /// Of a part in which two typestates differ the words for the one differ from those for the other,

@@ -3,6 +3,7 @@
 ghost use Rattle.std.specs.Prelude.{◌≡◌, ◌++◌, OnOk};
 ghost use Rattle.std.specs.Option.{option_copied};
 ghost use Rattle.sts_list.specs.Spelling.{after_spaces};
+ghost use Rattle.sts_explain.specs.Checks.{line_words};
 ghost use Rattle.sts_explain.specs.Lines as def;
 
 use crate::checks::say_code_place;
@@ -44,7 +45,7 @@ pub(crate) fn say_line<'a>(
     line: u32,
     words: Words<'a>,
 ) -> Result<(), AllocError>
-    ensures { OnOk result (out.new.items ≡ out.old.items ++ def.line_words line words.entry) }
+    ensures { OnOk result (out.new.items ≡ out.old.items ++ line_words line words.entry) }
 {
     let number = format!(in alloc; ", line {line}:")?;
     say(out, number.as_str())?;

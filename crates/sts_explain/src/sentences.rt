@@ -36,7 +36,7 @@ pub(crate) fn cause_sentence(cause: Cause) -> &'static str
             "the scope is the one that this function is a subtask of: only its owner may do this"
         }
         Cause::IllegalState => {
-            "the scope or subtask isn't known to be in the state for it: see its join or case"
+            "a scope has forks, then join, then close; an end is read where join or case tells it"
         }
         Cause::Structure => {
             "what opened last ends first, in its loop, all before ret or fail; no fork after a bind"
@@ -45,7 +45,7 @@ pub(crate) fn cause_sentence(cause: Cause) -> &'static str
         Cause::Unbound =>
             "a key that it or its subtask needs is neither bound here nor in the function's needs",
         Cause::JoinEdges => {
-            "failed has a label just under all, any and awaitok, and timeout just where timed"
+            "failed has a label exactly under all, any and awaitok, and timeout exactly where timed"
         }
         Cause::TooManySteps => "some path takes more than 1000000 steps",
         Cause::TooManyTasks => "at some point of a path more than 65536 tasks stand",

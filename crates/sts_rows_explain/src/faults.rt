@@ -83,7 +83,7 @@ static FAULTS: [Row; 19] = [
     Row {
         name: "65 functions",
         text: &[Part(65, "func f 0 / push 0 / ret / end")],
-        lines: "error A9 C1 / there are more than 64 functions",
+        lines: "error A9 C1 in f, line 257: func f 0 / there are more than 64 functions",
         status: 3,
     },
     Row {
@@ -93,7 +93,7 @@ static FAULTS: [Row; 19] = [
             Part(4096, "push 1"),
             Part(1, "ret / end"),
         ],
-        lines: "error A9 C2 in main / the function has more than 4096 instructions",
+        lines: "error A9 C2 in main, line 1: func main 0 / the function has more than 4096 instructions",
         status: 3,
     },
     Row {
@@ -114,7 +114,7 @@ static FAULTS: [Row; 19] = [
     Row {
         name: "no main",
         text: &[Part(1, "func main 1 / ret / end")],
-        lines: "error A9 C5 / the last function isn't main with no arguments and no needs, or there is none",
+        lines: "error A9 C5 in main, line 1: func main 1 / the last function isn't main with no arguments and no needs, or there is none",
         status: 3,
     },
     Row {
@@ -129,7 +129,7 @@ static FAULTS: [Row; 19] = [
             Part(2, "func kid 0 / push 0 / ret / end"),
             Part(1, "func main 0 / push 0 / ret / end"),
         ],
-        lines: "error A9 C7 in kid / an earlier function has the same name",
+        lines: "error A9 C7 in kid, line 5: func kid 0 / an earlier function has the same name",
         status: 3,
     },
 ];

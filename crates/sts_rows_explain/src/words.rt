@@ -309,7 +309,7 @@ static NAMES: [Row; 8] = [
     },
 ];
 
-static CHECKS: [Row; 5] = [
+static CHECKS: [Row; 6] = [
     Row {
         name: "a slot past the last",
         text: &[Part(1, "func main 0 / open s16 all / ret / end")],
@@ -322,13 +322,13 @@ static CHECKS: [Row; 5] = [
             1,
             "func kid 9 / push 0 / ret / end / func main 0 / push 0 / ret / end",
         )],
-        lines: "error A9 C6 in kid / a slot, local or key above 15, turns not 1 to 10000, ends not 1 to 65536, over 8 arguments, or no code",
+        lines: "error A9 C6 in kid, line 1: func kid 9 / a slot, local or key above 15, turns not 1 to 10000, ends not 1 to 65536, over 8 arguments, or no code",
         status: 3,
     },
     Row {
         name: "no instruction",
         text: &[Part(1, "func kid 0 / end / func main 0 / push 0 / ret / end")],
-        lines: "error A9 C6 in kid / a slot, local or key above 15, turns not 1 to 10000, ends not 1 to 65536, over 8 arguments, or no code",
+        lines: "error A9 C6 in kid, line 1: func kid 0 / a slot, local or key above 15, turns not 1 to 10000, ends not 1 to 65536, over 8 arguments, or no code",
         status: 3,
     },
     Row {
@@ -338,6 +338,15 @@ static CHECKS: [Row; 5] = [
             "func kid 0 / push 0 / ; on / fork s0 main _ / ret / end / func main 0 / push 0 / ret / end",
         )],
         lines: "error A9 C4 in kid, line 4: fork s0 main _ / it forks a function that doesn't stand before this one",
+        status: 3,
+    },
+    Row {
+        name: "a last function that isn't main",
+        text: &[Part(
+            1,
+            "func main 0 / push 0 / ret / end / ; func / \tfunc  kid 0 needs 3;x / push 0 / ret / end",
+        )],
+        lines: "error A9 C5 in kid, line 6: func kid 0 needs 3 / the last function isn't main with no arguments and no needs, or there is none",
         status: 3,
     },
     Row {
