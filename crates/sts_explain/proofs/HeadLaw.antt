@@ -13,7 +13,7 @@ use Rattle.sts_asm.specs.Fault.{◌>>=◌, at_line}
 use Rattle.sts_asm.specs.Line.{instr_of}
 use Rattle.sts_asm.specs.Marks.{marked}
 use Rattle.sts_asm.specs.Operand.{name_at, number_at, named, finished}
-use Rattle.sts_asm.specs.Outline.{Draft, Outline, empty, profile_at, profiled, needs_at, header_at, with_function, begun, ended, label_of, labelled, with_label, with_sentence, inner, inside, said, is_allowed, is_semicolon, line_read, lines_read, outline_of}
+use Rattle.sts_asm.specs.Outline.{Draft, Outline, empty, profile_at, profiled, needs_at, header_at, with_function, ended, label_of, with_label, with_sentence, inner, inside, said, is_allowed, is_semicolon, line_read, lines_read, outline_of}
 use Rattle.sts_asm.specs.Source.{words_of, words_at}
 use Rattle.sts_explain.specs.Heads.{is_head, heads_from, head_at, Begins, HeadsBeginFunctions}
 use Rattle.sts_explain.proofs.PlaceLemmas.{line_says}
@@ -103,9 +103,9 @@ said_opens at o (word ∷ rest) p h =
     begun_opens o o.current rest p refl e ∙ ap (λ (w : List ℕ). openings o ++ take 2 (w ∷ rest) ∷ []) (sym func) ∙ ap (λ (b : Bool). openings o ++ begun_by b (word ∷ rest)) (sym b)))
     (λ b h. (
     let other : openings p ≡ openings o =
-      either_way (bytes_eq word (codes "end")) _ _ p h (λ c e. ended_same o o.current rest p refl e)
-      (λ c h. either_way (at == 1 && bytes_eq word (codes "profile")) _ _ p h (λ c e. profiled_same o rest p e)
-      (λ c e. inside_same at o o.current word rest p refl e)) in
+    either_way (bytes_eq word (codes "end")) _ _ p h (λ c e. ended_same o o.current rest p refl e)
+    (λ c h. either_way (at == 1 && bytes_eq word (codes "profile")) _ _ p h (λ c e. profiled_same o rest p e)
+    (λ c e. inside_same at o o.current word rest p refl e)) in
     other ∙ sym (append-nil (openings o)) ∙ ap (λ (b : Bool). openings o ++ begun_by b (word ∷ rest)) (sym b)))
 
 line_opens : (at : ℕ) (o : Outline) (line : List ℕ) (p : Outline) → at_line at (line_read at o line) ≡ Ok p → openings p ≡ openings o ++ begun_by (is_head (words_of (Some line))) (words_of (Some line))
@@ -134,8 +134,8 @@ lines_open text at o (line ∷ more) p first from e =
     let later : List (List (List ℕ)) = first_words text (heads_from (at + 1) more) in
     after (at_line at (line_read at o line)) _ p e (λ q r f. (
     let rest_opens = lines_open text (at + 1) q more p (omega arith) (λ n. (
-      let next : at + suc n - 1 ≡ at + 1 + n - 1 = omega arith in
-      subst (λ (m : ℕ). slice_get (lines text) m ≡ slice_get more n) next (from (suc n)))) f in
+    let next : at + suc n - 1 ≡ at + 1 + n - 1 = omega arith in
+    subst (λ (m : ℕ). slice_get (lines text) m ≡ slice_get more n) next (from (suc n)))) f in
     rest_opens ∙ ap (λ (xs : List (List (List ℕ))). xs ++ later) (line_opens at o line q r) ∙ append_assoc (openings o) added later
     ∙ ap (λ (xs : List (List (List ℕ))). openings o ++ xs) (heads_first text at line more head stands refl)))
 

@@ -1,12 +1,12 @@
 -- The line that begins a function, as it is looked for.
-use Rattle.std.proofs.Common.{◌≡◌, ℕ, zero, suc, ◌+◌, ◌-◌, ◌<◌, ◌≤◌, List, [], ◌∷◌, Bool, true, false, length, slice_get, refl, sym, ap, subst, ◌∙◌, arith}
-use Rattle.std.specs.Prelude.{Some, None, Option, Result, Ok, Err, if◌then◌else◌, nat_lt}
+use Rattle.std.proofs.Common.{◌≡◌, ℕ, zero, suc, ◌+◌, ◌-◌, ◌<◌, ◌≤◌, List, [], ◌∷◌, Bool, true, false, length, slice_get, refl, sym, ap, ◌∙◌, arith}
+use Rattle.std.specs.Prelude.{Some, None, Result, Ok, Err, if◌then◌else◌, nat_lt}
 use Rattle.sts_text.specs.Words.{lines}
 use Rattle.sts_asm.specs.declared.fault.AsmKind.TheVariants.{TextTooLong}
 use Rattle.sts_asm.specs.declared.fault.AsmError.{AsmError}
 use Rattle.sts_asm.specs.Outline.{Outline, outline_of}
 use Rattle.sts_asm.specs.Source.{outlined, words_of, words_at}
-use Rattle.sts_explain.specs.Heads.{is_head, heads_from, head_at}
+use Rattle.sts_explain.specs.Heads.{is_head, heads_from}
 
 -- the first of these lines is the one that is looked for
 here : (number : ℕ) (ls : List (List ℕ)) → is_head (words_of (slice_get ls 0)) ≡ true → slice_get (heads_from number ls) 0 ≡ Some number

@@ -2,6 +2,7 @@ pub mod Sentences
 pub mod Wrong
 pub mod Heads
 pub mod Checks
+pub mod Failing
 pub mod Lines
 pub mod Places
 pub mod Output

@@ -12,6 +12,7 @@ use Rattle.sts_asm.specs.declared.fault.AsmError.{AsmError}
 use Rattle.sts_rules.specs.Causes.{cause_number as refusal_number}
 use Rattle.sts_rules.specs.declared.typing.Cause.{Cause}
 use Rattle.sts_explain.specs.Checks.{line_words, code_place}
+use Rattle.sts_explain.specs.Failing.{check_line}
 use Rattle.sts_explain.specs.Sentences.{cause_sentence, kind_sentence}
 use Rattle.sts_explain.specs.Wrong.{wrong_part}
 
@@ -52,8 +53,13 @@ fault_head e text =
     codes "error A" ++ decimal (kind_number e.kind) ++ check_words e.kind
     ++ fault_place e.kind e.line text
 
+-- the wrong word or byte in its place, where the fault is of one
+abbrev pub fault_part : AsmKind → List ℕ → ℕ → List ℕ
+fault_part (Code c) text line = check_line text (outlined text) c
+fault_part kind text line = wrong_part kind text line
+
 -- where it is; what is wrong; and the wrong word or byte in its place, where the fault is of one
 abbrev pub fault_lines : AsmError → List ℕ → List ℕ
 fault_lines e text =
     fault_head e text ++ codes "\n" ++ kind_sentence e.kind ++ codes "\n"
-    ++ wrong_part e.kind text e.line
+    ++ fault_part e.kind text e.line

@@ -73,7 +73,7 @@ fn say_instr(
     }
 }
 
-fn failing(outline: &Outline<'_>, error: CodeError) -> usize
+pub(crate) fn failing(outline: &Outline<'_>, error: CodeError) -> usize
     ensures { result ≡ def.failing outline.now error.function error.cause }
 {
     match error.cause {
@@ -92,7 +92,7 @@ fn takes_too_many(args: Option<u8>) -> bool
     }
 }
 
-fn is_of_head(outline: &Outline<'_>, error: CodeError) -> bool
+pub(crate) fn is_of_head(outline: &Outline<'_>, error: CodeError) -> bool
     ensures { result ≡ def.is_of_head outline.now error.function error.pc error.cause }
 {
     match error.cause {

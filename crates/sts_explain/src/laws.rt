@@ -23,8 +23,8 @@ pub fn lines_stand_in_the_text()
     ensures { LinesStandInText }
 {}
 
-/// So does the line by which a function is told: it begins with `func` and the name of the function.
-/// Nothing is done.
+/// So does each line by which a function is told, and it begins with `func` and its name. Nothing is
+/// done.
 pub fn heads_begin_functions()
     ensures { HeadsBeginFunctions }
 {}

@@ -4,6 +4,7 @@
 mod checks;
 mod differences;
 pub mod explain;
+mod failing;
 mod heads;
 pub mod laws;
 pub mod lines;

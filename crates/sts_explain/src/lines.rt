@@ -7,6 +7,7 @@ ghost use Rattle.sts_explain.specs.Checks.{line_words};
 ghost use Rattle.sts_explain.specs.Lines as def;
 
 use crate::checks::say_code_place;
+use crate::failing::check_line;
 use crate::sentences::{cause_sentence, kind_sentence};
 use crate::wrong::wrong_part;
 use std::alloc::{AllocError, Global};
@@ -166,6 +167,21 @@ fn say_fault_head(
     say_fault_place(alloc, out, error, text)
 }
 
+fn say_fault_part(
+    alloc: Global,
+    out: &mut Vec<u8>,
+    kind: AsmKind,
+    text: &[u8],
+    line: u32,
+) -> Result<(), AllocError>
+    ensures { OnOk result (out.new.items ≡ out.old.items ++ def.fault_part kind text.now line) }
+{
+    match kind {
+        AsmKind::Code(code) => check_line(alloc, out, code, text),
+        kind => wrong_part(alloc, out, kind, text, line),
+    }
+}
+
 /// The lines of a fault of a text: where it is, what is wrong, and the wrong word or byte in its
 /// place.
 ///
@@ -184,5 +200,5 @@ pub(crate) fn fault_lines(
     say(out, "\n")?;
     say(out, kind_sentence(error.kind))?;
     say(out, "\n")?;
-    wrong_part(alloc, out, error.kind, text, error.line)
+    say_fault_part(alloc, out, error.kind, text, error.line)
 }

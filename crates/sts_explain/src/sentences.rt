@@ -137,7 +137,7 @@ pub(crate) fn wanted_sentence(wanted: Wanted) -> &'static str
         Wanted::CaseFailed => "the label for failed",
         Wanted::TallySlot => "the slot of the scope, s0 to s15",
         Wanted::State => "S, F or U",
-        Wanted::Name => "the name of the function",
+        Wanted::Name => "the name of the function, which no earlier one has",
         Wanted::Args => "how many arguments it takes, a number from 0 to 8",
         Wanted::Needs => "needs, or nothing more",
         Wanted::Key => "a key, a number from 0 to 15",

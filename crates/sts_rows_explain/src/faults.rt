@@ -108,7 +108,7 @@ static FAULTS: [Row; 19] = [
             1,
             "func main 0 / open s0 all / fork s0 main _ / push 0 / ret / end",
         )],
-        lines: "error A9 C4 in main, line 3: fork s0 main _ / it forks a function that doesn't stand before this one",
+        lines: "error A9 C4 in main, line 3: fork s0 main _ / it forks a function that doesn't stand before this one / at fork s0 [main]: wanted is a function that stands before this one",
         status: 3,
     },
     Row {
@@ -120,7 +120,7 @@ static FAULTS: [Row; 19] = [
     Row {
         name: "a bound of no turns",
         text: &[Part(1, "func main 0 / push 1 / times 0 / next / ret / end")],
-        lines: "error A9 C6 in main, line 3: times 0 / a slot, local or key above 15, turns not 1 to 10000, ends not 1 to 65536, over 8 arguments, or no code",
+        lines: "error A9 C6 in main, line 3: times 0 / a slot, local or key above 15, turns not 1 to 10000, ends not 1 to 65536, over 8 arguments, or no code / at times [0]: wanted is the bound, a number from 1 to 10000",
         status: 3,
     },
     Row {
@@ -129,7 +129,7 @@ static FAULTS: [Row; 19] = [
             Part(2, "func kid 0 / push 0 / ret / end"),
             Part(1, "func main 0 / push 0 / ret / end"),
         ],
-        lines: "error A9 C7 in kid, line 5: func kid 0 / an earlier function has the same name",
+        lines: "error A9 C7 in kid, line 5: func kid 0 / an earlier function has the same name / at func [kid]: wanted is the name of the function, which no earlier one has",
         status: 3,
     },
 ];

@@ -184,7 +184,7 @@ static FIRST_LINES: [Row; 12] = [
     Row {
         name: "a function of no name",
         text: &[Part(1, "func 1x 0")],
-        lines: "error A4, line 1: func 1x 0 / an operand is missing, of another kind, left over or badly spelled / at func [1x]: wanted is the name of the function",
+        lines: "error A4, line 1: func 1x 0 / an operand is missing, of another kind, left over or badly spelled / at func [1x]: wanted is the name of the function, which no earlier one has",
         status: 3,
     },
     Row {
@@ -309,11 +309,11 @@ static NAMES: [Row; 8] = [
     },
 ];
 
-static CHECKS: [Row; 6] = [
+static CHECKS: [Row; 9] = [
     Row {
         name: "a slot past the last",
         text: &[Part(1, "func main 0 / open s16 all / ret / end")],
-        lines: "error A9 C6 in main, line 2: open s16 all / a slot, local or key above 15, turns not 1 to 10000, ends not 1 to 65536, over 8 arguments, or no code",
+        lines: "error A9 C6 in main, line 2: open s16 all / a slot, local or key above 15, turns not 1 to 10000, ends not 1 to 65536, over 8 arguments, or no code / at open [s16]: wanted is the slot of the scope, s0 to s15",
         status: 3,
     },
     Row {
@@ -322,7 +322,7 @@ static CHECKS: [Row; 6] = [
             1,
             "func kid 9 / push 0 / ret / end / func main 0 / push 0 / ret / end",
         )],
-        lines: "error A9 C6 in kid, line 1: func kid 9 / a slot, local or key above 15, turns not 1 to 10000, ends not 1 to 65536, over 8 arguments, or no code",
+        lines: "error A9 C6 in kid, line 1: func kid 9 / a slot, local or key above 15, turns not 1 to 10000, ends not 1 to 65536, over 8 arguments, or no code / at func kid [9]: wanted is how many arguments it takes, a number from 0 to 8",
         status: 3,
     },
     Row {
@@ -337,7 +337,31 @@ static CHECKS: [Row; 6] = [
             1,
             "func kid 0 / push 0 / ; on / fork s0 main _ / ret / end / func main 0 / push 0 / ret / end",
         )],
-        lines: "error A9 C4 in kid, line 4: fork s0 main _ / it forks a function that doesn't stand before this one",
+        lines: "error A9 C4 in kid, line 4: fork s0 main _ / it forks a function that doesn't stand before this one / at fork s0 [main]: wanted is a function that stands before this one",
+        status: 3,
+    },
+    Row {
+        name: "a slot of a subtask past the last",
+        text: &[Part(
+            1,
+            "func kid 0 / push 0 / ret / end / func main 0 / fork s15 kid s16 / ret / end",
+        )],
+        lines: "error A9 C6 in main, line 6: fork s15 kid s16 / a slot, local or key above 15, turns not 1 to 10000, ends not 1 to 65536, over 8 arguments, or no code / at fork s15 kid [s16]: wanted is the slot of the subtask, s0 to s15, or _ for none",
+        status: 3,
+    },
+    Row {
+        name: "a key past the last",
+        text: &[Part(1, "func main 0 / read 15 / read 16 / ret / end")],
+        lines: "error A9 C6 in main, line 3: read 16 / a slot, local or key above 15, turns not 1 to 10000, ends not 1 to 65536, over 8 arguments, or no code / at read [16]: wanted is a number from 0 to 15",
+        status: 3,
+    },
+    Row {
+        name: "one end too many",
+        text: &[Part(
+            1,
+            "func main 0 / open s0 until failed 65537 timed / ret / end",
+        )],
+        lines: "error A9 C6 in main, line 2: open s0 until failed 65537 timed / a slot, local or key above 15, turns not 1 to 10000, ends not 1 to 65536, over 8 arguments, or no code / at open s0 until failed [65537]: wanted is how many of them, a number from 1 to 65536",
         status: 3,
     },
     Row {
