@@ -8,7 +8,8 @@ use Rattle.sts_asm.specs.Source.{name_at}
 use Rattle.sts_wanted.specs.declared.wanted.Wanted.{Wanted}
 use Rattle.sts_wanted.specs.Wanted.{Stop, behind, after, first_wrong}
 use Rattle.sts_explain.specs.Wrong.{stop_words, wrong_line}
-use Rattle.sts_explain.specs.Failing.{is_named, first_failing, wanted_there}
+use Rattle.sts_explain.specs.Labels.{is_named}
+use Rattle.sts_explain.specs.Failing.{first_failing, wanted_there}
 use Rattle.sts_explain.proofs.LineLemmas.{behind_words}
 
 -- ---- the words up to it

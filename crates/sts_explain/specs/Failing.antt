@@ -1,5 +1,5 @@
 -- The word at which a program check fails, in its place (this project's own).
-use Rattle.std.specs.Prelude.{ℕ, List, [], ◌∷◌, take, Bool, true, false, not, nat_lt, nat_le}
+use Rattle.std.specs.Prelude.{ℕ, List, [], ◌∷◌, take, Bool, true, false, not, ◌&&◌, nat_lt, nat_le}
 use Rattle.std.specs.Prelude.{Option, Some, None, is_some, option_map, Result, Ok, Err}
 use Rattle.std.specs.Prelude.{if◌then◌else◌}
 use Rattle.std.specs.List.{list_any}
@@ -17,13 +17,9 @@ use Rattle.sts_wanted.specs.Wanted.{Stop, behind, first_wrong, after}
 use Rattle.sts_wanted.specs.declared.wanted.Wanted.{Wanted}
 use Rattle.sts_wanted.specs.declared.wanted.Wanted.TheVariants as w
 use Rattle.sts_explain.specs.Heads.{head_at}
+use Rattle.sts_explain.specs.Labels.{is_behind}
 use Rattle.sts_explain.specs.Checks.{failing, is_of_head}
 use Rattle.sts_explain.specs.Wrong.{wrong_line}
-
--- is this the name?
-abbrev pub is_named : Option (List ℕ) → List ℕ → Bool
-is_named None word = false
-is_named (Some name) word = bytes_eq name word
 
 -- does an earlier function have this name?
 abbrev pub is_earlier : Outline → ℕ → List ℕ → Bool
@@ -60,17 +56,28 @@ is_in_range w.TallySlot word = is_slot (slot word)
 is_in_range w.Args word = is_some (number_up_to MAX_ARGS word)
 is_in_range wanted word = true
 
--- does the word pass the check? Of a label behind the last instruction none is told.
-abbrev pub passes : Outline → ℕ → CodeCause → Wanted → List ℕ → Bool
-passes o f code.LaterFunction w.Function word = is_earlier o f word
-passes o f code.DuplicateName w.Name word = not (is_earlier o f word)
-passes o f code.BadRange wanted word = is_in_range wanted word
-passes o f cause wanted word = true
+-- is a label wanted?
+abbrev pub is_label : Wanted → Bool
+is_label w.Label = true
+is_label w.JoinFailed = true
+is_label w.JoinTimeout = true
+is_label w.JoinInterrupted = true
+is_label w.CaseSuccess = true
+is_label w.CaseFailed = true
+is_label wanted = false
+
+-- does the word pass the check?
+abbrev pub passes : List ℕ → Outline → ℕ → CodeCause → Wanted → List ℕ → Bool
+passes text o f code.BadTarget wanted word = not (is_label wanted && is_behind text o f word)
+passes text o f code.LaterFunction w.Function word = is_earlier o f word
+passes text o f code.DuplicateName w.Name word = not (is_earlier o f word)
+passes text o f code.BadRange wanted word = is_in_range wanted word
+passes text o f cause wanted word = true
 
 -- what is wanted instead of a word that doesn't
 abbrev pub wanted_there : Wanted → Wanted
 wanted_there w.Function = w.KnownFunction
-wanted_there wanted = wanted
+wanted_there wanted = if is_label wanted then w.KnownLabel else wanted
 
 -- the first word that doesn't pass a test, and what is wanted there
 abbrev pub first_failing : (Wanted → List ℕ → Bool) → Wanted → List (List ℕ) → Option Stop
@@ -97,7 +104,7 @@ check_words text o e =
 
 -- the first of them that doesn't pass it
 abbrev pub check_stop : List ℕ → Outline → CodeError → Option Stop
-check_stop text o e = first_failing (passes o e.function e.cause) w.First (check_words text o e)
+check_stop text o e = first_failing (passes text o e.function e.cause) w.First (check_words text o e)
 
 -- its line, by the functions of a text, if they were read
 abbrev pub check_line : List ℕ → Result Outline AsmError → CodeError → List ℕ

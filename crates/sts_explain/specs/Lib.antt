@@ -1,6 +1,7 @@
 pub mod Sentences
 pub mod Wrong
 pub mod Heads
+pub mod Labels
 pub mod Checks
 pub mod Failing
 pub mod Lines

@@ -83,7 +83,7 @@ wanted_sentence wanted.Inside =
     codes "func: labels, instructions and end stand inside a function only"
 wanted_sentence wanted.TopLine = codes "another word: profile stands on line 1 only"
 wanted_sentence wanted.NewLabel = codes "a label that this function hasn't yet"
-wanted_sentence wanted.KnownLabel = codes "a label of this function"
+wanted_sentence wanted.KnownLabel = codes "a label before an instruction of this function"
 wanted_sentence wanted.KnownFunction = codes "a function that stands before this one"
 wanted_sentence wanted.Nothing = codes "nothing more"
 wanted_sentence wanted.Byte = codes "a number from 0 to 15"

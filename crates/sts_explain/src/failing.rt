@@ -5,10 +5,12 @@ ghost use Rattle.std.specs.Option.{option_copied};
 ghost use Rattle.sts_asm.specs.Source.{outlined as outlined_of};
 ghost use Rattle.sts_wanted.specs.declared.wanted.Wanted.TheVariants.{First};
 ghost use Rattle.sts_explain.specs.Failing as def;
+ghost use Rattle.sts_explain.specs.Labels.{is_named};
 ghost use Rattle.sts_explain.specs.Wrong.{wrong_line};
 
 use crate::checks::{failing, is_of_head};
 use crate::heads::head_line;
+use crate::labels::is_behind;
 use crate::wrong::say_word;
 use std::alloc::{AllocError, Global};
 use sts_asm::{AsmError, AsmKind, Outline, Sentence, handle, outlined, slot, words_at};
@@ -18,7 +20,7 @@ use sts_text::{Words, number_up_to};
 use sts_wanted::wanted::Wanted;
 
 fn is_named(name: Option<&str>, word: &[u8]) -> bool
-    ensures { result ≡ def.is_named (option_map (λ n. n.now) name.entry) word.now }
+    ensures { result ≡ is_named (option_map (λ n. n.now) name.entry) word.now }
 {
     match name {
         None => false,
@@ -84,10 +86,28 @@ fn is_in_range(wanted: Wanted, word: &[u8]) -> bool
     }
 }
 
-fn passes(outline: &Outline<'_>, error: CodeError, wanted: Wanted, word: &[u8]) -> bool
-    ensures { result ≡ def.passes outline.now error.function error.cause wanted word.now }
+fn is_label(wanted: Wanted) -> bool
+    ensures { result ≡ def.is_label wanted }
+{
+    matches!(
+        wanted,
+        Wanted::Label
+            | Wanted::JoinFailed
+            | Wanted::JoinTimeout
+            | Wanted::JoinInterrupted
+            | Wanted::CaseSuccess
+            | Wanted::CaseFailed
+    )
+}
+
+fn passes(outline: &Outline<'_>, error: CodeError, text: &[u8], wanted: Wanted, word: &[u8]) -> bool
+    ensures { result
+        ≡ def.passes text.now outline.now error.function error.cause wanted word.now }
 {
     match (error.cause, wanted) {
+        (CodeCause::BadTarget, _) => {
+            !(is_label(wanted) && is_behind(outline, error.function, text, word))
+        }
         (CodeCause::LaterFunction, Wanted::Function) => is_earlier(outline, error.function, word),
         (CodeCause::DuplicateName, Wanted::Name) => !is_earlier(outline, error.function, word),
         (CodeCause::BadRange, _) => is_in_range(wanted, word),
@@ -100,7 +120,11 @@ fn wanted_there(wanted: Wanted) -> Wanted
 {
     match wanted {
         Wanted::Function => Wanted::KnownFunction,
-        _ => wanted,
+        _ => if is_label(wanted) {
+            Wanted::KnownLabel
+        } else {
+            wanted
+        },
     }
 }
 
@@ -110,10 +134,11 @@ fn say_failing<'a>(
     out: &mut Vec<u8>,
     outline: &Outline<'_>,
     error: CodeError,
+    text: &[u8],
     words: Words<'a>,
 ) -> Result<(), AllocError>
     ensures { OnOk result (out.new.items ≡ out.old.items ++ wrong_line
-        (def.first_failing (def.passes outline.now error.function error.cause)
+        (def.first_failing (def.passes text.now outline.now error.function error.cause)
         First words.entry)) }
 {
     let mut wanted = Wanted::First;
@@ -121,7 +146,7 @@ fn say_failing<'a>(
     let mut told = Vec::new(alloc);
     told.extend_from_slice(b"at")?;
     while let Some(word) = left.word() {
-        if !passes(outline, error, wanted, word) {
+        if !passes(outline, error, text, wanted, word) {
             out.extend_from_slice(told.as_slice())?;
             return say_word(out, word, wanted_there(wanted));
         }
@@ -182,6 +207,7 @@ pub(crate) fn check_line(
             out,
             &outline,
             error,
+            text,
             check_words(&outline, error, text),
         ),
         Err(

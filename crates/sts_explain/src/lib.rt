@@ -6,6 +6,7 @@ mod differences;
 pub mod explain;
 mod failing;
 mod heads;
+mod labels;
 pub mod laws;
 pub mod lines;
 pub mod parts;

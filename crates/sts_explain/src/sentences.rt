@@ -110,7 +110,7 @@ pub(crate) fn wanted_sentence(wanted: Wanted) -> &'static str
         Wanted::Inside => "func: labels, instructions and end stand inside a function only",
         Wanted::TopLine => "another word: profile stands on line 1 only",
         Wanted::NewLabel => "a label that this function hasn't yet",
-        Wanted::KnownLabel => "a label of this function",
+        Wanted::KnownLabel => "a label before an instruction of this function",
         Wanted::KnownFunction => "a function that stands before this one",
         Wanted::Nothing => "nothing more",
         Wanted::Byte => "a number from 0 to 15",

@@ -53,7 +53,7 @@ static FAULTS: [Row; 19] = [
     Row {
         name: "no such label",
         text: &[Part(1, "func main 0 / push 1 / jmp   there ; on / ret / end")],
-        lines: "error A5, line 3: jmp there / a label that isn't in this function, or a function that isn't in this text / at jmp [there]: wanted is a label of this function",
+        lines: "error A5, line 3: jmp there / a label that isn't in this function, or a function that isn't in this text / at jmp [there]: wanted is a label before an instruction of this function",
         status: 3,
     },
     Row {
@@ -99,7 +99,7 @@ static FAULTS: [Row; 19] = [
     Row {
         name: "a label at the end",
         text: &[Part(1, "func main 0 / jmp x / x: / end")],
-        lines: "error A9 C3 in main, line 2: jmp x / a label that stands behind the last instruction of its function",
+        lines: "error A9 C3 in main, line 2: jmp x / a label that stands behind the last instruction of its function / at jmp [x]: wanted is a label before an instruction of this function",
         status: 3,
     },
     Row {

@@ -274,31 +274,31 @@ static NAMES: [Row; 8] = [
             1,
             "func f 0 / x: / ret / end / func main 0 / jmp x / ret / end",
         )],
-        lines: "error A5, line 6: jmp x / a label that isn't in this function, or a function that isn't in this text / at jmp [x]: wanted is a label of this function",
+        lines: "error A5, line 6: jmp x / a label that isn't in this function, or a function that isn't in this text / at jmp [x]: wanted is a label before an instruction of this function",
         status: 3,
     },
     Row {
         name: "a jump to a function",
         text: &[Part(1, "func f 0 / ret / end / func main 0 / jz f / ret / end")],
-        lines: "error A5, line 5: jz f / a label that isn't in this function, or a function that isn't in this text / at jz [f]: wanted is a label of this function",
+        lines: "error A5, line 5: jz f / a label that isn't in this function, or a function that isn't in this text / at jz [f]: wanted is a label before an instruction of this function",
         status: 3,
     },
     Row {
         name: "a case whose second label isn't there",
         text: &[Part(1, "func main 0 / case s1 yes no / yes: / ret / end")],
-        lines: "error A5, line 2: case s1 yes no / a label that isn't in this function, or a function that isn't in this text / at case s1 yes [no]: wanted is a label of this function",
+        lines: "error A5, line 2: case s1 yes no / a label that isn't in this function, or a function that isn't in this text / at case s1 yes [no]: wanted is a label before an instruction of this function",
         status: 3,
     },
     Row {
         name: "a join whose labels are there but the last",
         text: &[Part(1, "func main 0 / x: / join s0 x - intr / end")],
-        lines: "error A5, line 3: join s0 x - intr / a label that isn't in this function, or a function that isn't in this text / at join s0 x - [intr]: wanted is a label of this function",
+        lines: "error A5, line 3: join s0 x - intr / a label that isn't in this function, or a function that isn't in this text / at join s0 x - [intr]: wanted is a label before an instruction of this function",
         status: 3,
     },
     Row {
         name: "a join of which no label is there",
         text: &[Part(1, "func main 0 / join s0 - late intr / end")],
-        lines: "error A5, line 2: join s0 - late intr / a label that isn't in this function, or a function that isn't in this text / at join s0 - [late]: wanted is a label of this function",
+        lines: "error A5, line 2: join s0 - late intr / a label that isn't in this function, or a function that isn't in this text / at join s0 - [late]: wanted is a label before an instruction of this function",
         status: 3,
     },
     Row {
@@ -309,7 +309,7 @@ static NAMES: [Row; 8] = [
     },
 ];
 
-static CHECKS: [Row; 9] = [
+static CHECKS: [Row; 11] = [
     Row {
         name: "a slot past the last",
         text: &[Part(1, "func main 0 / open s16 all / ret / end")],
@@ -362,6 +362,24 @@ static CHECKS: [Row; 9] = [
             "func main 0 / open s0 until failed 65537 timed / ret / end",
         )],
         lines: "error A9 C6 in main, line 2: open s0 until failed 65537 timed / a slot, local or key above 15, turns not 1 to 10000, ends not 1 to 65536, over 8 arguments, or no code / at open s0 until failed [65537]: wanted is how many of them, a number from 1 to 65536",
+        status: 3,
+    },
+    Row {
+        name: "a case whose second label is behind the last instruction",
+        text: &[Part(
+            1,
+            "func main 0 / a: / push 0 / case s1 a b / ; on / \tb: ; x / c: / end",
+        )],
+        lines: "error A9 C3 in main, line 4: case s1 a b / a label that stands behind the last instruction of its function / at case s1 a [b]: wanted is a label before an instruction of this function",
+        status: 3,
+    },
+    Row {
+        name: "a join whose timeout label is behind the last instruction",
+        text: &[Part(
+            1,
+            "func main 0 / join s0 - late intr / intr: / ret / late: / end / func kid 0 / intr: / ret / end",
+        )],
+        lines: "error A9 C3 in main, line 2: join s0 - late intr / a label that stands behind the last instruction of its function / at join s0 - [late]: wanted is a label before an instruction of this function",
         status: 3,
     },
     Row {

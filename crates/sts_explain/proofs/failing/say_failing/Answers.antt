@@ -7,7 +7,7 @@ use Rattle.sts_explain.proofs.failing.say_failing.Goals as goal
 pub loop-word-preserved : goal.loop-word-preserved
 loop-word-preserved c =
     let l = c.loop-word in
-    let test = def.passes c.args.outline.now c.args.error.function c.args.error.cause in
+    let test = def.passes c.args.text.now c.args.outline.now c.args.error.function c.args.error.cause in
     let word = c.in-Some.word.now in
     let pass : test l.wanted word ≡ true = grind (arith, common_steps, c.if-not-passes.false, c.passes.ensures) in
     record {

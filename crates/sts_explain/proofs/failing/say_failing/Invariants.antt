@@ -9,8 +9,8 @@ use Rattle.sts_explain.proofs.failing.say_failing.Given as goal
 abbrev pub invariant-loop-word : goal.invariant-loop-word
 invariant-loop-word l = record {
   same : l.out.items ≡ l.initial.out.items;
-  told : said_if l.told.items (first_failing (passes l.fn.outline l.fn.error.function l.fn.error.cause) l.wanted l.left)
-      ≡ said_if (codes "at") (first_failing (passes l.fn.outline l.fn.error.function l.fn.error.cause) First l.fn.words);
+  told : said_if l.told.items (first_failing (passes l.fn.text l.fn.outline l.fn.error.function l.fn.error.cause) l.wanted l.left)
+      ≡ said_if (codes "at") (first_failing (passes l.fn.text l.fn.outline l.fn.error.function l.fn.error.cause) First l.fn.words);
 }
 
 abbrev pub decreases-loop-word : goal.decreases-loop-word
