@@ -309,7 +309,7 @@ static NAMES: [Row; 8] = [
     },
 ];
 
-static CHECKS: [Row; 11] = [
+static CHECKS: [Row; 16] = [
     Row {
         name: "a slot past the last",
         text: &[Part(1, "func main 0 / open s16 all / ret / end")],
@@ -362,6 +362,36 @@ static CHECKS: [Row; 11] = [
             "func main 0 / open s0 until failed 65537 timed / ret / end",
         )],
         lines: "error A9 C6 in main, line 2: open s0 until failed 65537 timed / a slot, local or key above 15, turns not 1 to 10000, ends not 1 to 65536, over 8 arguments, or no code / at open s0 until failed [65537]: wanted is how many of them, a number from 1 to 65536",
+        status: 3,
+    },
+    Row {
+        name: "a slot past the last, of a close",
+        text: &[Part(1, "func main 0 / close s16 / ret / end")],
+        lines: "error A9 C6 in main, line 2: close s16 / a slot, local or key above 15, turns not 1 to 10000, ends not 1 to 65536, over 8 arguments, or no code / at close [s16]: wanted is a slot, s0 to s15",
+        status: 3,
+    },
+    Row {
+        name: "a slot past the last, of a tally",
+        text: &[Part(1, "func main 0 / tally s15 S / tally s255 U / ret / end")],
+        lines: "error A9 C6 in main, line 3: tally s255 U / a slot, local or key above 15, turns not 1 to 10000, ends not 1 to 65536, over 8 arguments, or no code / at tally [s255]: wanted is the slot of the scope, s0 to s15",
+        status: 3,
+    },
+    Row {
+        name: "a slot past the last, of a case",
+        text: &[Part(1, "func main 0 / x: / case s16 x x / ret / end")],
+        lines: "error A9 C6 in main, line 3: case s16 x x / a slot, local or key above 15, turns not 1 to 10000, ends not 1 to 65536, over 8 arguments, or no code / at case [s16]: wanted is the slot of the subtask, s0 to s15",
+        status: 3,
+    },
+    Row {
+        name: "no end that is waited for",
+        text: &[Part(1, "func main 0 / open s15 until success 0 / ret / end")],
+        lines: "error A9 C6 in main, line 2: open s15 until success 0 / a slot, local or key above 15, turns not 1 to 10000, ends not 1 to 65536, over 8 arguments, or no code / at open s15 until success [0]: wanted is how many of them, a number from 1 to 65536",
+        status: 3,
+    },
+    Row {
+        name: "one turn too many",
+        text: &[Part(1, "func main 0 / times 10000 / times 10001 / ret / end")],
+        lines: "error A9 C6 in main, line 3: times 10001 / a slot, local or key above 15, turns not 1 to 10000, ends not 1 to 65536, over 8 arguments, or no code / at times [10001]: wanted is the bound, a number from 1 to 10000",
         status: 3,
     },
     Row {
