@@ -38,7 +38,7 @@ begun_by false ws = []
 
 -- ---- what was Ok on the way
 
-either_way : {A E S : Type 0} (b : Bool) (x y : Result A E) (z : A) → (if b then x else y) ≡ Ok z → (b ≡ true → x ≡ Ok z → S) → (b ≡ false → y ≡ Ok z → S) → S
+pub either_way : {A E S : Type 0} (b : Bool) (x y : Result A E) (z : A) → (if b then x else y) ≡ Ok z → (b ≡ true → x ≡ Ok z → S) → (b ≡ false → y ≡ Ok z → S) → S
 either_way true x y z e f g = f refl e
 either_way false x y z e f g = g refl e
 

@@ -6,6 +6,7 @@ pub mod PlaceLemmas
 pub mod StandLemmas
 pub mod HeadLemmas
 pub mod HeadLaw
+pub mod LabelLaw
 pub mod FailLemmas
 pub mod ForwardLemmas
 pub mod MeetingLemmas

@@ -3,6 +3,7 @@
 ghost use Rattle.sts_explain.specs.Places.{LinesSayInstructions, FunctionsSayInstructions};
 ghost use Rattle.sts_explain.specs.Places.{LinesStandInText};
 ghost use Rattle.sts_explain.specs.Heads.{HeadsBeginFunctions};
+ghost use Rattle.sts_explain.specs.Labels.{BehindNamesNone};
 ghost use Rattle.sts_explain.specs.Reading.{PartsReadApart};
 
 /// Each instruction of the program that a text spells has a line in the text, whose words spell it:
@@ -27,6 +28,12 @@ pub fn lines_stand_in_the_text()
 /// done.
 pub fn heads_begin_functions()
     ensures { HeadsBeginFunctions }
+{}
+
+/// A label that is told to stand behind the last instruction of its function names none of them.
+/// Nothing is done.
+pub fn labels_behind_name_no_instruction()
+    ensures { BehindNamesNone }
 {}
 
 /// Of a part in which two typestates differ the words for the one differ from those for the other,
