@@ -104,7 +104,8 @@ check_words text o e =
 
 -- the first of them that doesn't pass it
 abbrev pub check_stop : List ℕ → Outline → CodeError → Option Stop
-check_stop text o e = first_failing (passes text o e.function e.cause) w.First (check_words text o e)
+check_stop text o e =
+    first_failing (passes text o e.function e.cause) w.First (check_words text o e)
 
 -- its line, by the functions of a text, if they were read
 abbrev pub check_line : List ℕ → Result Outline AsmError → CodeError → List ℕ

@@ -1,4 +1,5 @@
-//! The laws of what is told: by the line of an instruction, and by the words for a part.
+//! The laws of what is told: by the line of an instruction or of a function, by a label, and by the
+//! words for a part.
 
 ghost use Rattle.sts_explain.specs.Places.{LinesSayInstructions, FunctionsSayInstructions};
 ghost use Rattle.sts_explain.specs.Places.{LinesStandInText};
@@ -24,8 +25,8 @@ pub fn lines_stand_in_the_text()
     ensures { LinesStandInText }
 {}
 
-/// So does each line by which a function is told, and it begins with `func` and its name. Nothing is
-/// done.
+/// So does each line by which a function is told, and it begins with `func` and its name.
+/// Nothing is done.
 pub fn heads_begin_functions()
     ensures { HeadsBeginFunctions }
 {}
