@@ -4,6 +4,10 @@ pub mod FaultLemmas
 pub mod TellLemmas
 pub mod PlaceLemmas
 pub mod StandLemmas
+pub mod HeadLemmas
+pub mod HeadLaw
+pub mod LabelLaw
+pub mod FailLemmas
 pub mod ForwardLemmas
 pub mod MeetingLemmas
 pub mod FullLemmas

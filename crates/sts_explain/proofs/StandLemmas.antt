@@ -24,17 +24,17 @@ AllStand text o = All (λ (d : Draft). All (Stands text) d.code) o.done × All (
 -- ---- what was Ok on the way
 
 -- where what follows was Ok, so was what came before
-after : {A B E S : Type 0} (r : Result A E) (f : A → Result B E) (y : B) → (r >>= f) ≡ Ok y → ((x : A) → r ≡ Ok x → f x ≡ Ok y → S) → S
+pub after : {A B E S : Type 0} (r : Result A E) (f : A → Result B E) (y : B) → (r >>= f) ≡ Ok y → ((x : A) → r ≡ Ok x → f x ≡ Ok y → S) → S
 after (Ok x) f y e k = k x refl e
 after (Err z) f y e k = absurd (cc)
 
 -- what was Ok is the one or the other
-either : {A E S : Type 0} (b : Bool) (x y : Result A E) (z : A) → (if b then x else y) ≡ Ok z → (x ≡ Ok z → S) → (y ≡ Ok z → S) → S
+pub either : {A E S : Type 0} (b : Bool) (x y : Result A E) (z : A) → (if b then x else y) ≡ Ok z → (x ≡ Ok z → S) → (y ≡ Ok z → S) → S
 either true x y z e f g = f e
 either false x y z e f g = g e
 
 -- what is finished is what was read
-finished_same : {A : Type 0} (x : A) (rest : List (List ℕ)) (y : A) → finished x rest ≡ Ok y → x ≡ y
+pub finished_same : {A : Type 0} (x : A) (rest : List (List ℕ)) (y : A) → finished x rest ≡ Ok y → x ≡ y
 finished_same x [] y e = cc
 finished_same x (word ∷ rest) y e = absurd (cc)
 
@@ -90,7 +90,7 @@ said_stand text at o (word ∷ rest) p here s h =
 -- ---- lines
 
 -- these are the lines of the text from a line on
-abbrev AreFrom : List ℕ → ℕ → List (List ℕ) → Type 0
+abbrev pub AreFrom : List ℕ → ℕ → List (List ℕ) → Type 0
 AreFrom text at rest = (n : ℕ) → slice_get (lines text) (at + n - 1) ≡ slice_get rest n
 
 line_stand : (text : List ℕ) (at : ℕ) (o : Outline) (line : List ℕ) (p : Outline) → 0 < at → slice_get (lines text) (at - 1) ≡ Some line → AllStand text o → at_line at (line_read at o line) ≡ Ok p → AllStand text p
@@ -120,7 +120,7 @@ outlined_stand text o e =
     subst (AllStand text) same (lines_read_stand text 1 empty (lines text) p (omega arith) first (All-nil (λ (d : Draft). All (Stands text) d.code), All-nil (Stands text)) r))))
 
 -- what holds of all holds of the one there
-one_of : {A : Type 0} (P : A → Type 0) (xs : List A) (n : ℕ) (x : A) → All P xs → slice_get xs n ≡ Some x → P x
+pub one_of : {A : Type 0} (P : A → Type 0) (xs : List A) (n : ℕ) (x : A) → All P xs → slice_get xs n ≡ Some x → P x
 one_of P xs n x all g = subst P (get_or_from_slice_get xs n x x g) (all n x (slice_get_within xs n x g))
 
 sentence_stands : (text : List ℕ) (o : Outline) (f pc : ℕ) (s : Sentence) (d : Option Draft) → slice_get o.done f ≡ d → AllStand text o → slice_get (sentences_of d) pc ≡ Some s → Stands text s

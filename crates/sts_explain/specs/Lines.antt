@@ -1,28 +1,20 @@
 -- The lines that explain a refusal or a fault (this project's own).
-use Rattle.std.specs.Prelude.{ℕ, List, [], ◌++◌, ◌==◌, Bool, false, nat_lt, codes}
-use Rattle.std.specs.Prelude.{Option, Some, None, Result, Ok, Err, if◌then◌else◌}
+use Rattle.std.specs.Prelude.{ℕ, List, [], ◌++◌, ◌==◌, codes, Option, Some, None, if◌then◌else◌}
 use Rattle.std.specs.Fmt.{decimal}
 use Rattle.sts_code.specs.Checks.{cause_number as check_number}
 use Rattle.sts_code.specs.Program.{Program, routine}
-use Rattle.sts_code.specs.declared.checking.CodeCause.{CodeCause}
-use Rattle.sts_code.specs.declared.checking.CodeCause.TheVariants as code
-use Rattle.sts_code.specs.declared.checking.CodeError.{CodeError}
-use Rattle.sts_code.specs.declared.limits.TheConstants.{MAX_ARGS}
 use Rattle.sts_asm.specs.Fault.{kind_number}
-use Rattle.sts_asm.specs.Outline.{Sentence, Outline}
-use Rattle.sts_asm.specs.Source.{outlined, sentence_at, name_at, args_at, words_at}
+use Rattle.sts_asm.specs.Outline.{Sentence}
+use Rattle.sts_asm.specs.Source.{outlined, words_at}
 use Rattle.sts_asm.specs.declared.fault.AsmKind.{AsmKind}
 use Rattle.sts_asm.specs.declared.fault.AsmKind.TheVariants.{NotAscii, Code}
 use Rattle.sts_asm.specs.declared.fault.AsmError.{AsmError}
-use Rattle.sts_list.specs.Spelling.{after_spaces}
 use Rattle.sts_rules.specs.Causes.{cause_number as refusal_number}
 use Rattle.sts_rules.specs.declared.typing.Cause.{Cause}
+use Rattle.sts_explain.specs.Checks.{line_words, code_place}
+use Rattle.sts_explain.specs.Failing.{check_line}
 use Rattle.sts_explain.specs.Sentences.{cause_sentence, kind_sentence}
 use Rattle.sts_explain.specs.Wrong.{wrong_part}
-
--- `, line 9: close s0`, the words as they stand in the text
-abbrev pub line_words : ℕ → List (List ℕ) → List ℕ
-line_words line words = codes ", line " ++ decimal line ++ codes ":" ++ after_spaces words
 
 -- the line of an instruction; behind the last one there is none
 abbrev pub place_words : Option Sentence → List ℕ
@@ -34,41 +26,6 @@ abbrev pub refused_lines : Program → Option Sentence → ℕ → Cause → Lis
 refused_lines p s f c =
     codes "refused V" ++ decimal (refusal_number c) ++ codes " in " ++ (routine p f).name
     ++ place_words s ++ codes "\n" ++ cause_sentence c ++ codes "\n"
-
--- ---- program checks
-
--- ` in main`
-abbrev pub in_function : Option (List ℕ) → List ℕ
-in_function None = []
-in_function (Some name) = codes " in " ++ name
-
--- the line of an instruction, if there is one
-abbrev pub instr_place : Option Sentence → List ℕ
-instr_place None = []
-instr_place (Some s) = line_words s.line s.words
-
--- a function that takes more arguments than there may be
-abbrev pub takes_too_many : Option ℕ → Bool
-takes_too_many None = false
-takes_too_many (Some args) = nat_lt MAX_ARGS args
-
--- where a check fails: nowhere, in a function as a whole, or at the line of an instruction
-abbrev pub check_place : Outline → ℕ → ℕ → CodeCause → List ℕ
-check_place o f pc code.TooManyFunctions = []
-check_place o f pc code.NoMain = []
-check_place o f pc code.TooLong = in_function (name_at o f)
-check_place o f pc code.DuplicateName = in_function (name_at o f)
-check_place o f pc code.BadTarget = in_function (name_at o f) ++ instr_place (sentence_at o f pc)
-check_place o f pc code.LaterFunction =
-    in_function (name_at o f) ++ instr_place (sentence_at o f pc)
-check_place o f pc code.BadRange =
-    in_function (name_at o f)
-    ++ (if takes_too_many (args_at o f) then [] else instr_place (sentence_at o f pc))
-
--- by the functions of a text, if they were read
-abbrev pub code_place : Result Outline AsmError → CodeError → List ℕ
-code_place (Err e) c = []
-code_place (Ok o) c = check_place o c.function c.pc c.cause
 
 -- ---- faults
 
@@ -87,7 +44,7 @@ abbrev pub line_place : AsmKind → ℕ → List ℕ → List ℕ
 line_place kind line text = if line == 0 then [] else line_words line (fault_words kind text line)
 
 abbrev pub fault_place : AsmKind → ℕ → List ℕ → List ℕ
-fault_place (Code c) line text = code_place (outlined text) c
+fault_place (Code c) line text = code_place text (outlined text) c
 fault_place kind line text = line_place kind line text
 
 -- `error A2, line 3: psh 5`, or `error A9 C4 in main, line 5: fork s0 main _`
@@ -96,8 +53,13 @@ fault_head e text =
     codes "error A" ++ decimal (kind_number e.kind) ++ check_words e.kind
     ++ fault_place e.kind e.line text
 
+-- the wrong word or byte in its place, where the fault is of one
+abbrev pub fault_part : AsmKind → List ℕ → ℕ → List ℕ
+fault_part (Code c) text line = check_line text (outlined text) c
+fault_part kind text line = wrong_part kind text line
+
 -- where it is; what is wrong; and the wrong word or byte in its place, where the fault is of one
 abbrev pub fault_lines : AsmError → List ℕ → List ℕ
 fault_lines e text =
     fault_head e text ++ codes "\n" ++ kind_sentence e.kind ++ codes "\n"
-    ++ wrong_part e.kind text e.line
+    ++ fault_part e.kind text e.line

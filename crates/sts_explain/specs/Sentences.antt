@@ -30,7 +30,7 @@ cause_sentence cause.SlotBusy =
 cause_sentence cause.WrongThread =
     codes "the scope is the one that this function is a subtask of: only its owner may do this"
 cause_sentence cause.IllegalState =
-    codes "the scope or subtask isn't known to be in the state for it: see its join or case"
+    codes "a scope has forks, then join, then close; an end is read where join or case tells it"
 cause_sentence cause.Structure =
     codes "what opened last ends first, in its loop, all before ret or fail; no fork after a bind"
 cause_sentence cause.Nesting =
@@ -38,7 +38,7 @@ cause_sentence cause.Nesting =
 cause_sentence cause.Unbound =
     codes "a key that it or its subtask needs is neither bound here nor in the function's needs"
 cause_sentence cause.JoinEdges =
-    codes "failed has a label just under all, any and awaitok, and timeout just where timed"
+    codes "failed has a label exactly under all, any and awaitok, and timeout exactly where timed"
 cause_sentence cause.TooManySteps = codes "some path takes more than 1000000 steps"
 cause_sentence cause.TooManyTasks = codes "at some point of a path more than 65536 tasks stand"
 cause_sentence cause.TooManyScopes = codes "at some point of a path more than 65536 scopes are open"
@@ -83,7 +83,7 @@ wanted_sentence wanted.Inside =
     codes "func: labels, instructions and end stand inside a function only"
 wanted_sentence wanted.TopLine = codes "another word: profile stands on line 1 only"
 wanted_sentence wanted.NewLabel = codes "a label that this function hasn't yet"
-wanted_sentence wanted.KnownLabel = codes "a label of this function"
+wanted_sentence wanted.KnownLabel = codes "a label before an instruction of this function"
 wanted_sentence wanted.KnownFunction = codes "a function that stands before this one"
 wanted_sentence wanted.Nothing = codes "nothing more"
 wanted_sentence wanted.Byte = codes "a number from 0 to 15"
@@ -110,7 +110,7 @@ wanted_sentence wanted.CaseSuccess = codes "the label for success"
 wanted_sentence wanted.CaseFailed = codes "the label for failed"
 wanted_sentence wanted.TallySlot = codes "the slot of the scope, s0 to s15"
 wanted_sentence wanted.State = codes "S, F or U"
-wanted_sentence wanted.Name = codes "the name of the function"
+wanted_sentence wanted.Name = codes "the name of the function, which no earlier one has"
 wanted_sentence wanted.Args = codes "how many arguments it takes, a number from 0 to 8"
 wanted_sentence wanted.Needs = codes "needs, or nothing more"
 wanted_sentence wanted.Key = codes "a key, a number from 0 to 15"

@@ -32,7 +32,7 @@ abbrev pub wrong_line : Option Stop → List ℕ
 wrong_line None = []
 wrong_line (Some s) = codes "at" ++ stop_words s
 
--- `at jz [there]: wanted is a label of this function`
+-- `at jz [there]: wanted is a label before an instruction of this function`
 abbrev pub named_line : Stop → List ℕ
 named_line s = codes "at" ++ stop_words s
 

@@ -4,6 +4,9 @@
 mod checks;
 mod differences;
 pub mod explain;
+mod failing;
+mod heads;
+mod labels;
 pub mod laws;
 pub mod lines;
 pub mod parts;

@@ -3,9 +3,11 @@
 ghost use Rattle.std.specs.Prelude.{◌≡◌, ◌++◌, OnOk};
 ghost use Rattle.std.specs.Option.{option_copied};
 ghost use Rattle.sts_list.specs.Spelling.{after_spaces};
+ghost use Rattle.sts_explain.specs.Checks.{line_words};
 ghost use Rattle.sts_explain.specs.Lines as def;
 
 use crate::checks::say_code_place;
+use crate::failing::check_line;
 use crate::sentences::{cause_sentence, kind_sentence};
 use crate::wrong::wrong_part;
 use std::alloc::{AllocError, Global};
@@ -44,7 +46,7 @@ pub(crate) fn say_line<'a>(
     line: u32,
     words: Words<'a>,
 ) -> Result<(), AllocError>
-    ensures { OnOk result (out.new.items ≡ out.old.items ++ def.line_words line words.entry) }
+    ensures { OnOk result (out.new.items ≡ out.old.items ++ line_words line words.entry) }
 {
     let number = format!(in alloc; ", line {line}:")?;
     say(out, number.as_str())?;
@@ -165,6 +167,21 @@ fn say_fault_head(
     say_fault_place(alloc, out, error, text)
 }
 
+fn say_fault_part(
+    alloc: Global,
+    out: &mut Vec<u8>,
+    kind: AsmKind,
+    text: &[u8],
+    line: u32,
+) -> Result<(), AllocError>
+    ensures { OnOk result (out.new.items ≡ out.old.items ++ def.fault_part kind text.now line) }
+{
+    match kind {
+        AsmKind::Code(code) => check_line(alloc, out, code, text),
+        kind => wrong_part(alloc, out, kind, text, line),
+    }
+}
+
 /// The lines of a fault of a text: where it is, what is wrong, and the wrong word or byte in its
 /// place.
 ///
@@ -183,5 +200,5 @@ pub(crate) fn fault_lines(
     say(out, "\n")?;
     say(out, kind_sentence(error.kind))?;
     say(out, "\n")?;
-    wrong_part(alloc, out, error.kind, text, error.line)
+    say_fault_part(alloc, out, error.kind, text, error.line)
 }

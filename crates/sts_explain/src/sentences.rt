@@ -36,7 +36,7 @@ pub(crate) fn cause_sentence(cause: Cause) -> &'static str
             "the scope is the one that this function is a subtask of: only its owner may do this"
         }
         Cause::IllegalState => {
-            "the scope or subtask isn't known to be in the state for it: see its join or case"
+            "a scope has forks, then join, then close; an end is read where join or case tells it"
         }
         Cause::Structure => {
             "what opened last ends first, in its loop, all before ret or fail; no fork after a bind"
@@ -45,7 +45,7 @@ pub(crate) fn cause_sentence(cause: Cause) -> &'static str
         Cause::Unbound =>
             "a key that it or its subtask needs is neither bound here nor in the function's needs",
         Cause::JoinEdges => {
-            "failed has a label just under all, any and awaitok, and timeout just where timed"
+            "failed has a label exactly under all, any and awaitok, and timeout exactly where timed"
         }
         Cause::TooManySteps => "some path takes more than 1000000 steps",
         Cause::TooManyTasks => "at some point of a path more than 65536 tasks stand",
@@ -110,7 +110,7 @@ pub(crate) fn wanted_sentence(wanted: Wanted) -> &'static str
         Wanted::Inside => "func: labels, instructions and end stand inside a function only",
         Wanted::TopLine => "another word: profile stands on line 1 only",
         Wanted::NewLabel => "a label that this function hasn't yet",
-        Wanted::KnownLabel => "a label of this function",
+        Wanted::KnownLabel => "a label before an instruction of this function",
         Wanted::KnownFunction => "a function that stands before this one",
         Wanted::Nothing => "nothing more",
         Wanted::Byte => "a number from 0 to 15",
@@ -137,7 +137,7 @@ pub(crate) fn wanted_sentence(wanted: Wanted) -> &'static str
         Wanted::CaseFailed => "the label for failed",
         Wanted::TallySlot => "the slot of the scope, s0 to s15",
         Wanted::State => "S, F or U",
-        Wanted::Name => "the name of the function",
+        Wanted::Name => "the name of the function, which no earlier one has",
         Wanted::Args => "how many arguments it takes, a number from 0 to 8",
         Wanted::Needs => "needs, or nothing more",
         Wanted::Key => "a key, a number from 0 to 15",

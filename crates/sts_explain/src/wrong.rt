@@ -25,7 +25,7 @@ fn say_wanted(out: &mut Vec<u8>, wanted: Wanted) -> Result<(), AllocError>
     say(out, "\n")
 }
 
-fn say_word(out: &mut Vec<u8>, word: &[u8], wanted: Wanted) -> Result<(), AllocError>
+pub(crate) fn say_word(out: &mut Vec<u8>, word: &[u8], wanted: Wanted) -> Result<(), AllocError>
     ensures { OnOk result (out.new.items ≡ out.old.items
         ++ def.stop_words (first_wrong wanted word.now)) }
 {

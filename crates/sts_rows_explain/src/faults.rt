@@ -53,7 +53,7 @@ static FAULTS: [Row; 19] = [
     Row {
         name: "no such label",
         text: &[Part(1, "func main 0 / push 1 / jmp   there ; on / ret / end")],
-        lines: "error A5, line 3: jmp there / a label that isn't in this function, or a function that isn't in this text / at jmp [there]: wanted is a label of this function",
+        lines: "error A5, line 3: jmp there / a label that isn't in this function, or a function that isn't in this text / at jmp [there]: wanted is a label before an instruction of this function",
         status: 3,
     },
     Row {
@@ -83,7 +83,7 @@ static FAULTS: [Row; 19] = [
     Row {
         name: "65 functions",
         text: &[Part(65, "func f 0 / push 0 / ret / end")],
-        lines: "error A9 C1 / there are more than 64 functions",
+        lines: "error A9 C1 in f, line 257: func f 0 / there are more than 64 functions",
         status: 3,
     },
     Row {
@@ -93,13 +93,13 @@ static FAULTS: [Row; 19] = [
             Part(4096, "push 1"),
             Part(1, "ret / end"),
         ],
-        lines: "error A9 C2 in main / the function has more than 4096 instructions",
+        lines: "error A9 C2 in main, line 1: func main 0 / the function has more than 4096 instructions",
         status: 3,
     },
     Row {
         name: "a label at the end",
         text: &[Part(1, "func main 0 / jmp x / x: / end")],
-        lines: "error A9 C3 in main, line 2: jmp x / a label that stands behind the last instruction of its function",
+        lines: "error A9 C3 in main, line 2: jmp x / a label that stands behind the last instruction of its function / at jmp [x]: wanted is a label before an instruction of this function",
         status: 3,
     },
     Row {
@@ -108,19 +108,19 @@ static FAULTS: [Row; 19] = [
             1,
             "func main 0 / open s0 all / fork s0 main _ / push 0 / ret / end",
         )],
-        lines: "error A9 C4 in main, line 3: fork s0 main _ / it forks a function that doesn't stand before this one",
+        lines: "error A9 C4 in main, line 3: fork s0 main _ / it forks a function that doesn't stand before this one / at fork s0 [main]: wanted is a function that stands before this one",
         status: 3,
     },
     Row {
         name: "no main",
         text: &[Part(1, "func main 1 / ret / end")],
-        lines: "error A9 C5 / the last function isn't main with no arguments and no needs, or there is none",
+        lines: "error A9 C5 in main, line 1: func main 1 / the last function isn't main with no arguments and no needs, or there is none",
         status: 3,
     },
     Row {
         name: "a bound of no turns",
         text: &[Part(1, "func main 0 / push 1 / times 0 / next / ret / end")],
-        lines: "error A9 C6 in main, line 3: times 0 / a slot, local or key above 15, turns not 1 to 10000, ends not 1 to 65536, over 8 arguments, or no code",
+        lines: "error A9 C6 in main, line 3: times 0 / a slot, local or key above 15, turns not 1 to 10000, ends not 1 to 65536, over 8 arguments, or no code / at times [0]: wanted is the bound, a number from 1 to 10000",
         status: 3,
     },
     Row {
@@ -129,7 +129,7 @@ static FAULTS: [Row; 19] = [
             Part(2, "func kid 0 / push 0 / ret / end"),
             Part(1, "func main 0 / push 0 / ret / end"),
         ],
-        lines: "error A9 C7 in kid / an earlier function has the same name",
+        lines: "error A9 C7 in kid, line 5: func kid 0 / an earlier function has the same name / at func [kid]: wanted is the name of the function, which no earlier one has",
         status: 3,
     },
 ];

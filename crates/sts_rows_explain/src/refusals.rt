@@ -94,7 +94,7 @@ static SCOPES_AND_BINDINGS: [Row; 8] = [
             1,
             "func main 0 / open s0 awaitall / close s0 / push 1 / ret / end",
         )],
-        lines: "refused V12 in main, line 3: close s0 / the scope or subtask isn't known to be in the state for it: see its join or case",
+        lines: "refused V12 in main, line 3: close s0 / a scope has forks, then join, then close; an end is read where join or case tells it",
         status: 4,
     },
     Row {
@@ -126,7 +126,7 @@ static SCOPES_AND_BINDINGS: [Row; 8] = [
             1,
             "func main 0 / open s0 awaitall / join s0 x - x / close s0 / push 1 / ret / x: / close s0 / push 2 / ret / end",
         )],
-        lines: "refused V16 in main, line 3: join s0 x - x / failed has a label just under all, any and awaitok, and timeout just where timed",
+        lines: "refused V16 in main, line 3: join s0 x - x / failed has a label exactly under all, any and awaitok, and timeout exactly where timed",
         status: 4,
     },
     Row {

@@ -166,7 +166,7 @@ static TRACES: [RunRow; 6] = [
         name: "a fault that a name makes comes first too",
         text: &[Part(1, "func main 0 / jmp there / end")],
         trace: &[Part(1, "stp 0")],
-        lines: "error A5, line 2: jmp there / a label that isn't in this function, or a function that isn't in this text / at jmp [there]: wanted is a label of this function",
+        lines: "error A5, line 2: jmp there / a label that isn't in this function, or a function that isn't in this text / at jmp [there]: wanted is a label before an instruction of this function",
         status: 3,
     },
 ];

@@ -184,7 +184,7 @@ static FIRST_LINES: [Row; 12] = [
     Row {
         name: "a function of no name",
         text: &[Part(1, "func 1x 0")],
-        lines: "error A4, line 1: func 1x 0 / an operand is missing, of another kind, left over or badly spelled / at func [1x]: wanted is the name of the function",
+        lines: "error A4, line 1: func 1x 0 / an operand is missing, of another kind, left over or badly spelled / at func [1x]: wanted is the name of the function, which no earlier one has",
         status: 3,
     },
     Row {
@@ -274,31 +274,31 @@ static NAMES: [Row; 8] = [
             1,
             "func f 0 / x: / ret / end / func main 0 / jmp x / ret / end",
         )],
-        lines: "error A5, line 6: jmp x / a label that isn't in this function, or a function that isn't in this text / at jmp [x]: wanted is a label of this function",
+        lines: "error A5, line 6: jmp x / a label that isn't in this function, or a function that isn't in this text / at jmp [x]: wanted is a label before an instruction of this function",
         status: 3,
     },
     Row {
         name: "a jump to a function",
         text: &[Part(1, "func f 0 / ret / end / func main 0 / jz f / ret / end")],
-        lines: "error A5, line 5: jz f / a label that isn't in this function, or a function that isn't in this text / at jz [f]: wanted is a label of this function",
+        lines: "error A5, line 5: jz f / a label that isn't in this function, or a function that isn't in this text / at jz [f]: wanted is a label before an instruction of this function",
         status: 3,
     },
     Row {
         name: "a case whose second label isn't there",
         text: &[Part(1, "func main 0 / case s1 yes no / yes: / ret / end")],
-        lines: "error A5, line 2: case s1 yes no / a label that isn't in this function, or a function that isn't in this text / at case s1 yes [no]: wanted is a label of this function",
+        lines: "error A5, line 2: case s1 yes no / a label that isn't in this function, or a function that isn't in this text / at case s1 yes [no]: wanted is a label before an instruction of this function",
         status: 3,
     },
     Row {
         name: "a join whose labels are there but the last",
         text: &[Part(1, "func main 0 / x: / join s0 x - intr / end")],
-        lines: "error A5, line 3: join s0 x - intr / a label that isn't in this function, or a function that isn't in this text / at join s0 x - [intr]: wanted is a label of this function",
+        lines: "error A5, line 3: join s0 x - intr / a label that isn't in this function, or a function that isn't in this text / at join s0 x - [intr]: wanted is a label before an instruction of this function",
         status: 3,
     },
     Row {
         name: "a join of which no label is there",
         text: &[Part(1, "func main 0 / join s0 - late intr / end")],
-        lines: "error A5, line 2: join s0 - late intr / a label that isn't in this function, or a function that isn't in this text / at join s0 - [late]: wanted is a label of this function",
+        lines: "error A5, line 2: join s0 - late intr / a label that isn't in this function, or a function that isn't in this text / at join s0 - [late]: wanted is a label before an instruction of this function",
         status: 3,
     },
     Row {
@@ -309,11 +309,11 @@ static NAMES: [Row; 8] = [
     },
 ];
 
-static CHECKS: [Row; 5] = [
+static CHECKS: [Row; 16] = [
     Row {
         name: "a slot past the last",
         text: &[Part(1, "func main 0 / open s16 all / ret / end")],
-        lines: "error A9 C6 in main, line 2: open s16 all / a slot, local or key above 15, turns not 1 to 10000, ends not 1 to 65536, over 8 arguments, or no code",
+        lines: "error A9 C6 in main, line 2: open s16 all / a slot, local or key above 15, turns not 1 to 10000, ends not 1 to 65536, over 8 arguments, or no code / at open [s16]: wanted is the slot of the scope, s0 to s15",
         status: 3,
     },
     Row {
@@ -322,13 +322,13 @@ static CHECKS: [Row; 5] = [
             1,
             "func kid 9 / push 0 / ret / end / func main 0 / push 0 / ret / end",
         )],
-        lines: "error A9 C6 in kid / a slot, local or key above 15, turns not 1 to 10000, ends not 1 to 65536, over 8 arguments, or no code",
+        lines: "error A9 C6 in kid, line 1: func kid 9 / a slot, local or key above 15, turns not 1 to 10000, ends not 1 to 65536, over 8 arguments, or no code / at func kid [9]: wanted is how many arguments it takes, a number from 0 to 8",
         status: 3,
     },
     Row {
         name: "no instruction",
         text: &[Part(1, "func kid 0 / end / func main 0 / push 0 / ret / end")],
-        lines: "error A9 C6 in kid / a slot, local or key above 15, turns not 1 to 10000, ends not 1 to 65536, over 8 arguments, or no code",
+        lines: "error A9 C6 in kid, line 1: func kid 0 / a slot, local or key above 15, turns not 1 to 10000, ends not 1 to 65536, over 8 arguments, or no code",
         status: 3,
     },
     Row {
@@ -337,7 +337,88 @@ static CHECKS: [Row; 5] = [
             1,
             "func kid 0 / push 0 / ; on / fork s0 main _ / ret / end / func main 0 / push 0 / ret / end",
         )],
-        lines: "error A9 C4 in kid, line 4: fork s0 main _ / it forks a function that doesn't stand before this one",
+        lines: "error A9 C4 in kid, line 4: fork s0 main _ / it forks a function that doesn't stand before this one / at fork s0 [main]: wanted is a function that stands before this one",
+        status: 3,
+    },
+    Row {
+        name: "a slot of a subtask past the last",
+        text: &[Part(
+            1,
+            "func kid 0 / push 0 / ret / end / func main 0 / fork s15 kid s16 / ret / end",
+        )],
+        lines: "error A9 C6 in main, line 6: fork s15 kid s16 / a slot, local or key above 15, turns not 1 to 10000, ends not 1 to 65536, over 8 arguments, or no code / at fork s15 kid [s16]: wanted is the slot of the subtask, s0 to s15, or _ for none",
+        status: 3,
+    },
+    Row {
+        name: "a key past the last",
+        text: &[Part(1, "func main 0 / read 15 / read 16 / ret / end")],
+        lines: "error A9 C6 in main, line 3: read 16 / a slot, local or key above 15, turns not 1 to 10000, ends not 1 to 65536, over 8 arguments, or no code / at read [16]: wanted is a number from 0 to 15",
+        status: 3,
+    },
+    Row {
+        name: "one end too many",
+        text: &[Part(
+            1,
+            "func main 0 / open s0 until failed 65537 timed / ret / end",
+        )],
+        lines: "error A9 C6 in main, line 2: open s0 until failed 65537 timed / a slot, local or key above 15, turns not 1 to 10000, ends not 1 to 65536, over 8 arguments, or no code / at open s0 until failed [65537]: wanted is how many of them, a number from 1 to 65536",
+        status: 3,
+    },
+    Row {
+        name: "a slot past the last, of a close",
+        text: &[Part(1, "func main 0 / close s16 / ret / end")],
+        lines: "error A9 C6 in main, line 2: close s16 / a slot, local or key above 15, turns not 1 to 10000, ends not 1 to 65536, over 8 arguments, or no code / at close [s16]: wanted is a slot, s0 to s15",
+        status: 3,
+    },
+    Row {
+        name: "a slot past the last, of a tally",
+        text: &[Part(1, "func main 0 / tally s15 S / tally s255 U / ret / end")],
+        lines: "error A9 C6 in main, line 3: tally s255 U / a slot, local or key above 15, turns not 1 to 10000, ends not 1 to 65536, over 8 arguments, or no code / at tally [s255]: wanted is the slot of the scope, s0 to s15",
+        status: 3,
+    },
+    Row {
+        name: "a slot past the last, of a case",
+        text: &[Part(1, "func main 0 / x: / case s16 x x / ret / end")],
+        lines: "error A9 C6 in main, line 3: case s16 x x / a slot, local or key above 15, turns not 1 to 10000, ends not 1 to 65536, over 8 arguments, or no code / at case [s16]: wanted is the slot of the subtask, s0 to s15",
+        status: 3,
+    },
+    Row {
+        name: "no end that is waited for",
+        text: &[Part(1, "func main 0 / open s15 until success 0 / ret / end")],
+        lines: "error A9 C6 in main, line 2: open s15 until success 0 / a slot, local or key above 15, turns not 1 to 10000, ends not 1 to 65536, over 8 arguments, or no code / at open s15 until success [0]: wanted is how many of them, a number from 1 to 65536",
+        status: 3,
+    },
+    Row {
+        name: "one turn too many",
+        text: &[Part(1, "func main 0 / times 10000 / times 10001 / ret / end")],
+        lines: "error A9 C6 in main, line 3: times 10001 / a slot, local or key above 15, turns not 1 to 10000, ends not 1 to 65536, over 8 arguments, or no code / at times [10001]: wanted is the bound, a number from 1 to 10000",
+        status: 3,
+    },
+    Row {
+        name: "a case whose second label is behind the last instruction",
+        text: &[Part(
+            1,
+            "func main 0 / a: / push 0 / case s1 a b / ; on / \tb: ; x / c: / end",
+        )],
+        lines: "error A9 C3 in main, line 4: case s1 a b / a label that stands behind the last instruction of its function / at case s1 a [b]: wanted is a label before an instruction of this function",
+        status: 3,
+    },
+    Row {
+        name: "a join whose timeout label is behind the last instruction",
+        text: &[Part(
+            1,
+            "func main 0 / join s0 - late intr / intr: / ret / late: / end / func kid 0 / intr: / ret / end",
+        )],
+        lines: "error A9 C3 in main, line 2: join s0 - late intr / a label that stands behind the last instruction of its function / at join s0 - [late]: wanted is a label before an instruction of this function",
+        status: 3,
+    },
+    Row {
+        name: "a last function that isn't main",
+        text: &[Part(
+            1,
+            "func main 0 / push 0 / ret / end / ; func / \tfunc  kid 0 needs 3;x / push 0 / ret / end",
+        )],
+        lines: "error A9 C5 in kid, line 6: func kid 0 needs 3 / the last function isn't main with no arguments and no needs, or there is none",
         status: 3,
     },
     Row {

@@ -1,0 +1,36 @@
+-- The line that begins a function (this project's own).
+use Rattle.std.specs.Prelude.{◌≡◌, ℕ, ◌+◌, ◌<◌, ◌≤◌, Bool, false, List, [], ◌∷◌, take, length}
+use Rattle.std.specs.Prelude.{slice_get, Option, Some, Ok, if◌then◌else◌, codes}
+use Rattle.std.specs.Str.{bytes_eq}
+use Rattle.sts_text.specs.Words.{lines}
+use Rattle.sts_asm.specs.Outline.{Outline}
+use Rattle.sts_asm.specs.Source.{outlined, name_at, words_of, words_at}
+
+-- do these words begin a function?
+abbrev pub is_head : List (List ℕ) → Bool
+is_head [] = false
+is_head (word ∷ rest) = bytes_eq word (codes "func")
+
+-- the numbers of those of these lines that begin a function, where the first has this number
+abbrev pub heads_from : ℕ → List (List ℕ) → List ℕ
+heads_from number [] = []
+heads_from number (line ∷ more) =
+    if is_head (words_of (Some line)) then number ∷ heads_from (number + 1) more
+    else heads_from (number + 1) more
+
+-- the number of the line of a text that begins this function, where the functions are counted from
+-- 0
+abbrev pub head_at : List ℕ → ℕ → Option ℕ
+head_at text f = slice_get (heads_from 1 (lines text)) f
+
+-- the line of this number is one of the text, and begins with `func` and this name
+abbrev pub Begins : List ℕ → List ℕ → ℕ → Type 0
+Begins text name line =
+    (0 < line) × (line ≤ length (lines text))
+    × (take 2 (words_at text line) ≡ codes "func" ∷ name ∷ [])
+
+-- Each function of a text has its line there, which begins with `func` and its name.
+abbrev pub HeadsBeginFunctions : Type 0
+HeadsBeginFunctions =
+    (text : List ℕ) (o : Outline) (f : ℕ) (name : List ℕ) → outlined text ≡ Ok o
+    → name_at o f ≡ Some name → (line : ℕ) × ((head_at text f ≡ Some line) × Begins text name line)
