@@ -468,6 +468,7 @@ def names(page):
 def photographed(page):
     page.choose(NAMES.index("failure_stops_siblings.sts"))
     page.click('[title^="after 9 "]')
+    page.chromium.value("document.activeElement.blur(), element('listing').scrollTop = 0, scrollTo(0, 0)")
     for scheme in ("dark", "light"):
         page.chromium.prefer(scheme)
         page.chromium.picture(os.path.join(HERE, "out", f"{scheme}.png"))
