@@ -196,6 +196,7 @@ function choose() {
   const example = EXAMPLES[element("example").selectedIndex];
   element("text").value = example.text;
   element("trace").value = example.trace;
+  element("editor").scrollTop = 0;
   place = linesOf(example.trace).length;
   change();
 }

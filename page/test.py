@@ -398,6 +398,8 @@ def in_view(page):
     yield "it stays where someone writes", page.chromium.value("element('editor').scrollTop") == 0
     page.chromium.value("element('text').blur()")
     yield "line 82 is in view afterwards", page.marked() == [82, 82]
+    page.choose(0)
+    yield "an example begins at its top", page.chromium.value("element('editor').scrollTop") == 0
 
 
 def place_kept(page, programs):
