@@ -6,7 +6,7 @@ use Rattle.std.proofs.lemmas.List.{get_or_default}
 use Rattle.std.specs.Option.{option_or}
 use Rattle.sts_code.specs.declared.checking.CodeCause.{CodeCause}
 use Rattle.sts_code.specs.Checks.{program_fault, fault_at, routine_cause}
-use Rattle.sts_code.specs.declared.limits.TheConstants.{MAX_FUNCTIONS, MAX_INSTRUCTIONS, MAX_ARGS}
+use Rattle.sts_code.specs.declared.limits.TheConstants.{MAX_INSTRUCTIONS, MAX_ARGS}
 use Rattle.sts_code.specs.Program.{Program, Routine, routine, no_routine}
 use Rattle.sts_code.proofs.CheckedLemmas.{code_is_short, routine_is_fine, routines_are_fine}
 use borrow.Author.Tests.{ltb-true}

@@ -1,6 +1,6 @@
 -- Where loops end, and how one pass finds it.
-use Rattle.std.proofs.Common.{◌≡◌, ℕ, suc, zero, ◌+◌, ◌-◌, ◌<◌, ◌≤◌, List, [], ◌∷◌, length, drop}
-use Rattle.std.proofs.Common.{count_by, cond, ap, sym, ◌∙◌, Bool, true, false, Option, Some, None}
+use Rattle.std.proofs.Common.{◌≡◌, ℕ, suc, zero, ◌+◌, ◌-◌, ◌<◌, ◌≤◌, List, length, drop}
+use Rattle.std.proofs.Common.{count_by, cond, ap, sym, ◌∙◌, Bool, true, false, Some}
 use Rattle.std.proofs.Common.{find, arith, refl, slice_range, slice_index_or}
 use mir.Val.{bool_byte}
 use Rattle.std.specs.List.{range_with_len}

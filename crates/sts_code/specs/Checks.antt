@@ -12,7 +12,7 @@ use Rattle.sts_code.specs.declared.checking.CodeCause.TheVariants.{BadTarget, La
 use Rattle.sts_code.specs.declared.checking.CodeCause.TheVariants.{BadRange, DuplicateName}
 use Rattle.sts_code.specs.declared.checking.CodeError.{CodeError}
 use Rattle.sts_code.specs.declared.instr.Instr.{Instr}
-use Rattle.sts_code.specs.declared.instr.Instr.TheVariants.{Load, Store, Div, Jmp, Jz, Times, Open}
+use Rattle.sts_code.specs.declared.instr.Instr.TheVariants.{Load, Store, Times, Open}
 use Rattle.sts_code.specs.declared.instr.Instr.TheVariants.{Fork, Join, Close, Cancelled, Case, Get}
 use Rattle.sts_code.specs.declared.instr.Instr.TheVariants.{Except, Tally, Total, Forget, Bind}
 use Rattle.sts_code.specs.declared.instr.Instr.TheVariants.{Read, Bound, OrElse}

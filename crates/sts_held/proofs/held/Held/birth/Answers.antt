@@ -1,4 +1,4 @@
-use Rattle.std.proofs.Common.{Some, ◌≡◌, sym, ◌∙◌, arith}
+use Rattle.std.proofs.Common.{◌∙◌, arith}
 use Rattle.sts_held.proofs.Slots.{key_is, is_some_got, got_is}
 use Rattle.sts_held.proofs.held.Held.birth.Goals as goal
 

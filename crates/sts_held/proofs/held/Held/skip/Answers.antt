@@ -1,4 +1,4 @@
-use Rattle.std.proofs.Common.{◌∷◌, [], refl, sym, ◌∙◌, arith, length-append}
+use Rattle.std.proofs.Common.{◌∷◌, [], sym, ◌∙◌, arith, length-append}
 use Rattle.sts_held.proofs.Slots.{length-slots, skipped}
 use Rattle.sts_held.proofs.held.Held.skip.Goals as goal
 
