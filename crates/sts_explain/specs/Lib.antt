@@ -1,11 +1,5 @@
 pub mod Sentences
-pub mod Wrong
-pub mod Heads
-pub mod Labels
-pub mod Checks
-pub mod Failing
 pub mod Lines
-pub mod Places
 pub mod Output
 pub mod Ways
 pub mod Differences

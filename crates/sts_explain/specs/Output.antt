@@ -13,7 +13,8 @@ use Rattle.sts_explain.specs.declared.ways.Meeting.{Meeting}
 use Rattle.sts_explain.specs.declared.parts.Part.{Part}
 use Rattle.sts_explain.specs.Ways.{Meets}
 use Rattle.sts_explain.specs.Differences.{AreDifferences, difference_lines}
-use Rattle.sts_explain.specs.Lines.{refused_lines, fault_lines}
+use Rattle.sts_explain.specs.Lines.{refused_lines}
+use Rattle.sts_explain_text.specs.Lines.{fault_lines}
 use Rattle.sts_explain.specs.Weights.{weight_lines}
 use Rattle.sts_budget.specs.declared.change.Resource.{Resource}
 use Rattle.sts_budget.specs.Change.{cause_of}

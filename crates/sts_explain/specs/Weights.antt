@@ -8,7 +8,7 @@ use Rattle.sts_asm.specs.Source.{sentence_at}
 use Rattle.sts_budget.specs.declared.change.Resource.{Resource}
 use Rattle.sts_budget.specs.declared.change.Resource.TheVariants.{Steps, Tasks, Scopes, Binds}
 use Rattle.sts_weights.specs.declared.heavy.Heavy.{Heavy}
-use Rattle.sts_explain.specs.Lines.{place_words}
+use Rattle.sts_explain_text.specs.Lines.{place_words}
 
 abbrev pub count_words : Resource → List ℕ
 count_words Steps = codes " steps on a path that ends here"

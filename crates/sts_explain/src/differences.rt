@@ -7,7 +7,6 @@ ghost use Rattle.sts_code.specs.Program.{routine, instr_at};
 ghost use Rattle.sts_explain.specs.Differences as def;
 ghost use Rattle.sts_explain.specs.Reading.{IsHeldIn};
 
-use crate::lines::say;
 use crate::parts::{Part, is_same_part, part_name, part_words};
 use crate::ways::{Meeting, Origin};
 use std::alloc::{AllocError, Global};
@@ -16,6 +15,7 @@ use sts_asm::{Outline, Sentence};
 use sts_code::code::code_of;
 use sts_code::instr::Instr;
 use sts_code::program::Program;
+use sts_explain_text::lines::say;
 
 /// Which of the outcomes of `join` an edge is, by its number.
 fn outcome_words(failed: bool, timeout: bool, number: usize) -> &'static str

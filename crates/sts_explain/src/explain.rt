@@ -12,7 +12,7 @@ ghost use Rattle.sts_cli.specs.Output as cli;
 ghost use Rattle.sts_explain.specs.Output as def;
 
 use crate::differences::difference_lines;
-use crate::lines::{fault_lines, refused_lines, say};
+use crate::lines::refused_lines;
 use crate::ways::find_meeting;
 use crate::weights::weight_lines;
 use std::alloc::{AllocError, Global};
@@ -23,6 +23,7 @@ use sts_budget::change::Resource;
 use sts_cli::play::{WriteFailed, failed, written};
 use sts_cli::taking::TakeError;
 use sts_code::program::Program;
+use sts_explain_text::lines::{fault_lines, say};
 use sts_rules::typing::Cause;
 use sts_verify::error::VerifyError;
 use sts_verify::verified::verify;

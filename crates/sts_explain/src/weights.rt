@@ -3,11 +3,11 @@
 ghost use Rattle.std.specs.Prelude.{◌≡◌, ◌<◌, ◌≤◌, ◌++◌, OnOk, length};
 ghost use Rattle.sts_explain.specs.Weights as def;
 
-use crate::lines::{say, say_place};
 use std::alloc::{AllocError, Global};
 use sts_asm::Outline;
 use sts_budget::change::Resource;
 use sts_code::limits::MAX_INSTRUCTIONS;
+use sts_explain_text::lines::{say, say_place};
 use sts_weights::heavy::Heavy;
 
 /// How many lines are shown at most.

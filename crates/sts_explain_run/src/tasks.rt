@@ -12,7 +12,7 @@ use sts_asm::Outline;
 use sts_cli::printed;
 use sts_code::code::name_of;
 use sts_code::program::Program;
-use sts_explain::lines::{say, say_place};
+use sts_explain_text::lines::{say, say_place};
 use sts_model::event::{End, Fault, Stand};
 use sts_plain::misstep::PlainState;
 use sts_plain::stand::{can_step, stand_at};

@@ -10,7 +10,7 @@ ghost use Rattle.sts_explain_run.specs.Output.{trace_fault_output};
 use crate::sentences::trace_sentence;
 use std::alloc::{AllocError, Global};
 use sts_explain::explain::Output;
-use sts_explain::lines::say;
+use sts_explain_text::lines::say;
 use sts_trace::TraceError;
 
 /// How many lines a text has; the last is what stands behind the last newline.

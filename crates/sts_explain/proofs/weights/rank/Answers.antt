@@ -2,7 +2,7 @@ use Rattle.std.proofs.Common.{◌+◌, ℕ, ◌∙◌, ap, sym, arith}
 use Rattle.std.specs.Prelude.{sum_by}
 use Rattle.std.specs.List.{range_with_len}
 use Rattle.sts_explain.specs.Weights.{is_weightier, one_if}
-use Rattle.sts_explain.proofs.LineLemmas.{sum_more}
+use Rattle.sts_explain.proofs.WeightLemmas.{sum_more}
 use Rattle.sts_explain.proofs.weights.rank.Goals as goal
 
 pub loop-one-preserved : goal.loop-one-preserved

@@ -1,7 +1,7 @@
 use Rattle.std.proofs.Common.{ℕ, List, ◌++◌, ◌∙◌, ap, sym, append_assoc}
 use Rattle.std.specs.List.{flat_map, range_with_len}
 use Rattle.sts_explain.specs.Weights.{share_line}
-use Rattle.sts_explain.proofs.LineLemmas.{one_more}
+use Rattle.sts_explain.proofs.WeightLemmas.{one_more}
 use Rattle.sts_explain.proofs.weights.say_shares.Goals as goal
 
 pub loop-place-preserved : goal.loop-place-preserved

@@ -1,7 +1,7 @@
 use Rattle.std.proofs.Common.{◌≡◌, ℕ, List, ◌++◌, ◌∙◌, ap}
 use Rattle.std.proofs.lemmas.Result.{on_ok_weaker}
 use Rattle.sts_explain.specs.Weights as def
-use Rattle.sts_explain.proofs.LineLemmas.{said_on}
+use Rattle.sts_explain_text.proofs.LineLemmas.{said_on}
 use Rattle.sts_explain.proofs.weights.weight_lines.Goals as goal
 
 pub returns : goal.returns
