@@ -2,7 +2,7 @@
 
 ghost use Rattle.std.specs.IoError.{error_kind};
 ghost use Rattle.std.specs.Prelude.{◌≡◌, ◌↔◌, ◌≤◌, ◌<◌, ◌++◌, Some, IsNone, IfSome, IfOk, OnErr};
-ghost use Rattle.std.specs.Prelude.{length, take};
+ghost use Rattle.std.specs.Prelude.{length, take, vec_len};
 ghost use Rattle.std.specs.Io.{ReadsAtMost};
 ghost use Rattle.std.specs.Io.KnownBytes.{Keeps, Consumes, IsAtEnd};
 ghost use Rattle.sts_cli.specs.Taking.{LosesUpTo};
@@ -69,6 +69,13 @@ fn read_once<R: Read>(reader: &mut R, piece: &mut [u8]) -> Result<usize, TakeErr
     Err(TakeError::Read)
 }
 
+/// Room for what one read gives.
+fn piece(alloc: Global) -> Result<Vec<u8>, AllocError>
+    ensures { IfOk result (λ piece. vec_len piece ≡ PIECE) }
+{
+    vec![in alloc; 0; PIECE]
+}
+
 /// Takes a piece of at most `room` bytes, as many as one read gives; none is the reader's end.
 fn take_piece<R: Read>(
     reader: &mut R,
@@ -103,7 +110,7 @@ pub fn take<R: Read>(alloc: Global, reader: &mut R, most: u64) -> Result<Vec<u8>
         (R.remaining reader.new) taken.items) }
     ensures lost { OnErr result (LosesUpTo most (R.remaining reader.old) (R.remaining reader.new)) }
 {
-    let mut piece = vec![in alloc; 0; PIECE]?;
+    let mut piece = piece(alloc)?;
     let mut taken = Vec::new(alloc);
     while (taken.len() as u64) < most {
         let room = (most - taken.len() as u64).min(PIECE as u64) as usize;

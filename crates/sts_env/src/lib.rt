@@ -7,5 +7,3 @@
 pub mod chains;
 pub mod env;
 pub mod sharing;
-#[cfg(test)]
-mod tests;

@@ -6,5 +6,3 @@
 #![tactic(auto)]
 
 pub mod held;
-#[cfg(test)]
-mod tests;

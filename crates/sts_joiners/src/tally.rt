@@ -205,6 +205,3 @@ fn failed_or(failure: Option<i64>, other: Verdict) -> Verdict
         None => other,
     }
 }
-
-#[cfg(test)]
-mod tests;

@@ -1,7 +1,7 @@
 //! The commands that the program knows, as `clap` is told of them.
 
 ghost use Rattle.std.specs.Prelude.{◌≡◌, IfOk, codes, false};
-ghost use Rattle.clap.specs.Words.{app_of, new_app, rule_of, with_rule};
+ghost use Rattle.clap.specs.Words.{app_of, new_app, rule_of, with_rule, with_subcommand};
 ghost use Rattle.clap.specs.declared.builder.Command.TheViews.{out-Command};
 ghost use Rattle.sts_line.specs.Command as def;
 
@@ -27,27 +27,29 @@ fn trace<'a>(alloc: Global) -> Arg<'a>
         .help("a trace: lines `step N`, `interrupt N` and `expire N`")
 }
 
-/// The number of workers, which `run` has to be given.
-fn workers<'a>(alloc: Global) -> Arg<'a>
-    ensures rule { rule_of result ≡ def.workers_rule }
-    ensures local { result.global ≡ false }
-{
-    Arg::new(alloc, "workers")
-        .long("workers")
-        .value_name("N")
-        .required(true)
-        .help("how many threads do the steps, from 1 to 16")
-}
-
-/// An option that names a file.
-fn file_option<'a>(alloc: Global, name: &'a str, help: &'a str) -> Arg<'a>
+/// An option that takes one value.
+fn option<'a>(alloc: Global, name: &'a str, value: &'a str, help: &'a str) -> Arg<'a>
     ensures rule { rule_of result ≡ def.option_rule name.entry.now }
     ensures local { result.global ≡ false }
 {
     Arg::new(alloc, name)
         .long(name)
-        .value_name("FILE")
+        .value_name(value)
         .help(help)
+}
+
+/// The number of workers, which `run` has to be given.
+fn workers<'a>(alloc: Global) -> Arg<'a>
+    ensures rule { rule_of result ≡ def.workers_rule }
+    ensures local { result.global ≡ false }
+{
+    option(
+        alloc,
+        "workers",
+        "N",
+        "how many threads do the steps, from 1 to 16",
+    )
+    .required(true)
 }
 
 /// A command that takes one text file.
@@ -75,23 +77,91 @@ pub fn on_trace<'a>(alloc: Global, name: &'a str, about: &'a str) -> Result<Comm
     on_file(alloc, name, about)?.arg(trace(alloc))
 }
 
-/// The command that takes workers, and may take outside events and write a trace.
+/// Adds an option that names a file.
+fn with_file_option<'a>(
+    alloc: Global,
+    command: Command<'a>,
+    name: &'a str,
+    help: &'a str,
+) -> Result<Command<'a>, AllocError>
+    ensures app { IfOk result (λ c. app_of c
+        ≡ with_rule (app_of command.entry) (def.option_rule name.entry.now)) }
+    ensures local { (out-Command command.entry).has_globals ≡ false
+        → IfOk result (λ c. (out-Command c).has_globals ≡ false) }
+{
+    command.arg(option(alloc, name, "FILE", help))
+}
+
+/// The command that takes workers.
 fn on_workers<'a>(alloc: Global, name: &'a str, about: &'a str) -> Result<Command<'a>, AllocError>
-    ensures app { IfOk result (λ c. app_of c ≡ with_rule (with_rule (with_rule (with_rule
-        (new_app name.entry.now) def.file_rule) def.workers_rule)
-        (def.option_rule (codes "outside"))) (def.option_rule (codes "trace"))) }
+    ensures app { IfOk result (λ c. app_of c
+        ≡ with_rule (with_rule (new_app name.entry.now) def.file_rule) def.workers_rule) }
     ensures local { IfOk result (λ c. (out-Command c).has_globals ≡ false) }
 {
-    let outside = file_option(
+    on_file(alloc, name, about)?.arg(workers(alloc))
+}
+
+/// The command that takes workers, and may take outside events and write a trace.
+fn run<'a>(alloc: Global) -> Result<Command<'a>, AllocError>
+    ensures app { IfOk result (λ c. app_of c ≡ def.run) }
+    ensures local { IfOk result (λ c. (out-Command c).has_globals ≡ false) }
+{
+    let command = on_workers(
         alloc,
+        "run",
+        "Prints the budgets, and how several workers at once brought the program to its end",
+    )?;
+    let command = with_file_option(
+        alloc,
+        command,
         "outside",
         "outside events: lines `at N interrupt T` and `at N expire S`",
-    );
-    let trace = file_option(alloc, "trace", "where the journal is written, as a trace");
-    on_file(alloc, name, about)?
-        .arg(workers(alloc))?
-        .arg(outside)?
-        .arg(trace)
+    )?;
+    with_file_option(
+        alloc,
+        command,
+        "trace",
+        "where the journal is written, as a trace",
+    )
+}
+
+/// The program with no command yet.
+fn bare<'a>(alloc: Global) -> Command<'a>
+    ensures { app_of result ≡ def.required (new_app (codes "sts")) }
+{
+    Command::new(alloc, "sts")
+        .about("Structured task scopes over a small stack code")
+        .after_help(
+            "With no command it reads a text, a line `%` and a trace from standard input, \
+             and does what `plain` does.",
+        )
+        .subcommand_required(true)
+}
+
+/// Adds a command that takes one text file.
+fn with_file<'a>(
+    alloc: Global,
+    command: Command<'a>,
+    name: &'a str,
+    about: &'a str,
+) -> Result<Command<'a>, AllocError>
+    ensures { IfOk result (λ c. app_of c ≡ with_subcommand (app_of command.entry)
+        (with_rule (new_app name.entry.now) def.file_rule).top) }
+{
+    command.subcommand(on_file(alloc, name, about)?)
+}
+
+/// Adds a command that takes a text file and a trace.
+fn with_trace<'a>(
+    alloc: Global,
+    command: Command<'a>,
+    name: &'a str,
+    about: &'a str,
+) -> Result<Command<'a>, AllocError>
+    ensures { IfOk result (λ c. app_of c ≡ with_subcommand (app_of command.entry)
+        (with_rule (with_rule (new_app name.entry.now) def.file_rule) def.trace_rule).top) }
+{
+    command.subcommand(on_trace(alloc, name, about)?)
 }
 
 /// The whole program.
@@ -102,41 +172,29 @@ fn on_workers<'a>(alloc: Global, name: &'a str, about: &'a str) -> Result<Comman
 pub fn program<'a>(alloc: Global) -> Result<Command<'a>, AllocError>
     ensures { IfOk result (λ c. app_of c ≡ def.program) }
 {
-    let verify = on_file(
+    let command = with_file(
         alloc,
+        bare(alloc),
         "verify",
         "Prints the budgets of each function, or the refused instruction",
     )?;
-    let list = on_file(
+    let command = with_file(
         alloc,
+        command,
         "list",
         "Prints the program as the assembler understands it",
     )?;
-    let plain = on_trace(
+    let command = with_trace(
         alloc,
+        command,
         "plain",
         "Prints how the machine that tests everything stands after a trace, and the steps taken",
     )?;
-    let replay = on_trace(
+    let command = with_trace(
         alloc,
+        command,
         "replay",
         "Prints the same by the machine that tests nothing, or the refused instruction",
     )?;
-    let run = on_workers(
-        alloc,
-        "run",
-        "Prints the budgets, and how several workers at once brought the program to its end",
-    )?;
-    Command::new(alloc, "sts")
-        .about("Structured task scopes over a small stack code")
-        .after_help(
-            "With no command it reads a text, a line `%` and a trace from standard input, \
-             and does what `plain` does.",
-        )
-        .subcommand_required(true)
-        .subcommand(verify)?
-        .subcommand(list)?
-        .subcommand(plain)?
-        .subcommand(replay)?
-        .subcommand(run)
+    command.subcommand(run(alloc)?)
 }

@@ -6,5 +6,3 @@
 
 pub mod links;
 pub mod lists;
-#[cfg(test)]
-mod tests;

@@ -8,7 +8,7 @@ pub loop-taken-init : goal.loop-taken-init
 loop-taken-init g c = record {
   bound = omega (arith, ap length c.new-taken.ensures.items);
   read = subst (Consumes _ _) (sym c.new-taken.ensures.items) (Consumes-nil _);
-  long = c.in_ok-piece.ensures.len;
+  long = c.in_ok-piece.ensures;
 }
 
 pub returns-in_err-n-clause-lost : goal.returns-in_err-n-clause-lost
