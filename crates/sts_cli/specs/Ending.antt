@@ -8,10 +8,10 @@ use Rattle.std.specs.String.{string_bytes}
 use Rattle.std.specs.declared.alloc.Global.{Global}
 use Rattle.std.specs.Io.KnownBytes.{Keeps}
 use Rattle.clap.specs.Words.{Text}
-use Rattle.sts_line.specs.Asked.{Asks}
-use Rattle.sts_line.specs.Refused.{AsksForHelp, IsMistaken}
-use Rattle.sts_line.specs.declared.asked.Line.{Line}
-use Rattle.sts_line.specs.declared.asked.Line.TheVariants as line
+use Rattle.sts_args.specs.Asked.{Asks}
+use Rattle.sts_args.specs.Refused.{AsksForHelp, IsMistaken}
+use Rattle.sts_args.specs.declared.asked.Line.{Line}
+use Rattle.sts_args.specs.declared.asked.Line.TheVariants as line
 use Rattle.sts_cli.specs.Joined.{halves_of}
 use Rattle.sts_cli.specs.Output.{Output, Shows, Writes, failure_output, memory_output}
 use Rattle.sts_cli.specs.Running.{IsOutcomeOf, Outcome}

@@ -3,7 +3,7 @@
 
 ghost use Rattle.std.specs.Prelude.{◌≡◌, ◌≤◌, ◌⊎◌, IfOk, map};
 ghost use Rattle.std.specs.String.{string_bytes};
-ghost use Rattle.sts_line.specs.Asked.{HasWorkers};
+ghost use Rattle.sts_args.specs.Asked.{HasWorkers};
 ghost use Rattle.sts_cli.specs.Ending as def;
 ghost use Rattle.sts_cli.specs.Output.{Output, Writes};
 ghost use Rattle.sts_cli.specs.Taking.{IsTakenOf};
@@ -23,9 +23,9 @@ use std::io::{Input, Write};
 use std::rt::{Env, Files};
 use std::sync::Wait;
 use std::thread::Threads;
-use sts_line::asked;
-use sts_line::asked::LineError;
-use sts_line::reading::line;
+use sts_args::asked;
+use sts_args::asked::LineError;
+use sts_args::reading::line;
 
 /// One byte more than a text may have, so that an endless file is a text too long.
 pub const MOST_OF_A_TEXT: u64 = 1_048_577;

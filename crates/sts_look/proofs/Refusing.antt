@@ -3,9 +3,9 @@ use Rattle.std.proofs.Common.{◌≡◌, ◌⊎◌, List, [], sym, subst, inl, i
 use Rattle.clap.specs.Words.{Text, IsAmong, fault_of, subcommand_of}
 use Rattle.clap.specs.declared.error.kind.ErrorKind.{ErrorKind}
 use Rattle.clap.specs.declared.error.kind.ErrorKind.TheVariants as kind
-use Rattle.sts_line.specs.declared.asked.LineError.{LineError}
-use Rattle.sts_line.specs.declared.asked.LineError.TheVariants as error
-use Rattle.sts_line.specs.Refused.{BlamesUnless, TellsKind}
+use Rattle.sts_args.specs.declared.asked.LineError.{LineError}
+use Rattle.sts_args.specs.declared.asked.LineError.TheVariants as error
+use Rattle.sts_args.specs.Refused.{BlamesUnless, TellsKind}
 use Rattle.sts_look.specs.Asked.{Refuses, is_whole}
 use Rattle.sts_look.specs.Command.{program}
 

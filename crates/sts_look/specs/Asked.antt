@@ -7,9 +7,9 @@ use Rattle.std.specs.List.{list_all}
 use Rattle.std.specs.Str.{bytes_eq}
 use Rattle.clap.specs.Words.{Text, Row, IsAmong, fault_of, first_of, subcommand_of}
 use Rattle.clap.specs.declared.error.kind.ErrorKind.TheVariants as kind
-use Rattle.sts_line.specs.Refused.{HasMistake}
-use Rattle.sts_line.specs.declared.asked.LineError.{LineError}
-use Rattle.sts_line.specs.declared.asked.LineError.TheVariants as error
+use Rattle.sts_args.specs.Refused.{HasMistake}
+use Rattle.sts_args.specs.declared.asked.LineError.{LineError}
+use Rattle.sts_args.specs.declared.asked.LineError.TheVariants as error
 use Rattle.sts_view.specs.declared.view.Wanted.{Wanted}
 use Rattle.sts_look.specs.declared.asked.Asked.{Asked}
 use Rattle.sts_look.specs.declared.asked.Asked.TheVariants as asked

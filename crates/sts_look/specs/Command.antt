@@ -2,7 +2,7 @@
 use Rattle.std.specs.Prelude.{codes, Some}
 use Rattle.clap.specs.Words.{App, Rule, Text, new_app, new_rule, with_rule, with_subcommand}
 use Rattle.clap.specs.declared.builder.action.ArgAction.TheVariants.{SetTrue}
-use Rattle.sts_line.specs.Command.{file_rule, required, trace_rule}
+use Rattle.sts_args.specs.Command.{file_rule, required, trace_rule}
 
 -- an option that takes no value
 abbrev pub flag_rule : Text → Rule

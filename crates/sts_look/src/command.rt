@@ -7,7 +7,7 @@ ghost use Rattle.sts_look.specs.Command as def;
 
 use clap::{Arg, ArgAction, Command};
 use std::alloc::{AllocError, Global};
-use sts_line::command::{on_file, on_trace};
+use sts_args::command::{on_file, on_trace};
 
 /// An option that takes no value.
 fn flag<'a>(alloc: Global, name: &'a str, help: &'a str) -> Arg<'a>

@@ -19,7 +19,7 @@ use sts_cli::words::{WordsError, words};
 use sts_draw::of_text::write_picture;
 use sts_explain::explain::explain;
 use sts_explain_run::explain_run::explain_run;
-use sts_line::asked::LineError;
+use sts_args::asked::LineError;
 use sts_view::of_text::write_view;
 use sts_view::view::Wanted;
 

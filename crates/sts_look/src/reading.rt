@@ -2,15 +2,15 @@
 
 ghost use Rattle.std.specs.Prelude.{◌≡◌, IfOk, IfErr, map, Some};
 ghost use Rattle.clap.specs.Words.{rows_of, found_of, subcommand_rows_of};
-ghost use Rattle.sts_line.specs.Refused.{BlamesUnless};
+ghost use Rattle.sts_args.specs.Refused.{BlamesUnless};
 ghost use Rattle.sts_look.specs.Asked.{Asks, IsGiven, IsLineOf, Refuses, is_set, is_whole, wanted_at};
 
 use crate::asked::Asked;
 use crate::command::program;
 use clap::ArgMatches;
 use std::alloc::Global;
-use sts_line::asked::LineError;
-use sts_line::reading::{text_of, told, trace_of, unknown};
+use sts_args::asked::LineError;
+use sts_args::reading::{text_of, told, trace_of, unknown};
 use sts_view::view::Wanted;
 
 /// What the words of a command line ask for, the program's own name being the first.

@@ -1,9 +1,9 @@
 //! Command lines and what they ask for.
 
 use std::alloc::Global;
-use sts_line::asked;
-use sts_line::asked::LineError;
-use sts_line::reading::line;
+use sts_args::asked;
+use sts_args::asked::LineError;
+use sts_args::reading::line;
 
 /// What the words ask for: the command's name and its files, or why they ask for nothing.
 fn shown<'a>(alloc: Global, words: &'a [&'a str]) -> (&'static str, &'a str, &'a str) {

@@ -2,7 +2,7 @@ use Rattle.std.proofs.Common.{◌≡◌, ap, ap₂, codes, ◌∙◌}
 use Rattle.std.proofs.lemmas.Result.{IfOk-weaker}
 use Rattle.clap.specs.Words.{App, app_of, new_app, with_subcommand}
 use Rattle.clap.specs.Simple.{app_of_fields}
-use Rattle.sts_line.specs.Command.{required}
+use Rattle.sts_args.specs.Command.{required}
 use Rattle.sts_look.specs.Command as def
 use Rattle.sts_look.proofs.command.program.Goals as goal
 

@@ -1,7 +1,7 @@
 use Rattle.std.proofs.Common.{map, ap, sym, subst, ◌∙◌}
 use Rattle.std.proofs.lemmas.Result.{IfOk-weaker, IfErr-weaker}
 use Rattle.clap.specs.Words.{App, is_simple, is_simple_and_free, kind_of, HasKind, fault_of, subcommand_of}
-use Rattle.sts_line.specs.Refused.{BlamesUnless}
+use Rattle.sts_args.specs.Refused.{BlamesUnless}
 use Rattle.sts_look.specs.Asked.{IsLineOf, is_whole}
 use Rattle.sts_look.proofs.Refusing.{refuses_blamed, refuses_told}
 use Rattle.sts_look.proofs.reading.line.Goals as goal

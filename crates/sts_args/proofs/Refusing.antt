@@ -3,10 +3,10 @@ use Rattle.std.proofs.Common.{◌≡◌, ◌⊎◌, List, [], length, ◌<◌, s
 use Rattle.clap.specs.Words.{Text, IsAmong, fault_of, subcommand_of}
 use Rattle.clap.specs.declared.error.kind.ErrorKind.{ErrorKind}
 use Rattle.clap.specs.declared.error.kind.ErrorKind.TheVariants as kind
-use Rattle.sts_line.specs.declared.asked.LineError.{LineError}
-use Rattle.sts_line.specs.declared.asked.LineError.TheVariants as error
-use Rattle.sts_line.specs.Command.{program}
-use Rattle.sts_line.specs.Refused.{BlamesUnless, Refuses, TellsKind, is_whole}
+use Rattle.sts_args.specs.declared.asked.LineError.{LineError}
+use Rattle.sts_args.specs.declared.asked.LineError.TheVariants as error
+use Rattle.sts_args.specs.Command.{program}
+use Rattle.sts_args.specs.Refused.{BlamesUnless, Refuses, TellsKind, is_whole}
 
 -- a command with something missing is refused
 pub refuses_blamed : (words : List Text) (e : LineError) → 1 < length words → fault_of program words ≡ []

@@ -3,10 +3,10 @@ use Rattle.std.proofs.lemmas.Result.{IfOk-weaker, IfErr-weaker}
 use Rattle.std.proofs.lemmas.List.{length-map}
 use Rattle.clap.specs.Words.{App, is_simple, is_simple_and_free, kind_of, HasKind, fault_of}
 use Rattle.clap.specs.Words.{subcommand_of}
-use Rattle.sts_line.specs.Asked.{IsLineOf, commanded}
-use Rattle.sts_line.specs.Refused.{BlamesUnless, is_whole}
-use Rattle.sts_line.proofs.Refusing.{refuses_blamed, refuses_told}
-use Rattle.sts_line.proofs.reading.line.Goals as goal
+use Rattle.sts_args.specs.Asked.{IsLineOf, commanded}
+use Rattle.sts_args.specs.Refused.{BlamesUnless, is_whole}
+use Rattle.sts_args.proofs.Refusing.{refuses_blamed, refuses_told}
+use Rattle.sts_args.proofs.reading.line.Goals as goal
 
 pub returns-in-Ok-clause-asked : goal.returns-in-Ok-clause-asked
 returns-in-Ok-clause-asked c =

@@ -6,10 +6,10 @@ use Rattle.std.specs.Str.{bytes_eq}
 use Rattle.clap.specs.Words.{Text, Row, Kinds, IsAmong, fault_of, first_of, subcommand_of}
 use Rattle.clap.specs.declared.error.kind.ErrorKind.{ErrorKind}
 use Rattle.clap.specs.declared.error.kind.ErrorKind.TheVariants as kind
-use Rattle.sts_line.specs.declared.asked.LineError.{LineError}
-use Rattle.sts_line.specs.declared.asked.LineError.TheVariants as error
-use Rattle.sts_line.specs.Asked.{ids_of, is_run, takes_trace, workers_at}
-use Rattle.sts_line.specs.Command.{program}
+use Rattle.sts_args.specs.declared.asked.LineError.{LineError}
+use Rattle.sts_args.specs.declared.asked.LineError.TheVariants as error
+use Rattle.sts_args.specs.Asked.{ids_of, is_run, takes_trace, workers_at}
+use Rattle.sts_args.specs.Command.{program}
 
 -- an error of `clap` of this kind, as it is told
 abbrev pub TellsKind : ErrorKind → LineError → Type 0

@@ -42,7 +42,7 @@ pub enum LineError {
 
 impl From<AllocError> for LineError {
     ghost use Rattle.std.specs.Prelude.{◌≡◌};
-    ghost use Rattle.sts_line.specs.declared.asked.LineError.TheVariants.{Memory};
+    ghost use Rattle.sts_args.specs.declared.asked.LineError.TheVariants.{Memory};
 
     ghost from_gives = { λ _ e. e ≡ Memory };
 

@@ -6,9 +6,9 @@ use Rattle.std.specs.Prelude.{Bool, if◌then◌else◌, ◌||◌, codes}
 use Rattle.std.specs.Str.{bytes_eq}
 use Rattle.clap.specs.Words.{Text, Row, fault_of, first_of, subcommand_of}
 use Rattle.sts_text.specs.Number.{digits_up_to}
-use Rattle.sts_line.specs.declared.asked.Line.{Line}
-use Rattle.sts_line.specs.declared.asked.Line.TheVariants as line
-use Rattle.sts_line.specs.Command.{program}
+use Rattle.sts_args.specs.declared.asked.Line.{Line}
+use Rattle.sts_args.specs.declared.asked.Line.TheVariants as line
+use Rattle.sts_args.specs.Command.{program}
 
 -- the command's name and its files in order, but for those of options; none for the joined form
 abbrev pub asked : Line → Option (Text × List Text)

@@ -3,7 +3,7 @@
 ghost use Rattle.std.specs.Prelude.{◌≡◌, IfOk, codes, false};
 ghost use Rattle.clap.specs.Words.{app_of, new_app, rule_of, with_rule, with_subcommand};
 ghost use Rattle.clap.specs.declared.builder.Command.TheViews.{out-Command};
-ghost use Rattle.sts_line.specs.Command as def;
+ghost use Rattle.sts_args.specs.Command as def;
 
 use clap::{Arg, Command};
 use std::alloc::{AllocError, Global};

@@ -3,10 +3,10 @@
 ghost use Rattle.std.specs.Prelude.{◌≡◌, ◌↔◌, ◌≤◌, Ok, IfOk, IfErr, map, option_map, is_some, Some};
 ghost use Rattle.std.specs.Prelude.{codes, Bool, false, length, ◌∷◌, [], IfSome};
 ghost use Rattle.clap.specs.Words.{first_of, rows_of, found_of, kind_of, subcommand_rows_of};
-ghost use Rattle.sts_line.specs.declared.asked.Line.TheVariants.{Joined};
-ghost use Rattle.sts_line.specs.Asked.{Asks, HasWorkers, IsGiven, IsLineOf, asked, given, options};
-ghost use Rattle.sts_line.specs.Asked.{options_at, workers_at, workers_written};
-ghost use Rattle.sts_line.specs.Refused.{BlamesUnless, Refuses, TellsKind, is_whole};
+ghost use Rattle.sts_args.specs.declared.asked.Line.TheVariants.{Joined};
+ghost use Rattle.sts_args.specs.Asked.{Asks, HasWorkers, IsGiven, IsLineOf, asked, given, options};
+ghost use Rattle.sts_args.specs.Asked.{options_at, workers_at, workers_written};
+ghost use Rattle.sts_args.specs.Refused.{BlamesUnless, Refuses, TellsKind, is_whole};
 
 use crate::asked;
 use crate::asked::LineError;
