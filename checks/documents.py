@@ -1,8 +1,9 @@
 #!/usr/bin/env python3
 """Keeps what the documents show and what the tests run the same.
 
-    checks/documents.py          says whether the tables of tests have what the documents show now; status 1 if not
-    checks/documents.py write    writes these tables: documents.rt, patterns.rt and examples.rt of crates/sts_rows_language/src
+    checks/documents.py          says whether the tables of rows have what the documents show now; status 1 if not
+    checks/documents.py write    writes these tables: documents_*.rows, patterns_*.rows and examples_*.rows in
+                                 crates/tests_rows/data, where `tables` defines the notation
 
 Each text and output of README.md, docs/LANGUAGE.md, docs/VERIFIER.md, docs/PATTERNS.md and examples/README.md becomes a
 row:
@@ -28,7 +29,7 @@ import subprocess
 import sys
 
 ROOT = os.path.dirname(os.path.dirname(os.path.realpath(__file__)))
-FOLDER = "crates/sts_rows_language/src"
+FOLDER = "crates/tests_rows/data"
 DOCUMENTS = ["README.md", "examples/README.md", *(f"docs/{it}" for it in sorted(os.listdir(f"{ROOT}/docs")) if it.endswith(".md"))]
 SHOW_COMMANDS = ["README.md", "examples/README.md"]
 STATUS = {"success": 0, "failed": 1, "error": 3, "refused": 4, "fault": 5, "running": 5}
@@ -56,7 +57,7 @@ def fail(what):
 
 
 def events(trace):
-    """Returns the lines of a trace in the notation of the tests."""
+    """Returns the lines of a trace in the notation of rows."""
     words = []
     for line, same in itertools.groupby(trace.splitlines()):
         kind, number = line.split(" ")
@@ -69,7 +70,7 @@ def row(name, text, asked):
     """Returns a row: its name, the lines of its text, and the questions with their answers."""
     lines = [line for line in text.split("\n") if line.strip()]
     for line in lines:
-        if re.match(r"[#?=] ", line) or (" * " in line and not re.match(r"\d+ \* ", line)):
+        if re.match(r"[#?=!] ", line) or "\\" in line or (" * " in line and not re.match(r"\d+ \* ", line)):
             fail(f"{name}: the notation of rows can't hold the line {line!r}")
     answers = [line for question, answer in asked for line in (f"? {question}", f"= {answer}")]
     return "\n".join([f"# {name}", *lines, *answers])
@@ -211,45 +212,35 @@ def patterns(path):
     return found
 
 
-def text_of(name, rows):
-    table = "\n\n".join(rows).replace("\\", "\\\\").replace('"', '\\"')
-    return f'const {name}: &str = "\n{table}\n";\n'
-
-
-def table_of(what, tables):
-    """Returns a file of tests: tables by name, and the test that walks them."""
-    asked = {name: sum(it.count("\n= ") for it in rows) for name, rows in tables.items()}
-    walks = "".join(
-        f"    assert_eq!(rt; walk_table(&rt, alloc, {name})?, {count});\n" for name, count in asked.items()
-    )
-    return (
-        f"//! {what}, as rows: written by checks/documents.py, which says where each comes from.\n\n"
-        "use crate::table::walk_table;\nuse std::test::Fail;\n\n"
-        + "\n".join(text_of(name, rows) for name, rows in tables.items())
-        + "\n#[test]\nfn what_is_shown_holds(rt: HostRuntime) -> Result<(), Fail> {\n    let alloc = rt.alloc();\n"
-        + walks
-        + "    Ok(())\n}\n"
-    )
-
-
 def files():
-    """Returns the files of tests by name."""
+    """Returns the tables of rows by the names of their files."""
     language, path = "docs/LANGUAGE.md", "docs/PATTERNS.md"
     tables = {
-        "BLOCKS": blocks(language),
-        "TEXTS": cells(language, "Text", "Printed") + cells(language, "Example", "Printed"),
-        "CAUSES": causes("docs/VERIFIER.md"),
+        "documents_blocks": blocks(language),
+        "documents_texts": cells(language, "Text", "Printed") + cells(language, "Example", "Printed"),
+        "documents_causes": causes("docs/VERIFIER.md"),
+        "patterns_patterns": patterns(path) + causes(path) + cells(path, "Text", "Printed"),
+        "examples_commands": commands(SHOW_COMMANDS),
     }
-    idioms = {"PATTERNS": patterns(path) + causes(path) + cells(path, "Text", "Printed")}
-    shown = {"COMMANDS": commands(SHOW_COMMANDS)}
-    for name, rows in [*tables.items(), *idioms.items(), *shown.items()]:
+    for name, rows in tables.items():
         if len(rows) < 5:
             fail(f"only {len(rows)} rows were found for {name}")
-    return {
-        "documents.rt": table_of("What the documents show", tables),
-        "patterns.rt": table_of("The patterns", idioms),
-        "examples.rt": table_of("The examples", shown),
-    }
+    return {f"{name}.rows": "\n\n".join(rows) + "\n" for name, rows in tables.items()}
+
+
+def counted_rows():
+    """Fails where a table of rows isn't named in `tables`, or `stdout` doesn't have the number of its answers."""
+    names = [it for it in read(f"{FOLDER}/tables").splitlines() if not it.startswith("#")]
+    there = sorted(it for it in os.listdir(f"{ROOT}/{FOLDER}") if it.endswith(".rows"))
+    if names != there:
+        fail(f"{FOLDER}/tables doesn't name each table once, in order: {sorted(set(names) ^ set(there))}")
+    counts = [(name, len(re.findall(r"^= ", read(f"{FOLDER}/{name}"), re.M))) for name in names]
+    expected = "".join(f"{name}: {count} answers, 0 wrong\n" for name, count in counts)
+    path = f"{os.path.dirname(FOLDER)}/stdout"
+    if sys.argv[1:] == ["write"]:
+        open(f"{ROOT}/{path}", "w").write(expected)
+    elif read(path) != expected:
+        fail(f"{path} doesn't have the numbers of answers in {FOLDER}: checks/documents.py write")
 
 
 def headings(path):
@@ -347,6 +338,7 @@ def main():
             open(path, "w").write(table)
         elif not os.path.exists(path) or open(path).read() != table:
             fail(f"{FOLDER}/{name} isn't what the documents show: checks/documents.py write")
+    counted_rows()
 
 
 if __name__ == "__main__":

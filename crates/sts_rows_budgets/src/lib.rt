@@ -1,8 +1,5 @@
-//! Runs beside their budgets: what a run costs, and what the budgets of its program are; and a run
-//! of the plain machine, event by event.
+//! Runs beside their budgets: what a run costs, and what the budgets of its program are.
 #![tactic(auto)]
 
-#[cfg(test)]
-mod plain;
 #[cfg(test)]
 mod reached;

@@ -1,7 +1,7 @@
-//! Small texts whose programs and faults were written down by hand.
+//! A text with every word, and the program that it is.
 
 use std::test::Fail;
-use sts_asm::{AsmError, assemble};
+use sts_asm::assemble;
 use sts_code::instr::{Instr, Joiner, Kind, Pred};
 use sts_code::profile::Profile;
 
@@ -159,64 +159,5 @@ fn open(slot: u8, joiner: Joiner, timed: bool) -> Instr {
         slot,
         joiner,
         timed,
-    }
-}
-
-// The text, the number of the kind and the line.
-static FAULTY: [(&str, u8, u32); 34] = [
-    ("func main 0\npuhs 7\nret\nend\n", 2, 2),
-    ("func main 0\npush 9223372036854775808\nret\nend\n", 3, 2),
-    ("func main 0\npush\nret\nend\n", 4, 2),
-    ("func main 0\n", 7, 2),
-    ("func main 0", 7, 1),
-    ("", 9, 0),
-    ("func main 0\njmp x\nx:\nend\n", 9, 0),
-    ("func main 0\nload 256\nend\n", 3, 2),
-    ("func main 0\ntimes 65536\nend\n", 3, 2),
-    ("func main 0\ntimes 0\nret\nend\n", 9, 0),
-    ("func main 0\nopen s16 all\nret\nend\n", 9, 0),
-    ("func main 0\nopen s256 all\nend\n", 4, 2),
-    ("func main 0\nload -1\nend\n", 3, 2),
-    ("func main 0\npush +5\nend\n", 3, 2),
-    ("func main 0\npush 1 1\nend\n", 4, 2),
-    ("func main 0\nret ; \x7f\nend\n", 1, 2),
-    ("func main 0\nx: push 1\nend\n", 4, 2),
-    ("func main 0\nx:\nx:\nret\nend\n", 6, 3),
-    ("func main 0\n1x:\nend\n", 2, 2),
-    ("x:\nfunc main 0\nret\nend\n", 2, 1),
-    ("func main 0\nfunc\n", 7, 2),
-    ("func main 0\njmp a\njmp b\nret\nb:\nret\nend\n", 5, 2),
-    (
-        "func f 0\nx:\nret\nend\nfunc main 0\njmp x\nret\nend\n",
-        5,
-        6,
-    ),
-    ("func main 0\nfork s0 f _\nret\nend\n", 5, 2),
-    ("func main 0\njoin s0 - - -\nret\nend\n", 4, 2),
-    ("func main 0\nopen s0 some\nret\nend\n", 4, 2),
-    ("func main 0\nopen s0 all late\nret\nend\n", 4, 2),
-    ("func main 0 needs\nret\nend\n", 4, 1),
-    ("func main 0 needs 16\nret\nend\n", 3, 1),
-    ("func 1f 0\nret\nend\n", 4, 1),
-    ("profile 3\n", 3, 1),
-    ("profile\n", 4, 1),
-    ("profile 1 x\n", 4, 1),
-    ("\nprofile 2\n", 2, 2),
-];
-
-#[test]
-fn the_first_fault_of_a_text_is_told(rt: HostRuntime) {
-    for (text, kind, line) in &FAULTY {
-        match assemble(rt.alloc(), text.as_bytes()) {
-            Ok(_) => assert!(rt; false, "accepted: {text:?}"),
-            Err(
-                AsmError {
-                    line: at,
-                    kind: found,
-                },
-            ) => {
-                assert_eq!(rt; (found.number(), at), (*kind, *line), "at {text:?}");
-            }
-        }
     }
 }

@@ -1,11 +1,9 @@
-//! Rows of texts: what the assembler, the listing, the readers of traces and the command line answer,
+//! What the assembler, the readers and the writer of traces and the command line answer,
 //! each by itself.
 #![tactic(auto)]
 
 #[cfg(test)]
 mod assembled;
-#[cfg(test)]
-mod listed;
 #[cfg(test)]
 mod traces;
 #[cfg(test)]

@@ -23,30 +23,6 @@ fn a_trace_is_read(rt: HostRuntime) -> Result<(), Fail> {
     Ok(())
 }
 
-static FAULTY_TRACES: [(&str, TraceError); 10] = [
-    ("step 01\n", TraceError::BadNumber(1)),
-    ("step -0\n", TraceError::BadNumber(1)),
-    ("step 0\r\n", TraceError::BadNumber(1)),
-    ("step 0\nstep 4294967296\n", TraceError::BadNumber(2)),
-    ("step\n", TraceError::BadLine(1)),
-    ("step  0\n", TraceError::BadLine(1)),
-    ("Step 0\n", TraceError::BadLine(1)),
-    ("\n", TraceError::BadLine(1)),
-    ("step 0\nstep", TraceError::NoNewline),
-    ("step 0\nstep 1", TraceError::NoNewline),
-];
-
-#[test]
-fn the_first_fault_of_a_trace_is_told(rt: HostRuntime) {
-    for (text, fault) in &FAULTY_TRACES {
-        assert_eq!(rt;
-            read_trace(rt.alloc(), text.as_bytes()).err(),
-            Some(*fault),
-            "at {text:?}"
-        );
-    }
-}
-
 #[test]
 fn outside_events_are_read(rt: HostRuntime) -> Result<(), Fail> {
     let dues = read_outside(rt.alloc(), b"at 3 interrupt 0\nat 0 expire 4294967295\n")?;
