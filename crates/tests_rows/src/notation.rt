@@ -74,12 +74,12 @@ fn push_event(trace: &mut Vec<u8>, word: &str) -> Result<()> {
     push_tasks(trace, word)
 }
 
-/// Pushes the lines of a trace: `0*5` stands for `step 0` five times, `1..3*5` for five steps of task 1, then of task 2,
-/// then of task 3, `i0` for `interrupt 0` and `x0` for `expire 0`.
+/// Pushes the lines of a trace in its short notation. `0*5` is `step 0` five times, and `1..3*5` is five steps of task 1,
+/// then of task 2, then of task 3. `i0` is `interrupt 0`, and `x0` is `expire 0`.
 ///
 /// # Errors
 ///
-/// Out of memory, or a word that stands for nothing.
+/// Out of memory, or a word that is no event.
 pub fn push_events(trace: &mut Vec<u8>, short: &str) -> Result<()> {
     for word in short.split_ascii_whitespace() {
         push_event(trace, word)?;

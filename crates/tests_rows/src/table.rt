@@ -7,6 +7,9 @@ use std::str;
 use sts_cli::mode::Mode;
 use sts_cli::play::{play, play_joined};
 
+/// A listing of more bytes than a text may have isn't listed again.
+const MOST: usize = 1_048_576;
+
 /// How the program is asked.
 #[derive(Clone, Copy)]
 enum Asked {
@@ -15,7 +18,7 @@ enum Asked {
     Joined,
 }
 
-/// What stands above an answer, and how many answers were compared.
+/// The text and the question that the next answer belongs to, and how many answers were compared.
 #[derive(Drop)]
 pub struct Table<'t> {
     alloc: Global,
@@ -66,7 +69,9 @@ impl<'t> Table<'t> {
     /// Returns the lines that a word stands for, or the line itself.
     fn meaning<'s>(&'s self, line: &'s str) -> &'s str {
         for definition in self.words.lines() {
-            if let Some((word, lines)) = definition.split_once(" ") && word == line {
+            if let Some((word, lines)) = definition.split_once(" ")
+                && word == line
+            {
                 return lines;
             }
         }
@@ -127,7 +132,9 @@ impl<'t> Table<'t> {
 
     /// A listing, which is listed again as itself.
     fn list(&mut self, expected: &str) -> Result<Option<String>> {
-        if let Some(listing) = expected.strip_prefix("0 ") {
+        if let Some(listing) = expected.strip_prefix("0 ")
+            && listing.len() <= MOST
+        {
             let again = said(self.alloc, Asked::In(Mode::List), listing.as_bytes(), b"")?;
             if again.as_str() != expected {
                 return self.compare(again.as_str(), expected);
@@ -142,9 +149,18 @@ impl<'t> Table<'t> {
         if let Some(wrong) = self.ask(Asked::In(Mode::Plain), trace.as_slice(), expected)? {
             return Ok(Some(wrong));
         }
-        let verdict = said(self.alloc, Asked::In(Mode::Verify), self.text.as_slice(), b"")?;
+        let verdict = said(
+            self.alloc,
+            Asked::In(Mode::Verify),
+            self.text.as_slice(),
+            b"",
+        )?;
         let is_refused = verdict.starts_with("4 ") && !expected.starts_with("3");
-        let replayed = if is_refused { verdict.as_str() } else { expected };
+        let replayed = if is_refused {
+            verdict.as_str()
+        } else {
+            expected
+        };
         self.ask(Asked::In(Mode::Replay), trace.as_slice(), replayed)
     }
 
