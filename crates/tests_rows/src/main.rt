@@ -1,6 +1,7 @@
-//! Walks the tables of rows that the file `tables` names, and prints for each how many answers it compared, how many of
-//! them are wrong, and which. The first lines of `tables` define the notation. The file `stdout` has what this program
-//! must print, so a wrong row and a lost row both fail the gate.
+//! Walks the tables of rows that the file `tables` names, and prints for each how many answers it
+//! compared, how many of them are wrong, and which. The first lines of `tables` define the
+//! notation. The file `stdout` has what this program must print, so a wrong row and a lost row both
+//! fail the gate.
 #![tactic(auto)]
 
 mod notation;

@@ -12,7 +12,8 @@ fn push_escaped(text: &mut Vec<u8>, escaped: &str) -> Result<()> {
     Ok(())
 }
 
-/// Pushes one line. `\1f` stands for the byte of that code, and a line that ends with `\` has no newline.
+/// Pushes one line. `\1f` stands for the byte of that code, and a line that ends with `\` has no
+/// newline.
 ///
 /// # Errors
 ///
@@ -74,8 +75,9 @@ fn push_event(trace: &mut Vec<u8>, word: &str) -> Result<()> {
     push_tasks(trace, word)
 }
 
-/// Pushes the lines of a trace in its short notation. `0*5` is `step 0` five times, and `1..3*5` is five steps of task 1,
-/// then of task 2, then of task 3. `i0` is `interrupt 0`, and `x0` is `expire 0`.
+/// Pushes the lines of a trace in its short notation. `0*5` is `step 0` five times, and `1..3*5` is
+/// five steps of task 1, then of task 2, then of task 3. `i0` is `interrupt 0`, and `x0` is `expire
+/// 0`.
 ///
 /// # Errors
 ///

@@ -143,7 +143,8 @@ impl<'t> Table<'t> {
         self.ask(Asked::In(Mode::List), b"", expected)
     }
 
-    /// A trace by `plain`, and then by `replay`, which answers the same, or why the program is refused.
+    /// A trace by `plain`, and then by `replay`, which answers the same, or why the program is
+    /// refused.
     fn run(&mut self, expected: &str) -> Result<Option<String>> {
         let trace = self.trace()?;
         if let Some(wrong) = self.ask(Asked::In(Mode::Plain), trace.as_slice(), expected)? {
