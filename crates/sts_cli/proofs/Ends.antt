@@ -1,13 +1,13 @@
 -- What is printed of what was read.
 use Rattle.std.proofs.Common.{◌≡◌, ℕ, List, [], Option, None, Some, IfSome, take, subst, inl, inr}
-use Rattle.sts_cli.specs.Joined.{halves_of}
-use Rattle.sts_cli.specs.Output.{Output, IsOutputOf}
-use Rattle.sts_cli.specs.Taking.{Gives, IsTakenOf}
-use Rattle.sts_cli.specs.Ending.{IsOfText, IsOfTextAndTrace, IsOfInput, most_of_a_text}
-use Rattle.sts_cli.specs.Ending.{most_of_a_stream, shown, failed}
-use Rattle.sts_cli.specs.declared.mode.Mode.{Mode}
-use Rattle.sts_cli.specs.declared.mode.Mode.TheVariants as mode
-use Rattle.sts_cli.specs.declared.taking.TakeError.TheVariants.{Memory}
+use Rattle.sts_output.specs.Joined.{halves_of}
+use Rattle.sts_output.specs.Output.{Output, IsOutputOf}
+use Rattle.sts_output.specs.Taking.{Gives, IsTakenOf}
+use Rattle.sts_cli.specs.Ending.{IsOfText, IsOfTextAndTrace, IsOfInput, shown, failed}
+use Rattle.sts_output.specs.Streams.{most_of_a_text, most_of_a_stream}
+use Rattle.sts_output.specs.declared.mode.Mode.{Mode}
+use Rattle.sts_output.specs.declared.mode.Mode.TheVariants as mode
+use Rattle.sts_output.specs.declared.taking.TakeError.TheVariants.{Memory}
 
 pub of_text : (m : Mode) (file : Option (List ℕ)) (text : List ℕ) (o : Output) → IsTakenOf file most_of_a_text text → IsOutputOf m text [] o → IsOfText m file o
 of_text m file text o taken (inl shows) = shown text taken shows

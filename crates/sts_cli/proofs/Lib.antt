@@ -3,5 +3,3 @@ pub mod Ends
 pub mod Outsides
 pub mod Reports
 pub mod Runs
-pub mod Splits
-pub mod Takes

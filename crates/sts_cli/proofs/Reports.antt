@@ -3,13 +3,14 @@ use Rattle.std.proofs.Common.{◌≡◌, ℕ, List, Bool, Option, Result, Err, M
 use Rattle.sts_code.specs.Program.{Program}
 use Rattle.sts_pool.specs.declared.report.Report.{Report}
 use Rattle.sts_rules.specs.Refusal.{IsAccepted}
-use Rattle.sts_cli.specs.Output.{AreLines, IsRefused, Output, Writes, file_output}
+use Rattle.sts_output.specs.Output.{AreLines, IsRefused, Output, Writes, file_output}
 use Rattle.sts_cli.specs.Running.{IsOutcomeOf, IsRun, Outcome, RunWrites, Written, alone, no_trace}
 use Rattle.sts_cli.specs.Running.{Holds, IsReportOf, refused, report_output, reported, whole}
-use Rattle.sts_cli.specs.Taking.{IsTakenOf}
-use Rattle.sts_cli.specs.Ending.{IsOfRun, IsPrinted, most_of_a_text, most_of_a_stream, of_run}
+use Rattle.sts_output.specs.Taking.{IsTakenOf}
+use Rattle.sts_cli.specs.Ending.{IsOfRun, IsPrinted, of_run}
+use Rattle.sts_output.specs.Streams.{most_of_a_text, most_of_a_stream}
 use Rattle.sts_cli.specs.Ending.{shown, without_file}
-use Rattle.sts_cli.specs.declared.taking.TakeError.TheVariants.{Read}
+use Rattle.sts_output.specs.declared.taking.TakeError.TheVariants.{Read}
 
 -- an outcome is told whole
 pub whole_told : (kept : Bool) (P : Outcome → Type 0) (o : Outcome) → P o → Holds kept P o

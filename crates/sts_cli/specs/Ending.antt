@@ -1,38 +1,25 @@
 -- What the whole program writes, and the status that it ends with (this project's own).
-use Rattle.std.specs.Prelude.{◌≡◌, ◌-◌, ◌^◌, ℕ, List, [], Option, Some, None, Result, Ok, Err}
-use Rattle.std.specs.Prelude.{codes}
+use Rattle.std.specs.Prelude.{◌≡◌, ℕ, List, [], Option, Some, None, Result, Ok, Err}
 use Rattle.std.specs.Prelude.{map}
 use Rattle.std.specs.Prelude.{String, Vec}
-use Rattle.std.specs.Borrow.{Bor}
 use Rattle.std.specs.String.{string_bytes}
 use Rattle.std.specs.declared.alloc.Global.{Global}
-use Rattle.std.specs.Io.KnownBytes.{Keeps}
 use Rattle.clap.specs.Words.{Text}
 use Rattle.sts_args.specs.Asked.{Asks}
 use Rattle.sts_args.specs.Refused.{AsksForHelp, IsMistaken}
 use Rattle.sts_args.specs.declared.asked.Line.{Line}
 use Rattle.sts_args.specs.declared.asked.Line.TheVariants as line
-use Rattle.sts_cli.specs.Joined.{halves_of}
-use Rattle.sts_cli.specs.Output.{Output, Shows, Writes, failure_output, memory_output}
+use Rattle.sts_output.specs.Joined.{halves_of}
+use Rattle.sts_output.specs.Output.{Output, Shows, Writes, failure_output, memory_output}
 use Rattle.sts_cli.specs.Running.{IsOutcomeOf, Outcome}
-use Rattle.sts_cli.specs.Taking.{IsTakenOf}
-use Rattle.sts_cli.specs.declared.mode.Mode.{Mode}
-use Rattle.sts_cli.specs.declared.mode.Mode.TheVariants as mode
-use Rattle.sts_cli.specs.declared.taking.TakeError.{TakeError}
-use Rattle.sts_cli.specs.declared.words.WordsError.{WordsError}
-use Rattle.sts_cli.specs.declared.words.WordsError.TheVariants as words_error
-
--- one byte more than a text may have
-abbrev pub most_of_a_text : ℕ
-most_of_a_text = 1048577
-
--- more than memory holds
-abbrev pub most_of_a_stream : ℕ
-most_of_a_stream = 2 ^ 64 - 1
-
--- the bytes of a file by its name, where they are known
-abbrev pub Files : Type 0
-Files = Text → Option (List ℕ)
+use Rattle.sts_output.specs.Streams.{Files, Prints, Streams, Tells, events_of, most_of_a_stream}
+use Rattle.sts_output.specs.Streams.{most_of_a_text, not_text_output}
+use Rattle.sts_output.specs.Taking.{IsTakenOf}
+use Rattle.sts_output.specs.declared.mode.Mode.{Mode}
+use Rattle.sts_output.specs.declared.mode.Mode.TheVariants as mode
+use Rattle.sts_output.specs.declared.taking.TakeError.{TakeError}
+use Rattle.sts_output.specs.declared.words.WordsError.{WordsError}
+use Rattle.sts_output.specs.declared.words.WordsError.TheVariants as words_error
 
 -- what is printed of a file's text in a mode, or that memory or the file failed
 pub data IsOfText (m : Mode) (file : Option (List ℕ)) (o : Output) : Type 0 where
@@ -54,11 +41,6 @@ pub data IsOfInput (input : Option (List ℕ)) (o : Output) : Type 0 where
   shown : (bytes : List ℕ) → IsTakenOf input most_of_a_stream bytes
       → Shows mode.Plain (halves_of bytes).text (halves_of bytes).trace o → IsOfInput input o
   failed : (e : TakeError) → o ≡ failure_output e → IsOfInput input o
-
--- the bytes of a file of events: none where no file is named
-abbrev pub events_of : Files → Option (Bor Text) → Option (List ℕ)
-events_of files None = Some []
-events_of files (Some path) = files path.now
 
 -- what is printed of a run of a text with an outside text, or that memory or the trace's file
 -- failed
@@ -85,23 +67,6 @@ IsPlayed (line.Replay file trace) files input o = IsOfTextAndTrace mode.Replay (
 IsPlayed (line.Run file workers outside trace) files input o = IsOfRun (files file.now)
     (events_of files outside) o
 
--- the bytes that the two streams hold before and after, where they are known
-pub record Streams : Type 0 where
-  pub out_old : Option (List ℕ)
-  pub out_new : Option (List ℕ)
-  pub err_old : Option (List ℕ)
-  pub err_new : Option (List ℕ)
-
--- this output alone is written
-pub record Prints (s : Streams) (status : ℕ) (o : Output) : Type 0 where
-  pub written : Writes s.out_old s.out_new status o
-  pub kept : Keeps s.err_old s.err_new
-
--- some text is told to the person at the command line, and nothing is printed
-pub record Tells (s : Streams) (status : ℕ) (o : Output) : Type 0 where
-  pub told : Writes s.err_old s.err_new status o
-  pub kept : Keeps s.out_old s.out_new
-
 -- what the program writes, and its status: that of the line that the words ask for, 0 after help
 -- that they ask for, 2 where they are mistaken, or that memory was refused
 pub data Ends (words : List Text) (files : Files) (input : Option (List ℕ)) (s : Streams)
@@ -113,12 +78,6 @@ pub data Ends (words : List Text) (files : Files) (input : Option (List ℕ)) (s
   mistaken : (o : Output) → IsMistaken words → o.status ≡ 2 → Tells s status o
       → Ends words files input s status
   failed : Prints s status memory_output → Ends words files input s status
-
-abbrev pub not_text_output : Output
-not_text_output = record {
-  bytes = codes "error: a word of the command line is not UTF-8\n";
-  status = 2;
-}
 
 -- the same from the words that were had, or not
 abbrev pub EndsFrom : Result (Vec (String Global) Global) WordsError → Files → Option (List ℕ)

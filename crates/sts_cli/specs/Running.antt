@@ -17,9 +17,9 @@ use Rattle.sts_pool.specs.Report.{IsReport}
 use Rattle.sts_pool.specs.declared.report.PoolError.{PoolError}
 use Rattle.sts_pool.specs.declared.report.Report.{Report}
 use Rattle.sts_pool.specs.declared.report.PoolError.TheVariants as pool
-use Rattle.sts_cli.specs.Output.{AreLines, IsRefused, Output, Writes, end_status, file_output}
-use Rattle.sts_cli.specs.Output.{memory_output, text_fault_output, trace_fault_output}
-use Rattle.sts_cli.specs.Printed.{end_line, steps_line, threads_line, unfinished_line}
+use Rattle.sts_output.specs.Output.{AreLines, IsRefused, Output, Writes, end_status, file_output}
+use Rattle.sts_output.specs.Output.{memory_output, text_fault_output, trace_fault_output}
+use Rattle.sts_output.specs.Printed.{end_line, steps_line, threads_line, unfinished_line}
 
 -- ---- events from outside
 

@@ -1,6 +1,6 @@
 //! Laws of what is printed: each stands on a function that does nothing.
 
-ghost use Rattle.sts_cli.specs.Output as def;
+ghost use Rattle.sts_output.specs.Output as def;
 
 use sts_verify::laws::verdict_is_one;
 use sts_verify::verified::Verified;

@@ -2,17 +2,11 @@
 #![tactic(auto)]
 
 pub mod dues;
-pub mod joined;
 pub mod laws;
-pub mod mode;
 pub mod modes;
-pub mod output;
-mod placeholders;
 pub mod play;
-pub mod printed;
 pub mod program;
-mod refusal;
-pub mod sinks;
-pub mod sources;
-pub mod taking;
-pub mod words;
+
+pub use sts_output::mode::Mode;
+pub use sts_output::taking::{TakeError, take};
+pub use sts_output::writing::WriteFailed;

@@ -1,7 +1,4 @@
-//! What is printed in each mode, one file for one mode.
+//! What is printed in the modes that run the machine that tests nothing, one file a mode.
 
-pub mod list;
-pub mod plain;
 pub mod replay;
 pub(crate) mod run;
-pub mod verify;

@@ -3,30 +3,25 @@
 ghost use Rattle.std.specs.Prelude.{◌≡◌, ◌≤◌, IfOk, OnOk};
 ghost use Rattle.std.specs.Io.KnownBytes.{Appends};
 ghost use Rattle.sts_trace.specs.Spelling.{trace_text};
-ghost use Rattle.sts_cli.specs.Joined.{Halves, halves_of};
-ghost use Rattle.sts_cli.specs.Output as def;
+ghost use Rattle.sts_output.specs.Joined.{Halves, halves_of};
+ghost use Rattle.sts_output.specs.Output as def;
 ghost use Rattle.sts_cli.specs.Running.{IsOutcomeOf, Outcome, RunWrites};
 
-use crate::joined::split;
-use crate::mode::Mode;
 use crate::modes::run::Manner;
-use crate::modes::{list, plain, replay, run, verify};
-use crate::output::Output;
-use crate::taking::TakeError;
+use crate::modes::{replay, run};
 use std::alloc::{AllocError, Global};
 use std::io;
 use std::io::Write;
 use std::sync::Wait;
 use std::thread::Threads;
 use sts_model::event::Event;
+use sts_output::joined::split;
+use sts_output::mode::Mode;
+use sts_output::modes::{list, plain, verify};
+use sts_output::output::Output;
+use sts_output::taking::TakeError;
+use sts_output::writing::{WriteFailed, failed, written};
 use sts_trace::write_trace;
-
-/// Writing what is printed failed; some of it may have been written.
-#[derive(Clone, Copy, Debug, PartialEq, Eq)]
-pub struct WriteFailed;
-
-/// The status where memory, a file or a stream failed.
-pub const STATUS_OUTSIDE: u8 = 6;
 
 fn output(alloc: Global, mode: Mode, text: &[u8], trace: &[u8]) -> Result<Output, AllocError>
     ensures { IfOk result (λ o. def.Shows mode text.now trace.now o) }
@@ -36,37 +31,6 @@ fn output(alloc: Global, mode: Mode, text: &[u8], trace: &[u8]) -> Result<Output
         Mode::Replay => replay::replayed(alloc, text, trace),
         Mode::List => list::listed(alloc, text),
         Mode::Verify => verify::verified(alloc, text),
-    }
-}
-
-/// Writes all of these bytes, and gives the status.
-///
-/// # Errors
-///
-/// A write failed.
-pub fn written<W: Write>(out: &mut W, bytes: &[u8], status: u8) -> Result<u8, WriteFailed>
-    ensures { IfOk result (λ s. (o : def.Output)
-        × (o ≡ record { bytes = bytes.now; status = status })
-        × def.Writes (W.contents out.old) (W.contents out.new) s o) }
-{
-    match out.write_all(bytes) {
-        Ok(()) => Ok(status),
-        Err(_) => Err(WriteFailed),
-    }
-}
-
-/// Writes what is printed where memory, a file or a stream failed, and gives the status.
-///
-/// # Errors
-///
-/// A write failed.
-pub fn failed<W: Write>(error: TakeError, out: &mut W) -> Result<u8, WriteFailed>
-    ensures { IfOk result (λ s.
-        def.Writes (W.contents out.old) (W.contents out.new) s (def.failure_output error)) }
-{
-    match error {
-        TakeError::Memory => written(out, b"error memory\n", STATUS_OUTSIDE),
-        TakeError::Read => written(out, b"error file\n", STATUS_OUTSIDE),
     }
 }
 

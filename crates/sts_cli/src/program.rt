@@ -5,19 +5,10 @@ ghost use Rattle.std.specs.Prelude.{◌≡◌, ◌≤◌, ◌⊎◌, IfOk, map};
 ghost use Rattle.std.specs.String.{string_bytes};
 ghost use Rattle.sts_args.specs.Asked.{HasWorkers};
 ghost use Rattle.sts_cli.specs.Ending as def;
-ghost use Rattle.sts_cli.specs.Output.{Output, Writes};
-ghost use Rattle.sts_cli.specs.Taking.{IsTakenOf};
+ghost use Rattle.sts_output.specs.Output.{Output, Writes};
+ghost use Rattle.sts_output.specs.Streams.{events_of};
 
-use crate::mode::Mode;
-use crate::placeholders::placeholder;
-use crate::play::{
-    STATUS_OUTSIDE, WriteFailed, failed, play, play_joined, play_run, play_untraced, written,
-};
-use crate::sinks::{Sinks, made};
-use crate::sources::{Host, Sources, file};
-use crate::taking::{TakeError, take};
-use crate::words;
-use crate::words::WordsError;
+use crate::play::{play, play_joined, play_run, play_untraced};
 use std::alloc::{AllocError, Global};
 use std::io::{Input, Write};
 use std::rt::{Env, Files};
@@ -26,18 +17,18 @@ use std::thread::Threads;
 use sts_args::asked;
 use sts_args::asked::LineError;
 use sts_args::reading::line;
-
-/// One byte more than a text may have, so that an endless file is a text too long.
-pub const MOST_OF_A_TEXT: u64 = 1_048_577;
-
-/// All that a trace or the input stream has, which memory ends first.
-pub const MOST_OF_A_STREAM: u64 = u64::MAX;
+use sts_output::mode::Mode;
+use sts_output::placeholders::placeholder;
+use sts_output::sinks::{Sinks, made};
+use sts_output::sources::{Host, Sources, file};
+use sts_output::taking::{TakeError, take};
+use sts_output::texts::{MOST_OF_A_STREAM, MOST_OF_A_TEXT, NOT_TEXT, Texts, borrowed, read_texts};
+use sts_output::words;
+use sts_output::words::WordsError;
+use sts_output::writing::{STATUS_OUTSIDE, WriteFailed, failed, written};
 
 /// The name that the program goes by.
 const NAME: &[u8] = b"sts";
-
-/// What is told where a word is no text.
-pub const NOT_TEXT: &[u8] = b"error: a word of the command line is not UTF-8\n";
 
 /// A mode that looks at a text alone.
 fn on_text<S: Sources, W: Write>(
@@ -98,49 +89,6 @@ fn on_input<S: Sources, W: Write>(
     }
 }
 
-/// The bytes of a file of events: none where no file is named.
-fn events_text<S: Sources>(
-    alloc: Global,
-    sources: &S,
-    path: Option<&str>,
-) -> Result<Vec<u8>, TakeError>
-    ensures { IfOk result (λ taken. IsTakenOf (def.events_of (S.held sources.now) path.entry)
-        def.most_of_a_stream taken.items) }
-{
-    match path {
-        Some(path) => file(alloc, sources, path, MOST_OF_A_STREAM),
-        None => Ok(Vec::new(alloc)),
-    }
-}
-
-/// A program's text, and the text of the events that come to it: a trace or an outside text.
-#[derive(Drop)]
-pub struct Texts {
-    pub program: Vec<u8>,
-    pub events: Vec<u8>,
-}
-
-/// A text and, once it is read, that of the events, which is empty where no file is named.
-///
-/// # Errors
-///
-/// Memory was refused, or a file could not be opened or read.
-pub fn read_texts<S: Sources>(
-    alloc: Global,
-    sources: &S,
-    path: &str,
-    events: Option<&str>,
-) -> Result<Texts, TakeError>
-    ensures program { IfOk result (λ t. IsTakenOf (S.held sources.now path.now)
-        def.most_of_a_text t.program.items) }
-    ensures events { IfOk result (λ t. IsTakenOf (def.events_of (S.held sources.now) events.entry)
-        def.most_of_a_stream t.events.items) }
-{
-    let program = file(alloc, sources, path, MOST_OF_A_TEXT)?;
-    let events = events_text(alloc, sources, events)?;
-    Ok(Texts { program, events })
-}
-
 /// A run of texts that were read; the file of the trace is made first, if one is named.
 fn on_texts<R: Threads + Wait + Sync, S: Sinks, W: Write>(
     rt: &R,
@@ -186,7 +134,7 @@ fn on_run<R: Threads + Wait + Sync, S: Sources + Sinks, W: Write>(
     requires { (1 ≤ wanted.workers) × (wanted.workers ≤ 16) }
     ensures { IfOk result (λ s. (o : Output)
         × def.IsOfRun (S.held sources.now wanted.entry.file.now)
-        (def.events_of (S.held sources.now) wanted.entry.outside) o
+        (events_of (S.held sources.now) wanted.entry.outside) o
         × Writes (W.contents out.old) (W.contents out.new) s o) }
 {
     match read_texts(alloc, sources, wanted.file, wanted.outside) {
@@ -276,21 +224,6 @@ pub fn run<R: Threads + Wait + Sync, S: Sources + Sinks, W: Write, E: Write>(
         Err(LineError::Help(text)) => written(err, text.as_bytes(), 0),
         Err(LineError::Usage(text)) => written(err, text.as_bytes(), 2),
     }
-}
-
-/// The words as texts that are borrowed.
-///
-/// # Errors
-///
-/// Memory was refused.
-pub fn borrowed(alloc: Global, words: &[String]) -> Result<Vec<&str>, AllocError>
-    ensures { IfOk result (λ ws. map (λ w. w.now) ws.items ≡ map string_bytes words.now) }
-{
-    let mut texts = Vec::new(alloc);
-    for i in 0..words.len() {
-        texts.push(words[i].as_str())?;
-    }
-    Ok(texts)
 }
 
 /// Does what the words that were had ask for; a word that is no text is a usage fault.

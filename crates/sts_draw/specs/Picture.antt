@@ -14,8 +14,8 @@ use Rattle.sts_plain.specs.Seen.{shown}
 use Rattle.sts_trace.specs.declared.error.TraceError.{TraceError}
 use Rattle.sts_trace.specs.Reading.{trace_read}
 use Rattle.sts_trace.specs.Spelling.{event_text}
-use Rattle.sts_cli.specs.Output.{Output, memory_output, state_status, text_fault_output, trace_fault_output}
-use Rattle.sts_cli.specs.Printed.{state_line, steps_line}
+use Rattle.sts_output.specs.Output.{Output, memory_output, state_status, text_fault_output, trace_fault_output}
+use Rattle.sts_output.specs.Printed.{state_line, steps_line}
 use Rattle.sts_view.specs.View.{lines_of}
 use Rattle.sts_view.specs.Watched.{Watched, watched}
 use Rattle.sts_draw.specs.declared.marks.Mark.TheVariants as mark

@@ -1,7 +1,7 @@
 -- What is printed of a text and the status that goes with it (this project's own).
 use Rattle.std.specs.Prelude.{◌≡◌, ◌≢◌, ◌⊎◌, ℕ, List, [], ◌++◌, Result, Ok, Err, codes}
 use Rattle.sts_code.specs.Program.{Program}
-use Rattle.sts_cli.specs.Output.{Output, memory_output}
+use Rattle.sts_output.specs.Output.{Output, memory_output}
 use Rattle.sts_asm.specs.Outline.{Outline}
 use Rattle.sts_asm.specs.Source.{outlined, sentence_at}
 use Rattle.sts_asm.specs.Text.{judged}

@@ -8,7 +8,7 @@ ghost use Rattle.sts_asm.specs.Fault.{FailsAt};
 ghost use Rattle.sts_code.specs.Program.{Program as AnyProgram};
 ghost use Rattle.sts_asm.specs.declared.fault.AsmError.{AsmError};
 ghost use Rattle.sts_budget.specs.Change.{cause_of};
-ghost use Rattle.sts_cli.specs.Output as cli;
+ghost use Rattle.sts_output.specs.Output as cli;
 ghost use Rattle.sts_explain.specs.Output as def;
 
 use crate::differences::difference_lines;
@@ -20,10 +20,10 @@ use std::io::Write;
 use std::marker::Model;
 use sts_asm::{AsmError, AsmKind, Outline, assemble, outlined};
 use sts_budget::change::Resource;
-use sts_cli::play::{WriteFailed, failed, written};
-use sts_cli::taking::TakeError;
 use sts_code::program::Program;
 use sts_explain_text::lines::{fault_lines, say};
+use sts_output::taking::TakeError;
+use sts_output::writing::{WriteFailed, failed, written};
 use sts_rules::typing::Cause;
 use sts_verify::error::VerifyError;
 use sts_verify::verified::verify;
@@ -37,7 +37,7 @@ pub struct Output {
 }
 
 impl Model for Output {
-    ghost use Rattle.sts_cli.specs.Output as cli;
+    ghost use Rattle.sts_output.specs.Output as cli;
 
     ghost Value = { cli.Output };
 

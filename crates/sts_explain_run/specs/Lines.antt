@@ -17,7 +17,7 @@ use Rattle.sts_plain.specs.declared.misstep.PlainState.{PlainState}
 use Rattle.sts_plain.specs.declared.misstep.PlainState.TheVariants as plain
 use Rattle.sts_trace.specs.declared.error.TraceError.{TraceError}
 use Rattle.sts_trace.specs.declared.error.TraceError.TheVariants as trace
-use Rattle.sts_cli.specs.Printed.{end_line, fault_word}
+use Rattle.sts_output.specs.Printed.{end_line, fault_word}
 use Rattle.sts_explain_text.specs.Lines.{place_words}
 use Rattle.sts_explain_run.specs.Sentences.{fault_sentence, trace_sentence}
 

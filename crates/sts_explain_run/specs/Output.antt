@@ -9,7 +9,7 @@ use Rattle.sts_asm.specs.declared.fault.AsmError.{AsmError}
 use Rattle.sts_plain.specs.Seen.{shown}
 use Rattle.sts_trace.specs.Reading.{trace_read}
 use Rattle.sts_trace.specs.declared.error.TraceError.{TraceError}
-use Rattle.sts_cli.specs.Output.{Output, memory_output, state_status}
+use Rattle.sts_output.specs.Output.{Output, memory_output, state_status}
 use Rattle.sts_explain.specs.Output.{fault_output}
 use Rattle.sts_view.specs.Watched.{Watched, watched}
 use Rattle.sts_explain_run.specs.Lines.{living_lines, state_lines, trace_fault_lines}

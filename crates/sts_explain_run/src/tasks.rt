@@ -3,17 +3,17 @@
 ghost use Rattle.std.specs.Prelude.{◌≡◌, ◌++◌, ◌<◌, OnOk, length, true};
 ghost use Rattle.sts_model.specs.Living as living;
 ghost use Rattle.sts_model.specs.World as model;
-ghost use Rattle.sts_cli.specs.Printed.{end_line};
+ghost use Rattle.sts_output.specs.Printed.{end_line};
 ghost use Rattle.sts_explain_run.specs.Lines as def;
 
 use crate::sentences::fault_sentence;
 use std::alloc::{AllocError, Global};
 use sts_asm::Outline;
-use sts_cli::printed;
 use sts_code::code::name_of;
 use sts_code::program::Program;
 use sts_explain_text::lines::{say, say_place};
 use sts_model::event::{End, Fault, Stand};
+use sts_output::printed;
 use sts_plain::misstep::PlainState;
 use sts_plain::stand::{can_step, stand_at};
 use sts_world::records::Records;

@@ -5,13 +5,13 @@ use Rattle.std.specs.Borrow.{Bor}
 use Rattle.std.specs.String.{string_bytes}
 use Rattle.std.specs.declared.alloc.Global.{Global}
 use Rattle.clap.specs.Words.{Text}
-use Rattle.sts_cli.specs.Ending.{Files, Prints, Streams, Tells, most_of_a_stream, most_of_a_text}
-use Rattle.sts_cli.specs.Ending.{not_text_output}
-use Rattle.sts_cli.specs.Output.{Output, failure_output, memory_output}
-use Rattle.sts_cli.specs.Taking.{IsTakenOf}
-use Rattle.sts_cli.specs.declared.taking.TakeError.{TakeError}
-use Rattle.sts_cli.specs.declared.words.WordsError.{WordsError}
-use Rattle.sts_cli.specs.declared.words.WordsError.TheVariants as words_error
+use Rattle.sts_output.specs.Streams.{Files, Prints, Streams, Tells, most_of_a_stream, most_of_a_text}
+use Rattle.sts_output.specs.Streams.{not_text_output}
+use Rattle.sts_output.specs.Output.{Output, failure_output, memory_output}
+use Rattle.sts_output.specs.Taking.{IsTakenOf}
+use Rattle.sts_output.specs.declared.taking.TakeError.{TakeError}
+use Rattle.sts_output.specs.declared.words.WordsError.{WordsError}
+use Rattle.sts_output.specs.declared.words.WordsError.TheVariants as words_error
 use Rattle.sts_draw.specs.Picture.{IsPictureOf}
 use Rattle.sts_explain.specs.Output.{IsExplanation}
 use Rattle.sts_explain_run.specs.Output.{IsRunExplanation}

@@ -2,7 +2,7 @@
 //! shown.
 
 ghost use Rattle.std.specs.Prelude.{◌≡◌, IfOk, map};
-ghost use Rattle.sts_cli.specs.Output.{Output, Writes};
+ghost use Rattle.sts_output.specs.Output.{Output, Writes};
 ghost use Rattle.sts_explain.specs.Output.{IsExplanation};
 ghost use Rattle.sts_look.specs.Ending as def;
 
@@ -11,15 +11,15 @@ use crate::reading::line;
 use std::alloc::Global;
 use std::io::{Input, Write};
 use std::rt::{Env, Files};
-use sts_cli::play::{STATUS_OUTSIDE, WriteFailed, failed, written};
-use sts_cli::program::{MOST_OF_A_TEXT, NOT_TEXT, borrowed, read_texts};
-use sts_cli::sources::{Host, Sources, file};
-use sts_cli::taking::TakeError;
-use sts_cli::words::{WordsError, words};
+use sts_args::asked::LineError;
 use sts_draw::of_text::write_picture;
 use sts_explain::explain::explain;
 use sts_explain_run::explain_run::explain_run;
-use sts_args::asked::LineError;
+use sts_output::sources::{Host, Sources, file};
+use sts_output::taking::TakeError;
+use sts_output::texts::{MOST_OF_A_TEXT, NOT_TEXT, borrowed, read_texts};
+use sts_output::words::{WordsError, words};
+use sts_output::writing::{STATUS_OUTSIDE, WriteFailed, failed, written};
 use sts_view::of_text::write_view;
 use sts_view::view::Wanted;
 

@@ -1,6 +1,6 @@
 -- How bytes are handed to a caller that gave room for some of them (this project's own).
 use Rattle.std.specs.Prelude.{◌≡◌, ℕ, List, ◌++◌, length, take, drop}
-use Rattle.sts_cli.specs.Output.{Output}
+use Rattle.sts_output.specs.Output.{Output}
 
 -- what a caller gets back: a status, a size, and the room that it gave, as it was and as it is
 pub record Received : Type 0 where

@@ -1,6 +1,7 @@
 -- What is printed of a text and a trace (this project's own).
 use Rattle.std.specs.Prelude.{ℕ, List}
-use Rattle.sts_cli.specs.Output.{IsOutputOf, Output}
+use Rattle.sts_output.specs.Output.{IsOutputOf, Output}
+use Rattle.sts_output.specs.TextMode.{mode_of}
 use Rattle.sts_draw.specs.Picture.{IsPictureOf}
 use Rattle.sts_explain.specs.Output.{IsExplanation}
 use Rattle.sts_explain_run.specs.Output.{IsRunExplanation}
@@ -9,7 +10,7 @@ use Rattle.sts_page.specs.declared.printing.Asked.{Asked}
 use Rattle.sts_page.specs.declared.printing.Asked.TheVariants as asked
 
 abbrev pub Prints : Asked → List ℕ → List ℕ → Output → Type 0
-Prints (asked.Mode mode) text trace o = IsOutputOf mode text trace o
+Prints (asked.Mode mode) text trace o = IsOutputOf (mode_of mode) text trace o
 Prints (asked.View wanted) text trace o = IsViewOf wanted text trace o
 Prints asked.Explanation text trace o = IsExplanation text o
 Prints asked.RunExplanation text trace o = IsRunExplanation text trace o

@@ -2,7 +2,7 @@
 #![tactic(auto)]
 
 ghost use Rattle.std.specs.Prelude.{[]};
-ghost use Rattle.sts_cli.specs.Output.{IsOutputOf};
+ghost use Rattle.sts_output.specs.Output.{IsOutputOf};
 ghost use Rattle.sts_draw.specs.Picture.{IsPictureOf};
 ghost use Rattle.sts_explain.specs.Output.{IsExplanation};
 ghost use Rattle.sts_explain_run.specs.Output.{IsRunExplanation};
@@ -14,8 +14,9 @@ mod printing;
 
 use crate::printing::{Asked, print};
 use std::alloc::Global;
-use sts_cli::mode::Mode;
-use sts_cli::play::STATUS_OUTSIDE;
+use sts_output::mode::Mode;
+use sts_output::text_mode::TextMode;
+use sts_output::writing::STATUS_OUTSIDE;
 use sts_view::view::Wanted;
 
 /// What is printed where memory was refused.
@@ -62,7 +63,7 @@ pub extern "C" fn sts_verify(alloc: Global, text: &[u8], out: &mut [u8], size: &
     ensures { Hands (IsOutputOf Mode.Verify text.now [])
         (record { status = result; size = size.new; before = out.old; after = out.new }) }
 {
-    shown(alloc, Asked::Mode(Mode::Verify), text, &[], out, size)
+    shown(alloc, Asked::Mode(TextMode::Verify), text, &[], out, size)
 }
 
 /// What `sts list` prints, handed over as by `sts_verify`.
@@ -71,7 +72,7 @@ pub extern "C" fn sts_list(alloc: Global, text: &[u8], out: &mut [u8], size: &mu
     ensures { Hands (IsOutputOf Mode.List text.now [])
         (record { status = result; size = size.new; before = out.old; after = out.new }) }
 {
-    shown(alloc, Asked::Mode(Mode::List), text, &[], out, size)
+    shown(alloc, Asked::Mode(TextMode::List), text, &[], out, size)
 }
 
 /// What `sts plain` prints, handed over as by `sts_verify`.
@@ -86,7 +87,7 @@ pub extern "C" fn sts_plain(
     ensures { Hands (IsOutputOf Mode.Plain text.now trace.now)
         (record { status = result; size = size.new; before = out.old; after = out.new }) }
 {
-    shown(alloc, Asked::Mode(Mode::Plain), text, trace, out, size)
+    shown(alloc, Asked::Mode(TextMode::Plain), text, trace, out, size)
 }
 
 /// What `look view` prints, with `--each` and `--full` as wanted, handed over as by `sts_verify`.

@@ -1,22 +1,22 @@
 //! What is printed of a text and a trace.
 
 ghost use Rattle.std.specs.Prelude.{IfOk, Some};
-ghost use Rattle.sts_cli.specs.Output.{Output, Writes};
+ghost use Rattle.sts_output.specs.Output.{Output, Writes};
 ghost use Rattle.sts_page.specs.Printed.{Prints};
 
 use std::alloc::Global;
-use sts_cli::mode::Mode;
-use sts_cli::play::{WriteFailed, play};
 use sts_draw::of_text::write_picture;
 use sts_explain::explain::explain;
 use sts_explain_run::explain_run::explain_run;
+use sts_output::text_mode::{TextMode, play_text};
+use sts_output::writing::WriteFailed;
 use sts_view::of_text::write_view;
 use sts_view::view::Wanted;
 
 /// What a caller asks for.
 #[derive(Clone, Copy)]
 pub(crate) enum Asked {
-    Mode(Mode),
+    Mode(TextMode),
     View(Wanted),
     Explanation,
     RunExplanation,
@@ -39,7 +39,7 @@ pub(crate) fn print(
         × Writes (Some printed.old.items) (Some printed.new.items) s o) }
 {
     match asked {
-        Asked::Mode(mode) => play(alloc, mode, text, trace, printed),
+        Asked::Mode(mode) => play_text(alloc, mode, text, trace, printed),
         Asked::View(wanted) => write_view(alloc, wanted, text, trace, printed),
         Asked::Explanation => explain(alloc, text, printed),
         Asked::RunExplanation => explain_run(alloc, text, trace, printed),

@@ -9,11 +9,11 @@ use std::sync::Wait;
 use std::test::Fail;
 use std::thread::Threads;
 use std::{io, str};
-use sts_cli::play::WriteFailed;
+use sts_cli::WriteFailed;
 use sts_cli::program::{run, run_words};
-use sts_cli::sinks::Sinks;
-use sts_cli::sources::Sources;
-use sts_cli::words::{WordsError, words};
+use sts_output::sinks::Sinks;
+use sts_output::sources::Sources;
+use sts_output::words::{WordsError, words};
 
 /// The name that the program goes by.
 const NAME: &[u8] = b"sts";

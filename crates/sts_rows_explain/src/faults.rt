@@ -4,8 +4,8 @@ use crate::row::{Part, Row, all};
 use std::io;
 use std::io::{ErrorKind, Write};
 use std::test::Fail;
-use sts_cli::play::WriteFailed;
 use sts_explain::explain::explain;
+use sts_output::writing::WriteFailed;
 
 static FAULTS: [Row; 19] = [
     Row {

@@ -21,7 +21,7 @@ use Rattle.sts_model.specs.Outside.{can_expire}
 use Rattle.sts_model.specs.Waiting.{can_step, stand_at}
 use Rattle.sts_model.specs.World.{World, task_at, scope_at}
 use Rattle.sts_list.specs.Spelling.{after_spaces, joiner_words}
-use Rattle.sts_cli.specs.Printed.{ended}
+use Rattle.sts_output.specs.Printed.{ended}
 
 -- a word that stands only where it holds
 abbrev pub only_if : Bool → List ℕ → List ℕ

@@ -11,9 +11,9 @@ use Rattle.sts_plain.specs.Seen.{shown}
 use Rattle.sts_trace.specs.Reading.{trace_read}
 use Rattle.sts_trace.specs.declared.error.TraceError.{TraceError}
 use Rattle.sts_trace.specs.Spelling.{event_text}
-use Rattle.sts_cli.specs.Output.{Output, memory_output, state_status, text_fault_output}
-use Rattle.sts_cli.specs.Output.{trace_fault_output}
-use Rattle.sts_cli.specs.Printed.{state_line, steps_line, ended}
+use Rattle.sts_output.specs.Output.{Output, memory_output, state_status, text_fault_output}
+use Rattle.sts_output.specs.Output.{trace_fault_output}
+use Rattle.sts_output.specs.Printed.{state_line, steps_line, ended}
 use Rattle.sts_view.specs.declared.view.Wanted.{Wanted}
 use Rattle.sts_view.specs.Lines.{only_if, scope_lines, task_lines}
 use Rattle.sts_view.specs.Watched.{Watched, watched}

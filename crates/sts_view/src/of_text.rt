@@ -3,17 +3,17 @@
 ghost use Rattle.std.specs.Prelude.{◌≡◌, IfOk};
 ghost use Rattle.sts_asm.specs.Text.{judged};
 ghost use Rattle.sts_trace.specs.Reading.{trace_read};
-ghost use Rattle.sts_cli.specs.Output.{Output, Writes};
+ghost use Rattle.sts_output.specs.Output.{Output, Writes};
 ghost use Rattle.sts_view.specs.View as def;
 
 use crate::view::{Wanted, view};
 use std::alloc::{AllocError, Global};
 use std::io::Write;
 use sts_asm::assemble;
-use sts_cli::output::{Output, text_fault, trace_fault};
-use sts_cli::play::{WriteFailed, failed, written};
-use sts_cli::taking::TakeError;
 use sts_code::program::Program;
+use sts_output::output::{Output, text_fault, trace_fault};
+use sts_output::taking::TakeError;
+use sts_output::writing::{WriteFailed, failed, written};
 use sts_trace::read_trace;
 
 fn traced(

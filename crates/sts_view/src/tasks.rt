@@ -6,7 +6,7 @@ ghost use Rattle.std.specs.String.{string_bytes};
 ghost use Rattle.sts_code.specs.Program.{routine};
 ghost use Rattle.sts_model.specs.Living as living;
 ghost use Rattle.sts_model.specs.World as model;
-ghost use Rattle.sts_cli.specs.Printed.{ended};
+ghost use Rattle.sts_output.specs.Printed.{ended};
 ghost use Rattle.sts_view.specs.Lines as def;
 
 use std::alloc::AllocError;

@@ -12,10 +12,10 @@ use crate::tasks::{ended_by, task_lines};
 use crate::watch::Watch;
 use std::alloc::{AllocError, Global};
 use std::fmt::Write;
-use sts_cli::output::{Output, state_status};
-use sts_cli::printed::{state_line, steps_line};
 use sts_code::program::Program;
 use sts_model::event::Event;
+use sts_output::output::{Output, state_status};
+use sts_output::printed::{state_line, steps_line};
 
 /// What is wanted of a view.
 #[derive(Clone, Copy, Debug, PartialEq, Eq)]

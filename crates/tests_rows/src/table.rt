@@ -4,8 +4,8 @@ use crate::notation::{push_events, push_lines};
 use anyhow::{Context, Result};
 use std::alloc::Global;
 use std::str;
-use sts_cli::mode::Mode;
 use sts_cli::play::{play, play_joined};
+use sts_output::mode::Mode;
 
 /// A listing of more bytes than a text may have isn't listed again.
 const MOST: usize = 1_048_576;

@@ -1,5 +1,5 @@
 use Rattle.std.proofs.Common.{ℕ, List, inr, refl}
-use Rattle.sts_cli.specs.Output.{memory_output}
+use Rattle.sts_output.specs.Output.{memory_output}
 use Rattle.sts_page.specs.declared.printing.Asked.{Asked}
 use Rattle.sts_page.specs.declared.printing.Asked.TheVariants as asked
 use Rattle.sts_page.specs.Printed.{Prints}

@@ -1,6 +1,6 @@
 use Rattle.std.proofs.Common.{inr, refl}
 use Rattle.std.proofs.lemmas.Result.{IfOk-weaker}
-use Rattle.sts_cli.specs.Output.{memory_output}
+use Rattle.sts_output.specs.Output.{memory_output}
 use Rattle.sts_cli.proofs.play.play.Goals as goal
 
 pub returns-in-Err : goal.returns-in-Err

@@ -1,7 +1,7 @@
 use Rattle.std.proofs.Common.{inr, refl}
 use Rattle.std.proofs.KnownBytes.{Appends-nil}
 use Rattle.std.proofs.lemmas.Result.{IfOk-weaker}
-use Rattle.sts_cli.specs.Output.{memory_output}
+use Rattle.sts_output.specs.Output.{memory_output}
 use Rattle.sts_cli.specs.Running.{alone, whole}
 use Rattle.sts_cli.proofs.play.play_run.Goals as goal
 

@@ -1,7 +1,8 @@
 use Rattle.std.proofs.Common.{refl}
 use Rattle.std.proofs.lemmas.Result.{IfOk-weaker}
 use Rattle.sts_cli.specs.Ending as def
-use Rattle.sts_cli.specs.Output.{failure_output}
+use Rattle.sts_output.specs.Streams as streams
+use Rattle.sts_output.specs.Output.{failure_output}
 use Rattle.sts_cli.proofs.Reports.{of_texts}
 use Rattle.sts_cli.proofs.program.on_run.Goals as goal
 
@@ -9,7 +10,7 @@ pub returns-in-Ok : goal.returns-in-Ok
 returns-in-Ok g c =
     let sources = c.args.sources.now in
     let file = g.S.Sources.held sources c.args.wanted.file.now in
-    let outside = def.events_of (g.S.Sources.held sources) c.args.wanted.outside in
+    let outside = streams.events_of (g.S.Sources.held sources) c.args.wanted.outside in
     IfOk-weaker c.on_texts.result _ _
     (λ s h. (h.0, of_texts file outside _ _ h.0 c.in-Ok.ensures.program c.in-Ok.ensures.events h.1, h.2))
     c.on_texts.ensures

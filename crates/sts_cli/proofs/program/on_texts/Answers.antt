@@ -1,7 +1,7 @@
 use Rattle.std.proofs.Common.{refl}
 use Rattle.std.proofs.lemmas.Result.{IfOk-weaker}
 use Rattle.sts_cli.specs.Ending as def
-use Rattle.sts_cli.specs.Output.{failure_output}
+use Rattle.sts_output.specs.Output.{failure_output}
 use Rattle.sts_cli.proofs.Reports.{printed_alone, printed_of}
 use Rattle.sts_cli.proofs.program.on_texts.Goals as goal
 

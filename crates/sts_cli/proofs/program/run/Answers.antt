@@ -3,7 +3,7 @@ use Rattle.std.proofs.KnownBytes.{Keeps-refl}
 use Rattle.std.proofs.lemmas.Result.{IfOk-weaker}
 use Rattle.sts_args.specs.Refused.{Refuses}
 use Rattle.sts_cli.specs.Ending as def
-use Rattle.sts_cli.specs.Output.{Output}
+use Rattle.sts_output.specs.Output.{Output}
 use Rattle.sts_cli.proofs.program.run.Goals as goal
 
 pub returns-in-Ok : goal.returns-in-Ok

@@ -1,5 +1,5 @@
 use Rattle.std.proofs.Common.{◌++◌, length, ◌∙◌, ap, ap₂}
-use Rattle.sts_cli.specs.Output as out
+use Rattle.sts_output.specs.Output as out
 use Rattle.sts_plain.specs.Seen.{shown}
 use Rattle.sts_view.specs.Watched.{Watched}
 use Rattle.sts_draw.specs.Picture as def

@@ -3,7 +3,7 @@ use Rattle.std.proofs.lemmas.Result.{IfOk-weaker}
 use Rattle.sts_asm.specs.Text.{judged}
 use Rattle.sts_asm.specs.declared.fault.AsmError.{AsmError}
 use Rattle.sts_code.specs.Program.{Program}
-use Rattle.sts_cli.specs.Output.{Output}
+use Rattle.sts_output.specs.Output.{Output}
 use Rattle.sts_explain.specs.Output as def
 use Rattle.sts_explain.proofs.FaultLemmas.{outline_fault}
 use Rattle.sts_explain.proofs.explain.explanation.Goals as goal

@@ -1,7 +1,7 @@
 use Rattle.std.proofs.Common.{map, ap, subst}
 use Rattle.std.proofs.KnownBytes.{Keeps-refl}
 use Rattle.std.proofs.lemmas.Result.{IfOk-weaker}
-use Rattle.sts_cli.specs.Output.{Output}
+use Rattle.sts_output.specs.Output.{Output}
 use Rattle.sts_look.specs.Asked.{Refuses}
 use Rattle.sts_look.specs.Ending as def
 use Rattle.sts_look.proofs.program.run.Goals as goal

@@ -1,6 +1,6 @@
 use Rattle.std.proofs.Common.{◌++◌, [], ◌∙◌, ap, ap₂}
-use Rattle.sts_cli.specs.Output.{Output}
-use Rattle.sts_cli.specs.Output as out
+use Rattle.sts_output.specs.Output.{Output}
+use Rattle.sts_output.specs.Output as out
 use Rattle.sts_plain.specs.Seen.{shown}
 use Rattle.sts_view.specs.View as def
 use Rattle.sts_view.specs.Watched.{Watched, watched}

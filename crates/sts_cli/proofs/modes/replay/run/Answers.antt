@@ -2,7 +2,7 @@ use Rattle.std.proofs.Common.{ap, ap₂, ◌∙◌}
 use Rattle.std.proofs.lemmas.Result.{IfOk-weaker}
 use Rattle.sts_code.specs.Program.{Program}
 use Rattle.sts_plain.specs.Seen.{ended_or_running}
-use Rattle.sts_cli.specs.Output as def
+use Rattle.sts_output.specs.Output as def
 use Rattle.sts_cli.proofs.Runs.{shown_alike}
 use Rattle.sts_cli.proofs.modes.replay.run.Goals as goal
 

@@ -1,0 +1,64 @@
+-- Splitting an input at the mark.
+use Rattle.std.proofs.Common.{◌≡◌, ℕ, suc, ◌+◌, ◌≤◌, List, [], ◌∷◌, ◌++◌, length, take, true, false}
+use Rattle.std.proofs.Common.{refl, arith, ap, sym, append_assoc, ◌∙◌}
+use Rattle.std.proofs.Math.Seq.{take-append-add}
+use Rattle.std.proofs.lemmas.List.{length-append, length-take}
+use Rattle.std.proofs.lemmas.List.Splits.{join_with_byte-slice_split}
+use Rattle.std.specs.List.{join_with_byte}
+use Rattle.sts_text.specs.Words.{is_newline, lines}
+use Rattle.sts_text.proofs.WordLemmas.{has_part}
+use Rattle.sts_output.specs.Joined.{Halves, halves, is_mark, after_line}
+
+-- a line and the text after its newline make up the text
+pub line_and_rest : (text line after : List ℕ) → lines text ≡ line ∷ lines after → text ≡ line ++ 10 ∷ after
+line_and_rest text line after e =
+    let part = has_part is_newline after in
+    sym (join_with_byte-slice_split 10 text) ∙ ap (join_with_byte 10) e ∙ at_part line (lines after) part.first part.others part.is ∙ ap (λ xs. line ++ 10 ∷ xs) (join_with_byte-slice_split 10 after)
+  where
+    at_part : (line : List ℕ) (parts : List (List ℕ)) (first : List ℕ) (others : List (List ℕ)) → parts ≡ first ∷ others → join_with_byte 10 (line ∷ parts) ≡ line ++ 10 ∷ join_with_byte 10 parts
+    at_part line parts first others p = rw p refl
+
+-- at the mark all that follows is the trace
+pub at_mark : (text line after : List ℕ) → lines text ≡ line ∷ lines after → is_mark line ≡ true → halves (lines text) ≡ record { text = []; trace = after }
+at_mark text line after e m =
+    let part = has_part is_newline after in
+    ap halves e ∙ go (lines after) part.first part.others part.is ∙ ap (λ xs. ended xs) (join_with_byte-slice_split 10 after)
+  where
+    ended : List ℕ → Halves
+    ended xs = record { text = []; trace = xs }
+
+    go : (parts : List (List ℕ)) (first : List ℕ) (others : List (List ℕ)) → parts ≡ first ∷ others → halves (line ∷ parts) ≡ ended (join_with_byte 10 parts)
+    go parts first others p = rw (p, m) refl
+
+-- before the mark a line is text
+pub before_mark : (text line after : List ℕ) → lines text ≡ line ∷ lines after → is_mark line ≡ false → halves (lines text) ≡ after_line line (halves (lines after))
+before_mark text line after e m =
+    let part = has_part is_newline after in
+    ap halves e ∙ go (lines after) part.first part.others part.is
+  where
+    go : (parts : List (List ℕ)) (first : List ℕ) (others : List (List ℕ)) → parts ≡ first ∷ others → halves (line ∷ parts) ≡ after_line line (halves parts)
+    go parts first others p = rw (p, m) refl
+
+-- so many bytes of the input were read, and the rest comes after them
+pub record IsRead (input : List ℕ) (n : ℕ) (rest : List ℕ) : Type 0 where
+  pub within : n ≤ length input
+  pub whole : input ≡ take n input ++ rest
+
+-- a line more
+pub reads_line : (input rest line after : List ℕ) (n : ℕ) → IsRead input n rest → rest ≡ line ++ 10 ∷ after → IsRead input (n + (length line + 1)) after × (take (n + (length line + 1)) input ≡ take n input ++ (line ++ 10 ∷ []))
+reads_line input rest line after n r e =
+    let front = take n input in
+    let size : length front ≡ n = simp length-take (omega (arith, r.within)) in
+    let all : input ≡ front ++ (line ++ 10 ∷ after) = r.whole ∙ ap (λ xs. front ++ xs) e in
+    let taken : take (n + (length line + 1)) input ≡ front ++ (line ++ 10 ∷ []) =
+    ap (λ xs. take (n + (length line + 1)) xs) all
+    ∙ ap (λ k. take (k + (length line + 1)) (front ++ (line ++ 10 ∷ after))) (sym size)
+    ∙ take-append-add front (line ++ 10 ∷ after) (length line + 1)
+    ∙ ap (λ xs. front ++ xs) (take-append-add line (10 ∷ after) 1) in
+    let long : length input ≡ length front + (length line + suc (length after)) = simp length-append at (ap length all) in (
+      record {
+        within = omega arith;
+        whole = all ∙ ap (λ xs. front ++ xs) (sym (append_assoc line (10 ∷ []) after)) ∙ sym (append_assoc front (line ++ 10 ∷ []) after) ∙ ap (λ xs. xs ++ after) (sym taken);
+      },
+      taken,
+    )

@@ -1,0 +1,36 @@
+-- Lemmas on the bytes that are taken of a reader.
+use Rattle.std.proofs.Common.{◌≡◌, ℕ, ◌+◌, ◌≤◌, List, ◌++◌, None, Some, Option, IfSome, Result, Ok}
+use Rattle.std.proofs.Common.{Err, OnErr, length-append, length-take, length, take, take_all, sym}
+use Rattle.std.proofs.Common.{ap, ◌∙◌, append-nil, arith}
+use Rattle.std.proofs.Math.Seq.{take-append_seam}
+use Rattle.std.specs.Io.KnownBytes.{Consumes, IsAtEnd}
+use Rattle.sts_output.specs.Taking.{LosesUpTo}
+use Rattle.std.proofs.KnownBytes.{Consumes-trans}
+
+-- a reader at its end gave all that it had, which is at most `most`
+pub whole : (most : ℕ) (a b : Option (List ℕ)) (bs : List ℕ) → Consumes a b bs → IsAtEnd b → length bs ≤ most → IfSome a (λ xs. bs ≡ take most xs)
+whole most None b bs read end short = tt
+whole most (Some xs) None bs read end short = absurd read
+whole most (Some xs) (Some ys) bs read end short =
+    let e : xs ≡ bs = read ∙ ap (λ l. bs ++ l) end ∙ append-nil bs in
+    rw e (sym (take_all most bs short))
+
+-- `most` bytes that the reader gave are its first
+pub first : (most : ℕ) (a b : Option (List ℕ)) (bs : List ℕ) → Consumes a b bs → length bs ≡ most → IfSome a (λ xs. bs ≡ take most xs)
+first most None b bs read long = tt
+first most (Some xs) None bs read long = absurd read
+first most (Some xs) (Some ys) bs read long = rw (read, ← long) (sym (take-append_seam bs ys))
+
+-- what was taken, and a piece after it
+pub Consumes-piece : (a b c : Option (List ℕ)) (taken piece more : List ℕ) → Consumes a b taken → more ≡ taken ++ piece → Consumes b c piece → Consumes a c more
+Consumes-piece a b c taken piece more before e after = rw e (Consumes-trans a b c taken piece before after)
+
+-- what was taken is lost, and what a failed piece lost after it
+pub LosesUpTo-piece : {E X : Type 0} (r : Result X E) (most room : ℕ) (a b c : Option (List ℕ)) (taken : List ℕ) → length taken + room ≤ most → Consumes a b taken → LosesUpTo room b c
+    → OnErr r (LosesUpTo most a c)
+LosesUpTo-piece (Ok x) most room a b c taken fits before after = tt
+LosesUpTo-piece (Err e) most room a b c taken fits before (bs, short, read) = (taken ++ bs, omega (arith, length-append taken bs), Consumes-trans a b c taken bs before read)
+
+-- a piece of at most `room` bytes fits where there is room for it
+pub piece_fits : (taken more : List ℕ) (n room most : ℕ) (piece : List ℕ) → more ≡ taken ++ take n piece → n ≤ room → length taken + room ≤ most → length more ≤ most
+piece_fits taken more n room most piece e short fits = rw e (omega (arith, length-append taken (take n piece), length-take n piece))

@@ -1,0 +1,6 @@
+pub mod Joined
+pub mod Output
+pub mod Printed
+pub mod Streams
+pub mod Taking
+pub mod TextMode

@@ -1,0 +1,45 @@
+-- Where bytes come from, and what is written to the two streams (this project's own).
+use Rattle.std.specs.Prelude.{◌-◌, ◌^◌, ℕ, List, [], Option, Some, None, codes}
+use Rattle.std.specs.Borrow.{Bor}
+use Rattle.std.specs.Io.KnownBytes.{Keeps}
+use Rattle.sts_output.specs.Output.{Output, Writes}
+
+-- one byte more than a text may have
+abbrev pub most_of_a_text : ℕ
+most_of_a_text = 1048577
+
+-- more than memory holds
+abbrev pub most_of_a_stream : ℕ
+most_of_a_stream = 2 ^ 64 - 1
+
+-- the bytes of a file by its name, where they are known
+abbrev pub Files : Type 0
+Files = List ℕ → Option (List ℕ)
+
+-- the bytes of a file of events: none where no file is named
+abbrev pub events_of : Files → Option (Bor (List ℕ)) → Option (List ℕ)
+events_of files None = Some []
+events_of files (Some path) = files path.now
+
+-- the bytes that the two streams hold before and after, where they are known
+pub record Streams : Type 0 where
+  pub out_old : Option (List ℕ)
+  pub out_new : Option (List ℕ)
+  pub err_old : Option (List ℕ)
+  pub err_new : Option (List ℕ)
+
+-- this output alone is written
+pub record Prints (s : Streams) (status : ℕ) (o : Output) : Type 0 where
+  pub written : Writes s.out_old s.out_new status o
+  pub kept : Keeps s.err_old s.err_new
+
+-- some text is told to the person at the command line, and nothing is printed
+pub record Tells (s : Streams) (status : ℕ) (o : Output) : Type 0 where
+  pub told : Writes s.err_old s.err_new status o
+  pub kept : Keeps s.out_old s.out_new
+
+abbrev pub not_text_output : Output
+not_text_output = record {
+  bytes = codes "error: a word of the command line is not UTF-8\n";
+  status = 2;
+}

@@ -1,0 +1,75 @@
+//! Mode `verify`: the budgets of each function, or the refused instruction.
+
+ghost use Rattle.std.specs.Prelude.{◌≡◌, IfOk};
+ghost use Rattle.std.specs.String.{string_bytes};
+ghost use Rattle.sts_asm.specs.Text.{judged};
+ghost use Rattle.sts_output.specs.Output as def;
+
+use crate::output::Output;
+use crate::refusal::accepted;
+use crate::{output, printed};
+use std::alloc::{AllocError, Global};
+use sts_asm::assemble;
+use sts_code::program::Program;
+use sts_rules::budget::Budgets;
+use sts_verify::verified::Verified;
+
+/// The budgets of the functions, in order.
+fn all_budgets(alloc: Global, verified: &Verified) -> Result<Vec<Budgets>, AllocError>
+    ensures { IfOk result (λ budgets. def.AreTold verified.now budgets.items) }
+{
+    let mut budgets = Vec::new(alloc);
+    for function in 0..verified.program().functions().len() {
+        budgets.push(verified.budgets(function))?;
+    }
+    Ok(budgets)
+}
+
+/// The lines of the budgets of all functions.
+///
+/// # Errors
+///
+/// Memory was refused.
+pub fn lines(alloc: Global, verified: &Verified) -> Result<String, AllocError>
+    ensures { IfOk result (λ text. def.AreLines verified.now (string_bytes text)) }
+{
+    let budgets = all_budgets(alloc, verified)?;
+    let mut text = String::new(alloc);
+    printed::accepted_lines(
+        &mut text,
+        verified.program().functions(),
+        budgets.as_slice(),
+    )?;
+    Ok(text)
+}
+
+fn told(alloc: Global, verified: &Verified) -> Result<Output, AllocError>
+    ensures { IfOk result (λ o. def.IsVerdict verified.now o) }
+{
+    let text = lines(alloc, verified)?;
+    Ok(Output { text, status: 0 })
+}
+
+/// Verifies a program.
+fn verdict(alloc: Global, program: Program) -> Result<Output, AllocError>
+    ensures { IfOk result (λ o. def.IsVerdict program o) }
+{
+    match accepted(alloc, program)? {
+        Ok(verified) => told(alloc, &verified),
+        Err(refusal) => Ok(refusal),
+    }
+}
+
+/// Assembles the text and verifies the program.
+///
+/// # Errors
+///
+/// Memory was refused.
+pub fn verified(alloc: Global, text: &[u8]) -> Result<Output, AllocError>
+    ensures { IfOk result (λ o. def.VerifyShows (judged text.now) o) }
+{
+    match assemble(alloc, text) {
+        Ok(program) => verdict(alloc, program),
+        Err(error) => output::text_fault(alloc, error),
+    }
+}

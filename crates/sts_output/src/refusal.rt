@@ -1,0 +1,45 @@
+//! The output for the refusal of a program.
+
+ghost use Rattle.std.specs.Prelude.{◌≡◌, IfOk, MatchResult};
+ghost use Rattle.sts_output.specs.Output as def;
+
+use crate::output::Output;
+use crate::printed;
+use std::alloc::{AllocError, Global};
+use sts_code::program::Program;
+use sts_rules::typing::Cause;
+use sts_verify::error::VerifyError;
+use sts_verify::verified::{Verified, verify};
+
+fn refused(
+    alloc: Global,
+    program: &Program,
+    function: u32,
+    pc: u32,
+    cause: Cause,
+) -> Result<Output, AllocError>
+    ensures { IfOk result (λ o. o ≡ def.refused_output program.now function pc cause) }
+{
+    let mut text = String::new(alloc);
+    printed::refused_line(alloc, &mut text, program, function, pc, cause)?;
+    Ok(Output { text, status: 4 })
+}
+
+/// The program, if it is accepted, or the output for its refusal.
+pub fn accepted(alloc: Global, program: Program) -> Result<Result<Verified, Output>, AllocError>
+    ensures { IfOk result (λ judged.
+        MatchResult judged (λ verified. verified ≡ program) (def.IsRefused program)) }
+{
+    match verify(alloc, program) {
+        Ok(verified) => Ok(Ok(verified)),
+        Err(VerifyError::Memory(_)) => Err(AllocError),
+        Err(
+            VerifyError::Refused {
+                program,
+                function,
+                pc,
+                cause,
+            },
+        ) => Ok(Err(refused(alloc, &program, function, pc, cause)?)),
+    }
+}

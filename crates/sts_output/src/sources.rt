@@ -1,0 +1,82 @@
+//! Where the program's bytes come from: files by their names, and the input stream.
+
+ghost use Rattle.std.specs.Prelude.{◌≡◌, ◌↔◌, IfOk, IfErr};
+ghost use Rattle.std.specs.IoError.{error_kind};
+ghost use Rattle.sts_output.specs.Taking.{Gives, IsTakenOf};
+
+use crate::taking::{TakeError, take};
+use std::alloc::Global;
+use std::io::{ErrorKind, Read};
+use std::rt::Files;
+use std::{fs, io};
+
+/// Opens what a command line names. A test may implement its own.
+pub trait Sources {
+    ghost use Rattle.std.specs.Prelude.{List, ℕ, Option, None};
+
+    type Source: Read + Drop;
+
+    type Input: Read + Drop;
+
+    /// The bytes of the file of a name, where they are known.
+    ghost held: { Self → List ℕ → Option (List ℕ) } = { λ _ _. None };
+
+    /// The bytes of the input stream, where they are known.
+    ghost offered: { Self → Option (List ℕ) } = { λ _. None };
+
+    fn open(&self, path: &str) -> io::Result<Self::Source>
+        ensures bytes { IfOk result (λ s. Gives (held self.now path.now)
+            (Self.Source.remaining s)) };
+
+    fn input(&self) -> Self::Input
+        ensures bytes { Gives (offered self.now) (Self.Input.remaining result) };
+}
+
+/// The files and the standard input of the process.
+#[derive(Drop)]
+pub struct Host<'a, R> {
+    pub rt: &'a R,
+}
+
+impl<R: Files + io::Input> Sources for Host<'_, R> {
+    type Source = R::File;
+
+    type Input = R::Reader;
+
+    fn open(&self, path: &str) -> io::Result<R::File> {
+        fs::open(self.rt, path)
+    }
+
+    fn input(&self) -> R::Reader {
+        self.rt.reader()
+    }
+}
+
+/// What a file is told as that could not be opened.
+pub fn not_opened(error: &io::Error) -> TakeError
+    ensures { (result ≡ TakeError.Memory) ↔ (error_kind error.now ≡ ErrorKind.OutOfMemory) }
+{
+    match error.kind() {
+        ErrorKind::OutOfMemory => TakeError::Memory,
+        _ => TakeError::Read,
+    }
+}
+
+/// The first `most` bytes of a file.
+///
+/// # Errors
+///
+/// Memory was refused, or the file could not be opened or read.
+pub fn file<S: Sources>(
+    alloc: Global,
+    sources: &S,
+    path: &str,
+    most: u64,
+) -> Result<Vec<u8>, TakeError>
+    ensures { IfOk result (λ taken. IsTakenOf (S.held sources.now path.now) most taken.items) }
+{
+    match sources.open(path) {
+        Ok(mut source) => take(alloc, &mut source, most),
+        Err(error) => Err(not_opened(&error)),
+    }
+}

@@ -1,0 +1,123 @@
+//! Takes a reader's bytes, up to a most.
+
+ghost use Rattle.std.specs.IoError.{error_kind};
+ghost use Rattle.std.specs.Prelude.{◌≡◌, ◌↔◌, ◌≤◌, ◌<◌, ◌++◌, Some, IsNone, IfSome, IfOk, OnErr};
+ghost use Rattle.std.specs.Prelude.{length, take, vec_len};
+ghost use Rattle.std.specs.Io.{ReadsAtMost};
+ghost use Rattle.std.specs.Io.KnownBytes.{Keeps, Consumes, IsAtEnd};
+ghost use Rattle.sts_output.specs.Taking.{LosesUpTo};
+
+use std::alloc::{AllocError, Global};
+use std::io;
+use std::io::{ErrorKind, Read};
+
+/// Why a reader's bytes were not had.
+#[derive(Clone, Copy, Debug, PartialEq, Eq)]
+pub enum TakeError {
+    /// Memory was refused.
+    Memory,
+    /// A read failed.
+    Read,
+}
+
+impl From<AllocError> for TakeError {
+    ghost use Rattle.std.specs.Prelude.{◌≡◌};
+    ghost use Rattle.sts_output.specs.declared.taking.TakeError.TheVariants.{Memory};
+
+    ghost from_gives = { λ _ e. e ≡ Memory };
+
+    fn from(_error: AllocError) -> TakeError {
+        TakeError::Memory
+    }
+}
+
+/// The bytes that one read asks for at most.
+const PIECE: usize = 64 * 1024;
+
+/// What a failed read is told as; an interrupted one is none, and is tried again.
+fn told_as(error: &io::Error) -> Option<TakeError>
+    ensures interrupted { IsNone result ↔ (error_kind error.now ≡ ErrorKind.Interrupted) }
+    ensures memory { (result ≡ Some TakeError.Memory) ↔
+        (error_kind error.now ≡ ErrorKind.OutOfMemory) }
+{
+    match error.kind() {
+        ErrorKind::Interrupted => None,
+        ErrorKind::OutOfMemory => Some(TakeError::Memory),
+        _ => Some(TakeError::Read),
+    }
+}
+
+/// One read, tried again where a signal interrupts it.
+fn read_once<R: Read>(reader: &mut R, piece: &mut [u8]) -> Result<usize, TakeError>
+    ensures bound { ReadsAtMost result piece.new }
+    ensures bytes { IfOk result (λ n. Consumes (R.remaining reader.old) (R.remaining reader.new)
+        (take n piece.new)) }
+    ensures end { IfOk result (λ n. n ≡ 0 → 0 < length piece.old
+        → IsAtEnd (R.remaining reader.new)) }
+    ensures err { OnErr result (Keeps (R.remaining reader.old) (R.remaining reader.new)) }
+{
+    for _ in 0..u64::MAX {
+        match reader.read(piece) {
+            Ok(n) => return Ok(n),
+            Err(error) => {
+                if let Some(failure) = told_as(&error) {
+                    return Err(failure);
+                }
+            }
+        }
+    }
+    Err(TakeError::Read)
+}
+
+/// Room for what one read gives.
+fn piece(alloc: Global) -> Result<Vec<u8>, AllocError>
+    ensures { IfOk result (λ piece. vec_len piece ≡ PIECE) }
+{
+    vec![in alloc; 0; PIECE]
+}
+
+/// Takes a piece of at most `room` bytes, as many as one read gives; none is the reader's end.
+fn take_piece<R: Read>(
+    reader: &mut R,
+    piece: &mut [u8],
+    room: usize,
+    taken: &mut Vec<u8>,
+) -> Result<usize, TakeError>
+    requires some { 0 < room }
+    requires within { room ≤ length piece.old }
+    ensures bound { IfOk result (λ n. n ≤ room) }
+    ensures items { IfOk result (λ n. taken.new.items ≡ taken.old.items ++ take n piece.new) }
+    ensures read { IfOk result (λ n. Consumes (R.remaining reader.old) (R.remaining reader.new)
+        (take n piece.new)) }
+    ensures end { IfOk result (λ n. n ≡ 0 → IsAtEnd (R.remaining reader.new)) }
+    ensures lost { OnErr result (LosesUpTo room (R.remaining reader.old) (R.remaining reader.new)) }
+{
+    let n = read_once(reader, &mut piece[..room])?;
+    taken.extend_from_slice(&piece[..n])?;
+    Ok(n)
+}
+
+/// The reader's bytes up to its end, or the first `most` of them; none after these is read.
+///
+/// # Errors
+///
+/// Memory was refused, or a read failed; the bytes that were read before are lost.
+pub fn take<R: Read>(alloc: Global, reader: &mut R, most: u64) -> Result<Vec<u8>, TakeError>
+    ensures known { IfOk result (λ taken. IfSome (R.remaining reader.old)
+        (λ xs. taken.items ≡ take most xs)) }
+    ensures bound { IfOk result (λ taken. length taken.items ≤ most) }
+    ensures read { IfOk result (λ taken. Consumes (R.remaining reader.old)
+        (R.remaining reader.new) taken.items) }
+    ensures lost { OnErr result (LosesUpTo most (R.remaining reader.old) (R.remaining reader.new)) }
+{
+    let mut piece = piece(alloc)?;
+    let mut taken = Vec::new(alloc);
+    while (taken.len() as u64) < most {
+        let room = (most - taken.len() as u64).min(PIECE as u64) as usize;
+        let n = take_piece(reader, &mut piece, room, &mut taken)?;
+        if n == 0 {
+            return Ok(taken);
+        }
+    }
+    Ok(taken)
+}

@@ -1,0 +1,53 @@
+//! Does what a mode asks for that needs no machine that tests nothing.
+
+ghost use Rattle.std.specs.Prelude.{IfOk};
+ghost use Rattle.sts_output.specs.Output as def;
+ghost use Rattle.sts_output.specs.TextMode.{mode_of};
+
+use crate::modes::{list, plain, verify};
+use crate::output::Output;
+use crate::taking::TakeError;
+use crate::writing::{WriteFailed, failed, written};
+use std::alloc::{AllocError, Global};
+use std::io::Write;
+
+/// What is done with a text; `Plain` looks at the trace.
+#[derive(Clone, Copy, Debug, PartialEq, Eq)]
+pub enum TextMode {
+    Verify,
+    List,
+    Plain,
+}
+
+fn output(alloc: Global, mode: TextMode, text: &[u8], trace: &[u8]) -> Result<Output, AllocError>
+    ensures { IfOk result (λ o. def.Shows (mode_of mode) text.now trace.now o) }
+{
+    match mode {
+        TextMode::Plain => plain::after_trace(alloc, text, trace),
+        TextMode::List => list::listed(alloc, text),
+        TextMode::Verify => verify::verified(alloc, text),
+    }
+}
+
+/// Does what the mode asks for with a text and a trace, writes all that is printed, and returns the
+/// status.
+///
+/// # Errors
+///
+/// A write failed.
+pub fn play_text<W: Write>(
+    alloc: Global,
+    mode: TextMode,
+    text: &[u8],
+    trace: &[u8],
+    out: &mut W,
+) -> Result<u8, WriteFailed>
+    ensures { IfOk result (λ s. (o : def.Output)
+        × def.IsOutputOf (mode_of mode) text.now trace.now o
+        × def.Writes (W.contents out.old) (W.contents out.new) s o) }
+{
+    match output(alloc, mode, text, trace) {
+        Ok(output) => written(out, output.text.as_bytes(), output.status),
+        Err(_) => failed(TakeError::Memory, out),
+    }
+}

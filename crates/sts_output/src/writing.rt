@@ -1,0 +1,45 @@
+//! Writes what is printed.
+
+ghost use Rattle.std.specs.Prelude.{◌≡◌, IfOk};
+ghost use Rattle.sts_output.specs.Output as def;
+
+use crate::taking::TakeError;
+use std::io::Write;
+
+/// Writing what is printed failed; some of it may have been written.
+#[derive(Clone, Copy, Debug, PartialEq, Eq)]
+pub struct WriteFailed;
+
+/// The status where memory, a file or a stream failed.
+pub const STATUS_OUTSIDE: u8 = 6;
+
+/// Writes all of these bytes, and gives the status.
+///
+/// # Errors
+///
+/// A write failed.
+pub fn written<W: Write>(out: &mut W, bytes: &[u8], status: u8) -> Result<u8, WriteFailed>
+    ensures { IfOk result (λ s. (o : def.Output)
+        × (o ≡ record { bytes = bytes.now; status = status })
+        × def.Writes (W.contents out.old) (W.contents out.new) s o) }
+{
+    match out.write_all(bytes) {
+        Ok(()) => Ok(status),
+        Err(_) => Err(WriteFailed),
+    }
+}
+
+/// Writes what is printed where memory, a file or a stream failed, and gives the status.
+///
+/// # Errors
+///
+/// A write failed.
+pub fn failed<W: Write>(error: TakeError, out: &mut W) -> Result<u8, WriteFailed>
+    ensures { IfOk result (λ s.
+        def.Writes (W.contents out.old) (W.contents out.new) s (def.failure_output error)) }
+{
+    match error {
+        TakeError::Memory => written(out, b"error memory\n", STATUS_OUTSIDE),
+        TakeError::Read => written(out, b"error file\n", STATUS_OUTSIDE),
+    }
+}
