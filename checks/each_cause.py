@@ -9,7 +9,7 @@ its status; `draw` is a well-formed picture, or says of the fault what `view` sa
 `explain` with a trace say what the plain machine comes to, by the rules of docs/BEHAVIOUR.md. Of each example: `view`
 begins with what examples/README.md shows, `explain` says that it is accepted, and with the trace how it ends, with no task
 that lives. And docs/CAUSES.md shows all of it.
-What the sentences should be is compared elsewhere, with rows that were written by hand (crates/sts_rows_explain).
+What the sentences should be is compared elsewhere, with rows that were written by hand (crates/tests_look).
 """
 import collections
 import os

@@ -10,7 +10,7 @@ For n = 1, 2, .. until nothing is refused any more:
 Of `look draw` the right answer is what it draws where nothing is refused: what that should be is compared elsewhere.
 A run by workers may also say `error threads`, where what was refused was a worker's own.
 And all reads and writes take one byte at a time; or the output is full, closed, or read by nobody: status 6.
-Then the same for memory alone and for single calls, by the program CALLS (sts_refusals), which says what each answers:
+Then the same for memory alone and for single calls, by the program CALLS (tests_alloc), which says what each answers:
 - each of the calls that lead to the one that is tried, and this one, finds no memory in turn; else the answer is right;
 - what `verify` refused for want of memory it gives back, and a machine is as it was before such an event: the same
   program, or the same event, once more gives the right answer;
@@ -29,7 +29,7 @@ import tempfile
 
 HERE = os.path.dirname(os.path.realpath(__file__))
 BUILT = os.path.join(os.path.dirname(HERE), "crates")
-PROGRAM, CALLS, LOOK = (os.path.join(BUILT, name, "out", name) for name in ("sts", "sts_refusals", "sts_look"))
+PROGRAM, CALLS, LOOK = (os.path.join(BUILT, name, "out", name) for name in ("sts", "tests_alloc", "sts_look"))
 NO_MEMORY, NO_FILE, NO_THREADS = (b"error memory\n", 6), (b"error file\n", 6), (b"error threads\n", 6)
 
 Case = collections.namedtuple("Case", "name words text trace answer status")
@@ -409,7 +409,7 @@ def main():
     programs = [*sys.argv[1:], *(PROGRAM, CALLS, LOOK)[len(sys.argv) - 1 :]]
     for program in programs:
         if not os.access(program, os.X_OK):
-            print(f"memory.py: no program at {program}: ./sts, ./look, and rt run in crates/sts_refusals build them", file=sys.stderr)
+            print(f"memory.py: no program at {program}: ./sts, ./look, and rt run in crates/tests_alloc build them", file=sys.stderr)
             return 2
     if not compiler():
         print("memory.py: NOT RUN, NOTHING WAS REFUSED: there is no C compiler (cc, gcc or clang)", file=sys.stderr)

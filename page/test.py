@@ -3,7 +3,7 @@
 
 - each call answers what `sts` and `look` print, with their status: over every example and every beginning of its trace, and
   over texts and traces with faults, refused texts, and runs that come to a fault;
-- texts are explained as the rows of crates/sts_rows_explain say, and the line that is told is marked and in view;
+- texts are explained as the rows of crates/tests_look say, and the line that is told is marked and in view;
 - every example is played by the page's own buttons, after each event of its trace: there is one for each event that counts
   there and none else, as `look view --each` tells; beside the listing a number stands for each task that lives, at its
   instruction, and each that is ready can be clicked: that writes its step; the page shows what `look view`, `look explain`
@@ -33,7 +33,7 @@ EXAMPLES = sorted(glob.glob(os.path.join(ROOT, "examples", "*.sts")))
 NAMES = [os.path.basename(it) for it in EXAMPLES]
 LOOK_PAGE = os.path.join(ROOT, "docs", "LOOK.md")
 # The rows of texts; those of runs.rt have a trace as well.
-ROWS = [os.path.join(ROOT, "crates", "sts_rows_explain", "src", name) for name in ("faults.rt", "refusals.rt", "words.rt")]
+ROWS = [os.path.join(ROOT, "crates", "tests_look", "src", name) for name in ("faults.rt", "refusals.rt", "words.rt")]
 ROW = re.compile(r'text: &\[(.*?)\],\s+lines: (".*?[^\\]"),\s+status: (\d)', re.S)
 PART = re.compile(r'Part\(\s*(\d+),\s*(".*?[^\\]"),?\s*\)', re.S)
 # Lines of `view`.

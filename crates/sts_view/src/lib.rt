@@ -4,7 +4,5 @@
 pub mod of_text;
 pub mod scopes;
 pub mod tasks;
-#[cfg(test)]
-mod tests;
 pub mod view;
 pub mod watch;

@@ -1,0 +1,85 @@
+//! Lists in three layers of a store over a `slab`, under keys that come back.
+
+use slab::Slab;
+use std::test::Fail;
+use sts_links::links::{Ends, Link, Links};
+use sts_links::lists::{after, front, push_back, unlink};
+
+/// A record: what it is about, and its link in each of three layers.
+#[derive(Clone, Copy, Debug)]
+struct Record {
+    body: u32,
+    links: [Link; 3],
+}
+
+#[derive(Drop)]
+struct Store {
+    records: Slab<Record>,
+}
+
+impl Links for Store {
+    ghost use Rattle.std.specs.Prelude.{◌≡◌, ℕ, Some, None, refl, option_and_then, option_map};
+    ghost use Rattle.std.specs.Prelude.{if◌then◌else◌, nat_lt, slice_index_or};
+    ghost use Rattle.std.proofs.Common.{◌∙◌};
+    ghost use Rattle.slab.specs.Slab.{get};
+
+    ghost at = { λ s l k. option_and_then (λ r. if nat_lt l 3 then Some (slice_index_or r.links l (record { before = None; after = None })) else None) (get s.records k) };
+
+    ghost alike = { λ a b. (k : ℕ) →
+        option_map (λ r. r.body) (get b.records k) ≡ option_map (λ r. r.body) (get a.records k) };
+
+    fn link(&self, layer: u8, key: usize) -> Link {
+        self.records.get(key).unwrap().links[layer as usize]
+    }
+
+    fn set_link(&mut self, layer: u8, key: usize, link: Link) {
+        self.records.get_mut(key).unwrap().links[layer as usize] = link;
+    }
+
+    ghost same = { λ a k. refl };
+
+    ghost chained = { λ a b c h l k. l k ∙ h k };
+}
+
+impl Record {
+    fn new(body: u32) -> Record {
+        Record {
+            body,
+            links: [Link {
+                before: None,
+                after: None,
+            }; 3],
+        }
+    }
+}
+
+#[test]
+fn lists_keep_their_keys_when_others_come_back(rt: HostRuntime) -> Result<(), Fail> {
+    let mut store = Store {
+        records: Slab::new(rt.alloc()),
+    };
+    let a = store.records.insert(Record::new(10))?;
+    let b = store.records.insert(Record::new(20))?;
+
+    // The list of the first layer is a, b, that of the last is b.
+    let list = push_back(&mut store, 0, Ends::empty(), a);
+    let list = push_back(&mut store, 0, list, b);
+    let last = push_back(&mut store, 2, Ends::empty(), b);
+    assert_eq!(rt; front(list), Some(a));
+    assert_eq!(rt; after(&store, 0, a), Some(b));
+    assert_eq!(rt; after(&store, 0, b), None);
+
+    let list = unlink(&mut store, 0, list, a);
+    assert_eq!(rt; front(list), Some(b));
+    assert_eq!(rt; store.records.remove(a).body, 10);
+
+    let c = store.records.insert(Record::new(30))?;
+    assert_eq!(rt; c, a, "the key comes back");
+    let list = push_back(&mut store, 0, list, c);
+    assert_eq!(rt; front(list), Some(b));
+    assert_eq!(rt; after(&store, 0, b), Some(c));
+    assert_eq!(rt; after(&store, 0, c), None);
+    assert_eq!(rt; front(last), Some(b));
+    assert_eq!(rt; after(&store, 2, b), None);
+    Ok(())
+}

@@ -1,0 +1,455 @@
+//! The wrong word of a line, for each place of each kind of line, and each program check.
+
+use crate::explanations::row::{Part, Row, all};
+use std::test::Fail;
+
+static OPERANDS: [Row; 11] = [
+    Row {
+        name: "a local that is too large",
+        text: &[Part(1, "func main 0 / push 1 / load 256 / end")],
+        lines: "error A3, line 3: load 256 / a word that should be a number of its range isn't one / at load [256]: wanted is a number from 0 to 15",
+        status: 3,
+    },
+    Row {
+        name: "a bound that is too large",
+        text: &[Part(1, "func main 0 / push 1 / times 65536 / end")],
+        lines: "error A3, line 3: times 65536 / a word that should be a number of its range isn't one / at times [65536]: wanted is the bound, a number from 1 to 10000",
+        status: 3,
+    },
+    Row {
+        name: "a slot that is too large",
+        text: &[Part(1, "func main 0 / push 1 / close s256 / end")],
+        lines: "error A4, line 3: close s256 / an operand is missing, of another kind, left over or badly spelled / at close [s256]: wanted is a slot, s0 to s15",
+        status: 3,
+    },
+    Row {
+        name: "a label that is no name",
+        text: &[Part(1, "func main 0 / push 1 / jmp 1x / end")],
+        lines: "error A4, line 3: jmp 1x / an operand is missing, of another kind, left over or badly spelled / at jmp [1x]: wanted is the name of a label",
+        status: 3,
+    },
+    Row {
+        name: "an operand too many",
+        text: &[Part(1, "func main 0 / push 1 / pop 1 / end")],
+        lines: "error A4, line 3: pop 1 / an operand is missing, of another kind, left over or badly spelled / at pop [1]: wanted is nothing more",
+        status: 3,
+    },
+    Row {
+        name: "a word behind end",
+        text: &[Part(1, "func main 0 / push 1 / end x / end")],
+        lines: "error A4, line 3: end x / an operand is missing, of another kind, left over or badly spelled / at end [x]: wanted is nothing more",
+        status: 3,
+    },
+    Row {
+        name: "a tally of nothing",
+        text: &[Part(1, "func main 0 / push 1 / tally s0 X / end")],
+        lines: "error A4, line 3: tally s0 X / an operand is missing, of another kind, left over or badly spelled / at tally s0 [X]: wanted is S, F or U",
+        status: 3,
+    },
+    Row {
+        name: "a tally of no slot",
+        text: &[Part(1, "func main 0 / push 1 / tally S / end")],
+        lines: "error A4, line 3: tally S / an operand is missing, of another kind, left over or badly spelled / at tally [S]: wanted is the slot of the scope, s0 to s15",
+        status: 3,
+    },
+    Row {
+        name: "a case without its second label",
+        text: &[Part(1, "func main 0 / push 1 / case s1 yes / end")],
+        lines: "error A4, line 3: case s1 yes / an operand is missing, of another kind, left over or badly spelled / at case s1 yes []: wanted is the label for failed",
+        status: 3,
+    },
+    Row {
+        name: "a case with no first label",
+        text: &[Part(1, "func main 0 / push 1 / case s1 - no / end")],
+        lines: "error A4, line 3: case s1 - no / an operand is missing, of another kind, left over or badly spelled / at case s1 [-]: wanted is the label for success",
+        status: 3,
+    },
+    Row {
+        name: "a case of no slot",
+        text: &[Part(1, "func main 0 / push 1 / case yes no / end")],
+        lines: "error A4, line 3: case yes no / an operand is missing, of another kind, left over or badly spelled / at case [yes]: wanted is the slot of the subtask, s0 to s15",
+        status: 3,
+    },
+];
+
+static SCOPES: [Row; 16] = [
+    Row {
+        name: "a scope of no slot",
+        text: &[Part(1, "func main 0 / push 1 / open 0 all / end")],
+        lines: "error A4, line 3: open 0 all / an operand is missing, of another kind, left over or badly spelled / at open [0]: wanted is the slot of the scope, s0 to s15",
+        status: 3,
+    },
+    Row {
+        name: "no joiner",
+        text: &[Part(1, "func main 0 / push 1 / open s0 / end")],
+        lines: "error A4, line 3: open s0 / an operand is missing, of another kind, left over or badly spelled / at open s0 []: wanted is the joiner: all, any, awaitok, awaitall or until",
+        status: 3,
+    },
+    Row {
+        name: "another joiner",
+        text: &[Part(1, "func main 0 / push 1 / open s0 some timed / end")],
+        lines: "error A4, line 3: open s0 some timed / an operand is missing, of another kind, left over or badly spelled / at open s0 [some]: wanted is the joiner: all, any, awaitok, awaitall or until",
+        status: 3,
+    },
+    Row {
+        name: "another condition",
+        text: &[Part(1, "func main 0 / push 1 / open s0 until 3 / end")],
+        lines: "error A4, line 3: open s0 until 3 / an operand is missing, of another kind, left over or badly spelled / at open s0 until [3]: wanted is failed, success or atleast",
+        status: 3,
+    },
+    Row {
+        name: "no count",
+        text: &[Part(
+            1,
+            "func main 0 / push 1 / open s0 until failed x timed / end",
+        )],
+        lines: "error A3, line 3: open s0 until failed x timed / a word that should be a number of its range isn't one / at open s0 until failed [x]: wanted is how many of them, a number from 1 to 65536",
+        status: 3,
+    },
+    Row {
+        name: "no value",
+        text: &[Part(
+            1,
+            "func main 0 / push 1 / open s0 until atleast timed / end",
+        )],
+        lines: "error A3, line 3: open s0 until atleast timed / a word that should be a number of its range isn't one / at open s0 until atleast [timed]: wanted is the least value, a number from -9223372036854775808 to 9223372036854775807",
+        status: 3,
+    },
+    Row {
+        name: "timed is badly spelled",
+        text: &[Part(1, "func main 0 / push 1 / open s0 all timd / end")],
+        lines: "error A4, line 3: open s0 all timd / an operand is missing, of another kind, left over or badly spelled / at open s0 all [timd]: wanted is timed, or nothing more",
+        status: 3,
+    },
+    Row {
+        name: "a word behind timed",
+        text: &[Part(
+            1,
+            "func main 0 / push 1 / open s0 until success 2 timed 5 / end",
+        )],
+        lines: "error A4, line 3: open s0 until success 2 timed 5 / an operand is missing, of another kind, left over or badly spelled / at open s0 until success 2 timed [5]: wanted is nothing more",
+        status: 3,
+    },
+    Row {
+        name: "a fork without its slot",
+        text: &[Part(1, "func main 0 / push 1 / fork s0 kid / end")],
+        lines: "error A4, line 3: fork s0 kid / an operand is missing, of another kind, left over or badly spelled / at fork s0 kid []: wanted is the slot of the subtask, s0 to s15, or _ for none",
+        status: 3,
+    },
+    Row {
+        name: "a fork of a number",
+        text: &[Part(1, "func main 0 / push 1 / fork s0 5 _ / end")],
+        lines: "error A4, line 3: fork s0 5 _ / an operand is missing, of another kind, left over or badly spelled / at fork s0 [5]: wanted is the name of the function",
+        status: 3,
+    },
+    Row {
+        name: "a fork in no slot",
+        text: &[Part(1, "func main 0 / push 1 / fork kid _ / end")],
+        lines: "error A4, line 3: fork kid _ / an operand is missing, of another kind, left over or badly spelled / at fork [kid]: wanted is the slot of the scope, s0 to s15",
+        status: 3,
+    },
+    Row {
+        name: "a join with just its last label",
+        text: &[Part(1, "func main 0 / push 1 / join s0 intr / end")],
+        lines: "error A4, line 3: join s0 intr / an operand is missing, of another kind, left over or badly spelled / at join s0 intr []: wanted is the label for timeout, or - for none",
+        status: 3,
+    },
+    Row {
+        name: "a join without its last label",
+        text: &[Part(1, "func main 0 / push 1 / join s0 - late / end")],
+        lines: "error A4, line 3: join s0 - late / an operand is missing, of another kind, left over or badly spelled / at join s0 - late []: wanted is the label for interrupted",
+        status: 3,
+    },
+    Row {
+        name: "a join with a dash for its last label",
+        text: &[Part(1, "func main 0 / push 1 / join s0 - - - / end")],
+        lines: "error A4, line 3: join s0 - - - / an operand is missing, of another kind, left over or badly spelled / at join s0 - - [-]: wanted is the label for interrupted",
+        status: 3,
+    },
+    Row {
+        name: "a join of no name",
+        text: &[Part(1, "func main 0 / push 1 / join s0 1 - intr / end")],
+        lines: "error A4, line 3: join s0 1 - intr / an operand is missing, of another kind, left over or badly spelled / at join s0 [1]: wanted is the label for failed, or - for none",
+        status: 3,
+    },
+    Row {
+        name: "a join of no slot",
+        text: &[Part(1, "func main 0 / push 1 / join - - intr / end")],
+        lines: "error A4, line 3: join - - intr / an operand is missing, of another kind, left over or badly spelled / at join [-]: wanted is the slot of the scope, s0 to s15",
+        status: 3,
+    },
+];
+
+static FIRST_LINES: [Row; 12] = [
+    Row {
+        name: "a function of no name",
+        text: &[Part(1, "func 1x 0")],
+        lines: "error A4, line 1: func 1x 0 / an operand is missing, of another kind, left over or badly spelled / at func [1x]: wanted is the name of the function, which no earlier one has",
+        status: 3,
+    },
+    Row {
+        name: "a function without its arguments",
+        text: &[Part(1, "func f")],
+        lines: "error A4, line 1: func f / an operand is missing, of another kind, left over or badly spelled / at func f []: wanted is how many arguments it takes, a number from 0 to 8",
+        status: 3,
+    },
+    Row {
+        name: "arguments that are no number",
+        text: &[Part(1, "func f x")],
+        lines: "error A3, line 1: func f x / a word that should be a number of its range isn't one / at func f [x]: wanted is how many arguments it takes, a number from 0 to 8",
+        status: 3,
+    },
+    Row {
+        name: "a word behind the arguments",
+        text: &[Part(1, "func f 0 5")],
+        lines: "error A4, line 1: func f 0 5 / an operand is missing, of another kind, left over or badly spelled / at func f 0 [5]: wanted is needs, or nothing more",
+        status: 3,
+    },
+    Row {
+        name: "needs without a key",
+        text: &[Part(1, "func f 0 needs")],
+        lines: "error A4, line 1: func f 0 needs / an operand is missing, of another kind, left over or badly spelled / at func f 0 needs []: wanted is a key, a number from 0 to 15",
+        status: 3,
+    },
+    Row {
+        name: "the second key",
+        text: &[Part(1, "func f 0 needs 3 x 4")],
+        lines: "error A3, line 1: func f 0 needs 3 x 4 / a word that should be a number of its range isn't one / at func f 0 needs 3 [x]: wanted is a key, a number from 0 to 15",
+        status: 3,
+    },
+    Row {
+        name: "another profile",
+        text: &[Part(1, "profile 3")],
+        lines: "error A3, line 1: profile 3 / a word that should be a number of its range isn't one / at profile [3]: wanted is the profile, 1 or 2",
+        status: 3,
+    },
+    Row {
+        name: "no profile",
+        text: &[Part(1, "profile")],
+        lines: "error A4, line 1: profile / an operand is missing, of another kind, left over or badly spelled / at profile []: wanted is the profile, 1 or 2",
+        status: 3,
+    },
+    Row {
+        name: "two profiles",
+        text: &[Part(1, "profile 1 2")],
+        lines: "error A4, line 1: profile 1 2 / an operand is missing, of another kind, left over or badly spelled / at profile 1 [2]: wanted is nothing more",
+        status: 3,
+    },
+    Row {
+        name: "a profile on line 2",
+        text: &[Part(1, "; two / profile 2")],
+        lines: "error A2, line 2: profile 2 / its first word is unknown, or may not stand here: outside a function, or below line 1 / at [profile]: wanted is another word: profile stands on line 1 only",
+        status: 3,
+    },
+    Row {
+        name: "an end outside a function",
+        text: &[Part(1, "end")],
+        lines: "error A2, line 1: end / its first word is unknown, or may not stand here: outside a function, or below line 1 / at [end]: wanted is func: labels, instructions and end stand inside a function only",
+        status: 3,
+    },
+    Row {
+        name: "a label outside a function",
+        text: &[Part(1, "x:")],
+        lines: "error A2, line 1: x: / its first word is unknown, or may not stand here: outside a function, or below line 1 / at [x:]: wanted is func: labels, instructions and end stand inside a function only",
+        status: 3,
+    },
+];
+
+static NAMES: [Row; 8] = [
+    Row {
+        name: "a fork of no function",
+        text: &[Part(1, "func main 0 / open s0 all / fork s0 kid _ / end")],
+        lines: "error A5, line 3: fork s0 kid _ / a label that isn't in this function, or a function that isn't in this text / at fork s0 [kid]: wanted is a function that stands before this one",
+        status: 3,
+    },
+    Row {
+        name: "a fork of a label",
+        text: &[Part(1, "func main 0 / x: / fork s0 x _ / end")],
+        lines: "error A5, line 3: fork s0 x _ / a label that isn't in this function, or a function that isn't in this text / at fork s0 [x]: wanted is a function that stands before this one",
+        status: 3,
+    },
+    Row {
+        name: "a label of another function",
+        text: &[Part(
+            1,
+            "func f 0 / x: / ret / end / func main 0 / jmp x / ret / end",
+        )],
+        lines: "error A5, line 6: jmp x / a label that isn't in this function, or a function that isn't in this text / at jmp [x]: wanted is a label before an instruction of this function",
+        status: 3,
+    },
+    Row {
+        name: "a jump to a function",
+        text: &[Part(1, "func f 0 / ret / end / func main 0 / jz f / ret / end")],
+        lines: "error A5, line 5: jz f / a label that isn't in this function, or a function that isn't in this text / at jz [f]: wanted is a label before an instruction of this function",
+        status: 3,
+    },
+    Row {
+        name: "a case whose second label isn't there",
+        text: &[Part(1, "func main 0 / case s1 yes no / yes: / ret / end")],
+        lines: "error A5, line 2: case s1 yes no / a label that isn't in this function, or a function that isn't in this text / at case s1 yes [no]: wanted is a label before an instruction of this function",
+        status: 3,
+    },
+    Row {
+        name: "a join whose labels are there but the last",
+        text: &[Part(1, "func main 0 / x: / join s0 x - intr / end")],
+        lines: "error A5, line 3: join s0 x - intr / a label that isn't in this function, or a function that isn't in this text / at join s0 x - [intr]: wanted is a label before an instruction of this function",
+        status: 3,
+    },
+    Row {
+        name: "a join of which no label is there",
+        text: &[Part(1, "func main 0 / join s0 - late intr / end")],
+        lines: "error A5, line 2: join s0 - late intr / a label that isn't in this function, or a function that isn't in this text / at join s0 - [late]: wanted is a label before an instruction of this function",
+        status: 3,
+    },
+    Row {
+        name: "a byte in a word",
+        text: &[Part(1, "func main 0 / \tpu\u{7f}sh 1 / end")],
+        lines: "error A1, line 2: / a byte that isn't allowed: tabs, returns and the bytes 32 to 126 are / at column 4: byte 127",
+        status: 3,
+    },
+];
+
+static CHECKS: [Row; 16] = [
+    Row {
+        name: "a slot past the last",
+        text: &[Part(1, "func main 0 / open s16 all / ret / end")],
+        lines: "error A9 C6 in main, line 2: open s16 all / a slot, local or key above 15, turns not 1 to 10000, ends not 1 to 65536, over 8 arguments, or no code / at open [s16]: wanted is the slot of the scope, s0 to s15",
+        status: 3,
+    },
+    Row {
+        name: "too many arguments",
+        text: &[Part(
+            1,
+            "func kid 9 / push 0 / ret / end / func main 0 / push 0 / ret / end",
+        )],
+        lines: "error A9 C6 in kid, line 1: func kid 9 / a slot, local or key above 15, turns not 1 to 10000, ends not 1 to 65536, over 8 arguments, or no code / at func kid [9]: wanted is how many arguments it takes, a number from 0 to 8",
+        status: 3,
+    },
+    Row {
+        name: "no instruction",
+        text: &[Part(1, "func kid 0 / end / func main 0 / push 0 / ret / end")],
+        lines: "error A9 C6 in kid, line 1: func kid 0 / a slot, local or key above 15, turns not 1 to 10000, ends not 1 to 65536, over 8 arguments, or no code",
+        status: 3,
+    },
+    Row {
+        name: "a fork of a later function",
+        text: &[Part(
+            1,
+            "func kid 0 / push 0 / ; on / fork s0 main _ / ret / end / func main 0 / push 0 / ret / end",
+        )],
+        lines: "error A9 C4 in kid, line 4: fork s0 main _ / it forks a function that doesn't stand before this one / at fork s0 [main]: wanted is a function that stands before this one",
+        status: 3,
+    },
+    Row {
+        name: "a slot of a subtask past the last",
+        text: &[Part(
+            1,
+            "func kid 0 / push 0 / ret / end / func main 0 / fork s15 kid s16 / ret / end",
+        )],
+        lines: "error A9 C6 in main, line 6: fork s15 kid s16 / a slot, local or key above 15, turns not 1 to 10000, ends not 1 to 65536, over 8 arguments, or no code / at fork s15 kid [s16]: wanted is the slot of the subtask, s0 to s15, or _ for none",
+        status: 3,
+    },
+    Row {
+        name: "a key past the last",
+        text: &[Part(1, "func main 0 / read 15 / read 16 / ret / end")],
+        lines: "error A9 C6 in main, line 3: read 16 / a slot, local or key above 15, turns not 1 to 10000, ends not 1 to 65536, over 8 arguments, or no code / at read [16]: wanted is a number from 0 to 15",
+        status: 3,
+    },
+    Row {
+        name: "one end too many",
+        text: &[Part(
+            1,
+            "func main 0 / open s0 until failed 65537 timed / ret / end",
+        )],
+        lines: "error A9 C6 in main, line 2: open s0 until failed 65537 timed / a slot, local or key above 15, turns not 1 to 10000, ends not 1 to 65536, over 8 arguments, or no code / at open s0 until failed [65537]: wanted is how many of them, a number from 1 to 65536",
+        status: 3,
+    },
+    Row {
+        name: "a slot past the last, of a close",
+        text: &[Part(1, "func main 0 / close s16 / ret / end")],
+        lines: "error A9 C6 in main, line 2: close s16 / a slot, local or key above 15, turns not 1 to 10000, ends not 1 to 65536, over 8 arguments, or no code / at close [s16]: wanted is a slot, s0 to s15",
+        status: 3,
+    },
+    Row {
+        name: "a slot past the last, of a tally",
+        text: &[Part(1, "func main 0 / tally s15 S / tally s255 U / ret / end")],
+        lines: "error A9 C6 in main, line 3: tally s255 U / a slot, local or key above 15, turns not 1 to 10000, ends not 1 to 65536, over 8 arguments, or no code / at tally [s255]: wanted is the slot of the scope, s0 to s15",
+        status: 3,
+    },
+    Row {
+        name: "a slot past the last, of a case",
+        text: &[Part(1, "func main 0 / x: / case s16 x x / ret / end")],
+        lines: "error A9 C6 in main, line 3: case s16 x x / a slot, local or key above 15, turns not 1 to 10000, ends not 1 to 65536, over 8 arguments, or no code / at case [s16]: wanted is the slot of the subtask, s0 to s15",
+        status: 3,
+    },
+    Row {
+        name: "no end that is waited for",
+        text: &[Part(1, "func main 0 / open s15 until success 0 / ret / end")],
+        lines: "error A9 C6 in main, line 2: open s15 until success 0 / a slot, local or key above 15, turns not 1 to 10000, ends not 1 to 65536, over 8 arguments, or no code / at open s15 until success [0]: wanted is how many of them, a number from 1 to 65536",
+        status: 3,
+    },
+    Row {
+        name: "one turn too many",
+        text: &[Part(1, "func main 0 / times 10000 / times 10001 / ret / end")],
+        lines: "error A9 C6 in main, line 3: times 10001 / a slot, local or key above 15, turns not 1 to 10000, ends not 1 to 65536, over 8 arguments, or no code / at times [10001]: wanted is the bound, a number from 1 to 10000",
+        status: 3,
+    },
+    Row {
+        name: "a case whose second label is behind the last instruction",
+        text: &[Part(
+            1,
+            "func main 0 / a: / push 0 / case s1 a b / ; on / \tb: ; x / c: / end",
+        )],
+        lines: "error A9 C3 in main, line 4: case s1 a b / a label that stands behind the last instruction of its function / at case s1 a [b]: wanted is a label before an instruction of this function",
+        status: 3,
+    },
+    Row {
+        name: "a join whose timeout label is behind the last instruction",
+        text: &[Part(
+            1,
+            "func main 0 / join s0 - late intr / intr: / ret / late: / end / func kid 0 / intr: / ret / end",
+        )],
+        lines: "error A9 C3 in main, line 2: join s0 - late intr / a label that stands behind the last instruction of its function / at join s0 - [late]: wanted is a label before an instruction of this function",
+        status: 3,
+    },
+    Row {
+        name: "a last function that isn't main",
+        text: &[Part(
+            1,
+            "func main 0 / push 0 / ret / end / ; func / \tfunc  kid 0 needs 3;x / push 0 / ret / end",
+        )],
+        lines: "error A9 C5 in kid, line 6: func kid 0 needs 3 / the last function isn't main with no arguments and no needs, or there is none",
+        status: 3,
+    },
+    Row {
+        name: "no function",
+        text: &[Part(1, "")],
+        lines: "error A9 C5 / the last function isn't main with no arguments and no needs, or there is none",
+        status: 3,
+    },
+];
+
+#[test]
+fn tell_the_wrong_operand(rt: HostRuntime) -> Result<(), Fail> {
+    all(&rt, rt.alloc(), &OPERANDS)
+}
+
+#[test]
+fn tell_the_wrong_word_of_scopes(rt: HostRuntime) -> Result<(), Fail> {
+    all(&rt, rt.alloc(), &SCOPES)
+}
+
+#[test]
+fn tell_the_wrong_word_of_headers(rt: HostRuntime) -> Result<(), Fail> {
+    all(&rt, rt.alloc(), &FIRST_LINES)
+}
+
+#[test]
+fn tell_the_name_that_is_not_there(rt: HostRuntime) -> Result<(), Fail> {
+    all(&rt, rt.alloc(), &NAMES)
+}
+
+#[test]
+fn tell_where_a_check_fails(rt: HostRuntime) -> Result<(), Fail> {
+    all(&rt, rt.alloc(), &CHECKS)
+}
