@@ -33,7 +33,7 @@ EXAMPLES = sorted(glob.glob(os.path.join(ROOT, "examples", "*.sts")))
 NAMES = [os.path.basename(it) for it in EXAMPLES]
 LOOK_PAGE = os.path.join(ROOT, "docs", "LOOK.md")
 # The rows of texts; those of runs.rt have a trace as well.
-ROWS = [os.path.join(ROOT, "crates", "tests_look", "src", name) for name in ("faults.rt", "refusals.rt", "words.rt")]
+ROWS = [os.path.join(ROOT, "crates", "tests_look", "src", "explanations", name) for name in ("faults.rt", "refusals.rt", "words.rt")]
 ROW = re.compile(r'text: &\[(.*?)\],\s+lines: (".*?[^\\]"),\s+status: (\d)', re.S)
 PART = re.compile(r'Part\(\s*(\d+),\s*(".*?[^\\]"),?\s*\)', re.S)
 # Lines of `view`.
