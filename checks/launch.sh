@@ -1,0 +1,43 @@
+# ./sts and ./look read this file. They have set `root`, the top of the repository, `name`, the name of the program,
+# and `crate`, the crate that it is built of. It starts the program, after it was built if need be. It calls no other
+# program on the way where nothing has changed, so that a call takes a few milliseconds.
+set -eu
+program=$root/crates/$crate/out/$crate
+unproved=$program.unproved
+
+# Returns whether a source or a definition is newer than this program. A proof changes no program, so proofs don't count.
+is_stale() {
+  [ -x "$1" ] || return 0
+  for it in "$root"/crates.txt "$root"/crates/*/src "$root"/crates/*/src/* "$root"/crates/*/src/*/* \
+    "$root"/crates/*/specs "$root"/crates/*/specs/*; do
+    [ ! "$it" -nt "$1" ] || return 0
+  done
+  return 1
+}
+
+case ${1-} in
+  --unproved)
+    shift
+    if is_stale "$unproved"; then
+      exec python3 "$root/checks/unproved.py" "$name" "$unproved" "$@"
+    fi
+    echo "$name: not proved: this program was built without its proofs" >&2
+    exec "$unproved" "$@"
+    ;;
+  --version)
+    echo "$name $(cat "$root/VERSION")"
+    rt version 2> /dev/null || echo "the kit isn't here: there is no command rt"
+    echo "differences from JDK 25: docs/BEHAVIOUR.md"
+    exit 0
+    ;;
+  -h | --help | help)
+    # (a call for help starts no proof)
+    if [ ! -x "$program" ] && [ $# = 1 ]; then
+      exec cat "$root/checks/help/$name.txt" >&2
+    fi
+    ;;
+esac
+if is_stale "$program"; then
+  exec python3 "$root/checks/build.py" "$program" "$@"
+fi
+exec "$program" "$@"
