@@ -32,7 +32,7 @@ case ${1-} in
     ;;
   -h | --help | help)
     # (a call for help starts no proof)
-    if [ ! -x "$program" ] && [ $# = 1 ]; then
+    if [ ! -x "$program" ] && [ $# = 1 ] && [ -f "$root/checks/help/$name.txt" ]; then
       exec cat "$root/checks/help/$name.txt" >&2
     fi
     ;;
