@@ -13,10 +13,10 @@ from build import ROOT, crates, needed
 
 
 def changed_since(revision, names):
-    """Returns the crates with a file that differs from the revision's, or that git doesn't know yet."""
+    """Returns the crates with a file, other than README.md, that differs from the revision's or that git doesn't know yet."""
     asked = [["git", "diff", "--name-only", revision], ["git", "ls-files", "--others", "--exclude-standard"]]
     files = [it for words in asked for it in subprocess.check_output(words, cwd=ROOT, text=True).split("\n")]
-    folders = {it.split("/")[1] for it in files if it.startswith("crates/")}
+    folders = {it.split("/")[1] for it in files if it.startswith("crates/") and not it.endswith("/README.md")}
     return [it for it in names if it in folders]
 
 

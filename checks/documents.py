@@ -5,8 +5,8 @@
     checks/documents.py write    writes these tables: documents_*.rows, patterns_*.rows and examples_*.rows in
                                  crates/tests_rows/data, where `tables` defines the notation
 
-Each text and output of README.md, docs/LANGUAGE.md, docs/VERIFIER.md, docs/PATTERNS.md and examples/README.md becomes a
-row:
+Each text and output of docs/LANGUAGE.md, docs/VERIFIER.md, docs/PATTERNS.md and examples/README.md becomes a row
+(checks/shown.py has the commands of README.md and docs/TUTORIAL.md):
 
 - a block of LANGUAGE.md with a comment `<!-- run: TEXT ? ASKED = STATUS LINES -->` above it, where `@` stands for the
   block, and what is asked is `verify`, `list` or a trace (`0*5` is five steps of task 0, `i0` an interrupt, `x0` an
@@ -15,13 +15,16 @@ row:
 - what VERIFIER.md and PATTERNS.md say that is refused or accepted, also "Without `LINE`: `refused ..`" below a block;
 - a block of PATTERNS.md, which is accepted, with each trace of the table below it, written short (checks/runs.py has what
   comes by workers, and what comes of files whose bytes no row can hold);
-- each command of README.md and examples/README.md, with the files that it names.
+- each command of examples/README.md, with the files that it names.
 
 It also says where a document names a file that isn't there, where PROOFS.md names a function or a clause that its file
 doesn't have, where a document shows a line of a contract that no source has or a part of a program that no example has,
-where an example isn't shown or says that it prints something else, where a picture isn't what its script draws, and where
-a crate uses proofs of another one from a file that isn't called `*Lemmas`.
+where an example isn't shown or says that it prints something else, where a Java program is shown otherwise than it is,
+where a picture isn't what its script draws, where a crate uses proofs of another one from a file that isn't called
+`*Lemmas`, where the floors of ARCHITECTURE.md don't fit crates.txt, and where the README.md of a crate doesn't name its
+edits, the crates that it uses, or those that use it.
 """
+import functools
 import itertools
 import os
 import re
@@ -30,8 +33,7 @@ import sys
 
 ROOT = os.path.dirname(os.path.dirname(os.path.realpath(__file__)))
 FOLDER = "crates/tests_rows/data"
-DOCUMENTS = ["README.md", "examples/README.md", *(f"docs/{it}" for it in sorted(os.listdir(f"{ROOT}/docs")) if it.endswith(".md"))]
-SHOW_COMMANDS = ["README.md", "examples/README.md"]
+DOCUMENTS = ["README.md", "CONTRIBUTING.md", "examples/README.md", *(f"docs/{it}" for it in sorted(os.listdir(f"{ROOT}/docs")) if it.endswith(".md"))]
 STATUS = {"success": 0, "failed": 1, "error": 3, "refused": 4, "fault": 5, "running": 5}
 # What tables of LANGUAGE.md describe in words: other tests have these rows.
 IN_WORDS = [
@@ -167,10 +169,10 @@ def shown_commands(path):
         yield mode, text, trace, " / ".join(line.strip() for line in printed.strip().splitlines())
 
 
-def commands(paths):
-    """Returns a row for each text whose commands the documents show, with what each of them prints; all are accepted."""
+def commands(path):
+    """Returns a row for each text whose commands a document shows, with what each of them prints; all are accepted."""
     asked = {}
-    for mode, text, trace, printed in dict.fromkeys(it for path in paths for it in shown_commands(path)):
+    for mode, text, trace, printed in shown_commands(path):
         status = STATUS.get(printed.split(" ")[0], 0)
         question = "verify" if mode == "verify" else events(read(trace))
         asked.setdefault(text, [("verify", "0")]).append((question, f"{status} {printed}"))
@@ -220,7 +222,7 @@ def files():
         "documents_texts": cells(language, "Text", "Printed") + cells(language, "Example", "Printed"),
         "documents_causes": causes("docs/VERIFIER.md"),
         "patterns_patterns": patterns(path) + causes(path) + cells(path, "Text", "Printed"),
-        "examples_commands": commands(SHOW_COMMANDS),
+        "examples_commands": commands("examples/README.md"),
     }
     for name, rows in tables.items():
         if len(rows) < 5:
@@ -243,6 +245,52 @@ def counted_rows():
         fail(f"{path} doesn't have the numbers of answers in {FOLDER}: checks/documents.py write")
 
 
+@functools.cache
+def crates():
+    """Returns for each crate of crates.txt the crates of the repository that it uses."""
+    used = {re.split("[ :]", line)[0]: line.partition(":")[2].split() for line in read("crates.txt").splitlines()}
+    return {name: [it for it in others if it in used] for name, others in used.items()}
+
+
+def page(crate):
+    """Returns the path of a crate's README.md, which each crate has."""
+    return f"crates/{crate}/README.md"
+
+
+def named_in(text):
+    """Returns the crates that a text names."""
+    return [it for it in re.findall(r"`(\w+)`", text) if it in crates()]
+
+
+def floors():
+    """Fails where the table of floors doesn't have each crate once, or a crate uses one of a higher floor."""
+    table = re.search(r"^\| Floor \|.*?\n\n", read("docs/ARCHITECTURE.md"), re.M | re.S)[0]
+    rows = [named_in(line.strip("|").split("|")[1]) for line in table.splitlines()[2:] if line]
+    floor = {it: number for number, row in enumerate(rows) for it in row}
+    if sorted(it for row in rows for it in row) != sorted(crates()):
+        fail(f"the table of floors doesn't have each crate once: {sorted(set(floor) ^ set(crates()))}")
+    for name, others in crates().items():
+        for it in others:
+            if floor[it] > floor[name]:
+                fail(f"{name} uses {it}, which is of a higher floor")
+
+
+def neighbours():
+    """Fails where a crate's page doesn't name each edit of must-fail/, or the crates that it uses and that use it."""
+    for name, others in crates().items():
+        text = read(page(name))
+        edits = f"{ROOT}/crates/{name}/must-fail"
+        for it in sorted(os.listdir(edits)) if os.path.isdir(edits) else []:
+            if f"`{it.removesuffix('.edit')}`" not in text:
+                fail(f"{page(name)} doesn't name the edit {it}")
+        uses, _, users = " ".join(text.split()).partition("Uses: ")[2].partition("Used by: ")
+        if sorted(named_in(uses)) != sorted(others):
+            fail(f"{page(name)} doesn't name what crates.txt says that it uses: {sorted(set(named_in(uses)) ^ set(others))}")
+        by = [it for it in crates() if name in crates()[it]]
+        if sorted(named_in(users)) != sorted(by):
+            fail(f"{page(name)} doesn't name what crates.txt says that uses it: {sorted(set(named_in(users)) ^ set(by))}")
+
+
 def headings(path):
     """Returns the anchors of a document's headings."""
     found = re.findall(r"^#+ (.*)$", read(path), re.M)
@@ -251,7 +299,7 @@ def headings(path):
 
 def named_files():
     """Fails where a document names a file, or a heading of a document, that isn't there."""
-    for path in DOCUMENTS:
+    for path in [*DOCUMENTS, *(page(it) for it in crates())]:
         here = os.path.dirname(path)
         text = read(path)
         for name, anchor in re.findall(r"\]\(([^)#:]*\.md)?#([^)]*)\)", text):
@@ -259,8 +307,9 @@ def named_files():
             if anchor not in headings(target):
                 fail(f"{path} names {target}#{anchor}, which isn't there")
         links = [os.path.join(here, it) for it in re.findall(r"\]\(([^)#:]+)(?:#[^)]*)?\)", text)]
-        sources = re.findall(r"`((?:sts|tree)\w*/[\w/]+\.(?:rt|antt))`", text)
-        for name in [*links, *(f"crates/{it}" for it in sources)]:
+        sources = re.findall(r"`((?:sts|laws|look|tests|bench)\w*/[\w/]+\.(?:rt|antt))`", text)
+        own = re.findall(r"`((?:src|specs|proofs|data)/[\w/]+(?:\.\w+)?)/?`", text) if here.startswith("crates/") else []
+        for name in [*links, *(f"crates/{it}" for it in sources), *(f"{here}/{it}" for it in own)]:
             if not os.path.exists(f"{ROOT}/{name}"):
                 fail(f"{path} names {name}, which isn't there")
 
@@ -298,9 +347,9 @@ def shown_programs(path):
             fail(f"{path} shows a part of a program that no example has: {block.splitlines()[0]!r}")
 
 
-def examples(paths):
-    """Fails where an example has no command in the documents, or says of itself that it prints something else."""
-    shown = {text: printed for path in paths for mode, text, _, printed in shown_commands(path) if mode == "plain"}
+def examples(path):
+    """Fails where an example has no command in a document, or says of itself that it prints something else."""
+    shown = {text: printed for mode, text, _, printed in shown_commands(path) if mode == "plain"}
     for text in (f"examples/{it}" for it in sorted(os.listdir(f"{ROOT}/examples")) if it.endswith(".sts")):
         said = re.search(r"^; Prints: ([^(,.]*\d)[^,]*, (steps \d+)\.", read(text), re.M)
         if text not in shown or not said or f"{said[1]} / {said[2]}" != shown[text]:
@@ -311,6 +360,21 @@ def pictures():
     """Fails where a picture isn't what its script draws."""
     if subprocess.run([sys.executable, f"{ROOT}/docs/pictures/draw.py", "--check"], stdout=subprocess.DEVNULL).returncode:
         fail("a picture isn't what docs/pictures/draw.py draws: run it")
+
+
+def java_programs():
+    """Fails where a document shows a Java program otherwise than its file has it, or none shows one of these files."""
+    shown = set()
+    for path in DOCUMENTS:
+        for name, block in re.findall(r"In Java \(\[`\w+\.java`\]\(\.\./(jdk/\w+/\w+\.java)\)\):\n\n```java\n(.*?)```\n", read(path), re.S):
+            shown.add(name)
+            if read(name) != block:
+                fail(f"{path} shows {name} otherwise than it is")
+    names = {f"jdk/differences/{it}" for it in os.listdir(f"{ROOT}/jdk/differences")}
+    beside = {f"{it[:-4]}.java" for it in os.listdir(f"{ROOT}/examples") if it.endswith(".sts")}
+    names |= {f"jdk/examples/{it}" for it in os.listdir(f"{ROOT}/jdk/examples") if it not in beside}
+    if names != shown:
+        fail(f"Java programs that are shown in no document, or aren't there: {sorted(names ^ shown)}")
 
 
 def proofs_of_others():
@@ -326,11 +390,14 @@ def proofs_of_others():
 
 def main():
     named_files()
+    java_programs()
     proofs_of_others()
+    floors()
+    neighbours()
     shown_contracts("docs/PROOFS.md")
     named_clauses("docs/PROOFS.md")
     shown_programs("README.md")
-    examples(SHOW_COMMANDS)
+    examples("examples/README.md")
     pictures()
     for name, table in files().items():
         path = f"{ROOT}/{FOLDER}/{name}"

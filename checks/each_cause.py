@@ -9,7 +9,8 @@ its status; `draw` is a well-formed picture, or says of the fault what `view` sa
 `explain` with a trace say what the plain machine comes to, by the rules of docs/BEHAVIOUR.md. Of each example: `view`
 begins with what examples/README.md shows, `explain` says that it is accepted, and with the trace how it ends, with no task
 that lives. And docs/CAUSES.md shows all of it.
-What the sentences should be is compared elsewhere, with rows that were written by hand (crates/tests_look).
+What the sentences should be is compared elsewhere, with rows that were written by hand (crates/tests_look); the page shows
+those that say what to do.
 """
 import collections
 import os
@@ -41,6 +42,13 @@ compares them with what the program prints. What the words mean is in [LOOK.md](
 
 | Code | Text | Trace | `look explain` | `look view` | `look draw` |
 |---|---|---|---|---|---|
+"""
+ROWS_HEAD = """
+What `look explain` says depends on the instruction and on what is at hand there. These rows are written by hand, and are
+tests (`crates/tests_look/src/explanations`):
+
+| Text | Trace | `look explain` |
+|---|---|---|
 """
 EXAMPLES_HEAD = """
 Each of the [examples](../examples/README.md), with its trace:
@@ -240,15 +248,30 @@ def example_at(look, text, steps, printed):
     return f"| [{name}](../{text}) | {seen} | {said[0]} | {said[1]} | {drawn_words(*drawn)} |\n", right
 
 
+def part_words(parts):
+    """Returns a text or a trace as a cell has it, of the parts of a row: `Part(33, "push 1")` is "33 times `push 1`"."""
+    found = re.findall(r'Part\(\s*(\d+),\s*"([^"]*)",?\s*\)', parts)
+    return " / ".join(f"`{it}`" if times == "1" else f"{times} times `{it}`" for times, it in found)
+
+
+def rows_at(name):
+    """Yields the table's line of each row of a file of tests."""
+    rows = read(f"crates/tests_look/src/explanations/{name}.rt")
+    form = r'text: &\[(.*?)\],\s*(?:trace: &\[(.*?)\],\s*)?lines: "([^"]*)",\s*status: \d+,'
+    for text, steps, lines in re.findall(form, rows, re.S):
+        yield f"| {part_words(text)} | {part_words(steps)} | {code_words(lines.split(' / '), 7)} |\n"
+
+
 def page_of(look, sts):
     """Returns the page, and what was compared for it."""
     with tempfile.TemporaryDirectory() as folder:
         seen = [looked_at(look, sts, folder, case) for case in cases()]
     shown = [it for it in shown_commands("examples/README.md") if it[0] == "plain"]
     examples = [example_at(look, text, steps, printed) for _, text, steps, printed in shown]
-    page = HEAD + "".join(line for line, _ in seen) + EXAMPLES_HEAD + "".join(line for line, _ in examples)
-    rows = {case.code.split(" ")[-1] for case in cases() if case.code not in RUNS}
-    right = [("each code has a row", rows == listed()), ("each cause has a run", [code for code, _ in refusals()] == list(RUNS))]
+    rows = [line for name in ("remedies", "near", "run_remedies") for line in rows_at(name)]
+    page = HEAD + "".join(line for line, _ in seen) + ROWS_HEAD + "".join(rows) + EXAMPLES_HEAD + "".join(line for line, _ in examples)
+    codes = {case.code.split(" ")[-1] for case in cases() if case.code not in RUNS}
+    right = [("each code has a row", codes == listed()), ("each cause has a run", [code for code, _ in refusals()] == list(RUNS))]
     return page, [*right, *(it for _, answers in [*seen, *examples] for it in answers)]
 
 

@@ -1,14 +1,17 @@
 #!/usr/bin/env python3
 """Tries the edits of checks/edits/, which the gate leaves out: the prover has to refuse each.
 
-    checks/edits.py [CRATE ..]
+    checks/edits.py [--jobs N] [CRATE ..]
 
-An edit makes a body of a function wrong; its first line says how. The gate tries some sixty, which stand in the crates'
-own folders `must-fail/`. The others stand in checks/edits/CRATE/, since they take two hours of processor time.
+An edit makes a body of a function wrong; its first line says how. The gate tries some sixty, which are in the crates' own
+folders `must-fail/`. The others are in checks/edits/CRATE/, since they take two hours of processor time.
 
-With no crate named, the edits of all crates are tried. It works on a copy of the repository, by `rt ci CRATE ..`, which
-keeps what it proved: a second call tries only what changed. The last line is `N passed, M failed`, of edits.
+With no crate named, the edits of all crates are tried, N crates side by side (as many as there are processors, if no N is
+given). The script works on a copy of the repository, by `rt must-fail CRATE`. It takes along the libraries that were built
+in crates/*/out, if they are of the present sources, and builds the others. The last line is `N passed, M failed`, of edits.
 """
+import argparse
+import concurrent.futures
 import os
 import re
 import shutil
@@ -18,16 +21,19 @@ import tempfile
 
 ROOT = os.path.dirname(os.path.dirname(os.path.realpath(__file__)))
 EDITS = f"{ROOT}/checks/edits"
-TRIED = re.compile(r"^rt: must-fail (\w+)/([\w.-]+)\.edit: (refused|BAD EDIT|NOT REFUSED|NOT TRIED)", re.M)
+TRIED = re.compile(r"^(?:rt: )?must-fail (\w+)/([\w.-]+)\.edit: (refused|BAD EDIT|NOT REFUSED|NOT TRIED).*", re.M)
 
 
 def copy(to):
-    """Copies the files of the repository, as they are now, that git knows."""
+    """Copies the files of the repository, as they are now, that git knows, and the libraries that were built."""
     listed = subprocess.run(["git", "ls-files", "-z"], cwd=ROOT, capture_output=True, check=True).stdout
     for name in filter(None, listed.decode().split("\0")):
         if os.path.isfile(f"{ROOT}/{name}"):
             os.makedirs(os.path.dirname(f"{to}/{name}"), exist_ok=True)
             shutil.copy2(f"{ROOT}/{name}", f"{to}/{name}")
+    for crate in os.listdir(f"{ROOT}/crates"):
+        if os.path.isdir(f"{ROOT}/crates/{crate}/out/rlib"):
+            shutil.copytree(f"{ROOT}/crates/{crate}/out/rlib", f"{to}/crates/{crate}/out/rlib")
 
 
 def put(crate, to):
@@ -38,45 +44,40 @@ def put(crate, to):
     return {(crate, name.removesuffix(".edit")) for name in os.listdir(folder)}
 
 
-def alone(crates, to):
-    """Removes the edits of all other crates, so that only these are tried."""
-    for it in os.listdir(f"{to}/crates"):
-        if it not in crates:
-            shutil.rmtree(f"{to}/crates/{it}/must-fail", ignore_errors=True)
-
-
-def tried(crates, to):
-    """Tries the edits, with what is said of them on standard output, and returns what each came to."""
-    found = {}
-    process = subprocess.Popen(["rt", "ci", *crates], cwd=to, stdout=subprocess.PIPE, stderr=subprocess.STDOUT, text=True, errors="replace")
-    for line in process.stdout:
-        match = TRIED.match(line)
-        if match:
-            found[match[1], match[2]] = match[3]
-            print(line, end="", flush=True)
-        elif "NOT PROVED" in line:
-            print(line, end="", flush=True)
-    process.wait()
+def tried(crate, to):
+    """Tries a crate's edits, and returns what each came to, after it printed the prover's line on each."""
+    how = {"cwd": to, "stdin": subprocess.DEVNULL, "stdout": subprocess.PIPE, "stderr": subprocess.STDOUT}
+    said = subprocess.run(["rt", "must-fail", crate], text=True, errors="replace", **how).stdout
+    found = {(match[1], match[2]): match[3] for match in TRIED.finditer(said)}
+    lines = [match[0] for match in TRIED.finditer(said)] or said.splitlines()[-5:]
+    print("\n".join(lines), flush=True)
     return found
 
 
-def main():
-    known = sorted(os.listdir(EDITS))
-    crates = sys.argv[1:] or known
-    unknown = [it for it in crates if it not in known]
+def options(known):
+    reads = argparse.ArgumentParser(description="Tries the edits of checks/edits/: the prover has to refuse each.")
+    reads.add_argument("--jobs", type=int, default=len(os.sched_getaffinity(0)), help="how many crates side by side")
+    reads.add_argument("crates", nargs="*", metavar="CRATE", help="the crates whose edits are tried (all)")
+    read = reads.parse_args()
+    unknown = [it for it in read.crates if it not in known]
     if unknown:
-        print(f"edits.py: checks/edits/ has no folder {unknown[0]}", file=sys.stderr)
-        return 2
-    with tempfile.TemporaryDirectory(prefix="sts-edits-") as to:
+        reads.error(f"checks/edits/ has no folder {unknown[0]}")
+    return read.jobs, read.crates or known
+
+
+def main():
+    jobs, crates = options(sorted(os.listdir(EDITS)))
+    with tempfile.TemporaryDirectory(prefix="sts-edits-") as to, concurrent.futures.ThreadPoolExecutor(jobs) as pool:
         copy(to)
-        wanted = set().union(*[put(it, to) for it in crates])
-        alone(crates, to)
-        found = tried(crates, to)
-    for crate, name in sorted(wanted - set(found)):
+        expected = set().union(*[put(it, to) for it in crates])
+        found = {}
+        for it in pool.map(lambda crate: tried(crate, to), crates):
+            found.update(it)
+    for crate, name in sorted(expected - set(found)):
         print(f"{crate}/{name}: nothing was said of this edit")
-    passed = sum(found.get(it) == "refused" for it in wanted)
-    print(f"{passed} passed, {len(wanted) - passed} failed")
-    return passed < len(wanted)
+    passed = sum(found.get(it) == "refused" for it in expected)
+    print(f"{passed} passed, {len(expected) - passed} failed")
+    return passed < len(expected)
 
 
 if __name__ == "__main__":

@@ -23,7 +23,7 @@ LIMITS = {"steps": 1_000_000, "tasks": 65_536, "scopes": 65_536, "binds": 65_536
 PEAKS = ("tasks", "scopes", "binds")
 CAUSES = {
     "steps": ("V17", "steps on a path that ends here"),
-    "tasks": ("V18", "tasks stand here"),
+    "tasks": ("V18", "tasks count here"),
     "scopes": ("V19", "scopes are open here"),
     "binds": ("V20", "bindings are open here"),
 }
@@ -234,8 +234,8 @@ def adds_up(text, lines, weight, own):
 
 def main():
     reads = argparse.ArgumentParser(description=__doc__, formatter_class=argparse.RawDescriptionHelpFormatter)
-    built = f"{ROOT}/crates/sts_look/out/sts_look"
-    reads.add_argument("--program", default=built, help="the built program (crates/sts_look/out/sts_look)")
+    built = f"{ROOT}/crates/look/out/look"
+    reads.add_argument("--program", default=built, help="the built program (crates/look/out/look)")
     reads.add_argument("--seed", type=int, default=1, help="what the programs are drawn from (1)")
     reads.add_argument("--cases", type=int, default=1000, help="how many programs (1000)")
     reads.add_argument("--first", type=int, default=0, help="the number of the first one (0)")

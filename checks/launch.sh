@@ -26,14 +26,15 @@ case ${1-} in
     ;;
   --version)
     echo "$name $(cat "$root/VERSION")"
-    rt version 2> /dev/null || echo "the kit isn't here: there is no command rt"
-    echo "differences from JDK 25: docs/BEHAVIOUR.md"
+    rt version 2> /dev/null || echo "rt, the kit's command, is not installed, or not on PATH"
+    echo "differences from JDK 25: docs/JDK.md"
     exit 0
     ;;
   -h | --help | help)
-    # (a call for help starts no proof)
+    # A call for help starts no proof. `sts` writes help to standard error and `look` to standard output, as the programs do.
     if [ ! -x "$program" ] && [ $# = 1 ] && [ -f "$root/checks/help/$name.txt" ]; then
-      exec cat "$root/checks/help/$name.txt" >&2
+      [ "$name" = look ] || exec >&2
+      exec cat "$root/checks/help/$name.txt"
     fi
     ;;
 esac

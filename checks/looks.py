@@ -27,7 +27,7 @@ from documents import read
 ROOT = os.path.dirname(os.path.dirname(os.path.realpath(__file__)))
 sys.path.insert(0, os.path.join(ROOT, "docs", "pictures"))
 import drawn  # noqa: E402
-LOOK, STS = (os.path.join(ROOT, "crates", name, "out", name) for name in ("sts_look", "sts"))
+LOOK, STS = (os.path.join(ROOT, "crates", name, "out", name) for name in ("look", "sts"))
 SHOWN = re.compile(r"After the first (\d+) events of \[(\w+)\].*?:\n\n((?:    .*\n)+)")
 TOLD = re.compile(r"Told after the first (\d+) events of \[(\w+)\].*?:\n\n((?:    .*\n)+)")
 EXPLAINED = re.compile(r"\n\n((?:    .*\n)+)\n`explain` prints:\n\n((?:    .*\n)+)")
@@ -80,7 +80,7 @@ def by_lines(source, viewed):
     told = [first]
     for task, _, name, pc, stand, scope in living:
         waits = "".join(f" {other}" for other, under, *_ in living if under == scope)
-        stands = f"{stand} for{waits}" if scope else stand
+        stands = f"waits at {stand.split(' ')[1]} of scope {scope} for{waits}" if scope else stand
         told.append(f"task {task} in {place_words(source, name, int(pc))} ({stands})")
     return "".join(f"{line}\n" for line in told)
 

@@ -6,9 +6,11 @@ For n = 1, 2, .. until nothing is refused any more:
 - the nth request for memory is refused, or that and all later ones: the answer is `error memory` alone with status
   6, or the right one;
 - the nth read fails: `error file` alone with status 6;
-- the nth write fails: a beginning of the right answer with status 6, or `error file` alone where it was the journal's.
+- the nth write fails: a beginning of the right answer with status 6, or `error file` alone where it was the journal's, or
+  the right answer where it was the line on standard error that says why a text or an outside text is refused.
 Of `look draw` the right answer is what it draws where nothing is refused: what that should be is compared elsewhere.
-A run by workers may also say `error threads`, where what was refused was a worker's own.
+A run by workers says `error threads` where the start of a worker was refused, and may say so where the memory was that
+such a start asks for, and nowhere else. It starts as many workers as it is told to, with a journal and without.
 And all reads and writes take one byte at a time; or the output is full, closed, or read by nobody: status 6.
 Then the same for memory alone and for single calls, by the program CALLS (tests_alloc), which says what each answers:
 - each of the calls that lead to the one that is tried, and this one, finds no memory in turn; else the answer is right;
@@ -16,7 +18,8 @@ Then the same for memory alone and for single calls, by the program CALLS (tests
   program, or the same event, once more gives the right answer;
 - between `prepare`, or the start of a book, and the end of a whole run there is no request for memory.
 The refusals are those of refuse.c, which a C compiler makes a library that is loaded before the program as it was
-built; where there is none, that is said and nothing is run.  The last line is `N passed, M failed`, of runs.
+built; where there is no compiler, or the library can't be loaded, that is said, and the status is 1.
+The last line is `N passed, M failed`, of runs.
 """
 import collections
 import concurrent.futures
@@ -29,10 +32,17 @@ import tempfile
 
 HERE = os.path.dirname(os.path.realpath(__file__))
 BUILT = os.path.join(os.path.dirname(HERE), "crates")
-PROGRAM, CALLS, LOOK = (os.path.join(BUILT, name, "out", name) for name in ("sts", "tests_alloc", "sts_look"))
+PROGRAM, CALLS, LOOK = (os.path.join(BUILT, name, "out", name) for name in ("sts", "tests_alloc", "look"))
 NO_MEMORY, NO_FILE, NO_THREADS = (b"error memory\n", 6), (b"error file\n", 6), (b"error threads\n", 6)
 
-Case = collections.namedtuple("Case", "name words text trace answer status")
+# `others` are further answers that are right: of a run whose steps differ with the order of its tasks
+Case = collections.namedtuple("Case", "name words text trace answer status others", defaults=[()])
+
+
+def right_answers(case):
+    """What a case may answer where nothing is refused."""
+    return {(it, case.status) for it in (case.answer, *case.others)}
+
 
 
 def lines(short):
@@ -79,15 +89,10 @@ RUNS = [
     ("many scopes", MANY, "0*2 " + " ".join(f"0*2 {task}*2 0*4" for task in range(1, 1001)) + " 0*2", "success 5 / steps 8004", 0),
     ("a binding", BOUND, "0*4 1*2 0*4", "success 6 / steps 10", 0),
 ]
-VERDICTS = [
-    ("two subtasks", WORK, "work steps 4 / work tasks 1 / work scopes 0 / work binds 0 / main steps 21 / main tasks 3 / main scopes 1 / main binds 0", 0),
-    ("a binding", BOUND, "kid steps 2 / kid tasks 1 / kid scopes 0 / kid binds 0 / main steps 12 / main tasks 2 / main scopes 1 / main binds 1", 0),
+REFUSED_TEXTS = [
     ("a way back", "func main 0 / x: / jmp x / end", "refused V4 in main at 0: jmp L0", 4),
     ("an unknown word", "func main 0 / puhs 7 / ret / end", "error A2 line 2", 3),
 ]
-# the budgets of the programs that take the same steps in whichever order their tasks are taken
-BUDGETS = {name: answer for name, _, answer, status in VERDICTS if status == 0}
-LISTED = "func main 0\n  push 7\n  ret\nend\n"
 # of each function its name, and the most steps, tasks, scopes and bindings; and how the root ends with no event from outside
 ROWS = {
     "two subtasks": ("work 4 1 0 0 / main 21 3 1 0", "success 42"),
@@ -96,8 +101,17 @@ ROWS = {
     "many scopes": ("kid 2 1 0 0 / main 9004 2 1 0", "success 5"),
     "a binding": ("kid 2 1 0 0 / main 12 2 1 1", "success 6"),
 }
-# no task has the first number, and no scope of a text that is run with these is timed: they change nothing
-DUES = "at 0 interrupt 77 / at 3 expire 0"
+# no task of a text that is run with these has the first number, and no scope the second: they change nothing
+DUES = "at 0 interrupt 7777 / at 3 expire 7777"
+# How a run by workers ends, and its steps: as many in whichever order the tasks are taken, but for "a failure". There `main`
+# takes 5 steps and 1 or 2 of its `close`, `boom` 2, `mid` 5 and 1 or 2 of its `close`, and the leaf 4 or 5.
+ENDS = {
+    "two subtasks": ("success 42", [20]),
+    "a timeout": ("success 1", [8]),
+    "a failure": ("failed 8", range(18, 22)),
+    "many scopes": ("success 5", [8004]),
+    "a binding": ("success 6", [10]),
+}
 # What `look` says after these events of "a timeout", whose subtask is at its `ret` as the time is up.
 SEEN = "0*2 1*1 x0"
 EXPIRED = "task 1 under 0 in kid at 1 ready interrupted"
@@ -126,8 +140,8 @@ EXPLAINED = [
     (
         "two ways that differ",
         "func main 0 / push 1 / jz x / push 2 / x: / push 3 / ret / end",
-        "refused V7 in main, line 6: push 3 / two ways meet here, or two turns of a loop, and what is known of the task differs / "
-        "operands: 0 on the way from line 3 (it was 0); 1 on the way from line 4",
+        "refused V7 in main, line 6: push 3 / two ways meet here, or a loop turns, with different stack, loops, scopes or slots / "
+        "operands: 0 on the way from line 3 (jumps: it was 0); 1 on the way from line 4",
         4,
     ),
     (
@@ -142,8 +156,8 @@ EXPLAINED = [
     (
         "a word that is missing",
         "func main 0 / push 1 / case s1 yes / end",
-        "error A4, line 3: case s1 yes / an operand is missing, of another kind, left over or badly spelled / "
-        "at case s1 yes []: wanted is the label for failed",
+        "error A4, line 3: case s1 yes / an operand is missing, extra, misspelled or of the wrong kind / "
+        "at case s1 yes []: expected the label for failed",
         3,
     ),
 ]
@@ -151,14 +165,25 @@ UNCHANGED = b"refused, unchanged\n"
 FROM_HERE, TO_HERE = b"from here\n", b"to here\n"
 
 
-def runs(name, text, answer, status):
+def budgets(name):
+    """What `verify` prints of a row."""
+    found = b""
+    for row in ROWS[name][0].split(" / "):
+        function, *most = row.split()
+        found += b"".join(f"{function} {what} {it}\n".encode() for what, it in zip(("steps", "tasks", "scopes", "binds"), most))
+    return found
+
+
+def runs(name, text, status):
     """A run by workers with a journal and without one, and so with events from outside, in the place of a trace."""
+    end, steps = ENDS[name]
+    answer, *others = [budgets(name) + lines(f"{end} / steps {it}") for it in steps]
     for journal, said in ([], ""), (["--trace", "journal"], " with a journal"):
         for workers in ("1", "3"):
             words = ["run", "text", "--workers", workers, *journal]
-            yield Case(f"run by {workers}{said}: {name}", words, lines(text), None, answer, status)
+            yield Case(f"run by {workers}{said}: {name}", words, lines(text), None, answer, status, others)
         words = ["run", "text", "--workers", "2", "--outside", "trace", *journal]
-        yield Case(f"run with outside events{said}: {name}", words, lines(text), lines(DUES), answer, status)
+        yield Case(f"run with outside events{said}: {name}", words, lines(text), lines(DUES), answer, status, others)
 
 
 def cases():
@@ -167,13 +192,13 @@ def cases():
         for mode in ("plain", "replay"):
             yield Case(f"{mode}: {name}", [mode, "text", "trace"], lines(text), events(trace), lines(answer), status)
         yield Case(f"joined: {name}", [], None, lines(text) + b"%\n" + events(trace), lines(answer), status)
-        if name in BUDGETS:
-            yield from runs(name, text, lines(BUDGETS[name]) + lines(answer), status)
-    for name, text, answer, status in VERDICTS:
+        yield from runs(name, text, status)
+        yield Case(f"verify: {name}", ["verify", "text"], lines(text), None, budgets(name), 0)
+        yield Case(f"list: {name}", ["list", "text"], lines(text), None, listed(text), 0)
+    for name, text, answer, status in REFUSED_TEXTS:
         yield Case(f"verify: {name}", ["verify", "text"], lines(text), None, lines(answer), status)
-    yield Case("list", ["list", "text"], LISTED.encode(), None, LISTED.encode(), 0)
     words = ["run", "text", "--workers", "2"]
-    yield Case("run: a way back", words, lines(VERDICTS[2][1]), None, lines(VERDICTS[2][2]), 4)
+    yield Case("run: a way back", words, lines(REFUSED_TEXTS[0][1]), None, lines(REFUSED_TEXTS[0][2]), 4)
     faulty, answer = b"at 0 stop 1\n", b"error T1 line 1\n"
     yield Case("run: an outside text with a fault", [*words, "--outside", "trace"], lines(WORK), faulty, answer, 3)
     for name, words, status in (("help", ["--help"], 0), ("an unknown command", ["plane", "text"], 2), ("a missing file", ["replay", "text"], 2)):
@@ -189,7 +214,9 @@ def looks(look):
         yield Case(f"explain: {name}", ["explain", "text"], lines(of_text), None, lines(answer), status)
     yield Case("explain: a run", ["explain", "text", "trace"], text, trace, lines(TOLD), 5)
     yield Case("draw", ["draw", "text", "trace"], text, trace, picture(look, text, trace), 5)
-    for name, words, status in (("help", ["--help"], 0), ("an unknown command", ["veiw", "text"], 2), ("a missing file", ["draw", "text"], 2)):
+    with open(os.path.join(HERE, "help", "look.txt"), "rb") as stored:
+        yield Case("look: help", ["--help"], None, None, stored.read(), 0)
+    for name, words, status in (("an unknown command", ["veiw", "text"], 2), ("a missing file", ["draw", "text"], 2)):
         yield Case(f"look: {name}", words, None, None, b"", status)
 
 
@@ -265,7 +292,7 @@ def compiler():
 def library_in(folder):
     """Makes refuse.c a library in this folder."""
     library = os.path.join(folder, "refuse.so")
-    subprocess.run([compiler(), "-O1", "-shared", "-fPIC", "-o", library, os.path.join(HERE, "refuse.c")], check=True)
+    subprocess.run([compiler(), "-O1", "-shared", "-fPIC", "-o", library, os.path.join(HERE, "refuse.c"), "-ldl"], check=True)
     return library
 
 
@@ -300,29 +327,68 @@ class Refusing:
         return (done.stdout, done.returncode), refused
 
 
-def is_right(kind, answer, case):
-    """Is it an answer to a case in which something of this kind was refused?"""
+def told_of(what, told):
+    """The two numbers of each line of `count` of this kind: `write` or `thread`."""
+    rows = [it.split() for it in told.decode().splitlines()]
+    return [(int(first), int(second)) for kind, first, second in rows if kind == what]
+
+
+def own_requests(refusing, case):
+    """How many requests for memory belong to the start of a worker before its thread is started: those between two starts."""
+    _, told = refusing.run(case._replace(words=["run", "text", "--workers", "2"]), "count")
+    (_, after), (before, _) = told_of("thread", told)
+    return before - after
+
+
+def starts(refusing, case):
+    """The numbers of the requests for memory that belong to the starts of workers."""
+    if case.words[:1] != ["run"]:
+        return set()
+    _, told = refusing.run(case, "count")
+    threads = told_of("thread", told)
+    own = own_requests(refusing, case) if threads else 0
+    return {n for before, after in threads for n in range(before - own + 1, after + 1)}
+
+
+def is_right(kind, answer, case, is_start):
+    """Is it an answer to a case in which something of this kind was refused, perhaps what the start of a worker asked for?"""
     if kind == "memory":
-        return answer in (NO_MEMORY, (case.answer, case.status), *([NO_THREADS] if case.words[:1] == ["run"] else []))
+        return answer == NO_MEMORY or answer in right_answers(case) or is_start and answer == NO_THREADS
+    if kind == "thread":
+        return answer == NO_THREADS
     if kind == "read":
         return answer == NO_FILE
-    return ("journal" in case.words and answer == NO_FILE) or answer[1] == 6 and case.answer.startswith(answer[0])
+    if case.status > 2 and answer in right_answers(case):
+        return True  # (the whole answer was written, and the line on standard error was not)
+    begins = any(it.startswith(answer[0]) for it, _ in right_answers(case))
+    return ("journal" in case.words and answer == NO_FILE) or answer[1] == 6 and begins
 
 
 def refusals(refusing, case, kind, later=""):
     """Yields for each n whether the answer is right where the nth request of this kind is refused."""
+    of_starts = starts(refusing, case) if kind == "memory" else ()
     for n in itertools.count(1):
         answer, refused = refusing.run(case, f"{kind}:{n}{later}")
-        right = is_right(kind, answer, case) if refused else answer == (case.answer, case.status)
+        right = is_right(kind, answer, case, n in of_starts) if refused else answer in right_answers(case)
         yield right, f"{kind}:{n}{later}", answer
         if not refused:
             return
 
 
+def workers(refusing, case):
+    """Yields of each number of workers whether a run starts as many threads, with a journal and without one."""
+    for count in (1, 2, 3, 4, 8, 16):
+        for journal in ([], ["--trace", "journal"]):
+            words = ["run", "text", "--workers", str(count), *journal]
+            answer, told = refusing.run(case._replace(words=words), "count")
+            found = len(told_of("thread", told))
+            yield answer in right_answers(case) and found == count, f"{count} workers {journal}", (answer, found)
+
+
 def outputs(refusing, case):
     """Yields the same for one byte at a time, and for an output that is full, closed, or read by nobody."""
     answer, _ = refusing.run(case, "short")
-    yield answer == (case.answer, case.status), "short", answer
+    yield answer in right_answers(case), "short", answer
     if not case.answer:
         return
     reader, nobody = os.pipe()
@@ -338,6 +404,10 @@ def tried(refusing, case):
     for kind, later in (("memory", ""), ("memory", "+"), ("read", ""), ("write", "")):
         yield from refusals(refusing, case, kind, later)
     yield from outputs(refusing, case)
+    if case.words[:1] == ["run"] and case.status < 2:
+        yield from refusals(refusing, case, "thread")
+    if case.words == ["run", "text", "--workers", "3"]:
+        yield from workers(refusing, case)
 
 
 def without_memory(call, answer):
@@ -371,8 +441,7 @@ def asks_nothing(refusing, call):
     """Yields whether no request for memory comes between the two marks, which are two writes."""
     answer, told = refusing.run(call.case, "count")
     counts, written = {}, 0
-    for line in told.splitlines():
-        requests, size = map(int, line.split())
+    for requests, size in told_of("write", told):
         counts[answer[0][written : written + size]] = requests
         written += size
     asked = [counts.get(mark) for mark in (FROM_HERE, TO_HERE)]
@@ -412,14 +481,14 @@ def main():
             print(f"memory.py: no program at {program}: ./sts, ./look, and rt run in crates/tests_alloc build them", file=sys.stderr)
             return 2
     if not compiler():
-        print("memory.py: NOT RUN, NOTHING WAS REFUSED: there is no C compiler (cc, gcc or clang)", file=sys.stderr)
-        return 0
+        print("memory.py: FAILED, nothing was refused: there is no C compiler (cc, gcc or clang)", file=sys.stderr)
+        return 1
     passed = failed = 0
     with tempfile.TemporaryDirectory() as folder:
         library = library_in(folder)
         if not Refusing(programs[0], library, folder).works():
-            print("memory.py: NOT RUN, NOTHING WAS REFUSED: refuse.so can't be loaded before the program here", file=sys.stderr)
-            return 0
+            print("memory.py: FAILED, nothing was refused: refuse.so can't be loaded before the program here", file=sys.stderr)
+            return 1
         for name, right, wrong in answered(programs, library):
             passed, failed = passed + right, failed + len(wrong)
             print(f"{name}: {right + len(wrong)} runs")

@@ -1,10 +1,15 @@
 /* Stands before a program and refuses what it asks of the system, as the environment says:
      REFUSE=memory:3    the third request for memory; read:3 and write:3 the third read and write
      REFUSE=memory:3+   the third and all later ones
+     REFUSE=thread:2    the start of the second thread
      REFUSE=short       nothing, but each read and write takes one byte at a time
-   Where something was refused, a byte goes to the file descriptor that REFUSED names. */
+     REFUSE=count       nothing
+   Where something was refused, a byte goes to the file descriptor that REFUSED names; under `count` a line for each write,
+   with the requests for memory before it and its size, and one for each thread, with the requests before and after its start. */
 #define _GNU_SOURCE
+#include <dlfcn.h>
 #include <errno.h>
+#include <pthread.h>
 #include <stdio.h>
 #include <stdlib.h>
 #include <string.h>
@@ -30,13 +35,13 @@ static size_t taken(size_t count) {
   return count && said && !strcmp(said, "short") ? 1 : count;
 }
 
-static unsigned long requests, reads, writes;
+static unsigned long requests, reads, writes, threads;
 
-static void tell_requests(size_t count) {
+static void tell(const char *what, unsigned long before, unsigned long value) {
   const char *said = getenv("REFUSE"), *to = getenv("REFUSED");
   char line[64];
   if (!said || strcmp(said, "count") || !to) return;
-  syscall(SYS_write, atoi(to), line, snprintf(line, sizeof line, "%lu %zu\n", requests, count));
+  syscall(SYS_write, atoi(to), line, snprintf(line, sizeof line, "%s %lu %lu\n", what, before, value));
 }
 
 void *malloc(size_t size) { return refuses("memory", ++requests, ENOMEM) ? 0 : __libc_malloc(size); }
@@ -48,6 +53,15 @@ ssize_t read(int file, void *to, size_t count) {
 }
 
 ssize_t write(int file, const void *from, size_t count) {
-  tell_requests(count);
+  tell("write", requests, count);
   return refuses("write", ++writes, EIO) ? -1 : syscall(SYS_write, file, from, taken(count));
+}
+
+int pthread_create(pthread_t *thread, const pthread_attr_t *attributes, void *(*start)(void *), void *argument) {
+  int (*create)(pthread_t *, const pthread_attr_t *, void *(*)(void *), void *) = dlsym(RTLD_NEXT, "pthread_create");
+  unsigned long before = requests;
+  if (refuses("thread", ++threads, EAGAIN)) return EAGAIN;
+  int answer = create(thread, attributes, start, argument);
+  tell("thread", before, requests);
+  return answer;
 }

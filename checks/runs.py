@@ -5,7 +5,11 @@ README.md: `run` of `sum` by 1 to 16 workers prints what `verify` prints and the
 and `replay` of the journal prints these two again. examples/README.md: `deadline` with its outside events ends with
 `success 0`. LANGUAGE.md: what its first text prints. PATTERNS.md: each program comes to an end that is shown, `plain`
 and `replay` print what is shown of each trace, and files from other editors are judged as is shown. The lines for a shell
-that PATTERNS.md, LANGUAGE.md and VERIFIER.md show do what is said of them.  The last line is `N passed, M failed`, of runs.
+that PATTERNS.md, LANGUAGE.md and VERIFIER.md show do what is said of them.
+
+Beside what is shown: programs of one task with outside events, whose ends and journals follow from when an event is due;
+a long loop; and a scope of 65,535 subtasks in a text of 1,048,576 bytes. Each of these is run with a journal and without.
+The last line is `N passed, M failed`, of runs.
 """
 import os
 import re
@@ -23,6 +27,7 @@ END = "success 50\nsteps 24\n"
 WORKERS = ("1", "2", "4", "16")
 PATTERNS = "docs/PATTERNS.md"
 SEVEN, TWO_STEPS, DUE_ONCE = b"func main 0\npush 7\nret\nend\n", b"step 0\nstep 0\n", b"at 1 interrupt 0\n"
+SECONDS = 120
 MARK = b"\xef\xbb\xbf"
 # What a table of PATTERNS.md describes in words: the bytes of a program, a trace or none, an outside text or none.
 FILES = {
@@ -35,8 +40,56 @@ FILES = {
 }
 
 
+# Programs of one task. Before each of its turns outside events are taken, so the place of each in the journal is known.
+TIMED = b"func main 0\nopen s0 awaitall timed\njoin s0 - late intr\nclose s0\npush 1\nret\n" \
+    b"late:\nclose s0\npush 2\nret\nintr:\nclose s0\npush 3\nret\nend\n"
+ASKS = b"func main 0\ninterrupted\nret\nend\n"
+# 2 + 8 * (2 + 10,000 + 1) = 80,026 steps, and then it asks for its flag
+LONG = b"func main 0\npush 8\ntimes 8\npush 10000\ntimes 10000\nnext\nnext\ninterrupted\nret\nend\n"
+# An outside text, the end of the run, and its journal: `s` is a step, `i7` an interrupt of task 7, `x0` an expiry of scope 0.
+# An event is due when the journal has at least as many entries as its line says. It holds back those after it.
+# The expiry counts behind the `open` and before the `join`, and then the end is 2.
+OUTSIDES = [
+    (TIMED, "", "success 1", "s*5"),
+    (TIMED, "at 0 x0", "success 1", "x0 s*5"),
+    (TIMED, "at 1 x0", "success 2", "s x0 s*4"),
+    (TIMED, "at 2 x0", "success 1", "s*2 x0 s*3"),
+    # an event is an entry whether it counts or not, so the second one is due after one step
+    (TIMED, "at 0 i77, at 2 x0", "success 2", "i77 s x0 s*4"),
+    (TIMED, "at 0 i0, at 2 x0", "success 2", "i0 s x0 s*4"),
+    (TIMED, "at 0 i77, at 3 x0", "success 1", "i77 s*2 x0 s*3"),
+    (TIMED, "at 0 i0, at 3 x0", "success 1", "i0 s*2 x0 s*3"),
+    # events that are due at once come in the order of their lines
+    (TIMED, "at 1 i0, at 1 x0", "success 2", "s i0 x0 s*4"),
+    (TIMED, "at 1 x0, at 0 i0", "success 2", "s x0 i0 s*4"),
+    # the second one would be due before, and is held back
+    (TIMED, "at 2 i77, at 1 x0", "success 1", "s*2 i77 x0 s*3"),
+    (TIMED, "at 3 i77, at 0 x0", "success 1", "s*3 i77 x0 s*2"),
+    (TIMED, "at 99 i77, at 1 x0", "success 1", "s*5"),
+    (ASKS, "at 0 i0", "success 1", "i0 s*2"),
+    (ASKS, "at 1 i0", "success 0", "s i0 s"),
+    # what is due when the root ends is recorded
+    (ASKS, "at 2 i0", "success 0", "s*2 i0"),
+    (ASKS, "at 3 i0", "success 0", "s*2"),
+    (LONG, "at 80026 i0", "success 1", "s*80026 i0 s*2"),
+    (LONG, "at 80027 i0", "success 0", "s*80027 i0 s"),
+]
+# Where instructions are done in a slice, an event may come later than it is due, but before `interrupted`.
+LATE = ["at 65535 i0", "at 65536 i0", "at 70000 i0"]
+# 2 + 90 * (2 + 10,000 + 1) + 2 steps
+LONGEST = LONG.replace(b" 8\n", b" 90\n")
+# 1 + 15 * (2 + 4,369 * 2 + 1) + 2 steps of the subtasks' owner up to the join, 65,535 * 2 of the subtasks, and 3
+CROWD = b"func kid 0\npush 0\nret\nend\nfunc main 0\nopen s0 all\npush 15\ntimes 15\npush 4369\ntimes 4369\nfork s0 kid _\nnext\nnext\n" \
+    b"join s0 bad - intr\nclose s0\nret\nbad:\nclose s0\nfail\nintr:\npush 0\nclose s0\nfail\nend\n"
+MOST = 1_048_576  # The bytes that a text may have.
+
+
 def says(program, *words):
-    done = subprocess.run([program, *words], stdin=subprocess.DEVNULL, capture_output=True, text=True, timeout=120)
+    """Returns what is printed; nothing where the program doesn't end."""
+    try:
+        done = subprocess.run([program, *words], stdin=subprocess.DEVNULL, capture_output=True, text=True, timeout=SECONDS)
+    except subprocess.TimeoutExpired:
+        return ""
     return done.stdout
 
 
@@ -100,7 +153,7 @@ def by_shell(program, folder, lines, text):
     for name, path in ("sts", program), ("checks", f"{ROOT}/checks"):
         if not os.path.lexists(f"{folder}/{name}"):
             os.symlink(os.path.realpath(path), f"{folder}/{name}")
-    done = subprocess.run(["bash", "-c", lines], cwd=folder, capture_output=True, text=True, timeout=120)
+    done = subprocess.run(["bash", "-c", lines], cwd=folder, capture_output=True, text=True, timeout=SECONDS)
     return done.stdout + done.stderr
 
 
@@ -132,8 +185,71 @@ def shell_lines(program, folder):
         yield f"VERIFIER.md: {places}", right
 
 
+def event(short):
+    """Returns the words of an event: `x0` is `expire 0`."""
+    return {"i": "interrupt", "x": "expire"}[short[0]] + f" {short[1:]}"
+
+
+def outside_text(short):
+    """Returns an outside text: `at 1 x0` is the line `at 1 expire 0`."""
+    lines = [it.rsplit(" ", 1) for it in short.split(", ") if it]
+    return "".join(f"{due} {event(it)}\n" for due, it in lines).encode()
+
+
+def journal_text(short):
+    """Returns the text of a journal: `s*2` is `step 0` twice."""
+    found = []
+    for word in short.split():
+        step, _, count = word.partition("*")
+        found += ["step 0"] * int(count or 1) if step == "s" else [event(word)]
+    return "".join(f"{it}\n" for it in found)
+
+
+def with_outside(program, folder, text, short, workers):
+    """Returns what a run says beside the budgets, with a journal and without one, and the journal."""
+    file, outside, journal = kept(folder, "text", text), kept(folder, "outside", outside_text(short)), os.path.join(folder, "journal")
+    words = ["run", file, "--workers", workers, *(["--outside", outside] if short else [])]
+    budgets = says(program, "verify", file)
+    said = [says(program, *words, *more).removeprefix(budgets) for more in ([], ["--trace", journal])]
+    return said, read_all(journal)
+
+
+def read_all(path):
+    """Returns what a file has, if it is there."""
+    return open(path).read() if os.path.exists(path) else ""
+
+
+def outsides(program, folder):
+    """Yields of each row with outside events whether its end and its journal come of it, by one worker and by four."""
+    for text, short, end, entries in OUTSIDES:
+        right = journal_text(entries)
+        printed = f"{end}\nsteps {right.count('step')}\n"
+        for workers in ("1", "4"):
+            said, journal = with_outside(program, folder, text, short, workers)
+            yield f"{short!r} by {workers}, {end}", said == [printed, printed] and journal == right
+    for short in LATE:
+        said, journal = with_outside(program, folder, LONG, short, "2")
+        yield f"{short!r}", said == ["success 1\nsteps 80028\n"] * 2
+        before = journal.split("interrupt")[0].count("\n")
+        yield f"the place of {short!r}", int(short.split()[1]) <= before <= 80026 and journal.count("\n") == 80029
+
+
+def largest(program, folder):
+    """Yields whether long runs and a crowd come to their ends, in a minute or two, with a journal and without."""
+    journal, printed = os.path.join(folder, "journal"), "success 65535\nsteps 262191\n"
+    longest, crowd = kept(folder, "longest", LONGEST), kept(folder, "crowd", CROWD + b";" * (MOST - len(CROWD) - 1) + b"\n")
+    for more in ([], ["--trace", journal]):
+        said = says(program, "run", longest, "--workers", "2", *more)
+        yield f"the longest loop {more}", said.endswith("binds 0\nsuccess 0\nsteps 900274\n")
+        said = says(program, "run", crowd, "--workers", "4", *more)
+        yield f"the crowd {more}", said.endswith(f"main tasks 65536\nmain scopes 1\nmain binds 0\n{printed}")
+    yield "the journal of the crowd", says(program, "replay", crowd, journal) == printed
+
+
 def tried(program, folder):
     """Yields for each run what it is and whether it prints what it should."""
+    yield from outsides(program, folder)
+    yield from largest(program, folder)
     yield from first_text(program, folder)
     yield from patterns(program, folder)
     yield from files(program, folder)
@@ -158,7 +274,7 @@ def main():
         for what, right in tried(program, folder):
             passed, failed = passed + right, failed + (not right)
             if not right:
-                print(f"{what}: not what the documents show", file=sys.stderr)
+                print(f"{what}: not what is expected", file=sys.stderr)
     print(f"{passed} passed, {failed} failed")
     return 1 if failed else 0
 

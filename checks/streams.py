@@ -6,19 +6,24 @@ without end is too long (`error A8`, status 3): no more of it is read than a tex
 text or an input without end is read until there is no memory (`error memory`, status 6). Where standard output, or
 standard error for help and mistakes, is full, closed or read by nobody, the status is 6, and the journal of a run is
 whole. A journal that can't be made or written is told (`error file`, status 6); one of a run that never begins is made
-and stays empty, but where a file that is read first can't be.
+and stays empty, but where a file that is read first can't be. A journal that is a file that the run reads, also by another
+path or a link, is refused in the same way, and all files stay as they were. Where standard error can't be written, the
+output and the status of a failure are the same. Standard input is `-` for `look`, and for `sts` at a terminal it says that
+it waits.
 The last line is `N passed, M failed`, of runs.
 """
 import contextlib
 import itertools
 import os
+import pty
 import resource
+import shutil
 import subprocess
 import sys
 import tempfile
 
 ROOT = os.path.dirname(os.path.dirname(os.path.realpath(__file__)))
-PROGRAM, LOOK = (os.path.join(ROOT, "crates", name, "out", name) for name in ("sts", "sts_look"))
+PROGRAM, LOOK = (os.path.join(ROOT, "crates", name, "out", name) for name in ("sts", "look"))
 SUM, TRACE, DEADLINE, DUE = (
     os.path.join(ROOT, "examples", name) for name in ("sum.sts", "sum.trace", "deadline.sts", "deadline.outside")
 )
@@ -114,10 +119,17 @@ def unwritten(program, look, folder):
                 yield f"{words}, output {what}", answer(name, words, **around), FAILED
         yield f"a run, output {what}", answer(program, ["run", SUM, *workers, "--trace", journal], **around), FAILED
         yield f"its journal, output {what}", answer(program, ["replay", SUM, journal]), END
+    for what, around in broken("stdout"):
+        for words in (["--help"], ["view", "--help"], ["help"]):
+            yield f"look {words}, output {what}", answer(look, words, **around), FAILED
     for what, around in broken("stderr"):
-        for name, told in (program, ["run", "plane"]), (look, ["draw", "veiw"]):
-            for words in (["--help"], [told[0], "--help"], [told[1]]):
+        for name, failing in (program, (["--help"], ["run", "--help"], ["plane"])), (look, (["veiw"],)):
+            for words in failing:
                 yield f"{words}, errors {what}", answer(name, words, **around), FAILED
+        missing = os.path.join(folder, "missing")
+        for name, words in (program, ["verify", missing]), (program, ["plain", SUM, missing]), (look, ["explain", missing]):
+            yield f"{words}, errors {what}", answer(name, words, **around), NO_FILE
+        yield f"a faulty trace, errors {what}", answer(program, ["plain", SUM, SUM], **around), ("error T1 line 1\n", 3)
 
 
 def journals(program, folder):
@@ -137,6 +149,103 @@ def journals(program, folder):
         yield f"its journal: {words}", os.path.exists(journal), False
 
 
+def overwriting(program, folder):
+    """Yields the same for journals that are the text or the outside text by some name, and whether all files are as before."""
+    room = os.path.join(folder, "room")
+    os.mkdir(room)
+    text, due = os.path.join(room, "text"), os.path.join(room, "due")
+    for name, copied in ((text, DEADLINE), (due, DUE)):
+        shutil.copy(copied, name)
+        os.symlink(name, f"{name}.symbolic")
+        os.link(name, f"{name}.hard")
+    os.symlink(room, os.path.join(folder, "way"))
+    before = contents(room)
+    options = ["--workers", "2", "--outside", due, "--trace"]
+    for name in (text, due):
+        base = os.path.basename(name)
+        others = (f"{room}/./{base}", f"{room}/../room/{base}", f"{folder}/way/{base}", os.path.relpath(name))
+        for path in (name, f"{name}.symbolic", f"{name}.hard", *others):
+            yield f"a journal at {path!r}", answer(program, ["run", text, *options, path]), NO_FILE
+            yield f"all files after a journal at {path!r}", contents(room), before
+    yield "a journal that is all", answer(program, ["run", text, "--workers", "2", "--outside", text, "--trace", text]), NO_FILE
+    yield "all files after that", contents(room), before
+    with open(text) as given:
+        words = ["run", "/dev/stdin", *options, text]
+        yield "a journal that is standard input", answer(program, words, given), NO_FILE
+    yield "all files after standard input", contents(room), before
+    # A device has no bytes to lose, and another file may be replaced.
+    words = ["run", SUM, "--workers", "2", "--outside", "/dev/null", "--trace"]
+    for path in ("/dev/null", f"{text}.hard"):
+        answer(program, [*words, path])
+    yield "a journal at another file", answer(program, ["replay", SUM, text]), END
+    yield "a journal at a device", answer(program, [*words, "/dev/null"])[1], 0
+
+
+def told(program, words, given=subprocess.DEVNULL):
+    """What is written to standard error."""
+    ran = subprocess.run([program, *words], stdin=given, capture_output=True, timeout=SECONDS)
+    return ran.stderr.decode(errors="replace")
+
+
+def reasons(program, look, folder):
+    """Yields the same for the line that says why, and for standard input that a person or `-` gives."""
+    missing, locked, bad, text = (os.path.join(folder, name) for name in ("missing", "locked", "bad", "text"))
+    for path, content in ((bad, "step 0\n step\n"), (text, FAULTY[0])):
+        with open(path, "w") as file:
+            file.write(content)
+    os.symlink(locked, locked)
+    rows = [
+        (["verify", missing], f"cannot read {missing}: there is no such file"),
+        (["verify", folder], f"cannot read {folder}: it is a directory"),
+        (["plain", SUM, folder], f"cannot read {folder}: it is a directory"),
+        (["verify", os.path.join(SUM, "x")], f"cannot read {SUM}/x: a part of its path is no directory"),
+        (["verify", "-"], "cannot read -: there is no such file (standard input is /dev/stdin)"),
+        (["verify", locked], f"cannot read {locked}: the system reports an error"),
+        (["run", SUM, "--workers", "2", "--trace", folder], f"cannot write {folder}: it is a directory"),
+        (["run", SUM, "--workers", "2", "--trace", "/dev/full"], "cannot write /dev/full: no space is left"),
+        (["run", SUM, "--workers", "2", "--trace", SUM], f"cannot write {SUM}: this run reads that file"),
+        (["verify", text], f'{text}, line 2: "puhs 7"; ./look explain FILE says more'),
+        (["plain", SUM, bad], f'{bad}, line 2: " step"; ./look explain FILE TRACE says more'),
+        (["run", SUM, "--workers", "2", "--outside", bad], f'{bad}, line 1: "step 0"'),
+    ]
+    for words, line in rows:
+        yield f"why {words}", told(program, words), f"sts: {line}\n"
+    yield "why by look", told(look, ["view", missing, TRACE]), f"look: cannot read {missing}: there is no such file\n"
+    for words in (["verify", SUM], ["plain", SUM, TRACE]):
+        yield f"nothing of {words}", told(program, words), ""
+    for words in (["explain", "-"], ["view", "-", TRACE], ["draw", "-", TRACE], ["explain", "-", TRACE]):
+        with open(SUM) as given:
+            yield f"{words}", answer(look, words, given), answer(look, [SUM if it == "-" else it for it in words])
+    with open(TRACE) as given:
+        yield "a trace at -", answer(look, ["view", SUM, "-"], given), answer(look, ["view", SUM, TRACE])
+    for words in (["--help"], ["help"], ["draw", "--help"]):
+        printed, status = answer(look, words)
+        yield f"look {words}", (status, "Usage: " in printed, told(look, words)), (0, True, "")
+    yield "a terminal", at_terminal(program, []), ("sts: waits for a text, a line % and a trace on standard input", 5)
+    yield "a terminal and a file", at_terminal(program, ["plain", SUM, TRACE]), ("", 0)
+
+
+def at_terminal(program, words):
+    """Returns what a program that reads a terminal says first, up to a semicolon, and its status at the terminal's end."""
+    ours, its = pty.openpty()
+    os.write(ours, b"func main 0\nret\nend\n\x04\x04")
+    try:
+        ran = subprocess.run([program, *words], stdin=its, capture_output=True, timeout=SECONDS)
+        return ran.stderr.decode().split(";")[0], ran.returncode
+    finally:
+        os.close(ours)
+        os.close(its)
+
+
+def contents(folder):
+    """Returns the bytes of each file of a folder."""
+    found = {}
+    for name in os.listdir(folder):
+        with open(os.path.join(folder, name), "rb") as file:
+            found[name] = file.read()
+    return found
+
+
 def main():
     program, look = map(os.path.realpath, [*sys.argv[1:], *(PROGRAM, LOOK)[len(sys.argv) - 1 :]])
     for it in (program, look):
@@ -145,7 +254,7 @@ def main():
             return 2
     passed = failed = 0
     with tempfile.TemporaryDirectory() as folder:
-        tried = itertools.chain(unended(program, look), unwritten(program, look, folder), journals(program, folder))
+        tried = itertools.chain(unended(program, look), unwritten(program, look, folder), journals(program, folder), overwriting(program, folder), reasons(program, look, folder))
         for what, said, right in tried:
             passed, failed = passed + (said == right), failed + (said != right)
             if said != right:

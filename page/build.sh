@@ -1,5 +1,5 @@
 #!/usr/bin/env bash
-# Builds the page: proves crate sts_page, compiles it to WebAssembly, and writes page/out/index.html, a single file.
+# Builds the page: proves crate look_page, compiles it to WebAssembly, and writes page/out/index.html, a single file.
 #   page/build.sh
 # The kit compiles nothing to wasm64 yet that takes memory. So it builds the proved library for x86-64; the LLVM module
 # that it hands to its clang on the way is kept; retarget.py makes one for wasm64 of that; and the kit's clang and linker
@@ -15,14 +15,14 @@ trap 'rm -rf "$work"' EXIT
 mkdir -p "$out"
 
 proved() {
-  (cd "$root/crates/sts_page" && "$work/kit/bin/rt" lib > "$out/build.log" 2>&1) || {
+  (cd "$root/crates/look_page" && "$work/kit/bin/rt" lib > "$out/build.log" 2>&1) || {
     tail -n 5 "$out/build.log" >&2
     return 1
   }
 }
 
 exports() {
-  sed -n 's/^pub extern "C" fn \(\w*\).*/\1/p' "$root/crates/sts_page/src/lib.rt"
+  sed -n 's/^pub extern "C" fn \(\w*\).*/\1/p' "$root/crates/look_page/src/lib.rt"
 }
 
 # The words that the kit hands to its clang for wasm64.

@@ -28,7 +28,7 @@ import browser
 HERE = os.path.dirname(os.path.realpath(__file__))
 ROOT = os.path.dirname(HERE)
 PAGE = os.path.join(HERE, "out", "index.html")
-STS, LOOK = (os.path.join(ROOT, "crates", name, "out", name) for name in ("sts", "sts_look"))
+STS, LOOK = (os.path.join(ROOT, "crates", name, "out", name) for name in ("sts", "look"))
 EXAMPLES = sorted(glob.glob(os.path.join(ROOT, "examples", "*.sts")))
 NAMES = [os.path.basename(it) for it in EXAMPLES]
 LOOK_PAGE = os.path.join(ROOT, "docs", "LOOK.md")

@@ -10,7 +10,7 @@ mod rounds;
 
 use std::io;
 use std::time::Instant;
-use sts_tree::tree::Tree;
+use sts_tree::Tree;
 
 /// The two numbers of a line.
 fn numbers(line: &str) -> Option<(u32, u32)> {

@@ -5,9 +5,9 @@
 
 ghost use Rattle.std.specs.Prelude.{◌≡◌, ◌≢◌, ◌<◌, ◌≤◌, Some, None, slice_index_or};
 
-use sts_code::instr::Joiner;
-use sts_model::event::{End, Phase, Stand};
-use sts_tree::tree::Tree;
+use sts_code::Joiner;
+use sts_model::{End, Phase, Stand};
+use sts_tree::Tree;
 
 fn open(tree: &mut Tree<u32>) -> Option<u32> {
     if tree.scope_room() == 0 || tree.scopes_born() >= 1000000 {

@@ -15,7 +15,7 @@ fn file<'a>(alloc: Global) -> Arg<'a>
 {
     Arg::new(alloc, "FILE")
         .required(true)
-        .help("a text of functions")
+        .help("the text of a program")
 }
 
 fn trace<'a>(alloc: Global) -> Arg<'a>
@@ -43,13 +43,7 @@ fn workers<'a>(alloc: Global) -> Arg<'a>
     ensures rule { rule_of result ≡ def.workers_rule }
     ensures local { result.global ≡ false }
 {
-    option(
-        alloc,
-        "workers",
-        "N",
-        "how many threads do the steps, from 1 to 16",
-    )
-    .required(true)
+    option(alloc, "workers", "N", "the number of threads, from 1 to 16").required(true)
 }
 
 /// A command that takes one text file.
@@ -109,7 +103,7 @@ fn run<'a>(alloc: Global) -> Result<Command<'a>, AllocError>
     let command = on_workers(
         alloc,
         "run",
-        "Prints the budgets, and how several workers at once brought the program to its end",
+        "Verifies, then runs with N threads; prints the budgets and the result",
     )?;
     let command = with_file_option(
         alloc,
@@ -176,7 +170,7 @@ pub fn program<'a>(alloc: Global) -> Result<Command<'a>, AllocError>
         alloc,
         bare(alloc),
         "verify",
-        "Prints the budgets of each function, or the refused instruction",
+        "Checks that no run can fault; prints budgets, or the refused instruction",
     )?;
     let command = with_file(
         alloc,
@@ -188,13 +182,13 @@ pub fn program<'a>(alloc: Global) -> Result<Command<'a>, AllocError>
         alloc,
         command,
         "plain",
-        "Prints how the machine that tests everything stands after a trace, and the steps taken",
+        "Runs a trace and checks every instruction; prints the result and the steps",
     )?;
     let command = with_trace(
         alloc,
         command,
         "replay",
-        "Prints the same by the machine that tests nothing, or the refused instruction",
+        "Verifies, then runs a trace without checks; prints the same, or the refusal",
     )?;
     command.subcommand(run(alloc)?)
 }

@@ -2,5 +2,9 @@
 #![tactic(auto)]
 
 pub mod asked;
-pub mod command;
-pub mod reading;
+mod command;
+mod reading;
+
+pub use asked::LineError;
+pub use command::{on_file, on_trace};
+pub use reading::{line, text_of, told, trace_of, unknown};

@@ -180,7 +180,7 @@ fn no_workers(alloc: Global, text: &str) -> LineError
     ensures { (whole : Bool) → whole ≡ false → BlamesUnless whole result }
 {
     let told = format!(in alloc;
-        "error: invalid value '{text}' for '--workers <N>': a number from 1 to 16 is wanted\n"
+        "error: invalid value '{text}' for '--workers <N>': expected a number from 1 to 16\n"
     );
     match told {
         Ok(told) => LineError::Usage(told),

@@ -5,7 +5,7 @@ ghost use Rattle.sts_asm.specs.declared.fault.AsmKind.TheVariants.{Memory};
 ghost use Rattle.sts_asm.specs.Fault.{kind_number, code_error, out_of_memory};
 
 use std::alloc::{AllocError, AllocFailed};
-use sts_code::checking::CodeError;
+use sts_code::CodeError;
 use thiserror::Error;
 
 /// What is wrong, or that memory ran out.

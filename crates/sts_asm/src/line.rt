@@ -15,7 +15,7 @@ use crate::operand::{
     byte_at, finished, function_at, handle_at, joiner_at, kind_at, maybe_target_at, number_at,
     slot_at, target_at, timed_at, value_at,
 };
-use sts_code::instr::Instr;
+use sts_code::Instr;
 use sts_text::Words;
 
 fn numbered_at(

@@ -6,7 +6,7 @@ ghost use Rattle.sts_asm.specs.Line.{mnemonic_of, with_number, with_slot, with_t
 ghost use Rattle.sts_asm.specs.Operand.{looked_up};
 ghost use Rattle.sts_asm.specs.declared.mnemonic.Mnemonic.TheVariants.{Plain};
 
-use sts_code::instr::Instr;
+use sts_code::Instr;
 
 /// Instructions of one local or key.
 #[derive(Clone, Copy)]

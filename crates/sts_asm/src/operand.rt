@@ -14,8 +14,7 @@ ghost use Rattle.sts_code.specs.declared.instr.Pred.TheVariants as pred;
 use crate::fault::AsmKind;
 use crate::marks::{Names, function_in, label_in};
 use std::str;
-use sts_code::instr::{Instr, Joiner, Kind, Pred};
-use sts_code::naming::is_name;
+use sts_code::{Instr, Joiner, Kind, Pred, is_name};
 use sts_text::{Words, digits_up_to, number, number_up_to};
 
 /// A number from 0 to `most`.

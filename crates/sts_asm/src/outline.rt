@@ -18,9 +18,7 @@ use crate::marks::Marks;
 use crate::operand::{byte_at, name_at, name_text};
 use std::alloc::{AllocError, Global};
 use std::marker::Model;
-use sts_code::instr::Instr;
-use sts_code::naming::is_name;
-use sts_code::profile::Profile;
+use sts_code::{Instr, Profile, is_name};
 use sts_text::{Words, number_up_to};
 
 /// A line of an instruction, without its comment.

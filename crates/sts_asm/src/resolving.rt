@@ -11,8 +11,7 @@ use crate::line::instr_of;
 use crate::marks::{Marks, Names};
 use crate::outline::{Draft, Lines, Outline, Sentence};
 use std::alloc::Global;
-use sts_code::instr::Instr;
-use sts_code::program::{Function, Program};
+use sts_code::{Function, Instr, Program};
 use sts_text::Words;
 
 fn instr_in(text: &[u8], names: &Names<'_, '_>) -> Result<Instr, AsmKind>

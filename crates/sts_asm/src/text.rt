@@ -9,7 +9,7 @@ use crate::fault::{AsmError, AsmKind};
 use crate::outline::Outline;
 use crate::resolving::program_of;
 use std::alloc::Global;
-use sts_code::program::Program;
+use sts_code::Program;
 use sts_text::cut_at_newline;
 
 fn line_at<'a>(outline: &mut Outline<'a>, at: u32, line: &'a [u8]) -> Result<(), AsmError>

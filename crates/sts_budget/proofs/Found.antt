@@ -9,8 +9,8 @@ use Rattle.sts_rules.specs.Causes.{cause_number}
 use Rattle.sts_rules.specs.Budget.{Exceeds, IsLeastExcess}
 use Rattle.sts_budget.specs.declared.change.Resource.{Resource}
 use Rattle.sts_budget.specs.declared.change.Resource.TheVariants.{Steps, Tasks, Scopes, Binds}
-use Rattle.sts_budget.specs.declared.budget.BudgetError.{BudgetError}
-use Rattle.sts_budget.specs.declared.budget.BudgetError.TheVariants.{Memory, TooMuch}
+use Rattle.sts_budget.specs.declared.budgets.BudgetError.{BudgetError}
+use Rattle.sts_budget.specs.declared.budgets.BudgetError.TheVariants.{Memory, TooMuch}
 use Rattle.sts_budget.specs.Change.{cause_of, limit_of, IsMost}
 use Rattle.sts_budget.specs.Outcome.{IsFound, IsNumber}
 use Rattle.sts_budget.specs.declared.layout.Layout.{Layout}

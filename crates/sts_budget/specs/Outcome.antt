@@ -6,8 +6,8 @@ use Rattle.sts_rules.specs.declared.budget.Budgets.{Budgets}
 use Rattle.sts_rules.specs.Budget.{IsBudget, IsLeastExcess, Exceeds}
 use Rattle.sts_budget.specs.declared.change.Resource.{Resource}
 use Rattle.sts_budget.specs.Change.{cause_of, limit_of, IsMost}
-use Rattle.sts_budget.specs.declared.budget.BudgetError.{BudgetError}
-use Rattle.sts_budget.specs.declared.budget.BudgetError.TheVariants.{Memory, TooMuch}
+use Rattle.sts_budget.specs.declared.budgets.BudgetError.{BudgetError}
+use Rattle.sts_budget.specs.declared.budgets.BudgetError.TheVariants.{Memory, TooMuch}
 
 -- the budgets, none of which passes its limit; or the least cause by which one does, if there was
 -- memory

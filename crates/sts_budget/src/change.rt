@@ -5,9 +5,8 @@ ghost use Rattle.sts_rules.specs.Budget as budget;
 ghost use Rattle.sts_budget.specs.Change as def;
 
 use crate::layout::Names;
-use sts_code::instr::Instr;
-use sts_code::limits::MAX_ENTRIES;
-use sts_rules::budget::Budgets;
+use sts_code::{Instr, MAX_ENTRIES};
+use sts_rules::Budgets;
 
 /// What is budgeted.
 #[derive(Clone, Copy, Debug, PartialEq, Eq)]

@@ -15,9 +15,8 @@ use crate::layout::names_at;
 use crate::pass::{Pass, own_step, table};
 use crate::row::Row;
 use std::alloc::{AllocError, Global};
-use sts_code::instr::Instr;
-use sts_code::limits::{MAX_STANDING, MAX_STEPS};
-use sts_rules::fill::filled;
+use sts_code::{Instr, MAX_STANDING, MAX_STEPS};
+use sts_rules::filled;
 
 /// What the function counts beside the sums: the last step of a path, the task itself.
 pub fn own_of(resource: Resource) -> u32

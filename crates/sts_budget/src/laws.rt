@@ -6,9 +6,8 @@ ghost use Rattle.sts_rules.specs.Refusal.{IsWellTyped};
 ghost use Rattle.sts_rules.specs.Budget.{IsBudget};
 ghost use Rattle.sts_budget.specs.Laws.{PointsLieOnPaths, PointsAreWithin, ChildrenArePart};
 
-use sts_code::code::code_of;
-use sts_code::program::Program;
-use sts_rules::budget::Budgets;
+use sts_code::{Program, code_of};
+use sts_rules::Budgets;
 
 /// Law: each point of a control path of a well-typed function lies on a whole path.
 pub fn points_lie_on_paths(program: &Program, function: usize, earlier: &[Budgets])

@@ -13,13 +13,9 @@ ghost use Rattle.sts_budget.specs.Laid.{IsListAfter, IsDeepest, IsLaidOut};
 
 use arrayvec::ArrayVec;
 use std::alloc::{AllocError, Global};
-use sts_code::code::code_of;
-use sts_code::facts::{falls_through, targets};
-use sts_code::instr::Instr;
-use sts_code::limits::MAX_INSTRUCTIONS;
-use sts_code::program::Program;
-use sts_model::stack::Stack;
-use sts_rules::fill::filled;
+use sts_code::{Instr, MAX_INSTRUCTIONS, Program, code_of, falls_through, targets};
+use sts_model::Stack;
+use sts_rules::filled;
 
 /// The names of the open entries at a place, the innermost on top: a scope's slot, or none for a
 /// binding.

@@ -2,10 +2,15 @@
 //! their points.
 #![tactic(auto)]
 
-pub mod budget;
-pub mod change;
-pub mod greatest;
+mod budgets;
+mod change;
+mod greatest;
 pub mod laws;
-pub mod layout;
+mod layout;
 pub mod pass;
 pub mod row;
+
+pub use budgets::{BudgetError, budget};
+pub use change::{Resource, added_of, change_of, depth_of, source_of};
+pub use greatest::{limit_of, own_of};
+pub use layout::{Layout, lay_out, names_at, next_places};

@@ -19,10 +19,8 @@ use crate::change::{Resource, change_of, depth_of};
 use crate::layout::{Layout, goes_straight_on, names_at, next_places};
 use crate::row::{Row, Values, raise, values_after, values_of_loop};
 use std::alloc::{AllocError, Global};
-use sts_code::instr::Instr;
-use sts_code::limits::MAX_INSTRUCTIONS;
-use sts_rules::budget::Budgets;
-use sts_rules::fill::filled;
+use sts_code::{Instr, MAX_INSTRUCTIONS};
+use sts_rules::{Budgets, filled};
 
 /// What one pass over a function is about: a resource, the budgets of the functions before, the
 /// function's code and its layout, and the most that the sums may come to.

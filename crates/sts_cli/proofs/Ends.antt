@@ -1,8 +1,8 @@
 -- What is printed of what was read.
-use Rattle.std.proofs.Common.{◌≡◌, ℕ, List, [], Option, None, Some, IfSome, take, subst, inl, inr}
+use Rattle.std.proofs.Common.{◌≡◌, List, [], ℕ, Option, inl, inr}
 use Rattle.sts_output.specs.Joined.{halves_of}
 use Rattle.sts_output.specs.Output.{Output, IsOutputOf}
-use Rattle.sts_output.specs.Taking.{Gives, IsTakenOf}
+use Rattle.sts_output.specs.Taking.{IsTakenOf}
 use Rattle.sts_cli.specs.Ending.{IsOfText, IsOfTextAndTrace, IsOfInput, shown, failed}
 use Rattle.sts_output.specs.Streams.{most_of_a_text, most_of_a_stream}
 use Rattle.sts_output.specs.declared.mode.Mode.{Mode}
@@ -22,8 +22,3 @@ pub of_input : (input : Option (List ℕ)) (bytes : List ℕ) (o : Output) → I
     → IsOutputOf mode.Plain (halves_of bytes).text (halves_of bytes).trace o → IsOfInput input o
 of_input input bytes o taken (inl shows) = shown bytes taken shows
 of_input input bytes o taken (inr memory) = failed Memory memory
-
--- what was taken of a reader is of its source
-pub gives_taken : (known remaining : Option (List ℕ)) (most : ℕ) (taken : List ℕ) → Gives known remaining → IfSome remaining (λ xs. taken ≡ take most xs) → IsTakenOf known most taken
-gives_taken None remaining most taken gives is = tt
-gives_taken (Some xs) remaining most taken gives is = subst (λ o. IfSome o (λ ys. taken ≡ take most ys)) gives is

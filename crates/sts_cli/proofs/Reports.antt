@@ -45,24 +45,24 @@ pub refused_run : (p : Program) (judged : Result Program Output) (refusal : Outp
 refused_run p judged refusal o is e same = refused refusal (subst (λ j. MatchResult j (λ v. v ≡ p) (IsRefused p)) e is) same
 
 -- what goes to the stream is printed of the run
-written_of : (text outside : List ℕ) (w : Written) (s : ℕ) (r : Outcome) → IsOutcomeOf text outside r → RunWrites w s r → (o : Output) × IsPrinted text outside o × Writes w.out_old w.out_new s o
-written_of text outside w s r is (whole trace out) = (r.output, of_run r is refl, out)
-written_of text outside w s r is (no_trace out) = (file_output, without_file Read refl, out)
+written_of : (P : Type 0) (text outside : List ℕ) (w : Written) (s : ℕ) (r : Outcome) → P → IsOutcomeOf text outside r → RunWrites w s r → (o : Output) × IsPrinted P text outside o × Writes w.out_old w.out_new s o
+written_of P text outside w s r spares is (whole trace out) = (r.output, of_run spares r is refl, out)
+written_of P text outside w s r spares is (no_trace out) = (file_output, without_file Read refl, out)
 
 -- the same texts, handed on
 handed_on : (text outside given given_outside : List ℕ) (r : Outcome) → given ≡ text → given_outside ≡ outside → IsOutcomeOf given given_outside r → IsOutcomeOf text outside r
 handed_on text outside given given_outside r e f is = subst (λ x. IsOutcomeOf x outside r) e (subst (λ y. IsOutcomeOf given y r) f is)
 
-pub printed_of : (text outside given given_outside : List ℕ) (w : Written) (s : ℕ) (r : Outcome) → given ≡ text → given_outside ≡ outside → IsOutcomeOf given given_outside r → RunWrites w s r
-    → (o : Output) × IsPrinted text outside o × Writes w.out_old w.out_new s o
-printed_of text outside given given_outside w s r e f is =
-    written_of text outside w s r (handed_on text outside given given_outside r e f is)
+pub printed_of : (P : Type 0) (text outside given given_outside : List ℕ) (w : Written) (s : ℕ) (r : Outcome) → P → given ≡ text → given_outside ≡ outside → IsOutcomeOf given given_outside r → RunWrites w s r
+    → (o : Output) × IsPrinted P text outside o × Writes w.out_old w.out_new s o
+printed_of P text outside given given_outside w s r spares e f is =
+    written_of P text outside w s r spares (handed_on text outside given given_outside r e f is)
 
 -- where there is no trace
-pub printed_alone : (text outside given given_outside : List ℕ) (old new : Option (List ℕ)) (s : ℕ) (r : Outcome) → given ≡ text → given_outside ≡ outside → IsOutcomeOf given given_outside r
-    → Writes old new s r.output → (o : Output) × IsPrinted text outside o × Writes old new s o
-printed_alone text outside given given_outside old new s r e f is out =
-    (r.output, of_run r (handed_on text outside given given_outside r e f is) refl, out)
+pub printed_alone : (P : Type 0) (text outside given given_outside : List ℕ) (old new : Option (List ℕ)) (s : ℕ) (r : Outcome) → P → given ≡ text → given_outside ≡ outside → IsOutcomeOf given given_outside r
+    → Writes old new s r.output → (o : Output) × IsPrinted P text outside o × Writes old new s o
+printed_alone P text outside given given_outside old new s r spares e f is out =
+    (r.output, of_run spares r (handed_on text outside given given_outside r e f is) refl, out)
 
-pub of_texts : (file outside_file : Option (List ℕ)) (text outside : List ℕ) (o : Output) → IsTakenOf file most_of_a_text text → IsTakenOf outside_file most_of_a_stream outside → IsPrinted text outside o → IsOfRun file outside_file o
-of_texts file outside_file text outside o taken others printed = shown text outside taken others printed
+pub of_texts : (P : Type 0) (file outside_file : Option (List ℕ)) (text outside : List ℕ) (o : Output) → IsTakenOf file most_of_a_text text → IsTakenOf outside_file most_of_a_stream outside → IsPrinted P text outside o → IsOfRun P file outside_file o
+of_texts P file outside_file text outside o taken others printed = shown text outside taken others printed

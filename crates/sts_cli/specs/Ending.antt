@@ -1,7 +1,8 @@
 -- What the whole program writes, and the status that it ends with (this project's own).
-use Rattle.std.specs.Prelude.{◌≡◌, ℕ, List, [], Option, Some, None, Result, Ok, Err}
+use Rattle.std.specs.Prelude.{◌≡◌, ℕ, List, [], Option, Some, None, Result, Ok, Err, ⊤}
 use Rattle.std.specs.Prelude.{map}
 use Rattle.std.specs.Prelude.{String, Vec}
+use Rattle.std.specs.Borrow.{Bor}
 use Rattle.std.specs.String.{string_bytes}
 use Rattle.std.specs.declared.alloc.Global.{Global}
 use Rattle.clap.specs.Words.{Text}
@@ -12,14 +13,14 @@ use Rattle.sts_args.specs.declared.asked.Line.TheVariants as line
 use Rattle.sts_output.specs.Joined.{halves_of}
 use Rattle.sts_output.specs.Output.{Output, Shows, Writes, failure_output, memory_output}
 use Rattle.sts_cli.specs.Running.{IsOutcomeOf, Outcome}
-use Rattle.sts_output.specs.Streams.{Files, Prints, Streams, Tells, events_of, most_of_a_stream}
-use Rattle.sts_output.specs.Streams.{most_of_a_text, not_text_output}
+use Rattle.sts_output.specs.Streams.{Differ, DifferFrom, Files, Prints, SameFile, Streams, Tells}
+use Rattle.sts_output.specs.Streams.{events_of, most_of_a_stream, most_of_a_text, not_text_output}
 use Rattle.sts_output.specs.Taking.{IsTakenOf}
 use Rattle.sts_output.specs.declared.mode.Mode.{Mode}
 use Rattle.sts_output.specs.declared.mode.Mode.TheVariants as mode
 use Rattle.sts_output.specs.declared.taking.TakeError.{TakeError}
-use Rattle.sts_output.specs.declared.words.WordsError.{WordsError}
-use Rattle.sts_output.specs.declared.words.WordsError.TheVariants as words_error
+use Rattle.sts_output.specs.declared.process_words.WordsError.{WordsError}
+use Rattle.sts_output.specs.declared.process_words.WordsError.TheVariants as words_error
 
 -- what is printed of a file's text in a mode, or that memory or the file failed
 pub data IsOfText (m : Mode) (file : Option (List ℕ)) (o : Output) : Type 0 where
@@ -42,46 +43,54 @@ pub data IsOfInput (input : Option (List ℕ)) (o : Output) : Type 0 where
       → Shows mode.Plain (halves_of bytes).text (halves_of bytes).trace o → IsOfInput input o
   failed : (e : TakeError) → o ≡ failure_output e → IsOfInput input o
 
--- what is printed of a run of a text with an outside text, or that memory or the trace's file
--- failed
-pub data IsPrinted (text outside : List ℕ) (o : Output) : Type 0 where
-  of_run : (r : Outcome) → IsOutcomeOf text outside r → o ≡ r.output → IsPrinted text outside o
-  without_file : (e : TakeError) → o ≡ failure_output e → IsPrinted text outside o
+-- the file of the trace, if one is named, isn't known to be one of those that are read
+abbrev pub Spares : SameFile → Text → Option (Bor Text) → Option (Bor Text) → Type 0
+Spares same file outside None = ⊤
+Spares same file outside (Some trace) =
+    Differ (same trace.now file) × DifferFrom (same trace.now) outside
+
+-- what is printed of a run of a text with an outside text, whose trace spares what is read; or that
+-- memory or the trace's file failed
+pub data IsPrinted (spares : Type 0) (text outside : List ℕ) (o : Output) : Type 0 where
+  of_run : spares → (r : Outcome) → IsOutcomeOf text outside r → o ≡ r.output
+      → IsPrinted spares text outside o
+  without_file : (e : TakeError) → o ≡ failure_output e → IsPrinted spares text outside o
 
 -- the same of a file's text and another file's outside events
-pub data IsOfRun (file outside_file : Option (List ℕ)) (o : Output) : Type 0 where
+pub data IsOfRun (spares : Type 0) (file outside_file : Option (List ℕ)) (o : Output) : Type 0 where
   shown : (text outside : List ℕ) → IsTakenOf file most_of_a_text text
-      → IsTakenOf outside_file most_of_a_stream outside → IsPrinted text outside o
-      → IsOfRun file outside_file o
-  failed : (e : TakeError) → o ≡ failure_output e → IsOfRun file outside_file o
+      → IsTakenOf outside_file most_of_a_stream outside → IsPrinted spares text outside o
+      → IsOfRun spares file outside_file o
+  failed : (e : TakeError) → o ≡ failure_output e → IsOfRun spares file outside_file o
 
 -- what is printed for a line
-abbrev pub IsPlayed : Line → Files → Option (List ℕ) → Output → Type 0
-IsPlayed line.Joined files input o = IsOfInput input o
-IsPlayed (line.Verify file) files input o = IsOfText mode.Verify (files file.now) o
-IsPlayed (line.List file) files input o = IsOfText mode.List (files file.now) o
-IsPlayed (line.Plain file trace) files input o = IsOfTextAndTrace mode.Plain (files file.now)
+abbrev pub IsPlayed : Line → Files → SameFile → Option (List ℕ) → Output → Type 0
+IsPlayed line.Joined files same input o = IsOfInput input o
+IsPlayed (line.Verify file) files same input o = IsOfText mode.Verify (files file.now) o
+IsPlayed (line.List file) files same input o = IsOfText mode.List (files file.now) o
+IsPlayed (line.Plain file trace) files same input o = IsOfTextAndTrace mode.Plain (files file.now)
     (files trace.now) o
-IsPlayed (line.Replay file trace) files input o = IsOfTextAndTrace mode.Replay (files file.now)
+IsPlayed (line.Replay file trace) files same input o = IsOfTextAndTrace mode.Replay (files file.now)
     (files trace.now) o
-IsPlayed (line.Run file workers outside trace) files input o = IsOfRun (files file.now)
-    (events_of files outside) o
+IsPlayed (line.Run file workers outside trace) files same input o =
+    IsOfRun (Spares same file.now outside trace) (files file.now) (events_of files outside) o
 
 -- what the program writes, and its status: that of the line that the words ask for, 0 after help
 -- that they ask for, 2 where they are mistaken, or that memory was refused
-pub data Ends (words : List Text) (files : Files) (input : Option (List ℕ)) (s : Streams)
-    (status : ℕ) : Type 0 where
-  played : (l : Line) (o : Output) → Asks words l → IsPlayed l files input o → Prints s status o
-      → Ends words files input s status
+pub data Ends (words : List Text) (files : Files) (same : SameFile) (input : Option (List ℕ))
+    (s : Streams) (status : ℕ) : Type 0 where
+  played : (l : Line) (o : Output) → Asks words l → IsPlayed l files same input o
+      → Prints s status o → Ends words files same input s status
   helped : (o : Output) → AsksForHelp words → o.status ≡ 0 → Tells s status o
-      → Ends words files input s status
+      → Ends words files same input s status
   mistaken : (o : Output) → IsMistaken words → o.status ≡ 2 → Tells s status o
-      → Ends words files input s status
-  failed : Prints s status memory_output → Ends words files input s status
+      → Ends words files same input s status
+  failed : Prints s status memory_output → Ends words files same input s status
 
 -- the same from the words that were had, or not
-abbrev pub EndsFrom : Result (Vec (String Global) Global) WordsError → Files → Option (List ℕ)
-    → Streams → ℕ → Type 0
-EndsFrom (Ok words) files input s status = Ends (map string_bytes words.items) files input s status
-EndsFrom (Err words_error.Memory) files input s status = Prints s status memory_output
-EndsFrom (Err words_error.NotText) files input s status = Tells s status not_text_output
+abbrev pub EndsFrom : Result (Vec (String Global) Global) WordsError → Files → SameFile
+    → Option (List ℕ) → Streams → ℕ → Type 0
+EndsFrom (Ok words) files same input s status =
+    Ends (map string_bytes words.items) files same input s status
+EndsFrom (Err words_error.Memory) files same input s status = Prints s status memory_output
+EndsFrom (Err words_error.NotText) files same input s status = Tells s status not_text_output

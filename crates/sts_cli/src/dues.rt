@@ -7,7 +7,7 @@ ghost use Rattle.sts_cli.specs.Running.{due_event, dues_left};
 
 use std::collections::VecDeque;
 use std::marker::Model;
-use sts_model::event::Event;
+use sts_model::Event;
 use sts_pool::Outside;
 use sts_trace::Due;
 

@@ -2,8 +2,7 @@
 
 ghost use Rattle.sts_output.specs.Output as def;
 
-use sts_verify::laws::verdict_is_one;
-use sts_verify::verified::Verified;
+use sts_verify::{Verified, verdict_is_one};
 
 /// Of an accepted program mode `replay` prints just what mode `plain` prints, for every trace.
 pub fn replay_prints_what_plain_prints(verified: &Verified)

@@ -4,9 +4,9 @@
 pub mod dues;
 pub mod laws;
 pub mod modes;
-pub mod play;
-pub mod program;
+mod playing;
+mod program;
 
-pub use sts_output::mode::Mode;
-pub use sts_output::taking::{TakeError, take};
-pub use sts_output::writing::WriteFailed;
+pub use playing::{play, play_joined, play_run};
+pub use program::{run, run_words, start};
+pub use sts_output::{Mode, Notes, TakeError, WriteFailed, take};

@@ -8,27 +8,21 @@ ghost use Rattle.sts_cli.specs.Ending as def;
 ghost use Rattle.sts_output.specs.Output.{Output, Writes};
 ghost use Rattle.sts_output.specs.Streams.{events_of};
 
-use crate::play::{play, play_joined, play_run, play_untraced};
+use crate::playing::{play, play_joined, play_traced, play_untraced};
 use std::alloc::{AllocError, Global};
 use std::io::{Input, Write};
 use std::rt::{Env, Files};
 use std::sync::Wait;
 use std::thread::Threads;
-use sts_args::asked;
-use sts_args::asked::LineError;
-use sts_args::reading::line;
-use sts_output::mode::Mode;
-use sts_output::placeholders::placeholder;
-use sts_output::sinks::{Sinks, made};
-use sts_output::sources::{Host, Sources, file};
-use sts_output::taking::{TakeError, take};
-use sts_output::texts::{MOST_OF_A_STREAM, MOST_OF_A_TEXT, NOT_TEXT, Texts, borrowed, read_texts};
-use sts_output::words;
-use sts_output::words::WordsError;
-use sts_output::writing::{STATUS_OUTSIDE, WriteFailed, failed, written};
+use sts_args::{LineError, asked, line};
+use sts_output::{
+    Events, Host, Mode, NOT_TEXT, Named, Notes, STATUS_OUTSIDE, Sinks, Sources, TakeError, Texts,
+    WordsError, WriteFailed, borrowed, failed, file_failed, made, placeholder, read_input,
+    read_text, read_texts, split, words, written,
+};
 
 /// The name that the program goes by.
-const NAME: &[u8] = b"sts";
+const NAME: &str = "sts";
 
 /// A mode that looks at a text alone.
 fn on_text<S: Sources, W: Write>(
@@ -37,14 +31,19 @@ fn on_text<S: Sources, W: Write>(
     mode: Mode,
     path: &str,
     out: &mut W,
+    notes: &mut Notes,
 ) -> Result<u8, WriteFailed>
     ensures { IfOk result (λ s. (o : Output)
         × def.IsOfText mode (S.held sources.now path.now) o
         × Writes (W.contents out.old) (W.contents out.new) s o) }
 {
-    match file(alloc, sources, path, MOST_OF_A_TEXT) {
-        Ok(text) => play(alloc, mode, text.as_slice(), &[], out),
-        Err(error) => failed(error, out),
+    match read_text(alloc, sources, path) {
+        Ok(text) => {
+            let status = play(alloc, mode, text.as_slice(), &[], out)?;
+            notes.status(status, Named::new(path, text.as_slice()), Events::None);
+            Ok(status)
+        }
+        Err(error) => file_failed(error, out, notes),
     }
 }
 
@@ -56,20 +55,21 @@ fn on_text_and_trace<S: Sources, W: Write>(
     path: &str,
     trace: &str,
     out: &mut W,
+    notes: &mut Notes,
 ) -> Result<u8, WriteFailed>
     ensures { IfOk result (λ s. (o : Output)
         × def.IsOfTextAndTrace mode (S.held sources.now path.now) (S.held sources.now trace.now) o
         × Writes (W.contents out.old) (W.contents out.new) s o) }
 {
     match read_texts(alloc, sources, path, Some(trace)) {
-        Ok(texts) => play(
-            alloc,
-            mode,
-            texts.program.as_slice(),
-            texts.events.as_slice(),
-            out,
-        ),
-        Err(error) => failed(error, out),
+        Ok(texts) => {
+            let (text, events) = (texts.program.as_slice(), texts.events.as_slice());
+            let status = play(alloc, mode, text, events, out)?;
+            let events = Events::Trace(Named::new(trace, events));
+            notes.status(status, Named::new(path, text), events);
+            Ok(status)
+        }
+        Err(error) => file_failed(error, out, notes),
     }
 }
 
@@ -78,39 +78,21 @@ fn on_input<S: Sources, W: Write>(
     alloc: Global,
     sources: &S,
     out: &mut W,
+    notes: &mut Notes,
 ) -> Result<u8, WriteFailed>
     ensures { IfOk result (λ s. (o : Output)
         × def.IsOfInput (S.offered sources.now) o
         × Writes (W.contents out.old) (W.contents out.new) s o) }
 {
-    match take(alloc, &mut sources.input(), MOST_OF_A_STREAM) {
-        Ok(input) => play_joined(alloc, input.as_slice(), out),
-        Err(error) => failed(error, out),
-    }
-}
-
-/// A run of texts that were read; the file of the trace is made first, if one is named.
-fn on_texts<R: Threads + Wait + Sync, S: Sinks, W: Write>(
-    rt: &R,
-    alloc: Global,
-    sinks: &S,
-    texts: &Texts,
-    workers: u32,
-    trace: Option<&str>,
-    out: &mut W,
-) -> Result<u8, WriteFailed>
-    requires { (1 ≤ workers) × (workers ≤ 16) }
-    ensures { IfOk result (λ s. (o : Output)
-        × def.IsPrinted texts.now.program.items texts.now.events.items o
-        × Writes (W.contents out.old) (W.contents out.new) s o) }
-{
-    let (program, outside) = (texts.program.as_slice(), texts.events.as_slice());
-    match trace {
-        None => play_untraced(rt, alloc, program, workers, outside, out),
-        Some(path) => match made(alloc, sinks, path) {
-            Ok(mut trace) => play_run(rt, alloc, program, workers, outside, &mut trace, out),
-            Err(error) => failed(error, out),
-        },
+    match read_input(alloc, sources) {
+        Ok(input) => {
+            let status = play_joined(alloc, input.as_slice(), out)?;
+            let (text, trace) = split(input.as_slice());
+            let events = Events::Trace(Named::new("the trace", trace));
+            notes.status(status, Named::new("the text", text), events);
+            Ok(status)
+        }
+        Err(error) => file_failed(error, out, notes),
     }
 }
 
@@ -123,6 +105,55 @@ struct Wanted<'a> {
     trace: Option<&'a str>,
 }
 
+/// Returns the outside text of a run, if it has one.
+fn outside_of<'a>(wanted: Wanted<'a>, texts: &'a Texts) -> Events<'a> {
+    match wanted.outside {
+        Some(name) => Events::Outside(Named::new(name, texts.events.as_slice())),
+        None => Events::None,
+    }
+}
+
+/// A run of texts that were read; the file of the trace is made first, if one is named.
+fn on_texts<R: Threads + Wait + Sync, S: Sinks, W: Write>(
+    rt: &R,
+    alloc: Global,
+    sinks: &S,
+    texts: &Texts,
+    wanted: Wanted<'_>,
+    out: &mut W,
+    notes: &mut Notes,
+) -> Result<u8, WriteFailed>
+    requires { (1 ≤ wanted.workers) × (wanted.workers ≤ 16) }
+    ensures { IfOk result (λ s. (o : Output)
+        × def.IsPrinted (def.Spares (S.same sinks.now) wanted.entry.file.now wanted.entry.outside
+        wanted.entry.trace) texts.now.program.items texts.now.events.items o
+        × Writes (W.contents out.old) (W.contents out.new) s o) }
+{
+    let (program, outside) = (texts.program.as_slice(), texts.events.as_slice());
+    let workers = wanted.workers;
+    match wanted.trace {
+        None => play_untraced(rt, alloc, program, workers, outside, out),
+        Some(path) => match made(alloc, sinks, path, wanted.file, wanted.outside) {
+            Ok(mut trace) => {
+                let mut failure = None;
+                let status = play_traced(
+                    rt,
+                    alloc,
+                    program,
+                    workers,
+                    outside,
+                    &mut trace,
+                    out,
+                    &mut failure,
+                )?;
+                notes.written(path, failure);
+                Ok(status)
+            }
+            Err(error) => file_failed(error, out, notes),
+        },
+    }
+}
+
 /// A run: the text is read before the outside text, and both before the file of the trace is made.
 fn on_run<R: Threads + Wait + Sync, S: Sources + Sinks, W: Write>(
     rt: &R,
@@ -130,24 +161,23 @@ fn on_run<R: Threads + Wait + Sync, S: Sources + Sinks, W: Write>(
     sources: &S,
     wanted: Wanted<'_>,
     out: &mut W,
+    notes: &mut Notes,
 ) -> Result<u8, WriteFailed>
     requires { (1 ≤ wanted.workers) × (wanted.workers ≤ 16) }
     ensures { IfOk result (λ s. (o : Output)
-        × def.IsOfRun (S.held sources.now wanted.entry.file.now)
+        × def.IsOfRun (def.Spares (S.same sources.now) wanted.entry.file.now wanted.entry.outside
+        wanted.entry.trace) (S.held sources.now wanted.entry.file.now)
         (events_of (S.held sources.now) wanted.entry.outside) o
         × Writes (W.contents out.old) (W.contents out.new) s o) }
 {
     match read_texts(alloc, sources, wanted.file, wanted.outside) {
-        Ok(texts) => on_texts(
-            rt,
-            alloc,
-            sources,
-            &texts,
-            wanted.workers,
-            wanted.trace,
-            out,
-        ),
-        Err(error) => failed(error, out),
+        Ok(texts) => {
+            let status = on_texts(rt, alloc, sources, &texts, wanted, out, notes)?;
+            let text = Named::new(wanted.file, texts.program.as_slice());
+            notes.status(status, text, outside_of(wanted, &texts));
+            Ok(status)
+        }
+        Err(error) => file_failed(error, out, notes),
     }
 }
 
@@ -158,21 +188,23 @@ fn on_line<R: Threads + Wait + Sync, S: Sources + Sinks, W: Write>(
     sources: &S,
     wanted: asked::Line<'_>,
     out: &mut W,
+    notes: &mut Notes,
 ) -> Result<u8, WriteFailed>
     requires { HasWorkers wanted }
     ensures { IfOk result (λ s. (o : Output)
-        × def.IsPlayed wanted.entry (S.held sources.now) (S.offered sources.now) o
+        × def.IsPlayed wanted.entry (S.held sources.now) (S.same sources.now)
+        (S.offered sources.now) o
         × Writes (W.contents out.old) (W.contents out.new) s o) }
 {
     match wanted {
-        asked::Line::Joined => on_input(alloc, sources, out),
-        asked::Line::Verify { file } => on_text(alloc, sources, Mode::Verify, file, out),
-        asked::Line::List { file } => on_text(alloc, sources, Mode::List, file, out),
+        asked::Line::Joined => on_input(alloc, sources, out, notes),
+        asked::Line::Verify { file } => on_text(alloc, sources, Mode::Verify, file, out, notes),
+        asked::Line::List { file } => on_text(alloc, sources, Mode::List, file, out, notes),
         asked::Line::Plain { file, trace } => {
-            on_text_and_trace(alloc, sources, Mode::Plain, file, trace, out)
+            on_text_and_trace(alloc, sources, Mode::Plain, file, trace, out, notes)
         }
         asked::Line::Replay { file, trace } => {
-            on_text_and_trace(alloc, sources, Mode::Replay, file, trace, out)
+            on_text_and_trace(alloc, sources, Mode::Replay, file, trace, out, notes)
         }
         asked::Line::Run {
             file,
@@ -186,7 +218,7 @@ fn on_line<R: Threads + Wait + Sync, S: Sources + Sinks, W: Write>(
                 outside,
                 trace,
             };
-            on_run(rt, alloc, sources, wanted, out)
+            on_run(rt, alloc, sources, wanted, out, notes)
         }
     }
 }
@@ -197,6 +229,8 @@ fn on_line<R: Threads + Wait + Sync, S: Sources + Sinks, W: Write>(
 /// failed.
 ///
 /// Help and usage faults are told to `err`, all else is written to `out`.
+/// `notes` gets the lines that say why a file, a text or its events failed; none of these is
+/// written.
 ///
 /// # Errors
 ///
@@ -208,9 +242,10 @@ pub fn run<R: Threads + Wait + Sync, S: Sources + Sinks, W: Write, E: Write>(
     words: &[&str],
     out: &mut W,
     err: &mut E,
+    notes: &mut Notes,
 ) -> Result<u8, WriteFailed>
     ensures { IfOk result (def.Ends (map (λ w. w.now) words.now) (S.held sources.now)
-        (S.offered sources.now)
+        (S.same sources.now) (S.offered sources.now)
         (record {
           out_old = W.contents out.old;
           out_new = W.contents out.new;
@@ -219,7 +254,7 @@ pub fn run<R: Threads + Wait + Sync, S: Sources + Sinks, W: Write, E: Write>(
         })) }
 {
     match line(alloc, words) {
-        Ok(wanted) => on_line(rt, alloc, sources, wanted, out),
+        Ok(wanted) => on_line(rt, alloc, sources, wanted, out, notes),
         Err(LineError::Memory) => failed(TakeError::Memory, out),
         Err(LineError::Help(text)) => written(err, text.as_bytes(), 0),
         Err(LineError::Usage(text)) => written(err, text.as_bytes(), 2),
@@ -238,8 +273,10 @@ pub fn run_words<R: Threads + Wait + Sync, S: Sources + Sinks, W: Write, E: Writ
     words: &Result<Vec<String>, WordsError>,
     out: &mut W,
     err: &mut E,
+    notes: &mut Notes,
 ) -> Result<u8, WriteFailed>
-    ensures { IfOk result (def.EndsFrom words.now (S.held sources.now) (S.offered sources.now)
+    ensures { IfOk result (def.EndsFrom words.now (S.held sources.now)
+        (S.same sources.now) (S.offered sources.now)
         (record {
           out_old = W.contents out.old;
           out_new = W.contents out.new;
@@ -249,7 +286,7 @@ pub fn run_words<R: Threads + Wait + Sync, S: Sources + Sinks, W: Write, E: Writ
 {
     match words {
         Ok(words) => match borrowed(alloc, words.as_slice()) {
-            Ok(texts) => run(rt, alloc, sources, texts.as_slice(), out, err),
+            Ok(texts) => run(rt, alloc, sources, texts.as_slice(), out, err, notes),
             Err(_) => failed(TakeError::Memory, out),
         },
         Err(WordsError::Memory) => failed(TakeError::Memory, out),
@@ -257,19 +294,34 @@ pub fn run_words<R: Threads + Wait + Sync, S: Sources + Sinks, W: Write, E: Writ
     }
 }
 
+/// What is told where a person may not know that the program waits.
+const WAITS: &[u8] =
+    b"sts: waits for a text, a line % and a trace on standard input; --help lists the commands\n";
+
 /// Does what the process was asked for, and gives the status; a stream that fails is status 6.
+///
+/// `at_terminal` says whether a person types what is read from the input stream.
 pub fn start<R: Env + Files + Input + Threads + Wait + Sync, W: Write, E: Write>(
     rt: &R,
     alloc: Global,
+    at_terminal: bool,
     out: &mut W,
     err: &mut E,
 ) -> u8 {
     let _for_input = placeholder(rt);
     let _for_output = placeholder(rt);
     let _for_errors = placeholder(rt);
-    let words = words::words(rt, alloc, NAME);
-    match run_words(rt, alloc, &Host { rt }, &words, out, err) {
-        Ok(status) => status,
+    let words = words(rt, alloc, NAME.as_bytes());
+    let mut notes = Notes::new(alloc, NAME);
+    // (the output and the status are the same where nothing can be told)
+    if at_terminal && words.as_ref().is_ok_and(|words| words.len() == 1) {
+        let _told = err.write_all(WAITS);
+    }
+    match run_words(rt, alloc, &Host { rt }, &words, out, err, &mut notes) {
+        Ok(status) => {
+            let _told = err.write_all(notes.lines());
+            status
+        }
         Err(WriteFailed) => STATUS_OUTSIDE,
     }
 }

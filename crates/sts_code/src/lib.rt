@@ -2,12 +2,28 @@
 //! checks.
 #![tactic(auto)]
 
-pub mod checking;
-pub mod code;
-pub mod facts;
-pub mod instr;
-pub mod limits;
-pub mod loops;
-pub mod naming;
-pub mod profile;
-pub mod program;
+mod checking;
+mod code;
+mod facts;
+mod instr;
+mod limits;
+mod loops;
+mod naming;
+mod profile;
+mod program;
+
+pub use checking::{CodeCause, CodeError};
+pub use code::{args, code_of, name_of};
+pub use facts::{
+    can_fail, falls_through, filled_slot, is_await_all, owners_slot, pops, pushes, subtask_slot,
+    targets,
+};
+pub use instr::{Instr, Joiner, Kind, Pred};
+pub use limits::{
+    LAST_SLOT, MAX_ARGS, MAX_BIRTHS, MAX_ENDS, MAX_ENTRIES, MAX_FUNCTIONS, MAX_INSTRUCTIONS,
+    MAX_LOOPS, MAX_OPERANDS, MAX_OUTSIDE, MAX_STANDING, MAX_STEPS, MAX_TURNS,
+};
+pub use loops::{is_times, match_of};
+pub use naming::is_name;
+pub use profile::Profile;
+pub use program::{Function, Program};

@@ -11,7 +11,7 @@ use crate::env::{Env, Record};
 use slab::Slab;
 use std::alloc::{AllocError, Global};
 use std::marker::Model;
-use sts_model::record::Bound;
+use sts_model::Bound;
 
 /// The records of all environments. Records are made in room that was reserved at the start, and a
 /// record that was taken out leaves its key to a later one.

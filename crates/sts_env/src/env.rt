@@ -1,6 +1,6 @@
 //! What an environment is made of.
 
-use sts_model::record::Bound;
+use sts_model::Bound;
 
 /// An environment: a list of bindings, innermost first, whose records stand in a `Chains`.
 #[derive(Clone, Copy, Debug, PartialEq, Eq)]

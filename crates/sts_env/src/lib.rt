@@ -4,6 +4,9 @@
 //! own in front of it. So environments are never copied: each is a key into one table of records.
 #![tactic(auto)]
 
-pub mod chains;
-pub mod env;
+mod chains;
+mod env;
 pub mod sharing;
+
+pub use chains::Chains;
+pub use env::Env;

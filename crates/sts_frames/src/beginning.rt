@@ -5,8 +5,7 @@ ghost use Rattle.sts_code.specs.declared.limits.TheConstants.{LAST_SLOT};
 ghost use Rattle.sts_model.specs.World as def;
 ghost use Rattle.sts_model.specs.declared.record.Slot.TheVariants.{Empty};
 
-use sts_model::record::{Frame, Slot};
-use sts_model::stack::Stack;
+use sts_model::{Frame, Slot, Stack};
 
 /// The frame at the beginning of a function without arguments, for a task that is in no scope.
 pub fn root_frame(function: u32) -> Frame

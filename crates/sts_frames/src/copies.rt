@@ -2,8 +2,7 @@
 
 ghost use Rattle.std.specs.Prelude.{◌≡◌, []};
 
-use sts_model::record::Frame;
-use sts_model::stack::Stack;
+use sts_model::{Frame, Stack};
 
 /// Fills an empty stack with the values of another.
 fn fill<T: Default + Copy + Drop, const N: usize>(stack: &mut Stack<T, N>, from: &Stack<T, N>)

@@ -3,7 +3,7 @@
 ghost use Rattle.std.specs.Prelude.{◌≡◌};
 ghost use Rattle.sts_model.specs.Effect as effect;
 
-use sts_model::event::End;
+use sts_model::End;
 
 /// Where `case` goes for a subtask in this state; none is unavailable.
 pub fn case_target(state: Option<End>, success: u32, failed: u32, otherwise: u32) -> u32

@@ -6,10 +6,20 @@
 //! others, and a copy of a frame by what is used of it.
 #![tactic(auto)]
 
-pub mod beginning;
-pub mod code;
-pub mod copies;
-pub mod ends;
-pub mod local;
-pub mod slots;
-pub mod steps;
+mod beginning;
+mod copies;
+mod ends;
+mod instructions;
+mod local_steps;
+mod other_steps;
+mod slots;
+
+pub use beginning::{entry_frame, root_frame};
+pub use copies::{copy_frame, write_frame};
+pub use ends::{case_target, value_or_zero};
+pub use instructions::{code, instr_at};
+pub use local_steps::{is_local, local};
+pub use other_steps::{
+    enter_binding, enter_scope, forget, leave_entry, leave_fork, leave_scope, steps,
+};
+pub use slots::{is_empty, named, slot};

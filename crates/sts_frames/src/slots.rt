@@ -4,8 +4,8 @@ ghost use Rattle.std.specs.Prelude.{◌≡◌, slice_set};
 ghost use Rattle.sts_model.specs.Effect as effect;
 ghost use Rattle.sts_model.specs.Misuse as misuse;
 
-use sts_code::limits::LAST_SLOT;
-use sts_model::record::{Frame, Slot};
+use sts_code::LAST_SLOT;
+use sts_model::{Frame, Slot};
 
 /// What a slot holds; nothing above the last.
 pub fn slot(frame: &Frame, x: u8) -> Slot

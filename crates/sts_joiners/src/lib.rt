@@ -6,9 +6,10 @@ ghost use Rattle.sts_code.specs.declared.instr.Joiner.{Joiner};
 ghost use Rattle.sts_model.specs.declared.event.End.{End};
 ghost use Rattle.sts_joiners.specs.Enough.{IsEnough};
 
-pub mod tally;
+mod tally;
 
-pub use sts_model::event::Verdict;
+pub use sts_model::Verdict;
+pub use tally::Tally;
 
 /// A law of the definitions: what is kept of the ends goes on by itself, and gives what the whole
 /// list gives.

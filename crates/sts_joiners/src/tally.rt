@@ -9,8 +9,8 @@ ghost use Rattle.sts_model.specs.Told.{cancels_told, result_told, reaches};
 ghost use Rattle.sts_joiners.specs.Tallied.{StandsFor, tallied, with_end, ends_told};
 
 use std::marker::Model;
-use sts_code::instr::{Joiner, Pred};
-use sts_model::event::{End, Verdict};
+use sts_code::{Joiner, Pred};
+use sts_model::{End, Verdict};
 
 /// What a joiner has to know of the ends that it was told, in order of completion.
 ///
@@ -46,6 +46,23 @@ impl Model for Tally {
         total = t.total;
       };
     } };
+}
+
+impl Tally {
+    /// The same once more.
+    pub fn copied(&self) -> Tally
+        ensures { result ≡ self.now }
+    {
+        Tally {
+            joiner: self.joiner,
+            successes: self.successes,
+            failures: self.failures,
+            first_success: self.first_success,
+            first_failure: self.first_failure,
+            reached: self.reached,
+            total: self.total,
+        }
+    }
 }
 
 impl Tally {

@@ -4,5 +4,8 @@
 //! store, keeps no list of its own, and takes no memory.
 #![tactic(auto)]
 
-pub mod links;
-pub mod lists;
+mod links;
+mod lists;
+
+pub use links::{Ends, Link, Links};
+pub use lists::{after, front, push_back, unlink};

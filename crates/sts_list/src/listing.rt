@@ -15,9 +15,7 @@ use crate::spelling::write_instr;
 use crate::targets::target_marks;
 use std::alloc::{AllocError, Global};
 use std::fmt::Write;
-use sts_code::instr::Instr;
-use sts_code::profile::Profile;
-use sts_code::program::{Function, Program};
+use sts_code::{Function, Instr, Profile, Program};
 
 fn needs_any(needs: &[bool; 16]) -> bool
     ensures { result ≡ list_any (λ needed. needed) needs.now }

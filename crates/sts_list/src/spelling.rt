@@ -7,8 +7,7 @@ ghost use Rattle.sts_code.specs.Program.{routine};
 
 use std::alloc::{AllocError, Global};
 use std::fmt::Write;
-use sts_code::instr::{Instr, Joiner, Kind, Pred};
-use sts_code::program::Program;
+use sts_code::{Instr, Joiner, Kind, Pred, Program};
 
 fn keyword(instr: &Instr) -> &'static str
     ensures { result.now ≡ keyword instr.now }

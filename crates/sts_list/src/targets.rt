@@ -7,7 +7,7 @@ ghost use Rattle.sts_list.specs.Listing.{is_target, with_marks};
 ghost use Rattle.sts_code.specs.Facts.{targets};
 
 use std::alloc::{AllocError, Global};
-use sts_code::instr::Instr;
+use sts_code::Instr;
 
 fn mark(marks: &mut Vec<bool>, to: u32)
     ensures { marks.new.items ≡ with_marks marks.old.items (to ∷ []) }

@@ -7,14 +7,14 @@ use Rattle.sts_rules.specs.Refusal.{IsBudgetOf}
 use Rattle.sts_model.specs.declared.event.Stand.{Stand}
 use Rattle.sts_model.specs.declared.event.Stand.TheVariants.{Free, AtJoin, AtClose}
 use Rattle.sts_model.specs.Live.{Live}
-use Rattle.sts_runs.proofs.EventLemmas.{main}
-use Rattle.sts_seen.specs.Run.{live_opening}
-use Rattle.sts_seen.specs.Seen.{RunIsSeen, StandsAt}
-use Rattle.sts_seen.specs.Waiting.{live_stand_at}
-use Rattle.sts_views.specs.Order.{InOrder}
-use Rattle.sts_views.specs.Stands.{StandsAreOwned, is_stand_at}
-use Rattle.sts_laws_accepted.specs.Accepted.{main_of}
-use Rattle.sts_laws_accepted.specs.Views.{live_tasks, live_scopes, live_bindings}
+use Rattle.laws_runs.proofs.EventLemmas.{main}
+use Rattle.laws_live.specs.Run.{live_opening}
+use Rattle.laws_live.specs.Seen.{RunIsSeen, StandsAt}
+use Rattle.laws_live.specs.Waiting.{live_stand_at}
+use Rattle.laws_live.specs.Order.{InOrder}
+use Rattle.laws_live.specs.Stands.{StandsAreOwned, is_stand_at}
+use Rattle.laws_accepted.specs.Accepted.{main_of}
+use Rattle.laws_accepted.specs.Views.{live_tasks, live_scopes, live_bindings}
 use Rattle.sts_store.specs.Parts.{Parts, Unseen, live_of, unseen_of}
 use Rattle.sts_machine.specs.Laws.{HasLaws}
 use Rattle.sts_machine.specs.Machine.{IsMachine}

@@ -8,8 +8,8 @@ use Rattle.sts_rules.specs.ControlPaths.{PointHolds}
 use Rattle.sts_rules.specs.Budget.{AreBudgets, budget_at, no_budget, skeleton, tasks_sum}
 use Rattle.sts_rules.specs.Refusal.{IsAccepted, IsBudgetOf}
 use Rattle.sts_verify.proofs.BudgetLemmas.{budget_is, budget_of-one}
-use Rattle.sts_seen.proofs.ListLemmas.{alike}
-use Rattle.sts_laws_accepted.specs.Accepted.{main_of}
+use Rattle.laws_live.proofs.ListLemmas.{alike}
+use Rattle.laws_accepted.specs.Accepted.{main_of}
 
 -- the functions before one have one list of budgets
 earlier-one : (p : Program) (bs cs : List Budgets) → length bs ≡ length cs → AreBudgets p bs → AreBudgets p cs → bs ≡ cs

@@ -1,8 +1,8 @@
 -- A store that knows where its tasks stand tells which of them can step.
 use Rattle.std.proofs.Common.{◌≡◌, ℕ, Bool, true, false, Option, Some, None, refl, sym, ◌∙◌, ap, ◌&&◌}
 use Rattle.sts_code.specs.Program.{Program}
-use Rattle.sts_seen.specs.Reading.{lives_in}
-use Rattle.sts_seen.specs.Waiting.{live_can_go, live_can_step, live_stand_at}
+use Rattle.laws_live.specs.Reading.{lives_in}
+use Rattle.laws_live.specs.Waiting.{live_can_go, live_can_step, live_stand_at}
 use Rattle.sts_store.specs.Parts.{Parts, can_go_on, live_of, stand_in, unseen_of}
 use Rattle.sts_machine.specs.Standing.{AreStanding}
 use Rattle.sts_machine.specs.Turned.{Picks}

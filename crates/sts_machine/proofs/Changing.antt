@@ -16,10 +16,10 @@ use Rattle.sts_model.specs.Local.{operand}
 use Rattle.sts_model.specs.Misuse.{is_binding, innermost}
 use Rattle.sts_model.specs.Effect.{forked}
 use Rattle.sts_model.specs.Live.{Live, LiveTask, LiveScope, Alive}
-use Rattle.sts_runs.proofs.ListLemmas.{at_more, at_set, past, within}
-use Rattle.sts_seen.specs.Reading.{task_in, no_live_task, no_alive, live_task_at, live_scope_at, alive_at, lives_in, with_alive, with_live_frame}
-use Rattle.sts_seen.specs.Effect.{opened_scope, live_open, live_child, live_fork, live_bind, live_unbind, live_ended, live_end}
-use Rattle.sts_laws_accepted.specs.Views.{bindings_in, live_tasks, live_scopes, live_bindings}
+use Rattle.laws_runs.proofs.ListLemmas.{at_more, at_set, past, within}
+use Rattle.laws_live.specs.Reading.{task_in, no_live_task, no_alive, live_task_at, live_scope_at, alive_at, lives_in, with_alive, with_live_frame}
+use Rattle.laws_live.specs.Effect.{opened_scope, live_open, live_child, live_fork, live_bind, live_unbind, live_ended, live_end}
+use Rattle.laws_accepted.specs.Views.{bindings_in, live_tasks, live_scopes, live_bindings}
 use Rattle.sts_store.specs.Parts.{Unseen, stand_in, stood_unseen}
 use Rattle.sts_machine.specs.Changing.{Changes}
 use Rattle.sts_machine.specs.Room.{is_living, living_tasks}

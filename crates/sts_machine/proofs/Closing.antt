@@ -15,11 +15,11 @@ use Rattle.sts_model.specs.Living.{is_in}
 use Rattle.sts_model.specs.Local.{steps}
 use Rattle.sts_model.specs.Misuse.{is_binding, is_entry_of, innermost}
 use Rattle.sts_model.specs.Live.{Live, LiveTask, LiveScope, Alive, subtask_in}
-use Rattle.sts_runs.proofs.ListLemmas.{within}
-use Rattle.sts_seen.specs.Reading.{scope_in, task_in, no_live_task, no_alive, alive_at, lives_in, is_live_living, live_any_lives, with_live_frame, with_live_phase}
-use Rattle.sts_seen.specs.Cancelling.{live_cancel}
-use Rattle.sts_seen.specs.Effect.{without, live_cleared, live_gone, live_closed, live_close}
-use Rattle.sts_laws_accepted.specs.Views.{open_bindings, bindings_in, live_scopes}
+use Rattle.laws_runs.proofs.ListLemmas.{within}
+use Rattle.laws_live.specs.Reading.{scope_in, task_in, no_live_task, no_alive, alive_at, lives_in, is_live_living, live_any_lives, with_live_frame, with_live_phase}
+use Rattle.laws_live.specs.Cancelling.{live_cancel}
+use Rattle.laws_live.specs.Effect.{without, live_cleared, live_gone, live_closed, live_close}
+use Rattle.laws_accepted.specs.Views.{open_bindings, bindings_in, live_scopes}
 use Rattle.sts_store.specs.Closing.{stand_left, stands_left, gone_unseen, close_unseen}
 use Rattle.sts_store.specs.Parts.{Unseen, stand_in, stood_unseen}
 use Rattle.sts_store.proofs.CloseLemmas.{close_begins, close_ends}

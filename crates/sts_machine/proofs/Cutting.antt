@@ -8,8 +8,8 @@ use Rattle.sts_model.specs.declared.record.Frame.{Frame}
 use Rattle.sts_model.specs.World.{code, instr_at}
 use Rattle.sts_model.specs.Local.{is_local, local}
 use Rattle.sts_model.specs.Misuse.{overflows, breaks_loop}
-use Rattle.sts_seen.specs.Reading.{with_live_frame}
-use Rattle.sts_views.specs.Fine.{IsLiveFine}
+use Rattle.laws_live.specs.Reading.{with_live_frame}
+use Rattle.laws_live.specs.Fine.{IsLiveFine}
 use Rattle.sts_machine.specs.Slice.{if_local, local_at, and_local, locals, Cut, IsReached, IsSlice}
 use Rattle.sts_machine.proofs.LocalSteps.{AtLocal, can-local, step-local, beside-locals, just, lives-framed, frame-framed, within_limit}
 

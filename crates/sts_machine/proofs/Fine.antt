@@ -14,12 +14,12 @@ use Rattle.sts_model.specs.World.{code}
 use Rattle.sts_model.specs.Misuse.{slot, innermost, is_entry_of}
 use Rattle.sts_model.specs.Effect.{named}
 use Rattle.sts_model.specs.Live.{Live, LiveScope}
-use Rattle.sts_runs.proofs.EffectLemmas.{first_no}
-use Rattle.sts_runs.proofs.FrameLemmas.{own_slot}
-use Rattle.sts_seen.specs.Reading.{lives_in, alive_at, scope_in, live_scope_at, with_live_frame}
-use Rattle.sts_seen.specs.Effect.{live_effect}
-use Rattle.sts_views.specs.Fine.{IsLiveFine, live_at_own, live_joins_wrongly}
-use Rattle.sts_views.specs.Order.{InOrder}
+use Rattle.laws_runs.proofs.EffectLemmas.{first_no}
+use Rattle.laws_runs.proofs.FrameLemmas.{own_slot}
+use Rattle.laws_live.specs.Reading.{lives_in, alive_at, scope_in, live_scope_at, with_live_frame}
+use Rattle.laws_live.specs.Effect.{live_effect}
+use Rattle.laws_live.specs.Fine.{IsLiveFine, live_at_own, live_joins_wrongly}
+use Rattle.laws_live.specs.Order.{InOrder}
 
 -- a test of the scope that a slot owns
 own_test : (v : Live) (y : Slot) (test : ℕ → LiveScope → Bool) → y ≡ Own (named y) → live_at_own v y test ≡ test (named y) (live_scope_at v (named y))

@@ -14,14 +14,14 @@ use Rattle.sts_model.specs.declared.record.Loop.{Loop}
 use Rattle.sts_model.specs.World.{code, instr_at}
 use Rattle.sts_model.specs.Local.{is_local, local, turns, clipped, operand}
 use Rattle.sts_model.specs.Live.{Live, LiveTask, Alive}
-use Rattle.sts_runs.specs.Runs.{In}
-use Rattle.sts_seen.specs.Reading.{alive_at, lives_in, with_live_frame, no_live_task, no_alive}
-use Rattle.sts_seen.specs.Waiting.{live_stand_at_instr, live_stand_at, live_can_step}
-use Rattle.sts_seen.specs.Effect.{live_effect}
-use Rattle.sts_seen.specs.Run.{live_apply, live_perform, live_steps_in}
-use Rattle.sts_seen.specs.Seen.{StandsAt, TurnsAreSeen}
-use Rattle.sts_laws_costs.specs.Costs.{IsModest}
-use Rattle.sts_laws_accepted.specs.Accepted.{LimitsHold}
+use Rattle.laws_runs.specs.Runs.{In}
+use Rattle.laws_live.specs.Reading.{alive_at, lives_in, with_live_frame, no_live_task, no_alive}
+use Rattle.laws_live.specs.Waiting.{live_stand_at_instr, live_stand_at, live_can_step}
+use Rattle.laws_live.specs.Effect.{live_effect}
+use Rattle.laws_live.specs.Run.{live_apply, live_perform, live_steps_in}
+use Rattle.laws_live.specs.Seen.{StandsAt, TurnsAreSeen}
+use Rattle.laws_accepted.specs.Costs.{IsModest}
+use Rattle.laws_accepted.specs.Accepted.{LimitsHold}
 use Rattle.sts_machine.specs.Slice.{if_local, and_local, locals, steps_of}
 
 -- ---- what a local instruction leaves as it is

@@ -12,10 +12,10 @@ use Rattle.sts_model.specs.declared.record.Slot.TheVariants.{Empty, Own, Lent, S
 use Rattle.sts_model.specs.World.{code, instr_at}
 use Rattle.sts_model.specs.Misuse.{slot, is_binding}
 use Rattle.sts_model.specs.Live.{Live, LiveTask, Alive}
-use Rattle.sts_seen.specs.Reading.{alive_at, lives_in, no_alive, no_live_task, task_in, with_live_frame}
-use Rattle.sts_seen.specs.Seen.{StandsAt}
-use Rattle.sts_seen.specs.Waiting.{live_can_step, live_stand_at, live_stand_at_instr, live_stands_at_close, live_stands_at_join}
-use Rattle.sts_views.specs.Order.{InOrder}
+use Rattle.laws_live.specs.Reading.{alive_at, lives_in, no_alive, no_live_task, task_in, with_live_frame}
+use Rattle.laws_live.specs.Seen.{StandsAt}
+use Rattle.laws_live.specs.Waiting.{live_can_step, live_stand_at, live_stand_at_instr, live_stands_at_close, live_stands_at_join}
+use Rattle.laws_live.specs.Order.{InOrder}
 use Rattle.sts_store.specs.Parts.{Parts, Unseen, frame_of, live_of, unseen_of}
 use Rattle.sts_machine.specs.Machine.{IsMachine, Seen, Stands}
 use Rattle.sts_machine.specs.Room.{HasRoomOf}

@@ -20,12 +20,12 @@ use Rattle.sts_model.specs.Misuse.{slot, is_binding}
 use Rattle.sts_model.specs.Effect.{named}
 use Rattle.sts_model.specs.Told.{tell, cancels_told, result_told}
 use Rattle.sts_model.specs.Live.{Live, LiveTask, LiveScope, Alive}
-use Rattle.sts_runs.proofs.ListLemmas.{at_set}
-use Rattle.sts_seen.specs.Reading.{scope_in, task_in, no_live_task, no_alive, live_task_at, live_scope_at, alive_at, lives_in, with_live_task, with_alive, with_live_frame, with_live_scope, with_live_phase, live_any_lives, live_count}
-use Rattle.sts_seen.specs.Cancelling.{live_raise, live_raised, live_marked, live_cancel}
-use Rattle.sts_seen.specs.Effect.{live_verdict, live_join, live_told, live_decide, live_tell, live_effect}
-use Rattle.sts_seen.specs.Outside.{live_can_expire, live_expire, live_interrupt}
-use Rattle.sts_laws_accepted.specs.Views.{bindings_in}
+use Rattle.laws_runs.proofs.ListLemmas.{at_set}
+use Rattle.laws_live.specs.Reading.{scope_in, task_in, no_live_task, no_alive, live_task_at, live_scope_at, alive_at, lives_in, with_live_task, with_alive, with_live_frame, with_live_scope, with_live_phase, live_any_lives, live_count}
+use Rattle.laws_live.specs.Cancelling.{live_raise, live_raised, live_marked, live_cancel}
+use Rattle.laws_live.specs.Effect.{live_verdict, live_join, live_told, live_decide, live_tell, live_effect}
+use Rattle.laws_live.specs.Outside.{live_can_expire, live_expire, live_interrupt}
+use Rattle.laws_accepted.specs.Views.{bindings_in}
 use Rattle.sts_machine.specs.Changing.{is_quiet}
 use Rattle.sts_machine.specs.Room.{is_living}
 use Rattle.sts_machine.proofs.Lists.{mapped}

@@ -3,17 +3,17 @@ use Rattle.std.proofs.Common.{◌≡◌, ℕ, suc, List, [], ◌∷◌, length, 
 use Rattle.std.proofs.lemmas.Bool.Decides.{nat_tests}
 use Rattle.std.specs.Prelude.{option_map, unwrap_or, ◌==◌}
 use Rattle.sts_code.specs.Program.{Program}
-use Rattle.sts_forest.specs.declared.record.Task.{Task}
+use Rattle.sts_tree.specs.declared.record.Task.{Task}
 use Rattle.sts_rules.specs.declared.budget.Budgets.{Budgets}
 use Rattle.sts_code.specs.declared.instr.Instr.{Instr}
 use Rattle.sts_code.specs.declared.instr.Instr.TheVariants.{Join, Close}
 use Rattle.sts_model.specs.World.{instr_at}
 use Rattle.sts_model.specs.declared.event.Stand.TheVariants.{Free}
 use Rattle.sts_model.specs.Live.{Live}
-use Rattle.sts_seen.specs.Reading.{lives_in, alive_at}
-use Rattle.sts_seen.specs.Waiting.{live_stand_at, live_stand_at_instr}
-use Rattle.sts_agree.specs.View.{Beside, tasks_from}
-use Rattle.sts_views.specs.Stands.{IsUnmoved, IdleStandFree}
+use Rattle.laws_live.specs.Reading.{lives_in, alive_at}
+use Rattle.laws_live.specs.Waiting.{live_stand_at, live_stand_at_instr}
+use Rattle.sts_store.specs.View.{Beside, tasks_from}
+use Rattle.laws_live.specs.Stands.{IsUnmoved, IdleStandFree}
 use Rattle.sts_store.specs.Parts.{Parts, Unseen, live_of, unseen_of, beside, stand_in, stand_of, stood_unseen}
 use Rattle.sts_machine.specs.Changing.{Changes, may_wait}
 use Rattle.sts_machine.specs.Room.{HasRoomOf}

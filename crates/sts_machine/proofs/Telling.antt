@@ -11,11 +11,11 @@ use Rattle.sts_model.specs.Live.{Live, live}
 use Rattle.sts_model.specs.Run.{after, counts}
 use Rattle.sts_model.specs.Waiting.{can_step}
 use Rattle.sts_model.specs.World.{World, task_at}
-use Rattle.sts_runs.specs.Runs.{In}
-use Rattle.sts_seen.specs.Seen.{StandingIsSeen, StandsAt}
-use Rattle.sts_seen.specs.Waiting.{live_can_step}
-use Rattle.sts_laws_accepted.specs.Accepted.{main_of}
-use Rattle.sts_laws_accepted.specs.Views.{BindingsAreSeen, live_bindings, live_scopes, live_tasks}
+use Rattle.laws_runs.specs.Runs.{In}
+use Rattle.laws_live.specs.Seen.{StandingIsSeen, StandsAt}
+use Rattle.laws_live.specs.Waiting.{live_can_step}
+use Rattle.laws_accepted.specs.Accepted.{main_of}
+use Rattle.laws_accepted.specs.Views.{BindingsAreSeen, live_bindings, live_scopes, live_tasks}
 use Rattle.sts_model.specs.Standing.{standing_bindings}
 use Rattle.sts_store.specs.Parts.{Unseen}
 use Rattle.sts_machine.specs.Laws.{HasLaws}

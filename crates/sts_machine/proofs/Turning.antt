@@ -16,19 +16,19 @@ use Rattle.sts_model.specs.declared.record.Frame.{Frame}
 use Rattle.sts_model.specs.Live.{Live, LiveTask}
 use Rattle.sts_model.specs.Run.{after, counts}
 use Rattle.sts_model.specs.World.{code, instr_at}
-use Rattle.sts_runs.specs.Runs.{In}
-use Rattle.sts_seen.specs.Effect.{live_effect}
-use Rattle.sts_seen.specs.Reading.{alive_at, lives_in, live_scope_at}
-use Rattle.sts_seen.specs.Outside.{live_can_expire}
-use Rattle.sts_seen.specs.Run.{live_apply, live_counts, live_perform, live_steps_in}
-use Rattle.sts_seen.specs.Seen.{StandsAt}
-use Rattle.sts_seen.specs.Waiting.{live_can_go, live_can_step, live_stand_at}
-use Rattle.sts_views.specs.Fine.{IsLiveFine}
-use Rattle.sts_views.specs.Order.{InOrder}
-use Rattle.sts_laws_accepted.specs.Accepted.{main_of}
-use Rattle.sts_laws_accepted.specs.EveryRun.{RunsWell}
-use Rattle.sts_laws_accepted.specs.Views.{LiveHasRoomFor}
-use Rattle.sts_laws_costs.specs.Costs.{IsModest}
+use Rattle.laws_runs.specs.Runs.{In}
+use Rattle.laws_live.specs.Effect.{live_effect}
+use Rattle.laws_live.specs.Reading.{alive_at, lives_in, live_scope_at}
+use Rattle.laws_live.specs.Outside.{live_can_expire}
+use Rattle.laws_live.specs.Run.{live_apply, live_counts, live_perform, live_steps_in}
+use Rattle.laws_live.specs.Seen.{StandsAt}
+use Rattle.laws_live.specs.Waiting.{live_can_go, live_can_step, live_stand_at}
+use Rattle.laws_live.specs.Fine.{IsLiveFine}
+use Rattle.laws_live.specs.Order.{InOrder}
+use Rattle.laws_accepted.specs.Accepted.{main_of}
+use Rattle.laws_accepted.specs.EveryRun.{RunsWell}
+use Rattle.laws_accepted.specs.Views.{LiveHasRoomFor}
+use Rattle.laws_accepted.specs.Costs.{IsModest}
 use Rattle.sts_store.specs.Parts.{Parts, Unseen, frame_of, live_of, unseen_of}
 use Rattle.sts_machine.specs.Laws.{HasLaws}
 use Rattle.sts_machine.specs.Machine.{IsMachine, Seen, Stands}

@@ -8,14 +8,14 @@ use Rattle.sts_model.specs.Live.{Live}
 use Rattle.sts_model.specs.Living.{lives}
 use Rattle.sts_model.specs.Run.{after, apply, counts, is_step}
 use Rattle.sts_model.specs.World.{World, State, Running, opening, task_at}
-use Rattle.sts_runs.specs.Runs.{Between}
-use Rattle.sts_runs.proofs.EventLemmas.{main}
-use Rattle.sts_laws.specs.Stays.{KeepsBorn, NothingIsLost}
-use Rattle.sts_laws_scopes.proofs.ScopeLemmas.{has_ended}
-use Rattle.sts_seen.specs.Run.{live_steps_in}
-use Rattle.sts_seen.specs.Seen.{StandsAt}
-use Rattle.sts_seen.specs.Waiting.{live_can_step}
-use Rattle.sts_laws_accepted.specs.EveryRun.{SomeCanStep}
+use Rattle.laws_runs.specs.Runs.{Between}
+use Rattle.laws_runs.proofs.EventLemmas.{main}
+use Rattle.laws_runs.specs.Stays.{KeepsBorn, NothingIsLost}
+use Rattle.laws_runs.proofs.ScopeLemmas.{has_ended}
+use Rattle.laws_live.specs.Run.{live_steps_in}
+use Rattle.laws_live.specs.Seen.{StandsAt}
+use Rattle.laws_live.specs.Waiting.{live_can_step}
+use Rattle.laws_accepted.specs.EveryRun.{SomeCanStep}
 use Rattle.sts_machine.specs.Laws.{HasLaws}
 use Rattle.sts_machine.specs.Machine.{Seen, Stands}
 use Rattle.sts_machine.specs.Whole.{AreSteps, RunsTo}

@@ -5,8 +5,8 @@ use Rattle.sts_code.specs.declared.instr.Instr.TheVariants.{Open, Fork, Join, Cl
 use Rattle.sts_code.specs.declared.instr.Instr.TheVariants.{Ret, Fail}
 use Rattle.sts_model.specs.declared.event.Stand.TheVariants.{Free}
 use Rattle.sts_model.specs.Live.{Live}
-use Rattle.sts_seen.specs.Reading.{lives_in}
-use Rattle.sts_laws_accepted.specs.Views.{live_tasks, live_scopes, live_bindings}
+use Rattle.laws_live.specs.Reading.{lives_in}
+use Rattle.laws_accepted.specs.Views.{live_tasks, live_scopes, live_bindings}
 use Rattle.sts_store.specs.Parts.{Unseen, stand_in}
 use Rattle.sts_machine.specs.Room.{living_tasks}
 

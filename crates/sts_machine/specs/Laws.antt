@@ -5,12 +5,12 @@ use Rattle.sts_rules.specs.declared.budget.Budgets.{Budgets}
 use Rattle.sts_rules.specs.Refusal.{IsBudgetOf}
 use Rattle.sts_model.specs.declared.event.Event.{Event}
 use Rattle.sts_model.specs.Live.{Live}
-use Rattle.sts_seen.specs.Seen.{StandsAt, TurnsAreSeen}
-use Rattle.sts_views.specs.Fine.{TurnsAreSafe}
-use Rattle.sts_views.specs.Order.{InOrder}
-use Rattle.sts_laws_accepted.specs.Accepted.{main_of, LimitsHold}
-use Rattle.sts_laws_accepted.specs.EveryRun.{RunsWell}
-use Rattle.sts_laws_accepted.specs.Views.{ViewsHaveRoom}
+use Rattle.laws_live.specs.Seen.{StandsAt, TurnsAreSeen}
+use Rattle.laws_live.specs.Fine.{TurnsAreSafe}
+use Rattle.laws_live.specs.Order.{InOrder}
+use Rattle.laws_accepted.specs.Accepted.{main_of, LimitsHold}
+use Rattle.laws_accepted.specs.EveryRun.{RunsWell}
+use Rattle.laws_accepted.specs.Views.{ViewsHaveRoom}
 
 -- the budgets that are printed of `main`, with which every run goes well
 pub record MainBudget (p : Program) : Type 0 where

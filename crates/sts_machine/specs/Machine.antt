@@ -5,8 +5,8 @@ use Rattle.sts_rules.specs.declared.budget.Budgets.{Budgets}
 use Rattle.sts_rules.specs.Refusal.{IsBudgetOf}
 use Rattle.sts_model.specs.declared.event.Event.{Event}
 use Rattle.sts_model.specs.Live.{Live}
-use Rattle.sts_seen.specs.Seen.{StandsAt}
-use Rattle.sts_laws_accepted.specs.Accepted.{main_of}
+use Rattle.laws_live.specs.Seen.{StandsAt}
+use Rattle.laws_accepted.specs.Accepted.{main_of}
 use Rattle.sts_store.specs.Parts.{Parts, Unseen, live_of, unseen_of}
 use Rattle.sts_machine.specs.Laws.{HasLaws}
 use Rattle.sts_machine.specs.Standing.{AreStanding}

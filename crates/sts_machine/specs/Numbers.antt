@@ -4,7 +4,7 @@ use Rattle.sts_rules.specs.declared.budget.Budgets.{Budgets}
 use Rattle.sts_model.specs.World.{World}
 use Rattle.sts_model.specs.Standing.{standing_tasks, standing_scopes, standing_bindings}
 use Rattle.sts_model.specs.Live.{Live}
-use Rattle.sts_laws_accepted.specs.Views.{live_tasks, live_scopes, live_bindings}
+use Rattle.laws_accepted.specs.Views.{live_tasks, live_scopes, live_bindings}
 use Rattle.sts_store.specs.Parts.{Unseen}
 use Rattle.sts_machine.specs.declared.standing.Standing.{Standing}
 

@@ -7,7 +7,7 @@ use Rattle.sts_model.specs.declared.record.Slot.TheVariants.{Own}
 use Rattle.sts_model.specs.declared.record.Frame.{Frame}
 use Rattle.sts_model.specs.Live.{Live, LiveTask}
 use Rattle.sts_model.specs.Misuse.{slot}
-use Rattle.sts_laws_accepted.specs.Views.{live_tasks, live_scopes, live_bindings}
+use Rattle.laws_accepted.specs.Views.{live_tasks, live_scopes, live_bindings}
 use Rattle.sts_store.specs.Parts.{Unseen}
 
 abbrev pub is_living : Option LiveTask → Bool

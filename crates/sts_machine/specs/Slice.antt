@@ -9,10 +9,10 @@ use Rattle.sts_model.specs.declared.record.Frame.{Frame}
 use Rattle.sts_model.specs.World.{code}
 use Rattle.sts_model.specs.Local.{is_local, local}
 use Rattle.sts_model.specs.Live.{Live}
-use Rattle.sts_seen.specs.Reading.{alive_at, lives_in}
-use Rattle.sts_seen.specs.Seen.{StandsAt, TurnsAreSeen}
-use Rattle.sts_views.specs.Fine.{TurnsAreSafe}
-use Rattle.sts_laws_accepted.specs.Accepted.{LimitsHold}
+use Rattle.laws_live.specs.Reading.{alive_at, lives_in}
+use Rattle.laws_live.specs.Seen.{StandsAt, TurnsAreSeen}
+use Rattle.laws_live.specs.Fine.{TurnsAreSafe}
+use Rattle.laws_accepted.specs.Accepted.{LimitsHold}
 use Rattle.sts_machine.specs.Machine.{Seen}
 
 -- ---- local instructions

@@ -4,8 +4,8 @@ use Rattle.sts_code.specs.Program.{Program}
 use Rattle.sts_model.specs.declared.event.Stand.{Stand}
 use Rattle.sts_model.specs.declared.event.Stand.TheVariants.{Free}
 use Rattle.sts_model.specs.Live.{Live}
-use Rattle.sts_seen.specs.Reading.{lives_in}
-use Rattle.sts_seen.specs.Waiting.{live_stand_at}
+use Rattle.laws_live.specs.Reading.{lives_in}
+use Rattle.laws_live.specs.Waiting.{live_stand_at}
 use Rattle.sts_store.specs.Parts.{Unseen, stand_in}
 
 -- each living task was last said to stand where its next instruction says

@@ -3,7 +3,7 @@
 ghost use Rattle.std.specs.Prelude.{not, ◌&&◌, ◌==◌};
 ghost use Rattle.std.specs.List.{list_any};
 ghost use Rattle.sts_machine.specs.Turned.{Picks};
-ghost use Rattle.sts_seen.specs.Waiting.{live_can_step};
+ghost use Rattle.laws_live.specs.Waiting.{live_can_step};
 
 use crate::machine::Machine;
 

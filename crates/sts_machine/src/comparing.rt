@@ -2,9 +2,8 @@
 
 ghost use Rattle.std.specs.Prelude.{◌≡◌, ◌↔◌, IsTrue};
 
-use sts_code::instr::Instr;
-use sts_model::record::{Entry, Frame, Loop, Slot};
-use sts_model::stack::Stack;
+use sts_code::Instr;
+use sts_model::{Entry, Frame, Loop, Slot, Stack};
 
 fn same_operands(a: &Stack<i64, 32>, b: &Stack<i64, 32>) -> bool
     ensures { IsTrue result ↔ a.now ≡ b.now }

@@ -5,18 +5,17 @@ ghost use Rattle.sts_code.specs.declared.limits.TheConstants.{MAX_INSTRUCTIONS};
 ghost use Rattle.sts_machine.specs.Changing.{Changes, is_quiet, may_leave, may_wait};
 ghost use Rattle.sts_machine.specs.Room.{HasRoomLeft};
 ghost use Rattle.sts_model.specs.World as world;
-ghost use Rattle.sts_seen.specs.Effect.{live_effect};
-ghost use Rattle.sts_seen.specs.Reading.{lives_in};
+ghost use Rattle.laws_live.specs.Effect.{live_effect};
+ghost use Rattle.laws_live.specs.Reading.{lives_in};
 ghost use Rattle.sts_store.specs.Parts.{frame_of, live_of, stand_in, unseen_of};
-ghost use Rattle.sts_views.specs.Fine.{IsLiveFine};
-ghost use Rattle.sts_views.specs.Order.{InOrder};
+ghost use Rattle.laws_live.specs.Fine.{IsLiveFine};
+ghost use Rattle.laws_live.specs.Order.{InOrder};
 
 use crate::slots::named;
-use sts_code::instr::Instr;
-use sts_code::program::Program;
-use sts_frames::local::is_local;
-use sts_model::event::End;
-use sts_store::store::Store;
+use sts_code::{Instr, Program};
+use sts_frames::is_local;
+use sts_model::End;
+use sts_store::Store;
 
 /// Does the instruction that a living task is at, which is no misuse and for which there is room.
 pub(crate) fn effect(store: &mut Store, program: &Program, code: &[Instr], t: u32, instr: &Instr)

@@ -1,14 +1,14 @@
 //! What a machine relies on.
 
 ghost use Rattle.std.specs.Prelude.{◌<◌, ◌≤◌};
-ghost use Rattle.sts_laws_accepted.specs.Accepted.{main_of};
+ghost use Rattle.laws_accepted.specs.Accepted.{main_of};
 ghost use Rattle.sts_machine.specs.Laws.{HasLaws};
 ghost use Rattle.sts_rules.specs.Refusal.{IsBudgetOf};
 
-use sts_laws_accepted::{every_run, limits_hold, turns_are_safe, turns_are_seen, views_have_room};
-use sts_rules::budget::Budgets;
-use sts_verify::verified::Verified;
-use sts_views::seen_in_order;
+use laws_accepted::{every_run, limits_hold, turns_are_safe, turns_are_seen, views_have_room};
+use laws_live::seen_in_order;
+use sts_rules::Budgets;
+use sts_verify::Verified;
 
 /// The budgets that are printed of `main`, and the laws of a verified program: a machine keeps them,
 /// so that no turn asks for them again.

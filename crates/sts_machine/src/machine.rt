@@ -1,8 +1,8 @@
 //! The machine.
 
 ghost use Rattle.std.specs.Prelude.{◌≡◌, ◌+◌, ◌++◌, ◌∷◌, [], ℕ, List, true, IfOk};
-ghost use Rattle.sts_laws_accepted.specs.Accepted.{main_of};
-ghost use Rattle.sts_laws_accepted.specs.EveryRun.{RunsWell};
+ghost use Rattle.laws_accepted.specs.Accepted.{main_of};
+ghost use Rattle.laws_accepted.specs.EveryRun.{RunsWell};
 ghost use Rattle.sts_machine.specs.Laws.{HasLaws};
 ghost use Rattle.sts_machine.specs.Machine.{Stands};
 ghost use Rattle.sts_machine.specs.Turned.{Picks, turned};
@@ -12,23 +12,22 @@ ghost use Rattle.sts_model.specs.World.{task_at};
 ghost use Rattle.sts_model.specs.declared.event.Event.{Event as AnyEvent};
 ghost use Rattle.sts_rules.specs.Refusal.{IsBudgetOf};
 ghost use Rattle.sts_rules.specs.declared.budget.Budgets.{Budgets as AnyBudgets};
-ghost use Rattle.sts_runs.specs.Runs.{In};
-ghost use Rattle.sts_seen.specs.Run.{live_apply, live_counts, live_opening, live_steps_in};
-ghost use Rattle.sts_seen.specs.Waiting.{live_can_step};
+ghost use Rattle.laws_runs.specs.Runs.{In};
+ghost use Rattle.laws_live.specs.Run.{live_apply, live_counts, live_opening, live_steps_in};
+ghost use Rattle.laws_live.specs.Waiting.{live_can_step};
 
 use crate::laws::laws;
 use crate::opening::main_frame;
 use crate::outside::{expire, interrupt};
 use crate::perform::perform;
 use crate::turned::Turned;
+use laws_live::{run_is_seen, stands_are_owned};
 use std::alloc::{AllocError, Global};
 use std::marker::Model;
-use sts_frames::code::code;
-use sts_model::event::{End, Event};
-use sts_seen::run_is_seen;
-use sts_store::store::{Room, Store};
-use sts_verify::verified::Verified;
-use sts_views::stands_are_owned;
+use sts_frames::code;
+use sts_model::{End, Event};
+use sts_store::{Room, Store};
+use sts_verify::Verified;
 
 /// A run of a verified program.
 #[derive(Drop)]

@@ -4,9 +4,9 @@ ghost use Rattle.std.specs.Prelude.{◌≡◌, ◌-◌, [], length};
 ghost use Rattle.sts_model.specs.World as def;
 ghost use Rattle.sts_model.specs.declared.record.Slot.TheVariants.{Empty};
 
-use sts_code::program::Program;
-use sts_frames::beginning::root_frame;
-use sts_model::record::Frame;
+use sts_code::Program;
+use sts_frames::root_frame;
+use sts_model::Frame;
 
 /// The frame at the beginning of `main`, the last function.
 pub(crate) fn main_frame(program: &Program) -> Frame

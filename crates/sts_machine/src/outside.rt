@@ -4,14 +4,14 @@ ghost use Rattle.std.specs.Prelude.{◌≡◌, true};
 ghost use Rattle.sts_machine.specs.Room.{HasRoomOf};
 ghost use Rattle.sts_machine.specs.Standing.{AreStanding};
 ghost use Rattle.sts_rules.specs.declared.budget.Budgets.{Budgets as AnyBudgets};
-ghost use Rattle.sts_seen.specs.Outside.{live_can_expire, live_expire, live_interrupt};
-ghost use Rattle.sts_seen.specs.Reading.{live_scope_at, lives_in};
+ghost use Rattle.laws_live.specs.Outside.{live_can_expire, live_expire, live_interrupt};
+ghost use Rattle.laws_live.specs.Reading.{live_scope_at, lives_in};
 ghost use Rattle.sts_store.specs.Parts.{live_of, unseen_of};
-ghost use Rattle.sts_views.specs.Order.{InOrder};
+ghost use Rattle.laws_live.specs.Order.{InOrder};
 
-use sts_code::program::Program;
-use sts_store::store::Store;
-use sts_views::{expiries_move_none, interrupts_move_none};
+use laws_live::{expiries_move_none, interrupts_move_none};
+use sts_code::Program;
+use sts_store::Store;
 
 /// Sets the flag of a living task.
 pub(crate) fn interrupt(store: &mut Store, program: &Program, t: u32)

@@ -8,18 +8,17 @@ ghost use Rattle.sts_machine.specs.Standing.{AreStanding};
 ghost use Rattle.sts_model.specs.World as world;
 ghost use Rattle.sts_model.specs.World.{instr_at};
 ghost use Rattle.sts_rules.specs.declared.budget.Budgets.{Budgets as AnyBudgets};
-ghost use Rattle.sts_seen.specs.Effect.{live_effect};
-ghost use Rattle.sts_seen.specs.Reading.{lives_in};
+ghost use Rattle.laws_live.specs.Effect.{live_effect};
+ghost use Rattle.laws_live.specs.Reading.{lives_in};
 ghost use Rattle.sts_store.specs.Parts.{frame_of, live_of, unseen_of};
-ghost use Rattle.sts_views.specs.Fine.{IsLiveFine};
-ghost use Rattle.sts_views.specs.Order.{InOrder};
+ghost use Rattle.laws_live.specs.Fine.{IsLiveFine};
+ghost use Rattle.laws_live.specs.Order.{InOrder};
 
 use crate::effect::effect;
 use crate::stands::{say_stand, say_stand_if_alive};
-use sts_code::instr::Instr;
-use sts_code::program::Program;
-use sts_store::store::Store;
-use sts_views::{effects_move_one, idle_stand_free};
+use laws_live::{effects_move_one, idle_stand_free};
+use sts_code::{Instr, Program};
+use sts_store::Store;
 
 /// May the task have been said to stand at a scope, before the instruction or after it?
 fn may_wait(instr: &Instr) -> bool

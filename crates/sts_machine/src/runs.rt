@@ -1,8 +1,8 @@
 //! Whole runs: of a list of events, and of steps alone.
 
 ghost use Rattle.std.specs.Prelude.{◌≡◌, IfOk};
-ghost use Rattle.sts_laws_accepted.specs.Accepted.{main_of};
-ghost use Rattle.sts_laws_accepted.specs.EveryRun.{RunsWell};
+ghost use Rattle.laws_accepted.specs.Accepted.{main_of};
+ghost use Rattle.laws_accepted.specs.EveryRun.{RunsWell};
 ghost use Rattle.sts_machine.specs.Machine.{Stands};
 ghost use Rattle.sts_machine.specs.Whole.{RunsTo};
 ghost use Rattle.sts_rules.specs.Refusal.{IsBudgetOf};
@@ -10,10 +10,10 @@ ghost use Rattle.sts_rules.specs.declared.budget.Budgets.{Budgets as AnyBudgets}
 
 use crate::laws::laws;
 use crate::machine::Machine;
+use laws_runs::nothing_is_lost;
 use std::alloc::{AllocError, Global};
-use sts_laws::nothing_is_lost;
-use sts_model::event::{End, Event};
-use sts_verify::verified::Verified;
+use sts_model::{End, Event};
+use sts_verify::Verified;
 
 /// The machine after a list of events; and the run goes well.
 ///

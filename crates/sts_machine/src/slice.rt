@@ -7,12 +7,10 @@ ghost use Rattle.sts_machine.specs.Slice.{IsLawful, IsReached, local_at, locals}
 ghost use Rattle.sts_model.specs.World as world;
 
 use std::marker::Model;
-use sts_code::code::code_of;
-use sts_code::instr::Instr;
-use sts_frames::copies::copy_frame;
-use sts_frames::local::{is_local, local};
-use sts_model::record::Frame;
-use sts_verify::verified::Verified;
+use sts_code::{Instr, code_of};
+use sts_frames::{copy_frame, is_local, local};
+use sts_model::Frame;
+use sts_verify::Verified;
 
 /// A task's frame, taken out of a machine: the one that it was taken out with, and what local
 /// instructions have made of it.

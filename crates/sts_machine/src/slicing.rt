@@ -1,22 +1,22 @@
 //! Slices taken out of a machine, and put back.
 
 ghost use Rattle.std.specs.Prelude.{◌≡◌, ◌+◌, ◌++◌, ◌↔◌, List, true, IsTrue};
-ghost use Rattle.sts_laws_accepted.specs.Accepted.{main_of};
-ghost use Rattle.sts_laws_accepted.specs.EveryRun.{RunsWell};
+ghost use Rattle.laws_accepted.specs.Accepted.{main_of};
+ghost use Rattle.laws_accepted.specs.EveryRun.{RunsWell};
 ghost use Rattle.sts_machine.specs.Machine.{Stands};
 ghost use Rattle.sts_machine.specs.Slice.{Fits, steps_of};
 ghost use Rattle.sts_model.specs.World as world;
 ghost use Rattle.sts_model.specs.declared.event.Event.{Event as AnyEvent};
 ghost use Rattle.sts_rules.specs.Refusal.{IsBudgetOf};
 ghost use Rattle.sts_rules.specs.declared.budget.Budgets.{Budgets as AnyBudgets};
-ghost use Rattle.sts_seen.specs.Reading.{alive_at, with_live_frame};
-ghost use Rattle.sts_seen.specs.Waiting.{live_can_step};
+ghost use Rattle.laws_live.specs.Reading.{alive_at, with_live_frame};
+ghost use Rattle.laws_live.specs.Waiting.{live_can_step};
 
 use crate::comparing::{same_code, same_frame};
 use crate::machine::Machine;
 use crate::slice::Slice;
 use crate::stands::say_stand;
-use sts_frames::code::code;
+use sts_frames::code;
 
 impl<'p> Machine<'p> {
     /// A task that can step, taken out: the machine keeps its frame as it is.

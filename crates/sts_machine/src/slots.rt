@@ -5,7 +5,7 @@ ghost use Rattle.sts_model.specs.Effect as effect;
 ghost use Rattle.sts_model.specs.Misuse as misuse;
 ghost use Rattle.sts_model.specs.declared.record.Slot.TheVariants.{Empty};
 
-use sts_model::record::{Frame, Slot};
+use sts_model::{Frame, Slot};
 
 fn slot_at(slots: &[Slot; 16], x: u8) -> Slot
     ensures { result ≡ slice_index_or slots.now x Empty }

@@ -1,21 +1,21 @@
 //! What stands, the room that is left for more, and the keys of what stands.
 
 ghost use Rattle.std.specs.Prelude.{◌≡◌, ℕ, List, is_some};
-ghost use Rattle.sts_held.specs.Holes.{key_at};
-ghost use Rattle.sts_laws_accepted.specs.Accepted.{main_of};
+ghost use Rattle.sts_records.specs.Holes.{key_at};
+ghost use Rattle.laws_accepted.specs.Accepted.{main_of};
 ghost use Rattle.sts_machine.specs.Machine.{Stands};
 ghost use Rattle.sts_machine.specs.Numbers.{AddUpTo, room_of, standing_in, standing_of};
 ghost use Rattle.sts_model.specs.Run.{after};
 ghost use Rattle.sts_model.specs.declared.event.Event.{Event as AnyEvent};
 ghost use Rattle.sts_rules.specs.Refusal.{IsBudgetOf};
 ghost use Rattle.sts_rules.specs.declared.budget.Budgets.{Budgets as AnyBudgets};
-ghost use Rattle.sts_runs.specs.Runs.{In};
-ghost use Rattle.sts_seen.specs.Reading.{scope_in, task_in};
+ghost use Rattle.laws_runs.specs.Runs.{In};
+ghost use Rattle.laws_live.specs.Reading.{scope_in, task_in};
 
 use crate::laws::main_budgets;
 use crate::machine::Machine;
-use sts_laws_accepted::bindings_are_seen;
-use sts_seen::standing_is_seen;
+use laws_accepted::bindings_are_seen;
+use laws_live::standing_is_seen;
 
 /// So many tasks, scopes and bindings.
 #[derive(Clone, Copy, Debug, PartialEq, Eq)]

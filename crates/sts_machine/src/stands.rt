@@ -5,19 +5,17 @@ ghost use Rattle.sts_machine.specs.Room.{HasRoomOf};
 ghost use Rattle.sts_machine.specs.Standing.{AreStanding, AreStandingBut, is_free};
 ghost use Rattle.sts_model.specs.declared.event.Stand.TheVariants.{Free as StandsFree};
 ghost use Rattle.sts_rules.specs.declared.budget.Budgets.{Budgets as AnyBudgets};
-ghost use Rattle.sts_seen.specs.Reading.{lives_in};
-ghost use Rattle.sts_seen.specs.Waiting.{live_stand_at, live_stands_at_close, live_stands_at_join};
+ghost use Rattle.laws_live.specs.Reading.{lives_in};
+ghost use Rattle.laws_live.specs.Waiting.{live_stand_at, live_stands_at_close, live_stands_at_join};
 ghost use Rattle.sts_store.specs.Parts.{live_of, stand_in, unseen_of};
-ghost use Rattle.sts_views.specs.Order.{InOrder};
+ghost use Rattle.laws_live.specs.Order.{InOrder};
 
 use crate::slots::slot;
-use sts_code::instr::Instr;
-use sts_code::program::Program;
-use sts_frames::code::code;
-use sts_model::event::Stand;
-use sts_model::record::Slot;
-use sts_store::store::Store;
-use sts_views::stands_are_owned;
+use laws_live::stands_are_owned;
+use sts_code::{Instr, Program};
+use sts_frames::code;
+use sts_model::{Slot, Stand};
+use sts_store::Store;
 
 /// At the `join` of a scope that the slot owns?
 fn stands_at_join(slot: Slot) -> Stand

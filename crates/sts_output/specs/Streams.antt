@@ -1,5 +1,6 @@
 -- Where bytes come from, and what is written to the two streams (this project's own).
-use Rattle.std.specs.Prelude.{◌-◌, ◌^◌, ℕ, List, [], Option, Some, None, codes}
+use Rattle.std.specs.Prelude.{◌≡◌, ◌-◌, ◌^◌, ℕ, List, [], Option, Some, None, codes}
+use Rattle.std.specs.Prelude.{Bool, false, ⊤, IfSome}
 use Rattle.std.specs.Borrow.{Bor}
 use Rattle.std.specs.Io.KnownBytes.{Keeps}
 use Rattle.sts_output.specs.Output.{Output, Writes}
@@ -20,6 +21,19 @@ Files = List ℕ → Option (List ℕ)
 abbrev pub events_of : Files → Option (Bor (List ℕ)) → Option (List ℕ)
 events_of files None = Some []
 events_of files (Some path) = files path.now
+
+-- whether two names are of the same file, where that is known
+abbrev pub SameFile : Type 0
+SameFile = List ℕ → List ℕ → Option Bool
+
+-- two files aren't known to be the same
+abbrev pub Differ : Option Bool → Type 0
+Differ same = IfSome same (λ is. is ≡ false)
+
+-- a file isn't known to be the same as the one that is named, if one is
+abbrev pub DifferFrom : (List ℕ → Option Bool) → Option (Bor (List ℕ)) → Type 0
+DifferFrom same None = ⊤
+DifferFrom same (Some path) = Differ (same path.now)
 
 -- the bytes that the two streams hold before and after, where they are known
 pub record Streams : Type 0 where

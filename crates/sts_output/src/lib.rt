@@ -2,17 +2,40 @@
 //! machine that workers share.
 #![tactic(auto)]
 
-pub mod joined;
-pub mod mode;
-pub mod modes;
+mod file_error;
+mod joined;
+mod mode;
+mod modes;
+mod notes;
 pub mod output;
-pub mod placeholders;
+mod placeholders;
 pub mod printed;
-pub mod refusal;
-pub mod sinks;
-pub mod sources;
-pub mod taking;
-pub mod text_mode;
-pub mod texts;
-pub mod words;
-pub mod writing;
+mod process_words;
+mod reasons;
+mod refusal;
+mod sinks;
+mod sources;
+mod taking;
+mod text_mode;
+mod texts;
+mod writing;
+
+pub use file_error::FileError;
+pub use joined::split;
+pub use mode::Mode;
+pub use modes::{list, plain, verify};
+pub use notes::{Events, Notes};
+pub use output::{Output, state_status, text_fault, trace_fault};
+pub use placeholders::placeholder;
+pub use printed::{state_line, steps_line};
+pub use process_words::{WordsError, words};
+pub use reasons::{Named, outside_reason, text_reason, trace_reason};
+pub use refusal::accepted;
+pub use sinks::{Sinks, made};
+pub use sources::{Host, Sources, file};
+pub use taking::{TakeError, bytes_of, take};
+pub use text_mode::{TextMode, play_text};
+pub use texts::{
+    MOST_OF_A_STREAM, MOST_OF_A_TEXT, NOT_TEXT, Texts, borrowed, read_input, read_text, read_texts,
+};
+pub use writing::{STATUS_OUTSIDE, WriteFailed, failed, file_failed, written};

@@ -11,9 +11,9 @@ use crate::printed;
 use std::alloc::{AllocError, Global};
 use std::marker::Model;
 use sts_asm::{AsmError, AsmKind};
-use sts_code::program::Program;
-use sts_model::event::End;
-use sts_plain::misstep::PlainState;
+use sts_code::Program;
+use sts_model::End;
+use sts_plain::PlainState;
 use sts_trace::TraceError;
 
 /// What is printed, and the status.

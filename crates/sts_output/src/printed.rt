@@ -9,14 +9,11 @@ ghost use Rattle.sts_output.specs.Printed as def;
 use std::alloc::{AllocError, Global};
 use std::fmt::Write;
 use sts_asm::AsmError;
-use sts_code::checking::CodeError;
-use sts_code::instr::Instr;
-use sts_code::program::{Function, Program};
+use sts_code::{CodeError, Function, Instr, Program};
 use sts_list::spell;
-use sts_model::event::{End, Fault};
-use sts_plain::misstep::PlainState;
-use sts_rules::budget::Budgets;
-use sts_rules::typing::Cause;
+use sts_model::{End, Fault};
+use sts_plain::PlainState;
+use sts_rules::{Budgets, Cause};
 use sts_trace::TraceError;
 
 fn code_fault_line(out: &mut String, error: CodeError) -> Result<(), AllocError>

@@ -6,10 +6,9 @@ ghost use Rattle.sts_output.specs.Output as def;
 use crate::output::Output;
 use crate::printed;
 use std::alloc::{AllocError, Global};
-use sts_code::program::Program;
-use sts_rules::typing::Cause;
-use sts_verify::error::VerifyError;
-use sts_verify::verified::{Verified, verify};
+use sts_code::Program;
+use sts_rules::Cause;
+use sts_verify::{Verified, VerifyError, verify};
 
 fn refused(
     alloc: Global,

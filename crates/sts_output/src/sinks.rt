@@ -1,18 +1,36 @@
 //! Where the bytes of a trace go: a file by its name.
 
-use crate::sources::{Host, not_opened};
-use crate::taking::TakeError;
+ghost use Rattle.std.specs.Prelude.{◌≡◌, false, IfOk};
+ghost use Rattle.sts_output.specs.Streams.{Differ, DifferFrom};
+
+use crate::file_error::FileError;
+use crate::sources::Host;
 use std::alloc::Global;
-use std::io::{BufWriter, Write};
+use std::io::{BufWriter, ErrorKind, Write};
+use std::os::unix::fs::MetadataExt;
 use std::rt::Files;
 use std::{fs, io};
 
 /// Makes what a command line names. A test may implement its own.
 pub trait Sinks {
+    ghost use Rattle.std.specs.Prelude.{◌≡◌, List, ℕ, Bool, Option, None, IfOk, IfSome};
+
     type Sink: Write + Drop;
 
-    /// A file of this name, with no byte in it.
+    /// Whether two names are of the same file, where that is known.
+    ghost same: { Self → List ℕ → List ℕ → Option Bool } = { λ _ _ _. None };
+
+    /// Makes a file of this name, with no byte in it. A file that is there loses its bytes.
     fn create(&self, path: &str) -> io::Result<Self::Sink>;
+
+    /// Returns whether both names are of the same file. Then making the first empties the second.
+    ///
+    /// # Errors
+    ///
+    /// The system doesn't say of a name which file it is of.
+    fn is_same(&self, path: &str, other: &str) -> io::Result<bool>
+        ensures known { IfOk result (λ answer.
+            IfSome (same self.now path.now other.now) (λ known. answer ≡ known)) };
 }
 
 impl<R: Files> Sinks for Host<'_, R> {
@@ -21,20 +39,60 @@ impl<R: Files> Sinks for Host<'_, R> {
     fn create(&self, path: &str) -> io::Result<R::File> {
         fs::create(self.rt, path)
     }
+
+    /// Devices and pipes have no bytes to lose, so they are the same as no file.
+    fn is_same(&self, path: &str, other: &str) -> io::Result<bool> {
+        let made = match fs::metadata(self.rt, path) {
+            Ok(made) => made,
+            Err(error) if error.kind() == ErrorKind::NotFound => return Ok(false),
+            Err(error) => return Err(error),
+        };
+        let read = fs::metadata(self.rt, other)?;
+        Ok(made.is_file() && made.dev() == read.dev() && made.ino() == read.ino())
+    }
 }
 
-/// A file that is made, for many small writes.
+/// Returns whether a name is of one of the files that a run reads.
+fn is_read<S: Sinks>(sinks: &S, path: &str, file: &str, outside: Option<&str>) -> io::Result<bool>
+    ensures file { IfOk result (λ is. is ≡ false
+        → Differ (S.same sinks.now path.now file.now)) }
+    ensures outside { IfOk result (λ is. is ≡ false
+        → DifferFrom (S.same sinks.now path.now) outside.entry) }
+{
+    if sinks.is_same(path, file)? {
+        return Ok(true);
+    }
+    match outside {
+        Some(outside) => sinks.is_same(path, outside),
+        None => Ok(false),
+    }
+}
+
+/// Makes a file for many small writes, if it is none of those that a run reads.
 ///
 /// # Errors
 ///
-/// Memory was refused, or the file could not be made.
-pub fn made<S: Sinks>(
+/// Memory was refused, the file could not be made, or it is `file` or `outside`: then nothing was
+/// opened for writing.
+pub fn made<'a, S: Sinks>(
     alloc: Global,
     sinks: &S,
-    path: &str,
-) -> Result<BufWriter<S::Sink>, TakeError> {
+    path: &'a str,
+    file: &str,
+    outside: Option<&str>,
+) -> Result<BufWriter<S::Sink>, FileError<'a>>
+    ensures file { IfOk result (λ _. Differ (S.same sinks.now path.now file.now)) }
+    ensures outside { IfOk result (λ _. DifferFrom (S.same sinks.now path.now) outside.entry) }
+{
+    match is_read(sinks, path, file, outside) {
+        Ok(false) => {}
+        Ok(true) => return Err(FileError::Overwrites { path }),
+        Err(error) => return Err(FileError::unwritten(path, &error)),
+    }
     match sinks.create(path) {
-        Ok(sink) => BufWriter::new(alloc, sink).map_err(|error| not_opened(&error)),
-        Err(error) => Err(not_opened(&error)),
+        Ok(sink) => {
+            BufWriter::new(alloc, sink).map_err(|error| FileError::unwritten(path, &error))
+        }
+        Err(error) => Err(FileError::unwritten(path, &error)),
     }
 }

@@ -1,12 +1,11 @@
 //! Where the program's bytes come from: files by their names, and the input stream.
 
-ghost use Rattle.std.specs.Prelude.{◌≡◌, ◌↔◌, IfOk, IfErr};
-ghost use Rattle.std.specs.IoError.{error_kind};
+ghost use Rattle.std.specs.Prelude.{IfOk};
 ghost use Rattle.sts_output.specs.Taking.{Gives, IsTakenOf};
 
-use crate::taking::{TakeError, take};
+use crate::taking::bytes_of;
 use std::alloc::Global;
-use std::io::{ErrorKind, Read};
+use std::io::Read;
 use std::rt::Files;
 use std::{fs, io};
 
@@ -52,31 +51,14 @@ impl<R: Files + io::Input> Sources for Host<'_, R> {
     }
 }
 
-/// What a file is told as that could not be opened.
-pub fn not_opened(error: &io::Error) -> TakeError
-    ensures { (result ≡ TakeError.Memory) ↔ (error_kind error.now ≡ ErrorKind.OutOfMemory) }
-{
-    match error.kind() {
-        ErrorKind::OutOfMemory => TakeError::Memory,
-        _ => TakeError::Read,
-    }
-}
-
-/// The first `most` bytes of a file.
+/// Returns the first `most` bytes of a file.
 ///
 /// # Errors
 ///
 /// Memory was refused, or the file could not be opened or read.
-pub fn file<S: Sources>(
-    alloc: Global,
-    sources: &S,
-    path: &str,
-    most: u64,
-) -> Result<Vec<u8>, TakeError>
+pub fn file<S: Sources>(alloc: Global, sources: &S, path: &str, most: u64) -> io::Result<Vec<u8>>
     ensures { IfOk result (λ taken. IsTakenOf (S.held sources.now path.now) most taken.items) }
 {
-    match sources.open(path) {
-        Ok(mut source) => take(alloc, &mut source, most),
-        Err(error) => Err(not_opened(&error)),
-    }
+    let mut source = sources.open(path)?;
+    bytes_of(alloc, &mut source, most)
 }

@@ -1,7 +1,7 @@
 //! Takes a reader's bytes, up to a most.
 
 ghost use Rattle.std.specs.IoError.{error_kind};
-ghost use Rattle.std.specs.Prelude.{◌≡◌, ◌↔◌, ◌≤◌, ◌<◌, ◌++◌, Some, IsNone, IfSome, IfOk, OnErr};
+ghost use Rattle.std.specs.Prelude.{◌≡◌, ◌≢◌, ◌↔◌, ◌≤◌, ◌<◌, ◌++◌, IfSome, IfOk, IfErr, OnErr};
 ghost use Rattle.std.specs.Prelude.{length, take, vec_len};
 ghost use Rattle.std.specs.Io.{ReadsAtMost};
 ghost use Rattle.std.specs.Io.KnownBytes.{Keeps, Consumes, IsAtEnd};
@@ -20,53 +20,42 @@ pub enum TakeError {
     Read,
 }
 
-impl From<AllocError> for TakeError {
-    ghost use Rattle.std.specs.Prelude.{◌≡◌};
-    ghost use Rattle.sts_output.specs.declared.taking.TakeError.TheVariants.{Memory};
-
-    ghost from_gives = { λ _ e. e ≡ Memory };
-
-    fn from(_error: AllocError) -> TakeError {
-        TakeError::Memory
+impl TakeError {
+    /// Returns what a failure of this kind is reported as.
+    pub fn of(kind: ErrorKind) -> TakeError
+        ensures { (result ≡ TakeError.Memory) ↔ (kind ≡ ErrorKind.OutOfMemory) }
+    {
+        match kind {
+            ErrorKind::OutOfMemory => TakeError::Memory,
+            _ => TakeError::Read,
+        }
     }
 }
 
 /// The bytes that one read asks for at most.
 const PIECE: usize = 64 * 1024;
 
-/// What a failed read is told as; an interrupted one is none, and is tried again.
-fn told_as(error: &io::Error) -> Option<TakeError>
-    ensures interrupted { IsNone result ↔ (error_kind error.now ≡ ErrorKind.Interrupted) }
-    ensures memory { (result ≡ Some TakeError.Memory) ↔
-        (error_kind error.now ≡ ErrorKind.OutOfMemory) }
-{
-    match error.kind() {
-        ErrorKind::Interrupted => None,
-        ErrorKind::OutOfMemory => Some(TakeError::Memory),
-        _ => Some(TakeError::Read),
-    }
-}
-
 /// One read, tried again where a signal interrupts it.
-fn read_once<R: Read>(reader: &mut R, piece: &mut [u8]) -> Result<usize, TakeError>
+fn read_once<R: Read>(reader: &mut R, piece: &mut [u8]) -> io::Result<usize>
     ensures bound { ReadsAtMost result piece.new }
     ensures bytes { IfOk result (λ n. Consumes (R.remaining reader.old) (R.remaining reader.new)
         (take n piece.new)) }
     ensures end { IfOk result (λ n. n ≡ 0 → 0 < length piece.old
         → IsAtEnd (R.remaining reader.new)) }
+    ensures interrupted { IfErr result (λ e. error_kind e ≢ ErrorKind.Interrupted) }
     ensures err { OnErr result (Keeps (R.remaining reader.old) (R.remaining reader.new)) }
 {
     for _ in 0..u64::MAX {
         match reader.read(piece) {
             Ok(n) => return Ok(n),
             Err(error) => {
-                if let Some(failure) = told_as(&error) {
-                    return Err(failure);
+                if error.kind() != ErrorKind::Interrupted {
+                    return Err(error);
                 }
             }
         }
     }
-    Err(TakeError::Read)
+    Err(ErrorKind::Other.into())
 }
 
 /// Room for what one read gives.
@@ -82,7 +71,7 @@ fn take_piece<R: Read>(
     piece: &mut [u8],
     room: usize,
     taken: &mut Vec<u8>,
-) -> Result<usize, TakeError>
+) -> io::Result<usize>
     requires some { 0 < room }
     requires within { room ≤ length piece.old }
     ensures bound { IfOk result (λ n. n ≤ room) }
@@ -97,12 +86,14 @@ fn take_piece<R: Read>(
     Ok(n)
 }
 
-/// The reader's bytes up to its end, or the first `most` of them; none after these is read.
+/// Returns the reader's bytes up to its end, or the first `most` of them, and reads none after
+/// these.
 ///
 /// # Errors
 ///
-/// Memory was refused, or a read failed; the bytes that were read before are lost.
-pub fn take<R: Read>(alloc: Global, reader: &mut R, most: u64) -> Result<Vec<u8>, TakeError>
+/// Memory was refused, which is of the kind `OutOfMemory`, or a read failed; the bytes that were
+/// read before are lost.
+pub fn bytes_of<R: Read>(alloc: Global, reader: &mut R, most: u64) -> io::Result<Vec<u8>>
     ensures known { IfOk result (λ taken. IfSome (R.remaining reader.old)
         (λ xs. taken.items ≡ take most xs)) }
     ensures bound { IfOk result (λ taken. length taken.items ≤ most) }
@@ -120,4 +111,23 @@ pub fn take<R: Read>(alloc: Global, reader: &mut R, most: u64) -> Result<Vec<u8>
         }
     }
     Ok(taken)
+}
+
+/// Does what `bytes_of` does, with an error that says only whether memory was refused.
+///
+/// # Errors
+///
+/// Memory was refused, or a read failed; the bytes that were read before are lost.
+pub fn take<R: Read>(alloc: Global, reader: &mut R, most: u64) -> Result<Vec<u8>, TakeError>
+    ensures known { IfOk result (λ taken. IfSome (R.remaining reader.old)
+        (λ xs. taken.items ≡ take most xs)) }
+    ensures bound { IfOk result (λ taken. length taken.items ≤ most) }
+    ensures read { IfOk result (λ taken. Consumes (R.remaining reader.old)
+        (R.remaining reader.new) taken.items) }
+    ensures lost { OnErr result (LosesUpTo most (R.remaining reader.old) (R.remaining reader.new)) }
+{
+    match bytes_of(alloc, reader, most) {
+        Ok(taken) => Ok(taken),
+        Err(error) => Err(TakeError::of(error.kind())),
+    }
 }

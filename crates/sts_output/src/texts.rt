@@ -5,8 +5,9 @@ ghost use Rattle.std.specs.String.{string_bytes};
 ghost use Rattle.sts_output.specs.Streams as def;
 ghost use Rattle.sts_output.specs.Taking.{IsTakenOf};
 
+use crate::file_error::FileError;
 use crate::sources::{Sources, file};
-use crate::taking::TakeError;
+use crate::taking::bytes_of;
 use std::alloc::{AllocError, Global};
 
 /// One byte more than a text may have, so that an endless file is a text too long.
@@ -18,17 +19,48 @@ pub const MOST_OF_A_STREAM: u64 = u64::MAX;
 /// What is told where a word is no text.
 pub const NOT_TEXT: &[u8] = b"error: a word of the command line is not UTF-8\n";
 
-/// The bytes of a file of events: none where no file is named.
-fn events_text<S: Sources>(
+/// Returns the first `most` bytes of a file, or which file failed.
+fn named_file<'a, S: Sources>(
     alloc: Global,
     sources: &S,
-    path: Option<&str>,
-) -> Result<Vec<u8>, TakeError>
+    path: &'a str,
+    most: u64,
+) -> Result<Vec<u8>, FileError<'a>>
+    ensures { IfOk result (λ taken. IsTakenOf (S.held sources.now path.now) most taken.items) }
+{
+    match file(alloc, sources, path, most) {
+        Ok(taken) => Ok(taken),
+        Err(error) => Err(FileError::unread(path, &error)),
+    }
+}
+
+/// Returns the text of a program.
+///
+/// # Errors
+///
+/// Memory was refused, or the file could not be opened or read.
+pub fn read_text<'a, S: Sources>(
+    alloc: Global,
+    sources: &S,
+    path: &'a str,
+) -> Result<Vec<u8>, FileError<'a>>
+    ensures { IfOk result (λ taken. IsTakenOf (S.held sources.now path.now)
+        def.most_of_a_text taken.items) }
+{
+    named_file(alloc, sources, path, MOST_OF_A_TEXT)
+}
+
+/// Returns the bytes of a file of events: none if no file is named.
+fn events_text<'a, S: Sources>(
+    alloc: Global,
+    sources: &S,
+    path: Option<&'a str>,
+) -> Result<Vec<u8>, FileError<'a>>
     ensures { IfOk result (λ taken. IsTakenOf (def.events_of (S.held sources.now) path.entry)
         def.most_of_a_stream taken.items) }
 {
     match path {
-        Some(path) => file(alloc, sources, path, MOST_OF_A_STREAM),
+        Some(path) => named_file(alloc, sources, path, MOST_OF_A_STREAM),
         None => Ok(Vec::new(alloc)),
     }
 }
@@ -40,25 +72,40 @@ pub struct Texts {
     pub events: Vec<u8>,
 }
 
-/// A text and, once it is read, that of the events, which is empty where no file is named.
+/// Reads a text and then that of the events, which is empty if no file is named.
 ///
 /// # Errors
 ///
 /// Memory was refused, or a file could not be opened or read.
-pub fn read_texts<S: Sources>(
+pub fn read_texts<'a, S: Sources>(
     alloc: Global,
     sources: &S,
-    path: &str,
-    events: Option<&str>,
-) -> Result<Texts, TakeError>
+    path: &'a str,
+    events: Option<&'a str>,
+) -> Result<Texts, FileError<'a>>
     ensures program { IfOk result (λ t. IsTakenOf (S.held sources.now path.now)
         def.most_of_a_text t.program.items) }
     ensures events { IfOk result (λ t. IsTakenOf (def.events_of (S.held sources.now) events.entry)
         def.most_of_a_stream t.events.items) }
 {
-    let program = file(alloc, sources, path, MOST_OF_A_TEXT)?;
+    let program = read_text(alloc, sources, path)?;
     let events = events_text(alloc, sources, events)?;
     Ok(Texts { program, events })
+}
+
+/// Returns all that the input stream has.
+///
+/// # Errors
+///
+/// Memory was refused, or a read failed.
+pub fn read_input<S: Sources>(alloc: Global, sources: &S) -> Result<Vec<u8>, FileError<'static>>
+    ensures { IfOk result (λ taken. IsTakenOf (S.offered sources.now)
+        def.most_of_a_stream taken.items) }
+{
+    match bytes_of(alloc, &mut sources.input(), MOST_OF_A_STREAM) {
+        Ok(taken) => Ok(taken),
+        Err(error) => Err(FileError::unread("standard input", &error)),
+    }
 }
 
 /// The words as texts that are borrowed.

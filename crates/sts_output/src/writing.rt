@@ -2,7 +2,10 @@
 
 ghost use Rattle.std.specs.Prelude.{◌≡◌, IfOk};
 ghost use Rattle.sts_output.specs.Output as def;
+ghost use Rattle.sts_output.specs.declared.taking.TakeError.{TakeError as Failure};
 
+use crate::file_error::FileError;
+use crate::notes::Notes;
 use crate::taking::TakeError;
 use std::io::Write;
 
@@ -42,4 +45,22 @@ pub fn failed<W: Write>(error: TakeError, out: &mut W) -> Result<u8, WriteFailed
         TakeError::Memory => written(out, b"error memory\n", STATUS_OUTSIDE),
         TakeError::Read => written(out, b"error file\n", STATUS_OUTSIDE),
     }
+}
+
+/// Writes what is printed where a file was not read or written, notes which file, and returns the
+/// status.
+///
+/// # Errors
+///
+/// A write failed.
+pub fn file_failed<W: Write>(
+    error: FileError<'_>,
+    out: &mut W,
+    notes: &mut Notes,
+) -> Result<u8, WriteFailed>
+    ensures { IfOk result (λ s. (e : Failure)
+        × def.Writes (W.contents out.old) (W.contents out.new) s (def.failure_output e)) }
+{
+    notes.file(error);
+    failed(error.take_error(), out)
 }

@@ -5,14 +5,12 @@ ghost use Rattle.sts_code.specs.Loops as matching;
 ghost use Rattle.sts_model.specs.Misuse as misuse;
 ghost use Rattle.sts_model.specs.World as def;
 
-use sts_code::facts::{filled_slot, owners_slot, pops, pushes, subtask_slot};
-use sts_code::instr::Instr;
-use sts_code::limits::{MAX_INSTRUCTIONS, MAX_OPERANDS};
-use sts_code::loops::match_of;
-use sts_code::program::Program;
-use sts_frames::code::code;
-use sts_frames::slots::{is_empty, slot};
-use sts_model::record::{Entry, Frame, Slot};
+use sts_code::{
+    Instr, MAX_INSTRUCTIONS, MAX_OPERANDS, Program, filled_slot, match_of, owners_slot, pops,
+    pushes, subtask_slot,
+};
+use sts_frames::{code, is_empty, slot};
+use sts_model::{Entry, Frame, Slot};
 
 /// Does the instruction pop more operands than there are?
 pub fn lacks_operands(program: &Program, frame: &Frame, instr: Instr) -> bool

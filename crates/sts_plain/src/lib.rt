@@ -2,8 +2,16 @@
 #![tactic(auto)]
 
 pub mod frame_tests;
-pub mod misstep;
-pub mod misuse;
-pub mod perform;
-pub mod plain;
-pub mod stand;
+mod misstep;
+mod misuses;
+mod perform;
+mod plain;
+mod position;
+mod stand;
+
+pub use misstep::{Misstep, PlainState};
+pub use misuses::misuse;
+pub use perform::act;
+pub use plain::Plain;
+pub use position::Position;
+pub use stand::{can_step, stand_at};

@@ -12,15 +12,10 @@ ghost use Rattle.sts_model.specs.Run as run;
 ghost use Rattle.sts_model.specs.World as def;
 
 use std::alloc::{AllocError, Global};
-use sts_code::instr::Instr;
-use sts_code::program::Program;
-use sts_frames::code::instr_at;
-use sts_frames::ends::{case_target, value_or_zero};
-use sts_frames::local::is_local;
-use sts_frames::slots::named;
-use sts_model::event::End;
-use sts_world::records::Records;
-use sts_world::world::World;
+use sts_code::{Instr, Program};
+use sts_frames::{case_target, instr_at, is_local, named, value_or_zero};
+use sts_model::End;
+use sts_world::{Records, World};
 
 /// The scope or subtask that a slot of a task holds.
 fn at_slot(records: &Records, t: u32, x: u8) -> u32

@@ -6,14 +6,11 @@ ghost use Rattle.sts_model.specs.Waiting as waiting;
 ghost use Rattle.sts_model.specs.World as def;
 ghost use Rattle.sts_model.specs.declared.record.Slot.TheVariants.{Own};
 
-use crate::misuse::misuse;
-use sts_code::instr::Instr;
-use sts_code::program::Program;
-use sts_frames::code::instr_at;
-use sts_frames::slots::slot;
-use sts_model::event::{Phase, Stand};
-use sts_model::record::Slot;
-use sts_world::world::World;
+use crate::misuses::misuse;
+use sts_code::{Instr, Program};
+use sts_frames::{instr_at, slot};
+use sts_model::{Phase, Slot, Stand};
+use sts_world::World;
 
 /// Where the task stands.
 pub fn stand_at(world: &World, program: &Program, t: u32) -> Stand

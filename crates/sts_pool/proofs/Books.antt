@@ -1,5 +1,5 @@
 -- What keeps the facts of a book.
-use Rattle.std.proofs.Common.{◌≡◌, ℕ, ◌+◌, ◌≤◌, List, [], ◌∷◌, ◌++◌, length, Bool, true, false, not, Option, Some, None, inl, inr, refl, sym, ap, ◌∙◌, subst, cond, is_some, ◌==◌, ◌&&◌, arith, length-append, count_by, filter}
+use Rattle.std.proofs.Common.{◌≡◌, ℕ, ◌+◌, ◌≤◌, List, [], ◌∷◌, ◌++◌, length, Bool, true, false, not, Option, Some, None, inl, inr, refl, sym, ◌∙◌, subst, cond, is_some, ◌==◌, ◌&&◌, arith, length-append, count_by, filter}
 use Rattle.std.proofs.lemmas.Bool.{and_parts, and_from, and_left, and_right, cond-true, not-true, not_from_false, not_from_true}
 use Rattle.std.proofs.lemmas.Bool.Decides.{nat_tests}
 use Rattle.std.proofs.lemmas.List.{length-replicate}
@@ -18,28 +18,28 @@ use Rattle.sts_model.specs.declared.record.Frame.{Frame}
 use Rattle.sts_model.specs.Live.{Live, LiveTask, Alive}
 use Rattle.sts_model.specs.Run.{after, counts, is_step, taken}
 use Rattle.sts_model.specs.World.{task_at}
-use Rattle.sts_runs.specs.Runs.{In}
-use Rattle.sts_runs.proofs.ListLemmas.{at_set}
-use Rattle.sts_seen.specs.Reading.{task_in, no_live_task, lives_in, with_live_frame}
-use Rattle.sts_seen.specs.Run.{live_apply, live_steps_in}
-use Rattle.sts_seen.specs.Seen.{TurnsAreSeen}
-use Rattle.sts_seen.specs.Waiting.{live_can_go, live_can_step, live_stand_at}
-use Rattle.sts_views.specs.Stands.{StandsStay}
-use Rattle.sts_views.specs.Waking.{is_step_of}
-use Rattle.sts_laws_accepted.specs.Accepted.{main_of}
-use Rattle.sts_laws_accepted.specs.Views.{ViewsAreWithin}
+use Rattle.laws_runs.specs.Runs.{In}
+use Rattle.laws_runs.proofs.ListLemmas.{at_set}
+use Rattle.laws_live.specs.Reading.{task_in, no_live_task, lives_in, with_live_frame}
+use Rattle.laws_live.specs.Run.{live_apply, live_steps_in}
+use Rattle.laws_live.specs.Seen.{TurnsAreSeen}
+use Rattle.laws_live.specs.Waiting.{live_can_go, live_can_step, live_stand_at}
+use Rattle.laws_live.specs.Stands.{StandsStay}
+use Rattle.laws_live.specs.Waking.{is_step_of}
+use Rattle.laws_accepted.specs.Accepted.{main_of}
+use Rattle.laws_accepted.specs.Views.{ViewsAreWithin}
 use Rattle.sts_machine.specs.Laws.{MainBudget}
 use Rattle.sts_machine.specs.Machine.{Seen, Stands}
 use Rattle.sts_machine.specs.Slice.{steps_of}
 use Rattle.sts_machine.specs.Turned.{Picks, turned}
 use Rattle.sts_machine.specs.declared.turned.Turned.TheVariants.{Stepped, Idle}
-use Rattle.sts_pool.specs.Book.{BookSeen, HasBookRoom, IsBook, book_of, is_out, may_turn, outside_entries}
+use Rattle.sts_pool.specs.Book.{BookSeen, HasBookRoom, IsBook, is_free, outside_entries}
 use Rattle.sts_pool.specs.Report.{IsBounded, IsReport}
 use Rattle.sts_pool.proofs.Outs.{among, among_more, apart_more, apart_without, few_from_apart, was_among, without}
 
 -- ---- a new one
 
-pub opening_book : (m : Seen) → Stands m [] → m.steps ≡ 0 → IsBook (book_of m [] [])
+pub opening_book : (m : Seen) → Stands m [] → m.steps ≡ 0 → IsBook m [] []
 unfolding IsDistinct
 opening_book m stands none =
     record {
@@ -65,9 +65,9 @@ still_entries journal n t =
 pub still_entries_one : (journal : List Event) (t : ℕ) → outside_entries (journal ++ event.Step t ∷ []) ≡ outside_entries journal
 still_entries_one journal t = let more = entries_more journal (event.Step t ∷ []) in omega (arith, more)
 
-module _ (m x : Seen) (journal : List Event) (out : List ℕ) (e : Event) (is : IsBook (book_of m journal out)) (stay : StandsStay m.program) (stands : (events : List Event) → Stands m events → Stands x (events ++ e ∷ [])) (live : x.live ≡ live_apply m.program m.live e) (steps : x.steps ≡ m.steps + live_steps_in m.program m.live e) where
+module _ (m x : Seen) (journal : List Event) (out : List ℕ) (e : Event) (is : IsBook m journal out) (stay : StandsStay m.program) (stands : (events : List Event) → Stands m events → Stands x (events ++ e ∷ [])) (live : x.live ≡ live_apply m.program m.live e) (steps : x.steps ≡ m.steps + live_steps_in m.program m.live e) where
   -- an event that is recorded moves nobody who is out
-  moved : live_steps_in m.program m.live e + outside_entries (e ∷ []) ≡ 1 → outside_entries journal + outside_entries (e ∷ []) ≤ 4096 → ((t : ℕ) → among out t ≡ true → is_step_of t e ≡ false) → IsBook (book_of x (journal ++ e ∷ []) out)
+  moved : live_steps_in m.program m.live e + outside_entries (e ∷ []) ≡ 1 → outside_entries journal + outside_entries (e ∷ []) ≤ 4096 → ((t : ℕ) → among out t ≡ true → is_step_of t e ≡ false) → IsBook x (journal ++ e ∷ []) out
   moved one few others =
       let more = entries_more journal (e ∷ []) in
       let long = length-append journal (e ∷ []) in
@@ -81,7 +81,7 @@ module _ (m x : Seen) (journal : List Event) (out : List ℕ) (e : Event) (is : 
       }
 
 -- a step of a task that can step and isn't out
-pub stepped_book : (m x : Seen) (journal : List Event) (out : List ℕ) (t : ℕ) → IsBook (book_of m journal out) → StandsStay m.program → ((events : List Event) → Stands m events → Stands x (events ++ event.Step t ∷ [])) → x.live ≡ live_apply m.program m.live (event.Step t) → x.steps ≡ m.steps + live_steps_in m.program m.live (event.Step t) → live_can_step m.program m.live t ≡ true → among out t ≡ false → IsBook (book_of x (journal ++ event.Step t ∷ []) out)
+pub stepped_book : (m x : Seen) (journal : List Event) (out : List ℕ) (t : ℕ) → IsBook m journal out → StandsStay m.program → ((events : List Event) → Stands m events → Stands x (events ++ event.Step t ∷ [])) → x.live ≡ live_apply m.program m.live (event.Step t) → x.steps ≡ m.steps + live_steps_in m.program m.live (event.Step t) → live_can_step m.program m.live t ≡ true → among out t ≡ false → IsBook x (journal ++ event.Step t ∷ []) out
 stepped_book m x journal out t is stay stands live steps can absent =
     let one = cond-true {A = ℕ} (live_can_step m.program m.live t) 1 0 can in
     let most = is.most in
@@ -98,7 +98,7 @@ stepped_book m x journal out t is stay stands live steps can absent =
         other true e = let here : among out u ≡ false = rw (same u t e) absent in absurd (cc)
 
 -- an interrupt or an expiry, where there is room for one more
-pub outside_book : (m x : Seen) (journal : List Event) (out : List ℕ) (e : Event) → IsBook (book_of m journal out) → StandsStay m.program → ((events : List Event) → Stands m events → Stands x (events ++ e ∷ [])) → x.live ≡ live_apply m.program m.live e → x.steps ≡ m.steps + live_steps_in m.program m.live e → is_step e ≡ false → outside_entries journal + 1 ≤ 4096 → IsBook (book_of x (journal ++ e ∷ []) out)
+pub outside_book : (m x : Seen) (journal : List Event) (out : List ℕ) (e : Event) → IsBook m journal out → StandsStay m.program → ((events : List Event) → Stands m events → Stands x (events ++ e ∷ [])) → x.live ≡ live_apply m.program m.live e → x.steps ≡ m.steps + live_steps_in m.program m.live e → is_step e ≡ false → outside_entries journal + 1 ≤ 4096 → IsBook x (journal ++ e ∷ []) out
 outside_book m x journal out (event.Step t) is stay stands live steps from few = absurd (cc)
 outside_book m x journal out (event.Interrupt t) is stay stands live steps from few =
     moved m x journal out (event.Interrupt t) is stay stands live steps (omega arith) (omega (arith, few)) (λ u h. refl)
@@ -110,7 +110,7 @@ outside_book m x journal out (event.Expire s) is stay stands live steps from few
 pub lives : (p : Program) (v : Live) (t : ℕ) → live_can_step p v t ≡ true → lives_in v t ≡ true
 lives p v t can = (and_parts (lives_in v t) (live_can_go v t (live_stand_at p v t)) can).0
 
-pub out_book : (m : Seen) (journal : List Event) (out : List ℕ) (t : ℕ) → IsBook (book_of m journal out) → among out t ≡ false → lives_in m.live t ≡ true → IsBook (book_of m journal (out ++ t ∷ []))
+pub out_book : (m : Seen) (journal : List Event) (out : List ℕ) (t : ℕ) → IsBook m journal out → among out t ≡ false → lives_in m.live t ≡ true → IsBook m journal (out ++ t ∷ [])
 out_book m journal out t is absent alive =
     record {
       stands = is.stands;
@@ -120,7 +120,7 @@ out_book m journal out t is absent alive =
       living = λ q h. elim (among_more out t q h) [ inl k ↦ is.living q k | inr e ↦ subst (λ u. lives_in m.live u ≡ true) e alive ];
     }
 
-pub released_book : (m : Seen) (journal : List Event) (out : List ℕ) (t : ℕ) → IsBook (book_of m journal out) → IsBook (book_of m journal (without t out))
+pub released_book : (m : Seen) (journal : List Event) (out : List ℕ) (t : ℕ) → IsBook m journal out → IsBook m journal (without t out)
 released_book m journal out t is =
     record {
       stands = is.stands;
@@ -130,8 +130,8 @@ released_book m journal out t is =
       living = λ q h. is.living q (was_among t q out h);
     }
 
--- a task that was picked may turn, and where none was, none may
-pub picked : (b : BookSeen) (o : Option ℕ) → Picks (may_turn b) o → MatchBool (is_some o) ((t : ℕ) × (may_turn b t ≡ true)) ((t : ℕ) → may_turn b t ≡ false)
+-- a task that was picked is free, and where none was, none is
+pub picked : (b : BookSeen) (o : Option ℕ) → Picks (is_free b) o → MatchBool (is_some o) ((t : ℕ) × (is_free b t ≡ true)) ((t : ℕ) → is_free b t ≡ false)
 picked b (Some t) h = (t, h)
 picked b None h = h
 
@@ -153,7 +153,7 @@ lives_at_frame v t f q = at_set (λ o. is_some (unwrap_or o no_live_task).alive 
     here None = refl
     here (Some task) = still task.alive
 
-pub back_book : (m x : Seen) (journal : List Event) (out : List ℕ) (n t : ℕ) (f : Frame) → IsBook (book_of m journal out) → ((events : List Event) → Stands m events → Stands x (events ++ steps_of n t)) → x.live ≡ with_live_frame m.live t f → x.steps ≡ m.steps + n → IsBook (book_of x (journal ++ steps_of n t) (without t out))
+pub back_book : (m x : Seen) (journal : List Event) (out : List ℕ) (n t : ℕ) (f : Frame) → IsBook m journal out → ((events : List Event) → Stands m events → Stands x (events ++ steps_of n t)) → x.live ≡ with_live_frame m.live t f → x.steps ≡ m.steps + n → IsBook x (journal ++ steps_of n t) (without t out)
 back_book m x journal out n t f is stands live steps =
     let none = still_entries journal n t in
     let long = length-append journal (steps_of n t) in
@@ -171,19 +171,19 @@ back_book m x journal out n t f is stands live steps =
 -- ---- room
 
 -- no more entries than the journal has room for
-entries_few : (b : BookSeen) → IsBook b → (main : MainBudget b.machine.program) → length b.journal ≤ main.budget.steps + 4096
-entries_few b is main =
-    let few = (main.runs_well b.journal).steps in
+entries_few : (m : Seen) (events : List Event) (out : List ℕ) → IsBook m events out → (main : MainBudget m.program) → length events ≤ main.budget.steps + 4096
+entries_few m events out is main =
+    let few = (main.runs_well events).steps in
     let same = is.stands.steps in
     let counted = is.counted in
     let most = is.most in
     omega (arith, few, same, counted, most)
 
 -- no more tasks are out than stand
-out_few : (b : BookSeen) → IsBook b → (c : Budgets) → IsBudgetOf b.machine.program (main_of b.machine.program) c → ViewsAreWithin b.machine.program → length b.out ≤ c.tasks
-out_few b is c printed within =
-    let few = (within c printed b.journal b.machine.live b.machine.steps is.stands).tasks in
-    let most = few_from_apart b.out b.machine.live.tasks is.apart (λ t h. stands (task_in b.machine.live t) (is.living t h)) in
+out_few : (m : Seen) (events : List Event) (out : List ℕ) → IsBook m events out → (c : Budgets) → IsBudgetOf m.program (main_of m.program) c → ViewsAreWithin m.program → length out ≤ c.tasks
+out_few m events out is c printed within =
+    let few = (within c printed events m.live m.steps is.stands).tasks in
+    let most = few_from_apart out m.live.tasks is.apart (λ t h. stands (task_in m.live t) (is.living t h)) in
     omega (arith, few, most)
   where
     stands : (o : Option LiveTask) → is_some (unwrap_or o no_live_task).alive ≡ true → is_some o ≡ true
@@ -199,18 +199,18 @@ room_kept p q j k l n same more most room =
     (record { main = room.main; stay = room.stay; turns = room.turns; within = room.within; journal_room = omega (arith, journal, more); out_room = omega (arith, out, most) })
 
 -- entries with which it is a book still had room in the journal
-pub entries_fit : (m x : Seen) (journal events : List Event) (out : List ℕ) (j k : ℕ) → x.program ≡ m.program → HasBookRoom m.program j k → IsBook (book_of x (journal ++ events) out) → length journal + length events ≤ j
+pub entries_fit : (m x : Seen) (journal events : List Event) (out : List ℕ) (j k : ℕ) → x.program ≡ m.program → HasBookRoom m.program j k → IsBook x (journal ++ events) out → length journal + length events ≤ j
 entries_fit m x journal events out j k same room is =
     let there = room_kept m.program x.program j k j k same (omega arith) (omega arith) room in
-    let few = entries_few (book_of x (journal ++ events) out) is there.main in
+    let few = entries_few x (journal ++ events) out is there.main in
     let long = length-append journal events in
     let enough = there.journal_room in
     omega (arith, few, long, enough)
 
 -- a task with which it is a book still had room in the list of those that are out
-pub out_fits : (m : Seen) (journal : List Event) (out : List ℕ) (t j k : ℕ) → HasBookRoom m.program j k → IsBook (book_of m journal (out ++ t ∷ [])) → length out + 1 ≤ k
+pub out_fits : (m : Seen) (journal : List Event) (out : List ℕ) (t j k : ℕ) → HasBookRoom m.program j k → IsBook m journal (out ++ t ∷ []) → length out + 1 ≤ k
 out_fits m journal out t j k room is =
-    let few = out_few (book_of m journal (out ++ t ∷ [])) is room.main.budget room.main.printed room.within in
+    let few = out_few m journal (out ++ t ∷ []) is room.main.budget room.main.printed room.within in
     let long = length-append out (t ∷ []) in
     let enough = room.out_room in
     omega (arith, few, long, enough)
@@ -229,30 +229,24 @@ idle_from false e = refl
 pub step_seen : (m : Seen) (journal : List Event) → Stands m journal → TurnsAreSeen m.program → (t : ℕ) → counts m.program (after m.program journal) (event.Step t) ≡ live_can_step m.program m.live t
 step_seen m journal stands seen t = (seen journal m.live m.steps (event.Step t) stands).count
 
--- and so, of a book, which task may turn
-pub turn_seen : (m : Seen) (journal : List Event) (out : List ℕ) → IsBook (book_of m journal out) → TurnsAreSeen m.program → (t : ℕ) → may_turn (book_of m journal out) t ≡ (live_can_step m.program m.live t && not (among out t))
-turn_seen m journal out is seen t = ap (λ can. can && not (among out t)) (step_seen m journal is.stands seen t)
-
 -- a test that answers alike picks alike
 pub picks_alike : (a b : ℕ → Bool) (o : Option ℕ) → ((t : ℕ) → b t ≡ a t) → Picks a o → Picks b o
 picks_alike a b (Some t) same picks = same t ∙ picks
 picks_alike a b None same picks = λ t. same t ∙ picks t
 
--- who may turn can step as the view shows it, and isn't out
-pub may_parts : (m : Seen) (journal : List Event) (out : List ℕ) (t : ℕ) → IsBook (book_of m journal out) → TurnsAreSeen m.program → may_turn (book_of m journal out) t ≡ true → (live_can_step m.program m.live t ≡ true) × (among out t ≡ false)
-may_parts m journal out t is seen may =
-    let both = and_parts (live_can_step m.program m.live t) (not (among out t)) (sym (turn_seen m journal out is seen t) ∙ may) in
-    (both.0, not-true _ both.1)
+-- who is free can step, and isn't out
+pub free_parts : (can : Bool) (out : List ℕ) (t : ℕ) → (can && not (among out t)) ≡ true → (can ≡ true) × (among out t ≡ false)
+free_parts can out t free = let both = and_parts can (not (among out t)) free in (both.0, not-true _ both.1)
 
--- none of a task that is out, and none of one whose step doesn't count
-pub out_no_turn : (b : BookSeen) (t : ℕ) → is_out b t ≡ true → may_turn b t ≡ false
-out_no_turn b t out = and_right (counts b.program (after b.program b.journal) (event.Step t)) (not (is_out b t)) (not_from_true (is_out b t) out)
+-- none may turn that is out, or whose step doesn't count
+pub out_no_turn : (can out : Bool) → out ≡ true → (can && not out) ≡ false
+out_no_turn can out is = and_right can (not out) (not_from_true out is)
 
-pub idle_no_turn : (b : BookSeen) (t : ℕ) → counts b.program (after b.program b.journal) (event.Step t) ≡ false → may_turn b t ≡ false
-idle_no_turn b t idle = and_left (counts b.program (after b.program b.journal) (event.Step t)) (not (is_out b t)) idle
+pub idle_no_turn : (can out : Bool) → can ≡ false → (can && not out) ≡ false
+idle_no_turn can out idle = and_left can (not out) idle
 
-pub turns : (b : BookSeen) (t : ℕ) → counts b.program (after b.program b.journal) (event.Step t) ≡ true → is_out b t ≡ false → may_turn b t ≡ true
-turns b t can absent = and_from (counts b.program (after b.program b.journal) (event.Step t)) (not (is_out b t)) can (not_from_false (is_out b t) absent)
+pub turns : (can out : Bool) → can ≡ true → out ≡ false → (can && not out) ≡ true
+turns can out is absent = and_from can (not out) is (not_from_false out absent)
 
 -- ---- what is reported
 
@@ -264,25 +258,25 @@ steps_and_outside journal =
     let both : length (filter is_step journal) + length (filter (λ e. not (is_step e)) journal) ≡ length journal = length-filter_both is_step (λ e. not (is_step e)) (λ e. refl) journal in
     omega (arith, steps, others, both)
 
--- a machine has taken as many steps as its book's journal has
-pub steps_counted : (b : BookSeen) → IsBook b → b.machine.steps ≡ count_by is_step b.journal
-steps_counted b is =
+-- a machine has taken as many steps as its events are
+pub steps_counted : (m : Seen) (events : List Event) (out : List ℕ) → IsBook m events out → m.steps ≡ count_by is_step events
+steps_counted m events out is =
     let counted = is.counted in
-    let all = steps_and_outside b.journal in
+    let all = steps_and_outside events in
     omega (arith, counted, all)
 
-pub reports : (b : BookSeen) (end : Option End) (o : End) → IsBook b → MainBudget b.machine.program → In (λ w. end ≡ (task_at w 0).outcome) (after b.machine.program b.journal) → end ≡ Some o → IsReport b.machine.program b.journal o
-reports b end o is main ended some =
+pub reports : (m : Seen) (events : List Event) (out : List ℕ) (end : Option End) (o : End) → IsBook m events out → MainBudget m.program → In (λ w. end ≡ (task_at w 0).outcome) (after m.program events) → end ≡ Some o → IsReport m.program events o
+reports m events out end o is main ended some =
     let s = is.stands in
     let here : end ≡ (task_at s.world 0).outcome = subst (In (λ w. end ≡ (task_at w 0).outcome)) s.runs ended in
-    let same : taken b.machine.program b.journal ≡ b.machine.steps = s.steps in
-    let counted : length b.journal ≡ b.machine.steps + outside_entries b.journal = is.counted in
-    let all = steps_and_outside b.journal in
+    let same : taken m.program events ≡ m.steps = s.steps in
+    let counted : length events ≡ m.steps + outside_entries events = is.counted in
+    let all = steps_and_outside events in
     record {
       world = s.world;
       runs = s.runs;
       ended = sym here ∙ some;
       steps = omega (arith, same, counted, all);
-      bounded = λ c printed. subst (λ d. IsBounded b.machine.program b.journal d) (sym (main.alone c printed))
-          (record { steps = (main.runs_well b.journal).steps; entries = entries_few b is main });
+      bounded = λ c printed. subst (λ d. IsBounded m.program events d) (sym (main.alone c printed))
+          (record { steps = (main.runs_well events).steps; entries = entries_few m events out is main });
     }

@@ -1,3 +1,3 @@
 pub mod Outs
 pub mod Books
-pub mod Unwrittens
+pub mod Kept

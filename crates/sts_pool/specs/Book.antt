@@ -1,7 +1,7 @@
 -- The book of a run: a machine, the journal of its events, and which tasks are out (this project's
 -- own).
-use Rattle.std.specs.Prelude.{◌≡◌, ℕ, ◌+◌, ◌≤◌, List, [], length, count_by, Bool, true, not, ◌&&◌}
-use Rattle.std.specs.Prelude.{◌==◌, eqb}
+use Rattle.std.specs.Prelude.{◌≡◌, ℕ, ◌+◌, ◌≤◌, List, [], ◌++◌, length, count_by, Bool, true, not, ◌&&◌}
+use Rattle.std.specs.Prelude.{◌==◌, eqb, Option, MatchOption, option_map}
 use Rattle.std.specs.List.{list_any, IsDistinct}
 use Rattle.sts_code.specs.Program.{Program}
 use Rattle.sts_code.specs.declared.limits.TheConstants.{MAX_OUTSIDE}
@@ -9,13 +9,16 @@ use Rattle.sts_code.specs.declared.profile.Profile.TheVariants.{One}
 use Rattle.sts_model.specs.declared.event.Event.{Event}
 use Rattle.sts_model.specs.declared.event.Event.TheVariants.{Step}
 use Rattle.sts_model.specs.Run.{after, counts, is_step}
-use Rattle.sts_seen.specs.Reading.{lives_in}
-use Rattle.sts_seen.specs.Seen.{TurnsAreSeen}
-use Rattle.sts_views.specs.Stands.{StandsStay}
-use Rattle.sts_laws_accepted.specs.Views.{ViewsAreWithin}
+use Rattle.laws_live.specs.Reading.{lives_in}
+use Rattle.laws_live.specs.Seen.{TurnsAreSeen}
+use Rattle.laws_live.specs.Stands.{StandsStay}
+use Rattle.laws_live.specs.Waiting.{live_can_step}
+use Rattle.laws_accepted.specs.Views.{ViewsAreWithin}
 use Rattle.sts_machine.specs.Laws.{MainBudget}
 use Rattle.sts_machine.specs.Machine.{Seen, Stands}
 use Rattle.sts_machine.specs.Slice.{Cut, Fits}
+use Rattle.sts_pool.specs.Journal.{Holds}
+use Rattle.sts_pool.specs.declared.journal.Journal.{Journal}
 
 -- ---- what contracts see of a book
 
@@ -23,42 +26,74 @@ use Rattle.sts_machine.specs.Slice.{Cut, Fits}
 abbrev pub no_program : Program
 no_program = record { profile = One; routines = [] }
 
--- its program, its machine, the journal of the machine's events, and the tasks that are out
+-- its program, its machine, the journal of the machine's events, where it is written, how many of
+-- the entries came from outside, and the tasks that are out
 pub record BookSeen : Type 0 where
   pub program : Program
   pub machine : Seen
-  pub journal : List Event
+  pub journal : Option (List Event)
+  pub outside : ℕ
   pub out : List ℕ
 
-abbrev pub book_of : Seen → List Event → List ℕ → BookSeen
-book_of m journal out = record { program = m.program; machine = m; journal = journal; out = out }
-
--- is the task out?
-abbrev pub is_out : BookSeen → ℕ → Bool
-is_out b t = list_any (λ o. o == t) b.out
-
--- would a step of the task count where the journal leads, and is the task not out?
-abbrev pub may_turn : BookSeen → ℕ → Bool
-may_turn b t = counts b.program (after b.program b.journal) (Step t) && not (is_out b t)
-
--- the slice was taken out of this book, and its task is as it was
-abbrev pub IsOurs : BookSeen → Cut → Type 0
-IsOurs b s = (is_out b s.task ≡ true) × Fits b.machine s
+abbrev pub book_of : Seen → Option (List Event) → ℕ → List ℕ → BookSeen
+book_of m journal outside out = record {
+  program = m.program;
+  machine = m;
+  journal = journal;
+  outside = outside;
+  out = out;
+}
 
 -- the interrupts and expiries among the events
 abbrev pub outside_entries : List Event → ℕ
 outside_entries events = count_by (λ e. not (is_step e)) events
 
+-- the events may be the journal's entries: the machine stands where they lead, and each is a step
+-- that was taken or one of those from outside
+pub record MayBe (b : BookSeen) (events : List Event) : Type 0 where
+  pub stands : Stands b.machine events
+  pub outside : outside_entries events ≡ b.outside
+  pub counted : length events ≡ b.machine.steps + b.outside
+
+-- a fact holds of the journal: of its entries where they are written, else of all events that may
+-- be its entries
+abbrev pub OfJournal : BookSeen → (List Event → Type 0) → Type 0
+OfJournal b P = MatchOption b.journal ((events : List Event) → MayBe b events → P events) P
+
+-- these events were recorded: they came at the end of the journal where it is written, those from
+-- outside were counted, and the machine stands where they lead
+pub record Records (old new : BookSeen) (events : List Event) : Type 0 where
+  pub written : new.journal ≡ option_map (λ journal. journal ++ events) old.journal
+  pub outside : new.outside ≡ old.outside + outside_entries events
+  pub stands : (before : List Event) → Stands old.machine before
+      → Stands new.machine (before ++ events)
+
+-- is the task out?
+abbrev pub is_out : BookSeen → ℕ → Bool
+is_out b t = list_any (λ o. o == t) b.out
+
+-- would a step of the task count where these events lead, and is the task not out?
+abbrev pub may_turn : BookSeen → List Event → ℕ → Bool
+may_turn b events t = counts b.program (after b.program events) (Step t) && not (is_out b t)
+
+-- the same, as the machine shows it
+abbrev pub is_free : BookSeen → ℕ → Bool
+is_free b t = live_can_step b.machine.program b.machine.live t && not (is_out b t)
+
+-- the slice was taken out of this book, and its task is as it was
+abbrev pub IsOurs : BookSeen → Cut → Type 0
+IsOurs b s = (is_out b s.task ≡ true) × Fits b.machine s
+
 -- ---- what the type of a book keeps
 
--- the machine stands where the journal leads, each entry is a step that counted or came from
+-- the machine stands where the events lead, each of them is a step that counted or came from
 -- outside, and the tasks that are out live
-pub record IsBook (b : BookSeen) : Type 0 where
-  pub stands : Stands b.machine b.journal
-  pub counted : length b.journal ≡ b.machine.steps + outside_entries b.journal
-  pub most : outside_entries b.journal ≤ MAX_OUTSIDE
-  pub apart : IsDistinct eqb b.out
-  pub living : (t : ℕ) → is_out b t ≡ true → lives_in b.machine.live t ≡ true
+pub record IsBook (m : Seen) (events : List Event) (out : List ℕ) : Type 0 where
+  pub stands : Stands m events
+  pub counted : length events ≡ m.steps + outside_entries events
+  pub most : outside_entries events ≤ MAX_OUTSIDE
+  pub apart : IsDistinct eqb out
+  pub living : (t : ℕ) → list_any (λ o. o == t) out ≡ true → lives_in m.live t ≡ true
 
 -- the laws of its program, and room in its two lists by the budget of `main`
 pub record HasBookRoom (p : Program) (journal out : ℕ) : Type 0 where
@@ -69,11 +104,13 @@ pub record HasBookRoom (p : Program) (journal out : ℕ) : Type 0 where
   pub journal_room : main.budget.steps + MAX_OUTSIDE ≤ journal
   pub out_room : main.budget.tasks ≤ out
 
--- a book whose journal is not written: some journal leads where its machine stands, with as many
--- entries from outside as were counted, and there is room for the tasks that are out
-pub record IsUnwritten (m : Seen) (out : List ℕ) (outside : ℕ) (room : ℕ) : Type 0 where
-  pub journal : List Event
-  pub book : IsBook (book_of m journal out)
-  pub entries : outside_entries journal ≡ outside
+-- some list of events leads where its machine stands, with as many from outside as were counted:
+-- they are those of the journal, where it is written, and there is room for more
+pub record IsKept (m : Seen) (journal : Journal) (outside : ℕ) (out : List ℕ) (out_room : ℕ)
+    : Type 0 where
+  pub events : List Event
+  pub book : IsBook m events out
+  pub entries : outside_entries events ≡ outside
   pub journal_room : ℕ
-  pub has_room : HasBookRoom m.program journal_room room
+  pub holds : Holds journal events journal_room
+  pub room : HasBookRoom m.program journal_room out_room

@@ -1,4 +1,4 @@
 pub mod Outside
+pub mod Journal
 pub mod Book
 pub mod Report
-pub mod Ledger

@@ -8,7 +8,7 @@ use Rattle.sts_model.specs.declared.event.End.{End}
 use Rattle.sts_model.specs.declared.event.Event.{Event}
 use Rattle.sts_model.specs.World.{World, Running, task_at}
 use Rattle.sts_model.specs.Run.{after, is_step, taken}
-use Rattle.sts_laws_accepted.specs.Accepted.{main_of}
+use Rattle.laws_accepted.specs.Accepted.{main_of}
 
 -- no more steps are taken than the budget of `main`, and no more entries are beside them than a run
 -- takes from outside

@@ -1,53 +1,54 @@
 //! The book of a run: a machine and the journal of its events.
 
-ghost use Rattle.std.specs.Prelude.{◌≡◌, ◌≢◌, ℕ, ◌+◌, ◌≤◌, ◌++◌, ◌∷◌, [], ◌↔◌, List, IfOk, OnOk, IfErr, OnErr};
+ghost use Rattle.std.specs.Prelude.{◌≡◌, ◌≢◌, ℕ, ◌++◌, ◌∷◌, [], ◌↔◌, List, IfOk, OnOk, IfErr, OnErr};
 ghost use Rattle.std.specs.Prelude.{IfSome, IfNone, IsErr, IsOk, IsTrue, true, false, filter, not, ◌==◌};
-ghost use Rattle.std.specs.Prelude.{MatchBool, count_by};
-ghost use Rattle.std.specs.Prelude.{vec_len, vec_capacity};
+ghost use Rattle.std.specs.Prelude.{MatchBool, count_by, Some};
+ghost use Rattle.std.specs.Prelude.{vec_capacity};
 ghost use Rattle.std.specs.List.{list_any};
-ghost use Rattle.sts_machine.specs.Machine.{Stands};
 ghost use Rattle.sts_machine.specs.Slice.{steps_of};
 ghost use Rattle.sts_machine.specs.Turned.{Picks, turned};
 ghost use Rattle.sts_model.specs.Run.{after, counts, is_step};
 ghost use Rattle.sts_model.specs.Waiting.{can_step};
 ghost use Rattle.sts_model.specs.World.{code, task_at};
-ghost use Rattle.sts_pool.specs.Book.{IsOurs, is_out, may_turn, outside_entries};
+ghost use Rattle.sts_pool.specs.Book.{IsOurs, MayBe, OfJournal, Records, is_free, is_out, may_turn};
+ghost use Rattle.sts_pool.specs.Journal.{opened};
 ghost use Rattle.sts_pool.specs.Outside.{IsOutside};
-ghost use Rattle.sts_pool.specs.Report.{IsReport};
-ghost use Rattle.sts_runs.specs.Runs.{In};
-ghost use Rattle.sts_seen.specs.Reading.{alive_at};
+ghost use Rattle.sts_pool.specs.Report.{IsEnding, IsReport};
+ghost use Rattle.laws_runs.specs.Runs.{In};
+ghost use Rattle.laws_live.specs.Reading.{alive_at};
 
-use crate::report::{PoolError, Report};
+use crate::journal::Journal;
+use crate::report::{Ending, PoolError, Report};
+use laws_accepted::{every_run, stands_stay, turns_are_seen, views_are_within};
 use std::alloc::{AllocError, Global};
 use std::marker::Model;
-use sts_code::limits::MAX_OUTSIDE;
-use sts_laws_accepted::{every_run, stands_stay, turns_are_seen, views_are_within};
-use sts_machine::machine::Machine;
-use sts_machine::slice::Slice;
-use sts_machine::turned::Turned;
-use sts_model::event::{End, Event};
-use sts_verify::verified::Verified;
+use sts_code::MAX_OUTSIDE;
+use sts_machine::{Machine, Slice, Turned};
+use sts_model::{End, Event};
+use sts_verify::Verified;
 
 /// A machine, the journal of its events, and the tasks whose frames are out.
+///
+/// Where nobody asks for the journal its entries are only counted: some journal leads where the
+/// machine stands, and each call does the same as where it is written.
 #[derive(Drop)]
 pub struct Book<'p> {
     machine: Machine<'p>,
-    journal: Vec<Event>,
+    journal: Journal,
     outside: u32,
     out: Vec<u32>,
 }
 
 impl<'p> Model for Book<'p> {
-    ghost use Rattle.std.specs.Prelude.{◌≡◌, vec_capacity};
-    ghost use Rattle.sts_pool.specs.Book.{BookSeen, HasBookRoom, IsBook, book_of, outside_entries};
+    ghost use Rattle.std.specs.Prelude.{vec_capacity};
+    ghost use Rattle.sts_pool.specs.Book.{BookSeen, IsKept, book_of};
+    ghost use Rattle.sts_pool.specs.Journal.{written};
 
     ghost Value = { BookSeen };
 
-    ghost view = { λ b. book_of b.machine b.journal.items b.out.items };
+    ghost view = { λ b. book_of b.machine (written b.journal) b.outside b.out.items };
 
-    ghost invariant = { λ b. IsBook (book_of b.machine b.journal.items b.out.items)
-        × (outside_entries b.journal.items ≡ b.outside)
-        × HasBookRoom b.machine.program (vec_capacity b.journal) (vec_capacity b.out) };
+    ghost invariant = { λ b. IsKept b.machine b.journal b.outside b.out.items (vec_capacity b.out) };
 }
 
 /// The book has as many outside events as it takes.
@@ -69,7 +70,25 @@ impl<'p> Book<'p> {
     /// Want of memory.
     pub fn start(alloc: Global, verified: &'p Verified) -> Result<Book<'p>, AllocError>
         ensures program { IfOk result (λ b. b.program ≡ verified.now) }
-        ensures journal { IfOk result (λ b. b.journal ≡ []) }
+        ensures journal { IfOk result (λ b. b.journal ≡ Some []) }
+        ensures out { IfOk result (λ b. b.out ≡ []) }
+    {
+        Book::with_journal(alloc, verified, true)
+    }
+
+    /// A book before the first event. The entries of its journal are written, or only counted: then
+    /// it has no room for them.
+    ///
+    /// # Errors
+    ///
+    /// Want of memory.
+    pub(crate) fn with_journal(
+        alloc: Global,
+        verified: &'p Verified,
+        is_written: bool,
+    ) -> Result<Book<'p>, AllocError>
+        ensures program { IfOk result (λ b. b.program ≡ verified.now) }
+        ensures journal { IfOk result (λ b. b.journal ≡ opened is_written) }
         ensures out { IfOk result (λ b. b.out ≡ []) }
     {
         stands_stay(verified);
@@ -78,7 +97,7 @@ impl<'p> Book<'p> {
         let budget = every_run(verified);
         let machine = Machine::prepare(alloc, verified)?;
         let entries = budget.steps as usize + MAX_OUTSIDE as usize;
-        let journal = Vec::with_capacity(alloc, entries)?;
+        let journal = Journal::start(alloc, is_written, entries)?;
         let out = Vec::with_capacity(alloc, budget.tasks as usize)?;
         Ok(Book {
             machine,
@@ -88,27 +107,33 @@ impl<'p> Book<'p> {
         })
     }
 
-    /// The entries so far, oldest first: the machine stands where they lead.
+    /// The entries so far, oldest first: the machine stands where they lead. A journal that is only
+    /// counted has none to show.
     pub fn journal(&self) -> &[Event]
-        ensures value { result.now ≡ self.now.journal }
-        ensures stands { Stands self.now.machine self.now.journal }
+        ensures value { IfSome self.now.journal (λ entries. result.now ≡ entries) }
+        ensures stands { IfSome self.now.journal (MayBe self.now) }
         ensures program { self.now.machine.program ≡ self.now.program }
     {
-        self.journal.as_slice()
+        self.journal.written()
+    }
+
+    /// How many entries the journal has, written or not.
+    pub(crate) fn entries(&self) -> u64 {
+        self.machine.steps().saturating_add(u64::from(self.outside))
     }
 
     /// Some task that can step, out or not: none only where there is none.
     pub fn ready(&self) -> Option<u32>
-        ensures { In (λ w. Picks (can_step self.now.program w) result)
-            (after self.now.program self.now.journal) }
+        ensures { OfJournal self.now (λ events. In (λ w. Picks (can_step self.now.program w) result)
+            (after self.now.program events)) }
     {
         self.machine.ready()
     }
 
     /// How the root ended, if it did.
     pub fn root_end(&self) -> Option<End>
-        ensures { In (λ w. result ≡ (task_at w 0).outcome)
-            (after self.now.program self.now.journal) }
+        ensures { OfJournal self.now (λ events. In (λ w. result ≡ (task_at w 0).outcome)
+            (after self.now.program events)) }
     {
         self.machine.root_end()
     }
@@ -116,10 +141,9 @@ impl<'p> Book<'p> {
     /// A step of a task that can step and isn't out, recorded; else nothing.
     #[inline(always)]
     pub fn turn(&mut self, task: u32) -> Turned
-        ensures turned { result ≡ turned (may_turn self.old task) }
-        ensures journal { may_turn self.old task ≡ true
-            → self.new.journal ≡ self.old.journal ++ Event.Step task ∷ [] }
-        ensures idle { may_turn self.old task ≡ false → self.new ≡ self.old }
+        ensures turned { OfJournal self.old (λ events. result ≡ turned (may_turn self.old events task)) }
+        ensures journal { result ≡ Turned.Stepped → Records self.old self.new (Event.Step task ∷ []) }
+        ensures idle { result ≡ Turned.Idle → self.new ≡ self.old }
         ensures program { self.new.program ≡ self.old.program }
         ensures out { self.new.out ≡ self.old.out }
     {
@@ -129,7 +153,7 @@ impl<'p> Book<'p> {
         match self.machine.turn(Event::Step(task)) {
             Turned::Idle => Turned::Idle,
             Turned::Stepped => {
-                self.journal.push_reserved(Event::Step(task));
+                self.journal.push(Event::Step(task));
                 Turned::Stepped
             }
         }
@@ -143,11 +167,11 @@ impl<'p> Book<'p> {
     #[inline(never)]
     pub fn outside(&mut self, event: Event) -> Result<Turned, OutsideFull>
         requires { IsOutside event }
-        ensures full { IsErr result ↔ (outside_entries self.old.journal ≡ MAX_OUTSIDE) }
+        ensures full { IsErr result ↔ (self.old.outside ≡ MAX_OUTSIDE) }
         ensures stays { OnErr result (self.new ≡ self.old) }
-        ensures turned { IfOk result (λ t. t
-            ≡ turned (counts self.old.program (after self.old.program self.old.journal) event)) }
-        ensures journal { OnOk result (self.new.journal ≡ self.old.journal ++ event ∷ []) }
+        ensures turned { IfOk result (λ t. OfJournal self.old (λ events. t
+            ≡ turned (counts self.old.program (after self.old.program events) event))) }
+        ensures journal { OnOk result (Records self.old self.new (event ∷ [])) }
         ensures program { self.new.program ≡ self.old.program }
         ensures out { self.new.out ≡ self.old.out }
     {
@@ -155,16 +179,18 @@ impl<'p> Book<'p> {
             return Err(OutsideFull);
         }
         let turned = self.machine.turn(event);
-        self.journal.push_reserved(event);
+        self.journal.push(event);
         self.outside += 1;
         Ok(turned)
     }
 
     /// Claims a task that can step and isn't out, and it is out then: none only where there is none.
-    pub fn claim(&mut self) -> Option<u32>
-        ensures none { IfNone result ((self.new ≡ self.old)
-            × ((t : ℕ) → may_turn self.old t ≡ false)) }
-        ensures ready { IfSome result (λ t. may_turn self.old t ≡ true) }
+    pub(crate) fn claim(&mut self) -> Option<u32>
+        ensures none { IfNone result ((self.new ≡ self.old) × OfJournal self.old (λ events.
+            (t : ℕ) → may_turn self.old events t ≡ false)) }
+        ensures ready { IfSome result (λ t. OfJournal self.old (λ events.
+            may_turn self.old events t ≡ true)) }
+        ensures free { IfSome result (λ t. is_free self.old t ≡ true) }
         ensures out { IfSome result (λ t.
             self.new ≡ record self.old { out = self.old.out ++ t ∷ [] }) }
     {
@@ -174,7 +200,7 @@ impl<'p> Book<'p> {
     }
 
     /// Ends a claim: the task isn't out any more, and a slice of it, if one was taken, is a stranger.
-    pub fn release(&mut self, task: u32)
+    pub(crate) fn release(&mut self, task: u32)
         ensures { self.new
             ≡ record self.old { out = filter (λ o. not (o == task)) self.old.out } }
     {
@@ -183,9 +209,10 @@ impl<'p> Book<'p> {
 
     /// Takes the slice of a task that can step and isn't out: none only where there is none.
     pub fn check_out(&mut self) -> Option<Slice<'p>>
-        ensures none { IfNone result ((self.new ≡ self.old)
-            × ((t : ℕ) → may_turn self.old t ≡ false)) }
-        ensures ready { IfSome result (λ s. may_turn self.old s.task ≡ true) }
+        ensures none { IfNone result ((self.new ≡ self.old) × OfJournal self.old (λ events.
+            (t : ℕ) → may_turn self.old events t ≡ false)) }
+        ensures ready { IfSome result (λ s. OfJournal self.old (λ events.
+            may_turn self.old events s.task ≡ true)) }
         ensures slice { IfSome result (λ s. s ≡ record {
           task = s.task;
           code = code self.old.program (alive_at self.old.machine.live s.task).frame;
@@ -208,8 +235,8 @@ impl<'p> Book<'p> {
     /// book's: the slice is given back, and nothing changed.
     pub fn check_in(&mut self, slice: Slice<'p>) -> Result<(), Stranger<'p>>
         ensures ours { IsOk result ↔ IsOurs self.old slice.entry }
-        ensures journal { OnOk result (self.new.journal
-            ≡ self.old.journal ++ steps_of slice.entry.count slice.entry.task) }
+        ensures journal { OnOk result
+            (Records self.old self.new (steps_of slice.entry.count slice.entry.task)) }
         ensures back { OnOk result (is_out self.new slice.entry.task ≡ false) }
         ensures others { OnOk result ((t : ℕ) → t ≢ slice.entry.task
             → is_out self.new t ≡ is_out self.old t) }
@@ -222,19 +249,39 @@ impl<'p> Book<'p> {
             return Err(Stranger { slice });
         }
         self.machine.put(&slice);
-        record_steps(&mut self.journal, task, slice.count());
+        self.journal.push_steps(task, slice.count());
         forget(&mut self.out, task);
         Ok(())
     }
 
-    /// What is reported of the book, if its root has ended.
+    /// How the root ended and the steps taken, by as many workers.
     ///
     /// # Errors
     ///
     /// The root lives.
-    pub(crate) fn report(self) -> Result<Report, PoolError>
+    pub(crate) fn ending(&self, workers: u32) -> Result<Ending, PoolError>
+        ensures ending { IfOk result (λ r. IsEnding self.now.program r.end r.steps) }
+        ensures workers { IfOk result (λ r. r.workers ≡ workers) }
+    {
+        let Some(end) = self.machine.root_end() else {
+            return Err(PoolError::Unfinished);
+        };
+        Ok(Ending {
+            end,
+            steps: self.machine.steps(),
+            workers,
+        })
+    }
+
+    /// The same with the journal.
+    ///
+    /// # Errors
+    ///
+    /// The root lives, or the journal isn't written.
+    pub(crate) fn report(self, workers: u32) -> Result<Report, PoolError>
         ensures report { IfOk result (λ r. IsReport self.entry.program r.journal.items r.end) }
         ensures steps { IfOk result (λ r. r.steps ≡ count_by is_step r.journal.items) }
+        ensures workers { IfOk result (λ r. r.workers ≡ workers) }
     {
         let Some(end) = self.machine.root_end() else {
             return Err(PoolError::Unfinished);
@@ -246,31 +293,36 @@ impl<'p> Book<'p> {
             outside: _,
             out: _,
         } = self;
+        let Journal::Written(journal) = journal else {
+            return Err(PoolError::Unfinished);
+        };
         Ok(Report {
             end,
             journal,
             steps,
+            workers,
         })
     }
 
     /// Is there a task that can step and isn't out?
     pub(crate) fn has_more(&self) -> bool
-        ensures { MatchBool result ((t : ℕ) × (may_turn self.now t ≡ true))
-            ((t : ℕ) → may_turn self.now t ≡ false) }
+        ensures { MatchBool result ((t : ℕ) × (is_free self.now t ≡ true))
+            ((t : ℕ) → is_free self.now t ≡ false) }
     {
         self.pick().is_some()
     }
 
     /// Some task that can step and isn't out: none only where there is none.
     fn pick(&self) -> Option<u32>
-        ensures { Picks (may_turn self.now) result }
+        ensures free { Picks (is_free self.now) result }
+        ensures told { OfJournal self.now (λ events. Picks (may_turn self.now events) result) }
     {
         self.machine.ready_beside(self.out.as_slice())
     }
 
     /// Does the book take no further outside event?
     pub(crate) fn is_full(&self) -> bool
-        ensures { IsTrue result ↔ outside_entries self.now.journal ≡ MAX_OUTSIDE }
+        ensures { IsTrue result ↔ self.now.outside ≡ MAX_OUTSIDE }
     {
         self.outside >= MAX_OUTSIDE
     }
@@ -278,24 +330,14 @@ impl<'p> Book<'p> {
 
 /// Is the task in the list? Most often nothing is.
 #[inline(always)]
-pub(crate) fn is_among(out: &[u32], task: u32) -> bool
+fn is_among(out: &[u32], task: u32) -> bool
     ensures { result ≡ list_any (λ o. o == task) out.now }
 {
     !out.is_empty() && out.contains(&task)
 }
 
-/// As many steps of a task, at the end of a journal.
-fn record_steps(journal: &mut Vec<Event>, task: u32, count: u32)
-    requires { vec_len journal.old + count ≤ vec_capacity journal.old }
-    ensures items { journal.new.items ≡ journal.old.items ++ steps_of count task }
-    ensures capacity { vec_capacity journal.old ≤ vec_capacity journal.new }
-{
-    let entries = journal.len() + count as usize;
-    journal.resize(entries, Event::Step(task)).unwrap();
-}
-
 /// Takes one task out of a list.
-pub(crate) fn forget(out: &mut Vec<u32>, task: u32)
+fn forget(out: &mut Vec<u32>, task: u32)
     ensures items { out.new.items ≡ filter (λ o. not (o == task)) out.old.items }
     ensures capacity { vec_capacity out.new ≡ vec_capacity out.old }
 {

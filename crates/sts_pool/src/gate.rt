@@ -3,7 +3,7 @@
 ghost use Rattle.std.specs.Prelude.{IfSome};
 ghost use Rattle.sts_pool.specs.Outside.{IsOutside};
 
-use sts_model::event::Event;
+use sts_model::Event;
 
 /// Is called with no lock held before a worker works on a task.
 pub trait Gate {

@@ -4,12 +4,15 @@
 
 mod book;
 mod gate;
-mod ledger;
+mod journal;
 mod report;
-mod unwritten;
+mod waits;
 mod workers;
 
 pub use book::{Book, OutsideFull, Stranger};
 pub use gate::{Gate, Outside};
 pub use report::{Ending, PoolError, Report};
 pub use workers::{run, run_unwritten};
+
+#[cfg(test)]
+mod tests;

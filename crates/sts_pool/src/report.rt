@@ -1,21 +1,24 @@
 //! What is reported of a run, or why nothing is.
 
-use sts_model::event::{End, Event};
+use sts_model::{End, Event};
 use thiserror::Error;
 
-/// How the root ended, the journal that led there, and how many steps it has.
+/// How the root ended, the journal that led there, how many steps it has, and how many workers came
+/// to the run.
 #[derive(Debug, Drop)]
 pub struct Report {
     pub end: End,
     pub journal: Vec<Event>,
     pub steps: u64,
+    pub workers: u32,
 }
 
-/// How the root ended, and how many steps were taken.
+/// How the root ended, how many steps were taken, and how many workers came to the run.
 #[derive(Clone, Copy, Debug, PartialEq, Eq)]
 pub struct Ending {
     pub end: End,
     pub steps: u64,
+    pub workers: u32,
 }
 
 /// Why a run has no report.

@@ -1,39 +1,24 @@
 //! The workers, which share one book under one lock.
 
-ghost use Rattle.std.specs.Prelude.{◌≡◌, ◌≤◌, IfOk, count_by};
+ghost use Rattle.std.specs.Prelude.{◌≡◌, ◌≤◌, IfOk, count_by, length};
 ghost use Rattle.sts_model.specs.Run.{is_step};
-ghost use Rattle.sts_pool.specs.Ledger.{program_of};
 ghost use Rattle.sts_pool.specs.Report.{IsEnding, IsReport};
 
 use crate::book::Book;
 use crate::gate::{Gate, Outside};
-use crate::ledger::Ledger;
 use crate::report::{Ending, PoolError, Report};
-use crate::unwritten::Unwritten;
+use crate::waits::{AT_ONCE, IN_A_ROW, Waits, turns_after};
 use std::alloc::Global;
 use std::hint::spin_loop;
 use std::marker::{Brand, PhantomData};
 use std::sync::{Condvar, Mutex, MutexGuard, Wait};
 use std::thread;
 use std::thread::{Builder, Threads};
-use sts_code::limits::MAX_OUTSIDE;
-use sts_machine::slice::Slice;
-use sts_machine::turned::Turned;
-use sts_verify::verified::Verified;
+use sts_code::MAX_OUTSIDE;
+use sts_machine::{Slice, Turned};
+use sts_verify::Verified;
 
-/// As many local instructions as a worker does at most with no lock held.
-const AT_ONCE: u32 = 65_536;
-
-/// After so many steps in a row a task's slice is taken.
-const IN_A_ROW: u32 = 16;
-
-/// A slice of so many instructions is worth the wake-up of another worker.
-const WORTH: u32 = 512;
-
-/// So many tasks are claimed by several workers at once, until a slice is worth it again.
-const TRIES: u32 = 64;
-
-/// So often a worker looks again, for a task or the lock, before it waits: a wake-up costs more.
+/// So often a worker looks again, for a task or the lock, before it sleeps: a wake-up costs more.
 const LOOKS: u32 = 64;
 
 /// How long it pauses between two looks.
@@ -56,28 +41,36 @@ impl Runs for Brand {
     ghost program = { no_program };
 }
 
-/// What the workers share: beside the book and the outside whether the run is stopped, how many of
-/// them are awake with no slice out, and how many tasks may still be claimed by several at once.
+/// What the workers share: the book, the outside, whether the run is stopped, how many workers have
+/// come to the lock, and what decides who of them sleeps.
 #[derive(Drop)]
 struct Shared<'p, O, B: Runs> {
-    book: Ledger<'p>,
+    book: Book<'p>,
     outside: O,
     stop: bool,
-    awake: usize,
-    tries: u32,
+    came: u32,
+    waits: Waits,
     of: PhantomData<B>,
-    ghost ours: { program_of book ≡ B.program },
+    ghost ours: { book.program ≡ B.program },
 }
 
-/// One lock over it, and what wakes those that wait.
-///
-/// A worker waits only where no task is left, or where another is awake with no slice out, and that
-/// one looks for a task once more before it waits itself. So the last one that is awake never waits
-/// while a task is left, and until the run ends a wake-up only makes it faster.
+/// One lock over it, and what wakes those that sleep.
 #[derive(Drop)]
 struct Pool<'p, O, B: Runs> {
     shared: Mutex<Shared<'p, O, B>>,
     woken: Condvar,
+}
+
+/// What a worker that looks for a task does.
+enum Found {
+    /// It works on this task.
+    Task(u32),
+    /// It looks again, or sleeps once it looked often enough.
+    Nothing,
+    /// It sleeps.
+    Left,
+    /// It ends.
+    End,
 }
 
 impl<'p, O: Outside, B: Runs> Shared<'p, O, B> {
@@ -107,48 +100,45 @@ impl<'p, O: Outside, B: Runs> Shared<'p, O, B> {
         true
     }
 
-    /// A task to work on: none where none is left, or where another worker is to come to it.
-    fn claim(&mut self) -> Option<u32> {
-        if self.tries == 0 && self.awake > 1 {
-            return None;
+    /// Looks for a task.
+    fn look(&mut self) -> Found {
+        self.ask();
+        if self.stop || self.book.root_end().is_some() {
+            return Found::End;
         }
-        let task = self.book.claim()?;
-        self.tries = self.tries.saturating_sub(1);
-        Some(task)
+        if self.waits.leaves() {
+            return Found::Left;
+        }
+        let Some(task) = self.book.claim() else {
+            return if self.waits.wants_several() {
+                Found::Nothing
+            } else {
+                Found::Left
+            };
+        };
+        self.waits.claims();
+        Found::Task(task)
     }
 
     /// Is there work for another worker, too?
     fn wants_another(&self) -> bool {
-        self.tries > 0 && self.book.has_more()
+        self.waits.wants_several() && self.book.has_more()
     }
 
     /// A slice to work on.
     fn lend(&mut self) -> Option<Slice<'p>> {
         let slice = self.book.check_out()?;
-        self.awake = self.awake.saturating_sub(1);
+        self.waits.lends();
         Some(slice)
     }
 
     /// Takes a slice back on which so many instructions were done. One that is not the book's, which
     /// never comes, stops the run.
     fn take_back(&mut self, slice: Slice<'p>, done: u32) {
-        self.awake = self.awake.saturating_add(1);
-        if done >= WORTH {
-            self.tries = TRIES;
-        }
-        if !self.book.check_in(slice) {
+        self.waits.back(done);
+        if self.book.check_in(slice).is_err() {
             self.stop = true;
         }
-    }
-}
-
-/// How many turns come after a slice that did so many instructions, where so many came before it: one
-/// after a whole one, and ever more while the slices are not worth it.
-fn turns_after(done: u32, before: u32) -> u32 {
-    match done {
-        AT_ONCE => 1,
-        WORTH.. => IN_A_ROW,
-        _ => IN_A_ROW.max(before.saturating_mul(2)),
     }
 }
 
@@ -171,34 +161,40 @@ impl<'p, O: Outside, B: Runs> Pool<'p, O, B> {
         self.shared.lock(rt)
     }
 
-    /// A task to work on, or none where the worker is to end.
+    /// Wakes one other worker, if there is work for it.
+    fn wake_another(&self, shared: &Shared<'p, O, B>) {
+        if shared.wants_another() {
+            self.woken.notify_one();
+        }
+    }
+
+    /// A task to work on, or none where the worker is to end. Here alone a worker sleeps.
     fn find<'b, R: Wait>(&'b self, rt: &R, guard: MutexGuard<'b, Shared<'p, O, B>>) -> Option<u32> {
         let mut guard = guard;
         let mut looks = LOOKS;
         for _ in rt.forever() {
-            let shared = &mut *guard;
-            shared.ask();
-            if shared.stop || shared.book.has_ended() {
-                self.woken.notify_all();
-                return None;
-            }
-            if let Some(task) = shared.claim() {
-                if shared.wants_another() {
-                    self.woken.notify_one();
+            match guard.look() {
+                Found::End => {
+                    self.woken.notify_all();
+                    return None;
                 }
-                return Some(task);
+                Found::Task(task) => {
+                    self.wake_another(&guard);
+                    return Some(task);
+                }
+                Found::Nothing if looks > 0 => {
+                    looks -= 1;
+                    drop(guard);
+                    pause();
+                    guard = self.locked(rt);
+                }
+                Found::Nothing | Found::Left => {
+                    guard.waits.sleeps();
+                    guard = self.woken.wait(rt, guard);
+                    guard.waits.rises();
+                    looks = LOOKS;
+                }
             }
-            if shared.tries > 0 && looks > 0 {
-                looks -= 1;
-                drop(guard);
-                pause();
-                guard = self.locked(rt);
-                continue;
-            }
-            shared.awake = shared.awake.saturating_sub(1);
-            guard = self.woken.wait(rt, guard);
-            guard.awake = guard.awake.saturating_add(1);
-            looks = LOOKS;
         }
         unreachable!()
     }
@@ -229,9 +225,7 @@ impl<'p, O: Outside, B: Runs> Pool<'p, O, B> {
             let Some(mut slice) = guard.lend() else {
                 break;
             };
-            if guard.wants_another() {
-                self.woken.notify_one();
-            }
+            self.wake_another(&guard);
             drop(guard);
             let task = slice.task();
             gate.enter(worker, task);
@@ -256,7 +250,9 @@ impl<'p, O: Outside, B: Runs> Pool<'p, O, B> {
     /// What one worker does: it claims a task, passes the gate and does the task's steps, and so on
     /// until the root has ended.
     fn work<R: Wait, G: Gate>(&self, rt: &R, gate: &G, worker: u32) {
-        let mut next = self.find(rt, self.locked(rt));
+        let mut guard = self.locked(rt);
+        guard.came = guard.came.saturating_add(1);
+        let mut next = self.find(rt, guard);
         for _ in rt.forever() {
             let Some(task) = next else {
                 return;
@@ -285,16 +281,14 @@ pub fn run<R: Threads + Wait + Sync, G: Gate + Sync, O: Outside + Send + Drop>(
     requires { (1 ≤ workers) × (workers ≤ 16) }
     ensures report { IfOk result (λ r. IsReport verified.now r.journal.items r.end) }
     ensures steps { IfOk result (λ r. r.steps ≡ count_by is_step r.journal.items) }
+    ensures workers { IfOk result (λ r. r.workers ≡ workers) }
 {
     let stacks = &[STACK; 16][..workers as usize];
     let Ok(book) = Book::start(alloc, verified) else {
         return Err(PoolError::Memory);
     };
-    let book = Ledger::Written(book);
-    match run_on::<Brand, R, G, O>(rt, book, stacks, gate, outside)? {
-        Ledger::Written(book) => book.report(),
-        Ledger::Unwritten(_) => Err(PoolError::Unfinished),
-    }
+    let left = run_on::<Brand, R, G, O>(rt, book, stacks, gate, outside)?;
+    left.book.report(left.workers)
 }
 
 /// The same with no journal written: how its root ended, and the steps taken.
@@ -311,38 +305,50 @@ pub fn run_unwritten<R: Threads + Wait + Sync, G: Gate + Sync, O: Outside + Send
     outside: O,
 ) -> Result<Ending, PoolError>
     requires { (1 ≤ workers) × (workers ≤ 16) }
-    ensures { IfOk result (λ r. IsEnding verified.now r.end r.steps) }
+    ensures ending { IfOk result (λ r. IsEnding verified.now r.end r.steps) }
+    ensures workers { IfOk result (λ r. r.workers ≡ workers) }
 {
     let stacks = &[STACK; 16][..workers as usize];
-    let Ok(book) = Unwritten::start(alloc, verified) else {
+    let Ok(book) = Book::with_journal(alloc, verified, false) else {
         return Err(PoolError::Memory);
     };
-    let book = Ledger::Unwritten(book);
-    match run_on::<Brand, R, G, O>(rt, book, stacks, gate, outside)? {
-        Ledger::Unwritten(book) => book.ending(),
-        Ledger::Written(_) => Err(PoolError::Unfinished),
-    }
+    let left = run_on::<Brand, R, G, O>(rt, book, stacks, gate, outside)?;
+    left.book.ending(left.workers)
 }
 
-/// The book of the program that was picked once its root has ended, with a worker for each of these
-/// sizes of a stack.
+/// What the workers leave: the book, and how many of them came to the lock.
+#[derive(Drop)]
+pub(crate) struct Left<'p> {
+    book: Book<'p>,
+    workers: u32,
+}
+
+/// The book of the program that was picked once its workers have ended, of which there is one for
+/// each of these sizes of a stack.
+///
+/// # Errors
+///
+/// A worker could not be started, or not as many came to the lock as were started.
 pub(crate) fn run_on<
     'p,
     B: Runs + Send + Sync,
     R: Threads + Wait + Sync,
     G: Gate + Sync,
     O: Outside + Send + Drop,
->(rt: &R, book: Ledger<'p>, stacks: &[usize], gate: &G, outside: O) -> Result<Ledger<'p>, PoolError>
-    requires { program_of book ≡ B.program }
-    ensures { IfOk result (λ l. program_of l ≡ B.program) }
+>(rt: &R, book: Book<'p>, stacks: &[usize], gate: &G, outside: O) -> Result<Left<'p>, PoolError>
+    requires program { book.program ≡ B.program }
+    requires few { length stacks.now ≤ 16 }
+    ensures program { IfOk result (λ l. l.book.program ≡ B.program) }
+    ensures workers { IfOk result (λ l. l.workers ≡ length stacks.now) }
 {
+    let workers = stacks.len() as u32;
     let pool = Pool::<O, B> {
         shared: Mutex::new(Shared {
             book,
             outside,
             stop: false,
-            awake: stacks.len(),
-            tries: TRIES,
+            came: 0,
+            waits: Waits::new(workers),
             of: PhantomData,
         }),
         woken: Condvar::new(),
@@ -355,11 +361,17 @@ pub(crate) fn run_on<
         book,
         outside: _,
         stop: _,
-        awake: _,
-        tries: _,
+        came,
+        waits: _,
         of: _,
     } = shared.into_inner();
-    Ok(book)
+    if came != workers {
+        return Err(PoolError::SpawnRefused);
+    }
+    Ok(Left {
+        book,
+        workers: came,
+    })
 }
 
 /// Starts a worker with a stack of each of these sizes, and waits for all of them to end: false where

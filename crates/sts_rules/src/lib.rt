@@ -1,6 +1,10 @@
 //! What the verifier knows and tells (its records), and its definitions (in specs/).
 #![tactic(auto)]
 
-pub mod budget;
-pub mod fill;
-pub mod typing;
+mod budget;
+mod fill;
+mod typing;
+
+pub use budget::Budgets;
+pub use fill::filled;
+pub use typing::{Cause, Known, SlotKind, TypedEntry, TypedLoop, TypedPhase, TypedScope};

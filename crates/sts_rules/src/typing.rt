@@ -3,7 +3,7 @@
 ghost use Rattle.std.specs.Prelude.{◌≡◌};
 ghost use Rattle.sts_rules.specs.Causes as def;
 
-use sts_code::instr::Joiner;
+use sts_code::Joiner;
 
 /// What is known of the state of a subtask.
 #[derive(Clone, Copy, Debug, PartialEq, Eq)]

@@ -2,8 +2,8 @@
 use Rattle.std.proofs.Common.{◌≡◌, ℕ, zero, suc, List, [], ◌∷◌, length, Option, Some, None, refl, sym, ◌∙◌, ap, get_or, subst, ◌++◌, false, true}
 use Rattle.std.specs.Prelude.{is_some, count_by}
 use Rattle.sts_env.specs.Environments.{Records, IsWhole, keys_of}
-use Rattle.sts_forest.specs.Forest.{root}
-use Rattle.sts_forest.specs.declared.record.Task.{Task}
+use Rattle.sts_tree.specs.Forest.{root}
+use Rattle.sts_tree.specs.declared.record.Task.{Task}
 use Rattle.std.specs.Prelude.{filter_map, replicate, slice_index_or}
 use Rattle.std.specs.List.{list_any}
 use Rattle.sts_model.specs.Environment.{bound_of}
@@ -11,8 +11,8 @@ use Rattle.sts_model.specs.Live.{Live}
 use Rattle.sts_model.specs.Misuse.{is_binding, is_entry_of, slot}
 use Rattle.sts_model.specs.declared.record.Bound.{Bound}
 use Rattle.sts_model.specs.declared.record.Slot.TheVariants.{Empty}
-use Rattle.sts_seen.specs.Reading.{live_task_at, lives_in}
-use Rattle.sts_views.specs.Order.{InOrder, IsInside, LivesInOrder}
+use Rattle.laws_live.specs.Reading.{live_task_at, lives_in}
+use Rattle.laws_live.specs.Order.{InOrder, IsInside, LivesInOrder}
 use Rattle.sts_model.specs.declared.record.Entry.{Entry}
 use Rattle.sts_model.specs.declared.record.Frame.{Frame}
 use Rattle.sts_store.specs.declared.running.Running.{Running}

@@ -7,15 +7,15 @@ use Rattle.sts_env.specs.Environments.{Records, IsWhole, keys_of, list_of, NotIn
 use Rattle.sts_env.specs.declared.env.Env.{Env}
 use Rattle.sts_env.specs.Sharing.{IsUnshared}
 use Rattle.sts_env.proofs.UnsharedLemmas.{front_is_unshared}
-use Rattle.sts_forest.specs.declared.record.Scope.{Scope}
-use Rattle.sts_forest.proofs.HoldingLemmas.{map_at}
+use Rattle.sts_tree.specs.declared.record.Scope.{Scope}
+use Rattle.sts_tree.proofs.HoldingLemmas.{map_at}
 use Rattle.sts_model.specs.Misuse.{is_binding, innermost}
 use Rattle.sts_model.specs.Local.{operand, steps}
 use Rattle.sts_model.specs.declared.record.Bound.{Bound}
 use Rattle.sts_model.specs.declared.record.Frame.{Frame}
 use Rattle.sts_model.specs.declared.record.Entry.{Entry}
 use Rattle.sts_model.specs.declared.record.Entry.TheVariants as entry
-use Rattle.sts_views.specs.Order.{InOrder}
+use Rattle.laws_live.specs.Order.{InOrder}
 use Rattle.sts_store.specs.declared.running.Running.{Running}
 use Rattle.sts_store.specs.Parts.{Parts, live_of}
 use Rattle.sts_store.specs.Sharing.{AreShared, Holder, Keeper, holder_of, keeper_of, holders, keepers, homes, home_at, inherited, behind}

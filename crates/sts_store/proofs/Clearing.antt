@@ -3,8 +3,8 @@ use Rattle.std.proofs.Common.{◌≡◌, ℕ, List, [], ◌∷◌, None, refl, s
 use Rattle.sts_model.specs.Living.{is_in}
 use Rattle.sts_model.specs.declared.record.Slot.{Slot}
 use Rattle.sts_model.specs.declared.record.Slot.TheVariants.{Empty, Own, Lent, Sub}
-use Rattle.sts_seen.specs.Effect.{is_live_of, live_cleared}
-use Rattle.sts_seen.specs.Reading.{live_task_at}
+use Rattle.laws_live.specs.Effect.{is_live_of, live_cleared}
+use Rattle.laws_live.specs.Reading.{live_task_at}
 use Rattle.sts_store.specs.Closing.{home_in, is_slot_of, slots_cleared}
 use Rattle.sts_store.specs.Parts.{Parts, live_of}
 use Rattle.sts_store.proofs.Seeing.{home_is}

@@ -3,7 +3,7 @@
 use Rattle.std.proofs.Common.{◌≡◌, ℕ, List, [], ◌∷◌, drop, map, Bool, true, false, ◌&&◌, ◌||◌, Option, Some, None, refl, ◌∙◌, ap, get_or, set, cond}
 use Rattle.std.specs.Prelude.{option_map, is_some, unwrap_or}
 use Rattle.std.specs.List.{list_any}
-use Rattle.sts_forest.proofs.HoldingLemmas.{map_at}
+use Rattle.sts_tree.proofs.HoldingLemmas.{map_at}
 use Rattle.sts_model.specs.Living.{is_in}
 use Rattle.sts_model.specs.Local.{steps}
 use Rattle.sts_model.specs.Misuse.{innermost, is_entry_of}
@@ -13,10 +13,10 @@ use Rattle.sts_model.specs.declared.record.Entry.{Entry}
 use Rattle.sts_model.specs.declared.record.Frame.{Frame}
 use Rattle.sts_model.specs.declared.record.Slot.{Slot}
 use Rattle.sts_model.specs.declared.record.Slot.TheVariants.{Empty, Own, Lent, Sub}
-use Rattle.sts_seen.specs.Cancelling.{live_raise, live_marked, live_cancel}
-use Rattle.sts_seen.specs.Effect.{is_live_of, live_cleared, live_gone, live_closed, live_close, without}
-use Rattle.sts_seen.specs.Reading.{live_scope_at, live_task_at, live_any_lives, is_live_living, lives_in, alive_at, no_live_task, scope_in, with_live_frame, with_live_phase}
-use Rattle.sts_views.specs.Order.{InOrder, IsOwned}
+use Rattle.laws_live.specs.Cancelling.{live_raise, live_marked, live_cancel}
+use Rattle.laws_live.specs.Effect.{is_live_of, live_cleared, live_gone, live_closed, live_close, without}
+use Rattle.laws_live.specs.Reading.{live_scope_at, live_task_at, live_any_lives, is_live_living, lives_in, alive_at, no_live_task, scope_in, with_live_frame, with_live_phase}
+use Rattle.laws_live.specs.Order.{InOrder, IsOwned}
 use Rattle.sts_store.proofs.Flags.{set_again}
 
 -- ---- tasks with their flags set

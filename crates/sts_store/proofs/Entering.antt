@@ -7,9 +7,9 @@ use Rattle.std.specs.Prelude.{option_map, slice_set, count_by}
 use Rattle.sts_env.specs.Environments.{list_of}
 use Rattle.sts_code.specs.declared.instr.Joiner.{Joiner}
 use Rattle.sts_env.specs.declared.env.Env.{Env}
-use Rattle.sts_forest.specs.Forest.{Forest, opened}
-use Rattle.sts_forest.specs.declared.record.Scope.{Scope}
-use Rattle.sts_forest.proofs.HoldingLemmas.{map_at, inside_of}
+use Rattle.sts_tree.specs.Forest.{Forest, opened}
+use Rattle.sts_tree.specs.declared.record.Scope.{Scope}
+use Rattle.sts_tree.proofs.HoldingLemmas.{map_at, inside_of}
 use Rattle.sts_model.specs.Local.{steps}
 use Rattle.sts_model.specs.Misuse.{is_binding}
 use Rattle.sts_model.specs.Told.{told}
@@ -20,11 +20,11 @@ use Rattle.sts_model.specs.declared.record.Entry.{Entry}
 use Rattle.sts_model.specs.declared.record.Entry.TheVariants as entry
 use Rattle.sts_model.specs.declared.record.Frame.{Frame}
 use Rattle.sts_model.specs.declared.record.Slot.TheVariants.{Own}
-use Rattle.sts_seen.specs.Effect.{live_open}
-use Rattle.sts_seen.specs.Reading.{alive_at, with_live_frame}
-use Rattle.sts_views.specs.Order.{InOrder}
-use Rattle.sts_agree.proofs.ViewingLemmas.{words}
-use Rattle.sts_agree.specs.View.{scope_seen}
+use Rattle.laws_live.specs.Effect.{live_open}
+use Rattle.laws_live.specs.Reading.{alive_at, with_live_frame}
+use Rattle.laws_live.specs.Order.{InOrder}
+use Rattle.sts_store.proofs.ViewingLemmas.{words}
+use Rattle.sts_store.specs.View.{scope_seen}
 use Rattle.sts_store.specs.declared.running.Running.{Running}
 use Rattle.sts_store.specs.Parts.{Parts, live_of, beside, frame_of}
 use Rattle.sts_store.specs.Sharing.{AreShared, Holder, holder_of, keeper_of, holders, keepers, homes, home_at, behind}

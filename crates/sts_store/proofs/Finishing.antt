@@ -2,17 +2,17 @@
 use Rattle.std.proofs.Common.{◌≡◌, ◌≢◌, ℕ, Bool, true, false, Option, Some, None, refl, sym, ◌∙◌, ap, get_or, cond, ◌&&◌, not, get_or-set_same}
 use Rattle.std.proofs.lemmas.Bool.{and_parts}
 use Rattle.sts_model.specs.declared.event.End.{End}
-use Rattle.sts_forest.specs.Forest.{Forest, asks}
-use Rattle.sts_forest.specs.declared.record.Task.{Task}
-use Rattle.sts_forest.specs.declared.record.Scope.{Scope}
-use Rattle.sts_forest.proofs.HoldingLemmas.{inside_of}
+use Rattle.sts_tree.specs.Forest.{Forest, asks}
+use Rattle.sts_tree.specs.declared.record.Task.{Task}
+use Rattle.sts_tree.specs.declared.record.Scope.{Scope}
+use Rattle.sts_tree.proofs.HoldingLemmas.{inside_of}
 use Rattle.sts_joiners.specs.Tallied.{with_end}
 use Rattle.sts_tree.specs.Ending.{gone, told, told_in, ended_in, ended, asks_told, asks_in, asks_ended}
 use Rattle.sts_cancel.specs.Cancelling.{cancel}
-use Rattle.sts_seen.specs.Effect.{live_ended, live_tell}
-use Rattle.sts_agree.specs.View.{Beside, view_of}
-use Rattle.sts_agree.specs.Agreeing.{at_end, TaskAt}
-use Rattle.sts_agree.proofs.ViewingLemmas.{root_seen, end_seen}
+use Rattle.laws_live.specs.Effect.{live_ended, live_tell}
+use Rattle.sts_store.specs.View.{Beside, view_of}
+use Rattle.sts_store.specs.Agreeing.{at_end, TaskAt}
+use Rattle.sts_store.proofs.ViewingLemmas.{root_seen, end_seen}
 use Rattle.sts_store.specs.Ending.{finished_of, finished_in, finished}
 
 -- the scope once it was told

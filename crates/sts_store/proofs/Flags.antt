@@ -2,12 +2,12 @@
 use Rattle.std.proofs.Common.{◌≡◌, ℕ, zero, suc, List, [], ◌∷◌, Bool, Some, None, refl, sym, ◌∙◌, ap, get_or, set}
 use Rattle.std.specs.Prelude.{option_map}
 use Rattle.sts_env.specs.declared.env.Env.{Env}
-use Rattle.sts_forest.specs.Forest.{Forest}
+use Rattle.sts_tree.specs.Forest.{Forest}
 use Rattle.sts_model.specs.Live.{Live, LiveTask, Alive}
 use Rattle.sts_model.specs.declared.record.Frame.{Frame}
-use Rattle.sts_seen.specs.Reading.{task_in, with_alive}
+use Rattle.laws_live.specs.Reading.{task_in, with_alive}
 use Rattle.sts_tree.specs.Steps.{seen, with_task}
-use Rattle.sts_agree.proofs.ViewingLemmas.{words}
+use Rattle.sts_store.proofs.ViewingLemmas.{words}
 use Rattle.sts_store.specs.declared.running.Running.{Running}
 use Rattle.sts_store.specs.Parts.{Parts, live_of, beside, unseen_of}
 use Rattle.sts_store.specs.Stored.{IsStore}

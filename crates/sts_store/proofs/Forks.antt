@@ -6,11 +6,11 @@ use Rattle.std.specs.Prelude.{option_map, unwrap_or, reverse}
 use Rattle.sts_code.specs.Program.{Program, routine}
 use Rattle.sts_env.specs.Environments.{Records, list_of}
 use Rattle.sts_env.specs.declared.env.Env.{Env}
-use Rattle.sts_forest.specs.Forest.{Forest, subtask}
-use Rattle.sts_forest.specs.declared.record.Task.{Task}
-use Rattle.sts_forest.specs.declared.record.Scope.{Scope}
-use Rattle.sts_forest.proofs.HoldingLemmas.{map_at, inside_of}
-use Rattle.sts_held.specs.Holes.{Holes}
+use Rattle.sts_tree.specs.Forest.{Forest, subtask}
+use Rattle.sts_tree.specs.declared.record.Task.{Task}
+use Rattle.sts_tree.specs.declared.record.Scope.{Scope}
+use Rattle.sts_tree.proofs.HoldingLemmas.{map_at, inside_of}
+use Rattle.sts_records.specs.Holes.{Holes}
 use Rattle.sts_model.specs.Effect.{forked}
 use Rattle.sts_model.specs.World.{entry_frame}
 use Rattle.sts_model.specs.Live.{Live, LiveScope, Alive}
@@ -19,11 +19,11 @@ use Rattle.sts_model.specs.declared.record.Frame.{Frame}
 use Rattle.sts_model.specs.declared.record.Slot.TheVariants.{Lent}
 use Rattle.sts_tree.specs.Steps.{seen}
 use Rattle.sts_tree.specs.Reading.{lives_at}
-use Rattle.sts_seen.specs.Effect.{live_fork, live_child}
-use Rattle.sts_seen.specs.Reading.{live_scope_at, with_live_frame}
-use Rattle.sts_views.specs.Order.{InOrder}
-use Rattle.sts_agree.specs.View.{Beside, view_of, tasks_from, scope_seen, alive_of}
-use Rattle.sts_agree.proofs.ViewingLemmas.{words, scope_there, same_view}
+use Rattle.laws_live.specs.Effect.{live_fork, live_child}
+use Rattle.laws_live.specs.Reading.{live_scope_at, with_live_frame}
+use Rattle.laws_live.specs.Order.{InOrder}
+use Rattle.sts_store.specs.View.{Beside, view_of, tasks_from, scope_seen, alive_of}
+use Rattle.sts_store.proofs.ViewingLemmas.{words, scope_there, same_view}
 use Rattle.sts_store.specs.declared.running.Running.{Running}
 use Rattle.sts_store.specs.Parts.{Parts, live_of, beside, frame_of, running_at, no_running, stand_of, unseen_of}
 use Rattle.sts_store.specs.Sharing.{Holder, Keeper, holder_of, keeper_of, home_of, holders, keepers}

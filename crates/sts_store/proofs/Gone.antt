@@ -5,12 +5,12 @@ use Rattle.std.proofs.lemmas.List.{length-map, map-set, length-set}
 use Rattle.std.proofs.lemmas.List.Sums.{sum_by-cons}
 use Rattle.std.specs.Prelude.{option_map, is_some, unwrap_or, count_by}
 use Rattle.sts_env.specs.declared.env.Env.{Env}
-use Rattle.sts_forest.specs.Births.{births, drop_if}
-use Rattle.sts_forest.specs.Forest.{any_lives, closed, is_of}
-use Rattle.sts_forest.specs.declared.record.Task.{Task}
-use Rattle.sts_forest.specs.declared.record.Scope.{Scope}
-use Rattle.sts_forest.proofs.ClosingLemmas.{drop_at}
-use Rattle.sts_forest.proofs.HoldingLemmas.{map_at}
+use Rattle.sts_tree.specs.Births.{births, drop_if}
+use Rattle.sts_tree.specs.Forest.{any_lives, closed, is_of}
+use Rattle.sts_tree.specs.declared.record.Task.{Task}
+use Rattle.sts_tree.specs.declared.record.Scope.{Scope}
+use Rattle.sts_tree.proofs.ClosedLemmas.{drop_at}
+use Rattle.sts_tree.proofs.HoldingLemmas.{map_at}
 use Rattle.sts_model.specs.Living.{is_in}
 use Rattle.sts_model.specs.Misuse.{innermost, is_binding, is_entry_of}
 use Rattle.sts_model.specs.Live.{LiveScope}
@@ -18,13 +18,13 @@ use Rattle.sts_model.specs.declared.event.Stand.TheVariants.{Free}
 use Rattle.sts_model.specs.declared.record.Entry.{Entry}
 use Rattle.sts_model.specs.declared.record.Entry.TheVariants as entry
 use Rattle.sts_model.specs.declared.record.Frame.{Frame}
-use Rattle.sts_seen.specs.Effect.{live_gone}
-use Rattle.sts_seen.specs.Reading.{lives_in, live_any_lives, no_live_task, with_live_frame}
+use Rattle.laws_live.specs.Effect.{live_gone}
+use Rattle.laws_live.specs.Reading.{lives_in, live_any_lives, no_live_task, with_live_frame}
 use Rattle.sts_tree.specs.Reading.{lives_at}
 use Rattle.sts_tree.proofs.ClosingLemmas.{none_lives}
-use Rattle.sts_views.specs.Order.{InOrder, IsOwned}
-use Rattle.sts_agree.specs.View.{Beside, tasks_from}
-use Rattle.sts_agree.proofs.ViewingLemmas.{words, scope_there}
+use Rattle.laws_live.specs.Order.{InOrder, IsOwned}
+use Rattle.sts_store.specs.View.{Beside, tasks_from}
+use Rattle.sts_store.proofs.ViewingLemmas.{words, scope_there}
 use Rattle.sts_store.specs.Closing.{stands_left, gone_unseen}
 use Rattle.sts_store.specs.declared.running.Running.{Running}
 use Rattle.sts_store.specs.Parts.{Parts, live_of, beside, frame_of, stand_of, stand_in, unseen_of}

@@ -2,14 +2,14 @@
 use Rattle.std.proofs.Common.{◌≡◌, ℕ, ◌<◌, true, false, Option, Some, None, refl, sym, ◌∙◌, ap, subst, get_or}
 use Rattle.std.specs.Prelude.{option_map, is_some}
 use Rattle.sts_env.specs.declared.env.Env.{Env}
-use Rattle.sts_forest.specs.declared.record.Task.{Task}
-use Rattle.sts_forest.specs.declared.record.Scope.{Scope}
-use Rattle.sts_forest.proofs.HoldingLemmas.{map_at}
+use Rattle.sts_tree.specs.declared.record.Task.{Task}
+use Rattle.sts_tree.specs.declared.record.Scope.{Scope}
+use Rattle.sts_tree.proofs.HoldingLemmas.{map_at}
 use Rattle.sts_model.specs.Live.{LiveScope}
-use Rattle.sts_seen.specs.Reading.{lives_in, scope_in, live_task_at, live_scope_at}
-use Rattle.sts_views.specs.Order.{InOrder}
-use Rattle.sts_agree.specs.View.{scope_seen}
-use Rattle.sts_agree.proofs.ViewingLemmas.{scope_is, scope_there}
+use Rattle.laws_live.specs.Reading.{lives_in, scope_in, live_task_at, live_scope_at}
+use Rattle.laws_live.specs.Order.{InOrder}
+use Rattle.sts_store.specs.View.{scope_seen}
+use Rattle.sts_store.proofs.ViewingLemmas.{scope_is, scope_there}
 use Rattle.sts_store.specs.Parts.{Parts, live_of, beside}
 use Rattle.sts_store.specs.Sharing.{Holder, Keeper, holder_of, keeper_of, home_of, holders, keepers, homes, home_at}
 use Rattle.sts_store.specs.Stored.{IsStore}

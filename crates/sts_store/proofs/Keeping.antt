@@ -4,12 +4,12 @@ use Rattle.std.proofs.lemmas.List.{length-set}
 use Rattle.std.specs.Prelude.{option_map, is_some}
 use Rattle.sts_env.specs.Environments.{Records}
 use Rattle.sts_env.specs.declared.env.Env.{Env}
-use Rattle.sts_forest.specs.Forest.{Forest}
-use Rattle.sts_forest.specs.declared.record.Task.{Task}
-use Rattle.sts_forest.proofs.HoldingLemmas.{unseen, map_at}
+use Rattle.sts_tree.specs.Forest.{Forest}
+use Rattle.sts_tree.specs.declared.record.Task.{Task}
+use Rattle.sts_tree.proofs.HoldingLemmas.{unseen, map_at}
 use Rattle.sts_tree.specs.Steps.{unmarked, seen, with_task}
 use Rattle.sts_tree.specs.Reading.{lives_at}
-use Rattle.sts_agree.proofs.ViewingLemmas.{same_view}
+use Rattle.sts_store.proofs.ViewingLemmas.{same_view}
 use Rattle.sts_store.specs.Parts.{Parts, live_of, beside, stand_of, unseen_of}
 use Rattle.sts_store.specs.Sharing.{AreShared, holder_of, home_of, holders, keepers, homes}
 use Rattle.sts_store.specs.Stored.{IsStore}

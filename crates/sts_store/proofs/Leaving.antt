@@ -5,20 +5,20 @@ use Rattle.std.proofs.lemmas.List.{length-set, length-map, map-set}
 use Rattle.std.specs.Prelude.{option_map, unwrap_or}
 use Rattle.sts_env.specs.Environments.{list_of}
 use Rattle.sts_env.specs.declared.env.Env.{Env}
-use Rattle.sts_forest.specs.Forest.{Forest}
-use Rattle.sts_forest.specs.declared.record.Task.{Task}
-use Rattle.sts_forest.specs.declared.record.Scope.{Scope}
-use Rattle.sts_forest.proofs.HoldingLemmas.{unseen, map_at, inside_of}
-use Rattle.sts_held.specs.Holes.{Holes}
+use Rattle.sts_tree.specs.Forest.{Forest}
+use Rattle.sts_tree.specs.declared.record.Task.{Task}
+use Rattle.sts_tree.specs.declared.record.Scope.{Scope}
+use Rattle.sts_tree.proofs.HoldingLemmas.{unseen, map_at, inside_of}
+use Rattle.sts_records.specs.Holes.{Holes}
 use Rattle.sts_model.specs.declared.event.End.{End}
 use Rattle.sts_tree.specs.Ending.{gone, told, told_in, ended_in, ended, asks_ended}
 use Rattle.sts_tree.specs.Steps.{with_task, with_scope, seen}
 use Rattle.sts_tree.specs.Reading.{lives_at}
 use Rattle.sts_cancel.specs.Cancelling.{raise, raise_all, cancel}
-use Rattle.sts_seen.specs.Effect.{live_end, live_ended, live_tell}
-use Rattle.sts_agree.specs.View.{Beside, view_of}
-use Rattle.sts_agree.specs.Agreeing.{at_end}
-use Rattle.sts_agree.proofs.ViewingLemmas.{same_view}
+use Rattle.laws_live.specs.Effect.{live_end, live_ended, live_tell}
+use Rattle.sts_store.specs.View.{Beside, view_of}
+use Rattle.sts_store.specs.Agreeing.{at_end}
+use Rattle.sts_store.proofs.ViewingLemmas.{same_view}
 use Rattle.sts_store.specs.declared.running.Running.{Running}
 use Rattle.sts_store.specs.Ending.{finished}
 use Rattle.sts_store.specs.Parts.{Parts, live_of, beside, stand_of, unseen_of, no_running}

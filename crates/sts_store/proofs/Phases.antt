@@ -1,8 +1,8 @@
 -- The phase of a scope is written, and what a `join` does.
 use Rattle.std.proofs.Common.{◌≡◌, ℕ, [], Some, None, refl, ◌∙◌, get_or, true, false, ◌||◌, not}
 use Rattle.sts_env.specs.declared.env.Env.{Env}
-use Rattle.sts_forest.specs.Forest.{Forest}
-use Rattle.sts_forest.specs.declared.record.Scope.{Scope}
+use Rattle.sts_tree.specs.Forest.{Forest}
+use Rattle.sts_tree.specs.declared.record.Scope.{Scope}
 use Rattle.sts_tree.specs.Steps.{with_scope, seen}
 use Rattle.sts_model.specs.declared.event.Phase.{Phase}
 use Rattle.sts_model.specs.declared.event.Phase.TheVariants.{Attempted}
@@ -10,9 +10,9 @@ use Rattle.sts_model.specs.declared.record.Frame.{Frame}
 use Rattle.sts_model.specs.Local.{goes}
 use Rattle.sts_model.specs.Told.{result_told}
 use Rattle.sts_model.specs.Live.{Live}
-use Rattle.sts_seen.specs.Effect.{live_join, live_joined, live_verdict}
-use Rattle.sts_seen.specs.Reading.{with_live_phase, with_alive, live_scope_at, live_any_lives, live_count}
-use Rattle.sts_agree.proofs.ViewingLemmas.{words}
+use Rattle.laws_live.specs.Effect.{live_join, live_joined, live_verdict}
+use Rattle.laws_live.specs.Reading.{with_live_phase, with_alive, live_scope_at, live_any_lives, live_count}
+use Rattle.sts_store.proofs.ViewingLemmas.{words}
 use Rattle.sts_store.specs.Parts.{Parts, live_of, beside, unseen_of}
 use Rattle.sts_store.specs.Stored.{IsStore}
 use Rattle.sts_store.proofs.Keeping.{live_seen, store_seen, rest_seen}

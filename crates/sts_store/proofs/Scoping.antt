@@ -3,18 +3,18 @@ use Rattle.std.proofs.Common.{◌≡◌, ℕ, List, [], ◌∷◌, map, Bool, tr
 use Rattle.std.proofs.lemmas.List.{length-map, get_or-set_same}
 use Rattle.std.specs.Prelude.{option_map, unwrap_or}
 use Rattle.sts_env.specs.declared.env.Env.{Env}
-use Rattle.sts_forest.specs.Forest.{Forest, lives_in}
-use Rattle.sts_forest.specs.declared.record.Task.{Task}
-use Rattle.sts_forest.specs.declared.record.Scope.{Scope}
-use Rattle.sts_forest.proofs.HoldingLemmas.{unseen, map_at, inside_of}
+use Rattle.sts_tree.specs.Forest.{Forest, lives_in}
+use Rattle.sts_tree.specs.declared.record.Task.{Task}
+use Rattle.sts_tree.specs.declared.record.Scope.{Scope}
+use Rattle.sts_tree.proofs.HoldingLemmas.{unseen, map_at, inside_of}
 use Rattle.sts_tree.specs.Steps.{with_scope, seen}
 use Rattle.sts_cancel.specs.Cancelling.{raise, raise_all, cancel, expire}
 use Rattle.sts_model.specs.Live.{LiveScope}
-use Rattle.sts_seen.specs.Reading.{live_scope_at, no_live_scope, with_live_scope}
-use Rattle.sts_seen.specs.Cancelling.{live_cancel}
-use Rattle.sts_seen.specs.Outside.{live_can_expire, live_expire}
-use Rattle.sts_agree.specs.View.{scope_seen}
-use Rattle.sts_agree.proofs.ViewingLemmas.{scope_is, cancelled_is, expired_seen}
+use Rattle.laws_live.specs.Reading.{live_scope_at, no_live_scope, with_live_scope}
+use Rattle.laws_live.specs.Cancelling.{live_cancel}
+use Rattle.laws_live.specs.Outside.{live_can_expire, live_expire}
+use Rattle.sts_store.specs.View.{scope_seen}
+use Rattle.sts_store.proofs.ViewingLemmas.{scope_is, cancelled_is, expired_seen}
 use Rattle.sts_store.specs.Parts.{Parts, live_of, beside, stand_of, unseen_of}
 use Rattle.sts_store.specs.Sharing.{keeper_of, home_of}
 use Rattle.sts_store.specs.Stored.{IsStore}

@@ -1,27 +1,27 @@
 -- What is read of tasks and scopes, in the tree and in the view.
 use Rattle.std.proofs.Common.{◌≡◌, ℕ, ◌+◌, ◌-◌, length, true, false, ◌&&◌, Option, Some, None, refl, sym, ◌∙◌, ap, get_or, List, [], ◌∷◌, cond, nat_eq, arith}
 use Rattle.std.proofs.lemmas.Bool.Decides.{nat_tests}
-use Rattle.sts_forest.specs.Births.{has}
-use Rattle.sts_held.specs.Holes.{key_at}
+use Rattle.sts_tree.specs.Births.{has}
+use Rattle.sts_records.specs.Holes.{key_at}
 use Rattle.sts_links.specs.Lists.{first_or}
 use Rattle.std.specs.Prelude.{option_map, is_some, unwrap_or}
 use Rattle.sts_code.specs.declared.instr.Kind.{Kind}
 use Rattle.sts_code.specs.declared.instr.Kind.TheVariants.{S, F, U}
 use Rattle.sts_env.specs.declared.env.Env.{Env}
-use Rattle.sts_forest.specs.declared.record.Task.{Task}
-use Rattle.sts_forest.specs.declared.record.Scope.{Scope}
-use Rattle.sts_forest.specs.Births.{births}
-use Rattle.sts_forest.specs.Forest.{is_of}
-use Rattle.sts_forest.proofs.HoldingLemmas.{map_at, key_seen}
+use Rattle.sts_tree.specs.declared.record.Task.{Task}
+use Rattle.sts_tree.specs.declared.record.Scope.{Scope}
+use Rattle.sts_tree.specs.Births.{births}
+use Rattle.sts_tree.specs.Forest.{is_of}
+use Rattle.sts_tree.proofs.HoldingLemmas.{map_at, key_seen}
 use Rattle.sts_tree.specs.Reading.{count_of}
 use Rattle.sts_tree.specs.Steps.{can_step, can_go}
 use Rattle.sts_model.specs.declared.event.Stand.TheVariants.{Free}
 use Rattle.sts_model.specs.Live.{LiveTask, LiveScope}
-use Rattle.sts_seen.specs.Reading.{scope_in, live_scope_at, live_task_at, lives_in, no_live_task, no_live_scope}
-use Rattle.sts_seen.specs.Effect.{live_state, live_tally}
-use Rattle.sts_seen.specs.Waiting.{live_can_go}
-use Rattle.sts_agree.specs.View.{scope_seen, task_seen}
-use Rattle.sts_agree.proofs.ViewingLemmas.{task_is, scope_is, scope_there, words}
+use Rattle.laws_live.specs.Reading.{scope_in, live_scope_at, live_task_at, lives_in, no_live_task, no_live_scope}
+use Rattle.laws_live.specs.Effect.{live_state, live_tally}
+use Rattle.laws_live.specs.Waiting.{live_can_go}
+use Rattle.sts_store.specs.View.{scope_seen, task_seen}
+use Rattle.sts_store.proofs.ViewingLemmas.{task_is, scope_is, scope_there, words}
 use Rattle.sts_store.specs.Parts.{Parts, live_of, beside, stand_of, stand_in, unseen_of, can_go_on}
 use Rattle.sts_store.proofs.Views.{just, lives_is, lives_of}
 

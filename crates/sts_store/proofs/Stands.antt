@@ -4,20 +4,20 @@ use Rattle.std.proofs.Math.ListN.{get_or-map}
 use Rattle.std.proofs.lemmas.List.{map-set, set-get_or}
 use Rattle.std.specs.Prelude.{option_map, is_some, unwrap_or}
 use Rattle.sts_env.specs.declared.env.Env.{Env}
-use Rattle.sts_forest.specs.Forest.{Forest}
-use Rattle.sts_forest.specs.declared.record.Scope.{Scope}
-use Rattle.sts_forest.specs.declared.record.Task.{Task}
+use Rattle.sts_tree.specs.Forest.{Forest}
+use Rattle.sts_tree.specs.declared.record.Scope.{Scope}
+use Rattle.sts_tree.specs.declared.record.Task.{Task}
 use Rattle.sts_model.specs.declared.event.Stand.{Stand}
 use Rattle.sts_model.specs.declared.event.Stand.TheVariants.{Free, AtJoin, AtClose}
 use Rattle.sts_model.specs.Live.{Live, LiveScope}
 use Rattle.sts_model.specs.Living.{is_closed}
-use Rattle.sts_seen.specs.Cancelling.{live_cancel}
-use Rattle.sts_seen.specs.Reading.{scope_in, no_live_scope}
+use Rattle.laws_live.specs.Cancelling.{live_cancel}
+use Rattle.laws_live.specs.Reading.{scope_in, no_live_scope}
 use Rattle.sts_tree.specs.Steps.{seen, with_task, stands_at}
-use Rattle.sts_views.specs.Order.{IsOwned}
-use Rattle.sts_views.specs.Stands.{is_stand_at}
-use Rattle.sts_views.proofs.RestingLemmas.{rests-cancel}
-use Rattle.sts_agree.proofs.ViewingLemmas.{words, scope_there}
+use Rattle.laws_live.specs.Order.{IsOwned}
+use Rattle.laws_live.specs.Stands.{is_stand_at}
+use Rattle.laws_live.proofs.RestingLemmas.{rests-cancel}
+use Rattle.sts_store.proofs.ViewingLemmas.{words, scope_there}
 use Rattle.sts_store.specs.Parts.{Parts, live_of, beside, stand_of, unseen_of, stood_unseen}
 use Rattle.sts_store.specs.Stored.{IsStore}
 use Rattle.sts_store.proofs.Views.{Lived}

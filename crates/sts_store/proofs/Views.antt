@@ -6,16 +6,16 @@ use Rattle.std.specs.Prelude.{option_map, option_copied, is_some, unwrap_or, IsS
 use Rattle.std.specs.Borrow.{Bor}
 use Rattle.sts_env.specs.Environments.{Records, list_of}
 use Rattle.sts_env.specs.declared.env.Env.{Env}
-use Rattle.sts_forest.specs.Forest.{Forest}
-use Rattle.sts_forest.specs.declared.record.Task.{Task}
-use Rattle.sts_forest.specs.declared.record.Scope.{Scope}
+use Rattle.sts_tree.specs.Forest.{Forest}
+use Rattle.sts_tree.specs.declared.record.Task.{Task}
+use Rattle.sts_tree.specs.declared.record.Scope.{Scope}
 use Rattle.sts_tree.specs.Reading.{lives_at}
 use Rattle.sts_model.specs.Live.{LiveTask, Alive}
 use Rattle.sts_model.specs.declared.record.Frame.{Frame}
 use Rattle.sts_model.specs.declared.record.Bound.{Bound}
-use Rattle.sts_seen.specs.Reading.{lives_in, alive_at, with_alive, live_task_at, task_in, no_live_task, no_alive}
-use Rattle.sts_agree.specs.View.{Beside, task_seen, scope_seen, tasks_from}
-use Rattle.sts_agree.proofs.ViewingLemmas.{task_is, lives_same}
+use Rattle.laws_live.specs.Reading.{lives_in, alive_at, with_alive, live_task_at, task_in, no_live_task, no_alive}
+use Rattle.sts_store.specs.View.{Beside, task_seen, scope_seen, tasks_from}
+use Rattle.sts_store.proofs.ViewingLemmas.{task_is, lives_same}
 use Rattle.sts_store.specs.declared.running.Running.{Running}
 use Rattle.sts_store.specs.Parts.{Parts, live_of, beside, running_at, no_running}
 use Rattle.sts_store.specs.Stored.{IsStore}

@@ -6,7 +6,7 @@ use Rattle.std.proofs.Common.{◌≡◌, ◌≢◌, ℕ, List, true, Some, None,
 use Rattle.sts_model.specs.Live.{Live}
 use Rattle.sts_model.specs.declared.record.Frame.{Frame}
 use Rattle.sts_model.specs.declared.record.Entry.{Entry}
-use Rattle.sts_seen.specs.Reading.{lives_in, with_live_frame}
+use Rattle.laws_live.specs.Reading.{lives_in, with_live_frame}
 use Rattle.sts_store.specs.declared.running.Running.{Running}
 use Rattle.sts_store.specs.Parts.{Parts, live_of, frame_of}
 use Rattle.sts_store.specs.Stored.{IsStore}

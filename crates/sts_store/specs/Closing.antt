@@ -3,14 +3,14 @@
 use Rattle.std.specs.Prelude.{ℕ, ◌+◌, ◌==◌, List, [], ◌∷◌, map, Bool, false, Option, Some, None}
 use Rattle.std.specs.Prelude.{if◌then◌else◌, slice_index_or}
 use Rattle.sts_env.specs.declared.env.Env.{Env}
-use Rattle.sts_forest.specs.Forest.{Forest}
+use Rattle.sts_tree.specs.Forest.{Forest}
 use Rattle.sts_model.specs.declared.event.Stand.{Stand}
 use Rattle.sts_model.specs.declared.event.Stand.TheVariants.{Free, AtClose}
 use Rattle.sts_model.specs.declared.record.Slot.{Slot}
 use Rattle.sts_model.specs.declared.record.Slot.TheVariants.{Empty, Own, Sub}
 use Rattle.sts_model.specs.Living.{is_in}
 use Rattle.sts_model.specs.Live.{Live, LiveTask}
-use Rattle.sts_seen.specs.Reading.{live_any_lives, live_count}
+use Rattle.laws_live.specs.Reading.{live_any_lives, live_count}
 use Rattle.sts_store.specs.Parts.{Unseen, stood_unseen}
 
 -- a hole for a subtask of s

@@ -1,11 +1,11 @@
 -- The end of a task in a tree, and what comes of it (this project's own).
 use Rattle.std.specs.Prelude.{ℕ, Option, Some, None, slice_index_or}
 use Rattle.sts_model.specs.declared.event.End.{End}
-use Rattle.sts_forest.specs.Forest.{Forest}
-use Rattle.sts_forest.specs.declared.record.Task.{Task}
-use Rattle.sts_forest.specs.declared.record.Scope.{Scope}
+use Rattle.sts_tree.specs.Forest.{Forest}
+use Rattle.sts_tree.specs.declared.record.Task.{Task}
+use Rattle.sts_tree.specs.declared.record.Scope.{Scope}
 use Rattle.sts_tree.specs.Ending.{ended}
-use Rattle.sts_agree.specs.Agreeing.{decided}
+use Rattle.sts_store.specs.Agreeing.{decided}
 
 abbrev pub finished_of : {E : Type 0} → Forest E → ℕ → Task → End → ℕ → Option (Scope E) → Forest E
 finished_of f t x end s None = ended f t x end

@@ -1,5 +1,7 @@
+pub mod Agreeing
+pub mod Closing
+pub mod Ending
 pub mod Parts
 pub mod Sharing
 pub mod Stored
-pub mod Ending
-pub mod Closing
+pub mod View

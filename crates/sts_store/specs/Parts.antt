@@ -4,17 +4,17 @@ use Rattle.std.specs.Prelude.{ℕ, List, [], ◌∷◌, map, Option, Some, None,
 use Rattle.std.specs.Prelude.{Bool, false, ◌&&◌, slice_index_or, slice_set}
 use Rattle.sts_env.specs.Environments.{Records, list_of}
 use Rattle.sts_env.specs.declared.env.Env.{Env}
-use Rattle.sts_forest.specs.Forest.{Forest}
-use Rattle.sts_forest.specs.declared.record.Task.{Task}
-use Rattle.sts_held.specs.Holes.{Holes}
+use Rattle.sts_tree.specs.Forest.{Forest}
+use Rattle.sts_tree.specs.declared.record.Task.{Task}
+use Rattle.sts_records.specs.Holes.{Holes}
 use Rattle.sts_model.specs.declared.event.End.{End}
 use Rattle.sts_model.specs.declared.event.Stand.{Stand}
 use Rattle.sts_model.specs.declared.event.Stand.TheVariants.{Free}
 use Rattle.sts_model.specs.declared.record.Frame.{Frame}
 use Rattle.sts_model.specs.Live.{Live}
-use Rattle.sts_seen.specs.Reading.{alive_at, lives_in, no_alive}
-use Rattle.sts_seen.specs.Waiting.{live_can_go}
-use Rattle.sts_agree.specs.View.{Beside, view_of}
+use Rattle.laws_live.specs.Reading.{alive_at, lives_in, no_alive}
+use Rattle.laws_live.specs.Waiting.{live_can_go}
+use Rattle.sts_store.specs.View.{Beside, view_of}
 use Rattle.sts_store.specs.declared.running.Running.{Running}
 
 -- the tree, the frames of the living tasks by birth, the records of bindings, and the root's end

@@ -5,8 +5,8 @@ use Rattle.std.specs.Prelude.{◌≡◌, ◌≢◌, ℕ, List, [], ◌∷◌, �
 use Rattle.std.specs.Prelude.{Option, Some, None, option_map, ◌==◌, if◌then◌else◌, slice_index_or}
 use Rattle.sts_env.specs.Environments.{Records, IsWhole, keys_of, NotIn}
 use Rattle.sts_env.specs.declared.env.Env.{Env}
-use Rattle.sts_forest.specs.declared.record.Task.{Task}
-use Rattle.sts_forest.specs.declared.record.Scope.{Scope}
+use Rattle.sts_tree.specs.declared.record.Task.{Task}
+use Rattle.sts_tree.specs.declared.record.Scope.{Scope}
 use Rattle.sts_model.specs.declared.record.Entry.{Entry}
 use Rattle.sts_model.specs.declared.record.Entry.TheVariants as entry
 use Rattle.sts_model.specs.Misuse.{is_binding}

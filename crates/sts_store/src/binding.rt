@@ -2,13 +2,13 @@
 
 ghost use Rattle.std.specs.Prelude.{◌≡◌, ◌<◌, ◌+◌, ◌-◌, ◌^◌, length, true};
 ghost use Rattle.sts_model.specs.Misuse.{innermost, is_binding};
-ghost use Rattle.sts_seen.specs.Effect.{live_bind, live_unbind};
-ghost use Rattle.sts_seen.specs.Reading.{lives_in};
+ghost use Rattle.laws_live.specs.Effect.{live_bind, live_unbind};
+ghost use Rattle.laws_live.specs.Reading.{lives_in};
 ghost use Rattle.sts_store.specs.Parts.{frame_of, live_of, unseen_of};
-ghost use Rattle.sts_views.specs.Order.{InOrder};
+ghost use Rattle.laws_live.specs.Order.{InOrder};
 
 use crate::store::Store;
-use sts_frames::steps::{enter_binding, leave_entry};
+use sts_frames::{enter_binding, leave_entry};
 
 impl Store {
     /// Binds a key to the popped operand, and goes on.

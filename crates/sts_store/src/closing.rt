@@ -4,22 +4,21 @@ ghost use Rattle.std.specs.Prelude.{◌≡◌, ◌<◌, ◌+◌, ◌^◌, true, 
 ghost use Rattle.sts_model.specs.Misuse.{innermost, is_entry_of};
 ghost use Rattle.sts_model.specs.declared.event.Phase.TheVariants.{Closing};
 ghost use Rattle.sts_model.specs.declared.event.Stand.TheVariants.{AtClose, Free};
-ghost use Rattle.sts_seen.specs.Cancelling.{live_cancel};
-ghost use Rattle.sts_seen.specs.Effect.{live_close, live_closed};
-ghost use Rattle.sts_seen.specs.Reading.{live_any_lives, lives_in, scope_in};
-ghost use Rattle.sts_seen.specs.Reading.{with_live_phase};
+ghost use Rattle.laws_live.specs.Cancelling.{live_cancel};
+ghost use Rattle.laws_live.specs.Effect.{live_close, live_closed};
+ghost use Rattle.laws_live.specs.Reading.{live_any_lives, lives_in, scope_in};
+ghost use Rattle.laws_live.specs.Reading.{with_live_phase};
 ghost use Rattle.sts_store.specs.Closing.{close_unseen, gone_unseen, home_in, is_slot_of};
 ghost use Rattle.sts_store.specs.Closing.{slots_cleared};
 ghost use Rattle.sts_store.specs.Parts.{frame_of, live_of, stand_in, stood_unseen, unseen_of};
-ghost use Rattle.sts_views.specs.Order.{InOrder, IsOwned};
+ghost use Rattle.laws_live.specs.Order.{InOrder, IsOwned};
 
 use crate::store::Store;
-use sts_cancel::cancel::cancel;
-use sts_env::env::Env;
-use sts_frames::steps::leave_entry;
-use sts_model::event::{Phase, Stand};
-use sts_model::record::Slot;
-use sts_tree::tree::Tree;
+use sts_cancel::cancel;
+use sts_env::Env;
+use sts_frames::leave_entry;
+use sts_model::{Phase, Slot, Stand};
+use sts_tree::Tree;
 
 /// The scope that a task is a subtask of, if it stands and has one.
 fn home(tree: &Tree<Env>, t: u32) -> Option<u32>

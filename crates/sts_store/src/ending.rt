@@ -2,18 +2,18 @@
 
 ghost use Rattle.std.specs.Prelude.{◌≡◌, ◌≢◌, ◌+◌, ◌==◌, ℕ, true, Some, None, slice_index_or};
 ghost use Rattle.std.specs.Prelude.{if◌then◌else◌};
-ghost use Rattle.sts_forest.specs.declared.record.Task.{Task as AnyTask};
-ghost use Rattle.sts_seen.specs.Effect.{live_end};
-ghost use Rattle.sts_seen.specs.Reading.{lives_in};
+ghost use Rattle.sts_tree.specs.declared.record.Task.{Task as AnyTask};
+ghost use Rattle.laws_live.specs.Effect.{live_end};
+ghost use Rattle.laws_live.specs.Reading.{lives_in};
 ghost use Rattle.sts_store.specs.Ending.{finished};
 ghost use Rattle.sts_store.specs.Parts.{live_of, unseen_of};
 ghost use Rattle.sts_tree.specs.Steps.{seen};
 
 use crate::store::Store;
-use sts_cancel::cancel::cancel;
-use sts_env::env::Env;
-use sts_model::event::End;
-use sts_tree::tree::Tree;
+use sts_cancel::cancel;
+use sts_env::Env;
+use sts_model::End;
+use sts_tree::Tree;
 
 /// Ends a living task, tells its scope, and cancels that where the joiner asks for it.
 fn finish(tree: &mut Tree<Env>, t: u32, end: End)

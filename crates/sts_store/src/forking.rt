@@ -4,19 +4,17 @@ ghost use Rattle.std.specs.Prelude.{◌≡◌, ◌<◌, ◌≤◌, ◌+◌, ◌-
 ghost use Rattle.std.specs.Prelude.{true, is_some, Some, None, if◌then◌else◌};
 ghost use Rattle.sts_code.specs.Program.{routine};
 ghost use Rattle.sts_model.specs.declared.event.Stand.TheVariants.{Free};
-ghost use Rattle.sts_seen.specs.Effect.{live_fork};
-ghost use Rattle.sts_seen.specs.Reading.{live_scope_at, lives_in, scope_in};
+ghost use Rattle.laws_live.specs.Effect.{live_fork};
+ghost use Rattle.laws_live.specs.Reading.{live_scope_at, lives_in, scope_in};
 ghost use Rattle.sts_store.specs.Parts.{frame_of, live_of, unseen_of};
-ghost use Rattle.sts_views.specs.Order.{InOrder};
+ghost use Rattle.laws_live.specs.Order.{InOrder};
 
 use crate::running::Running;
 use crate::store::Store;
-use sts_code::code::args;
-use sts_code::program::Program;
-use sts_frames::beginning::entry_frame;
-use sts_frames::steps::leave_fork;
-use sts_held::held::Held;
-use sts_model::record::Slot;
+use sts_code::{Program, args};
+use sts_frames::{entry_frame, leave_fork};
+use sts_model::Slot;
+use sts_records::Held;
 
 /// A place for the next birth: with what it has if it lives.
 fn place(frames: &mut Held<Running>, running: Running, lives: bool)

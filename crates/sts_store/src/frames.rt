@@ -5,16 +5,14 @@ ghost use Rattle.std.specs.Prelude.{true, false};
 ghost use Rattle.sts_model.specs.Local as frames;
 ghost use Rattle.sts_model.specs.Misuse.{breaks_loop, overflows};
 ghost use Rattle.sts_model.specs.World as world;
-ghost use Rattle.sts_seen.specs.Effect.{live_forget, live_take_flag};
-ghost use Rattle.sts_seen.specs.Outside.{live_interrupt};
-ghost use Rattle.sts_seen.specs.Reading.{lives_in, with_live_frame};
+ghost use Rattle.laws_live.specs.Effect.{live_forget, live_take_flag};
+ghost use Rattle.laws_live.specs.Outside.{live_interrupt};
+ghost use Rattle.laws_live.specs.Reading.{lives_in, with_live_frame};
 ghost use Rattle.sts_store.specs.Parts.{frame_of, live_of, unseen_of};
 
 use crate::store::Store;
-use sts_code::instr::Instr;
-use sts_code::program::Program;
-use sts_frames::local::local;
-use sts_frames::steps::forget;
+use sts_code::{Instr, Program};
+use sts_frames::{forget, local};
 
 impl Store {
     /// Does a local instruction of a task, whose function has this code.

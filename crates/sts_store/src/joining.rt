@@ -6,13 +6,13 @@ ghost use Rattle.sts_code.specs.Facts.{is_await_all};
 ghost use Rattle.sts_model.specs.Local as frames;
 ghost use Rattle.sts_model.specs.Told.{result_told};
 ghost use Rattle.sts_model.specs.declared.event.Phase.TheVariants.{Attempted};
-ghost use Rattle.sts_seen.specs.Effect.{live_join, live_joined};
-ghost use Rattle.sts_seen.specs.Reading.{live_any_lives, live_count, live_scope_at, lives_in};
-ghost use Rattle.sts_seen.specs.Reading.{scope_in, with_alive, with_live_phase};
+ghost use Rattle.laws_live.specs.Effect.{live_join, live_joined};
+ghost use Rattle.laws_live.specs.Reading.{live_any_lives, live_count, live_scope_at, lives_in};
+ghost use Rattle.laws_live.specs.Reading.{scope_in, with_alive, with_live_phase};
 ghost use Rattle.sts_store.specs.Parts.{frame_of, live_of, unseen_of};
 
 use crate::store::Store;
-use sts_model::event::{Phase, Verdict};
+use sts_model::{Phase, Verdict};
 
 impl Store {
     /// Has the scope expired? One that doesn't stand hasn't.

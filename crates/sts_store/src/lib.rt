@@ -1,11 +1,15 @@
-//! The store of a machine: the tasks and scopes that stand, the frames of the living tasks, and all
+//! The store of the machine that tests nothing: the tree, the frames of living tasks, and all
 //! bindings.
 //!
-//! Contracts see the parts. They speak of the live view that these make up: each call does to that
-//! view what an instruction, an interrupt or an expiry does to it, and says what becomes of what
-//! the view doesn't show. No call but the first takes memory, and none can fail.
+//! Contracts see the parts, and speak of the live view that these make up. Each call does to that
+//! view what an instruction, an interrupt or an expiry does to it. It also says what becomes of the
+//! rest, which the view doesn't show. Only `Store::with_room` takes memory, and no other call can
+//! fail.
+//!
+//! The law in `agreement` says that each word of the tree is the live view's word of that name.
 #![tactic(auto)]
 
+pub mod agreement;
 mod binding;
 mod closing;
 mod ending;
@@ -18,4 +22,6 @@ mod readings;
 pub mod running;
 mod scopes;
 mod standing;
-pub mod store;
+mod store;
+
+pub use store::{Room, Store};

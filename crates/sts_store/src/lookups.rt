@@ -5,14 +5,13 @@ ghost use Rattle.sts_code.specs.Program.{Program as AnyProgram};
 ghost use Rattle.sts_code.specs.declared.instr.Instr.TheVariants as instr;
 ghost use Rattle.sts_model.specs.Effect as effect;
 ghost use Rattle.sts_model.specs.Misuse.{slot};
-ghost use Rattle.sts_seen.specs.Effect.{live_effect};
-ghost use Rattle.sts_seen.specs.Reading.{lives_in, scope_in};
+ghost use Rattle.laws_live.specs.Effect.{live_effect};
+ghost use Rattle.laws_live.specs.Reading.{lives_in, scope_in};
 ghost use Rattle.sts_store.specs.Parts.{frame_of, live_of, unseen_of};
 
 use crate::store::Store;
-use sts_code::instr::Kind;
-use sts_frames::ends::{case_target, value_or_zero};
-use sts_frames::slots::named;
+use sts_code::Kind;
+use sts_frames::{case_target, named, value_or_zero};
 
 impl Store {
     /// Goes to where the state of the subtask in a slot leads.

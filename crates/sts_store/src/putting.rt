@@ -1,12 +1,12 @@
 //! A frame put back in the place of a task's.
 
 ghost use Rattle.std.specs.Prelude.{◌≡◌, true};
-ghost use Rattle.sts_seen.specs.Reading.{lives_in, with_live_frame};
+ghost use Rattle.laws_live.specs.Reading.{lives_in, with_live_frame};
 ghost use Rattle.sts_store.specs.Parts.{frame_of, live_of, unseen_of};
 
 use crate::store::Store;
-use sts_frames::copies::write_frame;
-use sts_model::record::Frame;
+use sts_frames::write_frame;
+use sts_model::Frame;
 
 impl Store {
     /// Puts a frame in the place of a living task's. It has the same structure list: local

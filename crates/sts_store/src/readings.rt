@@ -2,15 +2,14 @@
 
 ghost use Rattle.std.specs.Prelude.{◌≡◌, true, is_some};
 ghost use Rattle.sts_model.specs.Misuse.{is_closing};
-ghost use Rattle.sts_seen.specs.Effect.{live_read, live_state, live_tally};
-ghost use Rattle.sts_seen.specs.Outside.{live_can_expire};
-ghost use Rattle.sts_seen.specs.Reading.{alive_at, lives_in, live_scope_at, scope_in};
+ghost use Rattle.laws_live.specs.Effect.{live_read, live_state, live_tally};
+ghost use Rattle.laws_live.specs.Outside.{live_can_expire};
+ghost use Rattle.laws_live.specs.Reading.{alive_at, lives_in, live_scope_at, scope_in};
 ghost use Rattle.sts_store.specs.Parts.{live_of};
 
 use crate::store::Store;
-use sts_code::instr::Kind;
-use sts_model::event::{End, Phase};
-use sts_model::record::Frame;
+use sts_code::Kind;
+use sts_model::{End, Frame, Phase};
 
 impl Store {
     /// Does the task live?

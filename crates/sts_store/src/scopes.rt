@@ -1,16 +1,16 @@
 //! Scopes open and expire.
 
 ghost use Rattle.std.specs.Prelude.{◌≡◌, ◌<◌, ◌+◌, ◌-◌, ◌^◌, ℕ, [], ◌∷◌, ◌++◌, length, true};
-ghost use Rattle.sts_seen.specs.Effect.{live_open};
-ghost use Rattle.sts_seen.specs.Outside.{live_can_expire, live_expire};
-ghost use Rattle.sts_seen.specs.Reading.{live_scope_at, lives_in};
+ghost use Rattle.laws_live.specs.Effect.{live_open};
+ghost use Rattle.laws_live.specs.Outside.{live_can_expire, live_expire};
+ghost use Rattle.laws_live.specs.Reading.{live_scope_at, lives_in};
 ghost use Rattle.sts_store.specs.Parts.{frame_of, live_of, unseen_of};
-ghost use Rattle.sts_views.specs.Order.{InOrder};
+ghost use Rattle.laws_live.specs.Order.{InOrder};
 
 use crate::store::Store;
-use sts_cancel::cancel::expire;
-use sts_code::instr::Joiner;
-use sts_frames::steps::enter_scope;
+use sts_cancel::expire;
+use sts_code::Joiner;
+use sts_frames::enter_scope;
 
 impl Store {
     /// Opens a scope, which the slot owns from now on, and goes on.

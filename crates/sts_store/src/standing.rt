@@ -2,14 +2,14 @@
 
 ghost use Rattle.std.specs.Prelude.{◌≡◌, ℕ, Some, None, true, false, not, ◌&&◌, ◌==◌};
 ghost use Rattle.std.specs.List.{list_any};
-ghost use Rattle.sts_held.specs.Holes.{key_at};
-ghost use Rattle.sts_seen.specs.Reading.{lives_in};
+ghost use Rattle.sts_records.specs.Holes.{key_at};
+ghost use Rattle.laws_live.specs.Reading.{lives_in};
 ghost use Rattle.sts_store.specs.Parts.{can_go_on, live_of, stood_unseen, unseen_of};
-ghost use Rattle.sts_views.specs.Order.{IsOwned};
-ghost use Rattle.sts_views.specs.Stands.{is_stand_at};
+ghost use Rattle.laws_live.specs.Order.{IsOwned};
+ghost use Rattle.laws_live.specs.Stands.{is_stand_at};
 
 use crate::store::Store;
-use sts_model::event::Stand;
+use sts_model::Stand;
 
 impl Store {
     /// Was a living task last said to stand here? Then to say so again changes nothing.

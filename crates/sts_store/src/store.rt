@@ -7,12 +7,10 @@ ghost use Rattle.sts_model.specs.declared.event.Stand.TheVariants.{Free};
 use crate::running::Running;
 use std::alloc::{AllocError, Global};
 use std::marker::Model;
-use sts_env::chains::Chains;
-use sts_env::env::Env;
-use sts_held::held::Held;
-use sts_model::event::End;
-use sts_model::record::Frame;
-use sts_tree::tree::Tree;
+use sts_env::{Chains, Env};
+use sts_model::{End, Frame};
+use sts_records::Held;
+use sts_tree::Tree;
 
 /// How many tasks, scopes and bindings there is room for at once.
 #[derive(Clone, Copy, Debug, PartialEq, Eq)]

@@ -4,7 +4,7 @@ ghost use Rattle.std.specs.Prelude.{◌≡◌};
 ghost use Rattle.sts_trace.specs.Reading.{Gives, numeral_at, event_of};
 
 use crate::error::TraceError;
-use sts_model::event::Event;
+use sts_model::Event;
 use sts_text::numeral;
 
 /// The number that a word of line `at` spells.

@@ -8,8 +8,8 @@ ghost use Rattle.sts_trace.specs.Reading.{Gives, due_line, due_said, outside_rea
 use crate::error::TraceError;
 use crate::fields::{event_of, numeral_at};
 use std::alloc::Global;
-use sts_code::limits::MAX_OUTSIDE;
-use sts_model::event::Event;
+use sts_code::MAX_OUTSIDE;
+use sts_model::Event;
 use sts_text::{cut_at_newline, cut_at_space};
 
 /// An event from outside, and when it is due.

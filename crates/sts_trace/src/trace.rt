@@ -9,7 +9,7 @@ ghost use Rattle.sts_trace.specs.Reading.{Gives, event_line, event_said, trace_r
 use crate::error::TraceError;
 use crate::fields::event_of;
 use std::alloc::Global;
-use sts_model::event::Event;
+use sts_model::Event;
 use sts_text::{cut_at_newline, cut_at_space};
 
 // What a line of two fields says.

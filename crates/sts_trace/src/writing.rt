@@ -6,7 +6,7 @@ ghost use Rattle.sts_trace.specs.Spelling.{trace_text, event_text};
 
 use std::io;
 use std::io::Write;
-use sts_model::event::Event;
+use sts_model::Event;
 
 fn write_event<W: Write>(event: Event, writer: &mut W) -> io::Result<()>
     ensures { OnOk result (Appends (W.contents writer.old) (W.contents writer.new)

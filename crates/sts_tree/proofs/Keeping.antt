@@ -6,15 +6,15 @@ use Rattle.std.specs.Prelude.{option_map}
 use Rattle.sts_model.specs.declared.event.Stand.{Stand}
 use Rattle.sts_model.specs.declared.event.Stand.TheVariants.{Free, AtJoin, AtClose}
 use Rattle.sts_links.specs.Lists.{first_or}
-use Rattle.sts_forest.specs.Births.{births, has}
-use Rattle.sts_forest.specs.Forest.{Forest, any_lives, lives_in, is_of, root}
-use Rattle.sts_forest.specs.declared.record.Task.{Task}
-use Rattle.sts_forest.specs.declared.record.Scope.{Scope}
-use Rattle.sts_forest.proofs.BirthLemmas.{births_kept}
-use Rattle.sts_forest.proofs.HoldingLemmas.{map_at, inside_of}
-use Rattle.sts_forest.proofs.KeyLemmas.{not_has}
-use Rattle.sts_forest.proofs.ForkLemmas.{own_scope, one_scope, not_lives_of}
-use Rattle.sts_forest.proofs.StepLemmas.{at_set, at_more, one_of, no_more, past_none}
+use Rattle.sts_tree.specs.Births.{births, has}
+use Rattle.sts_tree.specs.Forest.{Forest, any_lives, lives_in, is_of, root}
+use Rattle.sts_tree.specs.declared.record.Task.{Task}
+use Rattle.sts_tree.specs.declared.record.Scope.{Scope}
+use Rattle.sts_tree.proofs.BirthLemmas.{births_kept}
+use Rattle.sts_tree.proofs.HoldingLemmas.{map_at, inside_of}
+use Rattle.sts_tree.proofs.KeyLemmas.{not_has}
+use Rattle.sts_tree.proofs.ForkLemmas.{own_scope, one_scope, not_lives_of}
+use Rattle.sts_tree.proofs.StepLemmas.{at_set, at_more, one_of, no_more, past_none}
 use Rattle.sts_tree.specs.Steps.{is_over, can_go, can_step, unmarked, seen, stands_at, Owned, IsTree, with_task, with_scope}
 
 same_living : (s : ℕ) (x y : Task) → y.scope ≡ x.scope → y.lives ≡ x.lives → lives_in s y ≡ lives_in s x

@@ -4,7 +4,7 @@ use Rattle.std.proofs.lemmas.Bool.Decides.{nat_tests}
 use Rattle.std.proofs.lemmas.List.{append_assoc}
 use Rattle.std.specs.List.{list_any}
 use Rattle.std.specs.Prelude.{if◌then◌else◌}
-use Rattle.sts_forest.specs.Births.{has}
+use Rattle.sts_tree.specs.Births.{has}
 use Rattle.sts_links.specs.Lists.{AreDistinct, first_or}
 use Rattle.sts_links.proofs.KeyLemmas.{not_back}
 

@@ -5,12 +5,12 @@ use Rattle.std.specs.Prelude.{option_map, option_copied}
 use Rattle.std.specs.Borrow.{Bor}
 use Rattle.sts_model.specs.declared.event.Stand.{Stand}
 use Rattle.sts_model.specs.declared.event.Stand.TheVariants.{Free, AtJoin, AtClose}
-use Rattle.sts_forest.specs.Births.{births, has, without}
-use Rattle.sts_forest.specs.Forest.{Forest, any_lives, lives_in}
-use Rattle.sts_forest.specs.declared.record.Task.{Task}
-use Rattle.sts_forest.specs.declared.record.Scope.{Scope}
-use Rattle.sts_forest.proofs.KeyLemmas.{has_new, has_old, without_other}
-use Rattle.sts_forest.proofs.HoldingLemmas.{map_at, unseen}
+use Rattle.sts_tree.specs.Births.{births, has, without}
+use Rattle.sts_tree.specs.Forest.{Forest, any_lives, lives_in}
+use Rattle.sts_tree.specs.declared.record.Task.{Task}
+use Rattle.sts_tree.specs.declared.record.Scope.{Scope}
+use Rattle.sts_tree.proofs.KeyLemmas.{has_new, has_old, without_other}
+use Rattle.sts_tree.proofs.HoldingLemmas.{map_at, unseen}
 use Rattle.sts_tree.specs.Steps.{can_go, can_step, unmarked, seen}
 
 pub births_unmarked : (s n : ℕ) (xs : List (Option Task)) → births (lives_in s) n (map (option_map unmarked) xs) ≡ births (lives_in s) n xs

@@ -1,11 +1,11 @@
 //! The end of a task, beside the ready list.
 
 ghost use Rattle.std.specs.Prelude.{◌≡◌, Some, None, true, slice_index_or};
-ghost use Rattle.sts_forest.specs.declared.record.Task.{Task as AnyTask};
+ghost use Rattle.sts_tree.specs.declared.record.Task.{Task as AnyTask};
 ghost use Rattle.sts_tree.specs.Ending as ending;
 
-use sts_forest::forest::Forest;
-use sts_model::event::End;
+use crate::forest::Forest;
+use sts_model::End;
 
 /// Who may wait for the end of a task: the owner of its scope, or for the root itself.
 pub(crate) fn waiter<E: Drop>(forest: &Forest<E>, t: u32) -> u32

@@ -3,22 +3,22 @@
 ghost use Rattle.std.specs.Prelude.{◌≡◌, ◌≢◌, ◌++◌, ◌∷◌, ◌≤◌, ℕ, List, length, Some, None, true};
 ghost use Rattle.std.specs.Prelude.{◌&&◌, ◌==◌, false, not, slice_index_or, option_copied};
 ghost use Rattle.std.specs.List.{list_any};
-ghost use Rattle.sts_forest.specs.Births.{births};
-ghost use Rattle.sts_forest.specs.Forest.{any_lives, is_of, lives_in};
-ghost use Rattle.sts_held.specs.Holes.{key_at};
-ghost use Rattle.sts_forest.specs.declared.record.Task.{Task as AnyTask};
+ghost use Rattle.sts_tree.specs.Births.{births};
+ghost use Rattle.sts_tree.specs.Forest.{any_lives, is_of, lives_in};
+ghost use Rattle.sts_records.specs.Holes.{key_at};
+ghost use Rattle.sts_tree.specs.declared.record.Task.{Task as AnyTask};
 ghost use Rattle.sts_links.specs.Lists.{first_or};
 ghost use Rattle.sts_model.specs.Told.{result_told};
 ghost use Rattle.sts_tree.specs.Reading.{count_of, lives_at};
 ghost use Rattle.sts_tree.specs.Steps as steps;
 
+use crate::record::{Scope, Task};
 use crate::tree::Tree;
-use sts_code::instr::{Joiner, Kind};
-use sts_forest::record::{Scope, Task};
-use sts_model::event::{End, Phase, Verdict};
+use sts_code::{Joiner, Kind};
+use sts_model::{End, Phase, Verdict};
 
 impl<E: Drop> Tree<E> {
-    ghost use Rattle.sts_forest.specs.declared.record.Scope.{Scope as AnyScope};
+    ghost use Rattle.sts_tree.specs.declared.record.Scope.{Scope as AnyScope};
 
     /// The task of a birth, if it stands.
     pub fn task(&self, t: u32) -> Option<&Task>

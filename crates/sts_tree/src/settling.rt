@@ -1,12 +1,12 @@
 //! Whether a task can step, and its place in the ready list.
 
 ghost use Rattle.std.specs.Prelude.{◌≡◌, ◌≢◌, ℕ, ◌||◌, not};
-ghost use Rattle.sts_forest.specs.Births.{has};
+ghost use Rattle.sts_tree.specs.Births.{has};
 ghost use Rattle.sts_tree.specs.Steps as steps;
 ghost use Rattle.sts_tree.specs.Steps.{seen};
 
-use sts_forest::forest::Forest;
-use sts_model::event::Stand;
+use crate::forest::Forest;
+use sts_model::Stand;
 
 fn is_over<E: Drop>(forest: &Forest<E>, s: u32) -> bool
     ensures { result ≡ steps.is_over forest.now s }

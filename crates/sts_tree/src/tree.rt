@@ -2,9 +2,9 @@
 
 ghost use Rattle.std.specs.Prelude.{◌≡◌, ◌≢◌, ℕ, ◌∷◌, ◌++◌, length, ◌<◌, ◌≤◌, ◌-◌, [], IfOk};
 ghost use Rattle.std.specs.Prelude.{Some, None, true, false, not, slice_index_or};
-ghost use Rattle.sts_forest.specs.Births.{has};
-ghost use Rattle.sts_forest.specs.Forest.{any_lives, closed, opened, root, subtask};
-ghost use Rattle.sts_forest.specs.declared.record.Task.{Task as AnyTask};
+ghost use Rattle.sts_tree.specs.Births.{has};
+ghost use Rattle.sts_tree.specs.Forest.{any_lives, closed, opened, root, subtask};
+ghost use Rattle.sts_tree.specs.declared.record.Task.{Task as AnyTask};
 ghost use Rattle.sts_links.specs.Lists.{AreDistinct, first_or};
 ghost use Rattle.sts_model.specs.declared.event.Stand.TheVariants.{Free};
 ghost use Rattle.sts_tree.specs.Ending.{asks_ended, ended};
@@ -12,12 +12,12 @@ ghost use Rattle.sts_tree.specs.Steps as steps;
 ghost use Rattle.sts_tree.specs.Steps.{seen, with_task, with_scope, stands_at};
 
 use crate::ending::{end_told, waiter};
+use crate::forest::Forest;
 use crate::settling::settle;
 use std::alloc::{AllocError, Global};
 use std::marker::Model;
-use sts_code::instr::Joiner;
-use sts_forest::forest::Forest;
-use sts_model::event::{End, Phase, Stand};
+use sts_code::Joiner;
+use sts_model::{End, Phase, Stand};
 
 /// Tasks and scopes that stand. Contracts see them as a forest whose ready list has the tasks that
 /// can step.
@@ -27,7 +27,7 @@ pub struct Tree<E> {
 }
 
 impl<E> Model for Tree<E> {
-    ghost use Rattle.sts_forest.specs.Forest.{Forest as Records};
+    ghost use Rattle.sts_tree.specs.Forest.{Forest as Records};
 
     ghost Value = { Records E };
 
@@ -39,7 +39,7 @@ impl<E> Model for Tree<E> {
 }
 
 impl<E: Drop> Tree<E> {
-    ghost use Rattle.sts_forest.specs.declared.record.Scope.{Scope as AnyScope};
+    ghost use Rattle.sts_tree.specs.declared.record.Scope.{Scope as AnyScope};
 
     /// The root task alone, which can step, with room for so many tasks and scopes. No other call
     /// takes memory.

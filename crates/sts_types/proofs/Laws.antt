@@ -21,7 +21,7 @@ use Rattle.sts_rules.specs.Flow.{Leads}
 use Rattle.sts_rules.specs.Refusal.{size}
 use Rattle.sts_types.proofs.Fitting.{fits}
 use Rattle.sts_types.proofs.FollowLemmas.{at_place}
-use Rattle.sts_loops.proofs.MatchingLemmas.{ends}
+use Rattle.sts_types.proofs.MatchingLemmas.{ends}
 use Rattle.sts_types.proofs.Passing.{IsForward}
 
 -- the place stands in the list

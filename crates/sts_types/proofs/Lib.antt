@@ -1,8 +1,12 @@
 pub mod Arriving
+pub mod ComparingLemmas
 pub mod Fitting
 pub mod FollowLemmas
 pub mod Laws
+pub mod LoopMarking
 pub mod Marking
+pub mod MatchingLemmas
+pub mod Nesting
 pub mod Passing
 pub mod PromisingLemmas
 pub mod Ranges

@@ -16,7 +16,7 @@ use Rattle.sts_rules.specs.TypeState.{TypeState, kind, scope_in}
 use Rattle.sts_rules.specs.Causes.{is_own, is_lent, passes, can_join, join_overflows}
 use Rattle.sts_rules.specs.Edges.{joiner_of, ok_pushes}
 use Rattle.sts_rules.specs.Fits.{Fits}
-use Rattle.sts_states.specs.Room.{HasRoom, JoinHasRoom}
+use Rattle.sts_types.specs.Room.{HasRoom, JoinHasRoom}
 
 neither : (a b : Bool) → a || b ≡ false → (a ≡ false) × (b ≡ false)
 neither true b e = cc

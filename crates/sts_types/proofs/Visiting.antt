@@ -18,7 +18,7 @@ use Rattle.sts_rules.specs.Refusal.{size, IsTypeRefusal}
 use Rattle.sts_types.specs.declared.arrival.Arrival.{Arrival}
 use Rattle.sts_types.specs.declared.arrival.Arrival.TheVariants.{Nothing, One, Several}
 use Rattle.sts_types.specs.Arrivals.{Arrive, filled}
-use Rattle.sts_states.specs.Room.{HasRoom}
+use Rattle.sts_types.specs.Room.{HasRoom}
 use Rattle.sts_types.proofs.Arriving.{all_places}
 use Rattle.sts_types.proofs.Fitting.{fits}
 use Rattle.sts_types.proofs.Laws.{laws, back_down}

@@ -6,7 +6,7 @@ use Rattle.sts_rules.specs.declared.typing.TypedPhase.TheVariants.{Late, Attempt
 use Rattle.sts_rules.specs.TypeState.{TypeState}
 use Rattle.sts_rules.specs.Around.{skipped_to}
 use Rattle.sts_rules.specs.Edges.{follows, to_optional, raised, with_phase, with_known}
-use Rattle.sts_states.specs.Room.{HasRoom}
+use Rattle.sts_types.specs.Room.{HasRoom}
 use Rattle.sts_types.specs.declared.site.Site.{Site}
 
 -- the site is a place of the function, and its parts are of that place

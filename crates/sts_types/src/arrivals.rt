@@ -12,11 +12,11 @@ ghost use Rattle.sts_types.specs.Arrivals.{filled, none, state_of, IsAtStart};
 use crate::arrival::Arrival;
 use crate::follow::edge;
 use crate::site::Site;
+use crate::state::TypeState;
 use std::alloc::{AllocError, Global};
 use std::marker::Model;
-use sts_code::limits::MAX_OPERANDS;
-use sts_rules::fill::filled;
-use sts_states::state::TypeState;
+use sts_code::MAX_OPERANDS;
+use sts_rules::filled;
 
 /// A typestate that arrived: its number of operands, and which of those that are kept is like it
 /// but for that number.

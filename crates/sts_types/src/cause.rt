@@ -5,19 +5,16 @@ ghost use Rattle.std.specs.List.{list_any, range_with_len};
 ghost use Rattle.sts_rules.specs.Causes as def;
 ghost use Rattle.sts_code.specs.Facts as facts;
 
-use sts_code::facts::{
-    can_fail, filled_slot, is_await_all, owners_slot, pops, pushes, subtask_slot,
-};
-use sts_code::instr::Instr;
-use sts_code::limits::{MAX_ENTRIES, MAX_LOOPS, MAX_OPERANDS};
-use sts_code::profile::Profile;
-use sts_code::program::Program;
-use sts_rules::typing::{SlotKind, TypedEntry, TypedScope};
-use sts_states::slots::{
+use crate::slots::{
     can_join, is_binding, is_empty, is_known_failed, is_known_success, is_lent, is_opened, is_own,
     is_readable, is_scope_in, is_sub,
 };
-use sts_states::state::TypeState;
+use crate::state::TypeState;
+use sts_code::{
+    Instr, MAX_ENTRIES, MAX_LOOPS, MAX_OPERANDS, Profile, Program, can_fail, filled_slot,
+    is_await_all, owners_slot, pops, pushes, subtask_slot,
+};
+use sts_rules::{SlotKind, TypedEntry, TypedScope};
 
 // ---- V1, V2 and V6
 

@@ -10,13 +10,11 @@ ghost use Rattle.sts_types.specs.Arrivals.{Goes};
 ghost use Rattle.sts_types.specs.Site.{IsSite, HasRoomAt, follows_at, outcomes, states};
 
 use crate::site::Site;
+use crate::state::TypeState;
 use arrayvec::ArrayVec;
 use std::marker::Model;
-use sts_code::facts::falls_through;
-use sts_code::instr::Instr;
-use sts_code::limits::MAX_OPERANDS;
-use sts_rules::typing::{Known, TypedPhase};
-use sts_states::state::TypeState;
+use sts_code::{Instr, MAX_OPERANDS, falls_through};
+use sts_rules::{Known, TypedPhase};
 
 /// The places that follow an instruction, each with its typestate, at most four: contracts see the
 /// list of them.

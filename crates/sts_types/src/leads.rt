@@ -8,13 +8,12 @@ ghost use Rattle.sts_rules.specs.Causes as def;
 ghost use Rattle.sts_rules.specs.TypeState.{heads};
 ghost use Rattle.sts_types.specs.Site.{IsSite};
 
+use crate::loops::CodeLoops;
 use crate::site::Site;
-use sts_code::facts::falls_through;
-use sts_code::instr::Instr;
-use sts_loops::loops::CodeLoops;
-use sts_model::stack::Stack;
-use sts_rules::typing::TypedLoop;
-use sts_states::state::TypeState;
+use crate::state::TypeState;
+use sts_code::{Instr, falls_through};
+use sts_model::Stack;
+use sts_rules::TypedLoop;
 
 /// Where a `times` goes that makes no turn.
 pub(crate) fn skip(loops: &CodeLoops<'_>, pc: u32, instr: Instr) -> Option<u32>

@@ -10,11 +10,9 @@ use crate::cause::{
 };
 use crate::leads::{falls_off, jumps_back, mismatches};
 use crate::site::Site;
-use sts_code::facts::targets;
-use sts_code::instr::Instr;
-use sts_code::program::Program;
-use sts_rules::typing::Cause;
-use sts_states::state::TypeState;
+use crate::state::TypeState;
+use sts_code::{Instr, Program, targets};
+use sts_rules::Cause;
 
 /// The least cause from V3 to V5.
 fn lead_cause(site: &Site<'_>, state: &TypeState) -> Option<Cause>

@@ -1,12 +1,27 @@
-//! The edges of an instruction, and the typing of a function.
+//! The typing of a function: the typestate at each place, or the least place with a cause.
+//!
+//! A typestate is what the verifier knows of a task at a place: the number of operands, the open
+//! loops, the structure list and the slots. `edge` finds what follows an instruction, or the least
+//! cause from V1 to V16 that holds there. `pass` goes over the places of a function once, in order.
+//! `loops` finds the end of a loop and the loops around a place.
 #![tactic(auto)]
 
+pub mod after;
 mod arrival;
 mod arrivals;
 mod cause;
-pub mod edges;
+mod edge;
 pub mod follow;
 mod leads;
 mod least;
-pub mod pass;
+pub mod loops;
+mod pass;
+mod same;
 mod site;
+pub mod slots;
+mod state;
+mod tables;
+
+pub use edge::edges;
+pub use pass::{TypeError, type_function};
+pub use state::{TypeState, entry};

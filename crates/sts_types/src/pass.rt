@@ -14,15 +14,12 @@ use crate::arrivals::Arrivals;
 use crate::follow::edge_count;
 use crate::leads::skip;
 use crate::least::least_cause;
+use crate::loops::{CodeLoops, Tables};
 use crate::site::Site;
+use crate::state::{TypeState, entry};
 use std::alloc::{AllocError, Global};
-use sts_code::code::code_of;
-use sts_code::instr::Instr;
-use sts_code::limits::MAX_INSTRUCTIONS;
-use sts_code::program::Program;
-use sts_loops::loops::{CodeLoops, Tables};
-use sts_rules::typing::Cause;
-use sts_states::state::{TypeState, entry};
+use sts_code::{Instr, MAX_INSTRUCTIONS, Program, code_of};
+use sts_rules::Cause;
 
 /// Why a function is refused.
 #[derive(Clone, Copy, Debug, PartialEq, Eq)]

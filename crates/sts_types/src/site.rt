@@ -1,8 +1,7 @@
 //! A place of a function that is being typed.
 
-use sts_code::instr::Instr;
-use sts_code::program::Program;
-use sts_loops::loops::CodeLoops;
+use crate::loops::CodeLoops;
+use sts_code::{Instr, Program};
 
 /// A place of one of a program's functions, with the instruction there.
 #[derive(Clone, Copy)]

@@ -4,8 +4,8 @@ use Rattle.std.proofs.Common.{length, take, get_or, Err, arith, subst, sym, ap, 
 use Rattle.std.proofs.Common.{length-take-le}
 use Rattle.std.proofs.lemmas.Bool.{cases_lt}
 use Rattle.sts_code.specs.Program.{Program, routine}
-use Rattle.sts_budget.specs.declared.budget.BudgetError.{BudgetError}
-use Rattle.sts_budget.specs.declared.budget.BudgetError.TheVariants as b
+use Rattle.sts_budget.specs.declared.budgets.BudgetError.{BudgetError}
+use Rattle.sts_budget.specs.declared.budgets.BudgetError.TheVariants as b
 use Rattle.sts_budget.specs.Outcome.{IsFound}
 use Rattle.sts_rules.specs.declared.budget.Budgets.{Budgets}
 use Rattle.sts_rules.specs.Budget.{AreBudgets, IsBudget, budget_at, no_budget}

@@ -1,8 +1,8 @@
 -- What the verifier tells (this project's own).
 use Rattle.std.specs.Prelude.{◌≡◌, ℕ}
 use Rattle.sts_code.specs.Program.{Program}
-use Rattle.sts_budget.specs.declared.budget.BudgetError.{BudgetError}
-use Rattle.sts_budget.specs.declared.budget.BudgetError.TheVariants as budgets
+use Rattle.sts_budget.specs.declared.budgets.BudgetError.{BudgetError}
+use Rattle.sts_budget.specs.declared.budgets.BudgetError.TheVariants as budgets
 use Rattle.sts_rules.specs.Refusal.{IsRefusal, IsUnsound}
 use Rattle.sts_types.specs.declared.pass.TypeError.{TypeError}
 use Rattle.sts_types.specs.declared.pass.TypeError.TheVariants as typing

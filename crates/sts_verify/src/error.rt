@@ -1,7 +1,7 @@
 //! Why a program is not verified.
 
-use sts_code::program::Program;
-use sts_rules::typing::Cause;
+use sts_code::Program;
+use sts_rules::Cause;
 
 /// Why a program is not verified. The program is given back.
 #[derive(Drop)]

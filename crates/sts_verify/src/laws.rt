@@ -3,7 +3,7 @@
 ghost use Rattle.sts_rules.specs.Promises.{TypingPromises};
 ghost use Rattle.sts_rules.specs.Refusal.{IsAccepted, IsOneVerdict};
 
-use sts_code::program::Program;
+use sts_code::Program;
 
 /// Each typestate that is reached in an accepted program is the only one at its place, fits the
 /// instruction there by every cause, has just the loops open that are around the place, and is

@@ -1,6 +1,10 @@
 //! The verifier: which programs are accepted, and where and why the others are refused.
 #![tactic(auto)]
 
-pub mod error;
+mod error;
 pub mod laws;
-pub mod verified;
+mod verified;
+
+pub use error::VerifyError;
+pub use laws::{typing_promises, verdict_is_one};
+pub use verified::{Verified, verify};

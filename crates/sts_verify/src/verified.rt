@@ -8,12 +8,10 @@ ghost use Rattle.sts_verify.specs.Verifying as def;
 use crate::error::VerifyError;
 use std::alloc::Global;
 use std::marker::Model;
-use sts_budget::budget::{BudgetError, budget};
-use sts_code::code::code_of;
-use sts_code::limits::MAX_INSTRUCTIONS;
-use sts_code::program::Program;
-use sts_rules::budget::Budgets;
-use sts_types::pass::{TypeError, type_function};
+use sts_budget::{BudgetError, budget};
+use sts_code::{MAX_INSTRUCTIONS, Program, code_of};
+use sts_rules::Budgets;
+use sts_types::{TypeError, type_function};
 
 /// A program that was accepted: contracts see the program.
 #[derive(Drop)]

@@ -2,6 +2,7 @@
 use Rattle.std.proofs.Common.{◌≡◌, ◌≢◌, take, reverse, get_or, ℕ, zero, suc, ◌+◌, ◌<◌, ◌≤◌, List}
 use Rattle.std.proofs.Common.{[], ◌∷◌, ◌++◌, length, Bool, true, false, Option, Some, None, eqb}
 use Rattle.std.proofs.Common.{refl, ap, sym, ◌∙◌, arith, append_assoc}
+use Rattle.std.specs.Prelude.{is_none}
 use Rattle.std.proofs.Math.Seq.{get_or-append_seam}
 use Rattle.std.proofs.lemmas.Bool.{eqb-true, eqb-false, eq-eqb, ne_eqb, ltb-true, lt-ltb}
 use Rattle.std.proofs.lemmas.List.{get_or_append_left, length-append, append-nil, take_more}
@@ -90,3 +91,20 @@ read_here links n i k at e h same = rw (e, chain_link links n i h, eq-eqb (link_
 
 pub read_next : (links : List Link) (n i k : ℕ) (at : Option ℕ) → at ≡ Some i → i < n → (link_at links i).bound.key ≢ k → read (chain links n at) k ≡ read (chain links i (link_at links i).behind) k
 read_next links n i k at e h apart = rw (e, chain_link links n i h, ne_eqb (link_at links i).bound.key k apart) refl
+
+-- ---- two environments, link by link
+
+chain_at : (links : List Link) (n i : ℕ) (front : Option ℕ) (l : Link) → front ≡ Some i → i < n → l ≡ link_at links i → chain links n front ≡ l.bound ∷ chain links i l.behind
+chain_at links n i front l e h is = rw (e, is) (chain_link links n i h)
+
+pub same_front : (here there : List Link) (n m i j : ℕ) (front front_there : Option ℕ) (l k : Link) → front ≡ Some i → front_there ≡ Some j → i < n → j < m → l ≡ link_at here i → k ≡ link_at there j → l.bound ≡ k.bound
+    → chain here i l.behind ≡ chain there j k.behind → chain here n front ≡ chain there m front_there
+same_front here there n m i j front front_there l k e f lessi lessj isl isk bound rest =
+    chain_at here n i front l e lessi isl ∙ (let step : l.bound ∷ chain here i l.behind ≡ k.bound ∷ chain there j k.behind = cc in step) ∙ sym (chain_at there m j front_there k f lessj isk)
+
+is_nothing : (front : Option ℕ) → is_none front ≡ true → front ≡ None
+is_nothing None e = refl
+is_nothing (Some i) e = cc
+
+pub both_none : (here there : List Link) (n m : ℕ) (front front_there : Option ℕ) → front ≡ None → is_none front_there ≡ true → chain here n front ≡ chain there m front_there
+both_none here there n m front front_there e f = rw (e, is_nothing front_there f) (chain_none here n ∙ sym (chain_none there m))

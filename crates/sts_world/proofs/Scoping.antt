@@ -1,7 +1,7 @@
 -- Scopes as they are kept, and what is shown of them.
 use Rattle.std.proofs.Common.{◌≡◌, ℕ, zero, suc, ◌<◌, ◌≤◌, List, [], ◌∷◌, ◌++◌, length, map, Bool}
 use Rattle.std.proofs.Common.{true, false, Option, Some, None, inl, inr, ◌⊎◌, refl, ap, sym, ◌∙◌}
-use Rattle.std.proofs.Common.{get_or, set}
+use Rattle.std.proofs.Common.{get_or, set, take, ◌+◌}
 use Rattle.std.proofs.lemmas.Bool.{cases_lt}
 use Rattle.std.proofs.lemmas.List.{get_or-map, get_or_past, map-set, map-append, length-map}
 use Rattle.sts_model.specs.declared.record.Task.{Task}
@@ -19,7 +19,8 @@ use Rattle.sts_model.specs.Local.{steps}
 use Rattle.sts_world.specs.declared.chains.Link.{Link}
 use Rattle.sts_world.specs.declared.scope.ScopeRecord.{ScopeRecord}
 use Rattle.sts_world.specs.Chains.{bindings_of, is_within, Grows}
-use Rattle.sts_world.specs.Scopes.{shown, no_record, front_of, AreWithin}
+use Rattle.std.proofs.lemmas.List.{take_more}
+use Rattle.sts_world.specs.Scopes.{shown, no_record, front_of, AreWithin, IsAlike}
 use Rattle.sts_world.proofs.Chaining.{chain_none, bindings_grown, grows_longer, within_more}
 
 pub shown_at : (links : List Link) (xs : List ScopeRecord) (s : ℕ) → s < length xs → get_or (map (shown links) xs) s no_scope ≡ shown links (get_or xs s no_record)
@@ -74,3 +75,17 @@ opened tasks old new xs t s slot joiner timed front rest h g es er l =
     let environment : bindings_of new front ≡ environment_of (get_or tasks t no_task) w = l ∙ ap (λ (o : Option ℕ). own_bindings (get_or tasks t no_task) ++ bindings_of old o) er ∙ ap (λ (e : List Bound). own_bindings (get_or tasks t no_task) ++ e) (sym (kept_environment old tasks xs (get_or tasks t no_task).scope)) in
     let seen : shown new x ≡ record { owner = t; joiner = joiner; timed = timed; phase = Opened; cancelled = false; expired = false; completions = []; environment = environment_of (get_or tasks t no_task) w } = rw environment refl in
     rw (es, shown_push old new xs x _ h g seen, length-map xs (shown old)) refl
+
+-- ---- scopes that are the same
+
+pub same_shown : (here there : List Link) (a b : ScopeRecord) → IsAlike a b → bindings_of here a.front ≡ bindings_of there b.front → shown here a ≡ shown there b
+same_shown here there a b h e = rw (h.owner, h.joiner, h.timed, h.phase, h.cancelled, h.expired, h.completions, e) refl
+
+-- one scope more of each
+pub same_more : (f g : ScopeRecord → Scope) (a b : List ScopeRecord) (i : ℕ) (x y : ScopeRecord) → i < length a → i < length b → x ≡ get_or a i x → y ≡ get_or b i y → f x ≡ g y
+    → take i (map f a) ≡ take i (map g b) → take (i + 1) (map f a) ≡ take (i + 1) (map g b)
+same_more f g a b i x y la lb isx isy e rest =
+    take_more (map f a) i (f x) (rw length-map la)
+    ∙ (let at : get_or (map f a) i (f x) ≡ get_or (map g b) i (g y) = get_or-map f a i x (f x) la ∙ ap f (sym isx) ∙ e ∙ ap g isy ∙ sym (get_or-map g b i y (g y) lb) in
+    rw (rest, at) refl)
+    ∙ sym (take_more (map g b) i (g y) (rw length-map lb))

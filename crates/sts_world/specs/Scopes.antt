@@ -55,3 +55,13 @@ pub record IsShown (s : ScopeRecord) (scope : Scope) : Type 0 where
   pub cancelled : scope.cancelled ≡ s.cancelled
   pub expired : scope.expired ≡ s.expired
   pub completions : scope.completions ≡ s.completions
+
+-- the two have all the same but the places of their environments
+pub record IsAlike (a b : ScopeRecord) : Type 0 where
+  pub owner : a.owner ≡ b.owner
+  pub joiner : a.joiner ≡ b.joiner
+  pub timed : a.timed ≡ b.timed
+  pub phase : a.phase ≡ b.phase
+  pub cancelled : a.cancelled ≡ b.cancelled
+  pub expired : a.expired ≡ b.expired
+  pub completions : a.completions ≡ b.completions

@@ -7,8 +7,8 @@ ghost use Rattle.sts_world.specs.Chains.{bindings_of, is_within, Grows, link_at}
 
 use std::alloc::{AllocError, Global};
 use std::marker::Model;
-use sts_code::limits::MAX_ENTRIES;
-use sts_model::record::{Bound, Entry, Frame};
+use sts_code::MAX_ENTRIES;
+use sts_model::{Bound, Entry, Frame};
 
 /// A binding, and the place of the link behind it, which is older.
 #[derive(Clone, Copy, Debug, PartialEq, Eq)]
@@ -159,5 +159,49 @@ impl Chains {
             }
         }
         Ok(front)
+    }
+}
+
+impl Chains {
+    /// Where it answers true the two environments have the same bindings.
+    pub fn same_bindings(
+        &self,
+        front: Option<usize>,
+        other: &Chains,
+        front_there: Option<usize>,
+    ) -> bool
+        ensures { result ≡ true → bindings_of self.now front ≡ bindings_of other.now front_there }
+    {
+        let mut at = front;
+        let mut at_there = front_there;
+        let mut younger = self.links.len();
+        let mut younger_there = other.links.len();
+        while let Some(place) = at {
+            let Some(place_there) = at_there else {
+                return false;
+            };
+            if place >= younger || place_there >= younger_there {
+                return false;
+            }
+            let link = self.links[place];
+            let link_there = other.links[place_there];
+            if link.bound != link_there.bound {
+                return false;
+            }
+            at = link.behind;
+            at_there = link_there.behind;
+            younger = place;
+            younger_there = place_there;
+        }
+        at_there.is_none()
+    }
+
+    /// The same once more.
+    pub fn copied(&self, alloc: Global) -> Result<Chains, AllocError>
+        ensures { IfOk result (λ c. c ≡ self.now) }
+    {
+        Ok(Chains {
+            links: Vec::from_slice(alloc, self.links.as_slice())?,
+        })
     }
 }

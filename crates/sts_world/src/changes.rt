@@ -17,12 +17,8 @@ use crate::records::Records;
 use crate::scope::{ScopeRecord, front_of};
 use crate::task::TaskRecord;
 use std::alloc::{AllocError, Global};
-use sts_code::code::args;
-use sts_code::instr::Joiner;
-use sts_code::program::Program;
-use sts_model::event::{End, Phase};
-use sts_model::record::{Completion, Slot};
-use sts_model::stack::Items;
+use sts_code::{Joiner, Program, args};
+use sts_model::{Completion, End, Items, Phase, Slot};
 
 // ---- one task
 

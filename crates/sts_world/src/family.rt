@@ -1,11 +1,12 @@
 //! The subtasks of one scope.
 
 ghost use Rattle.std.specs.Prelude.{◌≡◌, ◌<◌, ◌≤◌, ◌-◌, if◌then◌else◌};
-ghost use Rattle.std.specs.Prelude.{length, take, nat_lt, OnOk, OnErr};
+ghost use Rattle.std.specs.Prelude.{length, take, nat_lt, OnOk, OnErr, IfOk};
 ghost use Rattle.sts_world.specs.Kept.{no_family, with_child, with_death};
 
 use std::alloc::{AllocError, Global};
 use std::marker::Model;
+use sts_same::copied::Copied;
 
 /// The subtasks of one scope: contracts see their birth numbers in fork order, and how many of
 /// them live.
@@ -88,5 +89,14 @@ impl Family {
     {
         self.births.truncate(self.births.len() - 1);
         self.living = self.living.saturating_sub(usize::from(lives));
+    }
+}
+
+impl Copied for Family {
+    fn copied(&self, alloc: Global) -> Result<Family, AllocError> {
+        Ok(Family {
+            births: Vec::from_slice(alloc, self.births.as_slice())?,
+            living: self.living,
+        })
     }
 }

@@ -7,11 +7,13 @@ ghost use Rattle.sts_code.specs.declared.limits.TheConstants.{LAST_SLOT};
 ghost use Rattle.sts_model.specs.Misuse as misuse;
 ghost use Rattle.sts_model.specs.World as def;
 ghost use Rattle.sts_model.specs.declared.record.Slot.TheVariants.{Empty, Lent};
-ghost use Rattle.sts_world.specs.Held.{slot_of, whole};
+ghost use Rattle.sts_world.specs.Held.{slot_of, whole, frame_of, is_living};
+ghost use Rattle.std.specs.Prelude.{true};
 
 use std::alloc::{AllocError, Global};
-use sts_frames::slots::is_empty;
-use sts_model::record::{Frame, Slot};
+use sts_frames::{copy_frame, is_empty};
+use sts_model::{Frame, Slot};
+use sts_same::same::{Same, same_slices};
 
 /// What is used of a frame at which no loop and no entry is open.
 #[derive(Drop)]
@@ -117,4 +119,55 @@ pub fn resting_entry(
         operands: Vec::new(alloc),
         locals,
     })
+}
+
+/// Frames at rest, compared.
+fn same_resting(a: &RestingFrame, b: &RestingFrame) -> bool
+    ensures { result ≡ true → whole a.now ≡ whole b.now }
+{
+    a.function == b.function
+        && a.pc == b.pc
+        && a.scope == b.scope
+        && same_slices(a.operands.as_slice(), b.operands.as_slice())
+        && same_slices(a.locals.as_slice(), b.locals.as_slice())
+}
+
+/// Frames, compared.
+pub fn same_held(a: &HeldFrame, b: &HeldFrame) -> bool
+    ensures { result ≡ true → frame_of a.now ≡ frame_of b.now }
+{
+    match a {
+        HeldFrame::Living(x) => match b {
+            HeldFrame::Living(y) => {
+                let x: &Frame = x;
+                let y: &Frame = y;
+                x.same(y)
+            }
+            HeldFrame::Resting(_) => false,
+        },
+        HeldFrame::Resting(x) => match b {
+            HeldFrame::Living(_) => false,
+            HeldFrame::Resting(y) => same_resting(x, y),
+        },
+    }
+}
+
+/// A frame once more.
+pub fn copy_held(alloc: Global, held: &HeldFrame) -> Result<HeldFrame, AllocError>
+    ensures frame { IfOk result (λ x. frame_of x ≡ frame_of held.now) }
+    ensures living { IfOk result (λ x. is_living x ≡ is_living held.now) }
+{
+    match held {
+        HeldFrame::Living(frame) => {
+            let copy = Box::new(alloc, copy_frame(frame))?;
+            Ok(HeldFrame::Living(copy))
+        }
+        HeldFrame::Resting(r) => Ok(HeldFrame::Resting(RestingFrame {
+            function: r.function,
+            pc: r.pc,
+            scope: r.scope,
+            operands: Vec::from_slice(alloc, r.operands.as_slice())?,
+            locals: Vec::from_slice(alloc, r.locals.as_slice())?,
+        })),
+    }
 }

@@ -7,7 +7,10 @@ mod changes;
 mod family;
 mod held;
 mod reading;
-pub mod records;
+mod records;
 pub mod scope;
 pub mod task;
-pub mod world;
+mod world;
+
+pub use records::{Records, can_join};
+pub use world::World;

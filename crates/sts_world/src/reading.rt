@@ -3,7 +3,7 @@
 ghost use Rattle.std.specs.Prelude.{◌≡◌, filter_map};
 ghost use Rattle.sts_model.specs.Environment as scoped;
 
-use sts_model::record::{Entry, Frame};
+use sts_model::{Entry, Frame};
 
 /// The value of the task's own innermost binding of a key.
 pub fn own_value(frame: &Frame, k: u8) -> Option<i64>

@@ -1,6 +1,6 @@
 //! All tasks and all scopes, by birth number, and what is read of them.
 
-ghost use Rattle.std.specs.Prelude.{◌≡◌, ◌<◌, ◌≤◌, length, true, None, IfSome};
+ghost use Rattle.std.specs.Prelude.{◌≡◌, ◌<◌, ◌≤◌, length, true, None, IfSome, IfOk, map};
 ghost use Rattle.std.specs.Borrow.{sem};
 ghost use Rattle.sts_code.specs.declared.limits.TheConstants.{MAX_BIRTHS};
 ghost use Rattle.sts_model.specs.Environment as scoped;
@@ -9,15 +9,17 @@ ghost use Rattle.sts_model.specs.Misuse as misuse;
 ghost use Rattle.sts_model.specs.Outside as outside;
 ghost use Rattle.sts_model.specs.World as def;
 ghost use Rattle.sts_world.specs.Lends.{lends_task};
-ghost use Rattle.sts_world.specs.Scopes.{IsShown};
+ghost use Rattle.sts_world.specs.Scopes.{IsShown, shown};
 
 use crate::chains::Chains;
-use crate::scope::{ScopeRecord, front_of};
+use crate::scope::{ScopeRecord, front_of, same_scope};
 use crate::task::TaskRecord;
+use std::alloc::{AllocError, Global};
 use std::marker::Model;
-use sts_code::instr::Joiner;
-use sts_model::event::{End, Phase};
-use sts_model::record::{Completion, Frame};
+use sts_code::Joiner;
+use sts_model::{Completion, End, Frame, Phase};
+use sts_same::copied::copy_all;
+use sts_same::same::same_slices;
 
 /// The tasks and the scopes by birth number: contracts see the two lists.
 #[derive(Drop)]
@@ -272,5 +274,55 @@ impl Records {
                 }
             }
         }
+    }
+}
+
+/// Scopes with their environments, compared.
+fn same_scopes(a: &[ScopeRecord], here: &Chains, b: &[ScopeRecord], there: &Chains) -> bool
+    ensures { result ≡ true → map (shown here.now) a.now ≡ map (shown there.now) b.now }
+{
+    if a.len() != b.len() {
+        return false;
+    }
+    for i in 0..a.len() {
+        let x = &a[i];
+        let y = &b[i];
+        if !same_scope(x, y) || !here.same_bindings(x.front, there, y.front) {
+            return false;
+        }
+    }
+    true
+}
+
+impl Records {
+    /// Where it answers true the two have the same tasks and scopes.
+    pub fn same(&self, other: &Records) -> bool
+        ensures { result ≡ true → self.now ≡ other.now }
+    {
+        same_slices(self.tasks.as_slice(), other.tasks.as_slice())
+            && same_scopes(
+                self.scopes.as_slice(),
+                &self.chains,
+                other.scopes.as_slice(),
+                &other.chains,
+            )
+    }
+
+    /// The same once more.
+    ///
+    /// # Errors
+    ///
+    /// Want of memory.
+    pub fn copied(&self, alloc: Global) -> Result<Records, AllocError>
+        ensures { IfOk result (λ r. r ≡ self.now) }
+    {
+        let tasks = copy_all(alloc, self.tasks.as_slice())?;
+        let scopes = copy_all(alloc, self.scopes.as_slice())?;
+        let chains = self.chains.copied(alloc)?;
+        Ok(Records {
+            tasks,
+            scopes,
+            chains,
+        })
     }
 }

@@ -1,12 +1,13 @@
 //! A scope as it is kept.
 
-ghost use Rattle.std.specs.Prelude.{◌≡◌};
+ghost use Rattle.std.specs.Prelude.{◌≡◌, true};
 ghost use Rattle.sts_world.specs.Scopes as def;
 
-use sts_code::instr::Joiner;
-use sts_model::event::Phase;
-use sts_model::record::Completion;
-use sts_model::stack::Items;
+use std::alloc::{AllocError, Global};
+use sts_code::Joiner;
+use sts_model::{Completion, Items, Phase};
+use sts_same::copied::{Copied, copy_items};
+use sts_same::same::same_items;
 
 /// A scope, with the place of its environment among the links.
 #[derive(Drop)]
@@ -31,5 +32,50 @@ pub fn front_of(scopes: &[ScopeRecord], scope: Option<u32>) -> Option<usize>
             None => None,
             Some(scope) => scope.front,
         },
+    }
+}
+
+/// What a scope was opened with, but its environment.
+fn same_opening(a: &ScopeRecord, b: &ScopeRecord) -> bool
+    ensures owner { result ≡ true → a.now.owner ≡ b.now.owner }
+    ensures joiner { result ≡ true → a.now.joiner ≡ b.now.joiner }
+    ensures timed { result ≡ true → a.now.timed ≡ b.now.timed }
+{
+    a.owner == b.owner && a.joiner == b.joiner && a.timed == b.timed
+}
+
+/// How far a scope is.
+fn same_marks(a: &ScopeRecord, b: &ScopeRecord) -> bool
+    ensures phase { result ≡ true → a.now.phase ≡ b.now.phase }
+    ensures cancelled { result ≡ true → a.now.cancelled ≡ b.now.cancelled }
+    ensures expired { result ≡ true → a.now.expired ≡ b.now.expired }
+    ensures completions { result ≡ true → a.now.completions ≡ b.now.completions }
+{
+    a.phase == b.phase
+        && a.cancelled == b.cancelled
+        && a.expired == b.expired
+        && same_items(&a.completions, &b.completions)
+}
+
+/// Scopes, compared but for their environments.
+pub fn same_scope(a: &ScopeRecord, b: &ScopeRecord) -> bool
+    ensures { result ≡ true → def.IsAlike a.now b.now }
+{
+    same_opening(a, b) && same_marks(a, b)
+}
+
+impl Copied for ScopeRecord {
+    fn copied(&self, alloc: Global) -> Result<ScopeRecord, AllocError> {
+        let completions = copy_items(alloc, &self.completions)?;
+        Ok(ScopeRecord {
+            owner: self.owner,
+            joiner: self.joiner,
+            timed: self.timed,
+            phase: self.phase,
+            cancelled: self.cancelled,
+            expired: self.expired,
+            completions,
+            front: self.front,
+        })
     }
 }

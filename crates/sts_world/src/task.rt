@@ -16,20 +16,18 @@ ghost use Rattle.sts_model.specs.declared.record.Entry.TheVariants as entries;
 ghost use Rattle.sts_model.specs.declared.record.Slot.TheVariants.{Empty, Own, Lent};
 
 use crate::chains::Chains;
-use crate::held::{HeldFrame, resting, resting_entry};
+use crate::held::{HeldFrame, copy_held, resting, resting_entry, same_held};
 use crate::reading::own_value;
 use std::alloc::{AllocError, Global};
 use std::marker::Model;
-use sts_code::instr::Instr;
-use sts_code::program::Program;
-use sts_frames::beginning::{entry_frame, root_frame};
-use sts_frames::code::code;
-use sts_frames::local::local;
-use sts_frames::steps::{
-    enter_binding, enter_scope, forget, leave_entry, leave_fork, leave_scope, steps,
+use sts_code::{Instr, Program};
+use sts_frames::{
+    code, enter_binding, enter_scope, entry_frame, forget, leave_entry, leave_fork, leave_scope,
+    local, root_frame, steps,
 };
-use sts_model::event::End;
-use sts_model::record::{Frame, Slot};
+use sts_model::{End, Frame, Slot};
+use sts_same::copied::Copied;
+use sts_same::same::Same;
 
 /// A task: contracts see its record with the frame in full.
 ///
@@ -458,5 +456,31 @@ impl TaskRecord {
                 self.frame = HeldFrame::Resting(frame);
             }
         }
+    }
+}
+
+// ---- compared and copied
+
+impl Same for TaskRecord {
+    fn same(&self, other: &TaskRecord) -> bool {
+        self.started == other.started
+            && self.flag == other.flag
+            && self.scope == other.scope
+            && self.outcome == other.outcome
+            && same_held(&self.frame, &other.frame)
+    }
+}
+
+impl Copied for TaskRecord {
+    fn copied(&self, alloc: Global) -> Result<TaskRecord, AllocError> {
+        let frame = copy_held(alloc, &self.frame)?;
+        Ok(TaskRecord {
+            frame,
+            started: self.started,
+            flag: self.flag,
+            scope: self.scope,
+            outcome: self.outcome,
+            opened: self.opened,
+        })
     }
 }

@@ -24,10 +24,10 @@ use crate::family::Family;
 use crate::records::Records;
 use std::alloc::{AllocError, Global};
 use std::marker::Model;
-use sts_code::instr::{Instr, Joiner, Kind};
-use sts_code::program::Program;
-use sts_joiners::tally::Tally;
-use sts_model::event::{End, Phase, Verdict};
+use sts_code::{Instr, Joiner, Kind, Program};
+use sts_joiners::Tally;
+use sts_model::{End, Phase, Verdict};
+use sts_same::copied::copy_all;
 
 /// The tasks and scopes: contracts see the two lists of all that were ever born.
 ///
@@ -634,5 +634,47 @@ impl World {
         self.was_told.push(false)?;
         self.standing_tasks = tasks + 1;
         Ok(())
+    }
+}
+
+/// Tallies once more.
+fn copy_tallies(alloc: Global, tallies: &[Tally]) -> Result<Vec<Tally>, AllocError>
+    ensures { IfOk result (λ xs. xs.items ≡ tallies.now) }
+{
+    let mut copies = Vec::new(alloc);
+    for tally in tallies {
+        copies.push(tally.copied())?;
+    }
+    Ok(copies)
+}
+
+impl World {
+    /// Where it answers true the two are the same.
+    pub fn same(&self, other: &World) -> bool
+        ensures { result ≡ true → self.now ≡ other.now }
+    {
+        self.records.same(&other.records)
+    }
+
+    /// The same once more.
+    ///
+    /// # Errors
+    ///
+    /// Want of memory.
+    pub fn copied(&self, alloc: Global) -> Result<World, AllocError>
+        ensures { IfOk result (λ w. w ≡ self.now) }
+    {
+        let records = self.records.copied(alloc)?;
+        let families = copy_all(alloc, self.families.as_slice())?;
+        let tallies = copy_tallies(alloc, self.tallies.as_slice())?;
+        let was_told = Vec::from_slice(alloc, self.was_told.as_slice())?;
+        Ok(World {
+            records,
+            families,
+            tallies,
+            was_told,
+            standing_tasks: self.standing_tasks,
+            standing_scopes: self.standing_scopes,
+        })
     }
 }

@@ -6,18 +6,15 @@ use crate::whole;
 use std::alloc::Global;
 use std::io;
 use sts_asm::assemble;
-use sts_code::program::{Function, Program};
+use sts_code::{Function, Program};
 use sts_list::list;
-use sts_machine::machine::Machine;
-use sts_machine::runs::{replay, run_alone};
-use sts_model::event::{End, Event};
-use sts_output::taking::take;
-use sts_plain::misstep::PlainState;
-use sts_plain::plain::Plain;
+use sts_machine::{Machine, replay, run_alone};
+use sts_model::{End, Event};
+use sts_output::take;
+use sts_plain::{Plain, PlainState};
 use sts_pool::Book;
 use sts_trace::{read_outside, read_trace};
-use sts_verify::error::VerifyError;
-use sts_verify::verified::{Verified, verify};
+use sts_verify::{Verified, VerifyError, verify};
 
 fn program(alloc: Global, row: &Row<'_>) -> Result<Program, Failure> {
     in_assembling(assemble(alloc, row.text))

@@ -3,7 +3,7 @@
 use std::alloc::AllocError;
 use std::io;
 use sts_asm::{AsmError, AsmKind};
-use sts_output::taking::TakeError;
+use sts_output::TakeError;
 use sts_trace::TraceError;
 
 /// Why a call has no answer.

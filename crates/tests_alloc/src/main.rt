@@ -14,7 +14,7 @@ use crate::failure::{Failure, in_taking};
 use crate::row::Row;
 use std::process::ExitCode;
 use std::{io, str};
-use sts_output::taking::take;
+use sts_output::take;
 
 fn answered(rt: &HostRuntime) -> Result<(), Failure> {
     let input = in_taking(take(rt.alloc(), &mut rt.reader(), u64::MAX))?;

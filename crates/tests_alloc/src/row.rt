@@ -2,7 +2,7 @@
 
 use crate::failure::Failure;
 use std::str;
-use sts_output::joined::split;
+use sts_output::split;
 use sts_text::cut_at_newline;
 
 /// A text, a trace and an outside text.

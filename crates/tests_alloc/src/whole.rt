@@ -1,8 +1,7 @@
 //! Whole runs, none of whose calls is passed an allocator.
 
-use sts_machine::machine::Machine;
-use sts_machine::turned::Turned;
-use sts_model::event::Event;
+use sts_machine::{Machine, Turned};
+use sts_model::Event;
 use sts_pool::Book;
 
 /// As many rounds as no run of a row takes.

@@ -2,8 +2,7 @@
 
 use std::test::Fail;
 use sts_asm::assemble;
-use sts_code::instr::{Instr, Joiner, Kind, Pred};
-use sts_code::profile::Profile;
+use sts_code::{Instr, Joiner, Kind, Pred, Profile};
 
 static EVERY_WORD: &str = "profile 2 ; reads after a timeout
 func kid 2 needs 15 3 3

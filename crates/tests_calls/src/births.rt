@@ -4,7 +4,7 @@ ghost use Rattle.std.specs.Prelude.{◌≡◌, ◌≢◌, Some, None, slice_inde
 
 use std::process::Abort;
 use std::test::Fail;
-use sts_held::held::Held;
+use sts_records::Held;
 
 fn push(rt: &impl Abort, held: &mut Held<u32>, body: u32) -> usize {
     assert!(rt; held.room() > 0 && held.born() < 1000000);

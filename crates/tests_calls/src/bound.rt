@@ -5,9 +5,8 @@ ghost use Rattle.sts_model.specs.declared.record.Slot.TheVariants.{Empty};
 
 use std::process::Abort;
 use std::test::Fail;
-use sts_model::record::{Entry, Frame, Slot};
-use sts_model::stack::Stack;
-use sts_store::store::{Room, Store};
+use sts_model::{Entry, Frame, Slot, Stack};
+use sts_store::{Room, Store};
 
 /// The frame at the beginning of function 0, with 7 on top.
 fn beginning() -> Frame

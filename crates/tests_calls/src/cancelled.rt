@@ -4,10 +4,10 @@ ghost use Rattle.std.specs.Prelude.{◌≡◌, ◌≢◌, Some, None, true, slic
 
 use std::process::Abort;
 use std::test::Fail;
-use sts_cancel::cancel::{cancel, expire, interrupt};
-use sts_code::instr::{Joiner, Kind};
-use sts_model::event::{End, Phase, Stand, Verdict};
-use sts_tree::tree::Tree;
+use sts_cancel::{cancel, expire, interrupt};
+use sts_code::{Joiner, Kind};
+use sts_model::{End, Phase, Stand, Verdict};
+use sts_tree::Tree;
 
 fn add(rt: &impl Abort, tree: &mut Tree<u8>, s: u32) -> u32 {
     assert!(rt; tree.scope(s).is_some() && tree.task_room() > 0 && tree.tasks_born() < 1000000);

@@ -2,8 +2,7 @@
 
 use std::alloc::Global;
 use std::test::Fail;
-use sts_code::instr::{Instr, Joiner};
-use sts_code::program::{Function, Program};
+use sts_code::{Function, Instr, Joiner, Program};
 
 /// The code of a function.
 type Code = &'static [Instr];

@@ -1,8 +1,7 @@
 //! Environments that share a tail, with a key that comes back.
 
 use std::test::Fail;
-use sts_env::chains::Chains;
-use sts_env::env::Env;
+use sts_env::{Chains, Env};
 
 #[test]
 fn bindings_are_shared_and_their_keys_come_back(rt: HostRuntime) -> Result<(), Fail> {

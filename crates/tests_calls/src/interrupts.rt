@@ -3,10 +3,9 @@
 use crate::rows::THOUSAND;
 use std::test::Fail;
 use sts_asm::assemble;
-use sts_machine::machine::Machine;
-use sts_machine::turned::Turned;
-use sts_model::event::{End, Event};
-use sts_verify::verified::verify;
+use sts_machine::{Machine, Turned};
+use sts_model::{End, Event};
+use sts_verify::verify;
 
 /// Task 1 lives from the fourth step of `main`, which forks it, to its own second step. The tasks
 /// that are forked after it stand under its key.

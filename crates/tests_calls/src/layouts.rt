@@ -2,9 +2,9 @@
 
 use crate::codes::{RETURNS, SCOPE_IN_A_LOOP, program_of};
 use std::test::Fail;
-use sts_budget::layout::{Layout, lay_out, next_places};
-use sts_code::instr::Instr;
-use sts_types::pass::type_function;
+use sts_budget::{Layout, lay_out, next_places};
+use sts_code::Instr;
+use sts_types::type_function;
 
 /// How many entries are open at a place.
 fn open_at(layout: &Layout, pc: usize) -> Option<usize> {

@@ -2,8 +2,7 @@
 
 use slab::Slab;
 use std::test::Fail;
-use sts_links::links::{Ends, Link, Links};
-use sts_links::lists::{after, front, push_back, unlink};
+use sts_links::{Ends, Link, Links, after, front, push_back, unlink};
 
 /// A record: what it is about, and its link in each of three layers.
 #[derive(Clone, Copy, Debug)]

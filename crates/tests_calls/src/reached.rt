@@ -5,15 +5,12 @@ use std::alloc::Global;
 use std::process::Abort;
 use std::test::Fail;
 use sts_asm::assemble;
-use sts_code::program::Program;
-use sts_model::event::Event;
-use sts_model::record::Entry;
-use sts_plain::misuse::misuse;
-use sts_plain::perform::act;
-use sts_plain::stand::can_step;
+use sts_code::Program;
+use sts_model::{Entry, Event};
+use sts_plain::{act, can_step, misuse};
 use sts_trace::read_trace;
-use sts_verify::verified::{Verified, verify};
-use sts_world::world::World;
+use sts_verify::{Verified, verify};
+use sts_world::World;
 
 /// Steps, and the most tasks, scopes and bindings that stand at once.
 #[derive(Clone, Copy, Debug, PartialEq, Eq)]

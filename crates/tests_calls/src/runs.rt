@@ -5,9 +5,9 @@ use std::alloc::Global;
 use std::process::Abort;
 use std::test::Fail;
 use sts_asm::assemble;
-use sts_machine::runs::run_alone;
-use sts_model::event::End;
-use sts_verify::verified::verify;
+use sts_machine::run_alone;
+use sts_model::End;
+use sts_verify::verify;
 
 /// A text, and how its root ends when it runs alone.
 struct Run {

@@ -5,12 +5,9 @@ use std::alloc::{AllocError, Global};
 use std::process::Abort;
 use std::test::Fail;
 use sts_asm::assemble;
-use sts_machine::machine::Machine;
-use sts_machine::runs::replay;
-use sts_machine::standing::Standing;
-use sts_machine::turned::Turned;
-use sts_model::event::{End, Event};
-use sts_verify::verified::verify;
+use sts_machine::{Machine, Standing, Turned, replay};
+use sts_model::{End, Event};
+use sts_verify::verify;
 
 /// So many steps of a task.
 struct Steps(u32, u16);

@@ -3,7 +3,7 @@
 use std::io;
 use std::io::Write;
 use std::test::Fail;
-use sts_model::event::Event;
+use sts_model::Event;
 use sts_trace::{Due, TraceError, read_outside, read_trace, write_trace};
 
 #[test]

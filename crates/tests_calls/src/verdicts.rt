@@ -2,7 +2,7 @@
 
 use crate::codes::{FORKS, RETURNS, program_of};
 use std::test::Fail;
-use sts_verify::verified::verify;
+use sts_verify::verify;
 
 #[test]
 fn the_program_is_given_back(rt: HostRuntime) -> Result<(), Fail> {

@@ -1,9 +1,7 @@
 //! Command lines and what they ask for.
 
 use std::alloc::Global;
-use sts_args::asked;
-use sts_args::asked::LineError;
-use sts_args::reading::line;
+use sts_args::{LineError, asked, line};
 
 /// What the words ask for: the command's name and its files, or why they ask for nothing.
 fn shown<'a>(alloc: Global, words: &'a [&'a str]) -> (&'static str, &'a str, &'a str) {

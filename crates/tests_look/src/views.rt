@@ -1,8 +1,7 @@
 //! What stands, by rows worked out by hand from the rules.
 
+use look_lines::{Wanted, viewed};
 use std::alloc::Global;
-use sts_view::of_text::viewed;
-use sts_view::view::Wanted;
 
 const LAST: Wanted = Wanted {
     each: false,

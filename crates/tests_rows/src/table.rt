@@ -4,8 +4,8 @@ use crate::notation::{push_events, push_lines};
 use anyhow::{Context, Result};
 use std::alloc::Global;
 use std::str;
-use sts_cli::play::{play, play_joined};
-use sts_output::mode::Mode;
+use sts_cli::{play, play_joined};
+use sts_output::Mode;
 
 /// A listing of more bytes than a text may have isn't listed again.
 const MOST: usize = 1_048_576;
@@ -54,6 +54,7 @@ fn said(alloc: Global, asked: Asked, text: &[u8], trace: &[u8]) -> Result<String
 }
 
 impl<'t> Table<'t> {
+    /// Returns a table of which no line was read yet.
     pub fn new(alloc: Global) -> Table<'t> {
         Table {
             alloc,

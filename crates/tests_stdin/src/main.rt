@@ -3,9 +3,9 @@
 #![tactic(auto)]
 
 use std::process::ExitCode;
-use sts_cli::program::start;
+use sts_cli::start;
 
 fn main(rt: HostRuntime) -> ExitCode {
-    let status = start(&rt, rt.alloc(), &mut rt.stdout(), &mut rt.stderr());
+    let status = start(&rt, rt.alloc(), false, &mut rt.stdout(), &mut rt.stderr());
     ExitCode::from(status)
 }

@@ -9,22 +9,28 @@ use std::sync::Wait;
 use std::test::Fail;
 use std::thread::Threads;
 use std::{io, str};
-use sts_cli::WriteFailed;
-use sts_cli::program::{run, run_words};
-use sts_output::sinks::Sinks;
-use sts_output::sources::Sources;
-use sts_output::words::{WordsError, words};
+use sts_cli::{Notes, WriteFailed, run, run_words};
+use sts_output::{Sinks, Sources, WordsError, words};
 
 /// The name that the program goes by.
 const NAME: &[u8] = b"sts";
 
 const SEVEN: &[u8] = b"func main 0\npush 7\nret\nend\n";
 
+/// What is told of a refusal.
+const REFUSED: &str = "sts: ./look explain FILE says why\n";
+
 const FAILS: &[u8] = b"func main 0\npush 7\nfail\nend\n";
+
+/// It gives 2 where its scope expires, else 1.
+const TIMED: &[u8] = b"func kid 0\npush 0\nret\nend\n\
+    func main 0\nopen s0 awaitall timed\nfork s0 kid _\njoin s0 - late intr\n\
+    close s0\npush 1\nret\nlate:\nclose s0\npush 2\nret\n\
+    intr:\npush 0\nclose s0\nfail\nend\n";
 
 /// What a file gives: its bytes, then its end or a read that fails.
 #[derive(Clone, Copy)]
-struct Held {
+pub(crate) struct Held {
     bytes: &'static [u8],
     then: Option<ErrorKind>,
 }
@@ -59,7 +65,7 @@ fn whole(bytes: &'static [u8]) -> Held {
     Held { bytes, then: None }
 }
 
-fn broken(kind: ErrorKind) -> Held {
+pub(crate) fn broken(kind: ErrorKind) -> Held {
     Held {
         bytes: b"func main 0\n",
         then: Some(kind),
@@ -68,8 +74,8 @@ fn broken(kind: ErrorKind) -> Held {
 
 /// Files by their names, and one input.
 #[derive(Clone, Copy)]
-struct Folder {
-    input: Held,
+pub(crate) struct Folder {
+    pub(crate) input: Held,
 }
 
 impl Sources for Folder {
@@ -83,9 +89,20 @@ impl Sources for Folder {
             "fails.sts" => Ok(whole(FAILS)),
             "endless.sts" => Ok(whole(b"func main 0\nx:\njmp x\nend\n")),
             "two.trace" => Ok(whole(b"step 0\nstep 0\n")),
+            "timed.sts" => Ok(whole(TIMED)),
             "late.outside" => Ok(whole(b"at 3 interrupt 0\n")),
+            "expiry.outside" => Ok(whole(b"at 1 expire 0\n")),
             "bad.outside" => Ok(whole(b"at 0 step 0\n")),
             "bad.trace" => Ok(whole(b"step 0\nstep\n")),
+            "cut.trace" => Ok(whole(b"step 0\nstep 0")),
+            "typo.sts" => Ok(whole(b"func main 0\n  puhs 7 ; seven\n")),
+            "byte.sts" => Ok(whole(b"func main 0\n\tpush \x1b7\n")),
+            "forks.sts" => Ok(whole(
+                b"func main 0\nopen s0 awaitall\n\nfork s0 main _\nret\nend\n",
+            )),
+            "empty.sts" => Ok(whole(b"")),
+            "folder" => Err(ErrorKind::IsADirectory.into()),
+            "locked.sts" => Err(ErrorKind::PermissionDenied.into()),
             "unread.sts" | "unread.trace" => Ok(broken(ErrorKind::Other)),
             "heavy.sts" | "heavy.trace" => Ok(broken(ErrorKind::OutOfMemory)),
             "heavy_to_open.sts" => Err(ErrorKind::OutOfMemory.into()),
@@ -103,17 +120,27 @@ impl Sinks for Folder {
 
     fn create(&self, path: &str) -> io::Result<Kept> {
         match path {
-            "new.trace" => Ok(Kept { fails: false }),
+            "new.trace" | "link_to_seven" | "lost" => Ok(Kept { fails: false }),
             "full.trace" => Ok(Kept { fails: true }),
             "heavy.trace" => Err(ErrorKind::OutOfMemory.into()),
+            // (these are files that may be read alone: nothing may be lost of them)
+            "seven.sts" | "late.outside" => Ok(Kept { fails: false }),
             _ => Err(ErrorKind::PermissionDenied.into()),
+        }
+    }
+
+    fn is_same(&self, path: &str, other: &str) -> io::Result<bool> {
+        match path {
+            "lost" => Err(ErrorKind::PermissionDenied.into()),
+            "link_to_seven" => Ok(other == "seven.sts"),
+            _ => Ok(path == other),
         }
     }
 }
 
 /// A file that takes all that is written, or nothing.
 #[derive(Drop)]
-struct Kept {
+pub(crate) struct Kept {
     fails: bool,
 }
 
@@ -154,17 +181,22 @@ impl Sinks for WithoutEnd {
     fn create(&self, _path: &str) -> io::Result<io::Sink> {
         Ok(io::sink())
     }
+
+    fn is_same(&self, path: &str, other: &str) -> io::Result<bool> {
+        Ok(path == other)
+    }
 }
 
-const FOLDER: Folder = Folder {
+pub(crate) const FOLDER: Folder = Folder {
     input: Held {
         bytes: b"func main 0\npush 7\nret\nend\n%\nstep 0\n",
         then: None,
     },
 };
 
-/// Runs the words, and compares the status, what is printed, and that this stands in what is told.
-fn runs<R: Abort + Threads + Wait + Sync>(
+/// Runs the words, and compares the status, what is printed, and what is told: a line that begins
+/// with the program's name is all of it, and other words stand in it.
+pub(crate) fn runs<R: Abort + Threads + Wait + Sync>(
     rt: &R,
     alloc: Global,
     words: &[&str],
@@ -174,14 +206,21 @@ fn runs<R: Abort + Threads + Wait + Sync>(
 ) -> Result<(), Fail> {
     let mut out = Vec::new(alloc);
     let mut err = Vec::new(alloc);
-    let ended = run(rt, alloc, &FOLDER, words, &mut out, &mut err)?;
+    let mut notes = Notes::new(alloc, "sts");
+    let ended = run(rt, alloc, &FOLDER, words, &mut out, &mut err, &mut notes)?;
     assert_eq!(rt;
         str::from_utf8(out.as_slice())?,
         printed,
         "printed at {words:?}"
     );
+    err.extend_from_slice(notes.lines())?;
     let text = str::from_utf8(err.as_slice())?;
-    assert!(rt; text.contains(told), "told at {words:?}: {text}");
+    let is_told = if told.starts_with("sts: ") {
+        text == told
+    } else {
+        text.contains(told)
+    };
+    assert!(rt; is_told, "told at {words:?}: {text}");
     assert_eq!(rt;
         text.is_empty(),
         told.is_empty(),
@@ -208,10 +247,11 @@ fn each_command_prints_its_own_output_once(rt: HostRuntime) -> Result<(), Fail> 
     runs(&rt, alloc, &failed, 1, "failed 7\nsteps 2\n", "")?;
     let refused = ["sts", "replay", "endless.sts", "two.trace"];
     let refusal = "refused V4 in main at 0: jmp L0\n";
-    runs(&rt, alloc, &refused, 4, refusal, "")?;
+    runs(&rt, alloc, &refused, 4, refusal, REFUSED)?;
     runs(&rt, alloc, &["sts"], 5, "running\nsteps 1\n", "")?;
     let bad = ["sts", "plain", "seven.sts", "bad.trace"];
-    runs(&rt, alloc, &bad, 3, "error T1 line 2\n", "")
+    let line = "sts: bad.trace, line 2: \"step\"; ./look explain FILE TRACE says more\n";
+    runs(&rt, alloc, &bad, 3, "error T1 line 2\n", line)
 }
 
 #[test]
@@ -238,92 +278,40 @@ fn run_prints_the_budgets_and_the_end(rt: HostRuntime) -> Result<(), Fail> {
     runs(&rt, alloc, &all, 0, seven.as_str(), "")?;
     let refused = ["sts", "run", "endless.sts", "--workers", "2"];
     let refusal = "refused V4 in main at 0: jmp L0\n";
-    runs(&rt, alloc, &refused, 4, refusal, "")?;
+    runs(&rt, alloc, &refused, 4, refusal, REFUSED)?;
     let none = ["sts", "run", "seven.sts", "--workers", "0"];
     runs(&rt, alloc, &none, 2, "", "from 1 to 16")
 }
 
-/// `run` of a text with an outside text and a trace prints this line alone.
-fn run_fails<R: Abort + Threads + Wait + Sync>(
-    rt: &R,
-    alloc: Global,
-    files: [&str; 3],
-    status: u8,
-    line: &str,
-) -> Result<(), Fail> {
-    let words = [
+/// The end is another one where the outside text isn't used, with a trace and with none.
+#[test]
+fn run_takes_its_outside_events(rt: HostRuntime) -> Result<(), Fail> {
+    let alloc = rt.alloc();
+    let kid = "kid steps 2\nkid tasks 1\nkid scopes 0\nkid binds 0\n";
+    let main = "main steps 9\nmain tasks 2\nmain scopes 1\nmain binds 0\n";
+    let expired = format!(in alloc; "{kid}{main}success 2\nsteps 6\n")?;
+    let untraced = [
         "sts",
         "run",
-        files[0],
+        "timed.sts",
         "--workers",
-        "2",
+        "1",
         "--outside",
-        files[1],
-        "--trace",
-        files[2],
+        "expiry.outside",
     ];
-    runs(rt, alloc, &words, status, line, "")
-}
-
-#[test]
-fn a_run_without_its_files_prints_that_alone(rt: HostRuntime) -> Result<(), Fail> {
-    let alloc = rt.alloc();
-    let no_file = "error file\n";
-    let no_memory = "error memory\n";
-    // FILE first, then the outside text, then the file of the trace.
-    run_fails(
-        &rt,
-        alloc,
-        ["none.sts", "heavy.trace", "heavy.trace"],
-        6,
-        no_file,
-    )?;
-    run_fails(&rt, alloc, ["heavy.sts", "none", "none"], 6, no_memory)?;
-    run_fails(&rt, alloc, ["seven.sts", "none", "heavy.trace"], 6, no_file)?;
-    run_fails(
-        &rt,
-        alloc,
-        ["seven.sts", "heavy.trace", "none"],
-        6,
-        no_memory,
-    )?;
-    run_fails(
-        &rt,
-        alloc,
-        ["seven.sts", "late.outside", "none"],
-        6,
-        no_file,
-    )?;
-    run_fails(
-        &rt,
-        alloc,
-        ["seven.sts", "late.outside", "heavy.trace"],
-        6,
-        no_memory,
-    )?;
-    run_fails(
-        &rt,
-        alloc,
-        ["seven.sts", "late.outside", "full.trace"],
-        6,
-        no_file,
-    )?;
-    // The file of the trace is made before the texts are judged, the outside text before the
-    // verdict.
-    run_fails(
-        &rt,
-        alloc,
-        ["endless.sts", "bad.outside", "none"],
-        6,
-        no_file,
-    )?;
-    run_fails(
-        &rt,
-        alloc,
-        ["endless.sts", "bad.outside", "full.trace"],
-        3,
-        "error T1 line 1\n",
-    )
+    runs(&rt, alloc, &untraced, 0, expired.as_str(), "")?;
+    let traced = [
+        "sts",
+        "run",
+        "timed.sts",
+        "--workers",
+        "1",
+        "--outside",
+        "expiry.outside",
+        "--trace",
+        "new.trace",
+    ];
+    runs(&rt, alloc, &traced, 0, expired.as_str(), "")
 }
 
 #[test]
@@ -358,91 +346,20 @@ fn help_and_mistakes_are_told_and_nothing_is_printed(rt: HostRuntime) -> Result<
 }
 
 #[test]
-fn what_cannot_be_read_is_told_as_what_it_is(rt: HostRuntime) -> Result<(), Fail> {
-    let alloc = rt.alloc();
-    let no_file = "error file\n";
-    let no_memory = "error memory\n";
-    for mode in ["verify", "list"] {
-        runs(&rt, alloc, &["sts", mode, "none.sts"], 6, no_file, "")?;
-        runs(&rt, alloc, &["sts", mode, "unread.sts"], 6, no_file, "")?;
-        runs(&rt, alloc, &["sts", mode, "heavy.sts"], 6, no_memory, "")?;
-        runs(
-            &rt,
-            alloc,
-            &["sts", mode, "heavy_to_open.sts"],
-            6,
-            no_memory,
-            "",
-        )?;
-    }
-    for mode in ["plain", "replay"] {
-        let no_text = ["sts", mode, "none.sts", "two.trace"];
-        runs(&rt, alloc, &no_text, 6, no_file, "")?;
-        let no_trace = ["sts", mode, "seven.sts", "none.trace"];
-        runs(&rt, alloc, &no_trace, 6, no_file, "")?;
-    }
-    runs(
-        &rt,
-        alloc,
-        &["sts", "plain", "seven.sts", "unread.trace"],
-        6,
-        no_file,
-        "",
-    )?;
-    runs(
-        &rt,
-        alloc,
-        &["sts", "plain", "seven.sts", "heavy.trace"],
-        6,
-        no_memory,
-        "",
-    )?;
-    // The text is read before the trace is opened.
-    runs(
-        &rt,
-        alloc,
-        &["sts", "plain", "heavy.sts", "none.trace"],
-        6,
-        no_memory,
-        "",
-    )?;
-    runs(
-        &rt,
-        alloc,
-        &["sts", "plain", "none.sts", "heavy.trace"],
-        6,
-        no_file,
-        "",
-    )
-}
-
-#[test]
-fn an_input_that_fails_is_told_as_what_it_is(rt: HostRuntime) -> Result<(), Fail> {
-    let alloc = rt.alloc();
-    let cases = [
-        (ErrorKind::Other, "error file\n"),
-        (ErrorKind::OutOfMemory, "error memory\n"),
-    ];
-    for (kind, line) in cases {
-        let folder = Folder {
-            input: broken(kind),
-        };
-        let mut out = Vec::new(alloc);
-        let mut err = Vec::new(alloc);
-        let ended = run(&rt, alloc, &folder, &["sts"], &mut out, &mut err)?;
-        assert_eq!(rt; str::from_utf8(out.as_slice())?, line);
-        assert!(rt; err.is_empty());
-        assert_eq!(rt; ended, 6);
-    }
-    Ok(())
-}
-
-#[test]
 fn an_endless_text_is_too_long(rt: HostRuntime) -> Result<(), Fail> {
     let mut out = Vec::new(rt.alloc());
     let mut err = Vec::new(rt.alloc());
     let words = ["sts", "verify", "spaces"];
-    let ended = run(&rt, rt.alloc(), &WithoutEnd, &words, &mut out, &mut err)?;
+    let mut notes = Notes::new(rt.alloc(), "sts");
+    let ended = run(
+        &rt,
+        rt.alloc(),
+        &WithoutEnd,
+        &words,
+        &mut out,
+        &mut err,
+        &mut notes,
+    )?;
     assert_eq!(rt; str::from_utf8(out.as_slice())?, "error A8 line 0\n");
     assert_eq!(rt; ended, 3);
     Ok(())
@@ -479,6 +396,10 @@ impl Sinks for Made<'_> {
     fn create(&self, _path: &str) -> io::Result<io::Sink> {
         Ok(io::sink())
     }
+
+    fn is_same(&self, path: &str, other: &str) -> io::Result<bool> {
+        Ok(path == other)
+    }
 }
 
 /// What mode `plain` prints of these files, and the status.
@@ -491,7 +412,15 @@ fn printed_of<R: Threads + Wait + Sync>(
     let mut out = Vec::new(alloc);
     let mut err = Vec::new(alloc);
     let words = ["sts", "plain", "text", "trace"];
-    let ended = run(rt, alloc, &Made { text, trace }, &words, &mut out, &mut err)?;
+    let ended = run(
+        rt,
+        alloc,
+        &Made { text, trace },
+        &words,
+        &mut out,
+        &mut err,
+        &mut Notes::new(alloc, "sts"),
+    )?;
     Ok((out, ended))
 }
 
@@ -566,11 +495,28 @@ impl Write for Closed {
 fn a_stream_that_is_closed_is_told(rt: HostRuntime) {
     let alloc = rt.alloc();
     let mut rest = Vec::new(alloc);
+    let mut notes = Notes::new(alloc, "sts");
     let verify = ["sts", "verify", "seven.sts"];
-    let ended = run(&rt, alloc, &FOLDER, &verify, &mut Closed, &mut rest);
+    let ended = run(
+        &rt,
+        alloc,
+        &FOLDER,
+        &verify,
+        &mut Closed,
+        &mut rest,
+        &mut notes,
+    );
     assert_eq!(rt; ended, Err(WriteFailed));
     let missing = ["sts", "verify", "none.sts"];
-    let ended = run(&rt, alloc, &FOLDER, &missing, &mut Closed, &mut rest);
+    let ended = run(
+        &rt,
+        alloc,
+        &FOLDER,
+        &missing,
+        &mut Closed,
+        &mut rest,
+        &mut notes,
+    );
     assert_eq!(rt; ended, Err(WriteFailed));
     let ended = run(
         &rt,
@@ -579,9 +525,18 @@ fn a_stream_that_is_closed_is_told(rt: HostRuntime) {
         &["sts", "--help"],
         &mut rest,
         &mut Closed,
+        &mut notes,
     );
     assert_eq!(rt; ended, Err(WriteFailed));
-    let ended = run(&rt, alloc, &FOLDER, &["sts", "x"], &mut rest, &mut Closed);
+    let ended = run(
+        &rt,
+        alloc,
+        &FOLDER,
+        &["sts", "x"],
+        &mut rest,
+        &mut Closed,
+        &mut notes,
+    );
     assert_eq!(rt; ended, Err(WriteFailed));
     assert!(rt; rest.is_empty());
 }
@@ -650,7 +605,15 @@ fn a_word_that_is_no_text_is_a_usage_fault(rt: HostRuntime) -> Result<(), Fail> 
     assert_eq!(rt; had.as_ref().err().copied(), Some(WordsError::NotText));
     let mut out = Vec::new(alloc);
     let mut err = Vec::new(alloc);
-    let ended = run_words(&rt, alloc, &FOLDER, &had, &mut out, &mut err)?;
+    let ended = run_words(
+        &rt,
+        alloc,
+        &FOLDER,
+        &had,
+        &mut out,
+        &mut err,
+        &mut Notes::new(alloc, "sts"),
+    )?;
     assert_eq!(rt; ended, 2);
     assert!(rt; out.is_empty());
     let told = "error: a word of the command line is not UTF-8\n";
@@ -664,7 +627,15 @@ fn words_without_memory_are_told(rt: HostRuntime) -> Result<(), Fail> {
     let mut out = Vec::new(alloc);
     let mut err = Vec::new(alloc);
     let had = Err(WordsError::Memory);
-    let ended = run_words(&rt, alloc, &FOLDER, &had, &mut out, &mut err)?;
+    let ended = run_words(
+        &rt,
+        alloc,
+        &FOLDER,
+        &had,
+        &mut out,
+        &mut err,
+        &mut Notes::new(alloc, "sts"),
+    )?;
     assert_eq!(rt; ended, 6);
     assert!(rt; err.is_empty());
     assert_eq!(rt; str::from_utf8(out.as_slice())?, "error memory\n");
@@ -678,7 +649,15 @@ fn words_that_were_had_are_run(rt: HostRuntime) -> Result<(), Fail> {
     let had = words(&Started { words: &given }, alloc, NAME);
     let mut out = Vec::new(alloc);
     let mut err = Vec::new(alloc);
-    let ended = run_words(&rt, alloc, &FOLDER, &had, &mut out, &mut err)?;
+    let ended = run_words(
+        &rt,
+        alloc,
+        &FOLDER,
+        &had,
+        &mut out,
+        &mut err,
+        &mut Notes::new(alloc, "sts"),
+    )?;
     assert_eq!(rt; ended, 1);
     assert_eq!(rt; str::from_utf8(out.as_slice())?, "failed 7\nsteps 2\n");
     Ok(())

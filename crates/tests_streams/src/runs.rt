@@ -7,8 +7,8 @@ use std::sync::Wait;
 use std::test::Fail;
 use std::thread::Threads;
 use std::{io, str};
-use sts_cli::play::{play, play_run};
-use sts_output::mode::Mode;
+use sts_cli::{play, play_run};
+use sts_output::Mode;
 
 const SQUARES: &str = "func work 1\nload 0\npush 2\nmul\nret\nend\nfunc main 0\nopen s0 all\n\
     push 20\nfork s0 work s1\npush 1\nfork s0 work s2\njoin s0 bad - intr\npop\nget s1\nget s2\n\

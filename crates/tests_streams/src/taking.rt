@@ -3,7 +3,7 @@
 use std::io;
 use std::io::{ErrorKind, Read};
 use std::test::Fail;
-use sts_output::taking::{TakeError, take};
+use sts_output::{TakeError, take};
 
 #[test]
 fn a_short_reader_is_taken_whole(rt: HostRuntime) -> Result<(), Fail> {

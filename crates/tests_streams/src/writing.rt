@@ -3,9 +3,8 @@
 use std::io;
 use std::io::{ErrorKind, Write};
 use std::test::Fail;
-use sts_cli::WriteFailed;
-use sts_cli::play::play;
-use sts_output::mode::Mode;
+use sts_cli::{WriteFailed, play};
+use sts_output::Mode;
 
 /// Takes a byte at each write, and fails once it took so many.
 #[derive(Drop)]

@@ -4,12 +4,11 @@ use crate::texts::{SEVEN, TIMED, TURNS, accepted};
 use std::alloc::Global;
 use std::process::Abort;
 use std::test::Fail;
-use sts_machine::slice::Slice;
-use sts_machine::turned::Turned;
-use sts_machine::turned::Turned::{Idle, Stepped};
-use sts_model::event::{End, Event};
+use sts_machine::Turned::{Idle, Stepped};
+use sts_machine::{Slice, Turned};
+use sts_model::{End, Event};
 use sts_pool::Book;
-use sts_verify::verified::Verified;
+use sts_verify::Verified;
 
 /// Which of the two books.
 #[derive(Clone, Copy, Debug)]

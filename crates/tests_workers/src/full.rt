@@ -2,8 +2,8 @@
 
 use crate::texts::{SEVEN, accepted};
 use std::test::Fail;
-use sts_machine::turned::Turned;
-use sts_model::event::{End, Event};
+use sts_machine::Turned;
+use sts_model::{End, Event};
 use sts_pool::{Book, OutsideFull};
 
 /// After 4,096 outside events a book refuses one more, and its task goes on.

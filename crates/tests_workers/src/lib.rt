@@ -10,6 +10,8 @@ mod meeting;
 #[cfg(test)]
 mod outsides;
 #[cfg(test)]
+mod paths;
+#[cfg(test)]
 mod replayed;
 #[cfg(test)]
 mod runs;

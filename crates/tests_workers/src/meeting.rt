@@ -3,27 +3,60 @@
 ghost use Rattle.std.specs.Prelude.{IfSome};
 
 use crate::outsides::Weather;
+use crate::paths::{PATHS, ending};
 use crate::replayed::replays;
-use crate::texts::{DOUBLES, TIMED, accepted};
+use crate::texts::{DOUBLES, GREETED, LOOP, TIMED, WIDE, accepted};
 use std::sync::atomic::{AtomicU64, Ordering};
 use std::test::Fail;
 use std::thread;
-use sts_model::event::{End, Event};
+use sts_model::{End, Event};
 use sts_pool::{Gate, Outside, run};
 
 /// How often a worker that is held looks whether it may go on.
 const LOOKS: u32 = 10_000_000;
 
-/// Holds each worker that enters for a subtask until both have.
+fn zero() -> AtomicU64 {
+    AtomicU64::new(0)
+}
+
+/// Holds each worker that enters for a subtask until as many have.
 #[derive(Drop)]
 struct Meeting {
-    entered: [AtomicU64; 2],
+    workers: u64,
+    entered: [AtomicU64; 16],
 }
 
 impl Meeting {
+    fn of(workers: u64) -> Meeting {
+        Meeting {
+            workers,
+            entered: [
+                zero(),
+                zero(),
+                zero(),
+                zero(),
+                zero(),
+                zero(),
+                zero(),
+                zero(),
+                zero(),
+                zero(),
+                zero(),
+                zero(),
+                zero(),
+                zero(),
+                zero(),
+                zero(),
+            ],
+        }
+    }
+
     fn has_met(&self) -> bool {
-        let [first, second] = &self.entered;
-        first.load(Ordering::SeqCst) != 0 && second.load(Ordering::SeqCst) != 0
+        let mut came = 0u64;
+        for entered in &self.entered {
+            came = came.saturating_add(entered.load(Ordering::SeqCst));
+        }
+        came >= self.workers
     }
 }
 
@@ -32,7 +65,7 @@ impl Gate for Meeting {
         if task == 0 {
             return;
         }
-        self.entered[(worker % 2) as usize].store(1, Ordering::SeqCst);
+        self.entered[(worker % 16) as usize].store(1, Ordering::SeqCst);
         for _ in 0..LOOKS {
             if self.has_met() {
                 break;
@@ -46,8 +79,23 @@ impl Gate for Meeting {
 #[derive(Drop)]
 struct Herald<'g> {
     meeting: &'g Meeting,
+    before: u32,
+    after: u32,
     asked: bool,
     told: bool,
+}
+
+impl<'g> Herald<'g> {
+    /// One that interrupts these two tasks.
+    fn of(meeting: &'g Meeting, before: u32, after: u32) -> Herald<'g> {
+        Herald {
+            meeting,
+            before,
+            after,
+            asked: false,
+            told: false,
+        }
+    }
 }
 
 impl Outside for Herald<'_> {
@@ -56,7 +104,7 @@ impl Outside for Herald<'_> {
         self.asked = true;
         if !self.meeting.has_met() {
             return if first {
-                Some(Event::Interrupt(76))
+                Some(Event::Interrupt(self.before))
             } else {
                 None
             };
@@ -65,7 +113,7 @@ impl Outside for Herald<'_> {
             return None;
         }
         self.told = true;
-        Some(Event::Interrupt(77))
+        Some(Event::Interrupt(self.after))
     }
 }
 
@@ -79,14 +127,8 @@ fn count(journal: &[Event], event: Event) -> usize {
 #[test]
 fn two_workers_meet(rt: HostRuntime) -> Result<(), Fail> {
     let verified = accepted(rt.alloc(), DOUBLES)?;
-    let meeting = Meeting {
-        entered: [AtomicU64::new(0), AtomicU64::new(0)],
-    };
-    let herald = Herald {
-        meeting: &meeting,
-        asked: false,
-        told: false,
-    };
+    let meeting = Meeting::of(2);
+    let herald = Herald::of(&meeting, 76, 77);
     let report = run(&rt, rt.alloc(), &verified, 2, &meeting, herald)?;
     assert!(rt; meeting.has_met());
     assert_eq!(rt; report.end, End::Success(42));
@@ -94,6 +136,43 @@ fn two_workers_meet(rt: HostRuntime) -> Result<(), Fail> {
     let journal = report.journal.as_slice();
     assert_eq!(rt; count(journal, Event::Interrupt(76)), 1);
     assert_eq!(rt; count(journal, Event::Interrupt(77)), 1);
+    Ok(())
+}
+
+/// The same where the end tells of both events, so that no journal is needed.
+#[test]
+fn two_workers_meet_and_the_end_tells_of_it(rt: HostRuntime) -> Result<(), Fail> {
+    let verified = accepted(rt.alloc(), GREETED)?;
+    for path in PATHS {
+        let meeting = Meeting::of(2);
+        let herald = Herald::of(&meeting, 0, 0);
+        let ended = ending(&rt, rt.alloc(), path, &verified, 2, &meeting, herald)?;
+        assert!(rt; meeting.has_met(), "{path:?}");
+        assert_eq!(rt; ended.end, End::Success(11), "{path:?}");
+    }
+    Ok(())
+}
+
+/// As many workers as are asked for each hold a subtask at once.
+#[test]
+fn all_workers_meet(rt: HostRuntime) -> Result<(), Fail> {
+    let verified = accepted(rt.alloc(), WIDE)?;
+    for path in PATHS {
+        for workers in [1, 2, 3, 5, 16] {
+            let meeting = Meeting::of(u64::from(workers));
+            let ended = ending(
+                &rt,
+                rt.alloc(),
+                path,
+                &verified,
+                workers,
+                &meeting,
+                Weather::Calm,
+            )?;
+            assert!(rt; meeting.has_met(), "{workers} workers, {path:?}");
+            assert_eq!(rt; ended.end, End::Success(1), "{workers} workers, {path:?}");
+        }
+    }
     Ok(())
 }
 
@@ -121,12 +200,30 @@ impl Gate for Holding {
 #[test]
 fn out_is_out(rt: HostRuntime) -> Result<(), Fail> {
     let verified = accepted(rt.alloc(), TIMED)?;
-    let holding = Holding {
-        entries: AtomicU64::new(0),
-    };
-    let report = run(&rt, rt.alloc(), &verified, 2, &holding, Weather::Calm)?;
-    assert_eq!(rt; report.end, End::Success(1));
-    replays(&rt, rt.alloc(), &verified, &report)?;
-    assert_eq!(rt; holding.entries.load(Ordering::SeqCst), 1);
+    for path in PATHS {
+        let holding = Holding {
+            entries: AtomicU64::new(0),
+        };
+        let ended = ending(&rt, rt.alloc(), path, &verified, 2, &holding, Weather::Calm)?;
+        assert_eq!(rt; ended.end, End::Success(1), "{path:?}");
+        assert_eq!(rt; holding.entries.load(Ordering::SeqCst), 1, "{path:?}");
+    }
+    Ok(())
+}
+
+/// A subtask of fifty thousand steps of its own is worked on once under the lock and once with none:
+/// slices that do nothing, or fewer instructions, come to the gate again.
+#[test]
+fn a_long_subtask_is_out_once(rt: HostRuntime) -> Result<(), Fail> {
+    let verified = accepted(rt.alloc(), LOOP)?;
+    for path in PATHS {
+        let holding = Holding {
+            entries: AtomicU64::new(0),
+        };
+        let ended = ending(&rt, rt.alloc(), path, &verified, 2, &holding, Weather::Calm)?;
+        assert_eq!(rt; ended.end, End::Success(10_000), "{path:?}");
+        assert_eq!(rt; ended.steps, 50_011, "{path:?}");
+        assert_eq!(rt; holding.entries.load(Ordering::SeqCst), 2, "{path:?}");
+    }
     Ok(())
 }

@@ -1,9 +1,9 @@
 //! Gates and outsides of worked rows.
 
-ghost use Rattle.std.specs.Prelude.{◌≡◌};
+ghost use Rattle.std.specs.Prelude.{◌≡◌, IfSome};
 
 use std::sync::atomic::{AtomicU64, Ordering};
-use sts_model::event::Event;
+use sts_model::Event;
 use sts_pool::{Gate, Outside};
 
 /// Lets each worker in.
@@ -20,8 +20,11 @@ pub enum Weather {
     Calm,
     /// An interrupt of this task, whenever there is room for it.
     Storm { task: u32 },
-    /// An expiry of this scope, once the journal has so many entries.
-    Due { at: u64, scope: u32 },
+    /// An interrupt of this task before the first step.
+    Gust { task: u32 },
+    /// So many interrupts of no task, and then an expiry of this scope, once the journal has so many
+    /// entries.
+    Due { idle: u32, at: u64, scope: u32 },
 }
 
 impl Weather {
@@ -30,7 +33,12 @@ impl Weather {
         match self {
             Weather::Calm => 0,
             Weather::Storm { task: _ } => 4096,
-            Weather::Due { at: _, scope: _ } => 1,
+            Weather::Gust { task: _ } => 1,
+            Weather::Due {
+                idle,
+                at: _,
+                scope: _,
+            } => u64::from(idle).saturating_add(1),
         }
     }
 }
@@ -40,11 +48,48 @@ impl Outside for Weather {
         match *self {
             Weather::Calm => None,
             Weather::Storm { task } => Some(Event::Interrupt(task)),
-            Weather::Due { at, scope: _ } if journal_length < at => None,
-            Weather::Due { at: _, scope } => {
+            Weather::Gust { task } => {
+                *self = Weather::Calm;
+                Some(Event::Interrupt(task))
+            }
+            Weather::Due { idle, at, scope } if idle > 0 => {
+                *self = Weather::Due {
+                    idle: idle - 1,
+                    at,
+                    scope,
+                };
+                Some(Event::Interrupt(77))
+            }
+            Weather::Due {
+                idle: _,
+                at,
+                scope: _,
+            } if journal_length < at => None,
+            Weather::Due {
+                idle: _,
+                at: _,
+                scope,
+            } => {
                 *self = Weather::Calm;
                 Some(Event::Expire(scope))
             }
         }
+    }
+}
+
+/// What comes of a weather, and how many events came.
+#[derive(Drop)]
+pub struct Counted<'g> {
+    pub weather: Weather,
+    pub came: &'g AtomicU64,
+}
+
+impl Outside for Counted<'_> {
+    fn next(&mut self, journal_length: u64) -> Option<Event> {
+        let event = self.weather.next(journal_length);
+        if event.is_some() {
+            self.came.fetch_add(1, Ordering::SeqCst);
+        }
+        event
     }
 }

@@ -3,9 +3,9 @@
 use std::alloc::Global;
 use std::process::Abort;
 use std::test::Fail;
-use sts_machine::runs::replay;
+use sts_machine::replay;
 use sts_pool::Report;
-use sts_verify::verified::Verified;
+use sts_verify::Verified;
 
 /// The reported journal leads to the reported end, in the reported steps.
 pub fn replays<R: Abort>(

@@ -1,15 +1,15 @@
 //! Runs with several workers, and their journals replayed.
 
 use crate::outsides::{Open, Weather};
-use crate::replayed::replays;
-use crate::texts::{BOUND, DOUBLES, LOOPED, SEVEN, THOUSAND, TIMED, TURNS, accepted};
+use crate::paths::{Path, ending};
+use crate::texts::{BOUND, DOUBLES, LATE, LOOPED, SEVEN, THOUSAND, TIMED, TURNS, accepted};
 use std::alloc::Global;
 use std::process::Abort;
 use std::sync::Wait;
 use std::test::Fail;
 use std::thread::Threads;
-use sts_model::event::End;
-use sts_pool::{run, run_unwritten};
+use sts_model::End;
+use sts_pool::run;
 
 /// With so many workers each text runs.
 static WORKERS: [u32; 4] = [1, 2, 8, 16];
@@ -23,7 +23,7 @@ struct Run {
     steps: Option<u64>,
 }
 
-static RUNS: [Run; 10] = [
+static RUNS: [Run; 13] = [
     Run {
         text: SEVEN,
         weather: Weather::Calm,
@@ -62,14 +62,50 @@ static RUNS: [Run; 10] = [
     },
     Run {
         text: TIMED,
-        weather: Weather::Due { at: 1, scope: 0 },
+        weather: Weather::Due {
+            idle: 0,
+            at: 1,
+            scope: 0,
+        },
         ends: &[End::Success(2)],
         steps: Some(6),
+    },
+    // five entries that are idle and the first step are six
+    Run {
+        text: TIMED,
+        weather: Weather::Due {
+            idle: 5,
+            at: 6,
+            scope: 0,
+        },
+        ends: &[End::Success(2)],
+        steps: Some(6),
+    },
+    // it comes while the subtask makes its own steps; a close that waits takes one step more
+    Run {
+        text: LATE,
+        weather: Weather::Due {
+            idle: 0,
+            at: 70_000,
+            scope: 0,
+        },
+        ends: &[End::Success(2)],
+        steps: None,
+    },
+    Run {
+        text: TIMED,
+        weather: Weather::Gust { task: 0 },
+        ends: &[End::Failed(0)],
+        steps: None,
     },
     // what is due when the root ends is recorded behind its last step
     Run {
         text: SEVEN,
-        weather: Weather::Due { at: 2, scope: 0 },
+        weather: Weather::Due {
+            idle: 0,
+            at: 2,
+            scope: 0,
+        },
         ends: &[End::Success(7)],
         steps: Some(2),
     },
@@ -87,7 +123,7 @@ static RUNS: [Run; 10] = [
     },
 ];
 
-/// Runs a text with so many workers.
+/// Runs a text with so many workers, its journal written.
 fn ends<R: Abort + Threads + Wait + Sync>(
     rt: &R,
     alloc: Global,
@@ -98,58 +134,64 @@ fn ends<R: Abort + Threads + Wait + Sync>(
     let name = row.text;
     let verified = accepted(alloc, name)?;
     let report = run(rt, alloc, &verified, workers, &Open, row.weather)?;
-    assert!(rt;
-        row.ends.contains(&report.end),
-        "{workers} workers end {name:?}"
-    );
-    replays(rt, alloc, &verified, &report)?;
-    let steps = row.steps.unwrap_or(report.steps);
-    assert_eq!(rt; report.steps, steps, "{workers} workers step {name:?}");
     let entries = report.journal.len() as u64;
     assert_eq!(rt;
         entries,
-        steps.saturating_add(row.weather.entries()),
+        report.steps.saturating_add(row.weather.entries()),
         "{workers} workers tell {name:?}"
     );
     Ok(())
 }
 
-/// Runs a text with so many workers and no journal.
-fn ends_unwritten<R: Abort + Threads + Wait + Sync>(
+/// Runs a text with so many workers on a path.
+fn ends_on<R: Abort + Threads + Wait + Sync>(
     rt: &R,
     alloc: Global,
+    path: Path,
     row: &Run,
     workers: u32,
 ) -> Result<(), Fail> {
-    assert!(rt; 1 <= workers && workers <= 16);
     let name = row.text;
     let verified = accepted(alloc, name)?;
-    let ending = run_unwritten(rt, alloc, &verified, workers, &Open, row.weather)?;
+    let ended = ending(rt, alloc, path, &verified, workers, &Open, row.weather)?;
     assert!(rt;
-        row.ends.contains(&ending.end),
-        "{workers} workers end {name:?} with no journal"
+        row.ends.contains(&ended.end),
+        "{workers} workers end {name:?}, {path:?}"
     );
-    let steps = row.steps.unwrap_or(ending.steps);
+    let steps = row.steps.unwrap_or(ended.steps);
     assert_eq!(rt;
-        ending.steps,
+        ended.steps,
         steps,
-        "{workers} workers step {name:?} with no journal"
+        "{workers} workers step {name:?}, {path:?}"
     );
     Ok(())
 }
 
-#[test]
-fn runs_end_alike_with_no_journal(rt: HostRuntime) -> Result<(), Fail> {
+fn all_end<R: Abort + Threads + Wait + Sync>(
+    rt: &R,
+    alloc: Global,
+    path: Path,
+) -> Result<(), Fail> {
     for row in &RUNS {
         for workers in &WORKERS {
-            ends_unwritten(&rt, rt.alloc(), row, *workers)?;
+            ends_on(rt, alloc, path, row, *workers)?;
         }
     }
     Ok(())
 }
 
 #[test]
+fn runs_end_alike_with_no_journal(rt: HostRuntime) -> Result<(), Fail> {
+    all_end(&rt, rt.alloc(), Path::Unwritten)
+}
+
+#[test]
 fn runs_end_with_any_number_of_workers(rt: HostRuntime) -> Result<(), Fail> {
+    all_end(&rt, rt.alloc(), Path::Written)
+}
+
+#[test]
+fn journals_have_the_steps_and_what_came_from_outside(rt: HostRuntime) -> Result<(), Fail> {
     for row in &RUNS {
         for workers in &WORKERS {
             ends(&rt, rt.alloc(), row, *workers)?;

@@ -3,12 +3,12 @@
 ghost use Rattle.std.specs.Prelude.{IfSome};
 
 use crate::outsides::{Open, Weather};
-use crate::replayed::replays;
-use crate::texts::{LOOPS, accepted};
+use crate::paths::{PATHS, ending};
+use crate::texts::{LOOPS, SHORT_THEN_LONG, accepted};
 use std::sync::atomic::{AtomicU64, Ordering};
 use std::test::Fail;
-use sts_model::event::{End, Event};
-use sts_pool::{Gate, Outside, run};
+use sts_model::{End, Event};
+use sts_pool::{Gate, Outside};
 
 /// How often a worker that is held looks whether it may go on.
 const LOOKS: u32 = 1_000_000_000;
@@ -36,16 +36,17 @@ impl Outside for Leaps<'_> {
 #[test]
 fn steps_of_a_slice_come_at_once(rt: HostRuntime) -> Result<(), Fail> {
     let verified = accepted(rt.alloc(), LOOPS)?;
-    let greatest = AtomicU64::new(0);
-    let leaps = Leaps {
-        greatest: &greatest,
-        last: 0,
-    };
-    let report = run(&rt, rt.alloc(), &verified, 1, &Open, leaps)?;
-    assert_eq!(rt; report.end, End::Success(20_000));
-    assert_eq!(rt; report.steps, 100_017);
-    replays(&rt, rt.alloc(), &verified, &report)?;
-    assert!(rt; greatest.load(Ordering::SeqCst) >= 1024);
+    for path in PATHS {
+        let greatest = AtomicU64::new(0);
+        let leaps = Leaps {
+            greatest: &greatest,
+            last: 0,
+        };
+        let ended = ending(&rt, rt.alloc(), path, &verified, 1, &Open, leaps)?;
+        assert_eq!(rt; ended.end, End::Success(20_000), "{path:?}");
+        assert_eq!(rt; ended.steps, 100_017, "{path:?}");
+        assert!(rt; greatest.load(Ordering::SeqCst) >= 1024, "{path:?}");
+    }
     Ok(())
 }
 
@@ -87,14 +88,69 @@ impl Gate for Both {
 #[test]
 fn two_slices_are_out_at_once(rt: HostRuntime) -> Result<(), Fail> {
     let verified = accepted(rt.alloc(), LOOPS)?;
-    let both = Both {
-        entries: [AtomicU64::new(0), AtomicU64::new(0)],
-        missed: AtomicU64::new(0),
-    };
-    let report = run(&rt, rt.alloc(), &verified, 2, &both, Weather::Calm)?;
-    assert_eq!(rt; report.end, End::Success(20_000));
-    replays(&rt, rt.alloc(), &verified, &report)?;
-    assert!(rt; both.has_second(0) && both.has_second(1));
-    assert_eq!(rt; both.missed.load(Ordering::SeqCst), 0);
+    for path in PATHS {
+        let both = Both {
+            entries: [AtomicU64::new(0), AtomicU64::new(0)],
+            missed: AtomicU64::new(0),
+        };
+        let ended = ending(&rt, rt.alloc(), path, &verified, 2, &both, Weather::Calm)?;
+        assert_eq!(rt; ended.end, End::Success(20_000), "{path:?}");
+        assert!(rt; both.has_second(0) && both.has_second(1), "{path:?}");
+        assert_eq!(rt; both.missed.load(Ordering::SeqCst), 0, "{path:?}");
+    }
+    Ok(())
+}
+
+/// Holds the third entry for the two long subtasks, and each after it, until another worker than the
+/// first has entered for one of them.
+#[derive(Drop)]
+struct Return {
+    first: AtomicU64,
+    entries: AtomicU64,
+    has_other: AtomicU64,
+    missed: AtomicU64,
+}
+
+impl Gate for Return {
+    fn enter(&self, worker: u32, task: u32) {
+        if task < 101 {
+            return;
+        }
+        let worker = u64::from(worker);
+        if self.entries.fetch_add(1, Ordering::SeqCst) == 0 {
+            self.first.store(worker, Ordering::SeqCst);
+        }
+        if self.first.load(Ordering::SeqCst) != worker {
+            self.has_other.store(1, Ordering::SeqCst);
+        }
+        if self.entries.load(Ordering::SeqCst) < 3 || self.missed.load(Ordering::SeqCst) != 0 {
+            return;
+        }
+        for _ in 0..LOOKS {
+            if self.has_other.load(Ordering::SeqCst) != 0 {
+                return;
+            }
+        }
+        self.missed.store(1, Ordering::SeqCst);
+    }
+}
+
+/// After a row of short scopes one worker is enough, and the others sleep. A slice that is worth it
+/// brings another one back.
+#[test]
+fn workers_come_back_to_long_subtasks(rt: HostRuntime) -> Result<(), Fail> {
+    let verified = accepted(rt.alloc(), SHORT_THEN_LONG)?;
+    for path in PATHS {
+        let back = Return {
+            first: AtomicU64::new(0),
+            entries: AtomicU64::new(0),
+            has_other: AtomicU64::new(0),
+            missed: AtomicU64::new(0),
+        };
+        let ended = ending(&rt, rt.alloc(), path, &verified, 2, &back, Weather::Calm)?;
+        assert_eq!(rt; ended.end, End::Success(3), "{path:?}");
+        assert_eq!(rt; back.missed.load(Ordering::SeqCst), 0, "{path:?}");
+        assert_eq!(rt; back.has_other.load(Ordering::SeqCst), 1, "{path:?}");
+    }
     Ok(())
 }

@@ -3,7 +3,7 @@
 use std::alloc::Global;
 use std::test::Fail;
 use sts_asm::assemble;
-use sts_verify::verified::{Verified, verify};
+use sts_verify::{Verified, verify};
 
 /// Seven.
 pub const SEVEN: &str = "func main 0\npush 7\nret\nend\n";
@@ -67,6 +67,56 @@ pub const LOOPS: &str = "\
     get s1\nget s2\nadd\nclose s0\nret\n\
     bad:\nclose s0\nfail\n\
     intr:\npush 0\nclose s0\nfail\nend\n\
+";
+
+/// A subtask with a loop of fifty thousand steps of its own.
+pub const LOOP: &str = "\
+    func work 0\npush 10000\ntimes 10000\nload 0\npush 1\nadd\nstore 0\nnext\nload 0\nret\nend\n\
+    func main 0\nopen s0 all\nfork s0 work s1\njoin s0 bad - intr\n\
+    pop\nget s1\nclose s0\nret\n\
+    bad:\nclose s0\nfail\n\
+    intr:\npush 0\nclose s0\nfail\nend\n\
+";
+
+/// A scope with a timeout, and one subtask that makes two hundred thousand steps.
+pub const LATE: &str = "\
+    func kid 0\npush 4\ntimes 4\npush 10000\ntimes 10000\nload 0\npush 1\nadd\nstore 0\nnext\nnext\n\
+    load 0\nret\nend\n\
+    func main 0\nopen s0 awaitall timed\nfork s0 kid _\njoin s0 - late intr\n\
+    close s0\npush 1\nret\n\
+    late:\nclose s0\npush 2\nret\n\
+    intr:\npush 0\nclose s0\nfail\nend\n\
+";
+
+/// Two subtasks. `main` gives 1 where it was interrupted before its first step, and 10 more where it
+/// was interrupted while it waited for them.
+pub const GREETED: &str = "\
+    func kid 0\npush 0\nret\nend\n\
+    func main 0\ninterrupted\nstore 0\nopen s0 awaitall\nfork s0 kid _\nfork s0 kid _\njoin s0 - - intr\n\
+    close s0\nload 0\nret\n\
+    intr:\nclose s0\nload 0\npush 10\nadd\nret\nend\n\
+";
+
+/// Sixteen subtasks of one scope.
+pub const WIDE: &str = "\
+    func kid 0\npush 0\nret\nend\n\
+    func main 0\nopen s0 awaitall\npush 16\ntimes 16\nfork s0 kid _\nnext\njoin s0 - - intr\n\
+    close s0\npush 1\nret\n\
+    intr:\npush 0\nclose s0\nfail\nend\n\
+";
+
+/// A hundred scopes one after the other, each with one short subtask (1 to 100), and then two
+/// subtasks with two hundred thousand steps each (101 and 102).
+pub const SHORT_THEN_LONG: &str = "\
+    func kid 0\npush 0\nret\nend\n\
+    func work 0\npush 4\ntimes 4\npush 10000\ntimes 10000\nload 0\npush 1\nadd\nstore 0\nnext\nnext\n\
+    load 0\nret\nend\n\
+    func main 0\npush 100\ntimes 100\nopen s0 awaitall\nfork s0 kid _\njoin s0 - - intr\n\
+    close s0\njmp go\n\
+    intr:\nclose s0\n\
+    go:\nnext\nopen s0 awaitall\nfork s0 work _\nfork s0 work _\njoin s0 - - stop\n\
+    close s0\npush 3\nret\n\
+    stop:\npush 0\nclose s0\nfail\nend\n\
 ";
 
 /// The program of a text.

@@ -9,15 +9,13 @@ ghost use Rattle.sts_output.specs.Output as def;
 
 use std::alloc::{AllocError, Global};
 use sts_asm::assemble;
-use sts_code::program::Program;
-use sts_machine::runs::replay;
-use sts_model::event::{End, Event};
-use sts_output::output;
-use sts_output::output::Output;
-use sts_output::refusal::accepted;
-use sts_plain::misstep::PlainState;
+use sts_code::Program;
+use sts_machine::replay;
+use sts_model::{End, Event};
+use sts_output::{Output, accepted, output};
+use sts_plain::PlainState;
 use sts_trace::read_trace;
-use sts_verify::verified::Verified;
+use sts_verify::Verified;
 
 /// How a machine stands that comes to no fault.
 fn state_of(root_end: Option<End>) -> PlainState

@@ -12,15 +12,12 @@ use std::marker::Model;
 use std::sync::Wait;
 use std::thread::Threads;
 use sts_asm::assemble;
-use sts_code::program::Program;
-use sts_model::event::Event;
-use sts_output::modes::verify;
-use sts_output::output::Output;
-use sts_output::refusal::accepted;
-use sts_output::{output, printed};
+use sts_code::Program;
+use sts_model::Event;
+use sts_output::{Output, accepted, output, printed, verify};
 use sts_pool::{Ending, Gate, PoolError, Report, run, run_unwritten};
 use sts_trace::read_outside;
-use sts_verify::verified::Verified;
+use sts_verify::Verified;
 
 /// How a program is run: by 1 to 16 workers, and with its journal kept or not.
 #[derive(Clone, Copy)]
@@ -77,11 +74,16 @@ fn report<R: Threads + Wait + Sync>(
     if manner.kept {
         return run(rt, alloc, verified, manner.workers, &Open, dues);
     }
-    let Ending { end, steps } = run_unwritten(rt, alloc, verified, manner.workers, &Open, dues)?;
+    let Ending {
+        end,
+        steps,
+        workers,
+    } = run_unwritten(rt, alloc, verified, manner.workers, &Open, dues)?;
     Ok(Report {
         end,
         journal: Vec::new(alloc),
         steps,
+        workers,
     })
 }
 

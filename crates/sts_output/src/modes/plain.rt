@@ -9,9 +9,9 @@ use crate::output;
 use crate::output::Output;
 use std::alloc::{AllocError, Global};
 use sts_asm::assemble;
-use sts_code::program::Program;
-use sts_model::event::Event;
-use sts_plain::plain::Plain;
+use sts_code::Program;
+use sts_model::Event;
+use sts_plain::Plain;
 use sts_trace::read_trace;
 
 /// Runs the events on the plain machine.

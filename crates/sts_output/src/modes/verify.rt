@@ -10,9 +10,9 @@ use crate::refusal::accepted;
 use crate::{output, printed};
 use std::alloc::{AllocError, Global};
 use sts_asm::assemble;
-use sts_code::program::Program;
-use sts_rules::budget::Budgets;
-use sts_verify::verified::Verified;
+use sts_code::Program;
+use sts_rules::Budgets;
+use sts_verify::Verified;
 
 /// The budgets of the functions, in order.
 fn all_budgets(alloc: Global, verified: &Verified) -> Result<Vec<Budgets>, AllocError>

@@ -7,7 +7,7 @@ static OPERANDS_AND_WAYS: [Row; 5] = [
     Row {
         name: "fewer operands than are popped",
         text: &[Part(1, "func main 0 / pop / push 0 / ret / end")],
-        lines: "refused V1 in main, line 2: pop / it pops more operands than there are here",
+        lines: "refused V1 in main, line 2: pop / this needs more operands than the stack has here",
         status: 4,
     },
     Row {
@@ -23,19 +23,19 @@ static OPERANDS_AND_WAYS: [Row; 5] = [
     Row {
         name: "a function without an end",
         text: &[Part(1, "func main 0 / push 1 / end")],
-        lines: "refused V3 in main, line 2: push 1 / it leads behind the last instruction of the function: a ret or a fail is missing",
+        lines: "refused V3 in main, line 2: push 1 / this runs past the end of the function: add ret or fail",
         status: 4,
     },
     Row {
         name: "a label that stands before",
         text: &[Part(1, "func main 0 / x: / jmp   x  ; again / end")],
-        lines: "refused V4 in main, line 3: jmp x / it names an instruction that isn't a later one: only next goes back",
+        lines: "refused V4 in main, line 3: jmp x / a label here must come later: only next goes back",
         status: 4,
     },
     Row {
         name: "no way leads there",
         text: &[Part(1, "func main 0 / jmp x / push 1 / x: / push 2 / ret / end")],
-        lines: "refused V8 in main, line 3: push 1 / no way leads here",
+        lines: "refused V8 in main, line 3: push 1 / this can never be reached",
         status: 4,
     },
 ];
@@ -47,7 +47,7 @@ static LOOPS_AND_SLOTS: [Row; 5] = [
             1,
             "func main 0 / push 2 / times 2 / jmp out / next / out: / push 0 / ret / end",
         )],
-        lines: "refused V5 in main, line 4: jmp out / a times without its next, a next without its times, or a way into a loop or out of it",
+        lines: "refused V5 in main, line 4: jmp out / this enters or leaves a loop in the middle: leave it by its end, by ret or by fail",
         status: 4,
     },
     Row {
@@ -58,13 +58,13 @@ static LOOPS_AND_SLOTS: [Row; 5] = [
             Part(9, "next"),
             Part(1, "push 0 / ret / end"),
         ],
-        lines: "refused V6 in main, line 19: times 1 / 8 loops are open here, and it would open a ninth",
+        lines: "refused V6 in main, line 19: times 1 / 8 loops are open here, and this would open a ninth",
         status: 4,
     },
     Row {
         name: "no scope",
         text: &[Part(1, "func main 0 / close s0 / push 1 / ret / end")],
-        lines: "refused V9 in main, line 2: close s0 / a slot that it names doesn't hold what it is about: a scope, or a subtask",
+        lines: "refused V9 in main, line 2: close s0 / this slot holds no scope: open one there first",
         status: 4,
     },
     Row {
@@ -73,7 +73,7 @@ static LOOPS_AND_SLOTS: [Row; 5] = [
             1,
             "func main 0 / open s0 awaitall / open s0 awaitall / join s0 - - intr / close s0 / push 1 / ret / intr: / push 0 / close s0 / fail / end",
         )],
-        lines: "refused V10 in main, line 3: open s0 awaitall / the slot that it fills isn't empty: forget or close what it holds, or take another",
+        lines: "refused V10 in main, line 3: open s0 awaitall / this slot holds an open scope: close it first, or take another slot",
         status: 4,
     },
     Row {
@@ -82,7 +82,7 @@ static LOOPS_AND_SLOTS: [Row; 5] = [
             1,
             "func kid 0 / join s0 - - x / x: / push 0 / ret / end / func main 0 / open s0 awaitall / fork s0 kid _ / join s0 - - intr / close s0 / push 1 / ret / intr: / push 0 / close s0 / fail / end",
         )],
-        lines: "refused V11 in kid, line 2: join s0 - - x / the scope is the one that this function is a subtask of: only its owner may do this",
+        lines: "refused V11 in kid, line 2: join s0 - - x / this slot holds the scope of the task that forked this one: only that task may do this",
         status: 4,
     },
 ];
@@ -94,13 +94,13 @@ static SCOPES_AND_BINDINGS: [Row; 8] = [
             1,
             "func main 0 / open s0 awaitall / close s0 / push 1 / ret / end",
         )],
-        lines: "refused V12 in main, line 3: close s0 / a scope has forks, then join, then close; an end is read where join or case tells it",
+        lines: "refused V12 in main, line 3: close s0 / join this scope before you close it",
         status: 4,
     },
     Row {
         name: "a scope is open at ret",
         text: &[Part(1, "func main 0 / open s0 awaitall / push 1 / ret / end")],
-        lines: "refused V13 in main, line 4: ret / what opened last ends first, in its loop, all before ret or fail; no fork after a bind",
+        lines: "refused V13 in main, line 4: ret / close every scope and end every binding before this",
         status: 4,
     },
     Row {
@@ -111,13 +111,13 @@ static SCOPES_AND_BINDINGS: [Row; 8] = [
             Part(17, "unbind"),
             Part(1, "push 0 / ret / end"),
         ],
-        lines: "refused V14 in main, line 35: bind 0 / 16 scopes and bindings are open here, and it would open one more",
+        lines: "refused V14 in main, line 35: bind 0 / 16 scopes and bindings are open here, and this would open one more",
         status: 4,
     },
     Row {
         name: "a key that isn't bound",
         text: &[Part(1, "func main 0 / read 2 / ret / end")],
-        lines: "refused V15 in main, line 2: read 2 / a key that it or its subtask needs is neither bound here nor in the function's needs",
+        lines: "refused V15 in main, line 2: read 2 / this key may be unbound here: bind it, or list it after needs",
         status: 4,
     },
     Row {
@@ -126,7 +126,7 @@ static SCOPES_AND_BINDINGS: [Row; 8] = [
             1,
             "func main 0 / open s0 awaitall / join s0 x - x / close s0 / push 1 / ret / x: / close s0 / push 2 / ret / end",
         )],
-        lines: "refused V16 in main, line 3: join s0 x - x / failed has a label exactly under all, any and awaitok, and timeout exactly where timed",
+        lines: "refused V16 in main, line 3: join s0 x - x / under awaitall and until no join fails: write - for failed",
         status: 4,
     },
     Row {
@@ -135,7 +135,7 @@ static SCOPES_AND_BINDINGS: [Row; 8] = [
             1,
             "func kid 0 / push 0 / ret / end / func main 0 / open s0 awaitall / push 5 / bind 1 / fork s0 kid _ / unbind / join s0 - - intr / close s0 / push 1 / ret / intr: / push 0 / close s0 / fail / end",
         )],
-        lines: "refused V13 in main, line 9: fork s0 kid _ / what opened last ends first, in its loop, all before ret or fail; no fork after a bind",
+        lines: "refused V13 in main, line 9: fork s0 kid _ / a binding that was made after this scope was opened is in force: fork before bind, or after unbind",
         status: 4,
     },
     Row {
@@ -144,7 +144,7 @@ static SCOPES_AND_BINDINGS: [Row; 8] = [
             1,
             "func main 0 / push 5 / bind 1 / push 2 / times 2 / unbind / next / push 0 / ret / end",
         )],
-        lines: "refused V13 in main, line 6: unbind / what opened last ends first, in its loop, all before ret or fail; no fork after a bind",
+        lines: "refused V13 in main, line 6: unbind / this binding was made before the loop: end it after the loop",
         status: 4,
     },
     Row {
@@ -153,7 +153,7 @@ static SCOPES_AND_BINDINGS: [Row; 8] = [
             1,
             "func kid 0 needs 3 / read 3 / ret / end / func main 0 / open s0 awaitall / fork s0 kid _ / join s0 - - intr / close s0 / push 1 / ret / intr: / push 0 / close s0 / fail / end",
         )],
-        lines: "refused V15 in main, line 7: fork s0 kid _ / a key that it or its subtask needs is neither bound here nor in the function's needs",
+        lines: "refused V15 in main, line 7: fork s0 kid _ / the subtask needs a key that may be unbound here: bind it before open, or list it after needs",
         status: 4,
     },
 ];
@@ -174,7 +174,7 @@ static BUDGETS: [Row; 4] = [
             1,
             "func kid 0 / push 5 / ret / end / func main 0 / open s0 awaitall / push 7 / times 7 / push 10000 / times 10000 / fork s0 kid _ / next / next / join s0 - - intr / close s0 / push 1 / ret / intr: / push 0 / close s0 / fail / end",
         )],
-        lines: "refused V18 in main, at its end / at some point of a path more than 65536 tasks stand / 70001 tasks stand here, line 12: next / adds 70000, line 11: fork s0 kid _ / adds 1, the task itself",
+        lines: "refused V18 in main, at its end / some path has more than 65536 tasks at once; an ended task counts until its scope closes / 70001 tasks count here, line 12: next / adds 70000, line 11: fork s0 kid _ / adds 1, the task itself",
         status: 4,
     },
     Row {
@@ -189,7 +189,7 @@ static BUDGETS: [Row; 4] = [
                 "func main 0 / open s0 awaitall / push 1 / times 1 / push 8192 / times 8192 / fork s0 a _ / next / next / join s0 - - intr / close s0 / push 1 / ret / intr: / push 0 / close s0 / fail / end",
             ),
         ],
-        lines: "refused V19 in main, at its end / at some point of a path more than 65536 scopes are open / 65537 scopes are open here, line 68: next / adds 1, line 62: open s0 awaitall / adds 65536, line 67: fork s0 a _",
+        lines: "refused V19 in main, at its end / some path has more than 65536 scopes open at once / 65537 scopes are open here, line 68: next / adds 1, line 62: open s0 awaitall / adds 65536, line 67: fork s0 a _",
         status: 4,
     },
     Row {
@@ -204,7 +204,7 @@ static BUDGETS: [Row; 4] = [
                 "func main 0 / push 1 / bind 3 / open s0 awaitall / push 8192 / times 8192 / fork s0 a _ / next / join s0 - - x / close s0 / unbind / push 1 / ret / x: / close s0 / unbind / push 2 / ret / end",
             ),
         ],
-        lines: "refused V20 in main, at its end / at some point of a path more than 65536 bindings are open / 65537 bindings are open here, line 36: next / adds 1, line 31: bind 3 / adds 65536, line 35: fork s0 a _",
+        lines: "refused V20 in main, at its end / some path has more than 65536 bindings open at once / 65537 bindings are open here, line 36: next / adds 1, line 31: bind 3 / adds 65536, line 35: fork s0 a _",
         status: 4,
     },
 ];
@@ -216,7 +216,7 @@ static WAYS: [Row; 11] = [
             1,
             "func main 0 / push 1 / jz x / push 2 / x: / push 3 / ret / end",
         )],
-        lines: "refused V7 in main, line 6: push 3 / two ways meet here, or two turns of a loop, and what is known of the task differs / operands: 0 on the way from line 3 (it was 0); 1 on the way from line 4",
+        lines: "refused V7 in main, line 6: push 3 / two ways meet here, or a loop turns, with different stack, loops, scopes or slots / operands: 0 on the way from line 3 (jumps: it was 0); 1 on the way from line 4",
         status: 4,
     },
     Row {
@@ -225,7 +225,7 @@ static WAYS: [Row; 11] = [
             1,
             "func kid 0 / push 5 / ret / end / func main 0 / open s0 all / fork s0 kid _ / join s0 out - out / close s0 / ret / out: / close s0 / push 0 / fail / end",
         )],
-        lines: "refused V7 in main, line 12: close s0 / two ways meet here, or two turns of a loop, and what is known of the task differs / operands: 1 on the way from line 8 (failed); 0 on the way from line 8 (interrupted) / open, the last one first: (s0 all joined) on the way from line 8 (failed); (s0 all attempted) on the way from line 8 (interrupted)",
+        lines: "refused V7 in main, line 12: close s0 / two ways meet here, or a loop turns, with different stack, loops, scopes or slots / operands: 1 on the way from line 8 (failed); 0 on the way from line 8 (interrupted) / open, the last one first: (s0 all joined) on the way from line 8 (failed); (s0 all attempted) on the way from line 8 (interrupted)",
         status: 4,
     },
     Row {
@@ -234,7 +234,7 @@ static WAYS: [Row; 11] = [
             1,
             "func kid 0 / push 5 / ret / end / func main 0 / open s0 awaitall / fork s0 kid s1 / join s0 - - intr / case s1 yes no / push -1 / jmp done / yes: / get s1 / jmp done / no: / except s1 / done: / close s0 / ret / intr: / push 0 / close s0 / fail / end",
         )],
-        lines: "refused V7 in main, line 18: close s0 / two ways meet here, or two turns of a loop, and what is known of the task differs / slot s1: unknown, of s0 on the way from line 11; success, of s0 on the way from line 14",
+        lines: "refused V7 in main, line 18: close s0 / two ways meet here, or a loop turns, with different stack, loops, scopes or slots / slot s1: unknown, of s0 on the way from line 11; success, of s0 on the way from line 14",
         status: 4,
     },
     Row {
@@ -243,7 +243,7 @@ static WAYS: [Row; 11] = [
             1,
             "func main 0 / push 2 / times 2 / push 1 / next / push 0 / ret / end",
         )],
-        lines: "refused V7 in main, line 5: next / two ways meet here, or two turns of a loop, and what is known of the task differs / operands: 0 on the way from line 3; 1 on the way from the turn that ends at line 5",
+        lines: "refused V7 in main, line 5: next / two ways meet here, or a loop turns, with different stack, loops, scopes or slots / operands: 0 on the way from line 3; 1 on the way from the turn that ends at line 5",
         status: 4,
     },
     Row {
@@ -252,7 +252,7 @@ static WAYS: [Row; 11] = [
             1,
             "func main 0 / push 7 / push 1 / jz x / bind 3 / push 0 / x: / ret / end",
         )],
-        lines: "refused V7 in main, line 8: ret / two ways meet here, or two turns of a loop, and what is known of the task differs / open, the last one first: none on the way from line 4 (it was 0); (key 3) on the way from line 6",
+        lines: "refused V7 in main, line 8: ret / two ways meet here, or a loop turns, with different stack, loops, scopes or slots / open, the last one first: none on the way from line 4 (jumps: it was 0); (key 3) on the way from line 6",
         status: 4,
     },
     Row {
@@ -261,7 +261,7 @@ static WAYS: [Row; 11] = [
             1,
             "func kid 0 / push 5 / ret / end / func main 0 / open s0 until success 2 timed / push 1 / jz x / fork s0 kid s3 / x: / join s0 - late intr / close s0 / ret / late: / push 0 / close s0 / ret / intr: / push 0 / close s0 / fail / end",
         )],
-        lines: "refused V7 in main, line 11: join s0 - late intr / two ways meet here, or two turns of a loop, and what is known of the task differs / slot s3: empty on the way from line 8 (it was 0); unknown, of s0 on the way from line 9",
+        lines: "refused V7 in main, line 11: join s0 - late intr / two ways meet here, or a loop turns, with different stack, loops, scopes or slots / slot s3: empty on the way from line 8 (jumps: it was 0); unknown, of s0 on the way from line 9",
         status: 4,
     },
     Row {
@@ -270,7 +270,7 @@ static WAYS: [Row; 11] = [
             1,
             "func kid 0 / push 5 / ret / end / func main 0 / open s0 awaitall / fork s0 kid s1 / join s0 - - intr / case s1 out out / close s0 / push -1 / ret / out: / close s0 / push 0 / ret / intr: / push 0 / close s0 / fail / end",
         )],
-        lines: "refused V7 in main, line 14: close s0 / two ways meet here, or two turns of a loop, and what is known of the task differs / slot s1: success, of s0 on the way from line 9 (success); failed, of s0 on the way from line 9 (failed)",
+        lines: "refused V7 in main, line 14: close s0 / two ways meet here, or a loop turns, with different stack, loops, scopes or slots / slot s1: success, of s0 on the way from line 9 (success); failed, of s0 on the way from line 9 (failed)",
         status: 4,
     },
     Row {
@@ -279,7 +279,7 @@ static WAYS: [Row; 11] = [
             1,
             "func kid 0 / push 5 / ret / end / func main 0 / open s0 awaitall / fork s0 kid s1 / join s0 - - intr / case s1 yes no / yes: / close s0 / push 1 / ret / no: / close s0 / push 0 / ret / intr: / push 0 / close s0 / fail / end",
         )],
-        lines: "refused V7 in main, line 11: close s0 / two ways meet here, or two turns of a loop, and what is known of the task differs / slot s1: unknown, of s0 on the way from line 9 (unavailable); success, of s0 on the way from line 9 (success)",
+        lines: "refused V7 in main, line 11: close s0 / two ways meet here, or a loop turns, with different stack, loops, scopes or slots / slot s1: unknown, of s0 on the way from line 9 (unavailable); success, of s0 on the way from line 9 (success)",
         status: 4,
     },
     Row {
@@ -288,13 +288,13 @@ static WAYS: [Row; 11] = [
             1,
             "func main 0 / open s0 awaitall timed / join s0 - out out / close s0 / push 1 / ret / out: / close s0 / push 0 / ret / end",
         )],
-        lines: "refused V7 in main, line 8: close s0 / two ways meet here, or two turns of a loop, and what is known of the task differs / open, the last one first: (s0 awaitall timed late) on the way from line 3 (timeout); (s0 awaitall timed attempted) on the way from line 3 (interrupted)",
+        lines: "refused V7 in main, line 8: close s0 / two ways meet here, or a loop turns, with different stack, loops, scopes or slots / open, the last one first: (s0 awaitall timed late) on the way from line 3 (timeout); (s0 awaitall timed attempted) on the way from line 3 (interrupted)",
         status: 4,
     },
     Row {
         name: "a division by 0",
         text: &[Part(1, "func main 0 / push 6 / push 2 / div x / x: / ret / end")],
-        lines: "refused V7 in main, line 6: ret / two ways meet here, or two turns of a loop, and what is known of the task differs / operands: 1 on the way from line 4; 0 on the way from line 4 (by 0)",
+        lines: "refused V7 in main, line 6: ret / two ways meet here, or a loop turns, with different stack, loops, scopes or slots / operands: 1 on the way from line 4; 0 on the way from line 4 (by 0)",
         status: 4,
     },
     Row {
@@ -303,7 +303,7 @@ static WAYS: [Row; 11] = [
             1,
             "func main 0 / push 7 / push 0 / jz on / pop / push 2 / times 2 / next / on: / ret / end",
         )],
-        lines: "refused V7 in main, line 10: ret / two ways meet here, or two turns of a loop, and what is known of the task differs / operands: 1 on the way from line 4 (it was 0); 0 on the way from line 7 (no turn)",
+        lines: "refused V7 in main, line 10: ret / two ways meet here, or a loop turns, with different stack, loops, scopes or slots / operands: 1 on the way from line 4 (jumps: it was 0); 0 on the way from line 7 (no turn)",
         status: 4,
     },
 ];
@@ -356,7 +356,7 @@ static WEIGHTS: [Row; 7] = [
                 "join s0 - - intr / close s0 / push 1 / ret / intr: / push 0 / close s0 / fail / end",
             ),
         ],
-        lines: "refused V18 in main, at its end / at some point of a path more than 65536 tasks stand / 65537 tasks stand here, line 27: join s0 - - intr / adds 65529, line 13: fork s0 kid _ / adds 1, line 20: fork s0 kid _ / adds 1, line 21: fork s0 kid _ / adds 1, line 22: fork s0 kid _ / adds 1, line 23: fork s0 kid _ / adds 1, line 24: fork s0 kid _ / adds 1, line 25: fork s0 kid _ / adds 1, line 26: fork s0 kid _ / adds 1, the task itself",
+        lines: "refused V18 in main, at its end / some path has more than 65536 tasks at once; an ended task counts until its scope closes / 65537 tasks count here, line 27: join s0 - - intr / adds 65529, line 13: fork s0 kid _ / adds 1, line 20: fork s0 kid _ / adds 1, line 21: fork s0 kid _ / adds 1, line 22: fork s0 kid _ / adds 1, line 23: fork s0 kid _ / adds 1, line 24: fork s0 kid _ / adds 1, line 25: fork s0 kid _ / adds 1, line 26: fork s0 kid _ / adds 1, the task itself",
         status: 4,
     },
     Row {
@@ -365,7 +365,7 @@ static WEIGHTS: [Row; 7] = [
             1,
             "func a 0 / open s1 awaitall / open s2 awaitall / join s2 - - x2 / close s2 / jmp y2 / x2: / close s2 / y2: / join s1 - - x1 / close s1 / jmp y1 / x1: / close s1 / y1: / push 0 / ret / end / func main 0 / open s1 awaitall / join s1 - - i / close s1 / jmp k / i: / close s1 / k: / open s0 awaitall / push 4 / times 4 / push 8192 / times 8192 / fork s0 a _ / next / next / join s0 - - intr / close s0 / push 1 / ret / intr: / push 0 / close s0 / fail / end",
         )],
-        lines: "refused V19 in main, at its end / at some point of a path more than 65536 scopes are open / 65537 scopes are open here, line 33: next / adds 1, line 27: open s0 awaitall / adds 65536, line 32: fork s0 a _",
+        lines: "refused V19 in main, at its end / some path has more than 65536 scopes open at once / 65537 scopes are open here, line 33: next / adds 1, line 27: open s0 awaitall / adds 65536, line 32: fork s0 a _",
         status: 4,
     },
     Row {
@@ -374,7 +374,7 @@ static WEIGHTS: [Row; 7] = [
             1,
             "func a 0 / push 1 / bind 0 / push 1 / bind 0 / unbind / unbind / push 0 / ret / end / func main 0 / push 1 / bind 3 / unbind / push 2 / bind 4 / open s0 awaitall / push 4 / times 4 / push 8192 / times 8192 / fork s0 a _ / next / next / join s0 - - x / close s0 / unbind / push 1 / ret / x: / close s0 / unbind / push 2 / ret / end",
         )],
-        lines: "refused V20 in main, at its end / at some point of a path more than 65536 bindings are open / 65537 bindings are open here, line 23: next / adds 1, line 16: bind 4 / adds 65536, line 22: fork s0 a _",
+        lines: "refused V20 in main, at its end / some path has more than 65536 bindings open at once / 65537 bindings are open here, line 23: next / adds 1, line 16: bind 4 / adds 65536, line 22: fork s0 a _",
         status: 4,
     },
     Row {

@@ -1,11 +1,11 @@
 //! A row, its short notation, and how a table of rows is walked.
 
+use look_refusal::explain;
+use look_run::explain_run;
 use std::alloc::{AllocError, Global};
 use std::process::Abort;
 use std::str;
 use std::test::Fail;
-use sts_explain::explain::explain;
-use sts_explain_run::explain_run::explain_run;
 
 /// Lines, and how many times they stand one after the other; ` / ` stands between two lines.
 #[derive(Clone, Copy)]

@@ -2,23 +2,23 @@
 //! who waits for whom.
 
 use crate::explanations::row::{Part, RunRow, all_runs};
+use look_run::explain_run;
 use std::str;
 use std::test::Fail;
-use sts_explain_run::explain_run::explain_run;
 
 static FAULTS: [RunRow; 6] = [
     RunRow {
         name: "too few operands",
         text: &[Part(1, "func main 0 / push 1 / add / ret / end")],
         trace: &[Part(3, "step 0")],
-        lines: "fault Operand, task 0 in main, line 3: add / its operands, loop, slot or labels don't fit, there is no room, or the function is over / task 0 in main, line 3: add (ready)",
+        lines: "fault Operand, task 0 in main, line 3: add / this needs more operands than the stack has here / task 0 in main, line 3: add (ready)",
         status: 5,
     },
     RunRow {
         name: "the function is over",
         text: &[Part(1, "func main 0 / push 1 / end")],
         trace: &[Part(2, "step 0")],
-        lines: "fault Operand, task 0 in main, at its end / its operands, loop, slot or labels don't fit, there is no room, or the function is over / task 0 in main, at its end (ready)",
+        lines: "fault Operand, task 0 in main, at its end / this runs past the end of the function: add ret or fail / task 0 in main, at its end (ready)",
         status: 5,
     },
     RunRow {
@@ -28,7 +28,7 @@ static FAULTS: [RunRow; 6] = [
             "func kid 0 / join s0 - - x / x: / push 0 / ret / end / func main 0 / open s0 awaitall / fork s0 kid _ / join s0 - - intr / close s0 / push 1 / ret / intr: / push 0 / close s0 / fail / end",
         )],
         trace: &[Part(2, "step 0"), Part(1, "step 1")],
-        lines: "fault WrongThread, task 1 in kid, line 2: join s0 - - x / the scope is the one that this task is a subtask of: only its owner may do this / task 0 in main, line 10: join s0 - - intr (waits join 0 for 1) / task 1 in kid, line 2: join s0 - - x (ready)",
+        lines: "fault WrongThread, task 1 in kid, line 2: join s0 - - x / this slot holds the scope of the task that forked this one: only that task may do this / task 0 in main, line 10: join s0 - - intr (waits at join of scope 0 for 1) / task 1 in kid, line 2: join s0 - - x (ready)",
         status: 5,
     },
     RunRow {
@@ -38,21 +38,21 @@ static FAULTS: [RunRow; 6] = [
             "func kid 0 / push 5 / ret / end / func main 0 / open s0 awaitall / fork s0 kid _ / close   s0 ; early / push 1 / ret / end",
         )],
         trace: &[Part(3, "step 0")],
-        lines: "fault IllegalState, task 0 in main, line 8: close s0 / the scope isn't at the point for it, or the subtask ended otherwise or can't be read / task 0 in main, line 8: close s0 (ready) / task 1 in kid, line 2: push 5 (ready)",
+        lines: "fault IllegalState, task 0 in main, line 8: close s0 / join this scope before you close it / task 0 in main, line 8: close s0 (ready) / task 1 in kid, line 2: push 5 (ready)",
         status: 5,
     },
     RunRow {
         name: "a scope is open at ret",
         text: &[Part(1, "func main 0 / open s0 awaitall / push 1 / ret / end")],
         trace: &[Part(3, "step 0")],
-        lines: "fault Structure, task 0 in main, line 4: ret / what was opened last is ended first, all before ret or fail, and no fork follows a bind / task 0 in main, line 4: ret (ready)",
+        lines: "fault Structure, task 0 in main, line 4: ret / close every scope and end every binding before this / task 0 in main, line 4: ret (ready)",
         status: 5,
     },
     RunRow {
         name: "a key that isn't bound",
         text: &[Part(1, "func main 0 / read 2 / ret / end")],
         trace: &[Part(1, "step 0")],
-        lines: "fault Unbound, task 0 in main, line 2: read 2 / the key is bound neither by this task nor around the scopes that it is in / task 0 in main, line 2: read 2 (ready)",
+        lines: "fault Unbound, task 0 in main, line 2: read 2 / no binding of this key is in force here / task 0 in main, line 2: read 2 (ready)",
         status: 5,
     },
 ];
@@ -71,14 +71,14 @@ static WAITS: [RunRow; 5] = [
             "func square 1 / load 0 / dup / mul / ret / end / func main 0 / open s0 all / push 3 / fork s0 square _ / push 4 / fork s0 square _ / push 5 / fork s0 square _ / join s0 bad - intr / pop / total s0 / close s0 / ret / bad: / close s0 / fail / intr: / close s0 / push 0 / fail / end",
         )],
         trace: &[Part(7, "step 0"), Part(4, "step 3"), Part(1, "step 0")],
-        lines: "running / task 0 in main, line 15: join s0 bad - intr (waits join 0 for 1 2) / task 1 in square, line 2: load 0 (ready) / task 2 in square, line 2: load 0 (ready)",
+        lines: "running / task 0 in main, line 15: join s0 bad - intr (waits at join of scope 0 for 1 2) / task 1 in square, line 2: load 0 (ready) / task 2 in square, line 2: load 0 (ready)",
         status: 5,
     },
     RunRow {
         name: "two wait, one in the other's scope",
         text: &[SIBLINGS],
         trace: &[Part(3, "step 0"), Part(2, "step 1")],
-        lines: "running / task 0 in main, line 30: join s0 bad - intr (waits join 0 for 1 2) / task 1 in branch, line 17: join s1 - - intr (waits join 1 for 3) / task 2 in boom, line 11: push 8 (ready) / task 3 in leaf, line 2: interrupted (ready)",
+        lines: "running / task 0 in main, line 30: join s0 bad - intr (waits at join of scope 0 for 1 2) / task 1 in branch, line 17: join s1 - - intr (waits at join of scope 1 for 3) / task 2 in boom, line 11: push 8 (ready) / task 3 in leaf, line 2: interrupted (ready)",
         status: 5,
     },
     RunRow {
@@ -90,7 +90,7 @@ static WAITS: [RunRow; 5] = [
             Part(2, "step 2"),
             Part(2, "step 1"),
         ],
-        lines: "running / task 0 in main, line 30: join s0 bad - intr (ready) / task 1 in branch, line 22: close s1 (waits close 1 for 3) / task 3 in leaf, line 2: interrupted (ready)",
+        lines: "running / task 0 in main, line 30: join s0 bad - intr (ready) / task 1 in branch, line 22: close s1 (waits at close of scope 1 for 3) / task 3 in leaf, line 2: interrupted (ready)",
         status: 5,
     },
     RunRow {
@@ -145,28 +145,28 @@ static TRACES: [RunRow; 6] = [
         name: "a zero before a digit",
         text: &[Part(1, "func main 0 / push 7 / ret / end")],
         trace: &[Part(3, "step 0"), Part(1, "interrupt 01")],
-        lines: "error T2, line 4: \"interrupt 01\" / a number is 0, or digits of which the first isn't 0, up to 4294967295",
+        lines: "error T2, line 4: \"interrupt 01\" / a number from 0 to 4294967295, without leading zeros, must follow the space",
         status: 3,
     },
     RunRow {
         name: "a carriage return is shown",
         text: &[Part(1, "func main 0 / push 7 / ret / end")],
         trace: &[Part(1, "step 0\r")],
-        lines: "error T2, line 1: \"step 0?\" / a number is 0, or digits of which the first isn't 0, up to 4294967295",
+        lines: "error T2, line 1: \"step 0?\" / a number from 0 to 4294967295, without leading zeros, must follow the space",
         status: 3,
     },
     RunRow {
         name: "a fault of the text comes first",
         text: &[Part(1, "func main 0 / puhs 7 / ret / end")],
         trace: &[Part(1, "stp 0")],
-        lines: "error A2, line 2: puhs 7 / its first word is unknown, or may not stand here: outside a function, or below line 1 / at [puhs]: wanted is an instruction, a label or end inside a function, func outside, profile on line 1",
+        lines: "error A2, line 2: puhs 7 / no line begins with this word / at [puhs]: expected an instruction, a label or end / did you mean push?",
         status: 3,
     },
     RunRow {
         name: "a fault that a name makes comes first too",
         text: &[Part(1, "func main 0 / jmp there / end")],
         trace: &[Part(1, "stp 0")],
-        lines: "error A5, line 2: jmp there / a label that isn't in this function, or a function that isn't in this text / at jmp [there]: wanted is a label before an instruction of this function",
+        lines: "error A5, line 2: jmp there / a label that isn't in this function, or a function that isn't in this text / at jmp [there]: expected a label before an instruction of this function",
         status: 3,
     },
 ];
@@ -198,7 +198,7 @@ fn tell_a_last_line_that_is_not_ended(rt: HostRuntime) -> Result<(), Fail> {
     let status = explain_run(rt.alloc(), text, b"step 0\nstep 0", &mut printed).map_err(
         |_| "not written",
     )?;
-    let want = "error T3, line 2: \"step 0\"\nthe last line isn't ended by a newline\n";
+    let want = "error T3, line 2: \"step 0\"\nthe last line must end with a newline\n";
     assert_eq!(rt; str::from_utf8(printed.as_slice())?, want);
     assert_eq!(rt; status, 3);
     Ok(())

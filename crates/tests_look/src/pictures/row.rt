@@ -1,12 +1,11 @@
 //! A row, its short notation, and how a table of rows is walked.
 
+use look_picture::{LEGEND, STYLE, write_picture};
 use std::alloc::{AllocError, Global};
 use std::fmt::Write;
 use std::process::Abort;
 use std::str;
 use std::test::Fail;
-use sts_draw::of_text::write_picture;
-use sts_draw::style::{LEGEND, STYLE};
 
 /// A text, a trace, and the picture; ` / ` stands between two lines of a text, of a trace and of
 /// what stands in the end, and between two elements.

@@ -4,15 +4,16 @@ use Rattle.sts_cli.specs.Ending as def
 use Rattle.sts_output.specs.Streams as streams
 use Rattle.sts_output.specs.Output.{failure_output}
 use Rattle.sts_output.specs.Taking.{IsTakenOf}
-use Rattle.sts_cli.proofs.Ends.{gives_taken, of_input}
+use Rattle.sts_cli.proofs.Ends.{of_input}
 use Rattle.sts_cli.proofs.program.on_input.Goals as goal
 
-pub returns-in-Ok : goal.returns-in-Ok
-returns-in-Ok g c =
+pub returns-in_ok-status-in-Ok : goal.returns-in_ok-status-in-Ok
+returns-in_ok-status-in-Ok g c =
     let input = g.S.Sources.offered c.args.sources.now in
-    let known = gives_taken input _ streams.most_of_a_stream c.in-Ok.input.items c.input.ensures.bytes c.in-Ok.ensures.known in
-    let taken = subst (λ xs. IsTakenOf input streams.most_of_a_stream xs) (sym c.as_slice.ensures.value) known in
-    IfOk-weaker c.play_joined.result _ _ (λ s h. (h.0, of_input input _ h.0 taken h.1, h.2)) c.play_joined.ensures
+    let taken = subst (λ xs. IsTakenOf input streams.most_of_a_stream xs) (sym c.as_slice.ensures.value) c.in-Ok.ensures in
+    let h = c.in_ok-status-in-Ok.ensures in
+    (h.0, of_input input _ h.0 taken h.1, h.2)
 
-pub returns : goal.returns
-returns g c = IfOk-weaker c.failed.result _ _ (λ s h. (failure_output c.in-Err.error, def.failed c.in-Err.error refl, h)) c.failed.ensures
+pub returns-in-Err : goal.returns-in-Err
+returns-in-Err g c =
+    IfOk-weaker c.file_failed.result _ _ (λ s h. (failure_output h.0, def.failed h.0 refl, h.1)) c.file_failed.ensures

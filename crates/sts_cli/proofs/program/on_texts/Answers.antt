@@ -7,16 +7,17 @@ use Rattle.sts_cli.proofs.program.on_texts.Goals as goal
 
 pub returns-in-None : goal.returns-in-None
 returns-in-None g c =
+    let spares : def.Spares (g.S.Sinks.same c.args.sinks.now) c.args.wanted.file.now c.args.wanted.outside c.args.wanted.trace = rw c.in-None.is tt in
     IfOk-weaker c.play_untraced.result _ _
-    (λ s h. printed_alone _ _ _ _ _ _ s h.0 c.as_slice-program.ensures.value c.as_slice-outside.ensures.value h.1 h.2)
+    (λ s h. printed_alone _ _ _ _ _ _ _ s h.0 spares c.as_slice-program.ensures.value c.as_slice-outside.ensures.value h.1 h.2)
     c.play_untraced.ensures
 
-pub returns-in-Ok : goal.returns-in-Ok
-returns-in-Ok g c =
-    IfOk-weaker c.play_run.result _ _
-    (λ s h. printed_of _ _ _ _ _ s h.0 c.as_slice-program.ensures.value c.as_slice-outside.ensures.value h.1 h.2)
-    c.play_run.ensures
+pub returns-in_ok-status-in-Ok : goal.returns-in_ok-status-in-Ok
+returns-in_ok-status-in-Ok g c =
+    let spares : def.Spares (g.S.Sinks.same c.args.sinks.now) c.args.wanted.file.now c.args.wanted.outside c.args.wanted.trace = rw c.in-Some.is (c.in-Ok.ensures.file, c.in-Ok.ensures.outside) in
+    let h = c.in_ok-status-in-Ok.ensures in
+    printed_of _ _ _ _ _ _ _ h.0 spares c.as_slice-program.ensures.value c.as_slice-outside.ensures.value h.1 h.2
 
 pub returns-in-Err : goal.returns-in-Err
 returns-in-Err g c =
-    IfOk-weaker c.failed.result _ _ (λ s h. (failure_output c.in-Err.error, def.without_file c.in-Err.error refl, h)) c.failed.ensures
+    IfOk-weaker c.file_failed.result _ _ (λ s h. (failure_output h.0, def.without_file h.0 refl, h.1)) c.file_failed.ensures

@@ -3,9 +3,9 @@ use Rattle.sts_model.specs.declared.record.Frame.{Frame}
 use Rattle.sts_model.specs.Effect.{named}
 use Rattle.sts_model.specs.Misuse.{slot, innermost, is_entry_of, is_binding}
 use Rattle.sts_model.specs.Live.{Live}
-use Rattle.sts_seen.specs.Reading.{lives_in, scope_in}
+use Rattle.laws_live.specs.Reading.{lives_in, scope_in}
 use Rattle.sts_store.specs.Parts.{Unseen, frame_of, live_of, stand_in, unseen_of}
-use Rattle.sts_views.specs.Fine.{IsLiveFine}
+use Rattle.laws_live.specs.Fine.{IsLiveFine}
 use Rattle.sts_machine.specs.Changing.{may_wait}
 use Rattle.sts_machine.specs.Room.{HasRoomLeft}
 use Rattle.sts_machine.proofs.Changing.{as_are, changes-quiet, lives_quiet, living, opens, opener_lives, forks, forker_lives, forker_stands, unbinds, ends, none_bound}

@@ -1,8 +1,8 @@
 use Rattle.std.proofs.Common.{sym, ◌∙◌, ap, List}
 use Rattle.sts_code.specs.declared.instr.Instr.{Instr}
 use Rattle.sts_model.specs.Local.{local}
-use Rattle.sts_seen.specs.Effect.{live_effect}
-use Rattle.sts_seen.specs.Reading.{with_live_frame}
+use Rattle.laws_live.specs.Effect.{live_effect}
+use Rattle.laws_live.specs.Reading.{with_live_frame}
 use Rattle.sts_store.specs.Parts.{frame_of, live_of}
 use Rattle.sts_machine.proofs.Fine.{local_effect}
 use Rattle.sts_machine.proofs.effect.quiet.Goals as goal

@@ -1,9 +1,9 @@
 use Rattle.std.proofs.Common.{◌≡◌, None, subst}
 use Rattle.sts_code.specs.Checks.{program_fault}
 use Rattle.sts_code.specs.Program.{Program}
-use Rattle.sts_laws_costs.proofs.RangeLemmas.{some_function}
+use Rattle.laws_accepted.proofs.RangeLemmas.{some_function}
 use Rattle.sts_verify.proofs.BudgetLemmas.{budget_of-one}
-use Rattle.sts_laws_accepted.specs.Accepted.{main_of}
+use Rattle.laws_accepted.specs.Accepted.{main_of}
 use Rattle.sts_machine.proofs.Budgets.{few_tasks, some_task}
 use Rattle.sts_machine.proofs.laws.laws.Goals as goal
 

@@ -1,7 +1,7 @@
 use Rattle.std.proofs.Common.{sym, ◌∙◌, subst}
 use Rattle.std.proofs.lemmas.Option.{slice_get_within}
 use Rattle.sts_store.specs.Parts.{live_of}
-use Rattle.sts_views.specs.Order.{InOrder}
+use Rattle.laws_live.specs.Order.{InOrder}
 use Rattle.sts_machine.proofs.Stood.{others_stood, room_kept, unwaiting}
 use Rattle.sts_machine.proofs.perform.perform.Goals as goal
 

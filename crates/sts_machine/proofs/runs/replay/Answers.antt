@@ -1,6 +1,6 @@
 use Rattle.std.proofs.Common.{◌<◌, length, take, sym, ◌∙◌, subst}
 use Rattle.std.proofs.lemmas.List.{take_more}
-use Rattle.sts_seen.specs.Seen.{StandsAt}
+use Rattle.laws_live.specs.Seen.{StandsAt}
 use Rattle.sts_machine.proofs.Turning.{runs_well}
 use Rattle.sts_machine.proofs.runs.replay.Goals as goal
 

@@ -1,7 +1,7 @@
 use Rattle.std.proofs.Common.{◌++◌, ◌∷◌, [], sym, ◌∙◌, refl, subst}
 use Rattle.sts_model.specs.declared.event.Event.TheVariants as event
-use Rattle.sts_seen.specs.Seen.{StandsAt}
-use Rattle.sts_seen.specs.Waiting.{live_can_step}
+use Rattle.laws_live.specs.Seen.{StandsAt}
+use Rattle.laws_live.specs.Waiting.{live_can_step}
 use Rattle.sts_machine.specs.Laws.{HasLaws}
 use Rattle.sts_machine.proofs.CanStep.{none_picked}
 use Rattle.sts_machine.proofs.Whole.{root_has_ended, runs_to, step_taken, steps_on}

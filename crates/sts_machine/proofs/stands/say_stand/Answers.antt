@@ -2,7 +2,7 @@ use Rattle.std.proofs.Common.{◌≡◌, true, sym, ◌∙◌, ap, subst}
 use Rattle.sts_model.specs.declared.event.Stand.{Stand}
 use Rattle.sts_model.specs.Live.{Live}
 use Rattle.sts_store.specs.Parts.{Unseen, live_of, unseen_of, stood_unseen}
-use Rattle.sts_views.specs.Stands.{is_stand_at}
+use Rattle.laws_live.specs.Stands.{is_stand_at}
 use Rattle.sts_machine.specs.Standing.{AreStanding}
 use Rattle.sts_machine.proofs.Stood.{stands_anew}
 use Rattle.sts_machine.proofs.stands.say_stand.Goals as goal

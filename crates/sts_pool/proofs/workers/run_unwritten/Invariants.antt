@@ -1,5 +1,4 @@
-use Rattle.sts_pool.specs.Ledger.{program_of}
 use Rattle.sts_pool.proofs.workers.run_unwritten.Given as goal
 
 abbrev pub ghosts-run_on : goal.ghosts-run_on
-ghosts-run_on g a = record { program = program_of a.book }
+ghosts-run_on g a = record { program = a.book.program }

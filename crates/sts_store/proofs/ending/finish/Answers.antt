@@ -1,7 +1,7 @@
 use Rattle.std.proofs.Common.{◌≡◌, Some, None, sym, ◌∙◌, ap, get_or}
 use Rattle.sts_env.specs.declared.env.Env.{Env}
-use Rattle.sts_forest.specs.Forest.{Forest}
-use Rattle.sts_forest.specs.declared.record.Task.{Task}
+use Rattle.sts_tree.specs.Forest.{Forest}
+use Rattle.sts_tree.specs.declared.record.Task.{Task}
 use Rattle.sts_cancel.proofs.RaisingLemmas.{cancel_seen}
 use Rattle.sts_tree.specs.Ending.{ended}
 use Rattle.sts_tree.specs.Steps.{seen}

@@ -1,5 +1,5 @@
 use Rattle.std.proofs.Common.{◌∙◌, sym}
-use Rattle.sts_loops.proofs.MatchingLemmas.{ends}
+use Rattle.sts_types.proofs.MatchingLemmas.{ends}
 use Rattle.sts_types.proofs.leads.skip.Goals as goal
 
 pub after-requires : goal.after-requires

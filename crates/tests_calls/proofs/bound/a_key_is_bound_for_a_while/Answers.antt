@@ -6,9 +6,9 @@ use Rattle.sts_model.specs.Live.{Live}
 use Rattle.sts_model.specs.Local.{operand}
 use Rattle.sts_model.specs.Misuse.{is_entry_of}
 use Rattle.sts_model.specs.declared.record.Entry.TheVariants as entry
-use Rattle.sts_seen.specs.Effect.{live_bind}
-use Rattle.sts_seen.specs.Reading.{alive_at}
-use Rattle.sts_views.specs.Order.{InOrder}
+use Rattle.laws_live.specs.Effect.{live_bind}
+use Rattle.laws_live.specs.Reading.{alive_at}
+use Rattle.laws_live.specs.Order.{InOrder}
 use Rattle.sts_store.specs.Parts.{live_of}
 use Rattle.sts_store.proofs.BeginningLemmas.{root_bound, root_in_order}
 use Rattle.sts_store.proofs.BindingLemmas.{bound_frame, bound_here}

@@ -1,6 +1,6 @@
 use Rattle.std.proofs.Common.{suc, sym, ◌∙◌, take, drop, add-one}
-use Rattle.sts_forest.specs.Births.{births}
-use Rattle.sts_forest.specs.Forest.{is_of}
+use Rattle.sts_tree.specs.Births.{births}
+use Rattle.sts_tree.specs.Forest.{is_of}
 use Rattle.sts_cancel.proofs.RaisingLemmas.{split_at}
 use Rattle.tests_calls.proofs.cancelled.forked.Goals as goal
 

@@ -1,6 +1,6 @@
 use Rattle.std.proofs.Common.{◌≡◌, None, drop}
-use Rattle.sts_forest.specs.Births.{births}
-use Rattle.sts_forest.specs.Forest.{is_of}
+use Rattle.sts_tree.specs.Births.{births}
+use Rattle.sts_tree.specs.Forest.{is_of}
 use Rattle.sts_links.specs.Lists.{first_or}
 use Rattle.tests_calls.proofs.cancelled.forked.Given as goal
 

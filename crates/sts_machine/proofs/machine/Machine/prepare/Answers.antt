@@ -2,7 +2,7 @@ use Rattle.std.proofs.Common.{◌≡◌, ◌-◌, [], length, ◌∙◌, ap}
 use Rattle.sts_code.specs.Program.{Program}
 use Rattle.sts_model.specs.World.{entry_frame}
 use Rattle.sts_model.specs.declared.record.Slot.TheVariants.{Empty}
-use Rattle.sts_seen.specs.Run.{live_opening}
+use Rattle.laws_live.specs.Run.{live_opening}
 use Rattle.sts_store.specs.Parts.{live_of, root_alone}
 use Rattle.sts_machine.proofs.Beginning.{begins, stands_begun}
 use Rattle.sts_machine.proofs.machine.Machine.prepare.Goals as goal

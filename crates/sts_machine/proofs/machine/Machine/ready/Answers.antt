@@ -1,8 +1,8 @@
 use Rattle.std.proofs.Common.{sym, subst}
 use Rattle.sts_model.specs.Run.{after}
 use Rattle.sts_model.specs.Waiting.{can_step}
-use Rattle.sts_runs.specs.Runs.{In}
-use Rattle.sts_seen.specs.Waiting.{live_can_step}
+use Rattle.laws_runs.specs.Runs.{In}
+use Rattle.laws_live.specs.Waiting.{live_can_step}
 use Rattle.sts_store.specs.Parts.{can_go_on, live_of}
 use Rattle.sts_machine.specs.Machine.{Seen, Stands}
 use Rattle.sts_machine.specs.Turned.{Picks}

@@ -1,5 +1,5 @@
 use Rattle.std.proofs.Common.{ap, not, ◌&&◌, ℕ}
-use Rattle.sts_seen.specs.Waiting.{live_can_step}
+use Rattle.laws_live.specs.Waiting.{live_can_step}
 use Rattle.sts_store.specs.Parts.{can_go_on, live_of}
 use Rattle.sts_tree.proofs.PassingLemmas.{is_out}
 use Rattle.sts_machine.proofs.CanStep.{can_same, picks}

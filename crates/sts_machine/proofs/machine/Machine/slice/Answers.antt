@@ -1,5 +1,5 @@
 use Rattle.std.proofs.Common.{◌≡◌, true, sym, ◌∙◌, subst}
-use Rattle.sts_seen.specs.Waiting.{live_can_step}
+use Rattle.laws_live.specs.Waiting.{live_can_step}
 use Rattle.sts_machine.specs.Machine.{Seen}
 use Rattle.sts_machine.specs.Slice.{IsReached}
 use Rattle.sts_machine.proofs.Putting.{lawful, reached}

@@ -1,6 +1,6 @@
 use Rattle.std.proofs.Common.{◌∙◌, ap, subst, arith}
-use Rattle.sts_laws_accepted.specs.Accepted.{main_of}
-use Rattle.sts_laws_accepted.specs.Views.{BindingsAreSeen}
+use Rattle.laws_accepted.specs.Accepted.{main_of}
+use Rattle.laws_accepted.specs.Views.{BindingsAreSeen}
 use Rattle.sts_rules.specs.Refusal.{IsBudgetOf}
 use Rattle.sts_machine.specs.Machine.{Seen}
 use Rattle.sts_machine.specs.declared.standing.Standing.{Standing}

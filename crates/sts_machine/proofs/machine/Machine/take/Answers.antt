@@ -2,10 +2,10 @@ use Rattle.std.proofs.Common.{◌≡◌, ◌+◌, true, sym, ◌∙◌, ap, subs
 use Rattle.sts_code.specs.declared.instr.Instr.TheVariants.{Push}
 use Rattle.sts_model.specs.declared.event.Event.TheVariants as event
 use Rattle.sts_model.specs.World.{code, instr_at}
-use Rattle.sts_seen.specs.Run.{live_apply}
-use Rattle.sts_seen.specs.Waiting.{live_can_step}
+use Rattle.laws_live.specs.Run.{live_apply}
+use Rattle.laws_live.specs.Waiting.{live_can_step}
 use Rattle.sts_store.specs.Parts.{frame_of, live_of}
-use Rattle.sts_views.specs.Order.{InOrder}
+use Rattle.laws_live.specs.Order.{InOrder}
 use Rattle.sts_machine.specs.Machine.{Seen}
 use Rattle.sts_machine.proofs.Turning.{asked, within, at_hand, stepped, one_step, ordered, ordered_after, next, fine, has_room, few_steps, moved}
 use Rattle.sts_machine.proofs.machine.Machine.take.Goals as goal

@@ -1,5 +1,5 @@
 use Rattle.std.proofs.Common.{◌≡◌, ◌++◌, ◌∷◌, [], true, false, refl, sym, ◌∙◌, ap, arith}
-use Rattle.sts_seen.specs.Run.{live_counts}
+use Rattle.laws_live.specs.Run.{live_counts}
 use Rattle.sts_machine.specs.Turned.{turned}
 use Rattle.sts_machine.proofs.Turning.{idle_view, idle_steps, stands_after, counts_there, runs_well}
 use Rattle.sts_machine.proofs.machine.Machine.turn.Goals as goal

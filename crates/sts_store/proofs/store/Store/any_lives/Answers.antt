@@ -1,6 +1,6 @@
 use Rattle.std.proofs.Common.{sym, ◌∙◌, ap}
-use Rattle.sts_seen.specs.Reading.{live_any_lives}
-use Rattle.sts_agree.proofs.ViewingLemmas.{words}
+use Rattle.laws_live.specs.Reading.{live_any_lives}
+use Rattle.sts_store.proofs.ViewingLemmas.{words}
 use Rattle.sts_store.specs.contracts.store.Store.{the_view}
 use Rattle.sts_store.specs.Parts.{live_of, beside}
 use Rattle.sts_store.proofs.store.Store.any_lives.Goals as goal

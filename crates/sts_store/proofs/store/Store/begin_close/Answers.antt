@@ -1,6 +1,6 @@
 use Rattle.std.proofs.Common.{◌≡◌, sym, subst, arith}
 use Rattle.std.proofs.lemmas.Bool.Decides.{nat_tests}
-use Rattle.sts_views.specs.Order.{IsOwned}
+use Rattle.laws_live.specs.Order.{IsOwned}
 use Rattle.sts_store.specs.Parts.{live_of}
 use Rattle.sts_store.proofs.Stands.{own_cancelled}
 use Rattle.sts_store.proofs.store.Store.begin_close.Goals as goal

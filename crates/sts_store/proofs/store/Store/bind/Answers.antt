@@ -2,7 +2,7 @@ use Rattle.std.proofs.Common.{◌≡◌, ◌+◌, ◌<◌, ◌^◌, ◌∷◌, l
 use mir.Val.{SFits}
 use Rattle.std.proofs.lemmas.Int.{to_z-of_z}
 use Rattle.sts_env.specs.Environments.{list_of}
-use Rattle.sts_seen.specs.Effect.{live_bind}
+use Rattle.laws_live.specs.Effect.{live_bind}
 use Rattle.sts_model.specs.Local.{operand}
 use Rattle.sts_model.specs.declared.record.Frame.{Frame}
 use Rattle.sts_store.specs.contracts.store.Store.{the_view}

@@ -3,8 +3,8 @@ use Rattle.sts_model.specs.Effect.{case_target, named}
 use Rattle.sts_model.specs.Local.{goes}
 use Rattle.sts_model.specs.Misuse.{slot}
 use Rattle.sts_model.specs.declared.record.Frame.{Frame}
-use Rattle.sts_seen.specs.Effect.{live_state}
-use Rattle.sts_seen.specs.Reading.{with_live_frame}
+use Rattle.laws_live.specs.Effect.{live_state}
+use Rattle.laws_live.specs.Reading.{with_live_frame}
 use Rattle.sts_store.specs.Parts.{frame_of, live_of}
 use Rattle.sts_store.proofs.store.Store.case.Goals as goal
 

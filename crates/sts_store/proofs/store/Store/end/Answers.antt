@@ -1,6 +1,6 @@
 use Rattle.std.proofs.Common.{◌+◌, sym, ◌∙◌, ap, subst}
-use Rattle.sts_seen.specs.Effect.{live_end}
-use Rattle.sts_agree.specs.Agreeing.{at_end}
+use Rattle.laws_live.specs.Effect.{live_end}
+use Rattle.sts_store.specs.Agreeing.{at_end}
 use Rattle.sts_store.specs.contracts.store.Store.{the_view}
 use Rattle.sts_store.specs.Parts.{live_of, unseen_of, beside}
 use Rattle.sts_store.proofs.Leaving.{end_kept, end_unseen, end_live, end_ends, as_ended}

@@ -1,6 +1,6 @@
 use Rattle.std.proofs.Common.{◌∙◌, ap}
-use Rattle.sts_seen.specs.Effect.{live_closed}
-use Rattle.sts_seen.specs.Reading.{alive_at}
+use Rattle.laws_live.specs.Effect.{live_closed}
+use Rattle.laws_live.specs.Reading.{alive_at}
 use Rattle.sts_store.proofs.store.Store.finish_close.Goals as goal
 
 pub returns-clause-live : goal.returns-clause-live

@@ -7,10 +7,10 @@ use Rattle.sts_model.specs.Live.{LiveScope}
 use Rattle.sts_model.specs.declared.event.Stand.TheVariants.{Free}
 use Rattle.sts_model.specs.declared.record.Frame.{Frame}
 use Rattle.sts_model.specs.declared.record.Slot.TheVariants.{Lent}
-use Rattle.sts_seen.specs.Effect.{live_fork}
-use Rattle.sts_seen.specs.Reading.{live_scope_at, scope_in}
-use Rattle.sts_views.specs.Order.{InOrder}
-use Rattle.sts_agree.proofs.ViewingLemmas.{scope_there}
+use Rattle.laws_live.specs.Effect.{live_fork}
+use Rattle.laws_live.specs.Reading.{live_scope_at, scope_in}
+use Rattle.laws_live.specs.Order.{InOrder}
+use Rattle.sts_store.proofs.ViewingLemmas.{scope_there}
 use Rattle.sts_tree.proofs.SeeingLemmas.{copied}
 use Rattle.sts_store.specs.contracts.store.Store.{the_view}
 use Rattle.sts_store.specs.declared.running.Running.{Running}

@@ -1,5 +1,5 @@
 use Rattle.std.proofs.Common.{true, cond, ap, sym, ◌∙◌}
-use Rattle.sts_seen.specs.Reading.{with_alive}
+use Rattle.laws_live.specs.Reading.{with_alive}
 use Rattle.sts_store.specs.contracts.store.Store.{the_view}
 use Rattle.sts_store.specs.Parts.{live_of, unseen_of}
 use Rattle.sts_store.proofs.Flags.{flagged, flag_kept, flag_seen, flag_rest}

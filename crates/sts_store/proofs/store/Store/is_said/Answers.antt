@@ -1,5 +1,5 @@
 use Rattle.std.proofs.Common.{◌≡◌, true, sym, ◌∙◌, ap, subst, arith}
-use Rattle.sts_forest.specs.declared.record.Task.{Task}
+use Rattle.sts_tree.specs.declared.record.Task.{Task}
 use Rattle.sts_model.specs.contracts.event.StandPartialEq.TheImpl as stand_eq
 use Rattle.sts_model.specs.declared.event.Stand.{Stand}
 use Rattle.sts_tree.proofs.SeeingLemmas.{copied}

@@ -4,7 +4,7 @@ use Rattle.std.proofs.lemmas.Int.{to_z-of_z}
 use Rattle.sts_model.specs.declared.event.Verdict.TheVariants as verdict
 use Rattle.sts_model.specs.declared.record.Frame.{Frame}
 use Rattle.sts_model.specs.Local.{goes}
-use Rattle.sts_seen.specs.Effect.{live_joined, live_verdict}
+use Rattle.laws_live.specs.Effect.{live_joined, live_verdict}
 use Rattle.sts_store.specs.Parts.{live_of, frame_of}
 use Rattle.sts_store.proofs.Phases.{join_expired, join_told, join_waits}
 use Rattle.sts_store.proofs.store.Store.join.Goals as goal

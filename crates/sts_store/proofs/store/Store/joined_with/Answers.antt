@@ -1,7 +1,7 @@
 use Rattle.std.proofs.Common.{[], ◌∷◌, ◌∙◌, ap, w64}
 use Rattle.std.proofs.lemmas.Int.{to_z-of_z}
 use Rattle.sts_model.specs.Local.{goes}
-use Rattle.sts_seen.specs.Reading.{alive_at, with_live_frame}
+use Rattle.laws_live.specs.Reading.{alive_at, with_live_frame}
 use Rattle.sts_store.specs.Parts.{live_of, frame_of}
 use Rattle.sts_store.proofs.store.Store.joined_with.Goals as goal
 

@@ -2,7 +2,7 @@ use Rattle.std.proofs.Common.{◌≡◌, ℕ, [], false, refl, ap, sym, ◌∙�
 use Rattle.sts_model.specs.Local.{goes}
 use Rattle.sts_model.specs.Live.{Live}
 use Rattle.sts_model.specs.declared.record.Frame.{Frame}
-use Rattle.sts_seen.specs.Reading.{with_alive}
+use Rattle.laws_live.specs.Reading.{with_alive}
 use Rattle.sts_store.specs.contracts.store.Store.{the_view}
 use Rattle.sts_store.specs.Parts.{live_of, unseen_of, frame_of}
 use Rattle.sts_store.proofs.Flags.{flag_kept, flag_rest, flag_frame_seen}

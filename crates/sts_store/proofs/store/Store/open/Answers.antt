@@ -1,9 +1,9 @@
 use Rattle.std.proofs.Common.{◌≡◌, ◌<◌, ◌+◌, ◌-◌, ◌^◌, None, sym, ◌∙◌, ap, subst, get_or, length}
-use Rattle.sts_forest.specs.Forest.{Forest}
+use Rattle.sts_tree.specs.Forest.{Forest}
 use Rattle.sts_env.specs.declared.env.Env.{Env}
 use Rattle.sts_model.specs.declared.record.Frame.{Frame}
-use Rattle.sts_views.specs.Order.{InOrder}
-use Rattle.sts_seen.specs.Effect.{live_open}
+use Rattle.laws_live.specs.Order.{InOrder}
+use Rattle.laws_live.specs.Effect.{live_open}
 use Rattle.sts_store.specs.contracts.store.Store.{the_view}
 use Rattle.sts_store.specs.Parts.{live_of, frame_of}
 use Rattle.sts_store.specs.Stored.{IsStore}

@@ -3,7 +3,7 @@ use mir.Val.{SFits, to_z, of_z}
 use Rattle.std.specs.Prelude.{unwrap_or}
 use Rattle.std.proofs.lemmas.Int.{to_z-of_z}
 use Rattle.sts_model.specs.Local.{operand}
-use Rattle.sts_seen.specs.Effect.{live_read}
+use Rattle.laws_live.specs.Effect.{live_read}
 use Rattle.sts_store.specs.Parts.{live_of}
 use Rattle.sts_store.proofs.Writing.{went_on}
 use Rattle.sts_store.proofs.store.Store.or_else.Goals as goal

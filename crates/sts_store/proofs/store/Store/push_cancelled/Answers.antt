@@ -2,7 +2,7 @@ use Rattle.std.proofs.Common.{ap, ◌∙◌, rules, w64}
 use mir.Val.{SFits}
 use Rattle.sts_model.specs.Effect.{named}
 use Rattle.sts_model.specs.Misuse.{slot}
-use Rattle.sts_seen.specs.Reading.{live_scope_at}
+use Rattle.laws_live.specs.Reading.{live_scope_at}
 use Rattle.sts_store.specs.Parts.{live_of}
 use Rattle.sts_store.proofs.Writing.{went_on, truth_pushed}
 use Rattle.sts_store.proofs.store.Store.push_cancelled.Goals as goal

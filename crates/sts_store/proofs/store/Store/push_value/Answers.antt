@@ -3,7 +3,7 @@ use mir.Val.{SFits}
 use Rattle.std.proofs.lemmas.Int.{to_z-of_z}
 use Rattle.sts_model.specs.Effect.{named, value_or_zero}
 use Rattle.sts_model.specs.Misuse.{slot}
-use Rattle.sts_seen.specs.Effect.{live_state}
+use Rattle.laws_live.specs.Effect.{live_state}
 use Rattle.sts_store.specs.Parts.{live_of}
 use Rattle.sts_store.proofs.Writing.{went_on}
 use Rattle.sts_store.proofs.store.Store.push_value.Goals as goal

@@ -1,7 +1,7 @@
 use Rattle.std.proofs.Common.{sym, ◌∙◌, ap, subst}
 use Rattle.std.specs.Prelude.{option_map}
 use Rattle.sts_env.specs.Environments.{IsWhole, list_of}
-use Rattle.sts_forest.proofs.HoldingLemmas.{map_at}
+use Rattle.sts_tree.proofs.HoldingLemmas.{map_at}
 use Rattle.sts_model.specs.Environment as model
 use Rattle.sts_model.specs.Live.{Alive}
 use Rattle.sts_tree.proofs.SeeingLemmas.{copied}

@@ -1,5 +1,5 @@
 use Rattle.std.proofs.Common.{ap, ◌∙◌}
-use Rattle.sts_held.specs.Holes.{key_at}
+use Rattle.sts_records.specs.Holes.{key_at}
 use Rattle.sts_store.specs.contracts.store.Store.{the_view}
 use Rattle.sts_store.specs.Parts.{live_of, unseen_of}
 use Rattle.sts_store.proofs.Seeing.{scope_key}

@@ -1,5 +1,5 @@
 use Rattle.std.proofs.Common.{◌∙◌, ap, get_or, None}
-use Rattle.sts_seen.specs.Reading.{with_live_phase}
+use Rattle.laws_live.specs.Reading.{with_live_phase}
 use Rattle.sts_store.specs.contracts.store.Store.{the_view}
 use Rattle.sts_store.specs.Parts.{live_of, unseen_of}
 use Rattle.sts_store.proofs.Seeing.{scope_stands}

@@ -1,6 +1,6 @@
 use Rattle.std.proofs.Common.{◌∙◌, sym, ap, subst, true, ℕ, ◌≡◌}
-use Rattle.sts_views.specs.Order.{IsOwned}
-use Rattle.sts_views.specs.Stands.{is_stand_at}
+use Rattle.laws_live.specs.Order.{IsOwned}
+use Rattle.laws_live.specs.Stands.{is_stand_at}
 use Rattle.sts_store.specs.contracts.store.Store.{the_view}
 use Rattle.sts_store.specs.Parts.{live_of, unseen_of, stood_unseen}
 use Rattle.sts_store.proofs.Stands.{stand_kept, stand_seen, stand_rest, own_stand}

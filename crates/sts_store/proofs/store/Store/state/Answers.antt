@@ -1,6 +1,6 @@
 use Rattle.std.proofs.Common.{Some, None, ap, sym, ◌∙◌}
 use Rattle.std.specs.Prelude.{option_copied}
-use Rattle.sts_seen.specs.Effect.{live_state}
+use Rattle.laws_live.specs.Effect.{live_state}
 use Rattle.sts_store.specs.Parts.{live_of}
 use Rattle.sts_store.specs.contracts.store.Store.{the_view}
 use Rattle.sts_store.proofs.Seeing.{state_is}

@@ -2,7 +2,7 @@ use Rattle.std.proofs.Common.{◌+◌, ◌<◌, ◌^◌, length, false, Bool, tr
 use mir.Val.{SFits, bool_byte, to_z, of_z}
 use Rattle.std.proofs.lemmas.Int.{to_z-of_z}
 use Rattle.sts_model.specs.Local.{steps, truth}
-use Rattle.sts_seen.specs.Effect.{live_take_flag}
+use Rattle.laws_live.specs.Effect.{live_take_flag}
 use Rattle.sts_store.specs.declared.running.Running.{Running}
 use Rattle.sts_store.proofs.Views.{just, alive_of}
 use Rattle.sts_model.specs.declared.record.Frame.{Frame}

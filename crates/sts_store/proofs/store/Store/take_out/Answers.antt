@@ -1,15 +1,15 @@
 use Rattle.std.proofs.Common.{◌≡◌, ◌+◌, ◌<◌, ◌^◌, None, sym, ◌∙◌, ap, subst, get_or}
 use Rattle.sts_model.specs.declared.event.Stand.TheVariants.{Free}
 use Rattle.sts_model.specs.declared.record.Frame.{Frame}
-use Rattle.sts_seen.specs.Effect.{live_cleared, live_gone}
-use Rattle.sts_seen.specs.Reading.{with_live_frame}
+use Rattle.laws_live.specs.Effect.{live_cleared, live_gone}
+use Rattle.laws_live.specs.Reading.{with_live_frame}
 use Rattle.sts_store.specs.Closing.{gone_unseen}
 use Rattle.sts_store.specs.contracts.store.Store.{the_view}
 use Rattle.sts_store.specs.Parts.{live_of, frame_of, stand_in, unseen_of}
 use Rattle.sts_store.specs.Stored.{IsStore}
 use Rattle.sts_store.specs.declared.running.Running.{Running}
 use Rattle.sts_env.specs.declared.env.Env.{Env}
-use Rattle.sts_forest.specs.Forest.{Forest}
+use Rattle.sts_tree.specs.Forest.{Forest}
 use Rattle.sts_store.proofs.Views.{some_not, with_running}
 use Rattle.sts_store.proofs.Clearing.{cleared_seen}
 use Rattle.sts_store.proofs.CloseLemmas.{gone_on}

@@ -1,7 +1,7 @@
 use Rattle.std.proofs.Common.{◌∙◌, ap, sym, get_or, None, rules, w64}
 use mir.Val.{SFits}
 use Rattle.std.proofs.lemmas.Int.{to_z-of_z}
-use Rattle.sts_seen.specs.Reading.{live_scope_at}
+use Rattle.laws_live.specs.Reading.{live_scope_at}
 use Rattle.sts_store.specs.Parts.{live_of}
 use Rattle.sts_store.specs.contracts.store.Store.{the_view}
 use Rattle.sts_store.proofs.Seeing.{scope_stands, total_is}

@@ -2,8 +2,8 @@ use Rattle.std.proofs.Common.{◌≡◌, ◌+◌, ◌<◌, ◌^◌, drop, true, 
 use Rattle.sts_env.specs.Environments.{list_of}
 use Rattle.sts_model.specs.Misuse.{innermost, is_binding}
 use Rattle.sts_model.specs.declared.record.Frame.{Frame}
-use Rattle.sts_seen.specs.Effect.{live_unbind}
-use Rattle.sts_views.specs.Order.{InOrder}
+use Rattle.laws_live.specs.Effect.{live_unbind}
+use Rattle.laws_live.specs.Order.{InOrder}
 use Rattle.sts_store.specs.contracts.store.Store.{the_view}
 use Rattle.sts_store.specs.declared.running.Running.{Running}
 use Rattle.sts_store.specs.Parts.{live_of, frame_of}

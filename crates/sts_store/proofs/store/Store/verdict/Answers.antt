@@ -1,8 +1,8 @@
 use Rattle.std.proofs.Common.{sym, ◌∙◌, ap, get_or, None}
 use Rattle.sts_model.specs.Told.{result_told}
 use Rattle.sts_model.specs.Live.{LiveScope}
-use Rattle.sts_seen.specs.Reading.{live_count}
-use Rattle.sts_agree.proofs.ViewingLemmas.{words, scope_there}
+use Rattle.laws_live.specs.Reading.{live_count}
+use Rattle.sts_store.proofs.ViewingLemmas.{words, scope_there}
 use Rattle.sts_store.specs.contracts.store.Store.{the_view}
 use Rattle.sts_store.specs.Parts.{live_of, beside}
 use Rattle.sts_store.proofs.Seeing.{scope_stands}

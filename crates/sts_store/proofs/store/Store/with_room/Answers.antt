@@ -1,6 +1,6 @@
 use Rattle.std.proofs.Common.{◌≡◌, [], ◌∷◌, ◌++◌, Some, None, ap, ◌∙◌}
 use Rattle.sts_env.specs.declared.env.Env.{Env}
-use Rattle.sts_held.specs.Holes.{Holes}
+use Rattle.sts_records.specs.Holes.{Holes}
 use Rattle.sts_store.specs.declared.running.Running.{Running}
 use Rattle.sts_store.proofs.BeginningLemmas.{root_store}
 use Rattle.sts_store.proofs.store.Store.with_room.Goals as goal

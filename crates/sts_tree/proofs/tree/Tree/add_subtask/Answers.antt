@@ -1,5 +1,5 @@
 use Rattle.std.proofs.Common.{◌≡◌, ◌-◌, None, not, refl, ◌∙◌, ap, get_or}
-use Rattle.sts_forest.specs.Forest.{subtask}
+use Rattle.sts_tree.specs.Forest.{subtask}
 use Rattle.sts_tree.proofs.SeeingLemmas.{some_scope, copied, added_seen}
 use Rattle.sts_tree.proofs.Keeping.{added_tree}
 use Rattle.sts_tree.proofs.tree.Tree.add_subtask.Goals as goal

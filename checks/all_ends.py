@@ -1,0 +1,183 @@
+#!/usr/bin/env python3
+"""Finds every end that a program can come to, over all schedules.  usage: all_ends.py FILE [options]
+
+The search is exhaustive over the machine of plain_machine.py. Local instructions run on at once: what they do depends on
+no other task, and no other task sees it. It prints each end of the root task or fault, and below them how many states it
+saw; status 5 if it stopped before it had seen all.
+
+`--fine` gives the end of a subtask the steps that it has in JDK 25: it looks whether its scope is cancelled and sets its
+state, tells the joiner, marks the scope, interrupts one sibling after the other, and ends. A `join` that finds both a
+result and the flag of its owner may then have either outcome.
+"""
+import argparse
+import sys
+
+import plain_machine
+import stack_code
+
+
+class FineMachine(plain_machine.Machine):
+    """A machine on which the end of a subtask, and a cancel, are several steps.
+
+    `pending` has for each task the steps that are left of its end or its close, the next one first.
+    """
+
+    def __init__(self, program):
+        super().__init__(program)
+        self.pending, self.canceller, self.prefers_interrupt = {}, None, False
+
+    def copy(self):
+        it = super().copy()
+        it.pending = {number: steps[:] for number, steps in self.pending.items()}
+        return it
+
+    def key(self):
+        return (*super().key(), tuple((number, *steps) for number, steps in sorted(self.pending.items()) if steps))
+
+    def can_step(self, task):
+        number = next(n for n, it in enumerate(self.tasks) if it is task)
+        return bool(self.pending.get(number)) or super().can_step(task)
+
+    def any_lives(self, scope):
+        """A thread lives until its last step."""
+        return any(self.tasks[it].lives() or self.pending.get(it) for it in scope.subtasks)
+
+    def step(self, number):
+        if self.pending.get(number):
+            self.micro(number, self.pending[number].pop(0))
+            return True
+        self.canceller = number
+        return super().step(number)
+
+    def finish(self, number, task, end):
+        if task.scope is None:
+            super().finish(number, task, end)
+        else:
+            task.end = end
+            self.pending[number] = [("look", task.scope)]
+
+    def micro(self, number, what):
+        """Does one of the steps of an end or a cancel."""
+        kind, place = what
+        todo, task = self.pending[number], self.tasks[number]
+        if kind == "interrupt":
+            if self.tasks[place].lives() or self.pending.get(place):
+                self.tasks[place].flag = True
+        elif kind == "look":
+            if self.is_heard(self.scopes[place]):
+                todo += [("state", place), ("tell", place), ("end", place)]
+        elif kind == "state":
+            task.heard = True
+        elif kind == "tell":
+            scope = self.scopes[place]
+            scope.told.append((number, *task.end))
+            if self.is_to_cancel_now(scope):
+                todo.insert(0, ("mark", place))
+        elif kind == "mark":
+            self.cancel_by(number, self.scopes[place])
+
+    def is_to_cancel_now(self, scope):
+        """Does the joiner say so of the end that it was told last?"""
+        before = scope.told.pop()
+        was = self.is_to_cancel(scope)
+        scope.told.append(before)
+        return not was and self.is_to_cancel(scope)
+
+    def cancel_by(self, number, scope):
+        if scope.cancelled:
+            return
+        scope.cancelled = True
+        others = [it for it in scope.subtasks if it != number and (self.tasks[it].lives() or self.pending.get(it))]
+        self.pending.setdefault(number, [])[:0] = [("interrupt", it) for it in others]
+
+    def cancel(self, scope):
+        self.cancel_by(self.canceller, scope)
+
+    def outcome(self, task, scope):
+        outcome = super().outcome(task, scope)
+        return "interrupted" if outcome == "result" and self.prefers_interrupt and task.flag else outcome
+
+    def may_prefer_interrupt(self, task):
+        """Is the task at a join that may find the flag first?"""
+        it = self.instruction(task)
+        return task.flag and it is not None and it.op == "join" and not self.misuse(task)
+
+
+def ready(machine):
+    return [number for number, task in enumerate(machine.tasks) if machine.can_step(task)]
+
+
+def run_local(machine):
+    """Runs local instructions of every task on, as far as there are any."""
+    for number, task in enumerate(machine.tasks):
+        while task.lives() and not machine.fault:
+            it = machine.instruction(task)
+            if it is None or it.op not in plain_machine.LOCAL or machine.misuse(task):
+                break
+            machine.step(number)
+
+
+def children(machine, is_expiring, interrupts):
+    """Yields each state that one event leads to, with the interrupts that are left."""
+    for number in ready(machine):
+        it = machine.copy()
+        it.step(number)
+        yield it, interrupts
+        if isinstance(machine, FineMachine) and machine.may_prefer_interrupt(machine.tasks[number]):
+            it = machine.copy()
+            it.prefers_interrupt = True
+            it.step(number)
+            it.prefers_interrupt = False
+            yield it, interrupts
+    for number, scope in enumerate(machine.scopes):
+        if is_expiring and machine.may_expire(scope):
+            it = machine.copy()
+            it.expire(number)
+            yield it, interrupts
+    for number, task in enumerate(machine.tasks):
+        if interrupts and task.lives() and not task.flag:
+            it = machine.copy()
+            it.interrupt(number)
+            yield it, interrupts - 1
+
+
+def ends(program, machine=plain_machine.Machine, is_expiring=False, interrupts=0, most=1_000_000):
+    """Returns the ends and faults, how many states were seen, and whether these are all."""
+    first = machine(program)
+    run_local(first)
+    seen, waiting, found = {(first.key(), interrupts)}, [(first, interrupts)], set()
+    while waiting:
+        at, left = waiting.pop()
+        if at.fault or at.tasks[0].end:
+            found.add(at.root_end())
+            continue
+        for it, fewer in children(at, is_expiring, left):
+            run_local(it)
+            key = (it.key(), fewer)
+            if key not in seen:
+                if len(seen) == most:
+                    return found, len(seen), False
+                seen.add(key)
+                waiting.append((it, fewer))
+    return found, len(seen), True
+
+
+def main():
+    reads = argparse.ArgumentParser(description="Finds every end that a program can come to.")
+    reads.add_argument("file")
+    reads.add_argument("--expiries", action="store_true", help="scopes with a timeout may expire at any time")
+    reads.add_argument("--interrupts", type=int, default=0, help="at most so many interrupts from outside (0)")
+    reads.add_argument("--most", type=int, default=1_000_000, help="the states after which it stops (1000000)")
+    reads.add_argument("--fine", action="store_true", help="the end of a subtask has the steps that it has in JDK 25")
+    asked = reads.parse_args()
+    with open(asked.file) as file:
+        program = stack_code.program(file.read())
+    machine = FineMachine if asked.fine else plain_machine.Machine
+    found, states, are_all = ends(program, machine, asked.expiries, asked.interrupts, asked.most)
+    print("".join(f"{it}\n" for it in sorted(found)), end="")
+    print(f"{states} states, all schedules" if are_all else f"stopped at {states} states, not all schedules")
+    return 0 if are_all else 5
+
+
+if __name__ == "__main__":
+    sys.exit(main())

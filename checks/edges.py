@@ -1,0 +1,269 @@
+#!/usr/bin/env python3
+"""Gives the programs words and files at their edges.  usage: edges.py [PROGRAM [LOOK]]
+
+PROGRAM is `sts`, LOOK is `look`; each of their commands is tried where it applies.
+- Words: all of them count, also of 300, and ten may be right; words that are mistaken, are no text or ask for help
+  are answered on standard error alone, with status 2 or 0.
+- Files: a name is taken as it is, with the blanks around it; FILE is read before the other file, up to a byte more than a
+  text may have; a trace is made under the name that was given and under no other, and has the journal.
+- Output and status: of each command for each of its statuses.
+Expected answers were worked out by hand from the rules.  The last line is `N passed, M failed`, of runs.
+"""
+import os
+import subprocess
+import sys
+import tempfile
+
+ROOT = os.path.dirname(os.path.dirname(os.path.realpath(__file__)))
+PROGRAM, LOOK = (os.path.join(ROOT, "crates", name, "out", name) for name in ("sts", "look"))
+SECONDS = 60
+MOST = 1_048_576  # The bytes that a text may have.
+
+SEVEN = "func main 0\npush 7\nret\nend\n"
+BUDGETS = "main steps 2\nmain tasks 1\nmain scopes 0\nmain binds 0\n"
+FAILS = SEVEN.replace("ret", "fail").replace("7", "8")
+POPS = "func main 0\npop\nret\nend\n"  # It is refused, and its first step is a fault.
+TWICE = "step 0\nstep 0\n"
+# One subtask, which ends; then it is interrupted.
+OWNER = "func kid 0\npush 4\nret\nend\nfunc main 0\nopen s0 any\nfork s0 kid _\njoin s0 bad - intr\nclose s0\nret\n" \
+    "bad:\nclose s0\nfail\nintr:\npush 0\nclose s0\nfail\nend\n"
+ENDED = "step 0\nstep 0\nstep 1\nstep 1\ninterrupt 1\n"
+NO_FILE = (6, "error file\n", "")
+NOT_TEXT = "error: a word of the command line is not UTF-8\n"
+
+
+class Folder:
+    """A program, and the folder in which it runs."""
+
+    def __init__(self, program, path):
+        self.program, self.path = program, path
+
+    def has(self, **files):
+        """Puts these files there, and no others."""
+        for name in os.listdir(self.path):
+            os.remove(os.path.join(self.path, name))
+        self.add(files)
+
+    def add(self, files):
+        for name, content in files.items():
+            with open(os.path.join(self.path, name), "w") as file:
+                file.write(content)
+
+    def says(self, *words, given=""):
+        """Returns the status, and what is printed and told."""
+        around = {"cwd": self.path, "capture_output": True, "timeout": SECONDS}
+        try:
+            done = subprocess.run([self.program, *words], input=given.encode(), **around)
+        except subprocess.TimeoutExpired:
+            return "no end", "", ""
+        printed, told = done.stdout.decode(errors="replace"), done.stderr.decode(errors="replace")
+        return done.returncode, printed, "" if self.is_reason(done.returncode, told) else told
+
+    def is_reason(self, status, told):
+        """Returns whether one line of the program's own says why it failed. Which line, `streams.py` compares."""
+        name = os.path.basename(self.program)
+        return status in (3, 4, 6) and told.startswith(f"{name}: ") and told.find("\n") == len(told) - 1
+
+    def tells(self, *words):
+        """Returns the status, what is printed, and whether something is told."""
+        status, printed, told = self.says(*words)
+        return status, printed, told != ""
+
+    def read(self, name):
+        with open(os.path.join(self.path, name)) as file:
+            return file.read()
+
+    def names(self):
+        return sorted(os.listdir(self.path))
+
+
+def words_of_sts(sts):
+    """Yields what was tried, what came of it, and what is right, of the words of `sts`."""
+    sts.has(text=SEVEN, outside="", trace=TWICE)
+    ten = ["run", "--workers", "1", "--outside", "outside", "--trace", "journal", "--", "text"]
+    yield "ten words", sts.says(*ten), (0, f"{BUDGETS}success 7\nsteps 2\n", "")
+    for more in (["x1"], ["x1", *["x"] * 289]):
+        sts.has(text=SEVEN, outside="")
+        status, printed, told = sts.says(*ten, *more)
+        yield f"{10 + len(more)} words", (status, printed, "x1" in told, sts.names()), (2, "", True, ["outside", "text"])
+    for words in (["verify", "text"], ["list", "text"], ["plain", "text", "trace"], ["replay", "text", "trace"]):
+        yield f"a word too many: {words}", sts.tells(*words, "text"), (2, "", True)
+    for count in ("0", "17", "-1", "+1", "1.0", "", " 1", "four", "18446744073709551617"):
+        yield f"{count!r} workers", sts.tells("run", "text", f"--workers={count}"), (2, "", True)
+    for count in ("1", "16"):
+        yield f"{count} workers", sts.says("run", f"--workers={count}", "text"), (0, f"{BUDGETS}success 7\nsteps 2\n", "")
+    yield from mistaken(sts, [["verify"], ["list"], ["plain", "text"], ["replay", "text"], ["run", "text"], ["run", "--workers", "1"], ["view"], [""]])
+    yield from helped(sts, ["verify", "list", "plain", "replay", "run"])
+
+
+def words_of_look(look):
+    """Yields the same of the words of `look`."""
+    look.has(text=SEVEN, trace="step 0\n")
+    last = "running\nsteps 1\ntask 0 under - in main at 1 ready\n"
+    full = f"{last}  operands 7\n  locals\n  bound\n"
+    first = "running\nsteps 0\ntask 0 under - in main at 0 ready\n"
+    each = f"{first}after 1 step 0\n{last}"
+    both = f"{first}  operands\n  locals\n  bound\nafter 1 step 0\n{full}"
+    for more, printed in ([], last), (["--full"], full), (["--each"], each), (["--each", "--full"], both):
+        for words in (["view", "text", "trace", *more], ["view", *more, "text", "trace"], ["view", "text", *more, "trace"]):
+            yield f"{words}", look.says(*words), (5, printed, "")
+    for words in (["view", "text", "trace"], ["explain", "text", "trace"], ["draw", "text", "trace"]):
+        status, printed, told = look.says(*words, "x1", *["x"] * 290)
+        yield f"300 words: {words}", (status, printed, "x1" in told), (2, "", True)
+    yield from mistaken(look, [[], ["view", "text"], ["explain"], ["draw", "text"], ["view", "text", "trace", "--eech"], ["verify", "text"], [""]])
+    yield from helped(look, ["view", "explain", "draw"], is_printed=True)
+
+
+def mistaken(program, lines):
+    """Yields the same of words that are mistaken, and of one that is no text."""
+    for words in lines:
+        yield f"mistaken: {words}", program.tells(*words), (2, "", True)
+    yield "a word that is no text", program.says("list", b"\xff"), (2, "", NOT_TEXT)
+
+
+def helped(program, commands, is_printed=False):
+    """Yields the same where help is asked for: of each command it says which words follow. `look` prints it, `sts` tells it."""
+    for command in [None, *commands]:
+        words = [command, "--help"] if command else ["--help"]
+        status, printed, told = program.says(*words)
+        text, other = (printed, told) if is_printed else (told, printed)
+        names = "FILE" in text and command in text if command else all(it in text for it in commands)
+        yield f"help of {command}", (status, other, names), (0, "", True)
+
+
+def files(program, name, texts, traces):
+    """Yields what was tried, what came of it, and what is right, of files that are missing, and of a text too long."""
+    for words in [*texts, *traces]:
+        program.has(trace=TWICE)
+        yield f"no FILE: {name} {words}", program.says(*words), NO_FILE
+    for words in traces:
+        program.has(text=SEVEN)
+        yield f"no file of events: {name} {words}", program.says(*words), NO_FILE
+        # FILE comes first: the other one is a pipe that nobody writes to, and to open it would never end
+        program.has()
+        os.mkfifo(os.path.join(program.path, "trace"))
+        yield f"no FILE, and a pipe: {name} {words}", program.says(*words), NO_FILE
+    for words in [*texts, *traces]:
+        for size, code in ((MOST, "A9 C5"), (MOST + 1, "A8")):
+            program.has(text=";" * (size - 1) + "\n", trace="")
+            status, printed, told = program.says(*words)
+            yield f"{size} bytes: {name} {words}", (status, printed.startswith(f"error {code}"), told), (3, True, "")
+
+
+NAMES = [" text", "text ", "\ttext", "text\n", " ", "t\u00e9xt", "a=b", "'text'", "%", "t" * 255]
+
+
+def names_of_sts(sts):
+    """Yields the same of names that are taken as they are."""
+    decoys = {"text": POPS, "trace": "", "journal": "kept\n"}
+    for name in NAMES:
+        sts.has(**decoys, **{name: SEVEN})
+        yield f"verify {name!r}", sts.says("verify", name), (0, BUDGETS, "")
+        yield f"list {name!r}", sts.says("list", name), (0, "func main 0\n  push 7\n  ret\nend\n", "")
+        yield f"run {name!r}", sts.says("run", name, "--workers", "1"), (0, f"{BUDGETS}success 7\nsteps 2\n", "")
+        sts.has(**decoys, **{name: TWICE})
+        sts.add({"seven": SEVEN})
+        for mode in ("plain", "replay"):
+            yield f"{mode} with {name!r}", sts.says(mode, "seven", name), (0, "success 7\nsteps 2\n", "")
+        sts.has(**decoys, **{name: "at 0 interrupt 5\nat 2 interrupt 6\n"})
+        sts.add({"seven": SEVEN})
+        made = f"{name[:200]}.journal "
+        words = ["run", "seven", "--workers", "1", "--outside", name, "--trace", made]
+        yield f"{words}", sts.says(*words), (0, f"{BUDGETS}success 7\nsteps 2\n", "")
+        there = sorted([*decoys, name, "seven", made])
+        journal = sts.read(made) if sts.names() == there else None
+        yield f"its journal, {made!r}", (sts.names(), journal), (there, "interrupt 5\nstep 0\ninterrupt 6\nstep 0\n")
+        yield f"the file beside it, {made!r}", sts.read("journal"), "kept\n"
+
+
+def names_of_look(look):
+    """Yields the same of `look`."""
+    for name in NAMES:
+        look.has(text=POPS, trace="", **{name: SEVEN})
+        yield f"explain {name!r}", look.says("explain", name), (0, "accepted\n", "")
+        look.add({"seven": SEVEN, name: TWICE})
+        ended = "success 7\nsteps 2\ntask 0 under - in main at 2 success 7\n"
+        yield f"view with {name!r}", look.says("view", "seven", name), (0, ended, "")
+        yield f"explain with {name!r}", look.says("explain", "seven", name), (0, "success 7\n", "")
+        status, printed, told = look.says("draw", "seven", name)
+        yield f"draw with {name!r}", (status, ended in printed, told), (0, True, "")
+
+
+# A text, a trace, and what `view` prints of them, with its status
+VIEWS = [
+    (SEVEN, TWICE, "success 7\nsteps 2\ntask 0 under - in main at 2 success 7\n", 0),
+    (FAILS, TWICE, "failed 8\nsteps 2\ntask 0 under - in main at 2 failed 8\n", 1),
+    (SEVEN, "", "running\nsteps 0\ntask 0 under - in main at 0 ready\n", 5),
+    (POPS, TWICE, "fault Operand task 0 in main at 0\nsteps 1\ntask 0 under - in main at 0 ready\n", 5),
+    (SEVEN, "step 0\nstep", "error T3\n", 3),
+    (SEVEN, "step 0\nstep 01\n", "error T2 line 2\n", 3),
+    ("func main 0\npuhs 7\nret\nend\n", "step\n", "error A2 line 2\n", 3),
+    # a task that has ended isn't interrupted
+    (OWNER, ENDED, "running\nsteps 4\ntask 0 under - in main at 2 ready\ntask 1 under 0 in kid at 2 success 4\nscope 0 of 0 any opened cancelled\n", 5),
+]
+# A text, what `explain` prints first, and the status
+EXPLAINED = [
+    (SEVEN, "accepted\n", 0),
+    (POPS, "refused V1 in main, line 2: pop\n", 4),
+    ("func main 0\npuhs 7\nret\nend\n", "error A2, line 2: puhs 7\n", 3),
+    ("", "error A9 C5\n", 3),
+]
+
+
+def outputs_of_look(look):
+    """Yields the same of what the commands of `look` print, and of each status."""
+    for text, trace, printed, status in VIEWS:
+        look.has(text=text, trace=trace)
+        yield f"view of {text!r} {trace!r}", look.says("view", "text", "trace"), (status, printed, "")
+        for words in (["view", "text", "trace", "--each"], ["explain", "text", "trace"], ["draw", "text", "trace"]):
+            ended, _, told = look.says(*words)
+            yield f"the status of {words}, {text!r} {trace!r}", (ended, told), (status, "")
+    look.has(text=OWNER, trace=ENDED)
+    status, printed, _ = look.says("view", "text", "trace", "--each")
+    yield "an interrupt of a task that has ended", "after 5 interrupt 1 idle\n" in printed, True
+    for text, first, status in EXPLAINED:
+        look.has(text=text)
+        ended, printed, told = look.says("explain", "text")
+        yield f"explain {text!r}", (ended, printed.startswith(first), told), (status, True, "")
+
+
+def outputs_of_sts(sts):
+    """Yields the same of what `sts` prints of these runs, by files and by one input."""
+    for text, trace, printed, status in VIEWS:
+        sts.has(text=text, trace=trace)
+        plain = "".join(printed.splitlines(True)[:2])
+        yield f"plain of {text!r} {trace!r}", sts.says("plain", "text", "trace"), (status, plain, "")
+        yield f"the input {text!r} {trace!r}", sts.says(given=f"{text}%\n{trace}"), (status, plain, "")
+
+
+def tried(sts, look):
+    yield from words_of_sts(sts)
+    yield from words_of_look(look)
+    yield from names_of_sts(sts)
+    yield from names_of_look(look)
+    yield from outputs_of_sts(sts)
+    yield from outputs_of_look(look)
+    run = ["run", "text", "--workers", "2"]
+    both = [["plain", "text", "trace"], ["replay", "text", "trace"], [*run, "--outside", "trace"]]
+    yield from files(sts, "sts", [["verify", "text"], ["list", "text"], run], both)
+    yield from files(look, "look", [["explain", "text"]], [[it, "text", "trace"] for it in ("view", "explain", "draw")])
+
+
+def main():
+    programs = [os.path.realpath(it) for it in [*sys.argv[1:], *(PROGRAM, LOOK)[len(sys.argv) - 1 :]]]
+    for program in programs:
+        if not os.access(program, os.X_OK):
+            print(f"edges.py: no program at {program}: ./sts and ./look build them", file=sys.stderr)
+            return 2
+    passed = failed = 0
+    with tempfile.TemporaryDirectory() as folder:
+        for what, said, right in tried(*(Folder(it, folder) for it in programs)):
+            passed, failed = passed + (said == right), failed + (said != right)
+            if said != right:
+                print(f"{what}: {said}, and not {right}", file=sys.stderr)
+    print(f"{passed} passed, {failed} failed")
+    return 1 if failed or not passed else 0
+
+
+if __name__ == "__main__":
+    sys.exit(main())

@@ -1,0 +1,219 @@
+#!/usr/bin/env python3
+"""Searches every schedule of three workers on a small run for one that never ends.  usage: waits.py [--workers N] [--kids N]
+
+The rule that it searches is that of `crates/sts_pool/src/waits.rt`. The root forks three subtasks and waits for them; each
+subtask has two units of work. A move is what one worker does under one hold of the lock. Every choice is tried: how many
+turns a hold does, which task is claimed, whether a slice was worth it, whom a wake-up reaches, and wake-ups for no reason.
+A second search stops the run after any move, as a refused start does, and wakes nobody for it.
+
+A state is bad where every worker sleeps or has ended and one of them sleeps; where several workers are wanted, a task is
+left, one sleeps and the others are all out with slices; or where no moves lead to the end of all workers. The rule has no
+bad state. Each fault of FAULTS is planted in turn, and has one. The last line is `N passed, M failed`.
+"""
+import sys
+
+ROOT, UNITS, TRIES = 0, 2, 2
+
+
+def option(name, other):
+    return int(sys.argv[sys.argv.index(name) + 1]) if name in sys.argv else other
+
+
+WORKERS, KIDS = option("--workers", 3), option("--kids", 3)
+FAULTS = {
+    "leaves": "a worker leaves a task to the others though none of them is awake",
+    "counts": "a worker that sleeps is still counted as awake",
+    "lends": "a worker that takes a slice wakes nobody",
+    "claims": "a worker that claims a task wakes nobody, nor does one that takes a slice",
+    "late": "a worker gives the lock up before it sleeps, and looks no more",
+    "end": "a worker that sees the end wakes nobody",
+}
+
+# A book: (subtasks forked, whether the root waits, whether the run has ended, units left of each subtask, tasks that are
+# claimed or out). The numbers of `Waits`: (awake, tries). A worker: `L` comes to the lock, `G` claimed a task and passes
+# the gate, `O` is out with a slice, `S` sleeps, `W` was woken and comes to the lock, `D` has decided to sleep with no lock
+# (a fault), `E` has ended. A state: (book, numbers, workers, whether the run may still be stopped).
+
+
+def can_step(book, task):
+    forked, waits, ended, left, _ = book
+    if ended:
+        return False
+    if task == ROOT:
+        return not waits or not any(left)
+    return task <= forked and left[task - 1] > 0
+
+
+def free(book):
+    return [task for task in range(KIDS + 1) if can_step(book, task) and task not in book[4]]
+
+
+def turn(book, task):
+    """Returns what a step of the task makes of the book."""
+    forked, waits, ended, left, out = book
+    if task != ROOT:
+        return forked, waits, ended, left[:task - 1] + (left[task - 1] - 1,) + left[task:], out
+    if waits:
+        return forked, waits, True, left, out
+    return (forked + 1, waits, ended, left, out) if forked < KIDS else (forked, True, ended, left, out)
+
+
+def turns(book, task):
+    """Yields each book that up to some turns lead to, and whether all of them were steps."""
+    while can_step(book, task):
+        book = turn(book, task)
+        yield book, True
+    yield book, False
+
+
+def with_out(book, task):
+    return book[:4] + (book[4] | {task},)
+
+
+def without(book, task):
+    return book[:4] + (book[4] - {task},)
+
+
+def put(workers, i, what):
+    return workers[:i] + (what,) + workers[i + 1:]
+
+
+def woken(workers):
+    """Returns the workers after one of those that sleep was woken, in each way."""
+    return [put(workers, j, ("W",)) for j, it in enumerate(workers) if it == ("S",)] or [workers]
+
+
+def all_woken(workers):
+    return tuple(("W",) if it == ("S",) else it for it in workers)
+
+
+class Rule:
+    """The rule of `Waits`, with one fault or none."""
+
+    def __init__(self, fault=""):
+        self.fault = fault
+
+    def wakes(self, book, numbers, workers, kind):
+        """Returns the workers after `wake_another`, in each way."""
+        is_deaf = self.fault == "claims" or self.fault == kind
+        return woken(workers) if numbers[1] > 0 and free(book) and not is_deaf else [workers]
+
+    def sleeps(self, numbers):
+        return (numbers[0] - (self.fault != "counts"), numbers[1])
+
+    def rises(self, numbers):
+        return (numbers[0] + (self.fault != "counts"), numbers[1])
+
+    def find(self, book, numbers, workers, i):
+        """Yields what comes of a worker that looks for a task under the lock."""
+        awake, tries = numbers
+        if book[2]:
+            yield book, numbers, put(workers if self.fault == "end" else all_woken(workers), i, ("E",))
+            return
+        left = free(book)
+        if not left or (tries == 0 and (awake > 1 or self.fault == "leaves")):
+            if self.fault == "late":
+                yield book, numbers, put(workers, i, ("D",))
+            else:
+                yield book, self.sleeps(numbers), put(workers, i, ("S",))
+            if tries > 0:
+                yield book, numbers, put(workers, i, ("L",))
+            return
+        for task in left:
+            claimed, fewer = with_out(book, task), (awake, max(0, tries - 1))
+            for others in self.wakes(claimed, fewer, workers, "find"):
+                yield claimed, fewer, put(others, i, ("G", task))
+
+    def slices(self, book, numbers, workers, i):
+        """Yields what comes of a worker that takes a slice, or finds none and looks for a task."""
+        left = free(book)
+        for task in left:
+            lent, fewer = with_out(book, task), (numbers[0] - 1, numbers[1])
+            for others in self.wakes(lent, fewer, workers, "lends"):
+                yield lent, fewer, put(others, i, ("O", task))
+        if not left:
+            yield from self.find(book, numbers, workers, i)
+
+    def after(self, book, numbers, workers, i, task):
+        """Yields what comes of the turns of a task, and of what the worker does then."""
+        for turned, is_step in turns(book, task):
+            yield from (self.slices if is_step else self.find)(turned, numbers, workers, i)
+
+    def of_worker(self, book, numbers, workers, i):
+        """Yields what comes of the next hold of a worker."""
+        at, *task = workers[i]
+        if at == "L":
+            yield from self.find(book, numbers, workers, i)
+        elif at == "W":
+            yield from self.find(book, self.rises(numbers), workers, i)
+        elif at == "S":
+            yield book, numbers, put(workers, i, ("W",))  # for no reason
+        elif at == "D":
+            yield book, self.sleeps(numbers), put(workers, i, ("S",))
+        elif at == "G":
+            yield from self.after(without(book, *task), numbers, workers, i, *task)
+        elif at == "O":
+            back = without(book, *task)
+            done = [turn(back, *task)] if task != [ROOT] and can_step(back, *task) else []
+            for book in [back, *done]:
+                for tries in {numbers[1], TRIES}:
+                    yield from self.after(book, (numbers[0] + 1, tries), workers, i, *task)
+
+    def moves(self, state):
+        book, numbers, workers, may_stop = state
+        for i in range(len(workers)):
+            for moved in self.of_worker(book, numbers, workers, i):
+                yield (*moved, may_stop)
+        if may_stop:
+            yield (book[:2] + (True,) + book[3:], numbers, workers, False)
+
+
+def is_bad(state):
+    """Tells whether all sleep, or a task is left to sleepers though several workers are wanted."""
+    book, numbers, workers, _ = state
+    places = {it[0] for it in workers}
+    if "S" not in places:
+        return False
+    is_idle = not places & {"L", "W", "G", "D"}
+    return places <= {"S", "E"} or (is_idle and numbers[1] > 0 and bool(free(book)))
+
+
+def search(rule, kids, may_stop):
+    """Returns how many states there are, and a bad one if there is one."""
+    first = ((0, False, False, (UNITS,) * kids, frozenset()), (WORKERS, TRIES), (("L",),) * WORKERS, may_stop)
+    before, todo = {first: []}, [first]
+    while todo:
+        state = todo.pop()
+        if is_bad(state):
+            return len(before), state
+        for after in rule.moves(state):
+            if after not in before:
+                before[after] = []
+                todo.append(after)
+            before[after].append(state)
+    ending, todo = set(), [it for it in before if all(at == ("E",) for at in it[2])]
+    while todo:
+        state = todo.pop()
+        if state not in ending:
+            ending.add(state)
+            todo += before[state]
+    return len(before), next((it for it in before if it not in ending), None)
+
+
+def main():
+    global KIDS
+    asked, passed, failed = KIDS, 0, 0
+    searches = [("", False), ("", True), *((fault, False) for fault in FAULTS)]
+    for fault, may_stop in searches:
+        KIDS = max(1, asked - 1) if may_stop else asked
+        states, bad = search(Rule(fault), KIDS, may_stop)
+        is_right = (bad is None) == (not fault)
+        passed, failed = passed + is_right, failed + (not is_right)
+        name = FAULTS.get(fault) or ("the rule, and a stop" if may_stop else "the rule")
+        print(f"{name}: {states:,} states, {'no bad one' if bad is None else f'as {bad}'}{'' if is_right else '  FAILED'}")
+    print(f"{passed} passed, {failed} failed")
+    return failed > 0
+
+
+if __name__ == "__main__":
+    sys.exit(main())

@@ -1,0 +1,54 @@
+#!/usr/bin/env python3
+"""Counts the threads of `run` on the built program, with a trace and with none.  usage: workers.py [PROGRAM]
+
+A program of 480,052 steps is run by 1, 3 and 16 workers. Meanwhile the process has a thread for each of them and the one
+that waits for them. A look at the process may come late, so up to five runs are tried; a run that has shown them is ended.
+The last line is `N passed, M failed`.
+"""
+import os
+import subprocess
+import sys
+import tempfile
+
+ROOT = os.path.dirname(os.path.dirname(os.path.realpath(__file__)))
+PROGRAM = os.path.join(ROOT, "crates", "sts", "out", "sts")
+TEXT = "func main 0\npush 16\ntimes 16\npush 10000\ntimes 10000\ninterrupted\npop\nnext\nnext\npush 0\nret\nend\n"
+WAYS = {"no trace": [], "a trace": ["--trace", os.devnull]}
+RUNS = 5
+
+
+def most_threads(words, expected):
+    """Returns how many threads a process has at most, until it has ended or has as many as are expected."""
+    most, process = 0, subprocess.Popen(words, stdin=subprocess.DEVNULL, stdout=subprocess.DEVNULL)
+    while process.poll() is None and most < expected:
+        try:
+            most = max(most, len(os.listdir(f"/proc/{process.pid}/task")))
+        except OSError:
+            break
+    process.kill()
+    process.wait()
+    return most
+
+
+def main():
+    program, counts = (sys.argv[1:] or [PROGRAM])[0], [0, 0]
+    with tempfile.TemporaryDirectory() as folder:
+        file = os.path.join(folder, "text")
+        with open(file, "w") as text:
+            text.write(TEXT)
+        for name, way in WAYS.items():
+            for workers in (1, 3, 16):
+                words = [program, "run", file, "--workers", str(workers), *way]
+                found = []
+                while len(found) < RUNS and max(found, default=0) < workers + 1:
+                    found.append(most_threads(words, workers + 1))
+                is_right = max(found) == workers + 1
+                counts[not is_right] += 1
+                if not is_right:
+                    print(f"{workers} workers, {name}: {max(found)} threads at most, expected {workers + 1}")
+    print(f"{counts[0]} passed, {counts[1]} failed")
+    return counts[1] > 0
+
+
+if __name__ == "__main__":
+    sys.exit(main())

@@ -1,0 +1,142 @@
+-- Lists of the events that pass a test.
+use Rattle.std.proofs.Common.{◌≡◌, ℕ, zero, suc, ◌+◌, ◌<◌, ◌≤◌, ◌⊎◌, List, [], ◌∷◌, ◌++◌, length, refl, sym, arith, inl, inr}
+use Rattle.std.proofs.Common.{Bool, true, false}
+use Rattle.std.specs.Prelude.{slice_index_or, ◌&&◌}
+use Rattle.std.specs.List.{Contains}
+use Rattle.std.proofs.Math.Dec.{ltb}
+use Rattle.std.proofs.lemmas.Bool.{ltb-true, ltb-false}
+use Rattle.std.proofs.lemmas.List.{get_or_past}
+use Rattle.std.proofs.lemmas.List.Elements.{Contains-append_left, Contains-append_right, Contains-append_cases}
+use Rattle.sts_model.specs.declared.event.Event.{Event}
+use Rattle.sts_model.specs.declared.event.Event.TheVariants as event
+use Rattle.sts_code.specs.Program.{Program}
+use Rattle.sts_model.specs.World.{World, task_at, scope_at, no_task, no_scope, State, Running}
+use Rattle.sts_model.specs.Living.{lives}
+use Rattle.sts_model.specs.Waiting.{can_step, can_go, stand_at}
+use Rattle.sts_model.specs.Outside.{can_expire}
+use Rattle.ends_plain.specs.declared.config.Setting.{Setting}
+use Rattle.ends_plain.specs.Configs.{AreThose, steps_now, interrupts_now, expires_now, can_come}
+
+pub split : (k n : ℕ) → k < n + 1 → (k < n) ⊎ (k ≡ n)
+split k n h = by (ltb k n) refl
+  where
+    by : (b : Bool) → ltb k n ≡ b → (k < n) ⊎ (k ≡ n)
+    by true e = inl (ltb-true k n e)
+    by false e = inr (omega (arith, ltb-false k n e))
+
+-- those of the first n numbers that pass
+pub record Below (mk : ℕ → Event) (test : Event → Bool) (n : ℕ) (es : List Event) : Type 0 where
+  pub all : (k : ℕ) → k < n → test (mk k) ≡ true → Contains es (mk k)
+  pub only : (e : Event) → Contains es e → test e ≡ true
+
+pub below_none : (mk : ℕ → Event) (test : Event → Bool) → Below mk test 0 []
+below_none mk test = record { all = λ k less. absurd (omega arith); only = λ e h. let less : h.0 < 0 = h.1 in absurd (omega arith) }
+
+sole : (x e : Event) (k : ℕ) → k < 1 → slice_index_or (x ∷ []) k e ≡ e → e ≡ x
+sole x e zero less i = sym i
+sole x e (suc k) less i = absurd (omega arith)
+
+holds_last : (xs : List Event) (x : Event) → Contains (xs ++ x ∷ []) x
+holds_last xs x = Contains-append_right xs (x ∷ []) x (0, omega arith, refl)
+
+pub below_push : (mk : ℕ → Event) (test : Event → Bool) (n : ℕ) (es : List Event) → test (mk n) ≡ true → Below mk test n es → Below mk test (n + 1) (es ++ mk n ∷ [])
+below_push mk test n es pass h = record { all = λ k less e. more k e (split k n less); only = λ e c. by e (Contains-append_cases es (mk n ∷ []) e c) }
+  where
+    more : (k : ℕ) → test (mk k) ≡ true → (k < n) ⊎ (k ≡ n) → Contains (es ++ mk n ∷ []) (mk k)
+    more k e (inl less) = Contains-append_left es (mk n ∷ []) (mk k) (h.all k less e)
+    more k e (inr same) = rw same (holds_last es (mk n))
+
+    by : (e : Event) → Contains es e ⊎ Contains (mk n ∷ []) e → test e ≡ true
+    by e (inl c) = h.only e c
+    by e (inr c) = rw (sole (mk n) e c.0 c.1 c.2) pass
+
+pub below_skip : (mk : ℕ → Event) (test : Event → Bool) (n : ℕ) (es : List Event) → test (mk n) ≡ false → Below mk test n es → Below mk test (n + 1) es
+below_skip mk test n es pass h = record { all = λ k less e. more k e (split k n less); only = h.only }
+  where
+    more : (k : ℕ) → test (mk k) ≡ true → (k < n) ⊎ (k ≡ n) → Contains es (mk k)
+    more k e (inl less) = h.all k less e
+    more k e (inr same) = let f : test (mk n) ≡ true = rw same at e in cc
+
+-- ---- what was never born
+
+false_first : (a b : Bool) → a ≡ false → (a && b) ≡ false
+false_first true b e = cc
+false_first false b e = refl
+
+false_last : (a b : Bool) → b ≡ false → (a && b) ≡ false
+false_last true b e = e
+false_last false b e = refl
+
+pub unborn_task : (w : World) (t : ℕ) → length w.tasks ≤ t → lives (task_at w t) ≡ false
+unborn_task w t h = rw (get_or_past w.tasks t no_task h) refl
+
+pub unborn_scope : (w : World) (s : ℕ) → length w.scopes ≤ s → can_expire (scope_at w s) ≡ false
+unborn_scope w s h = rw (get_or_past w.scopes s no_scope h) refl
+
+born : (k n : ℕ) (b : Bool) → b ≡ true → (n ≤ k → b ≡ false) → k < n
+born k n b e past = by (ltb k n) refl
+  where
+    by : (x : Bool) → ltb k n ≡ x → k < n
+    by true h = ltb-true k n h
+    by false h = let f : b ≡ false = past (ltb-false k n h) in cc
+
+pub all_steps : (p : Program) (w : World) (n : ℕ) (es : List Event) → n ≡ length w.tasks → Below event.Step (steps_now p w) n es → AreThose (steps_now p w) es
+all_steps p w n es born_all h = record { all = λ e t. by e t; only = h.only }
+  where
+    by : (e : Event) → steps_now p w e ≡ true → Contains es e
+    by (event.Step t) pass = h.all t (born t n (can_step p w t) pass (λ past. false_first (lives (task_at w t)) (can_go w (task_at w t) (stand_at p w t)) (unborn_task w t (omega arith)))) pass
+    by (event.Interrupt t) pass = cc
+    by (event.Expire s) pass = cc
+
+pub all_interrupts : (left : ℕ) (w : World) (n : ℕ) (es : List Event) → n ≡ length w.tasks → Below event.Interrupt (interrupts_now left w) n es → AreThose (interrupts_now left w) es
+all_interrupts left w n es born_all h = record { all = λ e t. by e t; only = h.only }
+  where
+    by : (e : Event) → interrupts_now left w e ≡ true → Contains es e
+    by (event.Step t) pass = cc
+    by (event.Interrupt t) pass = h.all t (born t n (interrupts_now left w (event.Interrupt t)) pass (λ past. false_last (ltb 0 left) (lives (task_at w t)) (unborn_task w t (omega arith)))) pass
+    by (event.Expire s) pass = cc
+
+pub all_expiries : (may : Bool) (w : World) (n : ℕ) (es : List Event) → n ≡ length w.scopes → Below event.Expire (expires_now may w) n es → AreThose (expires_now may w) es
+all_expiries may w n es born_all h = record { all = λ e t. by e t; only = h.only }
+  where
+    by : (e : Event) → expires_now may w e ≡ true → Contains es e
+    by (event.Step t) pass = cc
+    by (event.Interrupt t) pass = cc
+    by (event.Expire s) pass = h.all s (born s n (expires_now may w (event.Expire s)) pass (λ past. false_last may (can_expire (scope_at w s)) (unborn_scope w s (omega arith)))) pass
+
+-- ---- all three together
+
+pub all_three : (g : Setting) (left : ℕ) (w : World) (xs ys zs : List Event) → AreThose (steps_now g.program w) xs → AreThose (interrupts_now left w) ys → AreThose (expires_now g.expiries w) zs
+    → AreThose (can_come g left (Running w)) ((xs ++ ys) ++ zs)
+all_three g left w xs ys zs hx hy hz = record { all = every; only = λ e c. apart e (Contains-append_cases (xs ++ ys) zs e c) }
+  where
+    every : (e : Event) → can_come g left (Running w) e ≡ true → Contains ((xs ++ ys) ++ zs) e
+    every (event.Step t) pass = Contains-append_left (xs ++ ys) zs (event.Step t) (Contains-append_left xs ys (event.Step t) (hx.all (event.Step t) pass))
+    every (event.Interrupt t) pass = Contains-append_left (xs ++ ys) zs (event.Interrupt t) (Contains-append_right xs ys (event.Interrupt t) (hy.all (event.Interrupt t) pass))
+    every (event.Expire s) pass = Contains-append_right (xs ++ ys) zs (event.Expire s) (hz.all (event.Expire s) pass)
+
+    stepping : (e : Event) → steps_now g.program w e ≡ true → can_come g left (Running w) e ≡ true
+    stepping (event.Step t) pass = pass
+    stepping (event.Interrupt t) pass = cc
+    stepping (event.Expire s) pass = cc
+
+    interrupting : (e : Event) → interrupts_now left w e ≡ true → can_come g left (Running w) e ≡ true
+    interrupting (event.Step t) pass = cc
+    interrupting (event.Interrupt t) pass = pass
+    interrupting (event.Expire s) pass = cc
+
+    expiring : (e : Event) → expires_now g.expiries w e ≡ true → can_come g left (Running w) e ≡ true
+    expiring (event.Step t) pass = cc
+    expiring (event.Interrupt t) pass = cc
+    expiring (event.Expire s) pass = pass
+
+    first_two : (e : Event) → Contains xs e ⊎ Contains ys e → can_come g left (Running w) e ≡ true
+    first_two e (inl c) = stepping e (hx.only e c)
+    first_two e (inr c) = interrupting e (hy.only e c)
+
+    apart : (e : Event) → Contains (xs ++ ys) e ⊎ Contains zs e → can_come g left (Running w) e ≡ true
+    apart e (inl c) = first_two e (Contains-append_cases xs ys e c)
+    apart e (inr c) = expiring e (hz.only e c)
+
+none_of_fault : (g : Setting) (left : ℕ) (s : State) → AreThose (can_come g left s) [] → AreThose (can_come g left s) []
+none_of_fault g left s h = h

@@ -1,0 +1,3 @@
+pub mod EventLemmas
+pub mod WayLemmas
+pub mod ListedLemmas

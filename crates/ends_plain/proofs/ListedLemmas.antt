@@ -1,0 +1,109 @@
+-- What is listed of a search: each is an end, and where the search is closed each end is listed.
+use Rattle.std.proofs.Common.{◌≡◌, ℕ, zero, suc, ◌+◌, ◌<◌, ◌⊎◌, List, [], ◌∷◌, ◌++◌, length, fold, refl, ap, sym, ◌∙◌, arith, inl, inr, subst, true}
+use Rattle.std.specs.Prelude.{slice_index_or}
+use Rattle.std.specs.List.{Contains}
+use Rattle.std.proofs.lemmas.List.{get_or_default, map-append}
+use Rattle.std.proofs.lemmas.List.Elements.{Contains-append_left, Contains-append_right, Contains-append_cases}
+use Rattle.sts_model.specs.Run.{after}
+use Rattle.sts_plain.specs.declared.misstep.PlainState.{PlainState}
+use Rattle.sts_plain.specs.Seen.{shown}
+use Rattle.ends_search.specs.Search.{IsWay, Begins, Covers}
+use Rattle.ends_plain.specs.declared.config.Config.{Config}
+use Rattle.ends_plain.specs.declared.config.Found.{Found}
+use Rattle.ends_plain.specs.declared.config.Setting.{Setting}
+use Rattle.ends_plain.specs.Configs.{next, can, start}
+use Rattle.ends_plain.specs.Ends.{is_end, AreAll}
+use Rattle.ends_plain.specs.Listed.{ends_of, AreShown, AreEnds, HasShown, IsEndOf, IsShownBy}
+use Rattle.ends_plain.proofs.EventLemmas.{split}
+use Rattle.ends_plain.proofs.WayLemmas.{position_after, allowed, reaches}
+
+sole : {X : Type 0} (x e : X) (k : ℕ) → k < 1 → slice_index_or (x ∷ []) k e ≡ e → e ≡ x
+sole x e zero less i = sym i
+sole x e (suc k) less i = absurd (omega arith)
+
+pub shown_more : (g : Setting) (states : List Config) (found : List Found) (f : Found) → AreShown g states found → IsShownBy g states f → AreShown g states (found ++ f ∷ [])
+shown_more g states found f all here e c = by (Contains-append_cases found (f ∷ []) e c)
+  where
+    by : Contains found e ⊎ Contains (f ∷ []) e → IsShownBy g states e
+    by (inl h) = all e h
+    by (inr h) = rw (sole f e h.0 h.1 h.2) here
+
+-- the state at k, whatever is read past the end
+at_same : (states : List Config) (k : ℕ) (x d : Config) → k < length states → x ≡ slice_index_or states k x → slice_index_or states k d ≡ x
+at_same states k x d less is = get_or_default states k d x less ∙ sym is
+
+pub shown_here : (g : Setting) (states : List Config) (k : ℕ) (x : Config) (f : Found) → k < length states → x ≡ slice_index_or states k x
+    → ((d : Config) → IsWay (next g) (can g) (slice_index_or states 0 d) f.trace.items (slice_index_or states k d)) → f.end ≡ shown x.position → is_end f.end ≡ true → IsShownBy g states f
+shown_here g states k x f less is way shows ends = record {
+  config = x;
+  way = λ d. subst (λ y. IsWay (next g) (can g) (slice_index_or states 0 d) f.trace.items y) (at_same states k x d less is) (way d);
+  shows = sym shows;
+  ends = ends;
+}
+
+-- one state more, whose end is there if it is one
+pub has_more : (states : List Config) (k : ℕ) (x : Config) (ends more : List PlainState) → k < length states → x ≡ slice_index_or states k x → HasShown states k ends
+    → (is_end (shown x.position) ≡ true → Contains (ends ++ more) (shown x.position)) → HasShown states (k + 1) (ends ++ more)
+has_more states k x ends more within is all here j d less e = by (split j k less)
+  where
+    by : (j < k) ⊎ (j ≡ k) → Contains (ends ++ more) (shown (slice_index_or states j d).position)
+    by (inl l) = Contains-append_left ends more (shown (slice_index_or states j d).position) (all j d l e)
+    by (inr same) =
+        let at : slice_index_or states j d ≡ x = rw same (at_same states k x d within is) in
+        rw at (here (rw at at e))
+
+pub has_pushed : (states : List Config) (k : ℕ) (x : Config) (found : List Found) (f : Found) → k < length states → x ≡ slice_index_or states k x → HasShown states k (ends_of found)
+    → f.end ≡ shown x.position → HasShown states (k + 1) (ends_of (found ++ f ∷ []))
+has_pushed states k x found f within is all shows =
+    let last : Contains (ends_of found ++ f.end ∷ []) (shown x.position) = rw (← shows) (Contains-append_right (ends_of found) (f.end ∷ []) f.end (0, omega arith, refl)) in
+    subst (λ xs. HasShown states (k + 1) xs) (sym (map-append (λ (f : Found). f.end) found (f ∷ []))) (has_more states k x (ends_of found) (f.end ∷ []) within is all (λ e. last))
+
+pub has_skipped : (states : List Config) (k : ℕ) (x : Config) (ends : List PlainState) → k < length states → x ≡ slice_index_or states k x → HasShown states k ends
+    → (is_end (shown x.position) ≡ true → Contains ends (shown x.position)) → HasShown states (k + 1) ends
+has_skipped states k x ends within is all here j d less e = by (split j k less)
+  where
+    by : (j < k) ⊎ (j ≡ k) → Contains ends (shown (slice_index_or states j d).position)
+    by (inl l) = all j d l e
+    by (inr same) =
+        let at : slice_index_or states j d ≡ x = rw same (at_same states k x d within is) in
+        rw at (here (rw at at e))
+
+-- ---- an end of a way
+
+-- a way of coming events that leads to an end
+pub end_of_way : (g : Setting) (config : Config) (f : Found) → IsWay (next g) (can g) (start g) f.trace.items config → shown config.position ≡ f.end → is_end f.end ≡ true → IsEndOf g f
+end_of_way g config f way shows ends =
+    let at : config.position ≡ after g.program f.trace.items = ap (λ (x : Config). x.position) (sym way.leads) ∙ position_after g (start g) f.trace.items in
+    record {
+      allowed = allowed g (start g) f.trace.items way.can_all;
+      comes = ap shown (sym at) ∙ shows;
+      ends = ends;
+    }
+
+pub no_ends : (g : Setting) → AreEnds g []
+no_ends g f c = let less : c.0 < 0 = c.1 in absurd (omega arith)
+
+pub ends_more : (g : Setting) (found : List Found) (f : Found) → AreEnds g found → IsEndOf g f → AreEnds g (found ++ f ∷ [])
+ends_more g found f all here e c = by (Contains-append_cases found (f ∷ []) e c)
+  where
+    by : Contains found e ⊎ Contains (f ∷ []) e → IsEndOf g e
+    by (inl h) = all e h
+    by (inr h) = rw (sole f e h.0 h.1 h.2) here
+
+-- ---- the two clauses
+
+pub sound : (g : Setting) (states : List Config) (found : List Found) → Begins (start g) states → AreShown g states found → AreEnds g found
+sound g states found begins all f c =
+    let here = all f c in
+    let way : IsWay (next g) (can g) (start g) f.trace.items here.config = subst (λ x. IsWay (next g) (can g) x f.trace.items here.config) (begins.first (start g)) (here.way (start g)) in
+    end_of_way g here.config f way here.shows here.ends
+
+pub complete : (g : Setting) (states : List Config) (ends : List PlainState) → Covers (next g) (can g) (start g) states → HasShown states (length states) ends → AreAll g.program g.expiries g.interrupts ends
+complete g states ends covers has events end h =
+    let s = start g in
+    let r = reaches g events s h.allowed in
+    let there = covers r.way r.can_all in
+    let x = fold (next g) s r.way in
+    let shows : shown (slice_index_or states there.0 x).position ≡ end = ap (λ (y : Config). shown y.position) there.2 ∙ ap shown r.position ∙ h.comes in
+    let ends_there : is_end (shown (slice_index_or states there.0 x).position) ≡ true = rw shows h.ends in
+    rw shows at (has there.0 x there.1 ends_there)

@@ -1,0 +1,148 @@
+-- Ways of a search's states are lists of events that are allowed, and each of these is such a way, without the
+-- events that change nothing.
+use Rattle.std.proofs.Common.{◌≡◌, ℕ, ◌+◌, ◌<◌, List, [], ◌∷◌, ◌++◌, fold, refl, ap, sym, ◌∙◌, arith, subst, count_by, cond}
+use Rattle.std.proofs.Common.{Bool, true, false}
+use Rattle.std.specs.Prelude.{◌&&◌}
+use Rattle.std.proofs.lemmas.List.Sums.{sum_by-cons}
+use Rattle.std.proofs.Math.Dec.{ltb}
+use Rattle.std.proofs.lemmas.Bool.{ltb-true, lt-ltb}
+use Rattle.sts_code.specs.Program.{Program}
+use Rattle.sts_model.specs.declared.event.Event.{Event}
+use Rattle.sts_model.specs.declared.event.Event.TheVariants as event
+use Rattle.sts_model.specs.World.{World, State, Running, Faulted, task_at, scope_at}
+use Rattle.sts_model.specs.Living.{lives}
+use Rattle.sts_model.specs.Waiting.{can_step}
+use Rattle.sts_model.specs.Outside.{can_expire, interrupt, expire}
+use Rattle.sts_model.specs.Run.{apply, step}
+use Rattle.ends_search.specs.Search.{CanAll, IsWay}
+use Rattle.ends_plain.specs.declared.config.Config.{Config}
+use Rattle.ends_plain.specs.declared.config.Setting.{Setting}
+use Rattle.ends_plain.specs.Ends.{IsAllowed, is_interrupt, is_expiry}
+use Rattle.ends_plain.specs.Configs.{next, can, can_come, left_after}
+
+-- the state of a search is that of the machine
+pub position_after : (g : Setting) (c : Config) (events : List Event) → (fold (next g) c events).position ≡ fold (apply g.program) c.position events
+position_after g c [] = refl
+position_after g c (e ∷ es) = position_after g (next g c e) es
+
+both : (a b : Bool) → (a && b) ≡ true → (a ≡ true) × (b ≡ true)
+both true b e = (refl, e)
+both false b e = cc
+
+-- one event more in front of a count
+counted : (p : Event → Bool) (e : Event) (es : List Event) → count_by p (e ∷ es) ≡ cond (p e) 1 0 + count_by p es
+counted p e es = sum_by-cons (λ x. cond (p x) 1 0) e es
+
+-- ---- what can come is allowed
+
+can_interrupt : (g : Setting) (left : ℕ) (s : State) (t : ℕ) → can_come g left s (event.Interrupt t) ≡ true → 0 < left
+can_interrupt g left (Faulted kind t' f pc) t h = cc
+can_interrupt g left (Running w) t h = ltb-true 0 left (both (ltb 0 left) (lives (task_at w t)) h).0
+
+can_expire_only : (g : Setting) (left : ℕ) (s : State) (t : ℕ) → can_come g left s (event.Expire t) ≡ true → g.expiries ≡ true
+can_expire_only g left (Faulted kind t' f pc) t h = cc
+can_expire_only g left (Running w) t h = (both g.expiries (can_expire (scope_at w t)) h).0
+
+pub allowed : (g : Setting) (c : Config) (events : List Event) → CanAll (next g) (can g) c events → IsAllowed g.expiries c.left events
+allowed g c [] h = record { interrupts = omega arith; expiries = λ e. refl }
+allowed g c (event.Step t ∷ es) h =
+    let i = allowed g (next g c (event.Step t)) es h.1 in
+    record { interrupts = omega (arith, i.interrupts, counted is_interrupt (event.Step t) es); expiries = λ e. counted is_expiry (event.Step t) es ∙ omega (arith, i.expiries e) }
+allowed g c (event.Interrupt t ∷ es) h =
+    let i = allowed g (next g c (event.Interrupt t)) es h.1 in
+    let some : 0 < c.left = can_interrupt g c.left c.position t h.0 in
+    record { interrupts = omega (arith, i.interrupts, some, counted is_interrupt (event.Interrupt t) es); expiries = λ e. counted is_expiry (event.Interrupt t) es ∙ omega (arith, i.expiries e) }
+allowed g c (event.Expire s ∷ es) h =
+    let i = allowed g (next g c (event.Expire s)) es h.1 in
+    let may : g.expiries ≡ true = can_expire_only g c.left c.position s h.0 in
+    record { interrupts = omega (arith, i.interrupts, counted is_interrupt (event.Expire s) es); expiries = λ e. cc }
+
+-- ---- what is allowed and cannot come changes nothing
+
+idle_step : (p : Program) (w : World) (t : ℕ) → can_step p w t ≡ false → step p w t ≡ Running w
+idle_step p w t e = rw e refl
+
+idle_interrupt : (w : World) (t : ℕ) → lives (task_at w t) ≡ false → interrupt w t ≡ w
+idle_interrupt w t e = rw e refl
+
+idle_expire : (w : World) (s : ℕ) → can_expire (scope_at w s) ≡ false → expire w s ≡ w
+idle_expire w s e = rw e refl
+
+other_false : (a b : Bool) → (a && b) ≡ false → a ≡ true → b ≡ false
+other_false true b e f = e
+other_false false b e f = cc
+
+-- one event is allowed: an expiry where these may come, an interrupt while one is left
+IsFirst : Setting → ℕ → Event → Type 0
+IsFirst g left (event.Step t) = Unit {0}
+IsFirst g left (event.Interrupt t) = 0 < left
+IsFirst g left (event.Expire s) = g.expiries ≡ true
+
+idle : (g : Setting) (left : ℕ) (s : State) (e : Event) → IsFirst g left e → can_come g left s e ≡ false → apply g.program s e ≡ s
+unfolding IsFirst
+idle g left (Faulted kind t f pc) e h i = refl
+idle g left (Running w) (event.Step t) h i = idle_step g.program w t i
+idle g left (Running w) (event.Interrupt t) h i = ap Running (idle_interrupt w t (other_false (ltb 0 left) (lives (task_at w t)) i (lt-ltb 0 left h)))
+idle g left (Running w) (event.Expire s) h i = ap Running (idle_expire w s (other_false g.expiries (can_expire (scope_at w s)) i h))
+
+-- ---- so each list that is allowed leads where some way leads
+
+-- a way of the search to this state
+pub record Reaches (g : Setting) (c : Config) (s : State) : Type 0 where
+  pub way : List Event
+  pub can_all : CanAll (next g) (can g) c way
+  pub position : (fold (next g) c way).position ≡ s
+
+go : (g : Setting) (c : Config) (e : Event) (s : State) → can g c e ≡ true → Reaches g (next g c e) s → Reaches g c s
+go g c e s h r = record { way = e ∷ r.way; can_all = (h, r.can_all); position = r.position }
+
+not_expiries : (g : Setting) → (b : Bool) → g.expiries ≡ b → (b ≡ false → ⊥) → g.expiries ≡ true
+not_expiries g true e h = e
+not_expiries g false e h = absurd (h refl)
+
+first_of_all : (g : Setting) (left : ℕ) (e : Event) (es : List Event) → IsAllowed g.expiries left (e ∷ es) → IsFirst g left e
+unfolding IsFirst
+first_of_all g left (event.Step t) es h = tt
+first_of_all g left (event.Interrupt t) es h = omega (arith, h.interrupts, counted is_interrupt (event.Interrupt t) es)
+first_of_all g left (event.Expire s) es h = not_expiries g g.expiries refl (λ e. let none = h.expiries e in absurd (omega (arith, none, counted is_expiry (event.Expire s) es)))
+
+-- what is left of a count
+no_expiry : (e : Event) (es : List Event) → count_by is_expiry (e ∷ es) ≡ 0 → count_by is_expiry es ≡ 0
+no_expiry e es h = omega (arith, h, counted is_expiry e es)
+
+-- the rest is allowed after an event that came
+rest_after : (g : Setting) (left : ℕ) (e : Event) (es : List Event) → IsAllowed g.expiries left (e ∷ es) → IsAllowed g.expiries (left_after left e) es
+rest_after g left (event.Step t) es h = record { interrupts = omega (arith, h.interrupts, counted is_interrupt (event.Step t) es); expiries = λ e. no_expiry (event.Step t) es (h.expiries e) }
+rest_after g left (event.Interrupt t) es h = record { interrupts = omega (arith, h.interrupts, counted is_interrupt (event.Interrupt t) es); expiries = λ e. no_expiry (event.Interrupt t) es (h.expiries e) }
+rest_after g left (event.Expire s) es h = record { interrupts = omega (arith, h.interrupts, counted is_interrupt (event.Expire s) es); expiries = λ e. no_expiry (event.Expire s) es (h.expiries e) }
+
+-- and after one that is left out
+rest_without : (g : Setting) (left : ℕ) (e : Event) (es : List Event) → IsAllowed g.expiries left (e ∷ es) → IsAllowed g.expiries left es
+rest_without g left e es h = record { interrupts = omega (arith, h.interrupts, counted is_interrupt e es); expiries = λ f. no_expiry e es (h.expiries f) }
+
+pub reaches : (g : Setting) (events : List Event) (c : Config) → IsAllowed g.expiries c.left events → Reaches g c (fold (apply g.program) c.position events)
+reaches g [] c h = record { way = []; can_all = tt; position = refl }
+reaches g (e ∷ es) c h = by (can g c e) refl (reaches g es (next g c e) (rest_after g c.left e es h)) (reaches g es c (rest_without g c.left e es h))
+  where
+    by : (b : Bool) → can g c e ≡ b → Reaches g (next g c e) (fold (apply g.program) (apply g.program c.position e) es) → Reaches g c (fold (apply g.program) c.position es)
+        → Reaches g c (fold (apply g.program) (apply g.program c.position e) es)
+    by true f with_it without = go g c e (fold (apply g.program) (apply g.program c.position e) es) f with_it
+    by false f with_it without =
+        let same : apply g.program c.position e ≡ c.position = idle g c.left c.position e (first_of_all g c.left e es h) f in
+        subst (λ s. Reaches g c (fold (apply g.program) s es)) (sym same) without
+
+-- ---- a way and one event more
+
+can_more : (g : Setting) (c : Config) (es : List Event) (e : Event) → CanAll (next g) (can g) c es → can g (fold (next g) c es) e ≡ true → CanAll (next g) (can g) c (es ++ e ∷ [])
+can_more g c [] e h i = (i, tt)
+can_more g c (x ∷ es) e h i = (h.0, can_more g (next g c x) es e h.1 i)
+
+fold_more : (g : Setting) (c : Config) (es : List Event) (e : Event) → fold (next g) c (es ++ e ∷ []) ≡ next g (fold (next g) c es) e
+fold_more g c [] e = refl
+fold_more g c (x ∷ es) e = fold_more g (next g c x) es e
+
+pub way_more : (g : Setting) (c r : Config) (es : List Event) (e : Event) → IsWay (next g) (can g) c es r → can g r e ≡ true → IsWay (next g) (can g) c (es ++ e ∷ []) (next g r e)
+way_more g c r es e way i = record {
+  can_all = can_more g c es e way.can_all (rw way.leads i);
+  leads = fold_more g c es e ∙ ap (λ x. next g x e) way.leads;
+}

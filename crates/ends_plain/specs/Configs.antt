@@ -1,0 +1,55 @@
+-- A search's states, and what events do to them (this project's own).
+use Rattle.std.specs.Prelude.{◌≡◌, ℕ, ◌-◌, List, Bool, true, false, ◌&&◌, nat_lt, if◌then◌else◌}
+use Rattle.std.specs.List.{Contains}
+use Rattle.sts_model.specs.declared.event.Event.{Event}
+use Rattle.sts_model.specs.declared.event.Event.TheVariants as event
+use Rattle.sts_code.specs.Program.{Program}
+use Rattle.sts_model.specs.World.{World, State, Running, Faulted, task_at, scope_at, opening}
+use Rattle.sts_model.specs.Living.{lives}
+use Rattle.sts_model.specs.Waiting.{can_step}
+use Rattle.sts_model.specs.Outside.{can_expire}
+use Rattle.sts_model.specs.Run.{apply}
+use Rattle.ends_plain.specs.declared.config.Config.{Config}
+use Rattle.ends_plain.specs.declared.config.Setting.{Setting}
+use Rattle.ends_plain.specs.Ends.{is_interrupt}
+
+-- so many interrupts are left after an event
+abbrev pub left_after : ℕ → Event → ℕ
+left_after n e = if is_interrupt e then n - 1 else n
+
+abbrev pub next : Setting → Config → Event → Config
+next g c e = record { position = apply g.program c.position e; left = left_after c.left e }
+
+-- is it a step of a task that can step?
+abbrev pub steps_now : Program → World → Event → Bool
+steps_now p w (event.Step t) = can_step p w t
+steps_now p w _ = false
+
+-- an interrupt of a task that lives, while one is left?
+abbrev pub interrupts_now : ℕ → World → Event → Bool
+interrupts_now left w (event.Interrupt t) = nat_lt 0 left && lives (task_at w t)
+interrupts_now left w _ = false
+
+-- an expiry that marks a scope, where expiries may come?
+abbrev pub expires_now : Bool → World → Event → Bool
+expires_now expiries w (event.Expire s) = expiries && can_expire (scope_at w s)
+expires_now expiries w _ = false
+
+-- can the event come there?
+abbrev pub can_come : Setting → ℕ → State → Event → Bool
+can_come g left (Faulted kind t f pc) e = false
+can_come g left (Running w) (event.Step t) = steps_now g.program w (event.Step t)
+can_come g left (Running w) (event.Interrupt t) = interrupts_now left w (event.Interrupt t)
+can_come g left (Running w) (event.Expire s) = expires_now g.expiries w (event.Expire s)
+
+abbrev pub can : Setting → Config → Event → Bool
+can g c e = can_come g c.left c.position e
+
+-- the events are those that pass the test
+pub record AreThose (test : Event → Bool) (events : List Event) : Type 0 where
+  pub all : (e : Event) → test e ≡ true → Contains events e
+  pub only : (e : Event) → Contains events e → test e ≡ true
+
+-- the search begins here
+abbrev pub start : Setting → Config
+start g = record { position = opening g.program; left = g.interrupts }

@@ -1,0 +1,4 @@
+pub mod Configs
+pub mod Ends
+pub mod Explored
+pub mod Listed

@@ -1,0 +1,38 @@
+-- What is listed of a search (this project's own).
+use Rattle.std.specs.Prelude.{◌≡◌, ℕ, ◌<◌, List, Bool, true, map, slice_index_or}
+use Rattle.std.specs.List.{Contains}
+use Rattle.sts_code.specs.Program.{Program}
+use Rattle.sts_plain.specs.declared.misstep.PlainState.{PlainState}
+use Rattle.sts_plain.specs.Seen.{shown}
+use Rattle.ends_search.specs.Search.{IsWay}
+use Rattle.ends_plain.specs.declared.config.Config.{Config}
+use Rattle.ends_plain.specs.declared.config.Found.{Found}
+use Rattle.ends_plain.specs.declared.config.Setting.{Setting}
+use Rattle.ends_plain.specs.Configs.{next, can}
+use Rattle.ends_plain.specs.Ends.{is_end, IsEnd}
+
+abbrev pub ends_of : List Found → List PlainState
+ends_of found = map (λ (f : Found). f.end) found
+
+-- it is an end of the program, which comes by its trace
+abbrev pub IsEndOf : Setting → Found → Type 0
+IsEndOf g f = IsEnd g.program g.expiries g.interrupts f.trace.items f.end
+
+abbrev pub AreEnds : Setting → List Found → Type 0
+AreEnds g found = (f : Found) → Contains found f → IsEndOf g f
+
+-- its trace leads from the first of the states to one that shows the end
+pub record IsShownBy (g : Setting) (states : List Config) (f : Found) : Type 0 where
+  pub config : Config
+  pub way : (d : Config) → IsWay (next g) (can g) (slice_index_or states 0 d) f.trace.items config
+  pub shows : shown config.position ≡ f.end
+  pub ends : is_end f.end ≡ true
+
+abbrev pub AreShown : Setting → List Config → List Found → Type 0
+AreShown g states found = (f : Found) → Contains found f → IsShownBy g states f
+
+-- of the first n states, each end that is shown is among these
+abbrev pub HasShown : List Config → ℕ → List PlainState → Type 0
+HasShown states n ends =
+    (k : ℕ) (d : Config) → k < n → is_end (shown (slice_index_or states k d).position) ≡ true
+    → Contains ends (shown (slice_index_or states k d).position)

@@ -1,0 +1,78 @@
+//! What is searched, and what is found.
+
+ghost use Rattle.std.specs.Prelude.{◌≡◌, OnOk, IfOk};
+
+use std::alloc::{AllocError, Global};
+use sts_code::Program;
+use sts_model::Event;
+use sts_plain::{PlainState, Position};
+
+/// A program, and the outside events that may come: whether timed scopes may expire, and how many
+/// interrupts of tasks that live.
+#[derive(Drop)]
+pub struct Setting {
+    pub program: Program,
+    pub expiries: bool,
+    pub interrupts: u32,
+}
+
+/// A state of the machine, and how many interrupts may still come.
+#[derive(Drop)]
+pub struct Config {
+    pub position: Position,
+    pub left: u32,
+}
+
+impl Config {
+    ghost use Rattle.ends_plain.specs.Configs.{next, start};
+
+    /// Where a search begins.
+    ///
+    /// # Errors
+    ///
+    /// There is no memory.
+    pub fn start(alloc: Global, setting: &Setting) -> Result<Config, AllocError>
+        ensures { IfOk result (λ c. c ≡ start setting.now) }
+    {
+        Ok(Config {
+            position: Position::opening(alloc, &setting.program)?,
+            left: setting.interrupts,
+        })
+    }
+
+    /// One event. After an `Err` it is not said where it is.
+    ///
+    /// # Errors
+    ///
+    /// There is no memory.
+    pub fn apply(
+        &mut self,
+        alloc: Global,
+        setting: &Setting,
+        event: Event,
+    ) -> Result<(), AllocError>
+        ensures { OnOk result (self.new ≡ next setting.now self.old event) }
+    {
+        self.position.apply(alloc, &setting.program, event)?;
+        if matches!(event, Event::Interrupt(_)) {
+            self.left = self.left.saturating_sub(1);
+        }
+        Ok(())
+    }
+}
+
+/// An end, and events that lead to it.
+#[derive(Drop)]
+pub struct Found {
+    pub end: PlainState,
+    pub trace: Vec<Event>,
+}
+
+/// The ends that were found, each once, among so many states. Where `whole` is true, these are the
+/// ends of all schedules.
+#[derive(Drop)]
+pub struct Ends {
+    pub found: Vec<Found>,
+    pub states: usize,
+    pub whole: bool,
+}

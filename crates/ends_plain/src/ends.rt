@@ -1,0 +1,63 @@
+//! The ends among the states of a search.
+
+ghost use Rattle.std.specs.Prelude.{◌≡◌, true, false, IfOk, length};
+ghost use Rattle.std.specs.List.{Contains};
+ghost use Rattle.ends_search.specs.Search.{IsTraced};
+ghost use Rattle.ends_plain.specs.Configs.{next, can};
+ghost use Rattle.ends_plain.specs.Ends.{is_end};
+ghost use Rattle.ends_plain.specs.Listed.{ends_of, AreShown, HasShown};
+
+use crate::config::{Config, Found, Setting};
+use ends_search::search::{Space, trace};
+use std::alloc::{AllocError, Global};
+use sts_plain::PlainState;
+
+/// Is the end among these?
+fn is_found(found: &[Found], end: PlainState) -> bool
+    ensures { result ≡ true → Contains (ends_of found.now) end }
+{
+    for one in found {
+        if one.end == end {
+            return true;
+        }
+    }
+    false
+}
+
+/// Is it an end?
+pub fn is_end_at(end: PlainState) -> bool
+    ensures { result ≡ is_end end }
+{
+    !matches!(end, PlainState::Running)
+}
+
+/// Is it an end that is not among these yet?
+fn is_new(found: &[Found], end: PlainState) -> bool
+    ensures yes { result ≡ true → is_end end ≡ true }
+    ensures no { result ≡ false → is_end end ≡ true → Contains (ends_of found.now) end }
+{
+    is_end_at(end) && !is_found(found, end)
+}
+
+/// The ends among the states of a search, each with a way to the first state that shows it.
+pub fn list(
+    alloc: Global,
+    setting: &Setting,
+    space: &Space<Config>,
+) -> Result<Vec<Found>, AllocError>
+    requires { IsTraced (next setting.now) (can setting.now)
+        space.now.states.items space.now.origins.items }
+    ensures shown { IfOk result (λ found. AreShown setting.now space.now.states.items found.items) }
+    ensures all { IfOk result (λ found.
+        HasShown space.now.states.items (length space.now.states.items) (ends_of found.items)) }
+{
+    let mut found = Vec::new(alloc);
+    for k in 0..space.states.len() {
+        let end = space.states[k].position.state();
+        if is_new(&found, end) {
+            let trace = trace(alloc, setting, space, k)?;
+            found.push(Found { end, trace })?;
+        }
+    }
+    Ok(found)
+}

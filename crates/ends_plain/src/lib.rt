@@ -1,0 +1,10 @@
+//! Every end that a program can come to, over all schedules.
+#![tactic(auto)]
+
+pub mod config;
+pub mod ends;
+pub mod events;
+pub mod exploration;
+pub mod hash;
+pub mod moves;
+pub mod sample;

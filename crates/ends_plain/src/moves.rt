@@ -1,0 +1,61 @@
+//! The plain machine as a machine that is searched.
+
+ghost use Rattle.std.specs.Prelude.{◌≡◌, true, IfOk};
+ghost use Rattle.ends_plain.specs.Configs.{next as next_of, can as can_of, AreThose, can_come};
+
+use crate::config::{Config, Setting};
+use crate::events::{expiries, interrupts, steps};
+use crate::hash::hash_of;
+use ends_search::machine::Machine;
+use std::alloc::{AllocError, Global};
+use sts_model::Event;
+
+/// All events that can come.
+fn events_of(alloc: Global, config: &Config, setting: &Setting) -> Result<Vec<Event>, AllocError>
+    ensures { IfOk result (λ es.
+        AreThose (can_come setting.now config.now.left config.now.position) es.items) }
+{
+    match config.position.world() {
+        None => Ok(Vec::new(alloc)),
+        Some(world) => {
+            let mut events = steps(alloc, &setting.program, world)?;
+            let more = interrupts(alloc, config.left, world)?;
+            events.extend_from_slice(more.as_slice())?;
+            let last = expiries(alloc, setting.expiries, world)?;
+            events.extend_from_slice(last.as_slice())?;
+            Ok(events)
+        }
+    }
+}
+
+impl Machine for Config {
+    type Setting = Setting;
+
+    ghost next = { next_of };
+
+    ghost can = { can_of };
+
+    fn events(&self, alloc: Global, setting: &Setting) -> Result<Vec<Event>, AllocError> {
+        events_of(alloc, self, setting)
+    }
+
+    fn after(&self, alloc: Global, setting: &Setting, event: Event) -> Result<Config, AllocError> {
+        let mut config = Config {
+            position: self.position.copied(alloc)?,
+            left: self.left,
+        };
+        config.apply(alloc, setting, event)?;
+        Ok(config)
+    }
+
+    fn same(&self, other: &Config) -> bool {
+        self.left == other.left && self.position.same(&other.position)
+    }
+
+    fn hash(&self) -> u64 {
+        match self.position.world() {
+            None => 0,
+            Some(world) => hash_of(world) ^ u64::from(self.left),
+        }
+    }
+}

@@ -1,0 +1,128 @@
+//! Random schedules: some of the ends, and how often each came. It says nothing of other ends.
+
+ghost use Rattle.std.specs.Prelude.{◌<◌, IfOk, IfSome, length};
+ghost use Rattle.std.specs.List.{Contains};
+ghost use Rattle.ends_plain.specs.Listed.{AreEnds, IsEndOf};
+
+use crate::config::{Config, Found, Setting};
+use crate::ends::is_end_at;
+use ends_search::machine::Machine;
+use rand::seq::IndexedRandom;
+use rand_core::SeedableRng;
+use rand_xoshiro::Xoshiro256PlusPlus;
+use std::alloc::{AllocError, Global};
+use sts_model::Event;
+use sts_plain::PlainState;
+
+/// The ends that came, each once with the trace of the first schedule that came to it.
+#[derive(Drop)]
+pub struct Sample {
+    pub found: Vec<Found>,
+    /// How many schedules came to each of them.
+    pub times: Vec<u64>,
+    /// How many schedules came to no end in the events that they were given.
+    pub unfinished: u64,
+}
+
+/// How many schedules are tried, from which seed, and how many events one has at most.
+#[derive(Clone, Copy, Debug)]
+pub struct Sampling {
+    pub schedules: u64,
+    pub seed: u64,
+    pub longest: usize,
+}
+
+/// Any of the events, each as likely as the others.
+fn chosen(rng: &mut Xoshiro256PlusPlus, events: &[Event]) -> Option<Event>
+    ensures { IfSome result (Contains events.now) }
+{
+    events.choose(rng).copied()
+}
+
+/// A schedule up to its end: at each place any event that can come is as likely as the others. It
+/// returns nothing where there is no end before `longest` events.
+fn walk(
+    alloc: Global,
+    setting: &Setting,
+    rng: &mut Xoshiro256PlusPlus,
+    longest: usize,
+) -> Result<Option<Found>, AllocError>
+    ensures { IfOk result (λ found. IfSome found (IsEndOf setting.now)) }
+{
+    let mut config = Config::start(alloc, setting)?;
+    let mut trace = Vec::new(alloc);
+    for _ in 0..longest {
+        let end = config.position.state();
+        if is_end_at(end) {
+            return Ok(Some(Found { end, trace }));
+        }
+        let events = config.events(alloc, setting)?;
+        let Some(event) = chosen(rng, events.as_slice()) else {
+            return Ok(None);
+        };
+        config.apply(alloc, setting, event)?;
+        trace.push(event)?;
+    }
+    Ok(None)
+}
+
+/// The place of an end.
+fn place_of(found: &[Found], end: PlainState) -> Option<usize>
+    ensures { IfSome result (λ k. k < length found.now) }
+{
+    found.iter().position(|one| one.end == end)
+}
+
+/// The sample with one end more.
+fn counted(sample: Sample, one: Found) -> Result<Sample, AllocError>
+    ensures { (g : Setting) → AreEnds g sample.found.items → IsEndOf g one
+        → IfOk result (λ s. AreEnds g s.found.items) }
+{
+    let mut found = sample.found;
+    let mut times = sample.times;
+    let unfinished = sample.unfinished;
+    if let Some(k) = place_of(found.as_slice(), one.end) {
+        if k < times.len() {
+            times[k] = times[k].saturating_add(1);
+        }
+        return Ok(Sample {
+            found,
+            times,
+            unfinished,
+        });
+    }
+    times.push(1)?;
+    found.push(one)?;
+    Ok(Sample {
+        found,
+        times,
+        unfinished,
+    })
+}
+
+/// Ends of random schedules; the same seed gives the same ones.
+///
+/// # Errors
+///
+/// There is no memory.
+pub fn sample_ends(
+    alloc: Global,
+    setting: &Setting,
+    sampling: Sampling,
+) -> Result<Sample, AllocError>
+    ensures { IfOk result (λ s. AreEnds setting.now s.found.items) }
+{
+    let mut rng = Xoshiro256PlusPlus::seed_from_u64(sampling.seed);
+    let mut so_far = Sample {
+        found: Vec::new(alloc),
+        times: Vec::new(alloc),
+        unfinished: 0,
+    };
+    for _ in 0..sampling.schedules {
+        match walk(alloc, setting, &mut rng, sampling.longest)? {
+            Some(one) => so_far = counted(so_far, one)?,
+            None => so_far.unfinished = so_far.unfinished.saturating_add(1),
+        }
+    }
+    Ok(so_far)
+}

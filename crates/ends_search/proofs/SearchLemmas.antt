@@ -1,0 +1,190 @@
+-- How a search grows, and that a closed one covers all that events lead to.
+use Rattle.std.proofs.Common.{◌≡◌, ℕ, ◌+◌, ◌<◌, ◌≤◌, ◌⊎◌, List, [], ◌∷◌, ◌++◌, length, fold, refl, ap, sym, ◌∙◌, arith, inl, inr, subst}
+use Rattle.std.proofs.Common.{length-append, reverse, append_assoc, Bool, true, false}
+use Rattle.std.proofs.Math.Dec.{ltb}
+use Rattle.std.proofs.lemmas.Bool.{ltb-true, ltb-false}
+use Rattle.std.proofs.lemmas.List.{get_or_default}
+use Rattle.std.proofs.lemmas.List.{append-nil}
+use Rattle.std.specs.Prelude.{slice_index_or}
+use Rattle.std.specs.List.{Contains}
+use Rattle.std.proofs.lemmas.List.{reverse-append}
+use Rattle.std.proofs.Math.ListN.{get_or-append}
+use Rattle.std.proofs.Math.Seq.{get_or-append_seam}
+use Rattle.std.proofs.lemmas.List.Elements.{Contains-append_left}
+use Rattle.sts_model.specs.declared.event.Event.{Event}
+use Rattle.ends_search.specs.declared.origin.Origin.{Origin}
+use Rattle.ends_search.specs.Search.{IsTraced, IsSearched, ComesFrom, Covers, Grows, LeadsInto, Begins, Follows, IsClosed, origin_at, no_origin, CanAt, CanAll, IsWay}
+
+-- a place in a longer list is an older one or the last
+split : (k n : ℕ) → k < n + 1 → (k < n) ⊎ (k ≡ n)
+split k n h = by (ltb k n) refl
+  where
+    by : (b : Bool) → ltb k n ≡ b → (k < n) ⊎ (k ≡ n)
+    by true e = inl (ltb-true k n e)
+    by false e = inr (omega (arith, ltb-false k n e))
+
+-- ---- one state more
+
+come : {S : Type 0} (next : S → Event → S) (can : S → Event → Bool) (states : List S) (s : S) (o : Origin) (k : ℕ) → k < length states → ComesFrom next can states o k → ComesFrom next can (states ++ s ∷ []) o k
+come {S} next can states s o k less h =
+    record {
+      before = h.before;
+      can_come = λ d. rw (older d) (h.can_come d);
+      state = λ d. get_or-append states (s ∷ []) d k less ∙ h.state d ∙ ap (λ x. next x o.event) (sym (older d));
+    }
+  where
+    older : (d : S) → slice_index_or (states ++ s ∷ []) o.parent d ≡ slice_index_or states o.parent d
+    older d = get_or-append states (s ∷ []) d o.parent (omega (arith, h.before))
+
+-- one more state, which comes from an older one
+pub traced_more : {S : Type 0} (next : S → Event → S) (can : S → Event → Bool) (states : List S) (origins : List Origin) (s : S) (o : Origin)
+    → IsTraced next can states origins → o.parent < length states → CanAt can states o.parent o.event → ((d : S) → s ≡ next (slice_index_or states o.parent d) o.event)
+    → IsTraced next can (states ++ s ∷ []) (origins ++ o ∷ [])
+traced_more {S} next can states origins s o h within comes made =
+    record {
+      as_many = length-append origins (o ∷ []) ∙ ap (λ n. n + 1) h.as_many ∙ sym (length-append states (s ∷ []));
+      later = λ k some less. later k some (split k (length states) (subst (λ n. k < n) (length-append states (s ∷ [])) less));
+    }
+  where
+    later : (k : ℕ) → 0 < k → (k < length states) ⊎ (k ≡ length states) → ComesFrom next can (states ++ s ∷ []) (origin_at (origins ++ o ∷ []) k) k
+    later k some (inl less) =
+        let e : origin_at (origins ++ o ∷ []) k ≡ origin_at origins k = get_or-append origins (o ∷ []) no_origin k (omega (arith, h.as_many)) in
+        rw e (come next can states s (origin_at origins k) k less (h.later k some less))
+    later k some (inr same) =
+        let e : origin_at (origins ++ o ∷ []) k ≡ o = rw (same, sym h.as_many) (get_or-append_seam origins o [] no_origin) in
+        rw e (record {
+          before = omega arith;
+          can_come = λ d. rw (get_or-append states (s ∷ []) d o.parent within) (comes d);
+          state = λ d. rw same (get_or-append_seam states s [] d) ∙ made d ∙ ap (λ x. next x o.event) (sym (get_or-append states (s ∷ []) d o.parent within));
+        })
+
+-- ---- closed sets
+
+-- what events lead to from a state of a closed set is in it
+stays : {S : Type 0} (next : S → Event → S) (can : S → Event → Bool) (states : List S) → IsClosed next can states (length states) → (events : List Event) (s : S) → CanAll next can s events → Contains states s → Contains states (fold next s events)
+stays next can states closed [] s all h = h
+stays {S} next can states closed (e ∷ es) s all h =
+    stays next can states closed es (next s e) all.1 (rw h.2 at (closed h.0 h.1 e comes s))
+  where
+    comes : (d : S) → can (slice_index_or states h.0 d) e ≡ true
+    comes d = rw (get_or_default states h.0 d s h.1, h.2) all.0
+
+pub covers : {S : Type 0} (next : S → Event → S) (can : S → Event → Bool) (start : S) (states : List S) → Begins start states → IsClosed next can states (length states) → Covers next can start states
+covers next can start states begins closed events all = stays next can states closed events start all (0, begins.some, begins.first start)
+
+-- a state of the older ones is the same one among more states
+same_older : {S : Type 0} (old new : List S) → Grows old new → (j : ℕ) → j < length old → (d : S) → slice_index_or new j d ≡ slice_index_or old j d
+same_older old new grows j h d = ap (λ xs. slice_index_or xs j d) grows.same ∙ get_or-append old grows.more d j h
+
+closed_on : {S : Type 0} (next : S → Event → S) (can : S → Event → Bool) (old new : List S) (n : ℕ) → n ≤ length old → IsClosed next can old n → Grows old new → IsClosed next can new n
+closed_on next can old new n within closed grows k less e comes d =
+    let older : k < length old = omega arith in
+    rw (same_older old new grows k older d) (subst (λ xs. Contains xs (next (slice_index_or old k d) e)) (sym grows.same) (Contains-append_left old grows.more (next (slice_index_or old k d) e) (closed k less e (λ c. rw (same_older old new grows k older c) at (comes c)) d)))
+
+closed_more : {S : Type 0} (next : S → Event → S) (can : S → Event → Bool) (old new : List S) (n : ℕ) → n < length old → IsClosed next can old n → Grows old new → LeadsInto next can old n new → IsClosed next can new (n + 1)
+closed_more {S} next can old new n within closed grows leads k less e comes d = by (split k n less)
+  where
+    by : (k < n) ⊎ (k ≡ n) → Contains new (next (slice_index_or new k d) e)
+    by (inl h) = closed_on next can old new n (omega arith) closed grows k h e comes d
+    by (inr h) = rw (h, same_older old new grows n within d) (leads e (λ c. rw (h, same_older old new grows n within c) at (comes c)) d)
+
+pub begins_more : {S : Type 0} (start : S) (old new : List S) → Begins start old → Grows old new → Begins start new
+begins_more start old new h grows = record {
+  some = rw grows.same (omega (arith, length-append old grows.more, h.some));
+  first = λ d. ap (λ xs. slice_index_or xs 0 d) grows.same ∙ get_or-append old grows.more d 0 h.some ∙ h.first d;
+}
+
+-- ---- ways back
+
+-- one event more in front
+pub way_back : {S : Type 0} (next : S → Event → S) (can : S → Event → Bool) (states : List S) (back : List Event) (o : Origin) (at place : ℕ) → ComesFrom next can states o at
+    → ((d : S) → IsWay next can (slice_index_or states at d) (reverse back) (slice_index_or states place d))
+    → (d : S) → IsWay next can (slice_index_or states o.parent d) (reverse (back ++ o.event ∷ [])) (slice_index_or states place d)
+way_back next can states back o at place from h d =
+    rw reverse-append (record {
+      can_all = (from.can_come d, subst (λ s. CanAll next can s (reverse back)) (from.state d) (h d).can_all);
+      leads = ap (λ s. fold next s (reverse back)) (sym (from.state d)) ∙ (h d).leads;
+    })
+
+-- ---- one event
+
+-- what the state made of the one at k is, is there
+pub there : {S : Type 0} (next : S → Event → S) (old new : List S) (k : ℕ) (x s : S) (e : Event) → k < length old → x ≡ slice_index_or old k x → s ≡ next x e → Contains new s → Follows next old k e new
+there next old new k x s e within is made h d =
+    let same : next (slice_index_or old k d) e ≡ s = ap (λ y. next y e) (get_or_default old k d x within ∙ sym is) ∙ sym made in
+    rw same h
+
+pub made_of : {S : Type 0} (next : S → Event → S) (old : List S) (k : ℕ) (x s : S) (e : Event) → k < length old → x ≡ slice_index_or old k x → s ≡ next x e → (d : S) → s ≡ next (slice_index_or old k d) e
+made_of next old k x s e within is made d = made ∙ ap (λ y. next y e) (is ∙ get_or_default old k x d within)
+
+pub grows_none : {S : Type 0} (xs : List S) → Grows xs xs
+grows_none xs = record { more = []; same = sym (append-nil xs) }
+
+pub grows_on : {S : Type 0} (a b c : List S) → Grows a b → Grows b c → Grows a c
+grows_on a b c h i = record { more = h.more ++ i.more; same = i.same ∙ ap (λ xs. xs ++ i.more) h.same ∙ append_assoc a h.more i.more }
+
+pub within_more : {S : Type 0} (old new : List S) (k : ℕ) → Grows old new → k < length old → k < length new
+within_more old new k grows h = rw grows.same (omega (arith, length-append old grows.more, h))
+
+pub follows_more : {S : Type 0} (next : S → Event → S) (old mid new : List S) (k : ℕ) (e : Event) → Grows mid new → Follows next old k e mid → Follows next old k e new
+follows_more next old mid new k e grows h d = subst (λ xs. Contains xs (next (slice_index_or old k d) e)) (sym grows.same) (Contains-append_left mid grows.more (next (slice_index_or old k d) e) (h d))
+
+pub at_older : {S : Type 0} (old mid new : List S) (next : S → Event → S) (k : ℕ) (e : Event) → Grows old mid → k < length old → Follows next mid k e new → Follows next old k e new
+at_older old mid new next k e grows within h d =
+    let same : slice_index_or mid k d ≡ slice_index_or old k d = ap (λ xs. slice_index_or xs k d) grows.same ∙ get_or-append old grows.more d k within in
+    rw same at (h d)
+
+-- ---- one event after another
+
+-- an event that is listed for the older state at k can come at it among more states
+pub can_at : {S : Type 0} (can : S → Event → Bool) (old mid : List S) (k : ℕ) (x : S) (events : List Event) (n : ℕ) (e0 : Event) → k < length old → x ≡ slice_index_or old k x
+    → ((e : Event) → Contains events e → can x e ≡ true) → Grows old mid → n < length events → CanAt can mid k (slice_index_or events n e0)
+can_at can old mid k x events n e0 within is only grows less d =
+    let e = slice_index_or events n e0 in
+    let listed : Contains events e = (n, less, get_or_default events n e e0 less) in
+    let same : slice_index_or mid k d ≡ x = ap (λ xs. slice_index_or xs k d) grows.same ∙ get_or-append old grows.more d k within ∙ get_or_default old k d x within ∙ sym is in
+    rw same (only e listed)
+
+-- the first n of these events lead from the state at k to states that are there
+pub record Spreads {S : Type 0} (next : S → Event → S) (old : List S) (k : ℕ) (events : List Event) (n : ℕ) (new : List S) : Type 0 where
+  pub there : (j : ℕ) → j < n → (e0 : Event) → Follows next old k (slice_index_or events j e0) new
+
+pub spread_more : {S : Type 0} (next : S → Event → S) (old mid new : List S) (k : ℕ) (events : List Event) (n : ℕ) (e : Event) → k < length old → n < length events → e ≡ slice_index_or events n e
+    → Grows old mid → Grows mid new → Follows next mid k e new → Spreads next old k events n mid → Spreads next old k events (n + 1) new
+spread_more {S} next old mid new k events n e within less is before after h spread = record { there = λ j lj e0. by j e0 (split j n lj) }
+  where
+    by : (j : ℕ) (e0 : Event) → (j < n) ⊎ (j ≡ n) → Follows next old k (slice_index_or events j e0) new
+    by j e0 (inl l) = follows_more next old mid new k (slice_index_or events j e0) after (spread.there j l e0)
+    by j e0 (inr same) =
+        let is' : slice_index_or events j e0 ≡ e = rw same (get_or_default events n e0 e less ∙ sym is) in
+        rw is' (at_older old mid new next k e before within h)
+
+pub leads : {S : Type 0} (next : S → Event → S) (can : S → Event → Bool) (old new : List S) (k : ℕ) (events : List Event) (x : S) → k < length old → x ≡ slice_index_or old k x
+    → ((e : Event) → can x e ≡ true → Contains events e) → Spreads next old k events (length events) new → LeadsInto next can old k new
+leads next can old new k events x within is all spread e comes d =
+    let at : slice_index_or old k x ≡ x = sym is in
+    let listed = all e (rw at at (comes x)) in
+    subst (λ y. Contains new (next (slice_index_or old k d) y)) listed.2 (spread.there listed.0 listed.1 e d)
+
+pub holds_last : {S : Type 0} (xs : List S) (x : S) → Contains (xs ++ x ∷ []) x
+holds_last xs x = (length xs, omega (arith, length-append xs (x ∷ [])), get_or-append_seam xs x [] x)
+
+-- ---- a search that goes on
+
+pub searched_on : {S : Type 0} (next : S → Event → S) (can : S → Event → Bool) (old new : List S) (os origins : List Origin) (n : ℕ) → IsSearched next can old os n
+    → Grows old new → IsTraced next can new origins → IsSearched next can new origins n
+searched_on next can old new os origins n h grows traced = record {
+  some = within_more old new 0 grows h.some;
+  traced = traced;
+  closed_below = closed_on next can old new n h.within h.closed_below grows;
+  within = rw grows.same (omega (arith, length-append old grows.more, h.within));
+}
+
+pub searched_more : {S : Type 0} (next : S → Event → S) (can : S → Event → Bool) (old new : List S) (os origins : List Origin) (n : ℕ) → IsSearched next can old os n → n < length old
+    → Grows old new → IsTraced next can new origins → LeadsInto next can old n new → IsSearched next can new origins (n + 1)
+searched_more next can old new os origins n h less grows traced leads = record {
+  some = within_more old new 0 grows h.some;
+  traced = traced;
+  closed_below = closed_more next can old new n less h.closed_below grows leads;
+  within = omega (arith, within_more old new n grows less);
+}

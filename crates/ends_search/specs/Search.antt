@@ -1,0 +1,88 @@
+-- What a search over the states of a machine finds. `next` is what an event does to a state, `can`
+-- whether it can come there.
+use Rattle.std.specs.Prelude.{◌≡◌, ℕ, ◌<◌, ◌≤◌, List, [], ◌∷◌, ◌++◌, fold, length, slice_index_or}
+use Rattle.std.specs.Prelude.{Bool, true}
+use Rattle.std.specs.List.{Contains}
+use Rattle.sts_model.specs.declared.event.Event.{Event}
+use Rattle.sts_model.specs.declared.event.Event.TheVariants.{Step}
+use Rattle.ends_search.specs.declared.origin.Origin.{Origin}
+
+-- ---- ways
+
+-- each event can come where the ones before it lead
+abbrev pub CanAll : {S : Type 0} → (S → Event → S) → (S → Event → Bool) → S → List Event → Type 0
+CanAll next can s [] = Unit {0}
+CanAll next can s (e ∷ es) = (can s e ≡ true) × CanAll next can (next s e) es
+
+-- the events lead from s to r
+pub record IsWay {S : Type 0} (next : S → Event → S) (can : S → Event → Bool) (s : S)
+    (events : List Event) (r : S) : Type 0 where
+  pub can_all : CanAll next can s events
+  pub leads : fold next s events ≡ r
+
+-- what any events lead to is there
+abbrev pub Covers : {S : Type 0} → (S → Event → S) → (S → Event → Bool) → S → List S → Type 0
+Covers next can start states =
+    (events : List Event) → CanAll next can start events
+    → Contains states (fold next start events)
+
+-- ---- how states were found
+
+abbrev pub no_origin : Origin
+no_origin = record { parent = 0; event = Step 0 }
+
+abbrev pub origin_at : List Origin → ℕ → Origin
+origin_at origins k = slice_index_or origins k no_origin
+
+-- the event can come at the state at k
+abbrev pub CanAt : {S : Type 0} → (S → Event → Bool) → List S → ℕ → Event → Type 0
+CanAt {S} can states k e = (d : S) → can (slice_index_or states k d) e ≡ true
+
+-- the state at k comes by its event from the state at its parent, which was found before
+pub record ComesFrom {S : Type 0} (next : S → Event → S) (can : S → Event → Bool) (states : List S)
+    (origin : Origin) (k : ℕ) : Type 0 where
+  pub before : origin.parent < k
+  pub can_come : CanAt can states origin.parent origin.event
+  pub state : (d : S) → slice_index_or states k d
+      ≡ next (slice_index_or states origin.parent d) origin.event
+
+-- each state but the first comes from one that was found before
+pub record IsTraced {S : Type 0} (next : S → Event → S) (can : S → Event → Bool) (states : List S)
+    (origins : List Origin) : Type 0 where
+  pub as_many : length origins ≡ length states
+  pub later : (k : ℕ) → 0 < k → k < length states
+      → ComesFrom next can states (origin_at origins k) k
+
+-- the first state is this one
+pub record Begins {S : Type 0} (start : S) (states : List S) : Type 0 where
+  pub some : 0 < length states
+  pub first : (d : S) → slice_index_or states 0 d ≡ start
+
+-- ---- what states lead to
+
+-- what the event leads to from the older state at k is there
+abbrev pub Follows : {S : Type 0} → (S → Event → S) → List S → ℕ → Event → List S → Type 0
+Follows {S} next old k e new = (d : S) → Contains new (next (slice_index_or old k d) e)
+
+-- so of any event that can come
+abbrev pub LeadsInto : {S : Type 0} → (S → Event → S) → (S → Event → Bool) → List S → ℕ → List S
+    → Type 0
+LeadsInto next can old k new = (e : Event) → CanAt can old k e → Follows next old k e new
+
+-- so of the first so many states
+abbrev pub IsClosed : {S : Type 0} → (S → Event → S) → (S → Event → Bool) → List S → ℕ → Type 0
+IsClosed next can states n = (k : ℕ) → k < n → LeadsInto next can states k states
+
+-- the older ones are the first ones
+pub record Grows {S : Type 0} (old new : List S) : Type 0 where
+  pub more : List S
+  pub same : new ≡ old ++ more
+
+-- a search so far: it has a first state, each other one was found from an older one, and what any
+-- event leads to from the first so many states is among them
+pub record IsSearched {S : Type 0} (next : S → Event → S) (can : S → Event → Bool)
+    (states : List S) (origins : List Origin) (closed : ℕ) : Type 0 where
+  pub some : 0 < length states
+  pub traced : IsTraced next can states origins
+  pub closed_below : IsClosed next can states closed
+  pub within : closed ≤ length states

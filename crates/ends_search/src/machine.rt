@@ -1,0 +1,39 @@
+//! What a search asks of the states that it goes over.
+
+ghost use Rattle.std.specs.Prelude.{◌≡◌, Bool, true, IfOk};
+ghost use Rattle.std.specs.List.{Contains};
+ghost use Rattle.sts_model.specs.declared.event.Event.{Event};
+
+use std::alloc::{AllocError, Global};
+use sts_model::Event;
+
+/// A state of a machine that events lead on.
+pub trait Machine: Drop {
+    /// What all its states share.
+    type Setting;
+
+    ghost next: { Self.Setting → Self → Event → Self };
+
+    ghost can: { Self.Setting → Self → Event → Bool };
+
+    /// The events that can come.
+    fn events(&self, alloc: Global, setting: &Self::Setting) -> Result<Vec<Event>, AllocError>
+        ensures all { IfOk result (λ es. (e : Event) → can setting.now self.now e ≡ true → Contains es.items e) }
+        ensures only { IfOk result (λ es. (e : Event) → Contains es.items e → can setting.now self.now e ≡ true) };
+
+    /// The state after an event.
+    fn after(
+        &self,
+        alloc: Global,
+        setting: &Self::Setting,
+        event: Event,
+    ) -> Result<Self, AllocError>
+        ensures { IfOk result (λ s. s ≡ next setting.now self.now event) };
+
+    /// Where it answers true the two are the same state. It may answer false of the same state.
+    fn same(&self, other: &Self) -> bool
+        ensures { result ≡ true → self.now ≡ other.now };
+
+    /// A number that the same states mostly share.
+    fn hash(&self) -> u64;
+}

@@ -1,0 +1,5 @@
+use Rattle.laws_accepted.proofs.CostLaws as laws
+use Rattle.laws_accepted.proofs.costs.scopes_are_within.Goals as goal
+
+pub returns : goal.returns
+returns c = laws.scopes_are_within

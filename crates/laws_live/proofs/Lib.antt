@@ -1,0 +1,15 @@
+pub mod Changes
+pub mod EffectLemmas
+pub mod EndLemmas
+pub mod LawLemmas
+pub mod ListLemmas
+pub mod Looks
+pub mod Order
+pub mod OutsideLemmas
+pub mod RestingLemmas
+pub mod Safe
+pub mod Stands
+pub mod Staying
+pub mod ViewLemmas
+pub mod WaitingLemmas
+pub mod Waking

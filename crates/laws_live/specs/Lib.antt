@@ -1,0 +1,11 @@
+pub mod Cancelling
+pub mod Effect
+pub mod Fine
+pub mod Order
+pub mod Outside
+pub mod Reading
+pub mod Run
+pub mod Seen
+pub mod Stands
+pub mod Waiting
+pub mod Waking

@@ -1,0 +1,134 @@
+-- Frames that a step leaves: they own no more, and have the entries of what is open.
+use Rattle.std.proofs.Common.{◌≡◌, ℕ, zero, suc, ◌+◌, List, [], ◌∷◌, Bool, true, false, Option}
+use Rattle.std.proofs.Common.{Some, None, refl, get_or, set, drop, cond, ◌||◌, not, arith}
+use Rattle.std.proofs.lemmas.Bool.Decides.{nat_tests}
+use Rattle.std.specs.List.{list_any}
+use Rattle.std.specs.Prelude.{◌==◌, ◌-◌, nat_le, pos, unwrap_or}
+use Rattle.std.specs.Int.{int_wrapping_div, w64}
+use Rattle.std.specs.Ordering.{int_eq}
+use Rattle.sts_code.specs.declared.instr.Instr.{Instr}
+use Rattle.sts_code.specs.declared.instr.Instr.TheVariants.{Div, Times, Next}
+use Rattle.sts_model.specs.declared.record.Slot.{Slot}
+use Rattle.sts_model.specs.declared.record.Slot.TheVariants as slots
+use Rattle.sts_model.specs.declared.record.Entry.{Entry}
+use Rattle.sts_model.specs.declared.record.Entry.TheVariants as entry
+use Rattle.sts_model.specs.declared.record.Frame.{Frame}
+use Rattle.sts_model.specs.declared.record.Loop.{Loop}
+use Rattle.sts_model.specs.declared.record.Scope.{Scope}
+use Rattle.sts_model.specs.World.{World, scope_at}
+use Rattle.sts_model.specs.Local.{local, turns, enters, clipped, operand, goes, steps}
+use Rattle.sts_code.specs.Loops.{match_of}
+use Rattle.sts_model.specs.Living.{is_closed}
+use Rattle.sts_model.specs.Misuse.{is_scope, is_lent, is_binding, is_entry_of, innermost, at_own}
+use Rattle.sts_model.specs.Effect.{named, cleared, is_of, with_slot}
+use Rattle.laws_runs.proofs.ListLemmas.{at_set}
+use Rattle.laws_runs.proofs.StillLemmas.{Fits}
+
+-- the same slots and entries
+pub fits-refl : (w : World) (f : Frame) → Fits w f f
+fits-refl w f = record { own = λ i s e. e; entries = λ s still e. e }
+
+fits-cond : (w : World) (b : Bool) (f g h : Frame) → Fits w f g → Fits w f h → Fits w f (cond b g h)
+fits-cond w true f g h x y = x
+fits-cond w false f g h x y = y
+
+fits-turns : (w : World) (f : Frame) (ls : List Loop) → Fits w f (turns f ls)
+fits-turns w f [] = record { own = λ i s e. e; entries = λ s still e. e }
+fits-turns w f (l ∷ ls) =
+    fits-cond w (nat_le l.left 1) f (record (steps f 0 []) { loops = ls }) (record f { pc = l.at + 1; loops = record l { left = l.left - 1 } ∷ ls })
+    (record { own = λ i s e. e; entries = λ s still e. e })
+    (record { own = λ i s e. e; entries = λ s still e. e })
+
+fits-enters : (w : World) (is : List Instr) (f : Frame) (n : ℕ) → Fits w f (enters is f n)
+fits-enters w is f n =
+    fits-cond w (n == 0) f (goes f (unwrap_or (match_of is f.pc) 0 + 1) 1 []) (record (steps f 1 []) { loops = record { at = f.pc; left = n } ∷ f.loops })
+    (record { own = λ i s e. e; entries = λ s still e. e })
+    (record { own = λ i s e. e; entries = λ s still e. e })
+
+pub fits-local : (w : World) (is : List Instr) (i : Instr) (f : Frame) → Fits w f (local is i f)
+fits-local w is (Div to) f =
+    fits-cond w (int_eq (operand f 0) (pos 0)) f (goes f to 2 []) (steps f 2 (int_wrapping_div w64 (operand f 1) (operand f 0) ∷ []))
+    (record { own = λ i s e. e; entries = λ s still e. e })
+    (record { own = λ i s e. e; entries = λ s still e. e })
+fits-local w is (Times n) f = fits-enters w is f (clipped n (operand f 0))
+fits-local w is Next f = fits-turns w f f.loops
+fits-local w is _ f = record { own = λ i s e. e; entries = λ s still e. e }
+
+-- ---- slots
+
+owns-cleared : (w : World) (s : ℕ) (xs : List Slot) (i r : ℕ) → get_or (cleared w s xs) i slots.Empty ≡ slots.Own r → get_or xs i slots.Empty ≡ slots.Own r
+owns-cleared w s [] i r e = e
+owns-cleared w s (x ∷ xs) zero r e = by (is_of w s x) e
+  where
+    by : (b : Bool) → cond b slots.Empty x ≡ slots.Own r → x ≡ slots.Own r
+    by true e = cc
+    by false e = e
+owns-cleared w s (x ∷ xs) (suc i) r e = owns-cleared w s xs i r e
+
+-- a slot that is emptied or gets a subtask owns nothing
+pub owns-set : (xs : List Slot) (h : ℕ) (x : Slot) → ((r : ℕ) → x ≡ slots.Own r → ⊥) → (i r : ℕ) → get_or (set xs h x) i slots.Empty ≡ slots.Own r → get_or xs i slots.Empty ≡ slots.Own r
+owns-set xs h x never i r = at_set (λ (y : Slot). y ≡ slots.Own r → get_or xs i slots.Empty ≡ slots.Own r) xs h i x slots.Empty (λ e q. absurd (never r q)) (λ q. q)
+
+pub owns-forget : (xs : List Slot) (h i r : ℕ) → get_or (set xs h slots.Empty) i slots.Empty ≡ slots.Own r → get_or xs i slots.Empty ≡ slots.Own r
+owns-forget xs h = owns-set xs h slots.Empty (λ r e. cc)
+
+pub owns-with_slot : (xs : List Slot) (h : Option ℕ) (u i r : ℕ) → get_or (with_slot xs h (slots.Sub u)) i slots.Empty ≡ slots.Own r → get_or xs i slots.Empty ≡ slots.Own r
+owns-with_slot xs None u i r e = e
+owns-with_slot xs (Some h) u i r e = owns-set xs h (slots.Sub u) (λ r e. cc) i r e
+
+-- a slot that speaks of a scope and isn't lent owns it
+pub own_slot : (x : Slot) → not (is_scope x) ≡ false → is_lent x ≡ false → x ≡ slots.Own (named x)
+own_slot slots.Empty a b = cc
+own_slot (slots.Own s) a b = refl
+own_slot (slots.Lent s) a b = cc
+own_slot (slots.Sub t) a b = cc
+
+pub at_own-is : (w : World) (x : Slot) (test : ℕ → Scope → Bool) → x ≡ slots.Own (named x) → at_own w x test ≡ test (named x) (scope_at w (named x))
+at_own-is w slots.Empty test e = cc
+at_own-is w (slots.Own s) test e = refl
+at_own-is w (slots.Lent s) test e = cc
+at_own-is w (slots.Sub t) test e = cc
+
+-- ---- entries
+
+-- the innermost entry is a binding, so no scope goes with it
+entries-unbind : (es : List Entry) (s : ℕ) → not (innermost is_binding es) ≡ false → list_any (is_entry_of s) es ≡ true → list_any (is_entry_of s) (drop 1 es) ≡ true
+entries-unbind [] s h e = cc
+entries-unbind (entry.Binding k v ∷ es) s h e = e
+entries-unbind (entry.Scope r ∷ es) s h e = cc
+
+pub fits-unbind : (w : World) (f : Frame) → not (innermost is_binding f.entries) ≡ false → Fits w f (record (steps f 0 []) { entries = drop 1 f.entries })
+fits-unbind w f h = record { own = λ i s e. e; entries = λ s still e. entries-unbind f.entries s h e }
+
+pub fits-bind : (w : World) (f : Frame) (k : ℕ) → Fits w f (record (steps f 1 []) { entries = entry.Binding k (operand f 0) ∷ f.entries })
+fits-bind w f k = record { own = λ i s e. e; entries = λ s still e. e }
+
+either : (a b : Bool) → (a ≡ true → ⊥) → (a || b) ≡ true → b ≡ true
+either true b never e = absurd (never refl)
+either false b never e = e
+
+-- the innermost entry is that of the closed scope s, so no open one goes with it
+entries-close : (w : World) (es : List Entry) (s r : ℕ) → is_closed (scope_at w s).phase ≡ true → not (innermost (is_entry_of s) es) ≡ false → is_closed (scope_at w r).phase ≡ false → list_any (is_entry_of r) es ≡ true → list_any (is_entry_of r) (drop 1 es) ≡ true
+entries-close w [] s r closed h still e = cc
+entries-close w (entry.Binding k v ∷ es) s r closed h still e = cc
+entries-close w (entry.Scope q ∷ es) s r closed h still e =
+    either (q == r) (list_any (is_entry_of r) es)
+    (λ same.
+    let a : q ≡ r = grind (arith, nat_tests) in
+    let b : q ≡ s = is_own (q == s) h refl in
+    let c : s ≡ r = cc in
+    let d : is_closed (scope_at w r).phase ≡ true = rw (← c) closed in
+    let never : true ≡ false = cc in
+    cc)
+    e
+  where
+    is_own : (b : Bool) → not b ≡ false → (q == s) ≡ b → q ≡ s
+    is_own true h e = grind (arith, nat_tests)
+    is_own false h e = cc
+
+pub fits-close : (w v : World) (f : Frame) (s : ℕ) → is_closed (scope_at v s).phase ≡ true → not (innermost (is_entry_of s) f.entries) ≡ false → Fits v f (record (steps f 0 []) { entries = drop 1 f.entries; slots = cleared w s f.slots })
+fits-close w v f s closed h =
+    record {
+      own = λ i r e. owns-cleared w s f.slots i r e;
+      entries = λ r still e. entries-close v f.entries s r closed h still e;
+    }

@@ -1,0 +1,61 @@
+-- Why a scope is cancelled, what is settled in it and where it is entered, in every state of every
+-- run. That `join` waits until all subtasks have completed or the scope is cancelled restates
+-- `join` of `StructuredTaskScope`; the rest is this project's own.
+use Rattle.std.specs.Prelude.{◌≡◌, ℕ, ◌<◌, ◌≤◌, count_by, [], length, Bool, true, false, Some, None}
+use Rattle.std.specs.List.{list_any}
+use Rattle.sts_model.specs.declared.event.Phase.{Phase}
+use Rattle.sts_model.specs.declared.event.Phase.TheVariants.{Closing, Closed}
+use Rattle.sts_model.specs.declared.record.Scope.{Scope}
+use Rattle.sts_model.specs.World.{World, task_at, scope_at}
+use Rattle.sts_model.specs.Joining.{cancels}
+use Rattle.sts_model.specs.Living.{lives, is_closed, ends, sub_state}
+use Rattle.sts_model.specs.Misuse.{is_joined, is_entry_of}
+use Rattle.laws_runs.specs.Runs.{Ever}
+
+-- has its close begun?
+abbrev pub is_leaving : Phase → Bool
+is_leaving Closing = true
+is_leaving Closed = true
+is_leaving _ = false
+
+-- does its joiner ask for a cancel, by the ends so far?
+abbrev pub is_asked : Scope → Bool
+is_asked scope = cancels scope.joiner (ends scope)
+
+-- a scope that was born is cancelled by an end after which its joiner asks for it, by its expiry or
+-- by its close, and by nothing else; a joiner that asks for it without any end (`until failed 0`)
+-- is heard at the first one
+pub record HasCause (scope : Scope) : Type 0 where
+  pub asked : scope.cancelled ≡ false → is_asked scope ≡ true → scope.completions ≡ []
+  pub expired : scope.expired ≡ true → scope.cancelled ≡ true
+  pub leaving : is_leaving scope.phase ≡ true → scope.cancelled ≡ true
+  pub cause : scope.cancelled ≡ true → scope.expired ≡ false → is_leaving scope.phase ≡ false
+      → is_asked scope ≡ true
+
+abbrev pub CancelledHasCause : Type 0
+CancelledHasCause = Ever (λ p w. (s : ℕ) → s < length w.scopes → HasCause (scope_at w s))
+
+-- a subtask that doesn't live and is unavailable is of a cancelled scope
+abbrev pub LeftOutIsCancelled : Type 0
+LeftOutIsCancelled =
+    Ever (λ p w. (s u : ℕ) → (task_at w u).scope ≡ Some s → lives (task_at w u) ≡ false
+    → sub_state w u ≡ None → (scope_at w s).cancelled ≡ true)
+
+-- where `join` had an outcome, the scope is cancelled or no subtask of it lives
+abbrev pub JoinedIsSettled : Type 0
+JoinedIsSettled =
+    Ever (λ p w. (s u : ℕ) → is_joined (scope_at w s).phase ≡ true
+    → (scope_at w s).cancelled ≡ false → (task_at w u).scope ≡ Some s
+    → lives (task_at w u) ≡ false)
+
+-- a scope in the structure list of a living task is its own, isn't closed, and stands there once
+pub record IsEntered (w : World) (t s : ℕ) : Type 0 where
+  pub born : s < length w.scopes
+  pub owner : (scope_at w s).owner ≡ t
+  pub still : is_closed (scope_at w s).phase ≡ false
+  pub once : count_by (is_entry_of s) (task_at w t).frame.entries ≤ 1
+
+abbrev pub EntriesAreOpen : Type 0
+EntriesAreOpen =
+    Ever (λ p w. (t s : ℕ) → lives (task_at w t) ≡ true
+    → list_any (is_entry_of s) (task_at w t).frame.entries ≡ true → IsEntered w t s)

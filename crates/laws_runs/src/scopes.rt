@@ -1,0 +1,39 @@
+//! Laws over all event lists of every program: why scopes are cancelled, what is settled in them,
+//! where they are entered, what slots name, what `tally` answers.
+
+ghost use Rattle.laws_runs.specs.Scopes.{CancelledHasCause, LeftOutIsCancelled};
+ghost use Rattle.laws_runs.specs.Scopes.{JoinedIsSettled, EntriesAreOpen};
+ghost use Rattle.laws_runs.specs.Slots.{SlotsStand};
+ghost use Rattle.laws_runs.specs.Tallies.{TalliesAreCounts};
+
+/// A scope is cancelled by an end after which its joiner asks for it, by its expiry or by its
+/// close, and by nothing else.
+pub fn cancelled_has_cause()
+    ensures { CancelledHasCause }
+{}
+
+/// A subtask that doesn't live and is unavailable is of a cancelled scope.
+pub fn left_out_is_cancelled()
+    ensures { LeftOutIsCancelled }
+{}
+
+/// Where `join` had an outcome, the scope is cancelled or no subtask of it lives.
+pub fn joined_is_settled()
+    ensures { JoinedIsSettled }
+{}
+
+/// A scope in the structure list of a living task is its own, isn't closed, and stands there once.
+pub fn entries_are_open()
+    ensures { EntriesAreOpen }
+{}
+
+/// What the slots of a living task name stands.
+pub fn slots_stand()
+    ensures { SlotsStand }
+{}
+
+/// `tally` answers the numbers of subtasks that are a success, failed and unavailable; together
+/// they are all subtasks of the scope.
+pub fn tallies_are_counts()
+    ensures { TalliesAreCounts }
+{}

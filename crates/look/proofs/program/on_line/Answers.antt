@@ -1,0 +1,10 @@
+use Rattle.look.proofs.program.on_line.Goals as goal
+
+pub returns-in-View : goal.returns-in-View
+returns-in-View g c = rw c.in-View.is c.on_texts.ensures
+
+pub returns-in-Explain : goal.returns-in-Explain
+returns-in-Explain g c = rw c.in-Explain.is c.on_explain.ensures
+
+pub returns-in-Draw : goal.returns-in-Draw
+returns-in-Draw g c = rw c.in-Draw.is c.on_texts-in-Draw.ensures

@@ -1,0 +1,20 @@
+use Rattle.std.proofs.Common.{refl, sym, subst}
+use Rattle.std.proofs.lemmas.Result.{IfOk-weaker}
+use Rattle.sts_output.specs.Streams as streams
+use Rattle.sts_output.specs.Output.{failure_output}
+use Rattle.sts_output.specs.Taking.{IsTakenOf}
+use Rattle.look.specs.Ending as def
+use Rattle.look.proofs.program.on_texts.Goals as goal
+
+pub returns-in_ok-status-in-Ok : goal.returns-in_ok-status-in-Ok
+returns-in_ok-status-in-Ok g c =
+    let file = g.S.Sources.held c.args.sources.now c.args.path.now in
+    let trace_file = g.S.Sources.held c.args.sources.now c.args.trace.now in
+    let taken = subst (λ xs. IsTakenOf file streams.most_of_a_text xs) (sym c.as_slice-text.ensures.value) c.in-Ok.ensures.program in
+    let traced = subst (λ xs. IsTakenOf trace_file streams.most_of_a_stream xs) (sym c.as_slice-events.ensures.value) c.in-Ok.ensures.events in
+    let h = c.in_ok-status-in-Ok.ensures in
+    (h.0, def.shown _ _ taken traced h.1, h.2)
+
+pub returns-in-Err : goal.returns-in-Err
+returns-in-Err g c =
+    IfOk-weaker c.file_failed.result _ _ (λ s h. (failure_output h.0, def.failed h.0 refl, h.1)) c.file_failed.ensures

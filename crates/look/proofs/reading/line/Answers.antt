@@ -1,0 +1,33 @@
+use Rattle.std.proofs.Common.{map, ap, sym, subst, ◌∙◌}
+use Rattle.std.proofs.lemmas.Result.{IfOk-weaker, IfErr-weaker}
+use Rattle.clap.specs.Words.{App, is_simple, is_simple_and_free, kind_of, HasKind, fault_of, subcommand_of}
+use Rattle.sts_args.specs.Refused.{BlamesUnless}
+use Rattle.look.specs.Asked.{IsLineOf, is_whole}
+use Rattle.look.proofs.Refusing.{refuses_blamed, refuses_told}
+use Rattle.look.proofs.reading.line.Goals as goal
+
+pub returns-in-Ok-clause-asked : goal.returns-in-Ok-clause-asked
+returns-in-Ok-clause-asked c =
+    let program_is = c.in_ok-command.ensures in
+    let words = map (λ w. w.now) c.args.words.now in
+    let found = (c.in-Ok.ensures.matches (ap is_simple program_is)).1 ∙ ap (λ a. subcommand_of a words) program_is in
+    let none = ap (λ (a : App). fault_of a words) (sym program_is) ∙ c.in-Ok.ensures.kinds (ap is_simple_and_free program_is) in
+    IfOk-weaker c.chosen.result _ _ (λ l h. record { faultless = none; line = subst (λ s. IsLineOf s l) found h }) c.chosen.ensures.asked
+
+pub returns-in-Ok-clause-refused : goal.returns-in-Ok-clause-refused
+returns-in-Ok-clause-refused c =
+    let program_is = c.in_ok-command.ensures in
+    let words = map (λ w. w.now) c.args.words.now in
+    let found = (c.in-Ok.ensures.matches (ap is_simple program_is)).1 ∙ ap (λ a. subcommand_of a words) program_is in
+    let none = ap (λ (a : App). fault_of a words) (sym program_is) ∙ c.in-Ok.ensures.kinds (ap is_simple_and_free program_is) in
+    IfErr-weaker c.chosen.result _ _
+    (λ e h. refuses_blamed words e none (subst (λ s. BlamesUnless (is_whole s) e) found h))
+    c.chosen.ensures.lacks
+
+pub returns-in-Err-clause-refused : goal.returns-in-Err-clause-refused
+returns-in-Err-clause-refused c =
+    let program_is = c.in_ok-command.ensures in
+    let words = map (λ w. w.now) c.args.words.now in
+    let kinds = c.in-Err.ensures.kinds (ap is_simple_and_free program_is) in
+    refuses_told words (kind_of c.in-Err.error) c.told.result c.told.ensures
+    (subst (λ (a : App). HasKind (fault_of a words) c.in-Err.error) program_is kinds)

@@ -1,0 +1,118 @@
+-- What a command line asks for, or why it asks for nothing, read off the words by `clap`'s own
+-- definitions (this project's own).
+use Rattle.std.specs.Prelude.{◌≡◌, ◌⊎◌, ◌&&◌, ◌||◌, Bool, false, if◌then◌else◌, List, [], ◌∷◌}
+use Rattle.std.specs.Prelude.{filter_map, Option, Some, None, IsSomeAnd, is_some, codes}
+use Rattle.std.specs.Borrow.{Bor}
+use Rattle.std.specs.List.{list_all}
+use Rattle.std.specs.Str.{bytes_eq}
+use Rattle.clap.specs.Words.{Text, Row, IsAmong, fault_of, first_of, subcommand_of}
+use Rattle.clap.specs.declared.error.kind.ErrorKind.TheVariants as kind
+use Rattle.sts_args.specs.Refused.{HasMistake}
+use Rattle.sts_args.specs.declared.asked.LineError.{LineError}
+use Rattle.sts_args.specs.declared.asked.LineError.TheVariants as error
+use Rattle.look_lines.specs.declared.view.Wanted.{Wanted}
+use Rattle.look.specs.declared.asked.Asked.{Asked}
+use Rattle.look.specs.declared.asked.Asked.TheVariants as asked
+use Rattle.look.specs.Command.{program}
+
+-- what a line says: the command, its files in order, and of `view` what is wanted of it
+pub record Said : Type 0 where
+  pub name : Text
+  pub files : List Text
+  pub wanted : Option Wanted
+
+-- the file that is named, if one is
+abbrev pub named : Option (Bor Text) → List Text
+named None = []
+named (Some path) = path.now ∷ []
+
+abbrev pub said : Asked → Said
+said (asked.View file trace wanted) = record {
+  name = codes "view";
+  files = file.now ∷ trace.now ∷ [];
+  wanted = Some wanted;
+}
+said (asked.Explain file trace) = record {
+  name = codes "explain";
+  files = file.now ∷ named trace;
+  wanted = None;
+}
+said (asked.Draw file trace) = record {
+  name = codes "draw";
+  files = file.now ∷ trace.now ∷ [];
+  wanted = None;
+}
+
+-- an option without a value is given as `true`
+abbrev pub is_true : Option Text → Bool
+is_true None = false
+is_true (Some text) = bytes_eq text (codes "true")
+
+abbrev pub is_set : Text → List Row → Bool
+is_set id rows = is_true (first_of id rows)
+
+abbrev pub wanted_at : List Row → Wanted
+wanted_at rows = record { each = is_set (codes "each") rows; full = is_set (codes "full") rows }
+
+abbrev pub is_view : Text → Bool
+is_view name = bytes_eq name (codes "view")
+
+-- does a command want a trace?
+abbrev pub wants_trace : Text → Bool
+wants_trace name = is_view name || bytes_eq name (codes "draw")
+
+-- the files that a command is given
+abbrev pub files_at : List Row → List Text
+files_at rows = filter_map (λ id. first_of id rows) (codes "FILE" ∷ codes "TRACE" ∷ [])
+
+abbrev pub given : Text × List Row → Said
+given (name, rows) = record {
+  name = name;
+  files = files_at rows;
+  wanted = if is_view name then Some (wanted_at rows) else None;
+}
+
+-- a command is asked for, with the files and the options that it was given
+abbrev pub IsGiven : Text × List Row → Asked → Type 0
+IsGiven c a = said a ≡ given c
+
+-- the command that was found is asked for
+abbrev pub IsLineOf : Option (Text × List Row) → Asked → Type 0
+IsLineOf found a = IsSomeAnd found (λ c. IsGiven c a)
+
+-- what the words ask for: where `clap` finds no fault, the command that it finds
+pub record Asks (words : List Text) (a : Asked) : Type 0 where
+  pub faultless : fault_of program words ≡ []
+  pub line : IsLineOf (subcommand_of program words) a
+
+-- ---- why they ask for nothing
+
+abbrev pub is_command : Text → Bool
+is_command name = wants_trace name || bytes_eq name (codes "explain")
+
+-- the files that a command has to be given
+abbrev pub ids_of : Text → List Text
+ids_of name = if wants_trace name then codes "FILE" ∷ codes "TRACE" ∷ [] else codes "FILE" ∷ []
+
+-- the words name a command of the program, and all files that it has to be given
+abbrev pub is_whole : Option (Text × List Row) → Bool
+is_whole None = false
+is_whole (Some (name, rows)) = is_command name
+    && list_all (λ id. is_some (first_of id rows)) (ids_of name)
+
+abbrev pub AsksForHelp : List Text → Type 0
+AsksForHelp words = IsAmong kind.DisplayHelp (fault_of program words)
+
+-- `clap` finds no fault, and no command of the program with its files either
+abbrev pub NamesNothing : List Text → Type 0
+NamesNothing words = (fault_of program words ≡ [])
+    × (is_whole (subcommand_of program words) ≡ false)
+
+-- `clap` finds another fault than that the words ask for help
+abbrev pub IsMistaken : List Text → Type 0
+IsMistaken words = HasMistake (fault_of program words) ⊎ NamesNothing words
+
+abbrev pub Refuses : List Text → LineError → Type 0
+Refuses words error.Memory = Unit {0}
+Refuses words (error.Help text) = AsksForHelp words
+Refuses words (error.Usage text) = IsMistaken words

@@ -1,0 +1,74 @@
+-- What `look` writes, and the status that it ends with (this project's own).
+use Rattle.std.specs.Prelude.{◌≡◌, ℕ, List, Option, Some, None, Result, Ok, Err, map}
+use Rattle.std.specs.Prelude.{String, Vec}
+use Rattle.std.specs.Borrow.{Bor}
+use Rattle.std.specs.String.{string_bytes}
+use Rattle.std.specs.declared.alloc.Global.{Global}
+use Rattle.clap.specs.Words.{Text}
+use Rattle.sts_output.specs.Streams.{Files, Prints, Streams, Tells, most_of_a_stream, most_of_a_text}
+use Rattle.sts_output.specs.Streams.{not_text_output}
+use Rattle.sts_output.specs.Output.{Output, failure_output, memory_output}
+use Rattle.sts_output.specs.Taking.{IsTakenOf}
+use Rattle.sts_output.specs.declared.taking.TakeError.{TakeError}
+use Rattle.sts_output.specs.declared.process_words.WordsError.{WordsError}
+use Rattle.sts_output.specs.declared.process_words.WordsError.TheVariants as words_error
+use Rattle.look_picture.specs.Picture.{IsPictureOf}
+use Rattle.look_refusal.specs.Output.{IsExplanation}
+use Rattle.look_run.specs.Output.{IsRunExplanation}
+use Rattle.look_lines.specs.View.{IsViewOf}
+use Rattle.look.specs.Asked.{Asks, AsksForHelp, IsMistaken}
+use Rattle.look.specs.declared.asked.Asked.{Asked}
+use Rattle.look.specs.declared.asked.Asked.TheVariants as asked
+use Rattle.look.specs.declared.program.Showing.{Showing}
+use Rattle.look.specs.declared.program.Showing.TheVariants as showing
+
+-- what is shown of a file's text, or that memory or the file failed
+pub data IsOfText (Shows : List ℕ → Output → Type 0) (file : Option (List ℕ)) (o : Output) : Type 0
+  where
+    shown : (text : List ℕ) → IsTakenOf file most_of_a_text text → Shows text o
+        → IsOfText Shows file o
+    failed : (e : TakeError) → o ≡ failure_output e → IsOfText Shows file o
+
+-- what is shown of a file's text and another file's trace, or that memory or a file failed
+pub data IsOfTexts (Shows : List ℕ → List ℕ → Output → Type 0) (file trace_file : Option (List ℕ))
+    (o : Output) : Type 0 where
+  shown : (text trace : List ℕ) → IsTakenOf file most_of_a_text text
+      → IsTakenOf trace_file most_of_a_stream trace → Shows text trace o
+      → IsOfTexts Shows file trace_file o
+  failed : (e : TakeError) → o ≡ failure_output e → IsOfTexts Shows file trace_file o
+
+-- what is shown of a text and a trace
+abbrev pub Shows : Showing → List ℕ → List ℕ → Output → Type 0
+Shows (showing.View wanted) = IsViewOf wanted
+Shows showing.Run = IsRunExplanation
+Shows showing.Picture = IsPictureOf
+
+-- what is wrong with a file's text, or where its run stands after the trace that is named
+abbrev pub IsExplained : Files → Option (List ℕ) → Option (Bor Text) → Output → Type 0
+IsExplained files file None o = IsOfText IsExplanation file o
+IsExplained files file (Some trace) o = IsOfTexts IsRunExplanation file (files trace.now) o
+
+-- what is shown for a line
+abbrev pub IsShown : Asked → Files → Output → Type 0
+IsShown (asked.View file trace wanted) files o =
+    IsOfTexts (IsViewOf wanted) (files file.now) (files trace.now) o
+IsShown (asked.Explain file trace) files o = IsExplained files (files file.now) trace o
+IsShown (asked.Draw file trace) files o =
+    IsOfTexts IsPictureOf (files file.now) (files trace.now) o
+
+-- what the program writes, and its status: that of the line that the words ask for, 0 after help
+-- that they ask for, 2 where they are mistaken, or that memory was refused
+pub data Ends (words : List Text) (files : Files) (s : Streams) (status : ℕ) : Type 0 where
+  shown : (a : Asked) (o : Output) → Asks words a → IsShown a files o → Prints s status o
+      → Ends words files s status
+  helped : (o : Output) → AsksForHelp words → o.status ≡ 0 → Prints s status o
+      → Ends words files s status
+  mistaken : (o : Output) → IsMistaken words → o.status ≡ 2 → Tells s status o
+      → Ends words files s status
+  failed : Prints s status memory_output → Ends words files s status
+
+-- the same from the words that were had, or not
+abbrev pub EndsFrom : Result (Vec (String Global) Global) WordsError → Files → Streams → ℕ → Type 0
+EndsFrom (Ok words) files s status = Ends (map string_bytes words.items) files s status
+EndsFrom (Err words_error.Memory) files s status = Prints s status memory_output
+EndsFrom (Err words_error.NotText) files s status = Tells s status not_text_output

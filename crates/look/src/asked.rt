@@ -1,0 +1,24 @@
+//! What a command line asks for.
+
+use look_lines::Wanted;
+
+/// What is to be shown: the names of the files come as they were written.
+#[derive(Clone, Copy, Debug)]
+pub enum Asked<'a> {
+    /// What stands after a trace.
+    View {
+        file: &'a str,
+        trace: &'a str,
+        wanted: Wanted,
+    },
+    /// What is wrong with a text, if anything is; with a trace how a run of it stands after that.
+    Explain {
+        file: &'a str,
+        trace: Option<&'a str>,
+    },
+    /// A run as a picture.
+    Draw {
+        file: &'a str,
+        trace: &'a str,
+    },
+}

@@ -1,0 +1,247 @@
+//! The program `look`, but for its `main`: opens what a command line names, and writes what is
+//! shown.
+
+ghost use Rattle.std.specs.Prelude.{◌≡◌, IfOk, map};
+ghost use Rattle.sts_output.specs.Output.{Output, Writes};
+ghost use Rattle.look_refusal.specs.Output.{IsExplanation};
+ghost use Rattle.look.specs.Ending as def;
+
+use crate::asked::Asked;
+use crate::dashed::Dashed;
+use crate::reading::line;
+use look_lines::{Wanted, write_view};
+use look_picture::write_picture;
+use look_refusal::explain;
+use look_run::explain_run;
+use std::alloc::Global;
+use std::io::{Input, Write};
+use std::rt::{Env, Files};
+use sts_args::LineError;
+use sts_output::{
+    Events, NOT_TEXT, Named, Notes, STATUS_OUTSIDE, Sources, TakeError, WordsError, WriteFailed,
+    borrowed, failed, file_failed, read_text, read_texts, words, written,
+};
+
+/// The name that the program goes by.
+const NAME: &str = "look";
+
+/// What is shown of a text and a trace.
+#[derive(Clone, Copy)]
+enum Showing {
+    View(Wanted),
+    Run,
+    Picture,
+}
+
+impl Showing {
+    /// Notes where the text or the trace has its fault, if the output doesn't say it.
+    fn note(self, status: u8, text: Named<'_>, trace: Named<'_>, notes: &mut Notes) {
+        match self {
+            Showing::Run => {}
+            Showing::View(_) | Showing::Picture => notes.status(status, text, Events::Trace(trace)),
+        }
+    }
+}
+
+fn show<W: Write>(
+    alloc: Global,
+    showing: Showing,
+    text: &[u8],
+    trace: &[u8],
+    out: &mut W,
+) -> Result<u8, WriteFailed>
+    ensures { IfOk result (λ s. (o : Output) × def.Shows showing text.now trace.now o
+        × Writes (W.contents out.old) (W.contents out.new) s o) }
+{
+    match showing {
+        Showing::View(wanted) => write_view(alloc, wanted, text, trace, out),
+        Showing::Run => explain_run(alloc, text, trace, out),
+        Showing::Picture => write_picture(alloc, text, trace, out),
+    }
+}
+
+/// The same of two files.
+fn on_texts<S: Sources, W: Write>(
+    alloc: Global,
+    sources: &S,
+    showing: Showing,
+    path: &str,
+    trace: &str,
+    out: &mut W,
+    notes: &mut Notes,
+) -> Result<u8, WriteFailed>
+    ensures { IfOk result (λ s. (o : Output)
+        × def.IsOfTexts (def.Shows showing) (S.held sources.now path.now)
+        (S.held sources.now trace.now) o
+        × Writes (W.contents out.old) (W.contents out.new) s o) }
+{
+    match read_texts(alloc, sources, path, Some(trace)) {
+        Ok(texts) => {
+            let (text, events) = (texts.program.as_slice(), texts.events.as_slice());
+            let status = show(alloc, showing, text, events, out)?;
+            showing.note(
+                status,
+                Named::new(path, text),
+                Named::new(trace, events),
+                notes,
+            );
+            Ok(status)
+        }
+        Err(error) => file_failed(error, out, notes),
+    }
+}
+
+/// What is wrong with a text.
+fn on_text<S: Sources, W: Write>(
+    alloc: Global,
+    sources: &S,
+    path: &str,
+    out: &mut W,
+    notes: &mut Notes,
+) -> Result<u8, WriteFailed>
+    ensures { IfOk result (λ s. (o : Output)
+        × def.IsOfText IsExplanation (S.held sources.now path.now) o
+        × Writes (W.contents out.old) (W.contents out.new) s o) }
+{
+    match read_text(alloc, sources, path) {
+        Ok(text) => explain(alloc, text.as_slice(), out),
+        Err(error) => file_failed(error, out, notes),
+    }
+}
+
+/// What is wrong with a text, or where its run stands after a trace that is named.
+fn on_explain<S: Sources, W: Write>(
+    alloc: Global,
+    sources: &S,
+    path: &str,
+    trace: Option<&str>,
+    out: &mut W,
+    notes: &mut Notes,
+) -> Result<u8, WriteFailed>
+    ensures { IfOk result (λ s. (o : Output)
+        × def.IsExplained (S.held sources.now) (S.held sources.now path.now) trace.entry o
+        × Writes (W.contents out.old) (W.contents out.new) s o) }
+{
+    match trace {
+        None => on_text(alloc, sources, path, out, notes),
+        Some(trace) => on_texts(alloc, sources, Showing::Run, path, trace, out, notes),
+    }
+}
+
+/// Does what a line asks for.
+fn on_line<S: Sources, W: Write>(
+    alloc: Global,
+    sources: &S,
+    asked: Asked<'_>,
+    out: &mut W,
+    notes: &mut Notes,
+) -> Result<u8, WriteFailed>
+    ensures { IfOk result (λ s. (o : Output)
+        × def.IsShown asked.entry (S.held sources.now) o
+        × Writes (W.contents out.old) (W.contents out.new) s o) }
+{
+    match asked {
+        Asked::View {
+            file,
+            trace,
+            wanted,
+        } => on_texts(
+            alloc,
+            sources,
+            Showing::View(wanted),
+            file,
+            trace,
+            out,
+            notes,
+        ),
+        Asked::Explain { file, trace } => on_explain(alloc, sources, file, trace, out, notes),
+        Asked::Draw { file, trace } => {
+            on_texts(alloc, sources, Showing::Picture, file, trace, out, notes)
+        }
+    }
+}
+
+/// Does what a command line asks for, its first word being the program's name, and gives the
+/// status: 0 accepted, root succeeded or help; 1 root failed; 2 usage; 3 a fault of a text;
+/// 4 refused; 5 a fault of the run, or it runs still; 6 memory, a file or a stream failed.
+///
+/// Usage faults are told to `err`, all else is written to `out`.
+/// `notes` gets the lines that say why a file, a text or its events failed; none of these is
+/// written.
+///
+/// # Errors
+///
+/// A write failed.
+pub fn run<S: Sources, W: Write, E: Write>(
+    alloc: Global,
+    sources: &S,
+    words: &[&str],
+    out: &mut W,
+    err: &mut E,
+    notes: &mut Notes,
+) -> Result<u8, WriteFailed>
+    ensures { IfOk result (def.Ends (map (λ w. w.now) words.now) (S.held sources.now)
+        (record {
+          out_old = W.contents out.old;
+          out_new = W.contents out.new;
+          err_old = E.contents err.old;
+          err_new = E.contents err.new;
+        })) }
+{
+    match line(alloc, words) {
+        Ok(asked) => on_line(alloc, sources, asked, out, notes),
+        Err(LineError::Memory) => failed(TakeError::Memory, out),
+        Err(LineError::Help(text)) => written(out, text.as_bytes(), 0),
+        Err(LineError::Usage(text)) => written(err, text.as_bytes(), 2),
+    }
+}
+
+/// Does what the words that were had ask for; a word that is no text is a usage fault.
+///
+/// # Errors
+///
+/// A write failed.
+pub fn run_words<S: Sources, W: Write, E: Write>(
+    alloc: Global,
+    sources: &S,
+    words: &Result<Vec<String>, WordsError>,
+    out: &mut W,
+    err: &mut E,
+    notes: &mut Notes,
+) -> Result<u8, WriteFailed>
+    ensures { IfOk result (def.EndsFrom words.now (S.held sources.now)
+        (record {
+          out_old = W.contents out.old;
+          out_new = W.contents out.new;
+          err_old = E.contents err.old;
+          err_new = E.contents err.new;
+        })) }
+{
+    match words {
+        Ok(words) => match borrowed(alloc, words.as_slice()) {
+            Ok(texts) => run(alloc, sources, texts.as_slice(), out, err, notes),
+            Err(_) => failed(TakeError::Memory, out),
+        },
+        Err(WordsError::Memory) => failed(TakeError::Memory, out),
+        Err(WordsError::NotText) => written(err, NOT_TEXT, 2),
+    }
+}
+
+/// Does what the process was asked for, and gives the status; a stream that fails is status 6.
+pub fn start<R: Env + Files + Input, W: Write, E: Write>(
+    rt: &R,
+    alloc: Global,
+    out: &mut W,
+    err: &mut E,
+) -> u8 {
+    let words = words(rt, alloc, NAME.as_bytes());
+    let mut notes = Notes::new(alloc, NAME);
+    match run_words(alloc, &Dashed { rt }, &words, out, err, &mut notes) {
+        Ok(status) => {
+            // (the output and the status are the same where no line can be written)
+            let _told = err.write_all(notes.lines());
+            status
+        }
+        Err(WriteFailed) => STATUS_OUTSIDE,
+    }
+}

@@ -1,0 +1,78 @@
+-- What is told of a machine after a list of events, and after each of them (this project's own).
+use Rattle.std.specs.Prelude.{◌≡◌, ◌⊎◌, ℕ, ◌+◌, Bool, not, if◌then◌else◌, List, ◌∷◌, [], ◌++◌}
+use Rattle.std.specs.Prelude.{length, codes, Result, Ok, Err}
+use Rattle.std.specs.Fmt.{decimal}
+use Rattle.sts_code.specs.Program.{Program}
+use Rattle.sts_model.specs.declared.event.Event.{Event}
+use Rattle.sts_model.specs.Run.{after, counts}
+use Rattle.sts_asm.specs.Text.{judged}
+use Rattle.sts_asm.specs.declared.fault.AsmError.{AsmError}
+use Rattle.sts_plain.specs.Seen.{shown}
+use Rattle.sts_trace.specs.Reading.{trace_read}
+use Rattle.sts_trace.specs.declared.error.TraceError.{TraceError}
+use Rattle.sts_trace.specs.Spelling.{event_text}
+use Rattle.sts_output.specs.Output.{Output, memory_output, state_status, text_fault_output}
+use Rattle.sts_output.specs.Output.{trace_fault_output}
+use Rattle.sts_output.specs.Printed.{state_line, steps_line, ended}
+use Rattle.look_lines.specs.declared.view.Wanted.{Wanted}
+use Rattle.look_lines.specs.Lines.{only_if, scope_lines, task_lines}
+use Rattle.look_lines.specs.Watched.{Watched, watched}
+
+-- how the machine stands and the steps that it took; then each task and each scope, at a fault as
+-- they stood before it
+abbrev pub lines_of : Bool → Watched → List ℕ
+lines_of full m =
+    state_line m.program (shown m.state) ++ (steps_line m.steps
+    ++ (task_lines m.program full m.last m.last.tasks 0 ++ scope_lines full m.last m.last.scopes 0))
+
+-- what stands after these events
+abbrev pub view_after : Program → Bool → List Event → List ℕ
+view_after p full events = lines_of full (watched p events)
+
+-- `after N EVENT`, the event being the N-th; `idle` where it doesn't count
+abbrev pub event_line : ℕ → Event → Bool → List ℕ
+event_line n e is_counted =
+    codes "after " ++ decimal n ++ codes " " ++ event_text e
+    ++ ended (only_if (not is_counted) (codes " idle"))
+
+-- an event and what stands after it, where these came before
+abbrev pub event_block : Program → Bool → List Event → Event → List ℕ
+event_block p full done e =
+    event_line (length done + 1) e (counts p (after p done) e) ++ view_after p full (done ++ e ∷ [])
+
+abbrev pub views_from : Program → Bool → List Event → List Event → List ℕ
+views_from p full done [] = []
+views_from p full done (e ∷ es) = event_block p full done e ++ views_from p full (done ++ e ∷ []) es
+
+-- what stands before the first event, and after each
+abbrev pub view_each : Program → Bool → List Event → List ℕ
+view_each p full events = view_after p full [] ++ views_from p full [] events
+
+-- the status is that of the state in the end: 0 where the root succeeded, 1 where it failed, else 5
+abbrev pub after_output : Program → Bool → List Event → Output
+after_output p full events =
+    record { bytes = view_after p full events; status = state_status (shown (after p events)) }
+
+abbrev pub each_output : Program → Bool → List Event → Output
+each_output p full events =
+    record { bytes = view_each p full events; status = state_status (shown (after p events)) }
+
+abbrev pub view_output : Program → Wanted → List Event → Output
+view_output p wanted events =
+    if wanted.each then each_output p wanted.full events else after_output p wanted.full events
+
+-- ---- of a text and a trace
+
+abbrev pub traced_output : Program → Wanted → Result (List Event) TraceError → Output
+traced_output p wanted (Ok events) = view_output p wanted events
+traced_output p wanted (Err e) = trace_fault_output e
+
+-- a fault of the text comes before one of the trace
+abbrev pub text_output : Result Program AsmError → Wanted → List ℕ → Output
+text_output (Ok p) wanted trace = traced_output p wanted (trace_read trace)
+text_output (Err e) wanted trace = text_fault_output e
+
+-- what `look view` prints of a text and a trace, or that memory was refused
+abbrev pub IsViewOf : Wanted → List ℕ → List ℕ → Output → Type 0
+IsViewOf wanted text trace output =
+    (output ≡ text_output (judged text) wanted trace) ⊎ (output ≡ memory_output)

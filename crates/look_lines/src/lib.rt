@@ -1,0 +1,14 @@
+//! What stands after a trace, line by line.
+#![tactic(auto)]
+
+mod of_text;
+mod scopes;
+mod tasks;
+mod view;
+mod watch;
+
+pub use of_text::{viewed, write_view};
+pub use scopes::{phase_word, scope_place};
+pub use tasks::{is_heard, name_of, stand_words, under_words};
+pub use view::{Wanted, after, event_words, lines};
+pub use watch::Watch;

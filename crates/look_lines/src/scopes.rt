@@ -1,0 +1,110 @@
+//! The lines of the scopes.
+
+ghost use Rattle.std.specs.Prelude.{◌≡◌, ◌++◌, OnOk};
+ghost use Rattle.std.specs.List.{flat_map};
+ghost use Rattle.std.specs.String.{string_bytes};
+ghost use Rattle.sts_model.specs.World as model;
+ghost use Rattle.look_lines.specs.Lines as def;
+
+use crate::tasks::{end_words, ended_by};
+use std::alloc::AllocError;
+use std::fmt::Write;
+use sts_list::write_joiner;
+use sts_model::{Completion, Phase};
+use sts_world::Records;
+
+/// A word that stands only where it holds.
+fn only_if(out: &mut String, holds: bool, word: &str) -> Result<(), AllocError>
+    ensures { OnOk result (string_bytes out.new
+        ≡ string_bytes out.old ++ def.only_if holds word.now) }
+{
+    if holds { write!(out, "{word}") } else { Ok(()) }
+}
+
+/// The word of a phase.
+pub fn phase_word(phase: Phase) -> &'static str
+    ensures { result.now ≡ def.phase_word phase }
+{
+    match phase {
+        Phase::Opened => "opened",
+        Phase::Attempted => "attempted",
+        Phase::Joined => "joined",
+        Phase::Closing => "closing",
+        Phase::Closed => "closed",
+    }
+}
+
+/// `scope S of OWNER JOINER`
+///
+/// # Errors
+///
+/// Memory was refused; a part of it may then stand in `out`.
+pub fn scope_place(out: &mut String, records: &Records, s: u32) -> Result<(), AllocError>
+    ensures { OnOk result (string_bytes out.new
+        ≡ string_bytes out.old ++ def.scope_place s (model.scope_at records.now s)) }
+{
+    let owner = records.owner(s);
+    write!(out, "scope {s} of {owner}")?;
+    write_joiner(out, records.joiner(s))
+}
+
+/// How far a scope is, and what else holds of it.
+fn scope_marks(out: &mut String, records: &Records, s: u32) -> Result<(), AllocError>
+    ensures { OnOk result (string_bytes out.new
+        ≡ string_bytes out.old ++ def.scope_marks (model.scope_at records.now s)) }
+{
+    let phase = phase_word(records.phase(s));
+    write!(out, " {phase}")?;
+    only_if(out, records.is_timed(s), " timed")?;
+    only_if(out, records.is_cancelled(s), " cancelled")?;
+    only_if(out, records.is_expired(s), " expired")?;
+    ended_by(out, records.can_expire(s), " may-expire")
+}
+
+/// `told T success V` or `told T failed C`
+fn told_line(out: &mut String, told: Completion) -> Result<(), AllocError>
+    ensures { OnOk result (string_bytes out.new ≡ string_bytes out.old ++ def.told_line told) }
+{
+    let t = told.task;
+    write!(out, "  told {t}")?;
+    end_words(out, Some(told.end))?;
+    writeln!(out)
+}
+
+/// What a joiner was told.
+fn told_lines(out: &mut String, completions: &[Completion]) -> Result<(), AllocError>
+    ensures { OnOk result (string_bytes out.new
+        ≡ string_bytes out.old ++ flat_map def.told_line completions.now) }
+{
+    for told in completions {
+        told_line(out, *told)?;
+    }
+    Ok(())
+}
+
+fn scope_block(out: &mut String, full: bool, records: &Records, s: u32) -> Result<(), AllocError>
+    ensures { OnOk result (string_bytes out.new
+        ≡ string_bytes out.old ++ def.scope_block full s (model.scope_at records.now s)) }
+{
+    scope_place(out, records, s)?;
+    scope_marks(out, records, s)?;
+    if full {
+        told_lines(out, records.completions(s))?;
+    }
+    Ok(())
+}
+
+/// The lines of all scopes that were ever born; in full with what their joiners were told.
+///
+/// # Errors
+///
+/// Memory was refused; a part of them may then stand in `out`.
+pub fn scope_lines(out: &mut String, full: bool, records: &Records) -> Result<(), AllocError>
+    ensures { OnOk result (string_bytes out.new
+        ≡ string_bytes out.old ++ def.scope_lines full records.now records.now.scopes 0) }
+{
+    for s in 0..records.scopes_born() {
+        scope_block(out, full, records, s as u32)?;
+    }
+    Ok(())
+}

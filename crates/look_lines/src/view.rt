@@ -1,0 +1,182 @@
+//! What stands after a list of events, or after each of them.
+
+ghost use Rattle.std.specs.Prelude.{◌≡◌, ◌++◌, [], OnOk, IfOk};
+ghost use Rattle.std.specs.String.{string_bytes};
+ghost use Rattle.sts_model.specs.Run as run;
+ghost use Rattle.sts_trace.specs.Spelling.{event_text};
+ghost use Rattle.look_lines.specs.View as def;
+ghost use Rattle.look_lines.specs.Watched.{after_event, watched};
+
+use crate::scopes::scope_lines;
+use crate::tasks::{ended_by, task_lines};
+use crate::watch::Watch;
+use std::alloc::{AllocError, Global};
+use std::fmt::Write;
+use sts_code::Program;
+use sts_model::Event;
+use sts_output::{Output, state_line, state_status, steps_line};
+
+/// What is wanted of a view.
+#[derive(Clone, Copy, Debug, PartialEq, Eq)]
+pub struct Wanted {
+    /// After each event, and not after the last alone.
+    pub each: bool,
+    /// With operands, locals and bindings of living tasks, and what joiners were told.
+    pub full: bool,
+}
+
+/// How the machine stands, the steps that it took, then the tasks and the scopes.
+///
+/// # Errors
+///
+/// Memory was refused; a part of them may then stand in `out`.
+pub fn lines(out: &mut String, watch: &Watch<'_>, full: bool) -> Result<(), AllocError>
+    ensures { OnOk result (string_bytes out.new
+        ≡ string_bytes out.old ++ def.lines_of full watch.now) }
+{
+    state_line(out, watch.program(), watch.state())?;
+    steps_line(out, watch.steps())?;
+    task_lines(out, watch.program(), full, watch.world())?;
+    scope_lines(out, full, watch.world().records())
+}
+
+/// An event as a trace spells it.
+///
+/// # Errors
+///
+/// Memory was refused; a part of it may then stand in `out`.
+pub fn event_words(out: &mut String, event: Event) -> Result<(), AllocError>
+    ensures { OnOk result (string_bytes out.new ≡ string_bytes out.old ++ event_text event) }
+{
+    match event {
+        Event::Step(t) => write!(out, "step {t}"),
+        Event::Interrupt(t) => write!(out, "interrupt {t}"),
+        Event::Expire(s) => write!(out, "expire {s}"),
+    }
+}
+
+/// `after N EVENT`, and `idle` where the event doesn't count.
+fn event_line(out: &mut String, n: usize, event: Event, is_counted: bool) -> Result<(), AllocError>
+    ensures { OnOk result (string_bytes out.new
+        ≡ string_bytes out.old ++ def.event_line n event is_counted) }
+{
+    write!(out, "after {n} ")?;
+    event_words(out, event)?;
+    ended_by(out, !is_counted, " idle")
+}
+
+/// The machine after these events.
+///
+/// # Errors
+///
+/// Memory was refused.
+pub fn after<'p>(
+    alloc: Global,
+    program: &'p Program,
+    events: &[Event],
+) -> Result<Watch<'p>, AllocError>
+    ensures { IfOk result (λ w. w ≡ watched program.now events.now) }
+{
+    let mut watch = Watch::start(alloc, program)?;
+    for i in 0..events.len() {
+        watch.apply(alloc, events[i])?;
+    }
+    Ok(watch)
+}
+
+/// What stands after the last event.
+fn after_all(
+    alloc: Global,
+    program: &Program,
+    full: bool,
+    events: &[Event],
+) -> Result<Output, AllocError>
+    ensures { IfOk result (λ o. o ≡ def.after_output program.now full events.now) }
+{
+    let watch = after(alloc, program, events)?;
+    let mut text = String::new(alloc);
+    lines(&mut text, &watch, full)?;
+    Ok(Output {
+        text,
+        status: state_status(watch.state()),
+    })
+}
+
+/// Applies the `n`-th event, and tells it with what stands after it.
+fn event_block(
+    alloc: Global,
+    out: &mut String,
+    watch: &mut Watch<'_>,
+    full: bool,
+    n: usize,
+    event: Event,
+) -> Result<(), AllocError>
+    ensures stands { OnOk result (watch.new ≡ after_event watch.old event) }
+    ensures written { OnOk result (string_bytes out.new ≡ string_bytes out.old
+        ++ (def.event_line n event (run.counts watch.old.program watch.old.state event)
+        ++ def.lines_of full (after_event watch.old event))) }
+{
+    let is_counted = watch.counts(event);
+    watch.apply(alloc, event)?;
+    event_line(out, n, event, is_counted)?;
+    lines(out, watch, full)
+}
+
+/// Applies these events, the first of all, and tells each with what stands after it.
+fn event_blocks(
+    alloc: Global,
+    out: &mut String,
+    watch: &mut Watch<'_>,
+    full: bool,
+    events: &[Event],
+) -> Result<(), AllocError>
+    requires { watch.old ≡ watched watch.old.program [] }
+    ensures stands { OnOk result (watch.new ≡ watched watch.old.program events.now) }
+    ensures written { OnOk result (string_bytes out.new ≡ string_bytes out.old
+        ++ def.views_from watch.old.program full [] events.now) }
+{
+    for i in 0..events.len() {
+        event_block(alloc, out, watch, full, i + 1, events[i])?;
+    }
+    Ok(())
+}
+
+/// What stands before the first event and after each, in one pass.
+fn after_each(
+    alloc: Global,
+    program: &Program,
+    full: bool,
+    events: &[Event],
+) -> Result<Output, AllocError>
+    ensures { IfOk result (λ o. o ≡ def.each_output program.now full events.now) }
+{
+    let mut watch = Watch::start(alloc, program)?;
+    let mut text = String::new(alloc);
+    lines(&mut text, &watch, full)?;
+    event_blocks(alloc, &mut text, &mut watch, full, events)?;
+    Ok(Output {
+        text,
+        status: state_status(watch.state()),
+    })
+}
+
+/// What stands after these events, or after each of them, and the status of how the machine stands
+/// in the end.
+///
+/// # Errors
+///
+/// Memory was refused.
+pub fn view(
+    alloc: Global,
+    program: &Program,
+    wanted: Wanted,
+    events: &[Event],
+) -> Result<Output, AllocError>
+    ensures { IfOk result (λ o. o ≡ def.view_output program.now wanted events.now) }
+{
+    if wanted.each {
+        after_each(alloc, program, wanted.full, events)
+    } else {
+        after_all(alloc, program, wanted.full, events)
+    }
+}

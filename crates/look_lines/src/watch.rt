@@ -1,0 +1,164 @@
+//! The plain machine, watched: it makes no step that would be a fault, so that the world before the
+//! fault is kept.
+
+ghost use Rattle.std.specs.Prelude.{◌≡◌, ◌&&◌, [], IfOk, IfSome, IsNone, OnOk, OnErr, Some, true, false};
+ghost use Rattle.sts_model.specs.Run as run;
+ghost use Rattle.sts_model.specs.World as def;
+ghost use Rattle.sts_plain.specs.Seen.{is_fault, shown, state_of};
+ghost use Rattle.look_lines.specs.Watched.{after_event, watched};
+
+use std::alloc::{AllocError, Global};
+use std::marker::Model;
+use sts_code::Program;
+use sts_model::Event;
+use sts_plain::{Misstep, Plain, PlainState, can_step, misuse};
+use sts_world::World;
+
+/// A plain machine that runs, and the fault that it would have come to.
+#[derive(Drop)]
+pub struct Watch<'p> {
+    plain: Plain<'p>,
+    misstep: Option<Misstep>,
+}
+
+impl<'p> Model for Watch<'p> {
+    ghost use Rattle.std.specs.Prelude.{◌≡◌, false};
+    ghost use Rattle.sts_plain.specs.Seen.{is_fault};
+    ghost use Rattle.look_lines.specs.Watched.{Watched, seen_of};
+
+    ghost Value = { Watched };
+
+    ghost view = { λ w. seen_of w.plain w.misstep };
+
+    ghost invariant = { λ w. is_fault w.plain.state ≡ false };
+}
+
+/// The fault that a step of this task is, if it can step and that is one.
+fn misstep_of(world: &World, program: &Program, t: u32) -> Option<Misstep>
+    ensures some { IfSome result (λ m. run.step program.now world.now t
+        ≡ state_of (Some m) world.now) }
+    ensures counts { IfSome result (λ m.
+        run.counts program.now (def.Running world.now) (Event.Step t) ≡ true) }
+    ensures none { IsNone result → is_fault (run.step program.now world.now t) ≡ false }
+{
+    if !can_step(world, program, t) || !world.records().lives(t) {
+        return None;
+    }
+    let kind = misuse(world, program, t)?;
+    let frame = world.records().frame(t);
+    Some(Misstep {
+        kind,
+        task: t,
+        function: frame.function,
+        pc: frame.pc,
+    })
+}
+
+/// The fault that an event is where a machine runs, if it is one.
+fn misstep_at(world: &World, program: &Program, event: Event) -> Option<Misstep>
+    ensures some { IfSome result (λ m. run.apply program.now (def.Running world.now) event
+        ≡ state_of (Some m) world.now) }
+    ensures counts { IfSome result (λ m. (run.is_step event
+        && run.counts program.now (def.Running world.now) event) ≡ true) }
+    ensures none { IsNone result
+        → is_fault (run.apply program.now (def.Running world.now) event) ≡ false }
+{
+    match event {
+        Event::Step(t) => misstep_of(world, program, t),
+        Event::Interrupt(_) | Event::Expire(_) => None,
+    }
+}
+
+impl<'p> Watch<'p> {
+    /// The machine before the first event.
+    ///
+    /// # Errors
+    ///
+    /// Memory was refused.
+    pub fn start(alloc: Global, program: &'p Program) -> Result<Watch<'p>, AllocError>
+        ensures { IfOk result (λ w. w ≡ watched program.now []) }
+    {
+        Ok(Watch {
+            plain: Plain::start(alloc, program)?,
+            misstep: None,
+        })
+    }
+
+    /// The program that it runs.
+    pub fn program(&self) -> &Program
+        ensures { result.now ≡ self.now.program }
+    {
+        self.plain.program()
+    }
+
+    /// The world as it last ran.
+    pub fn world(&self) -> &World
+        ensures { result.now ≡ self.now.last }
+    {
+        match self.plain.world() {
+            Some(world) => world,
+            None => unreachable!(),
+        }
+    }
+
+    /// How it stands.
+    pub fn state(&self) -> PlainState
+        ensures { result ≡ shown self.now.state }
+    {
+        match self.misstep {
+            None => self.plain.state(),
+            Some(m) => PlainState::Fault {
+                kind: m.kind,
+                task: m.task,
+                function: m.function,
+                pc: m.pc,
+            },
+        }
+    }
+
+    /// The steps taken, a faulting one included, up to the greatest `u64`.
+    pub fn steps(&self) -> u64
+        ensures { result ≡ self.now.steps }
+    {
+        match self.misstep {
+            None => self.plain.steps(),
+            Some(_) => self.plain.steps().saturating_add(1),
+        }
+    }
+
+    /// Does the event count here?
+    pub fn counts(&self, event: Event) -> bool
+        ensures { result ≡ run.counts self.now.program self.now.state event }
+    {
+        if self.misstep.is_some() {
+            return false;
+        }
+        let world = self.world();
+        match event {
+            Event::Step(t) => can_step(world, self.program(), t),
+            Event::Interrupt(t) => world.records().lives(t),
+            Event::Expire(s) => world.records().can_expire(s),
+        }
+    }
+
+    /// One event.
+    ///
+    /// # Errors
+    ///
+    /// Memory was refused; it stands as before.
+    pub fn apply(&mut self, alloc: Global, event: Event) -> Result<(), AllocError>
+        ensures ok { OnOk result (self.new ≡ after_event self.old event) }
+        ensures err { OnErr result (self.new ≡ self.old) }
+    {
+        if self.misstep.is_some() {
+            return Ok(());
+        }
+        match misstep_at(self.world(), self.program(), event) {
+            Some(misstep) => {
+                self.misstep = Some(misstep);
+                Ok(())
+            }
+            None => self.plain.apply(alloc, event),
+        }
+    }
+}

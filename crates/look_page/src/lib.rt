@@ -1,0 +1,152 @@
+//! What a web page calls: what `sts` and `look` print of bytes that the page has put into memory.
+#![tactic(auto)]
+
+ghost use Rattle.std.specs.Prelude.{[]};
+ghost use Rattle.sts_output.specs.Output.{IsOutputOf};
+ghost use Rattle.look_picture.specs.Picture.{IsPictureOf};
+ghost use Rattle.look_refusal.specs.Output.{IsExplanation};
+ghost use Rattle.look_run.specs.Output.{IsRunExplanation};
+ghost use Rattle.look_lines.specs.View.{IsViewOf};
+ghost use Rattle.look_page.specs.Handed.{Hands, IsHanded};
+ghost use Rattle.look_page.specs.Printed.{Prints};
+
+mod printing;
+
+use crate::printing::{Asked, print};
+use look_lines::Wanted;
+use std::alloc::Global;
+use sts_output::{Mode, STATUS_OUTSIDE, TextMode};
+
+/// What is printed where memory was refused.
+const OUT_OF_MEMORY: &[u8] = b"error memory\n";
+
+/// Hands over the front of the bytes, as many as there is room for, with their number.
+fn hand(bytes: &[u8], status: u8, out: &mut [u8], size: &mut usize) -> u8
+    ensures { IsHanded bytes.now status (record {
+      status = result;
+      size = size.new;
+      before = out.old;
+      after = out.new;
+    }) }
+{
+    let n = bytes.len().min(out.len());
+    out[..n].copy_from_slice(&bytes[..n]);
+    *size = bytes.len();
+    status
+}
+
+/// Hands over what is printed.
+fn shown(
+    alloc: Global,
+    asked: Asked,
+    text: &[u8],
+    trace: &[u8],
+    out: &mut [u8],
+    size: &mut usize,
+) -> u8
+    ensures { Hands (Prints asked text.now trace.now)
+        (record { status = result; size = size.new; before = out.old; after = out.new }) }
+{
+    let mut printed = Vec::new(alloc);
+    match print(alloc, asked, text, trace, &mut printed) {
+        Ok(status) => hand(printed.as_slice(), status, out, size),
+        Err(_) => hand(OUT_OF_MEMORY, STATUS_OUTSIDE, out, size),
+    }
+}
+
+/// What `sts verify` prints: its front as far as `out` has room, in `size` how many bytes it has in
+/// all; and the status.
+#[unsafe(no_mangle)]
+pub extern "C" fn sts_verify(alloc: Global, text: &[u8], out: &mut [u8], size: &mut usize) -> u8
+    ensures { Hands (IsOutputOf Mode.Verify text.now [])
+        (record { status = result; size = size.new; before = out.old; after = out.new }) }
+{
+    shown(alloc, Asked::Mode(TextMode::Verify), text, &[], out, size)
+}
+
+/// What `sts list` prints, handed over as by `sts_verify`.
+#[unsafe(no_mangle)]
+pub extern "C" fn sts_list(alloc: Global, text: &[u8], out: &mut [u8], size: &mut usize) -> u8
+    ensures { Hands (IsOutputOf Mode.List text.now [])
+        (record { status = result; size = size.new; before = out.old; after = out.new }) }
+{
+    shown(alloc, Asked::Mode(TextMode::List), text, &[], out, size)
+}
+
+/// What `sts plain` prints, handed over as by `sts_verify`.
+#[unsafe(no_mangle)]
+pub extern "C" fn sts_plain(
+    alloc: Global,
+    text: &[u8],
+    trace: &[u8],
+    out: &mut [u8],
+    size: &mut usize,
+) -> u8
+    ensures { Hands (IsOutputOf Mode.Plain text.now trace.now)
+        (record { status = result; size = size.new; before = out.old; after = out.new }) }
+{
+    shown(alloc, Asked::Mode(TextMode::Plain), text, trace, out, size)
+}
+
+/// What `look view` prints, with `--each` and `--full` as wanted, handed over as by `sts_verify`.
+#[unsafe(no_mangle)]
+pub extern "C" fn sts_view(
+    alloc: Global,
+    each: bool,
+    full: bool,
+    text: &[u8],
+    trace: &[u8],
+    out: &mut [u8],
+    size: &mut usize,
+) -> u8
+    ensures { Hands (IsViewOf (record { each = each; full = full }) text.now trace.now)
+        (record { status = result; size = size.new; before = out.old; after = out.new }) }
+{
+    shown(
+        alloc,
+        Asked::View(Wanted { each, full }),
+        text,
+        trace,
+        out,
+        size,
+    )
+}
+
+/// Why a text is no program or a program is refused, handed over as by `sts_verify`.
+#[unsafe(no_mangle)]
+pub extern "C" fn sts_explain(alloc: Global, text: &[u8], out: &mut [u8], size: &mut usize) -> u8
+    ensures { Hands (IsExplanation text.now)
+        (record { status = result; size = size.new; before = out.old; after = out.new }) }
+{
+    shown(alloc, Asked::Explanation, text, &[], out, size)
+}
+
+/// How a run stands after a trace, by the lines of the text, handed over as by `sts_verify`.
+#[unsafe(no_mangle)]
+pub extern "C" fn sts_explain_run(
+    alloc: Global,
+    text: &[u8],
+    trace: &[u8],
+    out: &mut [u8],
+    size: &mut usize,
+) -> u8
+    ensures { Hands (IsRunExplanation text.now trace.now)
+        (record { status = result; size = size.new; before = out.old; after = out.new }) }
+{
+    shown(alloc, Asked::RunExplanation, text, trace, out, size)
+}
+
+/// What `look draw` prints, handed over as by `sts_verify`.
+#[unsafe(no_mangle)]
+pub extern "C" fn sts_draw(
+    alloc: Global,
+    text: &[u8],
+    trace: &[u8],
+    out: &mut [u8],
+    size: &mut usize,
+) -> u8
+    ensures { Hands (IsPictureOf text.now trace.now)
+        (record { status = result; size = size.new; before = out.old; after = out.new }) }
+{
+    shown(alloc, Asked::Picture, text, trace, out, size)
+}

@@ -1,0 +1,46 @@
+//! What is printed of a text and a trace.
+
+ghost use Rattle.std.specs.Prelude.{IfOk, Some};
+ghost use Rattle.sts_output.specs.Output.{Output, Writes};
+ghost use Rattle.look_page.specs.Printed.{Prints};
+
+use look_lines::{Wanted, write_view};
+use look_picture::write_picture;
+use look_refusal::explain;
+use look_run::explain_run;
+use std::alloc::Global;
+use sts_output::{TextMode, WriteFailed, play_text};
+
+/// What a caller asks for.
+#[derive(Clone, Copy)]
+pub(crate) enum Asked {
+    Mode(TextMode),
+    View(Wanted),
+    Explanation,
+    RunExplanation,
+    Picture,
+}
+
+/// Writes it, and gives the status.
+///
+/// # Errors
+///
+/// Memory was refused.
+pub(crate) fn print(
+    alloc: Global,
+    asked: Asked,
+    text: &[u8],
+    trace: &[u8],
+    printed: &mut Vec<u8>,
+) -> Result<u8, WriteFailed>
+    ensures { IfOk result (λ s. (o : Output) × Prints asked text.now trace.now o
+        × Writes (Some printed.old.items) (Some printed.new.items) s o) }
+{
+    match asked {
+        Asked::Mode(mode) => play_text(alloc, mode, text, trace, printed),
+        Asked::View(wanted) => write_view(alloc, wanted, text, trace, printed),
+        Asked::Explanation => explain(alloc, text, printed),
+        Asked::RunExplanation => explain_run(alloc, text, trace, printed),
+        Asked::Picture => write_picture(alloc, text, trace, printed),
+    }
+}

@@ -1,0 +1,13 @@
+use Rattle.std.proofs.Common.{◌≡◌, ◌++◌, [], take, drop}
+use Rattle.std.specs.String.{string_bytes}
+use Rattle.look_picture.specs.Picture as def
+use Rattle.look_lines.specs.Watched.{watched}
+use Rattle.look_picture.proofs.picture.event_columns.Given as goal
+
+-- both machines stand where the first events lead; what is drawn, and the columns of the rest
+abbrev pub invariant-loop-i : goal.invariant-loop-i
+invariant-loop-i l = record {
+  behind : l.before ≡ watched l.fn.watch.program (take l.i l.events);
+  stands : l.watch ≡ watched l.fn.watch.program (take l.i l.events);
+  drawn : string_bytes l.out ++ def.columns_from l.fn.watch.program (take l.i l.events) (drop l.i l.events) ≡ string_bytes l.fn.out ++ def.columns_from l.fn.watch.program [] l.events;
+}

@@ -1,0 +1,109 @@
+-- What a column shows of the tasks, and the names of the lanes (this project's own).
+use Rattle.std.specs.Prelude.{ℕ, ◌+◌, Bool, true, false, not, ◌&&◌, if◌then◌else◌, List, ◌∷◌, [], ◌++◌, Option, Some, None, codes, length, nat_lt}
+use Rattle.std.specs.Fmt.{decimal, signed_decimal}
+use Rattle.sts_code.specs.Program.{Program, routine}
+use Rattle.sts_model.specs.declared.event.End.{End}
+use Rattle.sts_model.specs.declared.event.End.TheVariants.{Success, Failed}
+use Rattle.sts_model.specs.declared.record.Task.{Task}
+use Rattle.sts_model.specs.Living.{lives}
+use Rattle.sts_model.specs.Waiting.{can_step}
+use Rattle.sts_model.specs.World.{World, task_at, scope_at}
+use Rattle.look_lines.specs.Lines.{is_heard, stand_words, under_words}
+use Rattle.look_picture.specs.declared.marks.Mark.{Mark}
+use Rattle.look_picture.specs.declared.marks.Mark.TheVariants as mark
+use Rattle.look_picture.specs.Place.{lane}
+use Rattle.look_picture.specs.Writing.{mark_at, text_end, text_start}
+
+-- ---- how a task stands
+
+-- a line while it lives
+abbrev pub life_mark : Bool → Mark
+life_mark true = mark.Ready
+life_mark false = mark.Waits
+
+-- a mark where it doesn't, by whether its end was heard and what that is
+abbrev pub rest_mark : Bool → Option End → Mark
+rest_mark is_heard None = mark.NeverStarted
+rest_mark true (Some (Success v)) = mark.Success
+rest_mark true (Some (Failed c)) = mark.Failed
+rest_mark false (Some end) = mark.Unheard
+
+-- was it born, and does it not live?
+abbrev pub rests : World → ℕ → Bool
+rests w t = nat_lt t (length w.tasks) && not (lives (task_at w t))
+
+-- `task T`, and how it stands
+abbrev pub told : Program → World → ℕ → List ℕ
+told p w t = codes "task " ++ decimal t ++ stand_words p w t
+
+-- the value or the code that it ended with, beside the mark
+abbrev pub value_text : ℕ → ℕ → Option End → List ℕ
+value_text x t None = []
+value_text x t (Some (Success v)) = text_start (codes "value") (x + 22) (lane t + 4) ++ (signed_decimal v ++ text_end)
+value_text x t (Some (Failed c)) = text_start (codes "value") (x + 22) (lane t + 4) ++ (signed_decimal c ++ text_end)
+
+abbrev pub life : Program → World → ℕ → ℕ → List ℕ
+life p w x t = mark_at (life_mark (can_step p w t)) x (lane t) (told p w t)
+
+abbrev pub rest_line : Program → World → ℕ → ℕ → Bool → Option End → List ℕ
+rest_line p w x t is_heard end = mark_at (rest_mark is_heard end) x (lane t) (told p w t)
+
+abbrev pub rest : Program → World → ℕ → ℕ → List ℕ
+rest p w x t =
+    rest_line p w x t (is_heard w t (task_at w t).scope) (task_at w t).outcome
+    ++ value_text x t (task_at w t).outcome
+
+-- a task that lives in this column, or that lived or wasn't born in the one before
+abbrev pub stand : Program → World → World → ℕ → ℕ → List ℕ
+stand p before w x t =
+    if lives (task_at w t) then life p w x t else (if rests before t then [] else rest p w x t)
+
+-- ---- what became of it
+
+-- from one height to another
+abbrev pub fork_path : ℕ → ℕ → ℕ → List ℕ
+fork_path x from to =
+    codes "<path class='fork' d='M" ++ decimal x ++ codes " " ++ decimal from ++ codes "V" ++ decimal to ++ codes "'/>\n"
+
+-- from the lane of the task that forked it
+abbrev pub fork_line : World → ℕ → ℕ → Option ℕ → List ℕ
+fork_line w x t None = []
+fork_line w x t (Some s) = fork_path x (lane (scope_at w s).owner) (lane t)
+
+abbrev pub birth : World → World → ℕ → ℕ → List ℕ
+birth before w x t =
+    if nat_lt t (length before.tasks) then [] else fork_line w x t (task_at w t).scope
+
+abbrev pub interrupted : World → World → ℕ → ℕ → List ℕ
+interrupted before w x t =
+    if (task_at w t).flag && not (task_at before t).flag
+    then mark_at mark.Interrupted x (lane t) (codes "task " ++ decimal t ++ codes " interrupted") else []
+
+abbrev pub task_cell : Program → World → World → ℕ → ℕ → List ℕ
+task_cell p before w x t = birth before w x t ++ (stand p before w x t ++ interrupted before w x t)
+
+-- the cells of these tasks, the first of which has this number
+abbrev pub task_cells : Program → World → World → ℕ → List Task → ℕ → List ℕ
+task_cells p before w x [] t = []
+task_cells p before w x (task ∷ tasks) t = task_cell p before w x t ++ task_cells p before w x tasks (t + 1)
+
+-- ---- the names
+
+-- `task T under S`
+abbrev pub task_name : ℕ → Option ℕ → List ℕ
+task_name t scope =
+    text_start (codes "name") 196 (lane t)
+    ++ (codes "task " ++ decimal t ++ codes " under " ++ (under_words scope ++ text_end))
+
+-- the name of its function, below
+abbrev pub function_name : ℕ → List ℕ → List ℕ
+function_name t name = text_start (codes "code") 196 (lane t + 13) ++ (name ++ text_end)
+
+abbrev pub lane_name : Program → World → ℕ → List ℕ
+lane_name p w t =
+    task_name t (task_at w t).scope ++ function_name t (routine p (task_at w t).frame.function).name
+
+-- the names of these tasks' lanes, the first of which has this number
+abbrev pub lane_names : Program → World → List Task → ℕ → List ℕ
+lane_names p w [] t = []
+lane_names p w (task ∷ tasks) t = lane_name p w t ++ lane_names p w tasks (t + 1)

@@ -1,0 +1,194 @@
+//! What a column shows of the scopes.
+
+ghost use Rattle.std.specs.Prelude.{◌≡◌, ◌++◌, ◌<◌, ◌^◌, OnOk, length};
+ghost use Rattle.std.specs.String.{string_bytes};
+ghost use Rattle.sts_model.specs.Living as living;
+ghost use Rattle.sts_model.specs.World as model;
+ghost use Rattle.look_picture.specs.Brackets as def;
+
+use crate::marks::Mark;
+use crate::place::bracket;
+use crate::writing::{mark_end, mark_start, text_end, text_start};
+use look_lines::{phase_word, scope_place};
+use std::alloc::AllocError;
+use std::fmt::Write;
+use sts_model::Phase;
+use sts_world::Records;
+
+fn is_closed(phase: Phase) -> bool
+    ensures { result ≡ living.is_closed phase }
+{
+    matches!(phase, Phase::Closed)
+}
+
+/// A mark of a scope, told by its place and this word.
+fn scope_mark(
+    out: &mut String,
+    mark: Mark,
+    records: &Records,
+    x: u128,
+    s: u32,
+    word: &str,
+) -> Result<(), AllocError>
+    requires { s < length records.now.scopes }
+    ensures { OnOk result (string_bytes out.new
+        ≡ string_bytes out.old ++ def.scope_mark mark records.now x s word.now) }
+{
+    mark_start(out, mark, x, bracket(records, s))?;
+    scope_place(out, records, s)?;
+    write!(out, " {word}")?;
+    mark_end(out)
+}
+
+/// The scope's number, where it is opened.
+fn scope_number(out: &mut String, records: &Records, x: u128, s: u32) -> Result<(), AllocError>
+    requires born { s < length records.now.scopes }
+    requires near { x < 2 ^ 127 }
+    ensures { OnOk result (string_bytes out.new
+        ≡ string_bytes out.old ++ def.scope_number records.now x s) }
+{
+    text_start(out, "label", x + 4, bracket(records, s) + 3)?;
+    write!(out, "{s}")?;
+    text_end(out)
+}
+
+fn line_mark(phase: Phase) -> Mark
+    ensures { result ≡ def.line_mark phase }
+{
+    match phase {
+        Phase::Closing => Mark::Closing,
+        Phase::Opened | Phase::Attempted | Phase::Joined | Phase::Closed => Mark::Bracket,
+    }
+}
+
+/// While it isn't closed: its number in the first column, a line in those after it.
+fn span(
+    out: &mut String,
+    before: &Records,
+    records: &Records,
+    x: u128,
+    s: u32,
+) -> Result<(), AllocError>
+    requires born { s < length records.now.scopes }
+    requires near { x < 2 ^ 127 }
+    ensures { OnOk result (string_bytes out.new
+        ≡ string_bytes out.old ++ def.span before.now records.now x s) }
+{
+    let phase = records.phase(s);
+    if is_closed(phase) {
+        return Ok(());
+    }
+    if is_closed(before.phase(s)) {
+        return scope_number(out, records, x, s);
+    }
+    scope_mark(out, line_mark(phase), records, x, s, phase_word(phase))
+}
+
+fn phase_number(phase: Phase) -> u8
+    ensures { result ≡ def.phase_number phase }
+{
+    match phase {
+        Phase::Opened => 0,
+        Phase::Attempted => 1,
+        Phase::Joined => 2,
+        Phase::Closing => 3,
+        Phase::Closed => 4,
+    }
+}
+
+/// Where its phase changed.
+fn edge(
+    out: &mut String,
+    before: &Records,
+    records: &Records,
+    x: u128,
+    s: u32,
+) -> Result<(), AllocError>
+    requires { s < length records.now.scopes }
+    ensures { OnOk result (string_bytes out.new
+        ≡ string_bytes out.old ++ def.edge before.now records.now x s) }
+{
+    let phase = records.phase(s);
+    if phase_number(before.phase(s)) == phase_number(phase) {
+        return Ok(());
+    }
+    scope_mark(out, Mark::Edge, records, x, s, phase_word(phase))
+}
+
+fn expired(
+    out: &mut String,
+    before: &Records,
+    records: &Records,
+    x: u128,
+    s: u32,
+) -> Result<(), AllocError>
+    requires { s < length records.now.scopes }
+    ensures { OnOk result (string_bytes out.new
+        ≡ string_bytes out.old ++ def.expired before.now records.now x s) }
+{
+    if records.is_expired(s) && !before.is_expired(s) {
+        scope_mark(out, Mark::Expired, records, x, s, "expired")
+    } else {
+        Ok(())
+    }
+}
+
+fn cancelled(
+    out: &mut String,
+    before: &Records,
+    records: &Records,
+    x: u128,
+    s: u32,
+) -> Result<(), AllocError>
+    requires { s < length records.now.scopes }
+    ensures { OnOk result (string_bytes out.new
+        ≡ string_bytes out.old ++ def.cancelled before.now records.now x s) }
+{
+    if records.is_cancelled(s) && !before.is_cancelled(s) {
+        scope_mark(out, Mark::Cancelled, records, x, s, "cancelled")
+    } else {
+        Ok(())
+    }
+}
+
+fn scope_cell(
+    out: &mut String,
+    before: &Records,
+    records: &Records,
+    x: u128,
+    s: u32,
+) -> Result<(), AllocError>
+    requires born { s < length records.now.scopes }
+    requires near { x < 2 ^ 127 }
+    ensures { OnOk result (string_bytes out.new
+        ≡ string_bytes out.old ++ def.scope_cell before.now records.now x s) }
+{
+    if is_closed(before.phase(s)) && is_closed(records.phase(s)) {
+        return Ok(());
+    }
+    span(out, before, records, x, s)?;
+    edge(out, before, records, x, s)?;
+    expired(out, before, records, x, s)?;
+    cancelled(out, before, records, x, s)
+}
+
+/// What a column at `x` shows of all scopes that were ever born, after the column of `before`.
+///
+/// # Errors
+///
+/// Memory was refused; a part of it may then stand in `out`.
+pub fn scope_cells(
+    out: &mut String,
+    before: &Records,
+    records: &Records,
+    x: u128,
+) -> Result<(), AllocError>
+    requires { x < 2 ^ 127 }
+    ensures { OnOk result (string_bytes out.new ≡ string_bytes out.old
+        ++ def.scope_cells before.now records.now x records.now.scopes 0) }
+{
+    for s in 0..records.scopes_born() {
+        scope_cell(out, before, records, x, s as u32)?;
+    }
+    Ok(())
+}

@@ -1,0 +1,288 @@
+//! What a column shows of the tasks, and the names of the lanes.
+
+ghost use Rattle.std.specs.Prelude.{◌≡◌, ◌++◌, ◌<◌, ◌^◌, OnOk, length};
+ghost use Rattle.std.specs.String.{string_bytes};
+ghost use Rattle.sts_model.specs.World as model;
+ghost use Rattle.look_picture.specs.Lanes as def;
+
+use crate::marks::Mark;
+use crate::place::lane;
+use crate::writing::{mark_end, mark_start, text_end, text_start};
+use look_lines::{is_heard, name_of, stand_words, under_words};
+use std::alloc::AllocError;
+use std::fmt::Write;
+use sts_code::Program;
+use sts_model::End;
+use sts_plain::can_step;
+use sts_world::{Records, World};
+
+/// The line of a task that lives.
+fn life_mark(is_ready: bool) -> Mark
+    ensures { result ≡ def.life_mark is_ready }
+{
+    if is_ready { Mark::Ready } else { Mark::Waits }
+}
+
+/// The mark of a task that doesn't live.
+fn rest_mark(is_heard: bool, end: Option<End>) -> Mark
+    ensures { result ≡ def.rest_mark is_heard end }
+{
+    match end {
+        None => Mark::NeverStarted,
+        Some(End::Success(_)) if is_heard => Mark::Success,
+        Some(End::Failed(_)) if is_heard => Mark::Failed,
+        Some(_) => Mark::Unheard,
+    }
+}
+
+/// Was it born, and does it not live?
+fn rests(records: &Records, t: u32) -> bool
+    ensures { result ≡ def.rests records.now t }
+{
+    (t as usize) < records.tasks_born() && !records.lives(t)
+}
+
+/// `task T`, and how it stands.
+fn told(out: &mut String, program: &Program, world: &World, t: u32) -> Result<(), AllocError>
+    requires { t < length world.now.tasks }
+    ensures { OnOk result (string_bytes out.new
+        ≡ string_bytes out.old ++ def.told program.now world.now t) }
+{
+    write!(out, "task {t}")?;
+    stand_words(out, program, world, t)
+}
+
+/// The value or the code that a task ended with, beside the mark.
+fn value_text(out: &mut String, x: u128, t: u32, end: Option<End>) -> Result<(), AllocError>
+    requires { x < 2 ^ 127 }
+    ensures { OnOk result (string_bytes out.new
+        ≡ string_bytes out.old ++ def.value_text x t end) }
+{
+    let Some(End::Success(value) | End::Failed(value)) = end else {
+        return Ok(());
+    };
+    text_start(out, "value", x + 22, lane(t) + 4)?;
+    write!(out, "{value}")?;
+    text_end(out)
+}
+
+/// A task that lives.
+fn life(
+    out: &mut String,
+    program: &Program,
+    world: &World,
+    x: u128,
+    t: u32,
+) -> Result<(), AllocError>
+    requires { t < length world.now.tasks }
+    ensures { OnOk result (string_bytes out.new
+        ≡ string_bytes out.old ++ def.life program.now world.now x t) }
+{
+    let mark = life_mark(can_step(world, program, t));
+    mark_start(out, mark, x, lane(t))?;
+    told(out, program, world, t)?;
+    mark_end(out)
+}
+
+/// The mark of a task that doesn't live.
+fn rest_line(
+    out: &mut String,
+    program: &Program,
+    world: &World,
+    x: u128,
+    t: u32,
+    is_heard: bool,
+    end: Option<End>,
+) -> Result<(), AllocError>
+    requires { t < length world.now.tasks }
+    ensures { OnOk result (string_bytes out.new
+        ≡ string_bytes out.old ++ def.rest_line program.now world.now x t is_heard end) }
+{
+    mark_start(out, rest_mark(is_heard, end), x, lane(t))?;
+    told(out, program, world, t)?;
+    mark_end(out)
+}
+
+/// A task that doesn't live.
+fn rest(
+    out: &mut String,
+    program: &Program,
+    world: &World,
+    x: u128,
+    t: u32,
+) -> Result<(), AllocError>
+    requires born { t < length world.now.tasks }
+    requires near { x < 2 ^ 127 }
+    ensures { OnOk result (string_bytes out.new
+        ≡ string_bytes out.old ++ def.rest program.now world.now x t) }
+{
+    let end = world.records().outcome(t);
+    rest_line(out, program, world, x, t, is_heard(world, t), end)?;
+    value_text(out, x, t, end)
+}
+
+/// A task that lives in this column, or that lived or wasn't born in the one before.
+fn stand(
+    out: &mut String,
+    program: &Program,
+    before: &World,
+    world: &World,
+    x: u128,
+    t: u32,
+) -> Result<(), AllocError>
+    requires born { t < length world.now.tasks }
+    requires near { x < 2 ^ 127 }
+    ensures { OnOk result (string_bytes out.new
+        ≡ string_bytes out.old ++ def.stand program.now before.now world.now x t) }
+{
+    if world.records().lives(t) {
+        return life(out, program, world, x, t);
+    }
+    if rests(before.records(), t) {
+        return Ok(());
+    }
+    rest(out, program, world, x, t)
+}
+
+/// From one height to another.
+fn fork_path(out: &mut String, x: u128, from: u64, to: u64) -> Result<(), AllocError>
+    ensures { OnOk result (string_bytes out.new ≡ string_bytes out.old ++ def.fork_path x from to) }
+{
+    writeln!(out, "<path class='fork' d='M{x} {from}V{to}'/>")
+}
+
+/// From the lane of the task that forked it, the owner of its scope.
+fn fork_line(
+    out: &mut String,
+    records: &Records,
+    x: u128,
+    t: u32,
+    scope: Option<u32>,
+) -> Result<(), AllocError>
+    ensures { OnOk result (string_bytes out.new
+        ≡ string_bytes out.old ++ def.fork_line records.now x t scope) }
+{
+    match scope {
+        None => Ok(()),
+        Some(s) => fork_path(out, x, lane(records.owner(s)), lane(t)),
+    }
+}
+
+/// The fork of a task that wasn't born in the column before.
+fn birth(out: &mut String, before: &World, world: &World, x: u128, t: u32) -> Result<(), AllocError>
+    ensures { OnOk result (string_bytes out.new
+        ≡ string_bytes out.old ++ def.birth before.now world.now x t) }
+{
+    if (t as usize) < before.records().tasks_born() {
+        return Ok(());
+    }
+    let records = world.records();
+    fork_line(out, records, x, t, records.parent(t))
+}
+
+/// An interrupt flag that wasn't set in the column before.
+fn interrupted(
+    out: &mut String,
+    before: &World,
+    world: &World,
+    x: u128,
+    t: u32,
+) -> Result<(), AllocError>
+    ensures { OnOk result (string_bytes out.new
+        ≡ string_bytes out.old ++ def.interrupted before.now world.now x t) }
+{
+    if !world.records().flag(t) || before.records().flag(t) {
+        return Ok(());
+    }
+    mark_start(out, Mark::Interrupted, x, lane(t))?;
+    write!(out, "task {t} interrupted")?;
+    mark_end(out)
+}
+
+fn task_cell(
+    out: &mut String,
+    program: &Program,
+    before: &World,
+    world: &World,
+    x: u128,
+    t: u32,
+) -> Result<(), AllocError>
+    requires born { t < length world.now.tasks }
+    requires near { x < 2 ^ 127 }
+    ensures { OnOk result (string_bytes out.new
+        ≡ string_bytes out.old ++ def.task_cell program.now before.now world.now x t) }
+{
+    birth(out, before, world, x, t)?;
+    stand(out, program, before, world, x, t)?;
+    interrupted(out, before, world, x, t)
+}
+
+/// What a column at `x` shows of all tasks that were ever born, after the column of `before`.
+///
+/// # Errors
+///
+/// Memory was refused; a part of it may then stand in `out`.
+pub fn task_cells(
+    out: &mut String,
+    program: &Program,
+    before: &World,
+    world: &World,
+    x: u128,
+) -> Result<(), AllocError>
+    requires { x < 2 ^ 127 }
+    ensures { OnOk result (string_bytes out.new ≡ string_bytes out.old
+        ++ def.task_cells program.now before.now world.now x world.now.tasks 0) }
+{
+    for t in 0..world.records().tasks_born() {
+        task_cell(out, program, before, world, x, t as u32)?;
+    }
+    Ok(())
+}
+
+/// `task T under S`
+fn task_name(out: &mut String, t: u32, scope: Option<u32>) -> Result<(), AllocError>
+    ensures { OnOk result (string_bytes out.new ≡ string_bytes out.old ++ def.task_name t scope) }
+{
+    text_start(out, "name", 196, lane(t))?;
+    write!(out, "task {t} under ")?;
+    under_words(out, scope)?;
+    text_end(out)
+}
+
+/// The name of its function, below.
+fn function_name(out: &mut String, t: u32, name: &str) -> Result<(), AllocError>
+    ensures { OnOk result (string_bytes out.new
+        ≡ string_bytes out.old ++ def.function_name t name.now) }
+{
+    text_start(out, "code", 196, lane(t) + 13)?;
+    write!(out, "{name}")?;
+    text_end(out)
+}
+
+fn lane_name(
+    out: &mut String,
+    program: &Program,
+    records: &Records,
+    t: u32,
+) -> Result<(), AllocError>
+    ensures { OnOk result (string_bytes out.new
+        ≡ string_bytes out.old ++ def.lane_name program.now records.now t) }
+{
+    task_name(out, t, records.parent(t))?;
+    function_name(out, t, name_of(program, records.function(t)))
+}
+
+/// The names of the lanes of all tasks that were ever born.
+///
+/// # Errors
+///
+/// Memory was refused; a part of it may then stand in `out`.
+pub fn lane_names(out: &mut String, program: &Program, records: &Records) -> Result<(), AllocError>
+    ensures { OnOk result (string_bytes out.new
+        ≡ string_bytes out.old ++ def.lane_names program.now records.now records.now.tasks 0) }
+{
+    for t in 0..records.tasks_born() {
+        lane_name(out, program, records, t as u32)?;
+    }
+    Ok(())
+}

@@ -1,0 +1,355 @@
+//! A run as a picture: a lane for each task, a column for each event.
+
+ghost use Rattle.std.specs.Prelude.{◌≡◌, ◌++◌, ◌<◌, ◌≤◌, ◌^◌, [], OnOk, IfOk, length, false};
+ghost use Rattle.std.specs.String.{string_bytes};
+ghost use Rattle.sts_code.specs.declared.limits.TheConstants.{MAX_BIRTHS};
+ghost use Rattle.sts_model.specs.Run as run;
+ghost use Rattle.sts_plain.specs.Seen as seen;
+ghost use Rattle.look_lines.specs.Watched.{after_event, watched};
+ghost use Rattle.look_picture.specs.Picture as def;
+
+use crate::brackets::scope_cells;
+use crate::lanes::{lane_names, task_cells};
+use crate::marks::Mark;
+use crate::place::{column, height, lane, width};
+use crate::style::{legend, style};
+use crate::writing::{mark_end, mark_start, text_end, text_start};
+use look_lines::{Watch, event_words, lines};
+use std::alloc::{AllocError, Global};
+use std::fmt::Write;
+use sts_code::Program;
+use sts_model::Event;
+use sts_output::{Output, state_line, state_status, steps_line};
+use sts_plain::PlainState;
+use sts_world::World;
+
+/// All that a world shows in a column, with what it became since the one before.
+fn cells(
+    out: &mut String,
+    program: &Program,
+    before: &World,
+    world: &World,
+    x: u128,
+) -> Result<(), AllocError>
+    requires { x < 2 ^ 127 }
+    ensures { OnOk result (string_bytes out.new
+        ≡ string_bytes out.old ++ def.cells program.now before.now world.now x) }
+{
+    task_cells(out, program, before, world, x)?;
+    scope_cells(out, before.records(), world.records(), x)
+}
+
+/// A step of this task that was a fault.
+fn fault_mark(out: &mut String, watch: &Watch<'_>, x: u128, t: u32) -> Result<(), AllocError>
+    ensures { OnOk result (string_bytes out.new
+        ≡ string_bytes out.old ++ def.fault_mark watch.now x t) }
+{
+    mark_start(out, Mark::Fault, x, lane(t))?;
+    state_line(out, watch.program(), watch.state())?;
+    mark_end(out)
+}
+
+/// What stands, and at a fault the fault alone, in its own column.
+fn standing(
+    out: &mut String,
+    before: &Watch<'_>,
+    watch: &Watch<'_>,
+    x: u128,
+    is_counted: bool,
+) -> Result<(), AllocError>
+    requires { x < 2 ^ 127 }
+    ensures { OnOk result (string_bytes out.new ≡ string_bytes out.old
+        ++ def.standing before.now watch.now x is_counted (seen.shown watch.now.state)) }
+{
+    match watch.state() {
+        PlainState::Fault { task, .. } if is_counted => fault_mark(out, watch, x, task),
+        PlainState::Fault { .. } => Ok(()),
+        PlainState::Running | PlainState::Ended(_) => {
+            cells(out, watch.program(), before.world(), watch.world(), x)
+        }
+    }
+}
+
+/// A step that counts, in its task's lane.
+fn stepped(out: &mut String, x: u128, event: Event, is_counted: bool) -> Result<(), AllocError>
+    ensures { OnOk result (string_bytes out.new
+        ≡ string_bytes out.old ++ def.stepped x event is_counted) }
+{
+    match event {
+        Event::Step(t) if is_counted => {
+            mark_start(out, Mark::Step, x, lane(t))?;
+            event_words(out, event)?;
+            mark_end(out)
+        }
+        Event::Step(_) | Event::Interrupt(_) | Event::Expire(_) => Ok(()),
+    }
+}
+
+/// ` idle` where an event doesn't count.
+fn idle_word(is_counted: bool) -> &'static str
+    ensures { result.now ≡ def.idle_word is_counted }
+{
+    if is_counted { "" } else { " idle" }
+}
+
+fn number_class(is_counted: bool) -> &'static str
+    ensures { result.now ≡ def.number_class is_counted }
+{
+    if is_counted { "number" } else { "number idle" }
+}
+
+/// The event's words end, and its number stands behind them.
+fn number_end(out: &mut String, n: usize, idle: &str) -> Result<(), AllocError>
+    ensures { OnOk result (string_bytes out.new
+        ≡ string_bytes out.old ++ def.number_end n idle.now) }
+{
+    writeln!(out, "{idle}</title>{n}</text>")
+}
+
+/// The event's number above the lanes.
+fn number(out: &mut String, n: usize, event: Event, is_counted: bool) -> Result<(), AllocError>
+    ensures { OnOk result (string_bytes out.new
+        ≡ string_bytes out.old ++ def.number n event is_counted) }
+{
+    text_start(out, number_class(is_counted), column(n), 44)?;
+    write!(out, "<title>")?;
+    event_words(out, event)?;
+    number_end(out, n, idle_word(is_counted))
+}
+
+/// The column of the n-th event.
+fn event_column(
+    out: &mut String,
+    before: &Watch<'_>,
+    watch: &Watch<'_>,
+    n: usize,
+    event: Event,
+    is_counted: bool,
+) -> Result<(), AllocError>
+    ensures { OnOk result (string_bytes out.new ≡ string_bytes out.old
+        ++ def.event_column before.now watch.now n event is_counted) }
+{
+    number(out, n, event, is_counted)?;
+    standing(out, before, watch, column(n), is_counted)?;
+    stepped(out, column(n), event, is_counted)
+}
+
+/// Applies the n-th event to two machines that stand alike, and draws its column.
+fn event_step(
+    alloc: Global,
+    out: &mut String,
+    before: &mut Watch<'_>,
+    watch: &mut Watch<'_>,
+    n: usize,
+    event: Event,
+) -> Result<(), AllocError>
+    ensures behind { OnOk result (before.new ≡ after_event before.old event) }
+    ensures stands { OnOk result (watch.new ≡ after_event watch.old event) }
+    ensures drawn { OnOk result (string_bytes out.new ≡ string_bytes out.old
+        ++ def.event_column before.old (after_event watch.old event) n event
+        (run.counts before.old.program before.old.state event)) }
+{
+    let is_counted = before.counts(event);
+    watch.apply(alloc, event)?;
+    event_column(out, before, watch, n, event, is_counted)?;
+    before.apply(alloc, event)
+}
+
+/// Applies these events to two machines, the first of all, and draws the column of each.
+fn event_columns(
+    alloc: Global,
+    out: &mut String,
+    before: &mut Watch<'_>,
+    watch: &mut Watch<'_>,
+    events: &[Event],
+) -> Result<(), AllocError>
+    requires behind { before.old ≡ watched watch.old.program [] }
+    requires starts { watch.old ≡ watched watch.old.program [] }
+    ensures stands { OnOk result (watch.new ≡ watched watch.old.program events.now) }
+    ensures drawn { OnOk result (string_bytes out.new ≡ string_bytes out.old
+        ++ def.columns_from watch.old.program [] events.now) }
+{
+    for i in 0..events.len() {
+        event_step(alloc, out, before, watch, i + 1, events[i])?;
+    }
+    Ok(())
+}
+
+/// The column before the first event.
+fn first_column(out: &mut String, watch: &Watch<'_>) -> Result<(), AllocError>
+    ensures { OnOk result (string_bytes out.new
+        ≡ string_bytes out.old ++ def.first_column watch.now) }
+{
+    let world = watch.world();
+    cells(out, watch.program(), world, world, column(0))
+}
+
+/// Draws the column before the first event and one after each; the machine that ran them.
+fn columns<'p>(
+    alloc: Global,
+    out: &mut String,
+    program: &'p Program,
+    events: &[Event],
+) -> Result<Watch<'p>, AllocError>
+    ensures stands { IfOk result (λ w. w ≡ watched program.now events.now) }
+    ensures drawn { OnOk result (string_bytes out.new
+        ≡ string_bytes out.old ++ def.columns program.now events.now) }
+{
+    let mut before = Watch::start(alloc, program)?;
+    let mut watch = Watch::start(alloc, program)?;
+    first_column(out, &watch)?;
+    event_columns(alloc, out, &mut before, &mut watch, events)?;
+    Ok(watch)
+}
+
+/// How the run stands, and the steps that it took.
+fn heading(out: &mut String, watch: &Watch<'_>) -> Result<(), AllocError>
+    ensures { OnOk result (string_bytes out.new ≡ string_bytes out.old ++ def.heading watch.now) }
+{
+    state_line(out, watch.program(), watch.state())?;
+    write!(out, " ")?;
+    steps_line(out, watch.steps())
+}
+
+fn svg_start(out: &mut String, wide: u128, high: u64) -> Result<(), AllocError>
+    ensures { OnOk result (string_bytes out.new ≡ string_bytes out.old ++ def.svg_start wide high) }
+{
+    write!(
+        out,
+        "<svg xmlns='http://www.w3.org/2000/svg' class='sts-run' role='img' \
+        viewBox='0 0 {wide} {high}' width='{wide}' height='{high}'>\n<title>"
+    )
+}
+
+/// The size.
+fn sized(out: &mut String, watch: &Watch<'_>, events: usize) -> Result<(), AllocError>
+    ensures { OnOk result (string_bytes out.new
+        ≡ string_bytes out.old ++ def.sized watch.now events) }
+{
+    let tasks = watch.world().records().tasks_born();
+    svg_start(out, width(events), height(tasks))
+}
+
+/// The lines of all that stands.
+fn standing_lines(out: &mut String, watch: &Watch<'_>) -> Result<(), AllocError>
+    ensures { OnOk result (string_bytes out.new
+        ≡ string_bytes out.old ++ def.standing_lines watch.now) }
+{
+    lines(out, watch, false)
+}
+
+fn description_start(out: &mut String) -> Result<(), AllocError>
+    ensures { OnOk result (string_bytes out.new ≡ string_bytes out.old ++ def.description_start) }
+{
+    write!(out, "</title>\n<desc>")
+}
+
+fn description_end(out: &mut String) -> Result<(), AllocError>
+    ensures { OnOk result (string_bytes out.new ≡ string_bytes out.old ++ def.description_end) }
+{
+    writeln!(out, "</desc>")
+}
+
+/// The words for those who don't see it, behind how the run stands: all that stands.
+fn description(out: &mut String, watch: &Watch<'_>) -> Result<(), AllocError>
+    ensures { OnOk result (string_bytes out.new
+        ≡ string_bytes out.old ++ def.description watch.now) }
+{
+    description_start(out)?;
+    standing_lines(out, watch)?;
+    description_end(out)
+}
+
+/// The size, how the run stands, and all that stands.
+fn head(out: &mut String, watch: &Watch<'_>, events: usize) -> Result<(), AllocError>
+    ensures { OnOk result (string_bytes out.new
+        ≡ string_bytes out.old ++ def.head watch.now events) }
+{
+    sized(out, watch, events)?;
+    heading(out, watch)?;
+    description(out, watch)
+}
+
+/// The style, and the grid behind the lanes.
+fn grid(out: &mut String, style: &str, wide: u128, high: usize) -> Result<(), AllocError>
+    ensures { OnOk result (string_bytes out.new
+        ≡ string_bytes out.old ++ def.grid style.now wide high) }
+{
+    writeln!(
+        out,
+        "{style}<rect fill='url(#sts-grid)' x='208' y='46' width='{wide}' height='{high}'/>"
+    )
+}
+
+/// The grid, and how the run stands above it.
+fn backdrop(out: &mut String, watch: &Watch<'_>, events: usize) -> Result<(), AllocError>
+    ensures { OnOk result (string_bytes out.new
+        ≡ string_bytes out.old ++ def.backdrop watch.now events) }
+{
+    let tasks = watch.world().records().tasks_born();
+    grid(out, style(), 24 * events as u128 + 24, 52 * tasks)?;
+    text_start(out, "heading", 12, 22)?;
+    heading(out, watch)?;
+    text_end(out)
+}
+
+/// What the marks mean, from this height on.
+fn legend_at(out: &mut String, y: u64, legend: &str) -> Result<(), AllocError>
+    ensures { OnOk result (string_bytes out.new
+        ≡ string_bytes out.old ++ def.legend_at y legend.now) }
+{
+    write!(
+        out,
+        "<g transform='translate(12 {y})'>\n{legend}</g>\n</svg>\n"
+    )
+}
+
+fn foot(out: &mut String, tasks: usize) -> Result<(), AllocError>
+    requires { tasks ≤ MAX_BIRTHS }
+    ensures { OnOk result (string_bytes out.new ≡ string_bytes out.old ++ def.foot tasks) }
+{
+    legend_at(out, lane(tasks as u32), legend())
+}
+
+/// The names of the lanes, and what the marks mean.
+fn below(out: &mut String, watch: &Watch<'_>) -> Result<(), AllocError>
+    ensures { OnOk result (string_bytes out.new ≡ string_bytes out.old ++ def.below watch.now) }
+{
+    let records = watch.world().records();
+    lane_names(out, watch.program(), records)?;
+    foot(out, records.tasks_born())
+}
+
+/// Puts these columns among what stands round them.
+fn framed(
+    out: &mut String,
+    watch: &Watch<'_>,
+    events: usize,
+    columns: &str,
+) -> Result<(), AllocError>
+    ensures { OnOk result (string_bytes out.new
+        ≡ string_bytes out.old ++ def.framed watch.now events columns.now) }
+{
+    head(out, watch, events)?;
+    backdrop(out, watch, events)?;
+    out.push_str(columns)?;
+    below(out, watch)
+}
+
+/// The picture of a run of these events, and the status of how the machine stands in the end.
+///
+/// # Errors
+///
+/// Memory was refused.
+pub fn picture(alloc: Global, program: &Program, events: &[Event]) -> Result<Output, AllocError>
+    ensures { IfOk result (λ o. o ≡ def.picture_output program.now events.now) }
+{
+    let mut drawn = String::new(alloc);
+    let watch = columns(alloc, &mut drawn, program, events)?;
+    let mut text = String::new(alloc);
+    framed(&mut text, &watch, events.len(), drawn.as_str())?;
+    Ok(Output {
+        text,
+        status: state_status(watch.state()),
+    })
+}

@@ -1,0 +1,39 @@
+//! The elements of a picture.
+
+ghost use Rattle.std.specs.Prelude.{◌≡◌, ◌++◌, OnOk};
+ghost use Rattle.std.specs.String.{string_bytes};
+ghost use Rattle.look_picture.specs.Writing as def;
+
+use crate::marks::Mark;
+use std::alloc::AllocError;
+use std::fmt::Write;
+
+/// A mark at a point, up to the words that tell it.
+pub(crate) fn mark_start(out: &mut String, mark: Mark, x: u128, y: u64) -> Result<(), AllocError>
+    ensures { OnOk result (string_bytes out.new
+        ≡ string_bytes out.old ++ def.mark_start mark x y) }
+{
+    let class = mark.class();
+    let shape = mark.shape();
+    write!(out, "<path class='{class}' d='M{x} {y}{shape}'><title>")
+}
+
+pub(crate) fn mark_end(out: &mut String) -> Result<(), AllocError>
+    ensures { OnOk result (string_bytes out.new ≡ string_bytes out.old ++ def.mark_end) }
+{
+    writeln!(out, "</title></path>")
+}
+
+/// A text of a class begins at a point.
+pub(crate) fn text_start(out: &mut String, class: &str, x: u128, y: u64) -> Result<(), AllocError>
+    ensures { OnOk result (string_bytes out.new
+        ≡ string_bytes out.old ++ def.text_start class.now x y) }
+{
+    write!(out, "<text class='{class}' x='{x}' y='{y}'>")
+}
+
+pub(crate) fn text_end(out: &mut String) -> Result<(), AllocError>
+    ensures { OnOk result (string_bytes out.new ≡ string_bytes out.old ++ def.text_end) }
+{
+    writeln!(out, "</text>")
+}

@@ -1,0 +1,15 @@
+pub mod Adding
+pub mod Differences
+pub mod Found
+pub mod Heavy
+pub mod Lines
+pub mod Output
+pub mod Reading
+pub mod Remedies
+pub mod Search
+pub mod Sentences
+pub mod Top
+pub mod Trail
+pub mod Walk
+pub mod Ways
+pub mod Weights

@@ -1,0 +1,83 @@
+-- What is printed of a text and the status that goes with it (this project's own).
+use Rattle.std.specs.Prelude.{◌≡◌, ◌≢◌, ◌⊎◌, ℕ, List, [], ◌++◌, Result, Ok, Err, codes}
+use Rattle.sts_code.specs.Program.{Program}
+use Rattle.sts_output.specs.Output.{Output, memory_output}
+use Rattle.sts_asm.specs.Outline.{Outline}
+use Rattle.sts_asm.specs.Source.{outlined, sentence_at}
+use Rattle.sts_asm.specs.Text.{judged}
+use Rattle.sts_asm.specs.declared.fault.AsmError.{AsmError}
+use Rattle.sts_rules.specs.Refusal.{IsAccepted, IsRefusal}
+use Rattle.sts_rules.specs.declared.typing.Cause.{Cause}
+use Rattle.sts_rules.specs.declared.typing.Cause.TheVariants.{StatesDiffer}
+use Rattle.look_refusal.specs.declared.ways.Meeting.{Meeting}
+use Rattle.look_refusal.specs.declared.parts.Part.{Part}
+use Rattle.look_refusal.specs.declared.remedy.Remedy.{Remedy}
+use Rattle.look_refusal.specs.Remedies.{IsRemedy}
+use Rattle.look_refusal.specs.Ways.{Meets}
+use Rattle.look_refusal.specs.Differences.{AreDifferences, difference_lines}
+use Rattle.look_refusal.specs.Lines.{refused_lines}
+use Rattle.look_text.specs.Lines.{fault_lines}
+use Rattle.look_refusal.specs.Weights.{weight_lines}
+use Rattle.sts_budget.specs.declared.change.Resource.{Resource}
+use Rattle.sts_budget.specs.Change.{cause_of}
+use Rattle.look_refusal.specs.declared.heavy.Heavy.{Heavy}
+use Rattle.look_refusal.specs.Heavy.{IsHeavy, NeedsMoreBits}
+
+abbrev pub accepted_output : Output
+accepted_output = record { bytes = codes "accepted\n"; status = 0 }
+
+abbrev pub fault_output : AsmError → List ℕ → Output
+fault_output e text = record { bytes = fault_lines e text; status = 3 }
+
+-- ---- refusals
+
+-- what is told beside the cause: the parts in which two ways that meet differ, always if that is
+-- why, and then one part at least; or what weighs too much, always if that is why and 128 bits hold
+-- what each point weighs
+pub data IsDetail (p : Program) (o : Outline) (f pc : ℕ) : Cause → List ℕ → Type 0 where
+  meets : (m : Meeting) (parts : List Part) → Meets p f pc m
+      → AreDifferences m.one.state m.other.state parts
+      → IsDetail p o f pc StatesDiffer (difference_lines o p f m parts)
+  weighs : (k : Resource) (h : Heavy) {c : Cause} → c ≡ cause_of k → IsHeavy p f k h
+      → IsDetail p o f pc c (weight_lines o f k h)
+  none : {c : Cause} → c ≢ StatesDiffer
+      → ((k : Resource) → c ≡ cause_of k → NeedsMoreBits p f k) → IsDetail p o f pc c []
+
+-- what was printed before, and then the detail
+pub data Tells (p : Program) (o : Outline) (f pc : ℕ) (c : Cause)
+    (before after : List ℕ) : Type 0 where
+  told : (detail : List ℕ) → IsDetail p o f pc c detail → after ≡ before ++ detail
+      → Tells p o f pc c before after
+
+abbrev pub refused_output : Program → Outline → ℕ → ℕ → Cause → Remedy → List ℕ → Output
+refused_output p o f pc c remedy detail =
+    record { bytes = refused_lines p (sentence_at o f pc) f c remedy ++ detail; status = 4 }
+
+-- what is printed of a program that is refused at its least place with a cause, for the least cause
+-- there, with what to do about it
+pub record IsRefused (p : Program) (o : Outline) (output : Output) : Type 0 where
+  pub function : ℕ
+  pub place : ℕ
+  pub cause : Cause
+  pub remedy : Remedy
+  pub detail : List ℕ
+  pub refusal : IsRefusal p function place cause
+  pub right : IsRemedy p function place cause remedy
+  pub told : IsDetail p o function place cause detail
+  pub printed : output ≡ refused_output p o function place cause remedy detail
+
+-- of a program that is accepted, or refused
+pub data IsVerdict (p : Program) (o : Outline) (output : Output) : Type 0 where
+  accepted : IsAccepted p → output ≡ accepted_output → IsVerdict p o output
+  refused : IsRefused p o output → IsVerdict p o output
+
+-- ---- texts
+
+-- of what a text spells, or of its first fault
+abbrev pub Explains : Result Program AsmError → List ℕ → Output → Type 0
+Explains (Ok p) text output = (o : Outline) × ((outlined text ≡ Ok o) × IsVerdict p o output)
+Explains (Err e) text output = output ≡ fault_output e text
+
+-- the explanation of a text, or that memory was refused
+abbrev pub IsExplanation : List ℕ → Output → Type 0
+IsExplanation text output = Explains (judged text) text output ⊎ (output ≡ memory_output)

@@ -1,0 +1,83 @@
+-- A table of greatest sums, each with the place before it on the way there (this project's own).
+use Rattle.std.specs.Prelude.{◌≡◌, ℕ, ◌+◌, ◌*◌, ◌<◌, ◌≤◌, List, [], length, get_or, Option, Some}
+use Rattle.std.specs.Prelude.{None, ◌||◌, is_none, nat_lt, if◌then◌else◌}
+use Rattle.sts_code.specs.Program.{instr_at}
+use Rattle.sts_rules.specs.Around.{around}
+use Rattle.sts_budget.specs.Ready.{head_in}
+use Rattle.sts_budget.specs.Sums.{full}
+use Rattle.sts_budget.specs.Table.{Passes}
+use Rattle.look_refusal.specs.declared.search.Search.{Search}
+use Rattle.look_refusal.specs.declared.trail.Best.{Best}
+use Rattle.look_refusal.specs.declared.trail.Trail.{Trail}
+use Rattle.look_refusal.specs.Search.{paths, flow, ends_turn, turns_of, LeadsOn}
+
+-- the greatest number of 128 bits
+abbrev pub greatest_number : ℕ
+greatest_number = 340282366920938463463374607431768211455
+
+-- where no way was found
+abbrev pub no_way : Best
+no_way = record { sum = 0; from = None }
+
+-- what the trail has at a place over the first d entries
+abbrev pub best_in : Trail → ℕ → ℕ → Best
+best_in t pc d = get_or (get_or t.rows.items pc []) d (record { sum = 0; from = None })
+
+abbrev pub sum_in : Trail → ℕ → ℕ → ℕ
+sum_in t pc d = (get_or (get_or t.rows.items pc []) d (record { sum = 0; from = None })).sum
+
+-- the sum over the first d entries after so many turns of the loop between these places, where so
+-- much was before its `times`
+abbrev pub looped : Search → (ℕ → ℕ → ℕ) → (head end turns before d : ℕ) → ℕ
+looped s best head end turns before d =
+    before + (flow s).added head d + turns * (best end d + (flow s).added end d)
+
+-- what the instruction at a place hands on over the first d entries; that at the end of a turn
+-- hands on what its loop does
+abbrev pub handed : Search → (ℕ → ℕ → ℕ) → ℕ → ℕ → ℕ
+handed s best pc d =
+    if ends_turn (instr_at s.code.now pc)
+    then looped s best (head_in s.layout.now pc) pc
+    (turns_of (instr_at s.code.now (head_in s.layout.now pc)))
+    (best (head_in s.layout.now pc) d) d
+    else best pc ((flow s).source pc d) + (flow s).added pc d
+
+-- the old one of two, unless the new one adds more
+abbrev pub better : Best → Best → Best
+better old new = if is_none old.from || nat_lt old.sum new.sum then new else old
+
+-- none of the places below k leads there, or this one does, with this sum
+abbrev pub IsFrom : Search → (ℕ → ℕ → ℕ) → (k pc d sum : ℕ) → Option ℕ → Type 0
+IsFrom s best k pc d sum None = (sum ≡ 0) × ((q : ℕ) → q < k → LeadsOn s q pc → ⊥)
+IsFrom s best k pc d sum (Some q) = (q < k) × LeadsOn s q pc × (sum ≡ handed s best q d)
+
+-- the greatest of what the places below k hand on to a place over the first d entries
+pub record IsBest (s : Search) (best : ℕ → ℕ → ℕ) (k pc d : ℕ) (b : Best) : Type 0 where
+  pub most : (q : ℕ) → q < k → LeadsOn s q pc → handed s best q d ≤ b.sum
+  pub from : IsFrom s best k pc d b.sum b.from
+
+-- the row has the best of all open entries
+abbrev pub IsRow : Search → (ℕ → ℕ → ℕ) → (k pc : ℕ) → List Best → Type 0
+IsRow s best k pc row = (d : ℕ) → d ≤ (flow s).depth pc → IsBest s best k pc d (get_or row d no_way)
+
+-- one that 128 bits don't hold
+abbrev pub HandsTooMuch : Search → (ℕ → ℕ → ℕ) → (from to : ℕ) → Type 0
+HandsTooMuch s best from to =
+    (d : ℕ) × ((d ≤ (flow s).depth to) × (greatest_number < handed s best from d))
+
+-- the first places have their rows
+pub record IsBegun (s : Search) (k : ℕ) (t : Trail) : Type 0 where
+  pub long : length t.rows.items ≡ k
+  pub row : (pc : ℕ) → pc < k → IsRow s (sum_in t) pc pc (get_or t.rows.items pc [])
+
+-- all places have
+abbrev pub IsTrail : Search → Trail → Type 0
+IsTrail s t = IsBegun s (length s.code.now) t
+
+-- some path sums up to more than 128 bits hold
+abbrev pub IsTooWide : Search → Type 0
+IsTooWide s = Passes (paths s) (flow s) greatest_number
+
+-- all that stands at a place, each open loop being in its last turn
+abbrev pub full_in : Search → Trail → ℕ → ℕ
+full_in s t pc = full (paths s) (flow s) (around s.code.now) (sum_in t) pc

@@ -1,0 +1,223 @@
+//! Explains what is wrong with a text, if anything is.
+
+ghost use Rattle.std.specs.Prelude.{◌≡◌, IfOk, OnOk, Result, Ok, Err};
+ghost use Rattle.sts_rules.specs.Refusal.{IsRefusal};
+ghost use Rattle.sts_asm.specs.Source.{outlined as outlined_of};
+ghost use Rattle.sts_asm.specs.Text.{judged};
+ghost use Rattle.sts_asm.specs.Fault.{FailsAt};
+ghost use Rattle.sts_code.specs.Program.{Program as AnyProgram};
+ghost use Rattle.sts_asm.specs.declared.fault.AsmError.{AsmError};
+ghost use Rattle.sts_budget.specs.Change.{cause_of};
+ghost use Rattle.sts_output.specs.Output as cli;
+ghost use Rattle.look_refusal.specs.Output as def;
+
+use crate::differences::difference_lines;
+use crate::heavy::heaviest;
+use crate::lines::refused_lines;
+use crate::remedy::remedy_for;
+use crate::ways::find_meeting;
+use crate::weights::weight_lines;
+use look_text::{fault_lines, say};
+use std::alloc::{AllocError, Global};
+use std::io::Write;
+use std::marker::Model;
+use sts_asm::{AsmError, AsmKind, Outline, assemble, outlined};
+use sts_budget::Resource;
+use sts_code::Program;
+use sts_output::{TakeError, WriteFailed, failed, written};
+use sts_rules::Cause;
+use sts_verify::{VerifyError, verify};
+
+/// What is printed, and the status.
+#[derive(Drop)]
+pub struct Output {
+    pub bytes: Vec<u8>,
+    pub status: u8,
+}
+
+impl Model for Output {
+    ghost use Rattle.sts_output.specs.Output as cli;
+
+    ghost Value = { cli.Output };
+
+    ghost view = { λ o. record { bytes = o.bytes.items; status = o.status } };
+}
+
+/// The output for a fault of a text; want of memory is no fault of it.
+///
+/// # Errors
+///
+/// Memory was refused.
+pub fn text_fault(alloc: Global, error: AsmError, text: &[u8]) -> Result<Output, AllocError>
+    ensures { (read : Result AnyProgram AsmError) → FailsAt error error.kind read
+        → IfOk result (λ o. (read ≡ Err error) × (o ≡ def.fault_output error text.now)) }
+{
+    if matches!(error.kind, AsmKind::Memory) {
+        return Err(AllocError);
+    }
+    let mut bytes = Vec::new(alloc);
+    fault_lines(alloc, &mut bytes, error, text)?;
+    Ok(Output { bytes, status: 3 })
+}
+
+/// Tells where two ways that meet differ.
+fn say_meeting(
+    alloc: Global,
+    out: &mut Vec<u8>,
+    outline: &Outline<'_>,
+    program: &Program,
+    function: u32,
+    pc: u32,
+) -> Result<(), AllocError>
+    requires { IsRefusal program.now function pc Cause.StatesDiffer }
+    ensures { OnOk result (def.Tells program.now outline.now function pc Cause.StatesDiffer
+        out.old.items out.new.items) }
+{
+    match find_meeting(alloc, program, function, pc)? {
+        None => Ok(()),
+        Some(meeting) => {
+            difference_lines(alloc, out, outline, program, function, &meeting)?;
+            Ok(())
+        }
+    }
+}
+
+/// Tells what weighs more than the budget of a resource may.
+fn say_heavy(
+    alloc: Global,
+    out: &mut Vec<u8>,
+    outline: &Outline<'_>,
+    program: &Program,
+    function: u32,
+    pc: u32,
+    resource: Resource,
+) -> Result<(), AllocError>
+    requires { IsRefusal program.now function pc (cause_of resource) }
+    ensures { OnOk result (def.Tells program.now outline.now function pc (cause_of resource)
+        out.old.items out.new.items) }
+{
+    match heaviest(alloc, program, function, resource)? {
+        None => Ok(()),
+        Some(heavy) => {
+            weight_lines(alloc, out, outline, function, resource, &heavy)?;
+            Ok(())
+        }
+    }
+}
+
+/// Tells beside the cause where two ways differ, or what weighs too much, if that is why.
+fn say_detail(
+    alloc: Global,
+    out: &mut Vec<u8>,
+    outline: &Outline<'_>,
+    program: &Program,
+    function: u32,
+    pc: u32,
+    cause: Cause,
+) -> Result<(), AllocError>
+    requires { IsRefusal program.now function pc cause }
+    ensures { OnOk result (def.Tells program.now outline.now function pc cause
+        out.old.items out.new.items) }
+{
+    match cause {
+        Cause::StatesDiffer => say_meeting(alloc, out, outline, program, function, pc),
+        Cause::TooManySteps => {
+            say_heavy(alloc, out, outline, program, function, pc, Resource::Steps)
+        }
+        Cause::TooManyTasks => {
+            say_heavy(alloc, out, outline, program, function, pc, Resource::Tasks)
+        }
+        Cause::TooManyScopes => {
+            say_heavy(alloc, out, outline, program, function, pc, Resource::Scopes)
+        }
+        Cause::TooManyBinds => {
+            say_heavy(alloc, out, outline, program, function, pc, Resource::Binds)
+        }
+        _ => Ok(()),
+    }
+}
+
+fn refused(
+    alloc: Global,
+    outline: &Outline<'_>,
+    program: &Program,
+    function: u32,
+    pc: u32,
+    cause: Cause,
+) -> Result<Output, AllocError>
+    requires { IsRefusal program.now function pc cause }
+    ensures { IfOk result (λ o. def.IsRefused program.now outline.now o) }
+{
+    let remedy = remedy_for(alloc, program, function, pc, cause)?;
+    let mut bytes = Vec::new(alloc);
+    let sentence = outline.sentence(function, pc);
+    refused_lines(
+        alloc, &mut bytes, program, sentence, function, cause, remedy,
+    )?;
+    say_detail(alloc, &mut bytes, outline, program, function, pc, cause)?;
+    Ok(Output { bytes, status: 4 })
+}
+
+fn accepted(alloc: Global) -> Result<Output, AllocError>
+    ensures { IfOk result (λ o. o ≡ def.accepted_output) }
+{
+    let mut bytes = Vec::new(alloc);
+    say(&mut bytes, "accepted\n")?;
+    Ok(Output { bytes, status: 0 })
+}
+
+fn verdict(alloc: Global, outline: &Outline<'_>, program: Program) -> Result<Output, AllocError>
+    ensures { IfOk result (λ o. def.IsVerdict program outline.now o) }
+{
+    match verify(alloc, program) {
+        Ok(_) => accepted(alloc),
+        Err(VerifyError::Memory(_)) => Err(AllocError),
+        Err(
+            VerifyError::Refused {
+                program,
+                function,
+                pc,
+                cause,
+            },
+        ) => refused(alloc, outline, &program, function, pc, cause),
+    }
+}
+
+/// The explanation of a text whose lines were read.
+fn of_lines(alloc: Global, outline: &Outline<'_>, text: &[u8]) -> Result<Output, AllocError>
+    requires { outlined_of text.now ≡ Ok outline.now }
+    ensures { IfOk result (λ o. def.Explains (judged text.now) text.now o) }
+{
+    match assemble(alloc, text) {
+        Ok(program) => verdict(alloc, outline, program),
+        Err(error) => text_fault(alloc, error, text),
+    }
+}
+
+#[tactic(auto, using(crate::proofs::FaultLemmas::outline_fault))]
+fn explanation(alloc: Global, text: &[u8]) -> Result<Output, AllocError>
+    ensures { IfOk result (λ o. def.Explains (judged text.now) text.now o) }
+{
+    match outlined(alloc, text) {
+        Ok(outline) => of_lines(alloc, &outline, text),
+        Err(error) => text_fault(alloc, error, text),
+    }
+}
+
+/// Writes what is wrong with a text, if anything is, by the lines of the text, and gives the status
+/// that `sts verify` gives.
+///
+/// It takes all its memory before the first byte is written.
+///
+/// # Errors
+///
+/// A write failed.
+pub fn explain<W: Write>(alloc: Global, text: &[u8], out: &mut W) -> Result<u8, WriteFailed>
+    ensures { IfOk result (λ s. (o : cli.Output) × def.IsExplanation text.now o
+        × cli.Writes (W.contents out.old) (W.contents out.new) s o) }
+{
+    match explanation(alloc, text) {
+        Ok(output) => written(out, output.bytes.as_slice(), output.status),
+        Err(_) => failed(TakeError::Memory, out),
+    }
+}

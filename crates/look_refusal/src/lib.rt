@@ -1,0 +1,27 @@
+//! Why a text is no program or its program is refused, by the lines of the text.
+//!
+//! `ways` finds two ways that meet with different typestates (V7), and `differences` the parts that
+//! differ. For a budget over its limit (V17 to V20) `heavy` finds the path, or the point of one,
+//! that counts most, and what each of its instructions adds.
+#![tactic(auto)]
+
+mod differences;
+pub mod earlier;
+mod explaining;
+pub mod heavy;
+pub mod laws;
+mod lines;
+pub mod parts;
+mod remedy;
+pub mod search;
+mod sentences;
+pub mod shares;
+pub mod top;
+pub mod trail;
+pub mod walk;
+pub mod ways;
+mod weights;
+
+pub use explaining::{Output, explain, text_fault};
+pub use remedy::{Remedy, label_remedy};
+pub use sentences::remedy_sentence;

@@ -1,0 +1,191 @@
+//! The parts of a typestate in words.
+
+ghost use Rattle.std.specs.Prelude.{◌≡◌, ◌↔◌, ◌++◌, IsTrue, OnOk, IfOk};
+ghost use Rattle.std.specs.List.{AllByRecursion};
+ghost use Rattle.std.specs.String.{string_bytes};
+ghost use Rattle.sts_list.specs.Spelling.{after_spaces, joiner_words, timed_words};
+ghost use Rattle.look_refusal.specs.Differences as def;
+ghost use Rattle.look_refusal.specs.Reading.{IsHeldKind, IsHeldEntry, IsHeldLoop, IsHeldIn};
+
+use std::alloc::{AllocError, Global};
+use std::fmt::Write;
+use sts_list::write_joiner;
+use sts_model::Stack;
+use sts_rules::{Known, SlotKind, TypedEntry, TypedLoop, TypedPhase, TypedScope};
+use sts_types::TypeState;
+
+/// A part of a typestate: the number of operands, the open loops, the open scopes and bindings, or
+/// what is known of a slot.
+#[derive(Clone, Copy, Debug, PartialEq, Eq)]
+pub enum Part {
+    Operands,
+    Loops,
+    Open,
+    Slot(u8),
+}
+
+/// Are two typestates the same in this part?
+pub(crate) fn is_same_part(part: Part, one: &TypeState, other: &TypeState) -> bool
+    ensures { IsTrue result ↔ def.IsSamePart part one.now other.now }
+{
+    match part {
+        Part::Operands => one.height() == other.height(),
+        Part::Loops => one.loops().as_slice() == other.loops().as_slice(),
+        Part::Open => one.entries().as_slice() == other.entries().as_slice(),
+        Part::Slot(slot) => one.kind(slot) == other.kind(slot),
+    }
+}
+
+fn known_word(known: Known) -> &'static str
+    ensures { result.now ≡ def.known_word known }
+{
+    match known {
+        Known::Unknown => "unknown",
+        Known::Success => "success",
+        Known::Failed => "failed",
+    }
+}
+
+fn write_kind(out: &mut String, kind: SlotKind) -> Result<(), AllocError>
+    ensures words { OnOk result (string_bytes out.new
+        ≡ string_bytes out.old ++ def.kind_words kind) }
+    ensures held { IsHeldKind kind }
+{
+    match kind {
+        SlotKind::Empty => write!(out, " empty"),
+        SlotKind::Own => write!(out, " a scope"),
+        SlotKind::Lent => write!(out, " the scope it is in"),
+        SlotKind::Sub(slot, known) => {
+            let word = known_word(known);
+            write!(out, " {word}, of s{slot}")
+        }
+    }
+}
+
+fn write_timed(out: &mut String, timed: bool) -> Result<(), AllocError>
+    ensures { OnOk result (string_bytes out.new
+        ≡ string_bytes out.old ++ after_spaces (timed_words timed)) }
+{
+    if timed { write!(out, " timed") } else { Ok(()) }
+}
+
+fn write_phase(out: &mut String, phase: TypedPhase) -> Result<(), AllocError>
+    ensures { OnOk result (string_bytes out.new ≡ string_bytes out.old ++ def.phase_words phase) }
+{
+    match phase {
+        TypedPhase::Opened => write!(out, " opened"),
+        TypedPhase::Attempted => write!(out, " attempted"),
+        TypedPhase::Joined => write!(out, " joined"),
+        TypedPhase::Late => write!(out, " late"),
+    }
+}
+
+fn write_scope(out: &mut String, scope: TypedScope) -> Result<(), AllocError>
+    ensures words { OnOk result (string_bytes out.new
+        ≡ string_bytes out.old ++ def.entry_words (TypedEntry.Scope scope)) }
+    ensures held { IsHeldEntry (TypedEntry.Scope scope) }
+{
+    let slot = scope.slot;
+    write!(out, " (s{slot}")?;
+    write_joiner(out, scope.joiner)?;
+    write_timed(out, scope.timed)?;
+    write_phase(out, scope.phase)?;
+    write!(out, ")")
+}
+
+fn write_entry(out: &mut String, entry: TypedEntry) -> Result<(), AllocError>
+    ensures words { OnOk result (string_bytes out.new
+        ≡ string_bytes out.old ++ def.entry_words entry) }
+    ensures held { IsHeldEntry entry }
+{
+    match entry {
+        TypedEntry::Scope(scope) => write_scope(out, scope),
+        TypedEntry::Binding(key) => write!(out, " (key {key})"),
+    }
+}
+
+fn write_entries(out: &mut String, entries: &Stack<TypedEntry, 16>) -> Result<(), AllocError>
+    ensures words { OnOk result (string_bytes out.new
+        ≡ string_bytes out.old ++ def.listed def.entry_words entries.now) }
+    ensures held { OnOk result (AllByRecursion IsHeldEntry entries.now) }
+{
+    if entries.len() == 0 {
+        return write!(out, " none");
+    }
+    for n in 0..entries.len() {
+        write_entry(out, entries.get_or(n, TypedEntry::Binding(0)))?;
+    }
+    Ok(())
+}
+
+fn write_loop(out: &mut String, around: TypedLoop) -> Result<(), AllocError>
+    ensures words { OnOk result (string_bytes out.new
+        ≡ string_bytes out.old ++ def.loop_words around) }
+    ensures held { IsHeldLoop around }
+{
+    let at = around.at;
+    let entries = around.entries;
+    write!(out, " (times at {at}, {entries} open)")
+}
+
+fn write_loops(out: &mut String, loops: &Stack<TypedLoop, 8>) -> Result<(), AllocError>
+    ensures words { OnOk result (string_bytes out.new
+        ≡ string_bytes out.old ++ def.listed def.loop_words loops.now) }
+    ensures held { OnOk result (AllByRecursion IsHeldLoop loops.now) }
+{
+    if loops.len() == 0 {
+        return write!(out, " none");
+    }
+    for n in 0..loops.len() {
+        write_loop(out, loops.get_or(n, TypedLoop { at: 0, entries: 0 }))?;
+    }
+    Ok(())
+}
+
+fn write_part(out: &mut String, part: Part, state: &TypeState) -> Result<(), AllocError>
+    ensures words { OnOk result (string_bytes out.new
+        ≡ string_bytes out.old ++ def.part_words part state.now) }
+    ensures held { OnOk result (IsHeldIn part state.now) }
+{
+    match part {
+        Part::Operands => {
+            let height = state.height();
+            write!(out, " {height}")
+        }
+        Part::Loops => write_loops(out, state.loops()),
+        Part::Open => write_entries(out, state.entries()),
+        Part::Slot(slot) => write_kind(out, state.kind(slot)),
+    }
+}
+
+/// A part of a typestate in words, each after a space.
+///
+/// # Errors
+///
+/// Memory was refused.
+pub(crate) fn part_words(alloc: Global, part: Part, state: &TypeState) -> Result<String, AllocError>
+    ensures words { IfOk result (λ s. string_bytes s ≡ def.part_words part state.now) }
+
+    // Its numbers are of 64 bits: of two typestates that differ in it the words differ too.
+    ensures held { OnOk result (IsHeldIn part state.now) }
+{
+    let mut out = String::new(alloc);
+    write_part(&mut out, part, state)?;
+    Ok(out)
+}
+
+/// The name of a part of a typestate.
+///
+/// # Errors
+///
+/// Memory was refused.
+pub(crate) fn part_name(alloc: Global, part: Part) -> Result<String, AllocError>
+    ensures { IfOk result (λ s. string_bytes s ≡ def.part_name part) }
+{
+    match part {
+        Part::Operands => format!(in alloc; "operands"),
+        Part::Loops => format!(in alloc; "open loops"),
+        Part::Open => format!(in alloc; "open, the last one first"),
+        Part::Slot(slot) => format!(in alloc; "slot s{slot}"),
+    }
+}

@@ -1,0 +1,158 @@
+//! What is searched: the sums of one resource in one function.
+
+ghost use Rattle.std.specs.Prelude.{◌≡◌, ◌<◌, ◌≤◌, length, IsTrue, true, ◌↔◌};
+ghost use Rattle.sts_budget.specs.Ready.{IsLaidFor, head_in};
+ghost use Rattle.sts_code.specs.Program.{instr_at};
+ghost use Rattle.sts_rules.specs.ControlPaths.{Among};
+ghost use Rattle.look_refusal.specs.Search as def;
+
+use sts_budget::{
+    Layout, Resource, added_of, change_of, depth_of, names_at, next_places, source_of,
+};
+use sts_code::{Instr, MAX_ENTRIES};
+use sts_rules::Budgets;
+
+/// A resource, the budgets of the functions before, the function's code and its layout.
+#[derive(Clone, Copy)]
+pub struct Search<'s> {
+    pub resource: Resource,
+    pub earlier: &'s [Budgets],
+    pub code: &'s [Instr],
+    pub layout: &'s Layout,
+}
+
+/// A place of the code, and over how many of the entries that are open there the sum goes, from the
+/// outermost.
+#[derive(Clone, Copy)]
+pub struct Spot {
+    pub place: u32,
+    pub depth: usize,
+}
+
+/// A loop: the places of its `times` and its `next`, and its most turns.
+#[derive(Clone, Copy)]
+pub struct Loop {
+    pub head: u32,
+    pub end: u32,
+    pub turns: u16,
+}
+
+/// How many entries count at a place.
+pub(crate) fn depth_at(search: &Search<'_>, pc: usize) -> usize
+    requires ready { def.IsReady search.now }
+    requires in_code { pc < length search.now.code.now }
+    ensures value { result ≡ (def.flow search.now).depth pc }
+    ensures bound { result ≤ MAX_ENTRIES }
+{
+    depth_of(search.resource, names_at(search.layout, pc))
+}
+
+/// Over how many entries the sum goes before the instruction.
+pub(crate) fn depth_before(search: &Search<'_>, pc: usize, depth: usize) -> usize
+    requires ready { def.IsReady search.now }
+    requires in_code { pc < length search.now.code.now }
+    ensures { result ≡ (def.flow search.now).source pc depth }
+{
+    let names = names_at(search.layout, pc);
+    let change = change_of(search.resource, search.earlier, search.code[pc], names);
+    source_of(change, depth_of(search.resource, names), depth)
+}
+
+/// What the instruction adds to the sum.
+pub(crate) fn added_at(search: &Search<'_>, pc: usize, depth: usize) -> u128
+    requires ready { def.IsReady search.now }
+    requires in_code { pc < length search.now.code.now }
+    ensures { result ≡ (def.flow search.now).added pc depth }
+{
+    let names = names_at(search.layout, pc);
+    let change = change_of(search.resource, search.earlier, search.code[pc], names);
+    added_of(change, depth_of(search.resource, names), depth) as u128
+}
+
+/// Does the instruction end a loop's turn?
+pub(crate) fn ends_turn(instr: Instr) -> bool
+    ensures { result ≡ def.ends_turn instr }
+{
+    matches!(instr, Instr::Next)
+}
+
+/// Does the instruction end the path?
+pub(crate) fn ends_path(instr: Instr) -> bool
+    ensures { result ≡ def.ends_path instr }
+{
+    matches!(instr, Instr::Ret | Instr::Fail)
+}
+
+/// The most turns of the loop that the instruction opens.
+pub(crate) fn turns_of(instr: Instr) -> u16
+    ensures { result ≡ def.turns_of instr }
+{
+    match instr {
+        Instr::Times(turns) => turns,
+        _ => 0,
+    }
+}
+
+/// May a path be told up to this place? Steps are told of whole paths.
+pub(crate) fn may_end(search: &Search<'_>, pc: usize) -> bool
+    requires { pc < length search.now.code.now }
+    ensures { result ≡ def.may_end search.now pc }
+{
+    match search.resource {
+        Resource::Steps => ends_path(search.code[pc]),
+        _ => true,
+    }
+}
+
+/// Is the place one of these?
+fn is_among(places: &[u32], to: u32) -> bool
+    ensures { IsTrue result ↔ Among places.now to }
+{
+    for i in 0..places.len() {
+        if places[i] == to {
+            return true;
+        }
+    }
+    false
+}
+
+/// Does the instruction, which opens no loop, lead from one place to the other? At the end of a
+/// turn that is on from its loop.
+pub(crate) fn leads_on(search: &Search<'_>, from: u32, to: u32) -> bool
+    requires ready { def.IsReady search.now }
+    requires in_code { from < length search.now.code.now }
+    ensures { IsTrue result ↔ def.LeadsOn search.now from to }
+{
+    let instr = search.code[from as usize];
+    turns_of(instr) == 0 && is_among(next_places(instr, from).as_slice(), to)
+}
+
+/// The loop that opens at a place.
+pub(crate) fn loop_from(search: &Search<'_>, head: u32) -> Loop
+    requires ready { def.IsReady search.now }
+    requires opens { def.OpensLoop search.now head }
+    ensures head { result.head ≡ head }
+    ensures right { def.IsLoop search.now result }
+{
+    Loop {
+        head,
+        end: search.layout.mates[head as usize],
+        turns: turns_of(search.code[head as usize]),
+    }
+}
+
+/// The loop that ends at a place.
+pub(crate) fn loop_to(search: &Search<'_>, end: u32) -> Loop
+    requires ready { def.IsReady search.now }
+    requires in_code { end < length search.now.code.now }
+    requires ends { def.ends_turn (instr_at search.now.code.now end) ≡ true }
+    ensures head { result.head ≡ head_in search.now.layout.now end }
+    ensures end { result.end ≡ end }
+    ensures before { result.head < end }
+    ensures right { def.IsLoop search.now result }
+{
+    match search.layout.heads[end as usize] {
+        Some(head) => loop_from(search, head),
+        None => unreachable!(),
+    }
+}

@@ -1,0 +1,188 @@
+//! A trail: for each place the one before it on the way there that adds most, found by one pass.
+
+ghost use Rattle.std.specs.Prelude.{◌≡◌, ◌<◌, ◌≤◌, ◌+◌, ℕ, length, get_or, IfOk, IsTrue, IsFalse};
+ghost use Rattle.std.specs.Prelude.{MatchOption, None, []};
+ghost use Rattle.look_refusal.specs.Search as def;
+ghost use Rattle.look_refusal.specs.Trail as trails;
+
+use crate::search::{
+    Loop, Search, Spot, added_at, depth_at, depth_before, ends_turn, leads_on, loop_to,
+};
+use std::alloc::{AllocError, Global};
+
+/// The greatest sum over the first entries at a place, since the turn of the innermost loop began,
+/// and the place before it on that way.
+#[derive(Clone, Copy)]
+pub(crate) struct Best {
+    sum: u128,
+    from: Option<u32>,
+}
+
+/// For each number of entries the best.
+type Row = [Best; 17];
+
+/// For each place a row.
+#[derive(Drop)]
+pub(crate) struct Trail {
+    rows: Vec<Row>,
+}
+
+/// Where no way was found.
+fn no_way() -> Best
+    ensures { result ≡ trails.no_way }
+{
+    Best { sum: 0, from: None }
+}
+
+fn in_row(row: &[Best], depth: usize) -> Best
+    ensures { result ≡ get_or row.now depth trails.no_way }
+{
+    if depth < row.len() {
+        row[depth]
+    } else {
+        no_way()
+    }
+}
+
+fn best_at(trail: &Trail, place: usize, depth: usize) -> Best
+    ensures { result ≡ trails.best_in trail.now place depth }
+{
+    if place < trail.rows.len() {
+        in_row(&trail.rows[place], depth)
+    } else {
+        no_way()
+    }
+}
+
+/// The sum that the trail has at a place over so many entries.
+pub(crate) fn sum_at(trail: &Trail, place: usize, depth: usize) -> u128
+    ensures { result ≡ trails.sum_in trail.now place depth }
+{
+    best_at(trail, place, depth).sum
+}
+
+/// The place before a spot.
+pub(crate) fn before(trail: &Trail, at: Spot) -> Option<u32>
+    ensures { result ≡ (trails.best_in trail.now at.place at.depth).from }
+{
+    best_at(trail, at.place as usize, at.depth).from
+}
+
+/// What stands after so many turns of a loop, where so much stood at its `times`, if 128 bits hold
+/// it.
+pub(crate) fn after_turns(
+    search: &Search<'_>,
+    trail: &Trail,
+    around: Loop,
+    turns: u128,
+    depth: usize,
+    before: u128,
+) -> Option<u128>
+    requires ready { def.IsReady search.now }
+    requires around { def.IsLoop search.now around }
+    ensures { MatchOption result
+        (trails.greatest_number < trails.looped search.now (trails.sum_in trail.now)
+        around.head around.end turns before depth)
+        (λ sum. sum ≡ trails.looped search.now (trails.sum_in trail.now)
+        around.head around.end turns before depth) }
+{
+    let opened = before.checked_add(added_at(search, around.head as usize, depth))?;
+    if turns == 0 {
+        return Some(opened);
+    }
+    let end = around.end as usize;
+    let turn = sum_at(trail, end, depth).checked_add(added_at(search, end, depth))?;
+    opened.checked_add(turns.checked_mul(turn)?)
+}
+
+/// What an instruction hands on, if 128 bits hold it.
+fn handed(search: &Search<'_>, trail: &Trail, pc: u32, depth: usize) -> Option<u128>
+    requires ready { def.IsReady search.now }
+    requires in_code { pc < length search.now.code.now }
+    ensures { MatchOption result
+        (trails.greatest_number < trails.handed search.now (trails.sum_in trail.now) pc depth)
+        (λ sum. sum ≡ trails.handed search.now (trails.sum_in trail.now) pc depth) }
+{
+    if ends_turn(search.code[pc as usize]) {
+        let around = loop_to(search, pc);
+        let before = sum_at(trail, around.head as usize, depth);
+        return after_turns(search, trail, around, around.turns as u128, depth, before);
+    }
+    let before = sum_at(trail, pc as usize, depth_before(search, pc as usize, depth));
+    before.checked_add(added_at(search, pc as usize, depth))
+}
+
+/// The old one, unless the new one adds more.
+fn better(old: Best, new: Best) -> Best
+    ensures { result ≡ trails.better old new }
+{
+    if old.from.is_none() || old.sum < new.sum {
+        new
+    } else {
+        old
+    }
+}
+
+/// Keeps the ways from one place to the other: false where 128 bits don't hold a sum.
+fn keep_ways(search: &Search<'_>, trail: &Trail, from: u32, to: u32, row: &mut Row) -> bool
+    requires ready { def.IsReady search.now }
+    requires from_in_code { from < length search.now.code.now }
+    requires to_in_code { to < length search.now.code.now }
+    requires leads { def.LeadsOn search.now from to }
+    requires row { trails.IsRow search.now (trails.sum_in trail.now) from to row.old }
+    ensures kept { IsTrue result →
+        trails.IsRow search.now (trails.sum_in trail.now) (from + 1) to row.new }
+    ensures over { IsFalse result →
+        trails.HandsTooMuch search.now (trails.sum_in trail.now) from to }
+{
+    for depth in 0..depth_at(search, to as usize) + 1 {
+        match handed(search, trail, from, depth) {
+            Some(sum) => {
+                let way = Best {
+                    sum,
+                    from: Some(from),
+                };
+                row[depth] = better(row[depth], way);
+            }
+            None => return false,
+        }
+    }
+    true
+}
+
+/// The best ways to a place, where the trail has those to the places before it; none where 128 bits
+/// don't hold a sum.
+fn row_at(search: &Search<'_>, trail: &Trail, to: u32) -> Option<Row>
+    requires ready { def.IsReady search.now }
+    requires in_code { to < length search.now.code.now }
+    ensures { MatchOption result
+        ((from : ℕ) × ((from < to) × def.LeadsOn search.now from to
+        × trails.HandsTooMuch search.now (trails.sum_in trail.now) from to))
+        (trails.IsRow search.now (trails.sum_in trail.now) to to) }
+{
+    let mut row = [no_way(); 17];
+    for from in 0..to {
+        if leads_on(search, from, to) && !keep_ways(search, trail, from, to, &mut row) {
+            return None;
+        }
+    }
+    Some(row)
+}
+
+/// The trail of a function, or none where 128 bits don't hold a sum.
+pub(crate) fn find_trail(alloc: Global, search: &Search<'_>) -> Result<Option<Trail>, AllocError>
+    requires { def.IsReady search.now }
+    ensures { IfOk result
+        (λ o. MatchOption o (trails.IsTooWide search.now) (trails.IsTrail search.now)) }
+{
+    let mut trail = Trail {
+        rows: Vec::new(alloc),
+    };
+    for to in 0..search.code.len() as u32 {
+        match row_at(search, &trail, to) {
+            Some(row) => trail.rows.push(row)?,
+            None => return Ok(None),
+        }
+    }
+    Ok(Some(trail))
+}

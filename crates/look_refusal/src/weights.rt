@@ -1,0 +1,188 @@
+//! The lines of a path, or a point of one, that weighs too much.
+
+ghost use Rattle.std.specs.Prelude.{◌≡◌, ◌<◌, ◌≤◌, ◌++◌, OnOk, length};
+ghost use Rattle.look_refusal.specs.Weights as def;
+
+use crate::heavy::Heavy;
+use look_text::{say, say_place};
+use std::alloc::{AllocError, Global};
+use sts_asm::Outline;
+use sts_budget::Resource;
+use sts_code::MAX_INSTRUCTIONS;
+
+/// How many lines are shown at most.
+const SHOWN: usize = 50;
+
+fn count_words(resource: Resource) -> &'static str
+    ensures { result.now ≡ def.count_words resource }
+{
+    match resource {
+        Resource::Steps => " steps on a path that ends here",
+        Resource::Tasks => " tasks count here",
+        Resource::Scopes => " scopes are open here",
+        Resource::Binds => " bindings are open here",
+    }
+}
+
+/// What the function counts beside its instructions.
+fn own_line(resource: Resource) -> &'static str
+    ensures { result.now ≡ def.own_line resource }
+{
+    match resource {
+        Resource::Steps => "adds 1, its last step\n",
+        Resource::Tasks => "adds 1, the task itself\n",
+        Resource::Scopes => "",
+        Resource::Binds => "",
+    }
+}
+
+/// Does one place add more than this one, or as much and stands before it?
+fn is_weightier(shares: &[u128], this: usize, one: usize) -> bool
+    requires this { this < length shares.now }
+    requires one { one < length shares.now }
+    ensures { result ≡ def.is_weightier shares.now this one }
+{
+    shares[this] < shares[one] || (shares[one] == shares[this] && one < this)
+}
+
+/// One, if so.
+fn one_if(so: bool) -> usize
+    ensures value { result ≡ def.one_if so }
+    ensures small { result ≤ 1 }
+{
+    if so { 1 } else { 0 }
+}
+
+/// How many places are weightier.
+fn rank(shares: &[u128], this: usize) -> usize
+    requires { this < length shares.now }
+    ensures { result ≡ def.rank shares.now this }
+{
+    let mut rank = 0;
+    for one in 0..shares.len() {
+        rank += one_if(is_weightier(shares, this, one));
+    }
+    rank
+}
+
+/// Is the place one of the weightiest, and adds anything?
+fn is_shown(shares: &[u128], this: usize) -> bool
+    requires { this < length shares.now }
+    ensures { result ≡ def.is_shown shares.now this }
+{
+    0 < shares[this] && rank(shares, this) < SHOWN
+}
+
+/// Does the place add something, and is not shown?
+fn is_other(shares: &[u128], this: usize) -> bool
+    requires { this < length shares.now }
+    ensures { result ≡ def.is_other shares.now this }
+{
+    0 < shares[this] && !is_shown(shares, this)
+}
+
+/// How many others add something.
+fn others(shares: &[u128]) -> usize
+    ensures { result ≡ def.others shares.now }
+{
+    let mut count = 0;
+    for one in 0..shares.len() {
+        count += one_if(is_other(shares, one));
+    }
+    count
+}
+
+/// The line of a place that is shown.
+fn say_share(
+    alloc: Global,
+    out: &mut Vec<u8>,
+    outline: &Outline<'_>,
+    function: u32,
+    shares: &[u128],
+    place: usize,
+) -> Result<(), AllocError>
+    requires place { place < length shares.now }
+    requires short { length shares.now ≤ MAX_INSTRUCTIONS }
+    ensures { OnOk result (out.new.items
+        ≡ out.old.items ++ def.share_line outline.now function shares.now place) }
+{
+    if !is_shown(shares, place) {
+        return Ok(());
+    }
+    let amount = shares[place];
+    let head = format!(in alloc; "adds {amount}")?;
+    say(out, head.as_str())?;
+    say_place(alloc, out, outline.sentence(function, place as u32))?;
+    say(out, "\n")
+}
+
+fn say_shares(
+    alloc: Global,
+    out: &mut Vec<u8>,
+    outline: &Outline<'_>,
+    function: u32,
+    shares: &[u128],
+) -> Result<(), AllocError>
+    requires { length shares.now ≤ MAX_INSTRUCTIONS }
+    ensures { OnOk result (out.new.items
+        ≡ out.old.items ++ def.share_lines outline.now function shares.now) }
+{
+    for place in 0..shares.len() {
+        say_share(alloc, out, outline, function, shares, place)?;
+    }
+    Ok(())
+}
+
+fn say_others(alloc: Global, out: &mut Vec<u8>, count: usize) -> Result<(), AllocError>
+    ensures { OnOk result (out.new.items ≡ out.old.items ++ def.others_line count) }
+{
+    if count == 0 {
+        return Ok(());
+    }
+    let line = format!(in alloc; "other lines that add something, none of them more: {count}\n")?;
+    say(out, line.as_str())
+}
+
+/// What weighs too much, and where.
+fn say_weight(
+    alloc: Global,
+    out: &mut Vec<u8>,
+    outline: &Outline<'_>,
+    function: u32,
+    resource: Resource,
+    heavy: &Heavy,
+) -> Result<(), AllocError>
+    ensures { OnOk result (out.new.items
+        ≡ out.old.items ++ def.weight_line outline.now function resource heavy.now) }
+{
+    let weight = heavy.weight;
+    let head = format!(in alloc; "{weight}")?;
+    say(out, head.as_str())?;
+    say(out, count_words(resource))?;
+    say_place(alloc, out, outline.sentence(function, heavy.place))?;
+    say(out, "\n")
+}
+
+/// What weighs too much, and a line for each of the instructions that add most to it.
+///
+/// # Errors
+///
+/// Memory was refused; a part of them may then stand in `out`.
+pub(crate) fn weight_lines(
+    alloc: Global,
+    out: &mut Vec<u8>,
+    outline: &Outline<'_>,
+    function: u32,
+    resource: Resource,
+    heavy: &Heavy,
+) -> Result<(), AllocError>
+    requires { length heavy.now.shares.items ≤ MAX_INSTRUCTIONS }
+    ensures { OnOk result (out.new.items
+        ≡ out.old.items ++ def.weight_lines outline.now function resource heavy.now) }
+{
+    say_weight(alloc, out, outline, function, resource, heavy)?;
+    let shares = heavy.shares.as_slice();
+    say_shares(alloc, out, outline, function, shares)?;
+    say_others(alloc, out, others(shares))?;
+    say(out, own_line(resource))
+}

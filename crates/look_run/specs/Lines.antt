@@ -1,0 +1,122 @@
+-- The lines that say how a run stands after a trace, by the lines of its text (this project's own).
+use Rattle.std.specs.Prelude.{ℕ, ◌+◌, ◌-◌, List, [], ◌∷◌, ◌++◌, Bool, ◌&&◌, nat_le, if◌then◌else◌}
+use Rattle.std.specs.Prelude.{Option, Some, None, codes, length, map, slice_get}
+use Rattle.std.specs.Fmt.{decimal}
+use Rattle.sts_text.specs.Words.{lines}
+use Rattle.sts_code.specs.Program.{Program, routine}
+use Rattle.sts_model.specs.declared.event.Fault.{Fault}
+use Rattle.sts_model.specs.declared.event.Stand.{Stand}
+use Rattle.sts_model.specs.declared.event.Stand.TheVariants.{Free, AtJoin, AtClose}
+use Rattle.sts_model.specs.declared.record.Task.{Task}
+use Rattle.sts_model.specs.Living.{is_living_subtask, lives}
+use Rattle.sts_model.specs.Waiting.{can_step, stand_at}
+use Rattle.sts_model.specs.World.{World, task_at}
+use Rattle.sts_asm.specs.Outline.{Outline}
+use Rattle.sts_asm.specs.Source.{sentence_at}
+use Rattle.sts_plain.specs.declared.misstep.PlainState.{PlainState}
+use Rattle.sts_plain.specs.declared.misstep.PlainState.TheVariants as plain
+use Rattle.sts_trace.specs.declared.error.TraceError.{TraceError}
+use Rattle.sts_trace.specs.declared.error.TraceError.TheVariants as trace
+use Rattle.sts_output.specs.Printed.{end_line, fault_word}
+use Rattle.look_text.specs.Lines.{place_words}
+use Rattle.look_refusal.specs.Sentences.{remedy_sentence}
+use Rattle.look_run.specs.Remedies.{remedy}
+use Rattle.look_run.specs.Sentences.{trace_sentence}
+
+-- ---- a task at a place
+
+-- `task 1 in kid, line 3: close s0`, the words as they stand in the text
+abbrev pub task_place : Program → Outline → ℕ → ℕ → ℕ → List ℕ
+task_place p o t f pc =
+    codes "task " ++ decimal t ++ codes " in " ++ (routine p f).name
+    ++ place_words (sentence_at o f pc)
+
+-- what to do about a fault of a task, which lives
+abbrev pub remedy_line : Program → World → Fault → ℕ → List ℕ
+remedy_line p w kind t =
+    if lives (task_at w t) then remedy_sentence (remedy p w t kind) ++ codes "\n" else []
+
+-- `fault Structure, task 1 in kid, line 3: close s0`, and what to do about it
+abbrev pub fault_lines : Program → Outline → World → Fault → ℕ → ℕ → ℕ → List ℕ
+fault_lines p o w kind t f pc =
+    codes "fault " ++ fault_word kind ++ codes ", " ++ task_place p o t f pc ++ codes "\n"
+    ++ remedy_line p w kind t
+
+-- how the run is: `running`, `success V`, `failed C`, or its fault, where this is the world before
+-- it
+abbrev pub state_lines : Program → Outline → World → PlainState → List ℕ
+state_lines p o w plain.Running = codes "running\n"
+state_lines p o w (plain.Ended end) = end_line end
+state_lines p o w (plain.Fault kind t f pc) = fault_lines p o w kind t f pc
+
+-- ---- who waits where
+
+-- the task's number, where it is a subtask of the scope that lives
+abbrev pub subtask_word : World → ℕ → ℕ → List ℕ
+subtask_word w s t = if is_living_subtask s (task_at w t) then codes " " ++ decimal t else []
+
+-- those of these tasks that are living subtasks of the scope, the first of which has this number
+abbrev pub subtask_words : World → ℕ → List Task → ℕ → List ℕ
+subtask_words w s [] t = []
+subtask_words w s (x ∷ xs) t = subtask_word w s t ++ subtask_words w s xs (t + 1)
+
+-- `waits at join of scope 0 for 1 3`
+abbrev pub wait_for : World → List ℕ → ℕ → List ℕ
+wait_for w word s =
+    codes "waits at " ++ word ++ codes " of scope " ++ decimal s ++ codes " for"
+    ++ subtask_words w s w.tasks 0
+
+-- what a task waits for that can't step; where it is free it can
+abbrev pub wait_words : World → Stand → List ℕ
+wait_words w Free = []
+wait_words w (AtJoin s) = wait_for w (codes "join") s
+wait_words w (AtClose s) = wait_for w (codes "close") s
+
+-- how a living task stands
+abbrev pub life_words : Program → World → ℕ → List ℕ
+life_words p w t = if can_step p w t then codes "ready" else wait_words w (stand_at p w t)
+
+-- `task 0 in main, line 12: join s0 - - intr (waits at join of scope 0 for 1 3)`
+abbrev pub task_line : Program → Outline → World → ℕ → List ℕ
+task_line p o w t =
+    task_place p o t (task_at w t).frame.function (task_at w t).frame.pc ++ codes " ("
+    ++ life_words p w t ++ codes ")\n"
+
+-- a line for a task that lives
+abbrev pub living_line : Program → Outline → World → ℕ → List ℕ
+living_line p o w t = if lives (task_at w t) then task_line p o w t else []
+
+-- the lines of those of these tasks that live, the first of which has this number
+abbrev pub living_lines : Program → Outline → World → List Task → ℕ → List ℕ
+living_lines p o w [] t = []
+living_lines p o w (x ∷ xs) t = living_line p o w t ++ living_lines p o w xs (t + 1)
+
+-- ---- a fault of a trace
+
+abbrev pub trace_number : TraceError → ℕ
+trace_number (trace.BadLine n) = 1
+trace_number (trace.BadNumber n) = 2
+trace_number trace.NoNewline = 3
+trace_number trace.Memory = 4
+
+-- the number of the line that a fault is of; bytes behind the last newline are the last line
+abbrev pub line_number : List ℕ → TraceError → ℕ
+line_number text (trace.BadLine n) = n
+line_number text (trace.BadNumber n) = n
+line_number text trace.NoNewline = length (lines text)
+line_number text trace.Memory = 0
+
+-- a byte that isn't from the space to `~` is shown as `?`
+abbrev pub shown_byte : ℕ → ℕ
+shown_byte b = if nat_le 32 b && nat_le b 126 then b else 63
+
+abbrev pub shown_line : Option (List ℕ) → List ℕ
+shown_line None = []
+shown_line (Some line) = map shown_byte line
+
+-- `error T1, line 2: "stp 0"`, and what is wrong
+abbrev pub trace_fault_lines : List ℕ → TraceError → List ℕ
+trace_fault_lines text e =
+    codes "error T" ++ decimal (trace_number e) ++ codes ", line " ++ decimal (line_number text e)
+    ++ codes ": \"" ++ shown_line (slice_get (lines text) (line_number text e - 1)) ++ codes "\"\n"
+    ++ trace_sentence e ++ codes "\n"

@@ -1,0 +1,43 @@
+-- What is printed of a text and a trace, and the status that goes with it (this project's own).
+use Rattle.std.specs.Prelude.{◌≡◌, ◌⊎◌, ℕ, List, ◌++◌, Result, Ok, Err}
+use Rattle.sts_code.specs.Program.{Program}
+use Rattle.sts_model.specs.declared.event.Event.{Event}
+use Rattle.sts_asm.specs.Outline.{Outline}
+use Rattle.sts_asm.specs.Source.{outlined}
+use Rattle.sts_asm.specs.Text.{judged}
+use Rattle.sts_asm.specs.declared.fault.AsmError.{AsmError}
+use Rattle.sts_plain.specs.Seen.{shown}
+use Rattle.sts_trace.specs.Reading.{trace_read}
+use Rattle.sts_trace.specs.declared.error.TraceError.{TraceError}
+use Rattle.sts_output.specs.Output.{Output, memory_output, state_status}
+use Rattle.look_refusal.specs.Output.{fault_output}
+use Rattle.look_lines.specs.Watched.{Watched, watched}
+use Rattle.look_run.specs.Lines.{living_lines, state_lines, trace_fault_lines}
+
+-- how the machine stands, then each task that lives; at a fault as they stood before it
+abbrev pub run_lines : Outline → Watched → List ℕ
+run_lines o m =
+    state_lines m.program o m.last (shown m.state) ++ living_lines m.program o m.last m.last.tasks 0
+
+-- the status is that of the state: 0 where the root succeeded, 1 where it failed, else 5
+abbrev pub watched_output : Outline → Watched → Output
+watched_output o m = record { bytes = run_lines o m; status = state_status (shown m.state) }
+
+abbrev pub trace_fault_output : List ℕ → TraceError → Output
+trace_fault_output text e = record { bytes = trace_fault_lines text e; status = 3 }
+
+-- of the events that a trace spells, or of its first fault
+abbrev pub traced_output : Program → Outline → List ℕ → Result (List Event) TraceError → Output
+traced_output p o trace (Ok events) = watched_output o (watched p events)
+traced_output p o trace (Err e) = trace_fault_output trace e
+
+-- a fault of the text comes before one of the trace; no verdict is asked for
+abbrev pub Explains : Result Program AsmError → List ℕ → List ℕ → Output → Type 0
+Explains (Ok p) text trace output =
+    (o : Outline) × ((outlined text ≡ Ok o) × (output ≡ traced_output p o trace (trace_read trace)))
+Explains (Err e) text trace output = output ≡ fault_output e text
+
+-- the explanation of a run of a text, or that memory was refused
+abbrev pub IsRunExplanation : List ℕ → List ℕ → Output → Type 0
+IsRunExplanation text trace output =
+    Explains (judged text) text trace output ⊎ (output ≡ memory_output)

@@ -1,0 +1,269 @@
+//! The lines of a run: how it stands, and where each task that lives is and for whom it waits.
+
+ghost use Rattle.std.specs.Prelude.{◌≡◌, ◌++◌, ◌<◌, OnOk, length, true};
+ghost use Rattle.sts_model.specs.Living as living;
+ghost use Rattle.sts_model.specs.World as model;
+ghost use Rattle.sts_output.specs.Printed.{end_line};
+ghost use Rattle.look_run.specs.Lines as def;
+
+use crate::remedy::remedy_of;
+use look_refusal::remedy_sentence;
+use look_text::{say, say_place};
+use std::alloc::{AllocError, Global};
+use sts_asm::Outline;
+use sts_code::{Program, name_of};
+use sts_model::{End, Fault, Stand};
+use sts_output::printed;
+use sts_plain::{PlainState, can_step, stand_at};
+use sts_world::{Records, World};
+
+/// A program, and the lines of its text.
+#[derive(Clone, Copy)]
+pub(crate) struct Told<'p, 'o, 't> {
+    pub(crate) program: &'p Program,
+    pub(crate) outline: &'o Outline<'t>,
+}
+
+/// `task T in NAME, line L: WORDS`
+fn say_task(
+    alloc: Global,
+    out: &mut Vec<u8>,
+    told: Told<'_, '_, '_>,
+    t: u32,
+    function: u32,
+    pc: u32,
+) -> Result<(), AllocError>
+    ensures { OnOk result (out.new.items ≡ out.old.items
+        ++ def.task_place told.entry.program.now told.entry.outline.now t function pc) }
+{
+    let name = name_of(told.program, function);
+    let head = format!(in alloc; "task {t} in {name}")?;
+    say(out, head.as_str())?;
+    say_place(alloc, out, told.outline.sentence(function, pc))
+}
+
+/// What to do about a fault of a task, which lives.
+fn say_remedy(
+    out: &mut Vec<u8>,
+    program: &Program,
+    records: &Records,
+    kind: Fault,
+    t: u32,
+) -> Result<(), AllocError>
+    ensures { OnOk result (out.new.items
+        ≡ out.old.items ++ def.remedy_line program.now records.now kind t) }
+{
+    if !records.lives(t) {
+        return Ok(());
+    }
+    say(out, remedy_sentence(remedy_of(program, records, t, kind)))?;
+    say(out, "\n")
+}
+
+/// The lines of a fault: what it is, where it is, and what to do about it.
+fn say_fault(
+    alloc: Global,
+    out: &mut Vec<u8>,
+    told: Told<'_, '_, '_>,
+    records: &Records,
+    kind: Fault,
+    task: u32,
+    function: u32,
+    pc: u32,
+) -> Result<(), AllocError>
+    ensures { OnOk result (out.new.items ≡ out.old.items
+        ++ def.fault_lines told.entry.program.now told.entry.outline.now records.now kind task
+        function pc) }
+{
+    say(out, "fault ")?;
+    say(out, printed::fault_word(kind))?;
+    say(out, ", ")?;
+    say_task(alloc, out, told, task, function, pc)?;
+    say(out, "\n")?;
+    say_remedy(out, told.program, records, kind, task)
+}
+
+fn say_end(alloc: Global, out: &mut Vec<u8>, end: End) -> Result<(), AllocError>
+    ensures { OnOk result (out.new.items ≡ out.old.items ++ end_line end) }
+{
+    let mut line = String::new(alloc);
+    printed::end_line(&mut line, end)?;
+    say(out, line.as_str())
+}
+
+/// How the run is; the records are those before a fault.
+///
+/// # Errors
+///
+/// Memory was refused; a part of it may then stand in `out`.
+pub(crate) fn say_state(
+    alloc: Global,
+    out: &mut Vec<u8>,
+    told: Told<'_, '_, '_>,
+    records: &Records,
+    state: PlainState,
+) -> Result<(), AllocError>
+    ensures { OnOk result (out.new.items ≡ out.old.items
+        ++ def.state_lines told.entry.program.now told.entry.outline.now records.now state) }
+{
+    match state {
+        PlainState::Running => say(out, "running\n"),
+        PlainState::Ended(end) => say_end(alloc, out, end),
+        PlainState::Fault {
+            kind,
+            task,
+            function,
+            pc,
+        } => say_fault(alloc, out, told, records, kind, task, function, pc),
+    }
+}
+
+/// Is the task a living subtask of the scope?
+fn is_living_subtask(records: &Records, s: u32, t: u32) -> bool
+    ensures { result ≡ living.is_living_subtask s (model.task_at records.now t) }
+{
+    match records.parent(t) {
+        None => false,
+        Some(parent) => parent == s && records.lives(t),
+    }
+}
+
+fn say_subtask(
+    alloc: Global,
+    out: &mut Vec<u8>,
+    records: &Records,
+    s: u32,
+    t: u32,
+) -> Result<(), AllocError>
+    ensures { OnOk result (out.new.items ≡ out.old.items ++ def.subtask_word records.now s t) }
+{
+    if !is_living_subtask(records, s, t) {
+        return Ok(());
+    }
+    let word = format!(in alloc; " {t}")?;
+    say(out, word.as_str())
+}
+
+/// The living subtasks of a scope.
+fn say_subtasks(
+    alloc: Global,
+    out: &mut Vec<u8>,
+    records: &Records,
+    s: u32,
+) -> Result<(), AllocError>
+    ensures { OnOk result (out.new.items ≡ out.old.items
+        ++ def.subtask_words records.now s records.now.tasks 0) }
+{
+    for t in 0..records.tasks_born() {
+        say_subtask(alloc, out, records, s, t as u32)?;
+    }
+    Ok(())
+}
+
+/// `waits at join of scope S for T ..`
+fn say_wait_for(
+    alloc: Global,
+    out: &mut Vec<u8>,
+    records: &Records,
+    word: &str,
+    s: u32,
+) -> Result<(), AllocError>
+    ensures { OnOk result (out.new.items ≡ out.old.items ++ def.wait_for records.now word.now s) }
+{
+    let head = format!(in alloc; "waits at {word} of scope {s} for")?;
+    say(out, head.as_str())?;
+    say_subtasks(alloc, out, records, s)
+}
+
+/// What a task waits for that can't step.
+fn say_wait(
+    alloc: Global,
+    out: &mut Vec<u8>,
+    records: &Records,
+    stand: Stand,
+) -> Result<(), AllocError>
+    ensures { OnOk result (out.new.items ≡ out.old.items ++ def.wait_words records.now stand) }
+{
+    match stand {
+        Stand::Free => Ok(()),
+        Stand::AtJoin(s) => say_wait_for(alloc, out, records, "join", s),
+        Stand::AtClose(s) => say_wait_for(alloc, out, records, "close", s),
+    }
+}
+
+/// How a living task stands.
+fn say_life(
+    alloc: Global,
+    out: &mut Vec<u8>,
+    program: &Program,
+    world: &World,
+    t: u32,
+) -> Result<(), AllocError>
+    requires born { t < length world.now.tasks }
+    requires lives { living.lives (model.task_at world.now t) ≡ true }
+    ensures { OnOk result (out.new.items ≡ out.old.items
+        ++ def.life_words program.now world.now t) }
+{
+    if can_step(world, program, t) {
+        return say(out, "ready");
+    }
+    say_wait(alloc, out, world.records(), stand_at(world, program, t))
+}
+
+/// `task T in NAME, line L: WORDS (ready)`
+fn say_task_line(
+    alloc: Global,
+    out: &mut Vec<u8>,
+    told: Told<'_, '_, '_>,
+    world: &World,
+    t: u32,
+) -> Result<(), AllocError>
+    requires born { t < length world.now.tasks }
+    requires lives { living.lives (model.task_at world.now t) ≡ true }
+    ensures { OnOk result (out.new.items ≡ out.old.items
+        ++ def.task_line told.entry.program.now told.entry.outline.now world.now t) }
+{
+    let records = world.records();
+    say_task(alloc, out, told, t, records.function(t), records.pc(t))?;
+    say(out, " (")?;
+    say_life(alloc, out, told.program, world, t)?;
+    say(out, ")\n")
+}
+
+fn say_if_living(
+    alloc: Global,
+    out: &mut Vec<u8>,
+    told: Told<'_, '_, '_>,
+    world: &World,
+    t: u32,
+) -> Result<(), AllocError>
+    ensures { OnOk result (out.new.items ≡ out.old.items
+        ++ def.living_line told.entry.program.now told.entry.outline.now world.now t) }
+{
+    if world.records().lives(t) {
+        say_task_line(alloc, out, told, world, t)
+    } else {
+        Ok(())
+    }
+}
+
+/// The lines of the tasks that live.
+///
+/// # Errors
+///
+/// Memory was refused; a part of them may then stand in `out`.
+pub(crate) fn say_living(
+    alloc: Global,
+    out: &mut Vec<u8>,
+    told: Told<'_, '_, '_>,
+    world: &World,
+) -> Result<(), AllocError>
+    ensures { OnOk result (out.new.items ≡ out.old.items
+        ++ def.living_lines told.entry.program.now told.entry.outline.now world.now world.now.tasks
+        0) }
+{
+    for t in 0..world.records().tasks_born() {
+        say_if_living(alloc, out, told, world, t as u32)?;
+    }
+    Ok(())
+}

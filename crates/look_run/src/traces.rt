@@ -1,0 +1,116 @@
+//! The lines of a fault of a trace.
+
+ghost use Rattle.std.specs.Prelude.{◌≡◌, ◌≢◌, ◌++◌, ◌-◌, IfOk, OnOk, length, map, slice_get};
+ghost use Rattle.std.specs.Option.{option_copied};
+ghost use Rattle.sts_text.specs.Words.{lines};
+ghost use Rattle.sts_trace.specs.declared.error.TraceError.TheVariants.{Memory};
+ghost use Rattle.look_run.specs.Lines as def;
+ghost use Rattle.look_run.specs.Output.{trace_fault_output};
+
+use crate::sentences::trace_sentence;
+use look_refusal::Output;
+use look_text::say;
+use std::alloc::{AllocError, Global};
+use sts_trace::TraceError;
+
+/// How many lines a text has; the last is what stands behind the last newline.
+fn line_count(text: &[u8]) -> usize
+    ensures { result ≡ length (lines text.now) }
+{
+    text.split(|b| *b == b'\n').count()
+}
+
+/// The line of this number, counted from 1.
+fn line_at(text: &[u8], number: u64) -> Option<&[u8]>
+    ensures { option_copied result ≡ slice_get (lines text.now) (number - 1) }
+{
+    text.split(|b| *b == b'\n')
+        .nth(number.saturating_sub(1) as usize)
+}
+
+fn trace_number(error: TraceError) -> u8
+    ensures { result ≡ def.trace_number error }
+{
+    match error {
+        TraceError::BadLine(_) => 1,
+        TraceError::BadNumber(_) => 2,
+        TraceError::NoNewline => 3,
+        TraceError::Memory => 4,
+    }
+}
+
+/// The number of the line that a fault is of.
+fn line_number(text: &[u8], error: TraceError) -> u64
+    ensures { result ≡ def.line_number text.now error }
+{
+    match error {
+        TraceError::BadLine(n) | TraceError::BadNumber(n) => n,
+        TraceError::NoNewline => line_count(text) as u64,
+        TraceError::Memory => 0,
+    }
+}
+
+fn shown_byte(b: u8) -> u8
+    ensures { result ≡ def.shown_byte b }
+{
+    if 32 <= b && b <= 126 { b } else { b'?' }
+}
+
+/// The bytes of a line, as they are shown.
+fn say_line(out: &mut Vec<u8>, line: Option<&[u8]>) -> Result<(), AllocError>
+    ensures { OnOk result (out.new.items ≡ out.old.items
+        ++ def.shown_line (option_copied line.entry)) }
+{
+    match line {
+        None => Ok(()),
+        Some(line) => say_bytes(out, line),
+    }
+}
+
+fn say_bytes(out: &mut Vec<u8>, line: &[u8]) -> Result<(), AllocError>
+    ensures { OnOk result (out.new.items ≡ out.old.items ++ map def.shown_byte line.now) }
+{
+    for b in line {
+        out.push(shown_byte(*b))?;
+    }
+    Ok(())
+}
+
+/// The lines of a fault of a trace: where it is, the line as it stands, and what is wrong.
+fn say_fault(
+    alloc: Global,
+    out: &mut Vec<u8>,
+    text: &[u8],
+    error: TraceError,
+) -> Result<(), AllocError>
+    ensures { OnOk result (out.new.items ≡ out.old.items ++ def.trace_fault_lines text.now error) }
+{
+    let number = trace_number(error);
+    let line = line_number(text, error);
+    let head = format!(in alloc; "error T{number}, line {line}: \"")?;
+    say(out, head.as_str())?;
+    say_line(out, line_at(text, line))?;
+    say(out, "\"\n")?;
+    say(out, trace_sentence(error))?;
+    say(out, "\n")
+}
+
+/// The output for a fault of a trace; want of memory is no fault of it.
+///
+/// # Errors
+///
+/// Memory was refused.
+pub(crate) fn trace_fault(
+    alloc: Global,
+    text: &[u8],
+    error: TraceError,
+) -> Result<Output, AllocError>
+    ensures { IfOk result (λ o. (error ≢ Memory) × (o ≡ trace_fault_output text.now error)) }
+{
+    if matches!(error, TraceError::Memory) {
+        return Err(AllocError);
+    }
+    let mut bytes = Vec::new(alloc);
+    say_fault(alloc, &mut bytes, text, error)?;
+    Ok(Output { bytes, status: 3 })
+}

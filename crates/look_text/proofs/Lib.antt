@@ -1,0 +1,14 @@
+pub mod ExpectedLemmas
+pub mod FailLemmas
+pub mod HeadLaw
+pub mod HeadLemmas
+pub mod LabelLaw
+pub mod LineLemmas
+pub mod NameLemmas
+pub mod NameLineLemmas
+pub mod NearLemmas
+pub mod OperandLemmas
+pub mod PlaceLemmas
+pub mod StandLemmas
+pub mod StopLemmas
+pub mod TextLemmas

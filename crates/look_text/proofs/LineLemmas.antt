@@ -1,0 +1,39 @@
+-- Texts that are said one after the other (for callers too), and a wrong word behind others.
+use Rattle.std.proofs.Common.{◌≡◌, ℕ, List, [], ◌∷◌, ◌++◌, true, sym, ap, ◌∙◌, append_assoc}
+use Rattle.std.specs.Prelude.{if◌then◌else◌, Some, codes}
+use Rattle.std.proofs.lemmas.List.{append-nil}
+use Rattle.sts_list.specs.Spelling.{after_spaces}
+use Rattle.look_text.specs.declared.wanted.Wanted.{Wanted}
+use Rattle.look_text.specs.Wanted.{Stop, stop, behind, fits, after}
+use Rattle.look_text.specs.Wrong.{bracketed, expected_words, wanted_words, stop_words}
+
+-- three texts, one after the other
+pub three_said : (a b d before one two three : List ℕ) → one ≡ before ++ a → two ≡ one ++ b → three ≡ two ++ d → three ≡ before ++ (a ++ (b ++ d))
+three_said a b d before one two three e f g =
+    g ∙ ap (λ (x : List ℕ). x ++ d) (f ∙ ap (λ (x : List ℕ). x ++ b) e ∙ append_assoc before a b)
+    ∙ append_assoc before (a ++ b) d ∙ ap (λ (x : List ℕ). before ++ x) (append_assoc a b d)
+
+pub behind_words : (word : List ℕ) (s : Stop) → stop_words (behind word s) ≡ (32 ∷ word) ++ stop_words s
+behind_words word s =
+    ap (λ (x : List ℕ). x ++ wanted_words s.wanted s.word) (append_assoc (32 ∷ word) (after_spaces s.before) (bracketed s.word))
+    ∙ append_assoc (32 ∷ word) (after_spaces s.before ++ bracketed s.word) (wanted_words s.wanted s.word)
+
+stop_behind : (wanted : Wanted) (word : List ℕ) (left : List (List ℕ)) → fits wanted word ≡ true → stop wanted (word ∷ left) ≡ behind word (stop (after wanted word) left)
+stop_behind wanted word left e = ap (λ b. if b then behind word (stop (after wanted word) left) else record { before = []; word = Some word; wanted = wanted }) e
+
+-- no word may be meant by one that is missing
+pub missing_words : (wanted : Wanted) → stop_words (stop wanted []) ≡ codes " []" ++ expected_words wanted
+missing_words wanted = ap (λ (x : List ℕ). codes " []" ++ x) (append-nil (expected_words wanted))
+
+-- a word that is what is wanted was said after a space
+pub one_word_said : (wanted next : Wanted) (word : List ℕ) (words left : List (List ℕ)) (before space after_word : List ℕ) → words ≡ word ∷ left → fits wanted word ≡ true → next ≡ after wanted word → space ≡ before ++ 32 ∷ [] → after_word ≡ space ++ word → after_word ++ stop_words (stop next left) ≡ before ++ stop_words (stop wanted words)
+one_word_said wanted next word words left before space after_word e f n g h =
+    let rest : List ℕ = stop_words (stop (after wanted word) left) in
+    let said : after_word ≡ before ++ (32 ∷ word) = h ∙ ap (λ (x : List ℕ). x ++ word) g ∙ append_assoc before (32 ∷ []) word in
+    let whole : stop_words (stop wanted words) ≡ (32 ∷ word) ++ rest = ap (λ (ws : List (List ℕ)). stop_words (stop wanted ws)) e ∙ ap stop_words (stop_behind wanted word left f) ∙ behind_words word (stop (after wanted word) left) in
+    ap (λ (w : Wanted). after_word ++ stop_words (stop w left)) n ∙ ap (λ (x : List ℕ). x ++ rest) said ∙ append_assoc before (32 ∷ word) rest
+    ∙ ap (λ (x : List ℕ). before ++ x) (sym whole)
+
+-- one text more
+pub said_on : (before said more first second : List ℕ) → first ≡ before ++ said → second ≡ first ++ more → second ≡ before ++ (said ++ more)
+said_on before said more first second e f = f ∙ ap (λ (x : List ℕ). x ++ more) e ∙ append_assoc before said more

@@ -1,0 +1,14 @@
+pub mod Checks
+pub mod Failing
+pub mod Functions
+pub mod Heads
+pub mod Inside
+pub mod Labels
+pub mod Lines
+pub mod Names
+pub mod Near
+pub mod Places
+pub mod Sentences
+pub mod Wanted
+pub mod Wrong
+pub mod WrongWord

@@ -1,0 +1,78 @@
+-- The known word that a wrong one is near to (this project's own).
+use Rattle.std.specs.Prelude.{ℕ, List, [], ◌∷◌, drop, length, Bool, true, false, ◌||◌, ◌&&◌, ◌==◌, nat_lt}
+use Rattle.std.specs.Prelude.{if◌then◌else◌, codes, Option, find}
+use Rattle.std.specs.Option.{option_or}
+use Rattle.std.specs.Str.{bytes_eq}
+use Rattle.look_text.specs.declared.wanted.Wanted.{Wanted}
+use Rattle.look_text.specs.declared.wanted.Wanted.TheVariants as w
+
+-- ---- two words
+
+-- the first two letters change places
+abbrev pub is_swapped : List ℕ → List ℕ → Bool
+is_swapped (a ∷ b ∷ xs) (c ∷ d ∷ ys) = a == d && (b == c && bytes_eq xs ys)
+is_swapped xs ys = false
+
+-- the first letter is changed, left out or added, or changes places with the second
+abbrev pub is_one_off : List ℕ → List ℕ → Bool
+is_one_off a b =
+    bytes_eq (drop 1 a) (drop 1 b) || (bytes_eq (drop 1 a) b || (bytes_eq a (drop 1 b)
+    || is_swapped a b))
+
+-- one letter apart, after what both begin with
+abbrev pub is_one_apart : List ℕ → List ℕ → Bool
+is_one_apart [] ys = length ys == 1
+is_one_apart (x ∷ xs) [] = length (x ∷ xs) == 1
+is_one_apart (x ∷ xs) (y ∷ ys) =
+    if x == y then is_one_apart xs ys else is_one_off (x ∷ xs) (y ∷ ys)
+
+-- one of them begins with the other, and is longer
+abbrev pub begins_other : List ℕ → List ℕ → Bool
+begins_other [] ys = nat_lt 0 (length ys)
+begins_other (x ∷ xs) [] = true
+begins_other (x ∷ xs) (y ∷ ys) = x == y && begins_other xs ys
+
+-- ---- the words of the language
+
+-- those that begin a line in a function
+abbrev pub inner_words : List (List ℕ)
+inner_words =
+    codes "push" ∷ codes "pop" ∷ codes "dup" ∷ codes "swap" ∷ codes "load" ∷ codes "store"
+    ∷ codes "add" ∷ codes "sub" ∷ codes "mul" ∷ codes "div" ∷ codes "lt" ∷ codes "eq"
+    ∷ codes "jmp" ∷ codes "jz" ∷ codes "times" ∷ codes "next" ∷ codes "open" ∷ codes "fork"
+    ∷ codes "join" ∷ codes "close" ∷ codes "cancelled" ∷ codes "case" ∷ codes "get"
+    ∷ codes "except" ∷ codes "tally" ∷ codes "total" ∷ codes "forget" ∷ codes "bind"
+    ∷ codes "unbind" ∷ codes "read" ∷ codes "bound" ∷ codes "orelse" ∷ codes "interrupted"
+    ∷ codes "ret" ∷ codes "fail" ∷ codes "end" ∷ []
+
+abbrev pub outer_words : List (List ℕ)
+outer_words = codes "func" ∷ codes "profile" ∷ []
+
+abbrev pub joiner_words : List (List ℕ)
+joiner_words =
+    codes "all" ∷ codes "any" ∷ codes "awaitall" ∷ codes "awaitok" ∷ codes "until" ∷ []
+
+abbrev pub condition_words : List (List ℕ)
+condition_words = codes "failed" ∷ codes "success" ∷ codes "atleast" ∷ []
+
+-- those that may be expected at a place of a line
+abbrev pub known_words : Wanted → List (List ℕ)
+known_words w.Inner = inner_words
+known_words w.Outer = outer_words
+known_words w.Joiner = joiner_words
+known_words w.Condition = condition_words
+known_words w.Timed = codes "timed" ∷ []
+known_words w.Needs = codes "needs" ∷ []
+known_words wanted = []
+
+-- ---- the near one
+
+-- The first of these words that is one letter apart; else the first that begins the word or that
+-- it begins. So `jnz`, `gt` and `puhs` are near jz, lt and push, and `return` is near ret. There is
+-- no table of words from other languages: most have no single counterpart here.
+abbrev pub near_of : List (List ℕ) → List ℕ → Option (List ℕ)
+near_of words word = option_or (find (is_one_apart word) words) (find (begins_other word) words)
+
+-- the word that may be meant by one that isn't what is expected there
+abbrev pub meant : Wanted → List ℕ → Option (List ℕ)
+meant wanted word = near_of (known_words wanted) word

@@ -1,0 +1,98 @@
+-- The wrong word or byte of a line, in its place (this project's own).
+use Rattle.std.specs.Prelude.{◌≡◌, ℕ, ◌+◌, List, [], ◌∷◌, ◌++◌, Option, Some, None}
+use Rattle.std.specs.Prelude.{codes, if◌then◌else◌}
+use Rattle.std.specs.Fmt.{decimal}
+use Rattle.std.specs.Str.{bytes_eq}
+use Rattle.sts_asm.specs.Marks.{Names}
+use Rattle.sts_asm.specs.Outline.{Outline, Sentence, is_allowed}
+use Rattle.sts_asm.specs.Source.{line_at, words_at}
+use Rattle.sts_asm.specs.declared.fault.AsmKind.{AsmKind}
+use Rattle.sts_asm.specs.declared.fault.AsmKind.TheVariants.{NotAscii, UnknownLabel, BadOperands}
+use Rattle.sts_list.specs.Spelling.{after_spaces}
+use Rattle.look_text.specs.Inside.{is_inside}
+use Rattle.look_text.specs.Near.{meant}
+use Rattle.look_text.specs.Names.{line_stop, lines_stop, unknown_name}
+use Rattle.look_text.specs.Wanted.{Stop, wrong_place}
+use Rattle.look_text.specs.declared.wanted.Wanted.{Wanted}
+use Rattle.look_text.specs.Functions.{functions_of}
+use Rattle.look_text.specs.Sentences.{wanted_sentence, join_form}
+
+-- ` [seven]`, or ` []` where a word is missing
+abbrev pub bracketed : Option (List ℕ) → List ℕ
+bracketed None = codes " []"
+bracketed (Some word) = codes " [" ++ word ++ codes "]"
+
+-- `did you mean push?`
+abbrev pub meant_line : Option (List ℕ) → List ℕ
+meant_line None = []
+meant_line (Some known) = codes "did you mean " ++ known ++ codes "?\n"
+
+-- the word that may be meant, if a word is there and one is near to it
+abbrev pub meant_words : Wanted → Option (List ℕ) → List ℕ
+meant_words wanted None = []
+meant_words wanted (Some word) = meant_line (meant wanted word)
+
+-- `: expected S, F or U`
+abbrev pub expected_words : Wanted → List ℕ
+expected_words wanted = codes ": expected " ++ wanted_sentence wanted ++ codes "\n"
+
+-- what is expected, and the word that may be meant
+abbrev pub wanted_words : Wanted → Option (List ℕ) → List ℕ
+wanted_words wanted word = expected_words wanted ++ meant_words wanted word
+
+-- ` push [seven]: expected a number from -9223372036854775808 to 9223372036854775807`
+abbrev pub stop_words : Stop → List ℕ
+stop_words s = after_spaces s.before ++ bracketed s.word ++ wanted_words s.wanted s.word
+
+-- the line of a fault that is of one word
+abbrev pub wrong_line : Option Stop → List ℕ
+wrong_line None = []
+wrong_line (Some s) = codes "at" ++ stop_words s
+
+-- `at jz [there]: expected a label before an instruction of this function`
+abbrev pub named_line : Stop → List ℕ
+named_line s = codes "at" ++ stop_words s
+
+-- the first of these lines with a word that names nothing
+pub record StopsAt (names : Names) (lines : List Sentence) (s : Sentence) : Type 0 where
+  pub stop : Stop
+  pub here : line_stop names s.words ≡ Some stop
+  pub first : lines_stop names lines ≡ Some stop
+
+-- the line of a name that there isn't, by the functions of a text, if they were read
+abbrev pub unknown_line : Option Outline → List ℕ
+unknown_line None = []
+unknown_line (Some o) = wrong_line (unknown_name o)
+
+-- `at column 7: byte 200`
+abbrev pub byte_words : ℕ → ℕ → List ℕ
+byte_words column byte =
+    codes "at column " ++ decimal column ++ codes ": byte " ++ decimal byte ++ codes "\n"
+
+-- of a line, whose first column has this number, the first byte that isn't allowed
+abbrev pub byte_line : ℕ → List ℕ → List ℕ
+byte_line column [] = []
+byte_line column (byte ∷ rest) =
+    if is_allowed byte then byte_line (column + 1) rest else byte_words column byte
+
+abbrev pub byte_line_of : Option (List ℕ) → List ℕ
+byte_line_of None = []
+byte_line_of (Some line) = byte_line 1 line
+
+-- the form of a line that begins with these words: that of `join`, whose labels go by their order
+abbrev pub form_line : List (List ℕ) → List ℕ
+form_line [] = []
+form_line (word ∷ rest) = if bytes_eq word (codes "join") then join_form ++ codes "\n" else []
+
+-- the form of the line, for the fault of an operand
+abbrev pub form_part : AsmKind → List (List ℕ) → List ℕ
+form_part BadOperands words = form_line words
+form_part kind words = []
+
+-- what is wrong in the line of a fault, where it is a word or a byte
+abbrev pub wrong_part : AsmKind → List ℕ → ℕ → List ℕ
+wrong_part UnknownLabel text line = unknown_line (functions_of text)
+wrong_part NotAscii text line = byte_line_of (line_at text line)
+wrong_part kind text line =
+    wrong_line (wrong_place kind (is_inside text line) (words_at text line))
+    ++ form_part kind (words_at text line)

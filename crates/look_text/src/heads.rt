@@ -1,0 +1,48 @@
+//! The line that begins a function.
+
+ghost use Rattle.std.specs.Prelude.{◌≡◌, ◌<◌, ◌≤◌, ◌-◌, true, length, if◌then◌else◌};
+ghost use Rattle.look_text.specs.Heads as def;
+
+use sts_asm::words_at;
+use sts_text::{Words, cut_at_newline};
+
+fn is_head<'a>(words: Words<'a>) -> bool
+    ensures { result ≡ def.is_head words.entry }
+{
+    let mut words = words;
+    match words.word() {
+        None => false,
+        Some(word) => word == b"func".as_slice(),
+    }
+}
+
+/// How many functions are to be passed behind a line.
+fn left_behind(is_head: bool, left: usize) -> usize
+    requires { is_head ≡ true → 0 < left }
+    ensures { result ≡ (if is_head then left - 1 else left) }
+{
+    if is_head { left - 1 } else { left }
+}
+
+/// The number of the line that begins a function, where the functions are counted from 0.
+pub(crate) fn head_line(text: &[u8], function: usize) -> Option<u32>
+    requires { length text.now ≤ 1048576 }
+    ensures { result ≡ def.head_at text.now function }
+{
+    let mut rest = text;
+    let mut left = function;
+    let mut number: u32 = 1;
+    while let Some((_, after)) = cut_at_newline(rest) {
+        let begins = is_head(words_at(rest, 1));
+        if begins && left == 0 {
+            return Some(number);
+        }
+        left = left_behind(begins, left);
+        rest = after;
+        number += 1;
+    }
+    if is_head(words_at(rest, 1)) && left == 0 {
+        return Some(number);
+    }
+    None
+}

@@ -1,0 +1,24 @@
+//! Why a text is no program, by its lines.
+//!
+//! `lines` says where a fault of the text is and what is wrong, with the wrong word or byte in its
+//! place. `wanted` has what is expected at each place of a line, and `names` finds a name that the
+//! text hasn't. The laws in `stops` say that the word which is reported is the one at which the
+//! assembler's reading fails. Those in `laws` tie the lines to their instructions.
+#![tactic(auto)]
+
+mod checks;
+mod failing;
+mod functions;
+mod heads;
+mod inside;
+mod labels;
+pub mod laws;
+mod lines;
+pub mod names;
+mod near;
+mod sentences;
+pub mod stops;
+pub mod wanted;
+mod wrong;
+
+pub use lines::{fault_lines, say, say_place};

@@ -1,0 +1,168 @@
+//! The known word that a wrong one is near to.
+
+ghost use Rattle.std.specs.Prelude.{◌≡◌, ◌<◌, length, option_map, map, find};
+ghost use Rattle.look_text.specs.Near as def;
+
+use crate::wanted::Wanted;
+
+static INNER_WORDS: [&str; 36] = [
+    "push",
+    "pop",
+    "dup",
+    "swap",
+    "load",
+    "store",
+    "add",
+    "sub",
+    "mul",
+    "div",
+    "lt",
+    "eq",
+    "jmp",
+    "jz",
+    "times",
+    "next",
+    "open",
+    "fork",
+    "join",
+    "close",
+    "cancelled",
+    "case",
+    "get",
+    "except",
+    "tally",
+    "total",
+    "forget",
+    "bind",
+    "unbind",
+    "read",
+    "bound",
+    "orelse",
+    "interrupted",
+    "ret",
+    "fail",
+    "end",
+];
+
+static OUTER_WORDS: [&str; 2] = ["func", "profile"];
+
+static JOINER_WORDS: [&str; 5] = ["all", "any", "awaitall", "awaitok", "until"];
+
+static CONDITION_WORDS: [&str; 3] = ["failed", "success", "atleast"];
+
+static TIMED_WORDS: [&str; 1] = ["timed"];
+
+static NEEDS_WORDS: [&str; 1] = ["needs"];
+
+/// Do the first two letters change places?
+fn is_swapped(word: &[u8], known: &[u8]) -> bool
+    ensures { result ≡ def.is_swapped word.now known.now }
+{
+    word.len() >= 2
+        && known.len() >= 2
+        && word[0] == known[1]
+        && word[1] == known[0]
+        && &word[2..] == &known[2..]
+}
+
+/// Is the first letter changed, left out or added, or does it change places with the second?
+fn is_one_off(word: &[u8], known: &[u8]) -> bool
+    requires word { 0 < length word.now }
+    requires known { 0 < length known.now }
+    ensures { result ≡ def.is_one_off word.now known.now }
+{
+    &word[1..] == &known[1..]
+        || &word[1..] == known
+        || word == &known[1..]
+        || is_swapped(word, known)
+}
+
+/// Are the words one letter apart, after what both begin with?
+#[tactic(auto, using(crate::proofs::NearLemmas::one_apart_on))]
+fn is_one_apart(word: &[u8], known: &[u8]) -> bool
+    ensures { result ≡ def.is_one_apart word.now known.now }
+{
+    let mut word = word;
+    let mut known = known;
+    while !word.is_empty() {
+        if known.is_empty() {
+            return word.len() == 1;
+        }
+        if word[0] != known[0] {
+            return is_one_off(word, known);
+        }
+        word = &word[1..];
+        known = &known[1..];
+    }
+    known.len() == 1
+}
+
+/// Does one of the words begin with the other, and is longer?
+#[tactic(auto, using(crate::proofs::NearLemmas::begins_on))]
+fn begins_other(word: &[u8], known: &[u8]) -> bool
+    ensures { result ≡ def.begins_other word.now known.now }
+{
+    let mut word = word;
+    let mut known = known;
+    while !word.is_empty() {
+        if known.is_empty() {
+            return true;
+        }
+        if word[0] != known[0] {
+            return false;
+        }
+        word = &word[1..];
+        known = &known[1..];
+    }
+    !known.is_empty()
+}
+
+/// The words that may be expected at a place of a line.
+fn known_words(wanted: Wanted) -> &'static [&'static str]
+    ensures { map (λ w. w.now) result.now ≡ def.known_words wanted }
+{
+    match wanted {
+        Wanted::Inner => &INNER_WORDS,
+        Wanted::Outer => &OUTER_WORDS,
+        Wanted::Joiner => &JOINER_WORDS,
+        Wanted::Condition => &CONDITION_WORDS,
+        Wanted::Timed => &TIMED_WORDS,
+        Wanted::Needs => &NEEDS_WORDS,
+        _ => &[],
+    }
+}
+
+fn one_apart_among(word: &[u8], words: &[&'static str]) -> Option<&'static str>
+    ensures { option_map (λ w. w.now) result
+        ≡ find (def.is_one_apart word.now) (map (λ w. w.now) words.now) }
+{
+    for known in words {
+        if is_one_apart(word, known.as_bytes()) {
+            return Some(*known);
+        }
+    }
+    None
+}
+
+fn begun_among(word: &[u8], words: &[&'static str]) -> Option<&'static str>
+    ensures { option_map (λ w. w.now) result
+        ≡ find (def.begins_other word.now) (map (λ w. w.now) words.now) }
+{
+    for known in words {
+        if begins_other(word, known.as_bytes()) {
+            return Some(*known);
+        }
+    }
+    None
+}
+
+/// The word that may be meant by one that isn't what is expected there.
+pub(crate) fn meant(wanted: Wanted, word: &[u8]) -> Option<&'static str>
+    ensures { option_map (λ w. w.now) result ≡ def.meant wanted word.now }
+{
+    let words = known_words(wanted);
+    match one_apart_among(word, words) {
+        Some(known) => Some(known),
+        None => begun_among(word, words),
+    }
+}

@@ -1,0 +1,187 @@
+//! What each fault of a text says, and what is expected at each place, in a sentence: the one
+//! table of them.
+
+ghost use Rattle.std.specs.Prelude.{◌≡◌, IfOk};
+ghost use Rattle.std.specs.Option.{option_copied};
+ghost use Rattle.look_text.specs.Functions.{functions_of};
+ghost use Rattle.look_text.specs.Sentences as def;
+
+use crate::checks::takes_too_many;
+use crate::functions::functions_of;
+use crate::wanted::{Wanted, begins_line};
+use std::alloc::{AllocError, Global};
+use sts_asm::{AsmKind, Outline, words_at};
+use sts_code::{CodeCause, CodeError};
+use sts_text::Words;
+
+/// Why functions are no program, C1 to C7; of a bad range that of an instruction.
+fn code_sentence(code: CodeCause) -> &'static str
+    ensures { result.now ≡ def.code_sentence code }
+{
+    match code {
+        CodeCause::TooManyFunctions => "there are more than 64 functions",
+        CodeCause::TooLong => "the function has more than 4096 instructions",
+        CodeCause::BadTarget => "no instruction follows this label",
+        CodeCause::LaterFunction => "fork only a function that is written above this one",
+        CodeCause::NoMain => "the text must end with a function main 0, without needs",
+        CodeCause::BadRange => "a number here is out of its range",
+        CodeCause::DuplicateName => "an earlier function has the same name",
+    }
+}
+
+/// The same by the function that the check is of: its arguments, if there is one, and whether it
+/// has the instruction.
+fn check_sentence(code: CodeCause, args: Option<u8>, has_instr: bool) -> &'static str
+    ensures { result.now ≡ def.check_sentence code args has_instr }
+{
+    match code {
+        CodeCause::BadRange => {
+            if takes_too_many(args) {
+                "a function takes at most 8 arguments"
+            } else if has_instr {
+                code_sentence(code)
+            } else {
+                "the function has no instruction: add ret or fail before its end"
+            }
+        }
+        _ => code_sentence(code),
+    }
+}
+
+/// By the functions of a text, if they were read.
+fn checked_sentence(outline: Option<&Outline<'_>>, error: CodeError) -> &'static str
+    ensures { result.now ≡ def.checked_sentence (option_copied outline.entry) error }
+{
+    match outline {
+        None => code_sentence(error.cause),
+        Some(outline) => check_sentence(
+            error.cause,
+            outline.args(error.function),
+            outline.sentence(error.function, error.pc).is_some(),
+        ),
+    }
+}
+
+/// What is wrong with the first word of a line.
+fn first_sentence(word: &[u8]) -> &'static str
+    ensures { result.now ≡ def.first_sentence word.now }
+{
+    if word == b"profile".as_slice() {
+        "profile must be line 1, above comments and empty lines"
+    } else if begins_line(word) {
+        "this belongs inside a function, below its func line"
+    } else {
+        "no line begins with this word"
+    }
+}
+
+fn unknown_sentence<'a>(words: Words<'a>) -> &'static str
+    ensures { result.now ≡ def.unknown_sentence words.entry }
+{
+    let mut words = words;
+    match words.word() {
+        None => "",
+        Some(word) => first_sentence(word),
+    }
+}
+
+/// What is wrong with a text, A1 to A10.
+fn kind_sentence(kind: AsmKind) -> &'static str
+    ensures { result.now ≡ def.kind_sentence kind }
+{
+    match kind {
+        AsmKind::NotAscii => {
+            "a byte that isn't allowed: use printable ASCII, tab and carriage return"
+        }
+        AsmKind::UnknownWord => "no line begins with this word",
+        AsmKind::BadNumber => "this must be a number in the range given below",
+        AsmKind::BadOperands => "an operand is missing, extra, misspelled or of the wrong kind",
+        AsmKind::UnknownLabel => {
+            "a label that isn't in this function, or a function that isn't in this text"
+        }
+        AsmKind::DuplicateLabel => "this function has that label already",
+        AsmKind::Unclosed => "a function is open here: an end is missing before this line",
+        AsmKind::TextTooLong => "the text has more than 1048576 bytes",
+        AsmKind::Memory => "out of memory",
+        AsmKind::Code(error) => code_sentence(error.cause),
+    }
+}
+
+fn of_check(alloc: Global, error: CodeError, text: &[u8]) -> Result<&'static str, AllocError>
+    ensures { IfOk result (λ s. s.now ≡ def.checked_sentence (functions_of text.now) error) }
+{
+    let outline = functions_of(alloc, text)?;
+    Ok(checked_sentence(outline.as_ref(), error))
+}
+
+/// What is wrong with a text, by the text and the line of the fault.
+///
+/// # Errors
+///
+/// Memory was refused.
+pub(crate) fn fault_sentence(
+    alloc: Global,
+    kind: AsmKind,
+    text: &[u8],
+    line: u32,
+) -> Result<&'static str, AllocError>
+    ensures { IfOk result (λ s. s.now ≡ def.fault_sentence kind text.now line) }
+{
+    match kind {
+        AsmKind::UnknownWord => Ok(unknown_sentence(words_at(text, line))),
+        AsmKind::Code(code) => of_check(alloc, code, text),
+        kind => Ok(kind_sentence(kind)),
+    }
+}
+
+/// The form of a line that begins with `join`.
+pub(crate) fn join_form() -> &'static str
+    ensures { result.now ≡ def.join_form }
+{
+    "a whole line: join SCOPE FAILED TIMEOUT INTERRUPTED, with - for the first two if none"
+}
+
+/// What is expected at a place of a line.
+pub(crate) fn wanted_sentence(wanted: Wanted) -> &'static str
+    ensures { result.now ≡ def.wanted_sentence wanted }
+{
+    match wanted {
+        Wanted::First =>
+            "an instruction, a label or end inside a function, func outside, profile on line 1",
+        Wanted::Inner => "an instruction, a label or end",
+        Wanted::Outer => "func, or profile on line 1",
+        Wanted::NewLabel => "a label that this function hasn't yet",
+        Wanted::KnownLabel => "a label before an instruction of this function",
+        Wanted::KnownFunction => "a function that is written above this one",
+        Wanted::Nothing => "nothing more",
+        Wanted::Byte => "a number from 0 to 15",
+        Wanted::Value => "a number from -9223372036854775808 to 9223372036854775807",
+        Wanted::Turns => "the bound, a number from 1 to 10000",
+        Wanted::Slot => "a slot, s0 to s15",
+        Wanted::Label => "the name of a label",
+        Wanted::OpenSlot => "the slot of the scope, s0 to s15",
+        Wanted::Joiner => "the joiner: all, any, awaitok, awaitall or until",
+        Wanted::Condition => "failed, success or atleast",
+        Wanted::Count => "how many of them, a number from 1 to 65536",
+        Wanted::Least =>
+            "the least value, a number from -9223372036854775808 to 9223372036854775807",
+        Wanted::Timed => "timed, or nothing more",
+        Wanted::ForkSlot => "the slot of the scope, s0 to s15",
+        Wanted::Function => "the name of the function",
+        Wanted::Handle => "the slot of the subtask, s0 to s15, or _ for none",
+        Wanted::JoinSlot => "the slot of the scope, s0 to s15",
+        Wanted::JoinFailed => "the label for failed, or - for none",
+        Wanted::JoinTimeout => "the label for timeout, or - for none",
+        Wanted::JoinInterrupted => "the label for interrupted",
+        Wanted::CaseSlot => "the slot of the subtask, s0 to s15",
+        Wanted::CaseSuccess => "the label for success",
+        Wanted::CaseFailed => "the label for failed",
+        Wanted::TallySlot => "the slot of the scope, s0 to s15",
+        Wanted::State => "S, F or U",
+        Wanted::Name => "the name of the function, which no earlier one has",
+        Wanted::Args => "how many arguments it takes, a number from 0 to 8",
+        Wanted::Needs => "needs, or nothing more",
+        Wanted::Key => "a key, a number from 0 to 15",
+        Wanted::Profile => "the profile, 1 or 2",
+    }
+}

@@ -1,0 +1,301 @@
+//! The wrong word or byte of a line, in its place.
+
+ghost use Rattle.std.specs.Prelude.{◌≡◌, ◌<◌, ◌++◌, [], OnOk, IfSome, MatchOption, Some, None, length};
+ghost use Rattle.std.specs.Prelude.{slice_get, option_map, codes};
+ghost use Rattle.std.specs.Option.{option_copied};
+ghost use Rattle.sts_asm.specs.Source.{line_at, names_at, sentences_of};
+ghost use Rattle.sts_asm.specs.Source.{words_at};
+ghost use Rattle.look_text.specs.Inside.{is_inside};
+ghost use Rattle.look_text.specs.Sentences.{join_form};
+ghost use Rattle.look_text.specs.Names.{line_stop, lines_stop, name_stop, unknown_name};
+ghost use Rattle.look_text.specs.Wanted.{stop, first_wrong, wrong_place};
+ghost use Rattle.look_text.specs.Functions.{functions_of};
+ghost use Rattle.look_text.specs.Wrong as def;
+
+use crate::functions::functions_of;
+use crate::inside::is_inside;
+use crate::lines::say;
+use crate::names::{known, names_nothing, names_some};
+use crate::near::meant;
+use crate::sentences::{join_form, wanted_sentence};
+use crate::wanted::{Wanted, in_place_of, operand};
+use std::alloc::{AllocError, Global};
+use sts_asm::{AsmKind, Outline, Sentence, is_allowed, line_at, words_at};
+use sts_text::Words;
+
+fn say_question(out: &mut Vec<u8>, known: &str) -> Result<(), AllocError>
+    ensures { OnOk result (out.new.items ≡ out.old.items ++ def.meant_line (Some known.now)) }
+{
+    say(out, "did you mean ")?;
+    say(out, known)?;
+    say(out, "?\n")
+}
+
+/// The line of the word that may be meant.
+fn say_meant(out: &mut Vec<u8>, known: Option<&'static str>) -> Result<(), AllocError>
+    ensures { OnOk result (out.new.items
+        ≡ out.old.items ++ def.meant_line (option_map (λ w. w.now) known.entry)) }
+{
+    match known {
+        None => Ok(()),
+        Some(known) => say_question(out, known),
+    }
+}
+
+fn say_wanted(out: &mut Vec<u8>, wanted: Wanted) -> Result<(), AllocError>
+    ensures { OnOk result (out.new.items ≡ out.old.items ++ def.expected_words wanted) }
+{
+    say(out, ": expected ")?;
+    say(out, wanted_sentence(wanted))?;
+    say(out, "\n")
+}
+
+fn say_bracketed(out: &mut Vec<u8>, word: &[u8]) -> Result<(), AllocError>
+    ensures { OnOk result (out.new.items ≡ out.old.items ++ def.bracketed (Some word.now)) }
+{
+    say(out, " [")?;
+    out.extend_from_slice(word)?;
+    say(out, "]")
+}
+
+pub(crate) fn say_word(out: &mut Vec<u8>, word: &[u8], wanted: Wanted) -> Result<(), AllocError>
+    ensures { OnOk result (out.new.items ≡ out.old.items
+        ++ def.stop_words (first_wrong wanted word.now)) }
+{
+    say_bracketed(out, word)?;
+    say_wanted(out, wanted)?;
+    say_meant(out, meant(wanted, word))
+}
+
+#[tactic(auto, using(crate::proofs::LineLemmas::missing_words))]
+fn say_missing(out: &mut Vec<u8>, wanted: Wanted) -> Result<(), AllocError>
+    ensures { OnOk result (out.new.items ≡ out.old.items ++ def.stop_words (stop wanted [])) }
+{
+    say(out, " []")?;
+    say_wanted(out, wanted)
+}
+
+/// Appends the words up to the first one that isn't what is wanted there, and what is wanted.
+fn say_stop<'a>(out: &mut Vec<u8>, wanted: Wanted, words: Words<'a>) -> Result<(), AllocError>
+    ensures { OnOk result (out.new.items ≡ out.old.items
+        ++ def.stop_words (stop wanted words.entry)) }
+{
+    let mut wanted = wanted;
+    let mut left = words;
+    while let Some(word) = left.word() {
+        if !wanted.fits(word) {
+            return say_word(out, word, wanted);
+        }
+        out.push(b' ')?;
+        out.extend_from_slice(word)?;
+        wanted = wanted.after(word);
+    }
+    say_missing(out, wanted)
+}
+
+/// Appends the words up to the first one that names nothing, and what is wanted there.
+fn say_name_stop<'a>(
+    out: &mut Vec<u8>,
+    outline: &Outline<'_>,
+    function: usize,
+    wanted: Wanted,
+    words: Words<'a>,
+) -> Result<(), AllocError>
+    ensures { OnOk result (IfSome (name_stop (names_at outline.now function) wanted words.entry)
+        (λ s. out.new.items ≡ out.old.items ++ def.stop_words s)) }
+{
+    let mut wanted = wanted;
+    let mut left = words;
+    while let Some(word) = left.word() {
+        if !names_some(outline, function, wanted, word) {
+            return say_word(out, word, known(wanted));
+        }
+        out.push(b' ')?;
+        out.extend_from_slice(word)?;
+        wanted = wanted.after(word);
+    }
+    Ok(())
+}
+
+/// The line of the first word of these that names nothing.
+fn say_line_stop<'a>(
+    out: &mut Vec<u8>,
+    outline: &Outline<'_>,
+    function: usize,
+    words: Words<'a>,
+) -> Result<(), AllocError>
+    ensures { OnOk result (IfSome (line_stop (names_at outline.now function) words.entry)
+        (λ s. out.new.items ≡ out.old.items ++ def.named_line s)) }
+{
+    let mut left = words;
+    let Some(first) = left.word() else {
+        return Ok(());
+    };
+    say(out, "at ")?;
+    out.extend_from_slice(first)?;
+    say_name_stop(out, outline, function, operand(first), left)
+}
+
+/// The first line of a function with a word that names nothing.
+fn line_of_no_name<'o, 'a>(outline: &'o Outline<'a>, function: usize) -> Option<&'o Sentence<'a>>
+    requires { function < length outline.now.done }
+    ensures { MatchOption result
+        (lines_stop (names_at outline.now function)
+        (sentences_of (slice_get outline.now.done function)) ≡ None)
+        (λ s. def.StopsAt (names_at outline.now function)
+        (sentences_of (slice_get outline.now.done function)) s.now) }
+{
+    for sentence in outline.sentences(function) {
+        if names_nothing(outline, function, sentence.words()) {
+            return Some(sentence);
+        }
+    }
+    None
+}
+
+/// The line of the first word of a text that names nothing.
+fn say_unknown(out: &mut Vec<u8>, outline: &Outline<'_>) -> Result<(), AllocError>
+    ensures { OnOk result (out.new.items
+        ≡ out.old.items ++ def.wrong_line (unknown_name outline.now)) }
+{
+    for function in 0..outline.function_count() {
+        if let Some(sentence) = line_of_no_name(outline, function) {
+            return say_line_stop(out, outline, function, sentence.words());
+        }
+    }
+    Ok(())
+}
+
+/// The line of a name that there isn't.
+fn unknown_line(alloc: Global, out: &mut Vec<u8>, text: &[u8]) -> Result<(), AllocError>
+    ensures { OnOk result (out.new.items
+        ≡ out.old.items ++ def.unknown_line (functions_of text.now)) }
+{
+    match functions_of(alloc, text)? {
+        None => Ok(()),
+        Some(outline) => say_unknown(out, &outline),
+    }
+}
+
+fn say_byte(alloc: Global, out: &mut Vec<u8>, column: usize, byte: u8) -> Result<(), AllocError>
+    ensures { OnOk result (out.new.items ≡ out.old.items ++ def.byte_words column byte) }
+{
+    let words = format!(in alloc; "at column {column}: byte {byte}\n")?;
+    say(out, words.as_str())
+}
+
+/// The line of the first byte of a line that isn't allowed.
+fn byte_line(alloc: Global, out: &mut Vec<u8>, line: &[u8]) -> Result<(), AllocError>
+    ensures { OnOk result (out.new.items ≡ out.old.items ++ def.byte_line 1 line.now) }
+{
+    for at in 0..line.len() {
+        if !is_allowed(line[at]) {
+            return say_byte(alloc, out, at + 1, line[at]);
+        }
+    }
+    Ok(())
+}
+
+fn byte_line_of(alloc: Global, out: &mut Vec<u8>, line: Option<&[u8]>) -> Result<(), AllocError>
+    ensures { OnOk result (out.new.items
+        ≡ out.old.items ++ def.byte_line_of (option_copied line.entry)) }
+{
+    match line {
+        None => Ok(()),
+        Some(line) => byte_line(alloc, out, line),
+    }
+}
+
+/// The line of the wrong or missing word, where a fault is of one.
+fn wrong_line(out: &mut Vec<u8>, kind: AsmKind, text: &[u8], line: u32) -> Result<(), AllocError>
+    ensures { OnOk result (out.new.items ≡ out.old.items
+        ++ def.wrong_line (wrong_place kind (is_inside text.now line) (words_at text.now line))) }
+{
+    let mut words = words_at(text, line);
+    match kind {
+        AsmKind::BadNumber | AsmKind::BadOperands => {
+            say(out, "at")?;
+            say_stop(out, Wanted::First, words)
+        }
+        AsmKind::UnknownWord => match words.word() {
+            Some(word) => {
+                say(out, "at")?;
+                say_word(out, word, in_place_of(is_inside(text, line)))
+            }
+            None => Ok(()),
+        },
+        AsmKind::DuplicateLabel => match words.word() {
+            Some(word) => {
+                say(out, "at")?;
+                say_word(out, word, Wanted::NewLabel)
+            }
+            None => Ok(()),
+        },
+        _ => Ok(()),
+    }
+}
+
+fn say_join_form(out: &mut Vec<u8>) -> Result<(), AllocError>
+    ensures { OnOk result (out.new.items ≡ out.old.items ++ (join_form ++ codes "\n")) }
+{
+    say(out, join_form())?;
+    say(out, "\n")
+}
+
+/// The form of a line that begins with these words.
+fn form_line<'a>(out: &mut Vec<u8>, words: Words<'a>) -> Result<(), AllocError>
+    ensures { OnOk result (out.new.items ≡ out.old.items ++ def.form_line words.entry) }
+{
+    let mut words = words;
+    match words.word() {
+        None => Ok(()),
+        Some(word) => {
+            if word == b"join".as_slice() {
+                say_join_form(out)
+            } else {
+                Ok(())
+            }
+        }
+    }
+}
+
+/// The form of the line, for the fault of an operand.
+fn form_part<'a>(out: &mut Vec<u8>, kind: AsmKind, words: Words<'a>) -> Result<(), AllocError>
+    ensures { OnOk result (out.new.items ≡ out.old.items ++ def.form_part kind words.entry) }
+{
+    match kind {
+        AsmKind::BadOperands => form_line(out, words),
+        _ => Ok(()),
+    }
+}
+
+/// The wrong word in its place, and the form of the line.
+fn say_place_of(out: &mut Vec<u8>, kind: AsmKind, text: &[u8], line: u32) -> Result<(), AllocError>
+    ensures { OnOk result (out.new.items ≡ out.old.items
+        ++ (def.wrong_line (wrong_place kind (is_inside text.now line) (words_at text.now line))
+        ++ def.form_part kind (words_at text.now line))) }
+{
+    wrong_line(out, kind, text, line)?;
+    form_part(out, kind, words_at(text, line))
+}
+
+/// What is wrong in the line of a fault, where it is a word or a byte.
+///
+/// # Errors
+///
+/// Memory was refused; a part of it may then be in `out`.
+pub(crate) fn wrong_part(
+    alloc: Global,
+    out: &mut Vec<u8>,
+    kind: AsmKind,
+    text: &[u8],
+    line: u32,
+) -> Result<(), AllocError>
+    ensures { OnOk result (out.new.items ≡ out.old.items ++ def.wrong_part kind text.now line) }
+{
+    match kind {
+        AsmKind::UnknownLabel => unknown_line(alloc, out, text),
+        AsmKind::NotAscii => byte_line_of(alloc, out, line_at(text, line)),
+        _ => say_place_of(out, kind, text, line),
+    }
+}

@@ -1,0 +1,114 @@
+//! The four budgets of a function.
+
+ghost use Rattle.std.specs.Prelude.{◌≡◌, ◌<◌, ◌-◌, length};
+ghost use Rattle.sts_code.specs.Program.{routine};
+ghost use Rattle.sts_rules.specs.Refusal.{IsWellTyped};
+ghost use Rattle.sts_rules.specs.Budget.{AreBudgets};
+ghost use Rattle.sts_budget.specs.Change.{cause_of, limit_of, own_of};
+ghost use Rattle.sts_budget.specs.Outcome.{IsFound, IsNumber};
+ghost use Rattle.sts_budget.specs.Pass.{IsSet};
+ghost use Rattle.sts_budget.specs.Ready.{IsLaidFor};
+
+use crate::change::Resource;
+use crate::greatest::{greatest, most_of};
+use crate::layout::{Layout, lay_out};
+use crate::pass::Pass;
+use std::alloc::{AllocError, Global};
+use sts_code::{Instr, Program, code_of};
+use sts_rules::{Budgets, Cause};
+
+/// Why a function has no budgets.
+#[derive(Clone, Copy, Debug, PartialEq, Eq)]
+pub enum BudgetError {
+    /// Memory ran out.
+    Memory,
+    /// A budget passes its limit, V17 to V20; of several the least.
+    TooMuch(Cause),
+}
+
+impl From<AllocError> for BudgetError {
+    ghost use Rattle.sts_budget.specs.declared.budgets.BudgetError.{BudgetError};
+
+    ghost from_gives = { λ e r. r ≡ BudgetError.Memory };
+
+    fn from(_error: AllocError) -> BudgetError {
+        BudgetError::Memory
+    }
+}
+
+/// The budgets of a well-typed function, where the functions before it have these budgets.
+///
+/// # Errors
+///
+/// The least cause from V17 to V20 that holds; or want of memory.
+pub fn budget(
+    alloc: Global,
+    program: &Program,
+    function: usize,
+    earlier: &[Budgets],
+) -> Result<Budgets, BudgetError>
+    requires in_program { function < length program.now.routines }
+    requires typed { IsWellTyped program.now function }
+    requires long { length earlier.now ≡ function }
+    requires earlier { AreBudgets program.now earlier.now }
+    ensures { IsFound earlier.now (routine program.now function).code result }
+{
+    let code = code_of(program, function);
+    let layout = lay_out(alloc, program, function)?;
+    let steps = budget_of(alloc, &pass_of(Resource::Steps, earlier, code, &layout))?;
+    let tasks = budget_of(alloc, &pass_of(Resource::Tasks, earlier, code, &layout))?;
+    let scopes = budget_of(alloc, &pass_of(Resource::Scopes, earlier, code, &layout))?;
+    let binds = budget_of(alloc, &pass_of(Resource::Binds, earlier, code, &layout))?;
+    Ok(Budgets {
+        steps,
+        tasks,
+        scopes,
+        binds,
+    })
+}
+
+/// The cause of a budget that passes its limit.
+fn cause_of(resource: Resource) -> Cause
+    ensures { result ≡ cause_of resource }
+{
+    match resource {
+        Resource::Steps => Cause::TooManySteps,
+        Resource::Tasks => Cause::TooManyTasks,
+        Resource::Scopes => Cause::TooManyScopes,
+        Resource::Binds => Cause::TooManyBinds,
+    }
+}
+
+/// The pass over a function for a resource.
+fn pass_of<'p>(
+    resource: Resource,
+    earlier: &'p [Budgets],
+    code: &'p [Instr],
+    layout: &'p Layout,
+) -> Pass<'p>
+    ensures resource { result.resource ≡ resource }
+    ensures earlier { result.earlier.now ≡ earlier.now }
+    ensures code { result.code.now ≡ code.now }
+    ensures layout { result.layout.now ≡ layout.now }
+    ensures most { result.most ≡ limit_of resource - own_of resource }
+{
+    Pass {
+        resource,
+        earlier,
+        code,
+        layout,
+        most: most_of(resource),
+    }
+}
+
+/// The budget of the pass's resource.
+fn budget_of(alloc: Global, pass: &Pass<'_>) -> Result<u32, BudgetError>
+    requires ready { IsSet pass.now }
+    requires most { pass.now.most ≡ limit_of pass.now.resource - own_of pass.now.resource }
+    ensures { IsNumber pass.now.resource pass.now.earlier.now pass.now.code.now result }
+{
+    match greatest(alloc, pass)? {
+        Some(number) => Ok(number),
+        None => Err(BudgetError::TooMuch(cause_of(pass.resource))),
+    }
+}

@@ -1,0 +1,173 @@
+//! Does what a mode asks for, and writes what is to be printed.
+
+ghost use Rattle.std.specs.Prelude.{◌≡◌, ◌≤◌, IfOk, OnOk};
+ghost use Rattle.std.specs.Io.KnownBytes.{Appends};
+ghost use Rattle.sts_trace.specs.Spelling.{trace_text};
+ghost use Rattle.sts_output.specs.Joined.{Halves, halves_of};
+ghost use Rattle.sts_output.specs.Output as def;
+ghost use Rattle.sts_cli.specs.Running.{IsOutcomeOf, Outcome, RunWrites};
+
+use crate::modes::run::Manner;
+use crate::modes::{replay, run};
+use std::alloc::{AllocError, Global};
+use std::io;
+use std::io::Write;
+use std::sync::Wait;
+use std::thread::Threads;
+use sts_model::Event;
+use sts_output::{
+    Mode, Output, TakeError, WriteFailed, failed, list, plain, split, verify, written,
+};
+use sts_trace::write_trace;
+
+fn output(alloc: Global, mode: Mode, text: &[u8], trace: &[u8]) -> Result<Output, AllocError>
+    ensures { IfOk result (λ o. def.Shows mode text.now trace.now o) }
+{
+    match mode {
+        Mode::Plain => plain::after_trace(alloc, text, trace),
+        Mode::Replay => replay::replayed(alloc, text, trace),
+        Mode::List => list::listed(alloc, text),
+        Mode::Verify => verify::verified(alloc, text),
+    }
+}
+
+/// Does what the mode asks for with a text and a trace, writes all that is printed, and gives the
+/// status.
+///
+/// It takes all its memory before the first byte is written.
+///
+/// # Errors
+///
+/// A write failed.
+pub fn play<W: Write>(
+    alloc: Global,
+    mode: Mode,
+    text: &[u8],
+    trace: &[u8],
+    out: &mut W,
+) -> Result<u8, WriteFailed>
+    ensures { IfOk result (λ s. (o : def.Output) × def.IsOutputOf mode text.now trace.now o
+        × def.Writes (W.contents out.old) (W.contents out.new) s o) }
+{
+    match output(alloc, mode, text, trace) {
+        Ok(output) => written(out, output.text.as_bytes(), output.status),
+        Err(_) => failed(TakeError::Memory, out),
+    }
+}
+
+/// `play` in mode `Plain`, with the text up to the first line that is exactly `%`, and the trace
+/// after it.
+///
+/// # Errors
+///
+/// A write failed.
+pub fn play_joined<W: Write>(alloc: Global, input: &[u8], out: &mut W) -> Result<u8, WriteFailed>
+    ensures { IfOk result (λ s. (o : def.Output)
+        × def.IsOutputOf Mode.Plain (halves_of input.now).text (halves_of input.now).trace o
+        × def.Writes (W.contents out.old) (W.contents out.new) s o) }
+{
+    let (text, trace) = split(input);
+    play(alloc, Mode::Plain, text, trace, out)
+}
+
+/// Writes all of a journal to a trace.
+fn traced<T: Write>(journal: &[Event], trace: &mut T) -> io::Result<()>
+    ensures { OnOk result (Appends (T.contents trace.old) (T.contents trace.new)
+        (trace_text journal.now)) }
+{
+    write_trace(journal, trace)?;
+    trace.flush()
+}
+
+/// `play_run` where no trace is asked for: no journal is kept.
+///
+/// # Errors
+///
+/// A write failed.
+pub(crate) fn play_untraced<R: Threads + Wait + Sync, W: Write>(
+    rt: &R,
+    alloc: Global,
+    text: &[u8],
+    workers: u32,
+    outside: &[u8],
+    out: &mut W,
+) -> Result<u8, WriteFailed>
+    requires { (1 ≤ workers) × (workers ≤ 16) }
+    ensures { IfOk result (λ s. (o : Outcome) × IsOutcomeOf text.now outside.now o
+        × def.Writes (W.contents out.old) (W.contents out.new) s o.output) }
+{
+    let manner = Manner {
+        workers,
+        kept: false,
+    };
+    match run::outcome(rt, alloc, text, manner, outside) {
+        Ok(ran) => written(out, ran.output.text.as_bytes(), ran.output.status),
+        Err(_) => failed(TakeError::Memory, out),
+    }
+}
+
+/// `play_run`, which also leaves in `unwritten` why the trace was not written.
+pub(crate) fn play_traced<R: Threads + Wait + Sync, T: Write, W: Write>(
+    rt: &R,
+    alloc: Global,
+    text: &[u8],
+    workers: u32,
+    outside: &[u8],
+    trace: &mut T,
+    out: &mut W,
+    unwritten: &mut Option<io::Error>,
+) -> Result<u8, WriteFailed>
+    requires { (1 ≤ workers) × (workers ≤ 16) }
+    ensures { IfOk result (λ s. (o : Outcome) × IsOutcomeOf text.now outside.now o
+        × RunWrites (record {
+          trace_old = T.contents trace.old;
+          trace_new = T.contents trace.new;
+          out_old = W.contents out.old;
+          out_new = W.contents out.new;
+        }) s o) }
+{
+    let manner = Manner {
+        workers,
+        kept: true,
+    };
+    match run::outcome(rt, alloc, text, manner, outside) {
+        Ok(ran) => match traced(ran.journal.as_slice(), trace) {
+            Ok(()) => written(out, ran.output.text.as_bytes(), ran.output.status),
+            Err(error) => {
+                *unwritten = Some(error);
+                failed(TakeError::Read, out)
+            }
+        },
+        Err(_) => failed(TakeError::Memory, out),
+    }
+}
+
+/// Runs a program with 1 to 16 workers and the events of an outside text. The journal goes to the
+/// trace first, which gets nothing where there is no report; then all that is printed is written to
+/// `out`. Gives the status.
+///
+/// A write to the trace that fails is told on `out`, in place of all else.
+///
+/// # Errors
+///
+/// A write to `out` failed.
+pub fn play_run<R: Threads + Wait + Sync, T: Write, W: Write>(
+    rt: &R,
+    alloc: Global,
+    text: &[u8],
+    workers: u32,
+    outside: &[u8],
+    trace: &mut T,
+    out: &mut W,
+) -> Result<u8, WriteFailed>
+    requires { (1 ≤ workers) × (workers ≤ 16) }
+    ensures { IfOk result (λ s. (o : Outcome) × IsOutcomeOf text.now outside.now o
+        × RunWrites (record {
+          trace_old = T.contents trace.old;
+          trace_new = T.contents trace.new;
+          out_old = W.contents out.old;
+          out_new = W.contents out.new;
+        }) s o) }
+{
+    play_traced(rt, alloc, text, workers, outside, trace, out, &mut None)
+}

@@ -1,7 +1,0 @@
-pub mod Sentences
-pub mod Lines
-pub mod Output
-pub mod Ways
-pub mod Differences
-pub mod Weights
-pub mod Reading

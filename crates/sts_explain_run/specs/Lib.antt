@@ -1,3 +1,0 @@
-pub mod Lines
-pub mod Output
-pub mod Sentences

@@ -1,5 +1,0 @@
-use Rattle.sts_explain_text.proofs.HeadLaw.{heads_begin}
-use Rattle.sts_explain_text.proofs.laws.heads_begin_functions.Goals as goal
-
-pub returns : goal.returns
-returns c = heads_begin

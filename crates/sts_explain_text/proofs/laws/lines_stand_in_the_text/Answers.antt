@@ -1,5 +1,0 @@
-use Rattle.sts_explain_text.proofs.StandLemmas.{lines_stand}
-use Rattle.sts_explain_text.proofs.laws.lines_stand_in_the_text.Goals as goal
-
-pub returns : goal.returns
-returns c = lines_stand

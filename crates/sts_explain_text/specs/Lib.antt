@@ -1,9 +1,0 @@
-pub mod Sentences
-pub mod Functions
-pub mod Wrong
-pub mod Heads
-pub mod Labels
-pub mod Checks
-pub mod Failing
-pub mod Lines
-pub mod Places

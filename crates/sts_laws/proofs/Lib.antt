@@ -1,4 +1,0 @@
-pub mod FlagLemmas
-pub mod StateLemmas
-pub mod StayLemmas
-pub mod StepLemmas

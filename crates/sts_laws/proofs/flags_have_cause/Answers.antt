@@ -1,5 +1,0 @@
-use Rattle.sts_laws.proofs.FlagLemmas as laws
-use Rattle.sts_laws.proofs.flags_have_cause.Goals as goal
-
-pub returns : goal.returns
-returns c = laws.flags_have_cause

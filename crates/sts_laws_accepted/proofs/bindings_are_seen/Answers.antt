@@ -1,7 +1,0 @@
-use Rattle.sts_laws_accepted.proofs.Views as laws
-use Rattle.sts_laws_accepted.proofs.bindings_are_seen.Goals as goal
-
-pub returns : goal.returns
-returns c =
-    laws.bindings_are_seen c.args.verified.now
-    (c.idle_have_no_entries.ensures c.args.verified.now c.main_budgets.ensures.checked)

@@ -1,4 +1,0 @@
-use Rattle.sts_laws_accepted.proofs.turns_are_safe.Goals as goal
-
-pub returns : goal.returns
-returns c = c.turns_are_safe.ensures c.args.verified.now c.never_faults.ensures

@@ -1,4 +1,0 @@
-use Rattle.sts_laws_accepted.proofs.turns_are_seen.Goals as goal
-
-pub returns : goal.returns
-returns c = c.turns_are_seen.ensures c.args.verified.now c.never_faults.ensures

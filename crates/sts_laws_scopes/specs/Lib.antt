@@ -1,3 +1,0 @@
-pub mod Scopes
-pub mod Slots
-pub mod Tallies

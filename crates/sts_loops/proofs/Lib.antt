@@ -1,3 +1,0 @@
-pub mod Marking
-pub mod MatchingLemmas
-pub mod Nesting

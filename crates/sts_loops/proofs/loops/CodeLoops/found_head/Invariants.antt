@@ -1,8 +1,0 @@
-use Rattle.std.proofs.Common.{◌≡◌, slice_get}
-use Rattle.sts_loops.specs.Tables.{head}
-use Rattle.sts_loops.proofs.Nesting.{below}
-use Rattle.sts_loops.proofs.loops.CodeLoops.found_head.Given as goal
-
--- the first one lies before
-abbrev pub invariant-loop-at : goal.invariant-loop-at
-invariant-loop-at l = slice_get (below l.self l.place l.at) 0 ≡ head l.self l.place

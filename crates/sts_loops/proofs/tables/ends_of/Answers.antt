@@ -1,9 +1,0 @@
-use Rattle.std.proofs.lemmas.List.FromFn.{map-range_with_len_more}
-use Rattle.sts_loops.specs.Tables.{end_at}
-use Rattle.sts_loops.proofs.Marking.{the_same}
-use Rattle.sts_loops.proofs.tables.ends_of.Goals as goal
-
-pub loop-at-preserved : goal.loop-at-preserved
-loop-at-preserved c =
-    let more = map-range_with_len_more (end_at c.args.code.now) 0 c.loop-at.at c.loop-at.at (the_same c.loop-at.at) in
-    cc (more, c.in_ok-push.ensures.items, c.loop-at.invariant, c.end_at.ensures)

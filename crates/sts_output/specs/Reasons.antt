@@ -1,0 +1,128 @@
+-- The lines on standard error that say why something was not printed as asked (this project's own).
+use Rattle.std.specs.Prelude.{ℕ, ◌-◌, ◌==◌, ◌&&◌, nat_le, List, [], ◌++◌, Option, Some, None}
+use Rattle.std.specs.Prelude.{Result, Ok, Err, codes, if◌then◌else◌, map, take, slice_get}
+use Rattle.std.specs.Fmt.{decimal}
+use Rattle.std.specs.Str.{bytes_eq}
+use Rattle.std.specs.declared.io.ErrorKind.{ErrorKind}
+use Rattle.std.specs.declared.io.ErrorKind.TheVariants as kind
+use Rattle.sts_text.specs.Words.{lines}
+use Rattle.sts_code.specs.Program.{Program}
+use Rattle.sts_code.specs.declared.checking.CodeError.{CodeError}
+use Rattle.sts_model.specs.declared.event.Event.{Event}
+use Rattle.sts_asm.specs.Outline.{Outline, Sentence}
+use Rattle.sts_asm.specs.Source.{outlined, sentence_at}
+use Rattle.sts_asm.specs.declared.fault.AsmKind.{AsmKind}
+use Rattle.sts_asm.specs.declared.fault.AsmKind.TheVariants.{Code}
+use Rattle.sts_asm.specs.declared.fault.AsmError.{AsmError}
+use Rattle.sts_trace.specs.declared.error.TraceError.{TraceError}
+use Rattle.sts_trace.specs.declared.error.TraceError.TheVariants as trace
+use Rattle.sts_trace.specs.declared.outside.Due.{Due}
+use Rattle.sts_output.specs.declared.file_error.FileError.{FileError}
+use Rattle.sts_output.specs.declared.file_error.FileError.TheVariants as file_error
+
+-- ---- files
+
+abbrev pub kind_words : ErrorKind → List ℕ
+kind_words kind.NotFound = codes "there is no such file"
+kind_words kind.PermissionDenied = codes "permission is denied"
+kind_words kind.IsADirectory = codes "it is a directory"
+kind_words kind.NotADirectory = codes "a part of its path is no directory"
+kind_words kind.ReadOnlyFilesystem = codes "its file system is read-only"
+kind_words kind.StorageFull = codes "no space is left"
+kind_words kind.OutOfMemory = codes "out of memory"
+kind_words _ = codes "the system reports an error"
+
+-- `-` names no stream
+abbrev pub input_words : List ℕ → List ℕ
+input_words path =
+    if bytes_eq path (codes "-") then codes " (standard input is /dev/stdin)" else []
+
+-- `sts: cannot read nosuch.sts: there is no such file`
+abbrev pub unread_line : List ℕ → List ℕ → ErrorKind → List ℕ
+unread_line program path kind =
+    program ++ codes ": cannot read " ++ path ++ codes ": " ++ kind_words kind
+    ++ input_words path ++ codes "\n"
+
+abbrev pub unwritten_line : List ℕ → List ℕ → List ℕ → List ℕ
+unwritten_line program path words =
+    program ++ codes ": cannot write " ++ path ++ codes ": " ++ words ++ codes "\n"
+
+abbrev pub file_line : List ℕ → FileError → List ℕ
+file_line program (file_error.Unread path kind) = unread_line program path.now kind
+file_line program (file_error.Unwritten path kind) =
+    unwritten_line program path.now (kind_words kind)
+file_line program (file_error.Overwrites path) =
+    unwritten_line program path.now (codes "this run reads that file")
+
+-- ---- lines of texts
+
+-- a tab is shown as a space, and what is no printable ASCII as `?`
+abbrev pub shown_byte : ℕ → ℕ
+shown_byte b = if b == 9 then 32 else if nat_le 32 b && nat_le b 126 then b else 63
+
+-- at most the first hundred bytes of a line
+abbrev pub shown_line : Option (List ℕ) → List ℕ
+shown_line None = []
+shown_line (Some line) = map shown_byte (take 100 line)
+
+-- `, line 3: "puhs 7"`; there is none of line 0
+abbrev pub place : List ℕ → ℕ → List ℕ
+place text number =
+    if number == 0 then []
+    else codes ", line " ++ decimal number ++ codes ": \""
+    ++ shown_line (slice_get (lines text) (number - 1)) ++ codes "\""
+
+abbrev pub reason_line : List ℕ → List ℕ → List ℕ → List ℕ → List ℕ
+reason_line program name place hint =
+    program ++ codes ": " ++ name ++ place ++ hint ++ codes "\n"
+
+-- ---- faults of the text of a program
+
+abbrev pub sentence_line : Option Sentence → ℕ
+sentence_line None = 0
+sentence_line (Some s) = s.line
+
+-- the line of an instruction, or 0
+abbrev pub code_line : Result Outline AsmError → CodeError → ℕ
+code_line (Ok o) c = sentence_line (sentence_at o c.function c.pc)
+code_line (Err e) c = 0
+
+abbrev pub kind_line : List ℕ → AsmKind → ℕ → ℕ
+kind_line text (Code c) line = code_line (outlined text) c
+kind_line text kind line = line
+
+-- the line of a fault, or 0 where no line is meant
+abbrev pub fault_line : List ℕ → AsmError → ℕ
+fault_line text e = kind_line text e.kind e.line
+
+-- `sts: g.sts, line 3: "puhs 7"; ./look explain FILE says more`
+abbrev pub fault_reason : List ℕ → List ℕ → List ℕ → AsmError → List ℕ
+fault_reason program name text e =
+    reason_line program name (place text (fault_line text e))
+    (codes "; ./look explain FILE says more")
+
+abbrev pub text_reason : List ℕ → List ℕ → List ℕ → Result Program AsmError → Option (List ℕ)
+text_reason program name text (Ok p) = None
+text_reason program name text (Err e) = Some (fault_reason program name text e)
+
+-- ---- faults of a trace or an outside text
+
+abbrev pub events_place : List ℕ → TraceError → List ℕ
+events_place text (trace.BadLine n) = place text n
+events_place text (trace.BadNumber n) = place text n
+events_place text trace.NoNewline = codes ": no newline ends its last line"
+events_place text trace.Memory = []
+
+abbrev pub events_line : List ℕ → List ℕ → List ℕ → TraceError → List ℕ → List ℕ
+events_line program name text e hint = reason_line program name (events_place text e) hint
+
+abbrev pub trace_reason : List ℕ → List ℕ → List ℕ → Result (List Event) TraceError
+    → Option (List ℕ)
+trace_reason program name text (Ok events) = None
+trace_reason program name text (Err e) =
+    Some (events_line program name text e (codes "; ./look explain FILE TRACE says more"))
+
+abbrev pub outside_reason : List ℕ → List ℕ → List ℕ → Result (List Due) TraceError
+    → Option (List ℕ)
+outside_reason program name text (Ok dues) = None
+outside_reason program name text (Err e) = Some (events_line program name text e [])

@@ -1,0 +1,275 @@
+//! Lines for standard error that say where a text has its fault.
+
+ghost use Rattle.std.specs.Prelude.{◌≡◌, ◌++◌, ◌-◌, IfOk, OnOk, Some, None, map, take, option_map};
+ghost use Rattle.std.specs.Prelude.{Result, slice_get};
+ghost use Rattle.sts_code.specs.Program.{Program as AnyProgram};
+ghost use Rattle.sts_asm.specs.Fault.{FailsAt};
+ghost use Rattle.sts_asm.specs.declared.fault.AsmError.{AsmError};
+ghost use Rattle.std.specs.Option.{option_copied};
+ghost use Rattle.sts_text.specs.Words.{lines};
+ghost use Rattle.sts_asm.specs.Source.{outlined as outlined_of};
+ghost use Rattle.sts_asm.specs.Text.{judged};
+ghost use Rattle.sts_trace.specs.Reading.{outside_read, trace_read};
+ghost use Rattle.sts_output.specs.Reasons as def;
+
+use std::alloc::{AllocError, Global};
+use sts_asm::{AsmError, AsmKind, assemble, outlined};
+use sts_code::CodeError;
+use sts_trace::{TraceError, read_outside, read_trace};
+
+/// A text that was read, and the name that a person knows it by.
+#[derive(Clone, Copy)]
+pub struct Named<'a> {
+    pub name: &'a str,
+    pub text: &'a [u8],
+}
+
+impl<'a> Named<'a> {
+    /// Returns the text of this name.
+    pub fn new(name: &'a str, text: &'a [u8]) -> Named<'a> {
+        Named { name, text }
+    }
+}
+
+/// The bytes of a line that are shown.
+const SHOWN: usize = 100;
+
+pub(crate) fn say(out: &mut Vec<u8>, text: &str) -> Result<(), AllocError>
+    ensures { OnOk result (out.new.items ≡ out.old.items ++ text.now) }
+{
+    out.extend_from_slice(text.as_bytes())
+}
+
+/// Returns a byte as it is shown: a tab as a space, and a byte that is no printable ASCII as `?`.
+fn shown_byte(b: u8) -> u8
+    ensures { result ≡ def.shown_byte b }
+{
+    match b {
+        b'\t' => b' ',
+        b' '..=b'~' => b,
+        _ => b'?',
+    }
+}
+
+fn say_shown(out: &mut Vec<u8>, line: &[u8]) -> Result<(), AllocError>
+    ensures { OnOk result (out.new.items ≡ out.old.items ++ map def.shown_byte line.now) }
+{
+    for b in line {
+        out.push(shown_byte(*b))?;
+    }
+    Ok(())
+}
+
+/// Returns the line of this number, counted from 1.
+fn line_at(text: &[u8], number: u64) -> Option<&[u8]>
+    ensures { option_copied result ≡ slice_get (lines text.now) (number - 1) }
+{
+    text.split(|b| *b == b'\n')
+        .nth(number.saturating_sub(1) as usize)
+}
+
+/// Appends the bytes of a line, at most the first hundred.
+fn say_line(out: &mut Vec<u8>, line: Option<&[u8]>) -> Result<(), AllocError>
+    ensures { OnOk result (out.new.items ≡ out.old.items
+        ++ def.shown_line (option_copied line.entry)) }
+{
+    match line {
+        Some(line) => say_shown(out, &line[..SHOWN.min(line.len())]),
+        None => Ok(()),
+    }
+}
+
+/// Appends the number of a line and its bytes; nothing if the number is 0.
+fn say_place(alloc: Global, out: &mut Vec<u8>, text: &[u8], number: u64) -> Result<(), AllocError>
+    ensures { OnOk result (out.new.items ≡ out.old.items ++ def.place text.now number) }
+{
+    if number == 0 {
+        return Ok(());
+    }
+    let head = format!(in alloc; ", line {number}: \"")?;
+    say(out, head.as_str())?;
+    say_line(out, line_at(text, number))?;
+    say(out, "\"")
+}
+
+/// Returns the number of the line of an instruction, or 0 if there is none.
+fn code_line(alloc: Global, text: &[u8], code: CodeError) -> Result<u32, AllocError>
+    ensures { IfOk result (λ n. n ≡ def.code_line (outlined_of text.now) code) }
+{
+    match outlined(alloc, text) {
+        Ok(outline) => match outline.sentence(code.function, code.pc) {
+            Some(sentence) => Ok(sentence.line()),
+            None => Ok(0),
+        },
+        Err(error) => {
+            if matches!(error.kind, AsmKind::Memory) {
+                return Err(AllocError);
+            }
+            Ok(0)
+        }
+    }
+}
+
+/// Returns the number of the line of a fault of a text, or 0 if it has none.
+fn fault_line(alloc: Global, text: &[u8], error: AsmError) -> Result<u32, AllocError>
+    ensures { IfOk result (λ n. n ≡ def.fault_line text.now error) }
+{
+    match error.kind {
+        AsmKind::Code(code) => code_line(alloc, text, code),
+        _ => Ok(error.line),
+    }
+}
+
+/// Returns a line for standard error; what is wrong follows the name of the text.
+fn line_of(
+    alloc: Global,
+    program: &str,
+    name: &str,
+    place: &[u8],
+    hint: &str,
+) -> Result<Vec<u8>, AllocError>
+    ensures { IfOk result (λ line. line.items
+        ≡ def.reason_line program.now name.now place.now hint.now) }
+{
+    let mut line = Vec::new(alloc);
+    say(&mut line, program)?;
+    say(&mut line, ": ")?;
+    say(&mut line, name)?;
+    line.extend_from_slice(place)?;
+    say(&mut line, hint)?;
+    say(&mut line, "\n")?;
+    Ok(line)
+}
+
+/// Returns the line about a fault of the text of a program.
+fn fault_reason(
+    alloc: Global,
+    program: &str,
+    named: Named<'_>,
+    error: AsmError,
+) -> Result<Vec<u8>, AllocError>
+    ensures { IfOk result (λ line. line.items
+        ≡ def.fault_reason program.now named.entry.name.now named.entry.text.now error) }
+{
+    let number = fault_line(alloc, named.text, error)?;
+    let mut place = Vec::new(alloc);
+    say_place(alloc, &mut place, named.text, u64::from(number))?;
+    let hint = "; ./look explain FILE says more";
+    line_of(alloc, program, named.name, place.as_slice(), hint)
+}
+
+/// Returns the line about a fault of the text of a program; lack of memory is no fault of it.
+fn failed_text(
+    alloc: Global,
+    program: &str,
+    named: Named<'_>,
+    error: AsmError,
+) -> Result<Option<Vec<u8>>, AllocError>
+    ensures { (read : Result AnyProgram AsmError) → FailsAt error error.kind read
+        → IfOk result (λ r. option_map (λ line. line.items) r
+        ≡ def.text_reason program.now named.entry.name.now named.entry.text.now read) }
+{
+    if matches!(error.kind, AsmKind::Memory) {
+        return Err(AllocError);
+    }
+    let line = fault_reason(alloc, program, named, error)?;
+    Ok(Some(line))
+}
+
+/// Returns the line that says where the text of a program has its fault, or `None` if it has none.
+/// The line begins with the name of `program`.
+///
+/// # Errors
+///
+/// Memory was refused.
+pub fn text_reason(
+    alloc: Global,
+    program: &str,
+    named: Named<'_>,
+) -> Result<Option<Vec<u8>>, AllocError>
+    ensures { IfOk result (λ r. option_map (λ line. line.items) r
+        ≡ def.text_reason program.now named.entry.name.now named.entry.text.now
+        (judged named.entry.text.now)) }
+{
+    match assemble(alloc, named.text) {
+        Ok(_) => Ok(None),
+        Err(error) => failed_text(alloc, program, named, error),
+    }
+}
+
+/// Appends where a trace or an outside text has its fault.
+fn say_events_place(
+    alloc: Global,
+    out: &mut Vec<u8>,
+    text: &[u8],
+    error: TraceError,
+) -> Result<(), AllocError>
+    ensures { OnOk result (out.new.items ≡ out.old.items ++ def.events_place text.now error) }
+{
+    match error {
+        TraceError::BadLine(n) | TraceError::BadNumber(n) => say_place(alloc, out, text, n),
+        TraceError::NoNewline => say(out, ": no newline ends its last line"),
+        TraceError::Memory => Ok(()),
+    }
+}
+
+/// Returns the line about a fault of a trace or an outside text.
+fn events_line(
+    alloc: Global,
+    program: &str,
+    named: Named<'_>,
+    error: TraceError,
+    hint: &str,
+) -> Result<Vec<u8>, AllocError>
+    ensures { IfOk result (λ line. line.items
+        ≡ def.events_line program.now named.entry.name.now named.entry.text.now error hint.now) }
+{
+    let mut place = Vec::new(alloc);
+    say_events_place(alloc, &mut place, named.text, error)?;
+    line_of(alloc, program, named.name, place.as_slice(), hint)
+}
+
+/// Returns the line that says where a trace has its fault, or `None` if it has none.
+///
+/// # Errors
+///
+/// Memory was refused.
+pub fn trace_reason(
+    alloc: Global,
+    program: &str,
+    named: Named<'_>,
+) -> Result<Option<Vec<u8>>, AllocError>
+    ensures { IfOk result (λ r. option_map (λ line. line.items) r
+        ≡ def.trace_reason program.now named.entry.name.now named.entry.text.now
+        (trace_read named.entry.text.now)) }
+{
+    match read_trace(alloc, named.text) {
+        Ok(_) => Ok(None),
+        Err(TraceError::Memory) => Err(AllocError),
+        Err(error) => {
+            let hint = "; ./look explain FILE TRACE says more";
+            Ok(Some(events_line(alloc, program, named, error, hint)?))
+        }
+    }
+}
+
+/// Returns the line that says where an outside text has its fault, or `None` if it has none.
+///
+/// # Errors
+///
+/// Memory was refused.
+pub fn outside_reason(
+    alloc: Global,
+    program: &str,
+    named: Named<'_>,
+) -> Result<Option<Vec<u8>>, AllocError>
+    ensures { IfOk result (λ r. option_map (λ line. line.items) r
+        ≡ def.outside_reason program.now named.entry.name.now named.entry.text.now
+        (outside_read named.entry.text.now)) }
+{
+    match read_outside(alloc, named.text) {
+        Ok(_) => Ok(None),
+        Err(TraceError::Memory) => Err(AllocError),
+        Err(error) => Ok(Some(events_line(alloc, program, named, error, "")?)),
+    }
+}

@@ -1,0 +1,181 @@
+//! A state of the plain machine: where it is, and not how many steps it took.
+
+ghost use Rattle.std.specs.Prelude.{◌≡◌, ◌&&◌, true, OnOk, OnErr, IfOk, IfSome, IsNone};
+ghost use Rattle.sts_model.specs.World as def;
+ghost use Rattle.sts_model.specs.Run as run;
+ghost use Rattle.sts_model.specs.Waiting as waiting;
+ghost use Rattle.sts_plain.specs.Seen.{shown, is_fault, state_of};
+
+use crate::misstep::{Misstep, PlainState};
+use crate::misuses::misuse;
+use crate::perform::act;
+use crate::stand::can_step;
+use std::alloc::{AllocError, Global};
+use std::marker::Model;
+use sts_code::Program;
+use sts_model::Event;
+use sts_world::World;
+
+/// A state of the plain machine.
+#[derive(Drop)]
+pub struct Position {
+    world: World,
+    misstep: Option<Misstep>,
+}
+
+impl Model for Position {
+    ghost use Rattle.sts_model.specs.World.{State};
+
+    ghost Value = { State };
+
+    ghost use Rattle.sts_plain.specs.Seen.{state_of};
+
+    ghost view = { λ p. state_of p.misstep p.world };
+}
+
+/// A step of a task that can step: the fault, or none.
+fn step(
+    world: &mut World,
+    alloc: Global,
+    program: &Program,
+    t: u32,
+) -> Result<Option<Misstep>, AllocError>
+    requires { waiting.can_step program.now world.old t ≡ true }
+    ensures ok { IfOk result (λ m. state_of m world.new ≡ run.step program.now world.old t) }
+    ensures err { OnErr result (world.new ≡ world.old) }
+{
+    if !world.records().lives(t) {
+        return Ok(None);
+    }
+    match misuse(world, program, t) {
+        Some(kind) => {
+            let frame = world.records().frame(t);
+            Ok(Some(Misstep {
+                kind,
+                task: t,
+                function: frame.function,
+                pc: frame.pc,
+            }))
+        }
+        None => {
+            act(world, alloc, program, t)?;
+            Ok(None)
+        }
+    }
+}
+
+impl Position {
+    /// Before the first event.
+    ///
+    /// # Errors
+    ///
+    /// There is no memory.
+    pub fn opening(alloc: Global, program: &Program) -> Result<Position, AllocError>
+        ensures { IfOk result (λ x. x ≡ def.opening program.now) }
+    {
+        let world = World::opening(alloc, program)?;
+        Ok(Position {
+            world,
+            misstep: None,
+        })
+    }
+
+    /// How it stands.
+    pub fn state(&self) -> PlainState
+        ensures { result ≡ shown self.now }
+    {
+        match self.misstep {
+            Some(m) => PlainState::Fault {
+                kind: m.kind,
+                task: m.task,
+                function: m.function,
+                pc: m.pc,
+            },
+            None => match self.world.records().root_end() {
+                None => PlainState::Running,
+                Some(end) => PlainState::Ended(end),
+            },
+        }
+    }
+
+    /// One event; returns whether it was a step of a task that could step. An `Err` changes
+    /// nothing.
+    ///
+    /// # Errors
+    ///
+    /// There is no memory.
+    pub fn apply(
+        &mut self,
+        alloc: Global,
+        program: &Program,
+        event: Event,
+    ) -> Result<bool, AllocError>
+        ensures ok { OnOk result (self.new ≡ run.apply program.now self.old event) }
+        ensures steps { IfOk result (λ b.
+            b ≡ (run.is_step event && run.counts program.now self.old event)) }
+        ensures err { OnErr result (self.new ≡ self.old) }
+    {
+        if self.misstep.is_some() {
+            return Ok(false);
+        }
+        match event {
+            Event::Step(t) => {
+                let can = can_step(&self.world, program, t);
+                if can {
+                    self.misstep = step(&mut self.world, alloc, program, t)?;
+                }
+                Ok(can)
+            }
+            Event::Interrupt(t) => {
+                self.world.interrupt(t);
+                Ok(false)
+            }
+            Event::Expire(s) => {
+                self.world.expire(s);
+                Ok(false)
+            }
+        }
+    }
+
+    /// The tasks and scopes, unless it stands at a fault.
+    pub fn world(&self) -> Option<&World>
+        ensures running { IfSome result (λ w. self.now ≡ def.Running w.now) }
+        ensures fault { IsNone result → is_fault self.now ≡ true }
+    {
+        match &self.misstep {
+            Some(_) => None,
+            None => Some(&self.world),
+        }
+    }
+
+    /// Where it answers true the two are the same state.
+    pub fn same(&self, other: &Position) -> bool
+        ensures { result ≡ true → self.now ≡ other.now }
+    {
+        match self.misstep {
+            None => match other.misstep {
+                None => self.world.same(&other.world),
+                Some(_) => false,
+            },
+            Some(a) => match other.misstep {
+                None => false,
+                Some(b) => a == b,
+            },
+        }
+    }
+
+    /// A copy.
+    ///
+    /// # Errors
+    ///
+    /// There is no memory.
+    pub fn copied(&self, alloc: Global) -> Result<Position, AllocError>
+        ensures { IfOk result (λ x. x ≡ self.now) }
+    {
+        let world = self.world.copied(alloc)?;
+        Ok(Position {
+            world,
+            misstep: self.misstep,
+        })
+    }
+}

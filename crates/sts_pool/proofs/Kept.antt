@@ -1,0 +1,216 @@
+-- What keeps the facts of a book whose journal is written or only counted.
+use Rattle.std.proofs.Common.{◌≡◌, ℕ, ◌+◌, ◌≤◌, List, [], ◌∷◌, ◌++◌, length, true, false, Option, Some, refl, sym, ap, ◌∙◌, subst, vec_len, vec_capacity, count_by, rules, arith}
+use Rattle.std.specs.Prelude.{IfSome, option_map, unwrap_or}
+use Rattle.sts_model.specs.declared.event.End.{End}
+use Rattle.sts_model.specs.declared.event.Event.{Event}
+use Rattle.sts_model.specs.declared.event.Event.TheVariants as event
+use Rattle.sts_model.specs.declared.record.Frame.{Frame}
+use Rattle.sts_model.specs.Run.{after, is_step}
+use Rattle.sts_model.specs.World.{task_at}
+use Rattle.laws_runs.specs.Runs.{In}
+use Rattle.laws_live.specs.Reading.{lives_in, with_live_frame}
+use Rattle.laws_live.specs.Run.{live_apply, live_steps_in}
+use Rattle.laws_live.specs.Waiting.{live_can_step}
+use Rattle.sts_machine.specs.Machine.{Seen, Stands}
+use Rattle.sts_machine.specs.Slice.{steps_of}
+use Rattle.sts_pool.specs.Book.{BookSeen, HasBookRoom, IsBook, IsKept, MayBe, OfJournal, Records, book_of, outside_entries}
+use Rattle.sts_pool.specs.Journal.{HasRoomFor, Holds, IsRecorded, written}
+use Rattle.sts_pool.specs.Report.{IsEnding, IsReport}
+use Rattle.sts_pool.specs.declared.journal.Journal.{Journal}
+use Rattle.sts_pool.specs.declared.journal.Journal.TheVariants.{Written, Counted}
+use Rattle.sts_pool.proofs.Books.{back_book, entries_fit, entries_more, opening_book, out_book, out_fits, outside_book, released_book, reports, room_kept, stepped_book, steps_counted, still_entries, still_entries_one}
+use Rattle.sts_pool.proofs.Outs.{among, without}
+
+-- ---- a journal of either kind
+
+-- where it holds events with room for more, there is room for more
+fits : (j : Journal) (events : List Event) (room more : ℕ) → Holds j events room → length events + more ≤ room → HasRoomFor j more
+fits (Written v) events room more holds few =
+    let same : length v.items ≡ length events = ap length holds.0 in
+    let enough : room ≤ vec_capacity v = holds.1 in
+    let long : vec_len v ≡ length v.items = search rules in
+    omega (arith, same, enough, few, long)
+fits Counted events room more holds few = tt
+
+-- what was recorded is held
+held : (j l : Journal) (events more : List Event) (room : ℕ) → IsRecorded j l more → Holds j events room → Holds l (events ++ more) room
+held (Written v) (Written w) events more room recorded holds =
+    let enough : room ≤ vec_capacity v = holds.1 in
+    let kept : vec_capacity v ≤ vec_capacity w = recorded.1 in
+    (recorded.0 ∙ ap (λ es. es ++ more) holds.0, omega (arith, enough, kept))
+held Counted Counted events more room recorded holds = tt
+held (Written v) Counted events more room recorded holds = absurd recorded
+held Counted (Written w) events more room recorded holds = absurd recorded
+
+-- and written, where the journal is
+pub written_more : (j l : Journal) (more : List Event) → IsRecorded j l more → written l ≡ option_map (λ journal. journal ++ more) (written j)
+written_more (Written v) (Written w) more recorded = ap Some recorded.0
+written_more Counted Counted more recorded = refl
+written_more (Written v) Counted more recorded = absurd recorded
+written_more Counted (Written w) more recorded = absurd recorded
+
+-- what is written is held
+same_events : (j : Journal) (events entries : List Event) (room : ℕ) → Holds j events room → written j ≡ Some entries → events ≡ entries
+same_events (Written v) events entries room holds e = sym holds.0 ∙ ap (λ o. unwrap_or o []) e
+same_events Counted events entries room holds e = absurd (cc)
+
+-- ---- what is known of a kept book
+
+pub may_be : (m : Seen) (j : Journal) (n : ℕ) (out : List ℕ) (k : ℕ) (is : IsKept m j n out k) → MayBe (book_of m (written j) n out) is.events
+may_be m j n out k is =
+    let counted : length is.events ≡ m.steps + outside_entries is.events = is.book.counted in
+    let entries : outside_entries is.events ≡ n = is.entries in
+    record { stands = is.book.stands; outside = entries; counted = omega (arith, counted, entries) }
+
+-- where not all outside events came, one more may
+pub few_entries : (m : Seen) (j : Journal) (n : ℕ) (out : List ℕ) (k : ℕ) → IsKept m j n out k → (n ≡ 4096 → ⊥) → n + 1 ≤ 4096
+few_entries m j n out k is other =
+    let most = is.book.most in
+    let entries : outside_entries is.events ≡ n = is.entries in
+    omega (arith, most, entries, other)
+
+-- the entries that are written may be the journal's
+pub shown : (m : Seen) (j : Journal) (n : ℕ) (out : List ℕ) (k : ℕ) → IsKept m j n out k → IfSome (written j) (MayBe (book_of m (written j) n out))
+shown m (Written v) n out k is = subst (MayBe (book_of m (Some v.items) n out)) (sym is.holds.0) (may_be m (Written v) n out k is)
+shown m Counted n out k is = tt
+
+-- what holds of all events that may be the journal's holds of the journal
+of_journal : (m : Seen) (j : Journal) (n : ℕ) (out : List ℕ) (k : ℕ) (P : List Event → Type 0) → IsKept m j n out k → ((events : List Event) → MayBe (book_of m (written j) n out) events → P events) → OfJournal (book_of m (written j) n out) P
+of_journal m (Written v) n out k P is all = all v.items (shown m (Written v) n out k is)
+of_journal m Counted n out k P is all = all
+
+pub told : (m : Seen) (j : Journal) (n : ℕ) (out : List ℕ) (k : ℕ) (b : BookSeen) → book_of m (written j) n out ≡ b → (Q : BookSeen → List Event → Type 0) → IsKept m j n out k
+    → ((events : List Event) → MayBe (book_of m (written j) n out) events → Q (book_of m (written j) n out) events) → OfJournal b (Q b)
+told m j n out k b view Q is all =
+    subst (λ z. OfJournal z (Q z)) view (of_journal m j n out k (Q (book_of m (written j) n out)) is all)
+
+-- an event was recorded
+pub records : (m x : Seen) (j l : Journal) (n c : ℕ) (out left : List ℕ) (more : List Event) (b : BookSeen) → book_of m (written j) n out ≡ b → IsRecorded j l more → c ≡ n + outside_entries more
+    → ((events : List Event) → Stands m events → Stands x (events ++ more)) → Records b (book_of x (written l) c left) more
+records m x j l n c out left more b view recorded counted stands =
+    subst (λ z. Records z (book_of x (written l) c left) more) view
+    (record { written = written_more j l more recorded; outside = counted; stands = stands })
+
+-- one from outside is counted
+pub one_outside : (e : Event) (n : ℕ) → is_step e ≡ false → n + 1 ≡ n + outside_entries (e ∷ [])
+one_outside (event.Step t) n outer = absurd (cc)
+one_outside (event.Interrupt t) n outer = omega arith
+one_outside (event.Expire s) n outer = omega arith
+
+-- and steps are not
+pub none_outside : (c t n : ℕ) → n ≡ n + outside_entries (steps_of c t)
+none_outside c t n =
+    let none : outside_entries (steps_of c t) ≡ outside_entries [] = still_entries [] c t in
+    omega (arith, none)
+
+-- ---- what a kept book becomes
+
+-- the room goes over to a machine of the same program
+same_room : (m x : Seen) (j k : ℕ) → x.program ≡ m.program → HasBookRoom m.program j k → HasBookRoom x.program j k
+same_room m x j k same room = room_kept m.program x.program j k j k same (omega arith) (omega arith) room
+
+-- before the first event
+pub opening_kept : (m : Seen) (j : Journal) (room k : ℕ) → Stands m [] → m.steps ≡ 0 → Holds j [] room → HasBookRoom m.program room k → IsKept m j 0 [] k
+opening_kept m j room k stands none holds has = record { events = []; book = opening_book m stands none; entries = refl; journal_room = room; holds = holds; room = has }
+
+-- where more events lead to a book, there is room for them
+more_fits : (m x : Seen) (j : Journal) (n : ℕ) (out left : List ℕ) (k c : ℕ) (more : List Event) (is : IsKept m j n out k) → x.program ≡ m.program → length more ≡ c → IsBook x (is.events ++ more) left → HasRoomFor j c
+more_fits m x j n out left k c more is same long book =
+    let few = entries_fit m x is.events more left is.journal_room k same is.room book in
+    fits j is.events is.journal_room c is.holds (omega (arith, few, long))
+
+-- and once they are recorded it is kept
+more_kept : (m x : Seen) (j l : Journal) (n c : ℕ) (out left : List ℕ) (k : ℕ) (more : List Event) (is : IsKept m j n out k) → x.program ≡ m.program → IsRecorded j l more → outside_entries (is.events ++ more) ≡ c → IsBook x (is.events ++ more) left → IsKept x l c left k
+more_kept m x j l n c out left k more is same recorded entries book =
+    record {
+      events = is.events ++ more;
+      book = book;
+      entries = entries;
+      journal_room = is.journal_room;
+      holds = held j l is.events more is.journal_room recorded is.holds;
+      room = same_room m x is.journal_room k same is.room;
+    }
+
+-- a turn of a task that can step and isn't out
+module _ (m x : Seen) (j : Journal) (n : ℕ) (out : List ℕ) (k t : ℕ) (is : IsKept m j n out k) (same : x.program ≡ m.program) (stands : (events : List Event) → Stands m events → Stands x (events ++ event.Step t ∷ [])) (live : x.live ≡ live_apply m.program m.live (event.Step t)) (steps : x.steps ≡ m.steps + live_steps_in m.program m.live (event.Step t)) (can : live_can_step m.program m.live t ≡ true) (absent : among out t ≡ false) where
+  stepped : IsBook x (is.events ++ event.Step t ∷ []) out
+  stepped = stepped_book m x is.events out t is.book is.room.stay stands live steps can absent
+
+  pub step_fits : HasRoomFor j 1
+  step_fits = more_fits m x j n out out k 1 (event.Step t ∷ []) is same refl stepped
+
+  pub step_kept : (l : Journal) → IsRecorded j l (event.Step t ∷ []) → IsKept x l n out k
+  step_kept l recorded = more_kept m x j l n n out out k (event.Step t ∷ []) is same recorded (still_entries_one is.events t ∙ is.entries) stepped
+
+-- an event from outside
+module _ (m x : Seen) (j : Journal) (n : ℕ) (out : List ℕ) (k : ℕ) (e : Event) (is : IsKept m j n out k) (few : n + 1 ≤ 4096) (outer : is_step e ≡ false) (same : x.program ≡ m.program) (stands : (events : List Event) → Stands m events → Stands x (events ++ e ∷ [])) (live : x.live ≡ live_apply m.program m.live e) (steps : x.steps ≡ m.steps + live_steps_in m.program m.live e) where
+  entered : IsBook x (is.events ++ e ∷ []) out
+  entered =
+      let entries : outside_entries is.events ≡ n = is.entries in
+      outside_book m x is.events out e is.book is.room.stay stands live steps outer (omega (arith, entries, few))
+
+  pub event_fits : HasRoomFor j 1
+  event_fits = more_fits m x j n out out k 1 (e ∷ []) is same refl entered
+
+  pub event_kept : (l : Journal) → IsRecorded j l (e ∷ []) → IsKept x l (n + 1) out k
+  event_kept l recorded =
+      let more = entries_more is.events (e ∷ []) in
+      let one = one_outside e n outer in
+      let entries : outside_entries is.events ≡ n = is.entries in
+      more_kept m x j l n (n + 1) out out k (e ∷ []) is same recorded (omega (arith, more, one, entries)) entered
+
+-- a slice came back
+module _ (m x : Seen) (j : Journal) (n : ℕ) (out : List ℕ) (k c t : ℕ) (f : Frame) (is : IsKept m j n out k) (same : x.program ≡ m.program) (stands : (events : List Event) → Stands m events → Stands x (events ++ steps_of c t)) (live : x.live ≡ with_live_frame m.live t f) (steps : x.steps ≡ m.steps + c) where
+  back : IsBook x (is.events ++ steps_of c t) (without t out)
+  back = back_book m x is.events out c t f is.book stands live steps
+
+  pub back_fits : length (steps_of c t) ≡ c → HasRoomFor j c
+  back_fits long = more_fits m x j n out (without t out) k c (steps_of c t) is same long back
+
+  pub back_kept : (l : Journal) → IsRecorded j l (steps_of c t) → IsKept x l n (without t out) k
+  back_kept l recorded = more_kept m x j l n n out (without t out) k (steps_of c t) is same recorded (still_entries is.events c t ∙ is.entries) back
+
+-- a task is out, too, for which there was room
+pub out_kept : (m : Seen) (j : Journal) (n : ℕ) (out : List ℕ) (k t : ℕ) → IsKept m j n out k → among out t ≡ false → lives_in m.live t ≡ true → IsKept m j n (out ++ t ∷ []) k
+out_kept m j n out k t is absent alive =
+    record {
+      events = is.events;
+      book = out_book m is.events out t is.book absent alive;
+      entries = is.entries;
+      journal_room = is.journal_room;
+      holds = is.holds;
+      room = is.room;
+    }
+
+pub out_kept_fits : (m : Seen) (j : Journal) (n : ℕ) (out : List ℕ) (k t : ℕ) → IsKept m j n (out ++ t ∷ []) k → length out + 1 ≤ k
+out_kept_fits m j n out k t is = out_fits m is.events out t is.journal_room k is.room is.book
+
+-- a task is not out any more
+pub released_kept : (m : Seen) (j : Journal) (n : ℕ) (out : List ℕ) (k t : ℕ) → IsKept m j n out k → IsKept m j n (without t out) k
+released_kept m j n out k t is =
+    record {
+      events = is.events;
+      book = released_book m is.events out t is.book;
+      entries = is.entries;
+      journal_room = is.journal_room;
+      holds = is.holds;
+      room = is.room;
+    }
+
+-- ---- what is reported
+
+-- how it ended, if its root has
+pub ends : (m : Seen) (j : Journal) (n : ℕ) (out : List ℕ) (k : ℕ) (end : Option End) (o : End) → IsKept m j n out k → ((events : List Event) → Stands m events → In (λ w. end ≡ (task_at w 0).outcome) (after m.program events)) → end ≡ Some o → IsEnding m.program o m.steps
+ends m j n out k end o is ended some =
+    record {
+      journal = is.events;
+      report = reports m is.events out end o is.book is.room.main (ended is.events is.book.stands) some;
+      counted = steps_counted m is.events out is.book;
+    }
+
+-- and the journal that led there, where it is written
+pub reported : (m : Seen) (j : Journal) (n : ℕ) (out : List ℕ) (k : ℕ) (end : Option End) (o : End) (entries : List Event) → IsKept m j n out k → ((events : List Event) → Stands m events → In (λ w. end ≡ (task_at w 0).outcome) (after m.program events)) → end ≡ Some o → written j ≡ Some entries
+    → IsReport m.program entries o × (m.steps ≡ count_by is_step entries)
+reported m j n out k end o entries is ended some e =
+    subst (λ es. IsReport m.program es o × (m.steps ≡ count_by is_step es)) (same_events j is.events entries is.journal_room is.holds e)
+    (reports m is.events out end o is.book is.room.main (ended is.events is.book.stands) some, steps_counted m is.events out is.book)

@@ -1,0 +1,68 @@
+//! The journal of a run: its entries, or nothing where nobody asks for them.
+
+ghost use Rattle.std.specs.Prelude.{◌≡◌, ◌∷◌, [], IfOk, IfSome};
+ghost use Rattle.sts_machine.specs.Slice.{steps_of};
+ghost use Rattle.sts_pool.specs.Journal as def;
+
+use std::alloc::{AllocError, Global};
+use sts_model::Event;
+
+/// The entries so far, oldest first; or none of them, where they are only counted.
+#[derive(Drop)]
+pub(crate) enum Journal {
+    Written(Vec<Event>),
+    Counted,
+}
+
+impl Journal {
+    /// A journal before the first entry: one that is written has room for as many entries.
+    ///
+    /// # Errors
+    ///
+    /// Want of memory.
+    pub(crate) fn start(
+        alloc: Global,
+        is_written: bool,
+        entries: usize,
+    ) -> Result<Journal, AllocError>
+        ensures written { IfOk result (λ j. def.written j ≡ def.opened is_written) }
+        ensures holds { IfOk result (λ j. def.Holds j [] entries) }
+    {
+        if !is_written {
+            return Ok(Journal::Counted);
+        }
+        Ok(Journal::Written(Vec::with_capacity(alloc, entries)?))
+    }
+
+    /// The entries, if they are written.
+    pub(crate) fn written(&self) -> &[Event]
+        ensures { IfSome (def.written self.now) (λ entries. result.now ≡ entries) }
+    {
+        match self {
+            Journal::Written(entries) => entries.as_slice(),
+            Journal::Counted => &[],
+        }
+    }
+
+    /// Records an event.
+    #[inline(always)]
+    pub(crate) fn push(&mut self, event: Event)
+        requires { def.HasRoomFor self.old 1 }
+        ensures { def.IsRecorded self.old self.new (event ∷ []) }
+    {
+        if let Journal::Written(entries) = self {
+            entries.push_reserved(event);
+        }
+    }
+
+    /// Records as many steps of a task.
+    pub(crate) fn push_steps(&mut self, task: u32, count: u32)
+        requires { def.HasRoomFor self.old count }
+        ensures { def.IsRecorded self.old self.new (steps_of count task) }
+    {
+        if let Journal::Written(entries) = self {
+            let length = entries.len() + count as usize;
+            entries.resize(length, Event::Step(task)).unwrap();
+        }
+    }
+}

@@ -1,0 +1,203 @@
+-- What stands at each birth, when an entry or the table changes.
+use Rattle.std.proofs.Common.{◌≡◌, ◌≢◌, ℕ, zero, suc, ◌+◌, ◌<◌, ◌≤◌, List, [], ◌∷◌, ◌++◌, length}
+use Rattle.std.proofs.Common.{Option, Some, None, refl, sym, ◌∙◌, ap, arith, get_or, set, nat_eq}
+use Rattle.std.proofs.Common.{Bool, true, false, nat_lt, length-set, get_or-set_same}
+use Rattle.std.proofs.Common.{get_or-set_other}
+use Rattle.std.proofs.lemmas.Bool.Decides.{nat_tests}
+use Rattle.std.proofs.lemmas.List.{ext_get_or, get_or_past}
+use Rattle.std.specs.Borrow.{Bor, MutBor}
+use Rattle.std.specs.Option.{option_copied, option_copied_mut, IsSome}
+use Rattle.sts_records.specs.Holes.{Holes, key_at}
+use Rattle.sts_records.specs.Slots.{body_of, slots}
+use Rattle.sts_records.specs.declared.held.Entry.{Entry}
+
+module _ {T : Type 0} where
+  pub length-slots : (b : ℕ) (keys : List ℕ) (entries : List (Option (Entry T))) → length (slots b keys entries) ≡ length keys
+  length-slots b [] entries = refl
+  length-slots b (k ∷ keys) entries = ap suc (length-slots (suc b) keys entries)
+
+  pub slot_from : (b : ℕ) (keys : List ℕ) (entries : List (Option (Entry T))) (i : ℕ) → i < length keys → get_or (slots b keys entries) i None ≡ body_of (b + i) (get_or entries (get_or keys i 0) None)
+  slot_from b [] entries i less = absurd (omega arith)
+  slot_from b (k ∷ keys) entries zero less = let e : b + 0 ≡ b = omega arith in rw e refl
+  slot_from b (k ∷ keys) entries (suc i) less =
+      let e : b + suc i ≡ suc b + i = omega arith in
+      rw e (slot_from (suc b) keys entries i (omega arith))
+
+  -- within the table
+  pub slot_is : (keys : List ℕ) (entries : List (Option (Entry T))) (i : ℕ) → i < length keys → get_or (slots 0 keys entries) i None ≡ body_of i (get_or entries (get_or keys i 0) None)
+  slot_is keys entries i less = let e : 0 + i ≡ i = omega arith in rw e at (slot_from 0 keys entries i less)
+
+  -- past it
+  pub slot_past : (keys : List ℕ) (entries : List (Option (Entry T))) (i : ℕ) → length keys ≤ i → get_or (slots 0 keys entries) i None ≡ None
+  slot_past keys entries i le = let n = length-slots 0 keys entries in get_or_past (slots 0 keys entries) i None (omega (arith, n))
+
+  -- a birth whose record stands: its key, and its entry
+  pub record Stands (keys : List ℕ) (entries : List (Option (Entry T))) (birth : ℕ) : Type 0 where
+    pub less : birth < length keys
+    pub entry : Entry T
+    pub is : get_or entries (get_or keys birth 0) None ≡ Some entry
+    pub own : entry.birth ≡ birth
+    pub body : get_or (slots 0 keys entries) birth None ≡ Some entry.body
+
+  body_some : (b : ℕ) (o : Option (Entry T)) → body_of b o ≢ None → (e : Entry T) × (o ≡ Some e) × (e.birth ≡ b) × (body_of b o ≡ Some e.body)
+  body_some b None h = absurd (h refl)
+  body_some b (Some e) h = by (nat_eq e.birth b) refl
+    where
+      by : (t : Bool) → nat_eq e.birth b ≡ t → (x : Entry T) × (Some e ≡ Some x) × (x.birth ≡ b) × (body_of b (Some e) ≡ Some x.body)
+      by true q = (e, refl, grind (arith, nat_tests), rw q refl)
+      by false q = absurd (h (rw q refl))
+
+  pub stands : (keys : List ℕ) (entries : List (Option (Entry T))) (birth : ℕ) → get_or (slots 0 keys entries) birth None ≢ None → Stands keys entries birth
+  stands keys entries birth h = by (nat_lt birth (length keys)) refl
+    where
+      by : (t : Bool) → nat_lt birth (length keys) ≡ t → Stands keys entries birth
+      by true q =
+          let less : birth < length keys = grind (arith, nat_tests) in
+          let at = slot_is keys entries birth less in
+          let s = body_some birth (get_or entries (get_or keys birth 0) None) (λ e. h (at ∙ e)) in
+          record { less = less; entry = s.0; is = s.1; own = s.2; body = at ∙ s.3 }
+      by false q = absurd (h (slot_past keys entries birth (grind (arith, nat_tests))))
+
+  -- two tables of one length, alike but at one birth
+  pub written : (keys : List ℕ) (old new : List (Option (Entry T))) (birth : ℕ) (o : Option T) → birth < length keys → body_of birth (get_or new (get_or keys birth 0) None) ≡ o → ((i : ℕ) → i ≢ birth → body_of i (get_or new (get_or keys i 0) None) ≡ body_of i (get_or old (get_or keys i 0) None)) → slots 0 keys new ≡ set (slots 0 keys old) birth o
+  written keys old new birth o less here others =
+      ext_get_or None _ _ (length-slots 0 keys new ∙ sym (length-set (slots 0 keys old) birth o ∙ length-slots 0 keys old))
+      (λ i l. let inside : i < length keys = rw (length-slots 0 keys new) at l in by i inside (nat_eq i birth) refl)
+    where
+      by : (i : ℕ) → i < length keys → (t : Bool) → nat_eq i birth ≡ t → get_or (slots 0 keys new) i None ≡ get_or (set (slots 0 keys old) birth o) i None
+      by i inside true q =
+          let s : i ≡ birth = grind (arith, nat_tests) in
+          let n = length-slots 0 keys old in
+          let l : birth < length (slots 0 keys old) = rw n less in
+          rw (s, get_or-set_same (slots 0 keys old) birth o None l) (slot_is keys new birth less ∙ here)
+      by i inside false q =
+          let s : i ≢ birth = grind (arith, nat_tests) in
+          rw (get_or-set_other (slots 0 keys old) birth i o None s) (slot_is keys new i inside ∙ others i s ∙ sym (slot_is keys old i inside))
+
+  body_other : (i b : ℕ) (x : T) → i ≢ b → body_of i (Some (record { birth = b; body = x })) ≡ None
+  body_other i b x ne = let q : nat_eq b i ≡ false = grind (arith, nat_tests) in rw q refl
+
+  body_own : (b : ℕ) (x : T) → body_of b (Some (record { birth = b; body = x })) ≡ Some x
+  body_own b x = let q : nat_eq b b ≡ true = grind (arith, nat_tests) in rw q refl
+
+  -- the entry of one birth is replaced by another of that birth
+  pub rewritten : (keys : List ℕ) (old new : List (Option (Entry T))) (birth : ℕ) (e : Entry T) (x : T) → birth < length keys → get_or old (get_or keys birth 0) None ≡ Some e → e.birth ≡ birth → get_or new (get_or keys birth 0) None ≡ Some (record { birth = birth; body = x }) → ((j : ℕ) → j ≢ get_or keys birth 0 → get_or new j None ≡ get_or old j None) → slots 0 keys new ≡ set (slots 0 keys old) birth (Some x)
+  rewritten keys old new birth e x less was own is others =
+      written keys old new birth (Some x) less (rw is (body_own birth x))
+      (λ i ne. by i ne (nat_eq (get_or keys i 0) (get_or keys birth 0)) refl)
+    where
+      by : (i : ℕ) → i ≢ birth → (t : Bool) → nat_eq (get_or keys i 0) (get_or keys birth 0) ≡ t → body_of i (get_or new (get_or keys i 0) None) ≡ body_of i (get_or old (get_or keys i 0) None)
+      by i ne true q =
+          let s : get_or keys i 0 ≡ get_or keys birth 0 = grind (arith, nat_tests) in
+          let r : nat_eq e.birth i ≡ false = grind (arith, nat_tests) in
+          rw (s, is, was, body_other i birth x ne) (rw r refl)
+      by i ne false q = let s : get_or keys i 0 ≢ get_or keys birth 0 = grind (arith, nat_tests) in rw (others (get_or keys i 0) s) refl
+
+  -- the entry of one birth is taken out
+  pub emptied : (keys : List ℕ) (old new : List (Option (Entry T))) (birth : ℕ) (e : Entry T) → birth < length keys → get_or old (get_or keys birth 0) None ≡ Some e → e.birth ≡ birth → get_or new (get_or keys birth 0) None ≡ None → ((j : ℕ) → j ≢ get_or keys birth 0 → get_or new j None ≡ get_or old j None) → slots 0 keys new ≡ set (slots 0 keys old) birth None
+  emptied keys old new birth e less was own is others =
+      written keys old new birth None less (rw is refl)
+      (λ i ne. by i ne (nat_eq (get_or keys i 0) (get_or keys birth 0)) refl)
+    where
+      by : (i : ℕ) → i ≢ birth → (t : Bool) → nat_eq (get_or keys i 0) (get_or keys birth 0) ≡ t → body_of i (get_or new (get_or keys i 0) None) ≡ body_of i (get_or old (get_or keys i 0) None)
+      by i ne true q =
+          let s : get_or keys i 0 ≡ get_or keys birth 0 = grind (arith, nat_tests) in
+          let r : nat_eq e.birth i ≡ false = grind (arith, nat_tests) in
+          rw (s, is, was) (rw r refl)
+      by i ne false q = let s : get_or keys i 0 ≢ get_or keys birth 0 = grind (arith, nat_tests) in rw (others (get_or keys i 0) s) refl
+
+  -- what a look-up finds
+  pub none_past : (keys : List ℕ) (entries : List (Option (Entry T))) (birth : ℕ) → false ≡ nat_lt birth (length keys) → None ≡ get_or (slots 0 keys entries) birth None
+  none_past keys entries birth e = sym (slot_past keys entries birth (grind (arith, nat_tests)))
+
+  pub none_at : (keys : List ℕ) (entries : List (Option (Entry T))) (birth k : ℕ) → birth < length keys → k ≡ get_or keys birth 0 → None ≡ get_or entries k None → None ≡ get_or (slots 0 keys entries) birth None
+  none_at keys entries birth k less e h = rw (slot_is keys entries birth less, ← e, ← h) refl
+
+  pub some_at : (keys : List ℕ) (entries : List (Option (Entry T))) (birth k : ℕ) (x : Entry T) → birth < length keys → k ≡ get_or keys birth 0 → Some x ≡ get_or entries k None → x.birth ≡ birth → Some x.body ≡ get_or (slots 0 keys entries) birth None
+  some_at keys entries birth k x less e h own = let q : nat_eq x.birth birth ≡ true = grind (arith, nat_tests) in rw (slot_is keys entries birth less, ← e, ← h) (rw q refl)
+
+  pub none_other : (keys : List ℕ) (entries : List (Option (Entry T))) (birth k : ℕ) (x : Entry T) → birth < length keys → k ≡ get_or keys birth 0 → Some x ≡ get_or entries k None → x.birth ≢ birth → None ≡ get_or (slots 0 keys entries) birth None
+  none_other keys entries birth k x less e h other = let q : nat_eq x.birth birth ≡ false = grind (arith, nat_tests) in rw (slot_is keys entries birth less, ← e, ← h) (rw q refl)
+
+  inside_of : (entries : List (Option (Entry T))) (k : ℕ) (e : Entry T) → get_or entries k None ≡ Some e → k < length entries
+  inside_of [] k e h = cc
+  inside_of (x ∷ xs) zero e h = omega arith
+  inside_of (x ∷ xs) (suc k) e h = let i = inside_of xs k e h in omega (arith, i)
+
+  -- a vacant key gets the entry of the next birth
+  same_entries : (b n : ℕ) (keys : List ℕ) (old new : List (Option (Entry T))) (k : ℕ) (x : T) → b + length keys ≤ n → get_or old k None ≡ None → get_or new k None ≡ Some (record { birth = n; body = x }) → ((j : ℕ) → j ≢ k → get_or new j None ≡ get_or old j None) → slots b keys new ≡ slots b keys old
+  same_entries b n [] old new k x le was is others = refl
+  same_entries b n (j ∷ keys) old new k x le was is others = by (nat_eq j k) refl (same_entries (suc b) n keys old new k x (omega arith) was is others)
+    where
+      by : (t : Bool) → nat_eq j k ≡ t → slots (suc b) keys new ≡ slots (suc b) keys old → slots b (j ∷ keys) new ≡ slots b (j ∷ keys) old
+      by true q rest =
+          let s : j ≡ k = grind (arith, nat_tests) in
+          rw (s, is, was, body_other b n x (omega arith), rest) refl
+      by false q rest = let s : j ≢ k = grind (arith, nat_tests) in rw (others j s, rest) refl
+
+  more_keys : (b : ℕ) (keys : List ℕ) (entries : List (Option (Entry T))) (k : ℕ) → slots b (keys ++ k ∷ []) entries ≡ slots b keys entries ++ body_of (b + length keys) (get_or entries k None) ∷ []
+  more_keys b [] entries k = let e : b + 0 ≡ b = omega arith in rw e refl
+  more_keys b (j ∷ keys) entries k =
+      let e : b + suc (length keys) ≡ suc b + length keys = omega arith in
+      rw e (ap (λ l. body_of b (get_or entries j None) ∷ l) (more_keys (suc b) keys entries k))
+
+  pub born : (keys : List ℕ) (old new : List (Option (Entry T))) (k : ℕ) (x : T) → get_or old k None ≡ None → get_or new k None ≡ Some (record { birth = length keys; body = x }) → ((j : ℕ) → j ≢ k → get_or new j None ≡ get_or old j None) → slots 0 (keys ++ k ∷ []) new ≡ slots 0 keys old ++ Some x ∷ []
+  born keys old new k x was is others =
+      let e : 0 + length keys ≡ length keys = omega arith in
+      rw (more_keys 0 keys new k, e, same_entries 0 (length keys) keys old new k x (omega arith) was is others, is, body_own (length keys) x) refl
+
+  -- a birth without a record
+  pub skipped : (keys : List ℕ) (entries : List (Option (Entry T))) (k : ℕ) → get_or entries k None ≡ None → slots 0 (keys ++ k ∷ []) entries ≡ slots 0 keys entries ++ None ∷ []
+  skipped keys entries k was = let more = more_keys 0 keys entries k in rw was at more
+
+  -- what stands has the key that it was given, and the entry under that key has its birth
+  pub key_is : (keys : List ℕ) (entries : List (Option (Entry T))) (birth key : ℕ) → key_at (slots 0 keys entries) keys birth ≡ Some key → (e : Entry T) × (get_or entries key None ≡ Some e) × (e.birth ≡ birth) × (birth < length keys)
+  key_is keys entries birth key h = by (get_or (slots 0 keys entries) birth None) refl
+    where
+      by : (o : Option T) → get_or (slots 0 keys entries) birth None ≡ o → (e : Entry T) × (get_or entries key None ≡ Some e) × (e.birth ≡ birth) × (birth < length keys)
+      by None q = let no : None ≡ Some key = rw q at h in cc
+      by (Some x) q =
+          let s = stands keys entries birth (λ n. let no : Some x ≡ None = sym q ∙ n in cc) in
+          let same : Some (get_or keys birth 0) ≡ Some key = rw q at h in
+          let k : get_or keys birth 0 ≡ key = cc in
+          (s.entry, rw k at s.is, s.own, s.less)
+
+  -- and the other way round
+  pub key_none : (keys : List ℕ) (entries : List (Option (Entry T))) (birth : ℕ) → None ≡ get_or (slots 0 keys entries) birth None → None ≡ key_at (slots 0 keys entries) keys birth
+  key_none keys entries birth h = rw (← h) refl
+
+  pub key_some : (keys : List ℕ) (entries : List (Option (Entry T))) (birth key : ℕ) (x : T) → Some x ≡ get_or (slots 0 keys entries) birth None → key ≡ get_or keys birth 0 → Some key ≡ key_at (slots 0 keys entries) keys birth
+  key_some keys entries birth key x h e = rw (← h, e) refl
+
+  pub is_born : (keys : List ℕ) (entries : List (Option (Entry T))) (birth : ℕ) (x : T) → Some x ≡ get_or (slots 0 keys entries) birth None → birth < length keys
+  is_born keys entries birth x h = (stands keys entries birth (λ n. let no : Some x ≡ None = h ∙ n in cc)).less
+
+  -- the body of a standing record is replaced
+  pub lent : (keys : List ℕ) (entries : List (Option (Entry T))) (birth : ℕ) (w : T) (room : ℕ) (s : Stands keys entries birth) → ◌≡◌ {A = Holes T} (record { slots = slots 0 keys (set entries (get_or keys birth 0) (Some (record { birth = s.entry.birth; body = w }))); keys = keys; room = room }) (record { slots = set (slots 0 keys entries) birth (Some w); keys = keys; room = room })
+  lent keys entries birth w room s =
+      let k : ℕ = get_or keys birth 0 in
+      let less : k < length entries = inside_of entries k s.entry s.is in
+      let here = get_or-set_same entries k (Some (record { birth = s.entry.birth; body = w })) None less in
+      ap (λ (l : List (Option T)). record { slots = l; keys = keys; room = room })
+      (rewritten keys entries _ birth s.entry w s.less s.is s.own (here ∙ (rw s.own refl)) (λ j ne. get_or-set_other entries k j _ None ne))
+
+some_same : {X : Type 0} → (a b : X) → Some a ≡ Some b → a ≡ b
+some_same a b e = cc
+
+-- what a `&` to a record has
+pub is_some_got : {X : Type 0} → (o : Option (Bor X)) (x : X) → option_copied o ≡ Some x → IsSome o
+is_some_got None x e = cc
+is_some_got (Some r) x e = refl
+
+pub got_is : {X : Type 0} → (o : Option (Bor X)) (r : Bor X) (x : X) → o ≡ Some r → option_copied o ≡ Some x → r.now ≡ x
+got_is None r x e f = cc
+got_is (Some q) r x e f = let s : q ≡ r = cc in rw s at (some_same _ _ f)
+
+-- what a `&mut` to a record has
+pub is_some_of : {X : Type 0} → (o : Option (MutBor X)) (x : X) → option_copied_mut o ≡ Some x → IsSome o
+is_some_of None x e = cc
+is_some_of (Some r) x e = refl
+
+pub now_of : {X : Type 0} → (o : Option (MutBor X)) (r : MutBor X) (x : X) → o ≡ Some r → option_copied_mut o ≡ Some x → r.now ≡ x
+now_of None r x e f = cc
+now_of (Some q) r x e f = let s : q ≡ r = cc in rw s at (some_same _ _ f)

@@ -1,0 +1,14 @@
+-- The records by birth, as the table of keys and the entries have them (this project's own).
+use Rattle.std.specs.Prelude.{ℕ, suc, List, [], ◌∷◌, Option, Some, None, nat_eq, if◌then◌else◌}
+use Rattle.std.specs.Prelude.{slice_index_or}
+use Rattle.sts_records.specs.declared.held.Entry.{Entry}
+
+-- the body of an entry, if it is that of this birth
+abbrev pub body_of : {T : Type 0} → ℕ → Option (Entry T) → Option T
+body_of b None = None
+body_of b (Some e) = if nat_eq e.birth b then Some e.body else None
+
+-- what stands at each birth from b on, for these keys
+abbrev pub slots : {T : Type 0} → ℕ → List ℕ → List (Option (Entry T)) → List (Option T)
+slots b [] entries = []
+slots b (k ∷ keys) entries = body_of b (slice_index_or entries k None) ∷ slots (suc b) keys entries

@@ -1,0 +1,42 @@
+//! The records.
+
+ghost use Rattle.std.specs.Prelude.{◌≡◌, true};
+
+use crate::same::{Same, same_slices, same_stacks};
+use sts_model::{Completion, Entry, Frame, Loop, Slot};
+
+impl Same for Slot {
+    fn same(&self, other: &Slot) -> bool {
+        *self == *other
+    }
+}
+
+impl Same for Entry {
+    fn same(&self, other: &Entry) -> bool {
+        *self == *other
+    }
+}
+
+impl Same for Loop {
+    fn same(&self, other: &Loop) -> bool {
+        *self == *other
+    }
+}
+
+impl Same for Completion {
+    fn same(&self, other: &Completion) -> bool {
+        *self == *other
+    }
+}
+
+impl Same for Frame {
+    fn same(&self, other: &Frame) -> bool {
+        self.function == other.function
+            && self.pc == other.pc
+            && same_stacks(&self.operands, &other.operands)
+            && same_slices(&self.locals, &other.locals)
+            && same_stacks(&self.loops, &other.loops)
+            && same_stacks(&self.entries, &other.entries)
+            && same_slices(&self.slots, &other.slots)
+    }
+}

@@ -1,5 +1,0 @@
-use Rattle.sts_states.proofs.ComparingLemmas.{are_same_loops}
-use Rattle.sts_states.proofs.same.are_same_loops.Goals as goal
-
-pub returns : goal.returns
-returns c = are_same_loops c.as_slice.result.now c.as_slice-2.result.now _ _ c.eq.result c.as_slice.ensures c.as_slice-2.ensures c.eq.ensures

@@ -1,0 +1,71 @@
+-- What is read of the lists.
+use Rattle.std.proofs.Common.{◌≡◌, ◌≢◌, ℕ, ◌<◌, ◌≤◌, List, [], ◌∷◌, ◌++◌, length, Option, Some, None, refl, sym, ◌∙◌, ap, arith, get_or, false}
+use Rattle.std.proofs.lemmas.List.{length-map}
+use Rattle.std.specs.Prelude.{option_map}
+use Rattle.sts_links.specs.Lists.{first_or, IsList}
+use Rattle.sts_links.specs.declared.links.Ends.{Ends}
+use Rattle.sts_links.proofs.ChainLemmas.{head_link, back_of}
+use Rattle.sts_model.specs.Living.{is_in}
+use Rattle.sts_tree.specs.Births.{births}
+use Rattle.sts_tree.specs.Stored.{task_of, tasks_of, link_at}
+use Rattle.sts_tree.specs.Forest.{is_of, lives_in, families_of, family_of}
+use Rattle.sts_tree.specs.declared.record.Task.{Task}
+use Rattle.sts_tree.specs.declared.record.TaskRecord.{TaskRecord}
+use Rattle.sts_tree.specs.declared.record.ScopeRecord.{ScopeRecord}
+use Rattle.sts_tree.proofs.BirthLemmas.{births_none}
+use Rattle.sts_tree.proofs.ForkLemmas.{not_lives_of, other_scope}
+use Rattle.sts_tree.proofs.HoldingLemmas.{map_at, inside_of, no_link}
+use Rattle.sts_tree.proofs.Rows.{family_at}
+use Rattle.sts_tree.proofs.Stores.{Stored}
+
+-- a scope that doesn't stand has no subtasks
+none_of_scope : {E : Type 0} → (slots : List (Option TaskRecord)) (rows : List (Option (ScopeRecord E))) (ready : Ends) (room s : ℕ) → Stored slots (families_of rows) ready room → get_or rows s None ≡ None → (k : ℕ) (x : Task) → get_or (tasks_of slots) k None ≡ Some x → is_of s x ≡ false
+none_of_scope slots rows ready room s i none k x at = by x.scope (λ r e. i.homes k r x at e)
+  where
+    family : get_or (families_of rows) s None ≡ None
+    family = map_at family_of rows s ∙ ap (option_map family_of) none
+
+    by : (o : Option ℕ) → ((r : ℕ) → o ≡ Some r → get_or (families_of rows) r None ≢ None) → is_in s o ≡ false
+    by None h = refl
+    by (Some r) h = other_scope s r (λ e. h r refl (rw (← e) family))
+
+pub no_subtasks : {E : Type 0} → (slots : List (Option TaskRecord)) (rows : List (Option (ScopeRecord E))) (ready : Ends) (room s : ℕ) → Stored slots (families_of rows) ready room → get_or rows s None ≡ None → births (is_of s) 0 (tasks_of slots) ≡ []
+no_subtasks slots rows ready room s i none = births_none (is_of s) 0 (tasks_of slots) (none_of_scope slots rows ready room s i none)
+
+pub no_living : {E : Type 0} → (slots : List (Option TaskRecord)) (rows : List (Option (ScopeRecord E))) (ready : Ends) (room s : ℕ) → Stored slots (families_of rows) ready room → get_or rows s None ≡ None → births (lives_in s) 0 (tasks_of slots) ≡ []
+no_living slots rows ready room s i none = births_none (lives_in s) 0 (tasks_of slots) (λ k x at. not_lives_of s x (none_of_scope slots rows ready room s i none k x at))
+
+-- a link's key has a record
+small_link : (slots : List (Option TaskRecord)) (m k : ℕ) → length (tasks_of slots) ≤ 1000000 → link_at slots m k ≢ None → k < 4294967296
+small_link slots m k few h =
+    let l = inside_of slots k (λ n. h (no_link slots m k n)) in
+    let n = length-map slots (option_map task_of) in
+    omega (arith, l, n, few)
+
+pub small_first : (slots : List (Option TaskRecord)) (m : ℕ) (list : Ends) (ks : List ℕ) (k : ℕ) → length (tasks_of slots) ≤ 1000000 → IsList (link_at slots m) list ks → list.first ≡ Some k → k < 4294967296
+small_first slots m list ks k few is e = small_link slots m k few (head_link (link_at slots m) None ks None k is.linked (sym is.first ∙ e))
+
+pub small_after : (slots : List (Option TaskRecord)) (m : ℕ) (list : Ends) (front : List ℕ) (key : ℕ) (back : List ℕ) (k : ℕ) → length (tasks_of slots) ≤ 1000000 → IsList (link_at slots m) list (front ++ key ∷ back) → first_or back None ≡ Some k → k < 4294967296
+small_after slots m list front key back k few is e =
+    let here = back_of (link_at slots m) None front (key ∷ back) None is.linked in
+    small_link slots m k few (head_link (link_at slots m) (Some key) back None k here.1 e)
+
+no_middle : (front : List ℕ) (key : ℕ) (back : List ℕ) → [] ≡ front ++ key ∷ back → ⊥
+no_middle [] key back e = cc
+no_middle (x ∷ front) key back e = cc
+
+-- the list in which a living subtask stands
+pub lists_living : {E : Type 0} → (slots : List (Option TaskRecord)) (rows : List (Option (ScopeRecord E))) (ready : Ends) (room s t : ℕ) (front back : List ℕ) → Stored slots (families_of rows) ready room → births (lives_in s) 0 (tasks_of slots) ≡ front ++ t ∷ back → (list : Ends) × IsList (link_at slots 1) list (front ++ t ∷ back)
+lists_living {E} slots rows ready room s t front back i e = by (get_or rows s None) refl
+  where
+    by : (o : Option (ScopeRecord E)) → get_or rows s None ≡ o → (list : Ends) × IsList (link_at slots 1) list (front ++ t ∷ back)
+    by None q = absurd (no_middle front t back (sym (no_living slots rows ready room s i q) ∙ e))
+    by (Some row) q = (row.living, rw (← e) (i.living s (family_of row) (family_at rows s row q)))
+
+-- the list in which a subtask stands
+pub lists_forks : {E : Type 0} → (slots : List (Option TaskRecord)) (rows : List (Option (ScopeRecord E))) (ready : Ends) (room s t : ℕ) (front back : List ℕ) → Stored slots (families_of rows) ready room → births (is_of s) 0 (tasks_of slots) ≡ front ++ t ∷ back → (list : Ends) × IsList (link_at slots 0) list (front ++ t ∷ back)
+lists_forks {E} slots rows ready room s t front back i e = by (get_or rows s None) refl
+  where
+    by : (o : Option (ScopeRecord E)) → get_or rows s None ≡ o → (list : Ends) × IsList (link_at slots 0) list (front ++ t ∷ back)
+    by None q = absurd (no_middle front t back (sym (no_subtasks slots rows ready room s i q) ∙ e))
+    by (Some row) q = (row.forks, rw (← e) (i.forks s (family_of row) (family_at rows s row q)))

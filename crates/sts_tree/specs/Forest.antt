@@ -1,0 +1,148 @@
+-- The tasks and scopes that stand, by birth, and what their lists are (this project's own).
+use Rattle.std.specs.Prelude.{◌≡◌, ◌≢◌, ℕ, ◌+◌, ◌<◌, ◌≤◌, List, [], map, length, count_by, is_some}
+use Rattle.std.specs.Prelude.{Bool, true, false, ◌&&◌, Option, Some, None, option_map}
+use Rattle.std.specs.Prelude.{slice_index_or, slice_set}
+use Rattle.sts_code.specs.declared.instr.Joiner.{Joiner}
+use Rattle.sts_joiners.specs.Tallied.{ends_told, tallied, with_end}
+use Rattle.sts_links.specs.Lists.{IsList, first_or}
+use Rattle.sts_links.specs.declared.links.Link.{Link}
+use Rattle.sts_links.specs.declared.links.Ends.{Ends}
+use Rattle.sts_model.specs.Living.{is_in}
+use Rattle.sts_model.specs.Told.{cancels_told}
+use Rattle.sts_model.specs.declared.event.End.{End}
+use Rattle.sts_model.specs.declared.event.Phase.TheVariants.{Opened}
+use Rattle.sts_model.specs.declared.event.Stand.TheVariants.{Free}
+use Rattle.sts_tree.specs.Births.{births, drop_if, has}
+use Rattle.sts_tree.specs.Stored.{link_at, walk}
+use Rattle.sts_tree.specs.declared.record.Task.{Task}
+use Rattle.sts_tree.specs.declared.record.TaskRecord.{TaskRecord}
+use Rattle.sts_tree.specs.declared.record.Scope.{Scope}
+use Rattle.sts_tree.specs.declared.record.ScopeRecord.{ScopeRecord}
+
+-- by birth, with a hole for each that no longer stands; the ready list in its order; the keys that
+-- births were given; how many more fit
+pub record Forest (E : Type 0) : Type 0 where
+  pub tasks : List (Option Task)
+  pub scopes : List (Option (Scope E))
+  pub ready : List ℕ
+  pub task_keys : List ℕ
+  pub scope_keys : List ℕ
+  pub task_room : ℕ
+  pub scope_room : ℕ
+
+-- is the task a subtask of the scope s, and does it live?
+abbrev pub is_of : ℕ → Task → Bool
+is_of s task = is_in s task.scope
+
+abbrev pub lives_in : ℕ → Task → Bool
+lives_in s task = is_in s task.scope && task.lives
+
+-- the lists of a scope, and how many ends its joiner was told
+pub record Family : Type 0 where
+  pub forks : Ends
+  pub fork_count : ℕ
+  pub living : Ends
+  pub ends : ℕ
+
+abbrev pub family_of : {E : Type 0} → ScopeRecord E → Family
+family_of r = record {
+  forks = r.forks;
+  fork_count = r.fork_count;
+  living = r.living;
+  ends = ends_told r.scope.tally;
+}
+
+abbrev pub scope_of : {E : Type 0} → ScopeRecord E → Scope E
+scope_of r = r.scope
+
+abbrev pub families_of : {E : Type 0} → List (Option (ScopeRecord E)) → List (Option Family)
+families_of rows = map (option_map family_of) rows
+
+abbrev pub scopes_of : {E : Type 0} → List (Option (ScopeRecord E)) → List (Option (Scope E))
+scopes_of rows = map (option_map scope_of) rows
+
+-- does a subtask of s live?
+abbrev pub any_lives : List (Option Task) → ℕ → Bool
+any_lives tasks s = is_some (first_or (births (lives_in s) 0 tasks) None)
+
+-- the ready list
+abbrev pub ready_of : List (Option TaskRecord) → Ends → List ℕ
+ready_of slots ready = walk (link_at slots 2) (length slots) ready.first
+
+-- the lists by index are those of the tasks, in order of birth; the ready list has the tasks that
+-- are marked so
+pub record IsForest (at : ℕ → ℕ → Option Link)
+    (tasks : List (Option Task)) (families : List (Option Family))
+    (ready : Ends) (keys : List ℕ) (room : ℕ) : Type 0 where
+  pub forks : (s : ℕ) (f : Family) → slice_index_or families s None ≡ Some f
+      → IsList (at 0) f.forks (births (is_of s) 0 tasks)
+  pub living : (s : ℕ) (f : Family) → slice_index_or families s None ≡ Some f
+      → IsList (at 1) f.living (births (lives_in s) 0 tasks)
+  pub counts : (s : ℕ) (f : Family) → slice_index_or families s None ≡ Some f
+      → f.fork_count ≡ length (births (is_of s) 0 tasks)
+  pub told : (s : ℕ) (f : Family) → slice_index_or families s None ≡ Some f
+      → f.ends + length (births (lives_in s) 0 tasks) ≤ f.fork_count
+  pub is_ready : IsList (at 2) ready keys
+  pub flags : (t : ℕ) (x : Task) → slice_index_or tasks t None ≡ Some x → x.ready ≡ has t keys
+  pub homes : (t s : ℕ) (x : Task) → slice_index_or tasks t None ≡ Some x → x.scope ≡ Some s
+      → slice_index_or families s None ≢ None
+  pub few : count_by is_some tasks + room ≤ 65536
+  pub born : length tasks ≤ 1000000
+
+-- ---- the calls
+
+-- a new scope
+abbrev pub opened : {E : Type 0} → ℕ → Joiner → Bool → E → Scope E
+opened owner joiner timed environment =
+    record {
+      owner = owner;
+      timed = timed;
+      phase = Opened;
+      cancelled = false;
+      expired = false;
+      tally = tallied joiner [];
+      environment = environment;
+    }
+
+-- a new subtask of s
+abbrev pub subtask : ℕ → Bool → Task
+subtask s lives = record {
+  scope = Some s;
+  flag = false;
+  lives = lives;
+  state = None;
+  stand = Free;
+  ready = false;
+}
+
+-- the root task, ready
+abbrev pub root : Task
+root = record { scope = None; flag = false; lives = true; state = None; stand = Free; ready = true }
+
+-- the lists of a scope without subtasks
+abbrev pub no_family : Family
+no_family = record {
+  forks = record { first = None; last = None };
+  fork_count = 0;
+  living = record { first = None; last = None };
+  ends = 0;
+}
+
+-- a scope that stands was told fewer ends than it has subtasks that don't live
+abbrev pub HasSpare : {E : Type 0} → Forest E → ℕ → Type 0
+HasSpare {E} f s = (c : Scope E) → slice_index_or f.scopes s None ≡ Some c
+    → ends_told c.tally + length (births (lives_in s) 0 f.tasks) < length (births (is_of s) 0 f.tasks)
+
+-- does its joiner ask to cancel once it is told of this end?
+abbrev pub asks : {E : Type 0} → Scope E → End → Bool
+asks c end = cancels_told c.tally.joiner (with_end c.tally end).told
+
+-- a scope and its subtasks no longer stand
+abbrev pub closed : {E : Type 0} → Forest E → ℕ → Forest E
+closed f s =
+    record f {
+      tasks = map (drop_if (is_of s)) f.tasks;
+      scopes = slice_set f.scopes s None;
+      task_room = f.task_room + length (births (is_of s) 0 f.tasks);
+      scope_room = f.scope_room + 1;
+    }

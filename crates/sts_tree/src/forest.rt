@@ -1,0 +1,523 @@
+//! Tasks and scopes under recycled keys, and their lists.
+
+ghost use Rattle.std.specs.Prelude.{ℕ, List, if◌then◌else◌, ◌≡◌, ◌≢◌, ◌+◌, ◌-◌, ◌<◌, ◌≤◌, ◌++◌};
+ghost use Rattle.std.specs.Prelude.{[], ◌∷◌, length, Option, Some, None, IfOk, true, false};
+ghost use Rattle.std.specs.Prelude.{slice_index_or, slice_set, option_copied};
+ghost use Rattle.sts_records.specs.Holes.{key_at};
+ghost use Rattle.sts_tree.specs.Births.{has, remove_each, without};
+ghost use Rattle.sts_tree.specs.Stored.{link_at, SameTasks};
+ghost use Rattle.sts_links.specs.Lists.{AreDistinct, IsList, NotIn, BecomesList};
+ghost use Rattle.sts_tree.specs.declared.record.Task.{Task as AnyTask};
+
+use crate::record::{Scope, ScopeRecord, Task, TaskRecord};
+use crate::tasks::Tasks;
+use std::alloc::{AllocError, Global};
+use std::marker::Model;
+use sts_code::Joiner;
+use sts_joiners::Tally;
+use sts_links::{Ends, Link, after, push_back, unlink};
+use sts_model::{End, Phase, Stand};
+use sts_records::Held;
+
+/// The tasks and scopes that stand. Each task is in the lists that its fields say.
+#[derive(Drop)]
+pub struct Forest<E> {
+    tasks: Tasks,
+    scopes: Held<ScopeRecord<E>>,
+    ready: Ends,
+}
+
+impl<E> Model for Forest<E> {
+    ghost use Rattle.sts_tree.specs.Forest.{Forest};
+
+    ghost Value = { Forest E };
+
+    ghost use Rattle.sts_tree.specs.Stored.{tasks_of, link_at};
+    ghost use Rattle.sts_tree.specs.Forest.{scopes_of, families_of, ready_of, IsForest};
+
+    ghost view = { λ f. record {
+      tasks = tasks_of f.tasks.held.slots;
+      scopes = scopes_of f.scopes.slots;
+      ready = ready_of f.tasks.held.slots f.ready;
+      task_keys = f.tasks.held.keys;
+      scope_keys = f.scopes.keys;
+      task_room = f.tasks.held.room;
+      scope_room = f.scopes.room;
+    } };
+
+    ghost invariant = { λ f.
+        IsForest (link_at f.tasks.held.slots) (tasks_of f.tasks.held.slots)
+        (families_of f.scopes.slots) f.ready (ready_of f.tasks.held.slots f.ready)
+        f.tasks.held.room };
+}
+
+/// A birth fits a u32.
+fn small(key: Option<usize>) -> Option<u32>
+    requires { (k : ℕ) → key ≡ Some k → k < 4294967296 }
+    ensures { result ≡ key }
+{
+    match key {
+        None => None,
+        Some(k) => Some(k as u32),
+    }
+}
+
+/// Appends a key where that is wanted.
+fn push_if(tasks: &mut Tasks, layer: u8, list: Ends, key: usize, wanted: bool) -> Ends
+    requires list { (keys : List ℕ)
+        × IsList (link_at tasks.old.held.slots layer) list keys × NotIn key keys }
+    requires key { link_at tasks.old.held.slots layer key ≢ None }
+    ensures list { (keys : List ℕ) →
+        IsList (link_at tasks.old.held.slots layer) list keys → NotIn key keys →
+        BecomesList (link_at tasks.old.held.slots) (link_at tasks.new.held.slots) layer result
+        (keys ++ (if wanted then key ∷ [] else [])) }
+    ensures rest { SameTasks tasks.old.held tasks.new.held }
+{
+    if wanted {
+        push_back(tasks, layer, list, key)
+    } else {
+        list
+    }
+}
+
+/// Takes out the records of a list of subtasks.
+fn remove_all(tasks: &mut Tasks, list: Ends, count: u32)
+    requires { (keys : List ℕ)
+        × IsList (link_at tasks.old.held.slots 0) list keys × (length keys ≡ count) }
+    ensures slots { (keys : List ℕ) →
+        IsList (link_at tasks.old.held.slots 0) list keys → length keys ≡ count →
+        tasks.new.held.slots ≡ remove_each keys tasks.old.held.slots }
+    ensures keys { tasks.new.held.keys ≡ tasks.old.held.keys }
+    ensures room { tasks.new.held.room ≡ tasks.old.held.room + count }
+{
+    let mut at = list.first;
+    for _ in 0..count {
+        let Some(t) = at else {
+            return;
+        };
+        at = tasks.held.remove(t).links[0].after;
+    }
+}
+
+impl<E: Drop> Forest<E> {
+    ghost use Rattle.sts_tree.specs.Forest.{closed, opened, subtask, HasSpare, asks, any_lives};
+    ghost use Rattle.sts_tree.specs.Forest.{lives_in, is_of, root};
+    ghost use Rattle.sts_tree.specs.Births.{births};
+    ghost use Rattle.sts_links.specs.Lists.{first_or};
+    ghost use Rattle.sts_joiners.specs.Tallied.{ends_told, with_end};
+    ghost use Rattle.sts_tree.specs.declared.record.Scope.{Scope as AnyScope};
+
+    /// The root task alone, ready, with room for so many tasks and scopes. No other call takes
+    /// memory.
+    ///
+    /// # Errors
+    ///
+    /// Want of memory.
+    pub fn with_room(alloc: Global, tasks: u32, scopes: u32) -> Result<Forest<E>, AllocError>
+        requires some { 0 < tasks }
+        requires few { tasks ≤ 65536 }
+        ensures value { IfOk result (λ f. f ≡ record {
+          tasks = Some root ∷ [];
+          scopes = [];
+          ready = 0 ∷ [];
+          task_keys = f.task_keys;
+          scope_keys = [];
+          task_room = tasks - 1;
+          scope_room = scopes;
+        }) }
+        ensures keys { IfOk result (λ f. (key : ℕ) × (f.task_keys ≡ key ∷ [])) }
+    {
+        let mut held = Held::with_room(alloc, tasks)?;
+        let scopes = Held::with_room(alloc, scopes)?;
+        let birth = held.push(TaskRecord {
+            task: Task {
+                scope: None,
+                flag: false,
+                lives: true,
+                state: None,
+                stand: Stand::Free,
+                ready: true,
+            },
+            links: [Link {
+                before: None,
+                after: None,
+            }; 3],
+        });
+        Ok(Forest {
+            tasks: Tasks { held },
+            scopes,
+            ready: Ends {
+                first: Some(birth),
+                last: Some(birth),
+            },
+        })
+    }
+
+    /// The task of a birth, if its record stands.
+    pub fn task(&self, t: u32) -> Option<&Task>
+        ensures value { option_copied result ≡ slice_index_or self.now.tasks t None }
+        ensures home { (x : AnyTask) (s : ℕ) → slice_index_or self.now.tasks t None ≡ Some x →
+            x.scope ≡ Some s → slice_index_or self.now.scopes s None ≢ None }
+    {
+        match self.tasks.held.get(t as usize) {
+            None => None,
+            Some(r) => Some(&r.task),
+        }
+    }
+
+    /// The scope of a birth, if its record stands.
+    pub fn scope(&self, s: u32) -> Option<&Scope<E>>
+        ensures { option_copied result ≡ slice_index_or self.now.scopes s None }
+    {
+        match self.scopes.get(s as usize) {
+            None => None,
+            Some(r) => Some(&r.scope),
+        }
+    }
+
+    /// How many more tasks fit.
+    pub fn task_room(&self) -> u32
+        ensures { result ≡ self.now.task_room }
+    {
+        self.tasks.held.room()
+    }
+
+    /// How many more scopes fit.
+    pub fn scope_room(&self) -> u32
+        ensures { result ≡ self.now.scope_room }
+    {
+        self.scopes.room()
+    }
+
+    /// Sets or clears a task's flag.
+    pub fn set_flag(&mut self, t: u32, flag: bool)
+        requires { slice_index_or self.old.tasks t None ≢ None }
+        ensures { (x : AnyTask) → slice_index_or self.old.tasks t None ≡ Some x →
+            self.new ≡ record self.old {
+              tasks = slice_set self.old.tasks t (Some (record x { flag = flag }));
+            } }
+    {
+        self.tasks.held.at(t as usize).task.flag = flag;
+    }
+
+    /// Says where a task stands.
+    pub fn set_stand(&mut self, t: u32, stand: Stand)
+        requires { slice_index_or self.old.tasks t None ≢ None }
+        ensures { (x : AnyTask) → slice_index_or self.old.tasks t None ≡ Some x →
+            self.new ≡ record self.old {
+              tasks = slice_set self.old.tasks t (Some (record x { stand = stand }));
+            } }
+    {
+        self.tasks.held.at(t as usize).task.stand = stand;
+    }
+
+    /// Appends a task to the ready list.
+    pub fn push_ready(&mut self, t: u32)
+        requires stands { slice_index_or self.old.tasks t None ≢ None }
+        requires waits { has t self.old.ready ≡ false }
+        ensures { (x : AnyTask) → slice_index_or self.old.tasks t None ≡ Some x →
+            self.new ≡ record self.old {
+              tasks = slice_set self.old.tasks t (Some (record x { ready = true }));
+              ready = self.old.ready ++ t ∷ [];
+            } }
+    {
+        self.tasks.held.at(t as usize).task.ready = true;
+        self.ready = push_back(&mut self.tasks, 2, self.ready, t as usize);
+    }
+
+    /// Takes a task out of the ready list.
+    pub fn drop_ready(&mut self, t: u32)
+        requires stands { slice_index_or self.old.tasks t None ≢ None }
+        requires ready { has t self.old.ready ≡ true }
+        ensures gone { has t self.new.ready ≡ false }
+        ensures dropped { (x : AnyTask) → slice_index_or self.old.tasks t None ≡ Some x →
+            self.new ≡ record self.old {
+              tasks = slice_set self.old.tasks t (Some (record x { ready = false }));
+              ready = without t self.old.ready;
+            } }
+    {
+        self.tasks.held.at(t as usize).task.ready = false;
+        self.ready = unlink(&mut self.tasks, 2, self.ready, t as usize);
+    }
+
+    /// Opens a scope without subtasks.
+    pub fn open_scope(&mut self, owner: u32, joiner: Joiner, timed: bool, environment: E) -> u32
+        requires room { 0 < self.old.scope_room }
+        requires born { length self.old.scopes < 1000000 }
+        ensures birth { result ≡ length self.old.scopes }
+        ensures opened { self.new ≡ record self.old {
+          scopes = self.old.scopes ++ Some (opened owner joiner timed environment) ∷ [];
+          scope_keys = self.new.scope_keys;
+          scope_room = self.old.scope_room - 1;
+        } }
+        ensures keys { (key : ℕ) × (self.new.scope_keys ≡ self.old.scope_keys ++ key ∷ []) }
+    {
+        let scope = Scope {
+            owner,
+            timed,
+            phase: Phase::Opened,
+            cancelled: false,
+            expired: false,
+            tally: Tally::new(joiner),
+            environment,
+        };
+        let birth = self.scopes.push(ScopeRecord {
+            scope,
+            forks: Ends::empty(),
+            fork_count: 0,
+            living: Ends::empty(),
+        });
+        birth as u32
+    }
+
+    /// Adds a subtask, which lives or never runs.
+    pub fn add_subtask(&mut self, s: u32, lives: bool) -> u32
+        requires stands { slice_index_or self.old.scopes s None ≢ None }
+        requires room { 0 < self.old.task_room }
+        requires born { length self.old.tasks < 1000000 }
+        ensures birth { result ≡ length self.old.tasks }
+        ensures added { self.new ≡ record self.old {
+          tasks = self.old.tasks ++ Some (subtask s lives) ∷ [];
+          task_keys = self.new.task_keys;
+          task_room = self.old.task_room - 1;
+        } }
+        ensures keys { (key : ℕ) × (self.new.task_keys ≡ self.old.task_keys ++ key ∷ []) }
+    {
+        let birth = self.tasks.held.push(TaskRecord {
+            task: Task {
+                scope: Some(s),
+                flag: false,
+                lives,
+                state: None,
+                stand: Stand::Free,
+                ready: false,
+            },
+            links: [Link {
+                before: None,
+                after: None,
+            }; 3],
+        });
+        let row = self.scopes.at(s as usize);
+        row.forks = push_back(&mut self.tasks, 0, row.forks, birth);
+        row.living = push_if(&mut self.tasks, 1, row.living, birth, lives);
+        row.fork_count += 1;
+        birth as u32
+    }
+
+    /// Sets a scope's phase.
+    pub fn set_phase(&mut self, s: u32, phase: Phase)
+        requires { slice_index_or self.old.scopes s None ≢ None }
+        ensures { (x : AnyScope E) → slice_index_or self.old.scopes s None ≡ Some x →
+            self.new ≡ record self.old {
+              scopes = slice_set self.old.scopes s (Some (record x { phase = phase }));
+            } }
+    {
+        self.scopes.at(s as usize).scope.phase = phase;
+    }
+
+    /// Marks a scope as cancelled.
+    pub fn mark_cancelled(&mut self, s: u32)
+        requires { slice_index_or self.old.scopes s None ≢ None }
+        ensures { (x : AnyScope E) → slice_index_or self.old.scopes s None ≡ Some x →
+            self.new ≡ record self.old {
+              scopes = slice_set self.old.scopes s (Some (record x { cancelled = true }));
+            } }
+    {
+        self.scopes.at(s as usize).scope.cancelled = true;
+    }
+
+    /// Marks a scope as expired.
+    pub fn mark_expired(&mut self, s: u32)
+        requires { slice_index_or self.old.scopes s None ≢ None }
+        ensures { (x : AnyScope E) → slice_index_or self.old.scopes s None ≡ Some x →
+            self.new ≡ record self.old {
+              scopes = slice_set self.old.scopes s (Some (record x { expired = true }));
+            } }
+    {
+        self.scopes.at(s as usize).scope.expired = true;
+    }
+
+    /// Ends a task: it leaves the living subtasks of its scope, and has this state. The scope is
+    /// not told.
+    pub fn end_task(&mut self, t: u32, state: Option<End>)
+        requires lives { (x : AnyTask)
+            × (slice_index_or self.old.tasks t None ≡ Some x) × (x.lives ≡ true) }
+        ensures ended { (x : AnyTask) → slice_index_or self.old.tasks t None ≡ Some x →
+            self.new ≡ record self.old {
+              tasks = slice_set self.old.tasks t (Some (record x { lives = false; state = state }));
+            } }
+        ensures spare { (x : AnyTask) (s : ℕ) → slice_index_or self.old.tasks t None ≡ Some x →
+            x.scope ≡ Some s → HasSpare self.new s }
+    {
+        let task = &mut self.tasks.held.at(t as usize).task;
+        task.lives = false;
+        task.state = state;
+        let Some(s) = task.scope else {
+            return;
+        };
+        let row = self.scopes.at(s as usize);
+        row.living = unlink(&mut self.tasks, 1, row.living, t as usize);
+    }
+
+    /// Tells a scope's joiner of an end, and answers whether it now asks to cancel.
+    pub fn tell(&mut self, s: u32, end: End) -> bool
+        requires stands { slice_index_or self.old.scopes s None ≢ None }
+        requires spare { HasSpare self.old s }
+        ensures told { (x : AnyScope E) → slice_index_or self.old.scopes s None ≡ Some x →
+            self.new ≡ record self.old {
+              scopes = slice_set self.old.scopes s
+                  (Some (record x { tally = with_end x.tally end }));
+            } }
+        ensures asks { (x : AnyScope E) → slice_index_or self.old.scopes s None ≡ Some x →
+            result ≡ asks x end }
+    {
+        self.scopes.at(s as usize).scope.tally.on_complete(end)
+    }
+
+    /// Takes out a scope and its subtasks, of which none is ready.
+    pub fn close_scope(&mut self, s: u32)
+        requires stands { slice_index_or self.old.scopes s None ≢ None }
+        requires waits { (t : ℕ) (x : AnyTask) → slice_index_or self.old.tasks t None ≡ Some x →
+            is_of s x ≡ true → has t self.old.ready ≡ false }
+        ensures { self.new ≡ closed self.old s }
+    {
+        let row = self.scopes.remove(s as usize);
+        remove_all(&mut self.tasks, row.forks, row.fork_count);
+    }
+
+    /// How many tasks were born.
+    pub fn tasks_born(&self) -> usize
+        ensures value { result ≡ length self.now.tasks }
+        ensures few { result ≤ 1000000 }
+    {
+        self.tasks.held.born()
+    }
+
+    /// How many scopes were born.
+    pub fn scopes_born(&self) -> usize
+        ensures value { result ≡ length self.now.scopes }
+        ensures few { result ≤ 1000000 }
+    {
+        self.scopes.born()
+    }
+
+    /// The key under which the record of a task stands, if it does.
+    pub fn key_of(&self, t: u32) -> Option<usize>
+        ensures { result ≡ key_at self.now.tasks self.now.task_keys t }
+    {
+        self.tasks.held.key_of(t as usize)
+    }
+
+    /// The task whose record stands under a key.
+    pub fn birth(&self, key: usize) -> u32
+        requires { (t : ℕ) × (key_at self.now.tasks self.now.task_keys t ≡ Some key) }
+        ensures { (t : ℕ) → key_at self.now.tasks self.now.task_keys t ≡ Some key → result ≡ t }
+    {
+        self.tasks.held.birth(key) as u32
+    }
+
+    /// The key under which the record of a scope stands, if it does.
+    pub fn scope_key_of(&self, s: u32) -> Option<usize>
+        ensures { result ≡ key_at self.now.scopes self.now.scope_keys s }
+    {
+        self.scopes.key_of(s as usize)
+    }
+
+    /// The scope whose record stands under a key.
+    pub fn scope_birth(&self, key: usize) -> u32
+        requires { (s : ℕ) × (key_at self.now.scopes self.now.scope_keys s ≡ Some key) }
+        ensures { (s : ℕ) → key_at self.now.scopes self.now.scope_keys s ≡ Some key → result ≡ s }
+    {
+        self.scopes.birth(key) as u32
+    }
+
+    /// Does a subtask of the scope live?
+    pub fn any_lives(&self, s: u32) -> bool
+        ensures { result ≡ any_lives self.now.tasks s }
+    {
+        match self.scopes.get(s as usize) {
+            None => false,
+            Some(row) => row.living.first.is_some(),
+        }
+    }
+
+    /// How many subtasks a scope has.
+    pub fn subtasks(&self, s: u32) -> u32
+        ensures value { result ≡ length (births (is_of s) 0 self.now.tasks) }
+        ensures told { (c : AnyScope E) → slice_index_or self.now.scopes s None ≡ Some c →
+            ends_told c.tally ≤ result }
+    {
+        match self.scopes.get(s as usize) {
+            None => 0,
+            Some(row) => row.fork_count,
+        }
+    }
+
+    /// The first living subtask in fork order.
+    pub fn living_front(&self, s: u32) -> Option<u32>
+        ensures { result ≡ first_or (births (lives_in s) 0 self.now.tasks) None }
+    {
+        match self.scopes.get(s as usize) {
+            None => None,
+            Some(row) => small(row.living.first),
+        }
+    }
+
+    /// The next living subtask of its scope in fork order.
+    pub fn living_after(&self, t: u32) -> Option<u32>
+        requires { (s : ℕ) × (front : List ℕ) × (back : List ℕ)
+            × (births (lives_in s) 0 self.now.tasks ≡ front ++ t ∷ back) }
+        ensures { (s : ℕ) (front back : List ℕ) →
+            births (lives_in s) 0 self.now.tasks ≡ front ++ t ∷ back → result ≡ first_or back None }
+    {
+        small(after(&self.tasks, 1, t as usize))
+    }
+
+    /// The first subtask in fork order.
+    pub fn fork_front(&self, s: u32) -> Option<u32>
+        ensures { result ≡ first_or (births (is_of s) 0 self.now.tasks) None }
+    {
+        match self.scopes.get(s as usize) {
+            None => None,
+            Some(row) => small(row.forks.first),
+        }
+    }
+
+    /// The next subtask of its scope in fork order.
+    pub fn fork_after(&self, t: u32) -> Option<u32>
+        requires { (s : ℕ) × (front : List ℕ) × (back : List ℕ)
+            × (births (is_of s) 0 self.now.tasks ≡ front ++ t ∷ back) }
+        ensures { (s : ℕ) (front back : List ℕ) →
+            births (is_of s) 0 self.now.tasks ≡ front ++ t ∷ back → result ≡ first_or back None }
+    {
+        small(after(&self.tasks, 0, t as usize))
+    }
+
+    /// The next of the ready list.
+    pub fn ready_after(&self, t: u32) -> Option<u32>
+        requires { has t self.now.ready ≡ true }
+        ensures { (front back : List ℕ) →
+            self.now.ready ≡ front ++ t ∷ back → result ≡ first_or back None }
+    {
+        small(after(&self.tasks, 2, t as usize))
+    }
+
+    /// The first of the ready list.
+    pub fn ready_front(&self) -> Option<u32>
+        ensures front { result ≡ first_or self.now.ready None }
+        ensures once { AreDistinct self.now.ready }
+    {
+        small(self.ready.first)
+    }
+
+    /// Is the task in the ready list?
+    pub fn is_ready(&self, t: u32) -> bool
+        ensures value { result ≡ has t self.now.ready }
+        ensures stands { result ≡ true → slice_index_or self.now.tasks t None ≢ None }
+    {
+        match self.tasks.held.get(t as usize) {
+            None => false,
+            Some(r) => r.task.ready,
+        }
+    }
+}

@@ -1,0 +1,48 @@
+//! What is kept of a task and of a scope.
+
+use sts_joiners::Tally;
+use sts_links::{Ends, Link};
+use sts_model::{End, Phase, Stand};
+
+/// A task that stands, by birth numbers.
+#[derive(Clone, Copy, Debug)]
+pub struct Task {
+    /// The scope that it is a subtask of; none for the root.
+    pub scope: Option<u32>,
+    pub flag: bool,
+    pub lives: bool,
+    /// Its state as a subtask; none is unavailable.
+    pub state: Option<End>,
+    pub stand: Stand,
+    /// Is it in the ready list?
+    pub ready: bool,
+}
+
+/// A task with its link in each of three layers: subtasks in fork order, living ones in fork order,
+/// ready ones.
+#[derive(Clone, Copy)]
+pub(crate) struct TaskRecord {
+    pub(crate) task: Task,
+    pub(crate) links: [Link; 3],
+}
+
+/// A scope that stands.
+#[derive(Drop)]
+pub struct Scope<E> {
+    pub owner: u32,
+    pub timed: bool,
+    pub phase: Phase,
+    pub cancelled: bool,
+    pub expired: bool,
+    pub tally: Tally,
+    pub environment: E,
+}
+
+/// A scope with the lists of its subtasks.
+#[derive(Drop)]
+pub(crate) struct ScopeRecord<E> {
+    pub(crate) scope: Scope<E>,
+    pub(crate) forks: Ends,
+    pub(crate) fork_count: u32,
+    pub(crate) living: Ends,
+}

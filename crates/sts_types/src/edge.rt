@@ -1,0 +1,47 @@
+//! The edges of an instruction, or the least cause that holds there.
+
+ghost use Rattle.std.specs.Prelude.{◌≡◌, ◌<◌, length, MatchResult, Ok, Err};
+ghost use Rattle.sts_rules.specs.Edges as def;
+ghost use Rattle.sts_rules.specs.Refusal.{size};
+
+use crate::follow::{Edges, all_edges};
+use crate::leads::skip;
+use crate::least::least_cause;
+use crate::loops::CodeLoops;
+use crate::site::Site;
+use crate::state::TypeState;
+use sts_code::{Program, code_of};
+use sts_rules::Cause;
+
+/// The edges of the instruction at a place of one of the program's functions, or the least cause
+/// that holds there.
+///
+/// Causes that compare typestates or look for dead code aren't tested: they speak of a whole
+/// function.
+///
+/// # Errors
+///
+/// The least cause from V1 to V16 that holds there.
+pub fn edges(program: &Program, function: u32, pc: u32, state: &TypeState) -> Result<Edges, Cause>
+    requires function { function < length program.now.routines }
+    requires pc { pc < size program.now function }
+    ensures { MatchResult result (λ edges. def.edges program.now function pc state.now ≡ Ok edges)
+        (λ cause. def.edges program.now function pc state.now ≡ Err cause) }
+{
+    let code = code_of(program, function as usize);
+    let loops = CodeLoops::new(code);
+    let instr = code[pc as usize];
+    let skip = skip(&loops, pc, instr);
+    let site = Site {
+        program,
+        function,
+        loops: &loops,
+        pc,
+        instr,
+        skip,
+    };
+    match least_cause(&site, state) {
+        Some(cause) => Err(cause),
+        None => Ok(all_edges(&site, state)),
+    }
+}

@@ -1,5 +1,0 @@
-use Rattle.sts_views.proofs.Stands as laws
-use Rattle.sts_views.proofs.interrupts_move_none.Goals as goal
-
-pub returns : goal.returns
-returns c = laws.interrupts_move_none

@@ -1,3 +1,0 @@
-pub mod Wanted
-pub mod Wrong
-pub mod Names

@@ -1,6 +1,0 @@
-use Rattle.sts_weights.specs.Top.{AreFulls, IsTop}
-use Rattle.sts_weights.proofs.top.find_top.Given as goal
-
--- what stands at the places so far, and the most of it
-abbrev pub invariant-loop-pc : goal.invariant-loop-pc
-invariant-loop-pc l = AreFulls l.search l.trail l.pc l.fulls.items × IsTop l.search l.trail l.pc l.top.place l.top.most

@@ -1,6 +1,0 @@
-use Rattle.sts_weights.specs.Trail.{sum_in, IsRow}
-use Rattle.sts_weights.proofs.trail.row_at.Given as goal
-
--- the best of the ways so far
-abbrev pub invariant-loop-from : goal.invariant-loop-from
-invariant-loop-from l = IsRow l.search (sum_in l.trail) l.from l.to l.row

@@ -1,0 +1,13 @@
+import java.util.concurrent.StructuredTaskScope.*;
+import java.util.concurrent.StructuredTaskScope.Subtask.State;
+
+void main() throws InterruptedException {
+    List<Subtask<Integer>> parts = new ArrayList<>();
+    try (var scope = StructuredTaskScope.open(Joiner.<Integer>awaitAll(), it -> it.withTimeout(Duration.ofSeconds(5)))) {
+        parts.add(scope.fork(() -> 20));
+        parts.add(scope.fork(() -> 20));
+        scope.join();
+    } catch (StructuredTaskScope.TimeoutException e) { }
+    // After a timeout the owner may call get() only behind close: the other way round than in profile 2.
+    IO.println("success " + parts.stream().filter(it -> it.state() == State.SUCCESS).mapToInt(Subtask::get).sum());
+}

@@ -1,0 +1,82 @@
+"""Runs programs on the JDK as they come, with no player at the gates, and looks for each outcome among all ends."""
+import all_ends
+import cases
+import documents
+import drawn
+import known
+import stack_code
+from player import Case
+
+DRAWN = 24            # how many drawn programs are run
+MOST_STATES = 8_000   # of a search
+IN_ONE_JVM = 6        # programs
+
+
+class Freely:
+    def __init__(self):
+        self.programs = self.runs = self.atomic = self.added = self.left_out = 0
+        self.names, self.failures = [], []
+
+
+class FineJdkMachine(known.JdkMachine, all_ends.FineMachine):
+    """The machine with the known differences, where an end has the steps that it has in the JDK."""
+
+
+def ends_of(text):
+    """Returns the ends of the atomic machine and those of the JDK's own steps; None for a program that can come to a fault,
+    or has too many states."""
+    program, found = stack_code.program(text), []
+    for machine in (known.JdkMachine, FineJdkMachine):
+        ends, _, are_all = all_ends.ends(program, machine, most=MOST_STATES)
+        if not are_all or any(it.startswith("fault") for it in ends):
+            return None
+        found.append(ends)
+    return found
+
+
+def outcomes(player, part, count, threads):
+    """Yields each program with its outcomes and how often each came."""
+    for case, printed in zip(part, player.printed(part, f"free={count}", f"threads={threads}"), strict=True):
+        yield case, {line.split(" ", 1)[1]: int(line.split(" ", 1)[0]) for line in printed}
+
+
+def judged(player, part, count, threads):
+    """Runs programs and returns what came of them."""
+    result, known_ends = Freely(), {}
+    fit = []
+    for case in part:
+        known_ends[case.name] = ends_of(case.text)
+        if known_ends[case.name] is None:
+            result.left_out += 1
+        else:
+            fit.append(case)
+    for case, came in outcomes(player, fit, count, threads) if fit else ():
+        atomic, fine = known_ends[case.name]
+        result.programs += 1
+        for outcome, times in came.items():
+            result.runs += times
+            result.atomic += times if outcome in atomic else 0
+            result.added += times if outcome in fine - atomic else 0
+            result.names += [f"{case.name}: {outcome}, {times} times"] if outcome in fine - atomic else []
+            result.failures += [] if outcome in atomic | fine else [f"{case.name} ran freely to {outcome}, {times} times: {sorted(fine)}"]
+    return result
+
+
+def texts(seed):
+    """Returns the programs that are run: examples, patterns and drawn ones, without what no text can hold."""
+    found = [Case("examples", it.name, it.text, ()) for it in cases.of_files()]
+    found += [Case("patterns", name, text, ()) for name, text, _, _ in documents.programs("docs/PATTERNS.md")]
+    return found + [Case("drawn", f"scopes {seed} {it}", drawn.drawn(f"free {seed}", it)[0], ()) for it in range(DRAWN)]
+
+
+def run(pool, player, asked):
+    found, total = texts(asked.seed), Freely()
+    split = [found[at::len(found) // IN_ONE_JVM] for at in range(len(found) // IN_ONE_JVM)]
+    given = [(player, part, asked.free, ("virtual", "platform")[at % 2]) for at, part in enumerate(split)]
+    for part in pool.map(judged, *zip(*given)):
+        for name in ("programs", "runs", "atomic", "added", "left_out", "names", "failures"):
+            setattr(total, name, getattr(total, name) + getattr(part, name))
+    for line in total.names:
+        print(f"added by the JDK's own steps: {line}")
+    print(f"{total.left_out} programs of more than {MOST_STATES} states, or that can come to a fault, were not run freely")
+    return total
