@@ -139,7 +139,7 @@ fn workers_are_from_1_to_16(rt: HostRuntime) {
     let alloc = rt.alloc();
     for words in &BAD_NUMBERS {
         assert!(rt; shown(alloc, words.as_slice()).0 == "usage", "at {words:?}");
-        let wanted = ["--workers <N>", "a number from 1 to 16 is wanted"];
+        let wanted = ["--workers <N>", "expected a number from 1 to 16"];
         assert!(rt;
             names_all(alloc, words.as_slice(), wanted.as_slice()),
             "at {words:?}"
@@ -202,7 +202,7 @@ fn help_names_the_commands_their_files_and_what_they_print(rt: HostRuntime) {
         "plain",
         "replay",
         "run",
-        "Prints the budgets",
+        "prints budgets",
         "standard input",
     ];
     assert!(rt; names_all(alloc, HELP.as_slice(), program.as_slice()));
@@ -210,15 +210,15 @@ fn help_names_the_commands_their_files_and_what_they_print(rt: HostRuntime) {
     let verify = [
         "sts verify",
         "FILE",
-        "a text of functions",
-        "Prints the budgets",
+        "the text of a program",
+        "prints budgets",
     ];
     assert!(rt; names_all(alloc, HELP_OF_VERIFY.as_slice(), verify.as_slice()));
     assert!(rt; names_all(alloc, HELP_ON_VERIFY.as_slice(), verify.as_slice()));
     let list = [
         "sts list",
         "FILE",
-        "a text of functions",
+        "the text of a program",
         "Prints the program as the assembler",
     ];
     assert!(rt; names_all(alloc, HELP_OF_LIST.as_slice(), list.as_slice()));
@@ -228,10 +228,10 @@ fn help_names_the_commands_their_files_and_what_they_print(rt: HostRuntime) {
         "TRACE",
         "`step N`",
         "`expire N`",
-        "Prints how",
+        "prints the result",
     ];
     assert!(rt; names_all(alloc, HELP_OF_PLAIN.as_slice(), plain.as_slice()));
-    let replay = ["sts replay", "FILE", "TRACE", "by the machine"];
+    let replay = ["sts replay", "FILE", "TRACE", "without checks"];
     assert!(rt; names_all(alloc, HELP_OF_REPLAY.as_slice(), replay.as_slice()));
     let run = [
         "sts run",
@@ -241,7 +241,7 @@ fn help_names_the_commands_their_files_and_what_they_print(rt: HostRuntime) {
         "--outside <FILE>",
         "`at N interrupt T`",
         "--trace <FILE>",
-        "several workers",
+        "with N threads",
     ];
     assert!(rt; names_all(alloc, HELP_OF_RUN.as_slice(), run.as_slice()));
 }
