@@ -20,6 +20,7 @@ Each text and output of docs/LANGUAGE.md, docs/VERIFIER.md, docs/PATTERNS.md and
 It also says where a document names a file that isn't there, where PROOFS.md names a function or a clause that its file
 doesn't have, where a document shows a line of a contract that no source has or a part of a program that no example has,
 where an example isn't shown or says that it prints something else, where a Java program is shown otherwise than it is,
+where the figures of JDK.md aren't those of a run of jdk/check.py, where README.md counts its differences otherwise,
 where a picture isn't what its script draws, where a crate uses proofs of another one from a file that isn't called
 `*Lemmas`, where the floors of ARCHITECTURE.md don't fit crates.txt, and where the README.md of a crate doesn't name its
 edits, the crates that it uses, or those that use it.
@@ -377,6 +378,39 @@ def java_programs():
         fail(f"Java programs that are shown in no document, or aren't there: {sorted(names ^ shown)}")
 
 
+NUMBERS = ["no", "one", "two", "three", "four", "five", "six", "seven", "eight", "nine", "ten", "eleven", "twelve", "thirteen", "fourteen"]
+
+
+def table(page, first):
+    """Returns the rows of the table of a page whose first heading this is: a name and its numbers."""
+    rows = re.search(rf"^\| {first} \|.*\n\|[-|]*\n((?:\|.*\n)*)", page, re.M)[1]
+    return [(cell[1], [int(it.replace(",", "")) for it in re.findall(r"\| ([\d,]+) (?=\|)", cell[2])]) for cell in re.finditer(r"^\| (.*?) ((?:\| [\d,]+ )+\|)$", rows, re.M)]
+
+
+def jdk_figures():
+    """Fails where docs/JDK.md hasn't the figures of a whole run: each rule and each known difference of jdk/check.py came, the
+    sums agree, and each Java program ran. The number of differences in README.md is that of the headings."""
+    sys.path.insert(0, f"{ROOT}/jdk")
+    import known
+    from page import BEGIN, END, RULES
+    text = read("docs/JDK.md")
+    shown = text.split(BEGIN)[1].split(END)[0]
+    kinds, rules, differences = (table(shown, it) for it in ("Cases", "Rule", "Known difference"))
+    if [it for it, _ in rules] != [rule for rule, _ in RULES] or [it for it, _ in differences] != list(known.DIFFERENCES):
+        fail("docs/JDK.md has other rules or differences than jdk/check.py: jdk/check.py --write")
+    if not all(numbers[0] > 0 for _, numbers in rules + differences):
+        fail("docs/JDK.md has a rule or a difference that no case came to")
+    played = sum(numbers[0] for _, numbers in kinds)
+    if f": {played:,} cases of " not in shown or any(numbers[0] != sum(numbers[1:]) for _, numbers in kinds) or played < 10_000:
+        fail("the figures of docs/JDK.md don't add up to 10,000 cases")
+    programs_there = sum(len([it for it in os.listdir(f"{ROOT}/jdk/{folder}") if it.endswith(".java")]) for folder in ("examples", "differences"))
+    if f"- {programs_there} Java programs ran." not in shown:
+        fail(f"docs/JDK.md doesn't say that {programs_there} Java programs ran: jdk/check.py --write")
+    headings_there = len(re.findall(r"^### ", text.split("\n## What differs\n")[1].split("\n## ")[0], re.M))
+    if f"[{NUMBERS[headings_there]} differences](docs/JDK.md#what-differs)" not in read("README.md"):
+        fail(f"README.md doesn't name the {NUMBERS[headings_there]} differences of docs/JDK.md")
+
+
 def proofs_of_others():
     """Fails where a crate uses proofs of another crate of the repository from a file that isn't called `*Lemmas`."""
     names = "|".join(os.listdir(f"{ROOT}/crates"))
@@ -391,6 +425,7 @@ def proofs_of_others():
 def main():
     named_files()
     java_programs()
+    jdk_figures()
     proofs_of_others()
     floors()
     neighbours()

@@ -20,6 +20,7 @@ import sys
 import tempfile
 import xml.dom.minidom
 
+import relied
 from documents import STATUS, read, shown_commands
 from looks import LOOK, STS, place_words
 from write_trace import trace
@@ -239,7 +240,7 @@ def example_at(look, text, steps, printed):
     status, ends = STATUS[printed.split(" ")[0]], printed.split(" / ")
     right = [
         (f"view {name}", viewed[0] == status and viewed[1].split("\n")[:2] == ends),
-        (f"explain {name}", accepted == (0, "accepted\n")),
+        (f"explain {name}", accepted == relied.accepted(name)),
         (f"explain {name} with its trace", told == (status, f"{ends[0]}\n")),
         (f"draw {name}", drawn[0] == status and is_picture(drawn[1])),
     ]

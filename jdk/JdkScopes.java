@@ -9,12 +9,15 @@ import java.util.concurrent.StructuredTaskScope.FailedException;
 import java.util.concurrent.StructuredTaskScope.Joiner;
 import java.util.concurrent.StructuredTaskScope.Subtask;
 import java.util.concurrent.StructuredTaskScope.TimeoutException;
+import java.util.concurrent.locks.LockSupport;
 import java.util.stream.IntStream;
 import java.util.stream.Stream;
 
 /** The twelve calls by StructuredTaskScope and ScopedValue of JDK 25. */
 final class JdkScopes implements Scopes {
     private static final boolean IS_PLATFORM = "platform".equals(System.getProperty("threads"));
+    /** How many milliseconds a timeout is; 0: a day, and {@code expire} runs the timer task early. */
+    private static final long TIMEOUT = Long.getLong("timeout", 0);
     private static final Field TIMER = timerField();
     private static final ScopedValue<?>[] KEYS = IntStream.range(0, 16).mapToObj(k -> ScopedValue.newInstance())
             .toArray(ScopedValue<?>[]::new);
@@ -22,7 +25,8 @@ final class JdkScopes implements Scopes {
     /** The thread that the fork of the calling thread made, if it made one: the factory runs in the thread that forks. */
     private static final ThreadLocal<Thread> MADE = new ThreadLocal<>();
 
-    private record Opened(StructuredTaskScope<Long, ?> scope, Kind kind) {}
+    /** {@code due}: when its time is up, as System.nanoTime() counts. */
+    private record Opened(StructuredTaskScope<Long, ?> scope, Kind kind, long due) {}
 
     private static Thread made(Runnable task) {
         MADE.set(IS_PLATFORM ? Thread.ofPlatform().daemon().unstarted(task) : Thread.ofVirtual().unstarted(task));
@@ -43,11 +47,13 @@ final class JdkScopes implements Scopes {
     }
 
     @Override public Object open(Joining joining, boolean isTimed) {
+        Duration timeout = TIMEOUT > 0 ? Duration.ofMillis(TIMEOUT) : Duration.ofDays(1);
+        long due = System.nanoTime() + timeout.toNanos();     // no timer fires before this
         StructuredTaskScope<Long, ?> scope = StructuredTaskScope.open(joiner(joining), how -> {
             var by = how.withThreadFactory(JdkScopes::made);
-            return isTimed ? by.withTimeout(Duration.ofDays(1)) : by;
+            return isTimed ? by.withTimeout(timeout) : by;
         });
-        return new Opened(scope, joining.kind());
+        return new Opened(scope, joining.kind(), due);
     }
 
     @Override public Forked fork(Object scope, Callable<Long> task) {
@@ -121,12 +127,22 @@ final class JdkScopes implements Scopes {
         thread.interrupt();
     }
 
-    /** Runs the scope's own timer task early, on the pool where the JDK runs it. */
+    /** Runs the scope's own timer task early, on the pool where the JDK runs it; or waits until the timer has fired. */
     @Override public void expire(Object scope) {
+        Future<?> timer = timer(scope);
+        if (timer == null) return;
+        if (TIMEOUT > 0) while (!timer.isDone()) LockSupport.parkNanos(100_000);
+        else if (!timer.isDone()) ForkJoinPool.commonPool().submit(() -> ((ForkJoinTask<?>) timer).quietlyInvoke()).join();
+    }
+
+    @Override public boolean mayBeUp(Object scope) {
+        Future<?> timer = timer(scope);
+        return timer != null && !timer.isCancelled() && System.nanoTime() - ((Opened) scope).due() >= 0;
+    }
+
+    private static Future<?> timer(Object scope) {
         try {
-            Future<?> timer = (Future<?>) TIMER.get(((Opened) scope).scope());
-            if (timer != null && !timer.isDone())
-                ForkJoinPool.commonPool().submit(() -> ((ForkJoinTask<?>) timer).quietlyInvoke()).join();
+            return (Future<?>) TIMER.get(((Opened) scope).scope());
         } catch (IllegalAccessException e) {
             throw new AssertionError(e);
         }

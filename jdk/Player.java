@@ -26,7 +26,8 @@ import java.util.function.BooleanSupplier;
  * {@code after N EVENT}, after each, and {@code .}.
  *
  * <p>Properties: {@code scopes}, the class of the runtime (JdkScopes); {@code threads}, virtual or platform; {@code join},
- * late (it is called once it can't park) or early (at its first step); {@code free=N}: no gates and no trace, the program
+ * late (it is called once it can't park) or early (at its first step); {@code timeout=N}, that a timeout is N milliseconds,
+ * and a case where one may be up before the trace asks for it ends with a line {@code unasked}; {@code free=N}: no gates and no trace, the program
  * is run N times as it comes, and {@code COUNT OUTCOME} is printed for each outcome.
  */
 public final class Player {
@@ -133,6 +134,7 @@ public final class Player {
     private boolean expire(int number) {
         if (number >= births.size()) return false;
         Object scope = births.get(number).real;
+        births.get(number).isAsked = true;
         boolean wasCancelled = scopes.isCancelled(scope);
         scopes.expire(scope);
         settle();
@@ -230,6 +232,11 @@ public final class Player {
         root.thread.start();
     }
 
+    /** Whether the time of a scope may be up, though the trace hasn't asked for it. */
+    private boolean isUnasked() {
+        return births.stream().anyMatch(it -> it.isTimed && !it.isAsked && scopes.mayBeUp(it.real));
+    }
+
     private void play(List<String> trace) {
         start();
         try {
@@ -238,6 +245,10 @@ public final class Player {
             for (String line : trace) {
                 event(line);
                 woken();
+                if (isUnasked()) {
+                    say("unasked");
+                    break;
+                }
                 if (faulted() != null || !root.isAlive()) break;
             }
             late();

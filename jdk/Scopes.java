@@ -36,7 +36,7 @@ interface Scopes {
         }
     }
 
-    /** Opens a scope that the calling thread owns; a timed one has a timeout that comes only by {@code expire}. */
+    /** Opens a scope that the calling thread owns; the timeout of a timed one comes by {@code expire}, or in its time. */
     Object open(Joining joining, boolean isTimed);
 
     Forked fork(Object scope, Callable<Long> task);
@@ -63,6 +63,11 @@ interface Scopes {
 
     /** Has the timeout of a scope come now, if it has one that is still to come. */
     void expire(Object scope);
+
+    /** Whether the time of a scope may be up by now. A runtime whose timeouts come by {@code expire} alone says no. */
+    default boolean mayBeUp(Object scope) {
+        return false;
+    }
 
     default boolean isBound(int key) {
         try {

@@ -19,6 +19,7 @@ final class Task implements Callable<Long> {
         final boolean isTimed;
         final List<Task> subtasks = new CopyOnWriteArrayList<>();
         volatile boolean isTried, isClosed;
+        boolean isAsked;         // the trace asked for its timeout
 
         Scope(Object real, Task owner, int birth, String words, boolean isTimed) {
             this.real = real;

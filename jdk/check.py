@@ -35,6 +35,8 @@ import stack_code  # noqa: E402
 from player import MODES, Jdk, Player, find_jdk, first_difference  # noqa: E402
 
 PART = 400  # cases that one JVM plays
+REAL_PART = 50  # of those with real timeouts
+TIMEOUT = 40  # milliseconds, of a real timeout
 NO_JDK = 3
 
 
@@ -43,13 +45,15 @@ class Tally:
 
     def __init__(self):
         self.kinds, self.agreed, self.modes = (collections.Counter() for _ in range(3))
-        self.known, self.rules, self.failures, self.events = collections.Counter(), collections.Counter(), collections.Counter(), 0
+        self.known, self.rules, self.failures = (collections.Counter() for _ in range(3))
+        self.events = self.dropped = 0
         self.smallest = {}
 
     def add(self, other):
         for name in ("kinds", "agreed", "modes", "known", "rules", "failures"):
             getattr(self, name).update(getattr(other, name))
         self.events += other.events
+        self.dropped += other.dropped
         for name, case in other.smallest.items():
             self.keep(name, *case)
 
@@ -61,7 +65,10 @@ class Tally:
 
 
 def judge(tally, case, printed, mode):
-    """Adds a case to what came of others."""
+    """Adds a case to what came of others. With real timeouts a case is dropped where one may be up unasked."""
+    if "unasked" in printed:
+        tally.dropped += 1
+        return
     program = stack_code.program(case.text)
     witness, jdk = known.Witness(program), known.JdkMachine(program)
     at = first_difference(witness, case, printed)
@@ -80,10 +87,10 @@ def judge(tally, case, printed, mode):
         tally.keep("failure", case, at, mode)
 
 
-def played(player, mode, part):
+def played(player, mode, part, *properties):
     """Plays cases in one JVM, and returns what came of them."""
     tally = Tally()
-    shown = player.printed(part, f"join={mode[0]}", f"threads={mode[1]}")
+    shown = player.printed(part, f"join={mode[0]}", f"threads={mode[1]}", *properties)
     for case, printed in zip(part, shown, strict=True):
         judge(tally, case, printed, mode)
     return tally
@@ -101,6 +108,19 @@ def parts(given):
     return [(mode, of[at:at + PART]) for mode, of in by_mode.items() for at in range(0, len(of), PART)]
 
 
+def in_real_time(pool, player, asked, found):
+    """Plays cases that have an expiry with real timeouts, each in one mode, and returns what came of them."""
+    timed = [it for it in found if "timed" in it.text and any(event.startswith("expire ") for event in it.events)]
+    by_hand = [it for it in timed if not it.kind.startswith("drawn")]
+    drawn = [it for it in timed if it.kind.startswith("drawn")]
+    chosen, tally = (by_hand + drawn[::max(1, len(drawn) // max(1, asked.real - len(by_hand)))])[:asked.real], Tally()
+    given = [(player, MODES[at % len(MODES)], chosen[at::asked.real // REAL_PART + 1]) for at in range(asked.real // REAL_PART + 1)]
+    given = [it for it in given if it[2]]
+    for part in pool.map(played, *zip(*given), [f"timeout={TIMEOUT}"] * len(given)) if given else ():
+        tally.add(part)
+    return tally
+
+
 def said(case, at, mode):
     """Returns the lines that show a case: its name, where it differs, its text and its events up to there."""
     lines = [f"{case.kind}, {case.name}, {mode[0]} join, {mode[1]} threads: differs behind event {at}"]
@@ -114,16 +134,29 @@ def report(tally, folder):
     print("by mode: " + ", ".join(f"{join} join on {threads} threads {count}" for (join, threads), count in sorted(tally.modes.items())))
     for name in known.DIFFERENCES:
         print(f"known: {name}: {tally.known[name]} cases")
-    os.makedirs(folder, exist_ok=True)
-    for name, case in tally.smallest.items():
-        path = os.path.join(folder, f"{name.replace(' ', '_').replace('(', '').replace(')', '')}.case")
-        with open(path, "w") as file:
-            file.write(said(*case))
+    keep(tally, folder)
     print(f"the smallest case of each is in {folder}")
 
 
+def report_real(real, folder):
+    """Prints what came of the cases with real timeouts."""
+    count, agreed, failed = (sum(it.values()) for it in (real.kinds, real.agreed, real.failures))
+    print(f"with real timeouts of {TIMEOUT} ms: {count} cases, {agreed} agree, {count - agreed - failed} with known differences only, "
+          f"{failed} fail; {real.dropped} were dropped, since a timer may have fired unasked")
+    keep(real, folder, "real_")
+
+
+def keep(tally, folder, prefix=""):
+    """Writes the smallest case of each difference into the folder."""
+    os.makedirs(folder, exist_ok=True)
+    for name, case in tally.smallest.items():
+        path = os.path.join(folder, f"{prefix}{name.replace(' ', '_').replace('(', '').replace(')', '')}.case")
+        with open(path, "w") as file:
+            file.write(said(*case))
+
+
 def compare(pool, player, asked):
-    """Plays all cases; returns what came of them, and what is wrong of `look` and `sts`."""
+    """Plays all cases; returns what came of them, of those with real timeouts, and what is wrong of `look` and `sts`."""
     rows, long = cases.of_rows()
     found = rows + cases.of_files() + cases.of_journals(asked.sts, asked.seed, asked.journals)
     for part in pool.map(cases.of_draws_from, *zip(*cases.draw_parts(asked.seed, asked.cases))):
@@ -132,7 +165,7 @@ def compare(pool, player, asked):
     for part in pool.map(played, *zip(*((player, *it) for it in parts(found)))):
         tally.add(part)
     print(f"{long} rows with a trace of more than {cases.MOST_BYTES} bytes were left out")
-    return tally, programs.differences(pool, asked, found)
+    return tally, in_real_time(pool, player, asked, found), programs.differences(pool, asked, found)
 
 
 def reader():
@@ -145,6 +178,7 @@ def reader():
     reads.add_argument("--seed", type=int, default=1, help="what the cases are drawn from (1)")
     reads.add_argument("--share", type=int, default=10, help="look and sts are asked for one of so many rows and drawn cases (10)")
     reads.add_argument("--free", type=int, default=400, help="how often each program is run freely (400)")
+    reads.add_argument("--real", type=int, default=600, help="how many cases with an expiry are played with real timeouts (600)")
     reads.add_argument("--jobs", type=int, default=os.cpu_count(), help="how many parts are played at once (one a processor)")
     reads.add_argument("--smallest", default="jdk_smallest", help="the folder for the smallest case of each difference")
     reads.add_argument("--planted", action="store_true", help="says of each wrong model whether it is noticed")
@@ -154,12 +188,14 @@ def reader():
 
 def check(pool, player, asked, began):
     """Compares, runs freely and runs the Java examples; returns how many failures there are."""
-    tally, wrong = compare(pool, player, asked)
+    tally, real, wrong = compare(pool, player, asked)
     report(tally, asked.smallest)
+    report_real(real, asked.smallest)
     freely = free.run(pool, player, asked)
     ran = examples.run(pool, player.jdk)
-    failures = sum(tally.failures.values()) + len(wrong.failures) + len(freely.failures) + len(ran.failures)
-    for line in [*wrong.failures, *freely.failures, *ran.failures]:
+    idle = ["no timer fired in real time"] if asked.real and not real.rules["join timeout"] else []
+    failures = len(idle) + sum(tally.failures.values()) + sum(real.failures.values()) + len(wrong.failures) + len(freely.failures) + len(ran.failures)
+    for line in [*idle, *wrong.failures, *freely.failures, *ran.failures]:
         print(f"FAILURE: {line}")
     seconds = round(time.time() - began)
     print(f"{wrong.asked} answers of look and sts, {len(wrong.failures)} wrong")
@@ -169,7 +205,7 @@ def check(pool, player, asked, began):
     print(f"{player.jdk.build} ({player.jdk.vendor}), {datetime.date.today()}, {seconds} s")
     print(f"{sum(tally.kinds.values())} cases, {tally.events} events, {failures} failures")
     if asked.write and not failures:
-        page.write(player.jdk, tally, wrong, freely, ran, seconds)
+        page.write(player.jdk, tally, real, wrong, freely, ran, seconds)
     return failures
 
 

@@ -56,7 +56,7 @@ def unmet(tally):
     return [rule for rule, names in RULES if least(tally, names) == 0]
 
 
-def figures(jdk, tally, wrong, freely, ran, seconds):
+def figures(jdk, tally, real, wrong, freely, ran, seconds):
     cases = sum(tally.kinds.values())
     yield f"{datetime.date.today()}, {jdk.vendor}, build {jdk.build}: {cases:,} cases of {tally.events:,} events in {seconds} seconds, no unknown difference."
     yield ""
@@ -65,6 +65,8 @@ def figures(jdk, tally, wrong, freely, ran, seconds):
         yield f"| {kind} | {count:,} | {tally.agreed[kind]:,} | {count - tally.agreed[kind]:,} |"
     yield ""
     yield from (f"- {count:,} cases were played with {join} `join` on {threads} threads." for (join, threads), count in sorted(tally.modes.items()))
+    yield (f"- {sum(real.kinds.values()):,} cases with an expiry were played with real timeouts. {sum(real.agreed.values()):,} agree to the last event, "
+           f"and the others have known differences only. Another {real.dropped:,} were dropped: a timer may have fired unasked.")
     yield f"- `look view --each`, `sts plain` and `sts replay` gave {wrong.asked:,} answers, each as the machine in Python."
     yield f"- {freely.programs} programs ran {freely.runs:,} times with no controller. {freely.atomic:,} runs came to an end of the rules."
     yield f"- {freely.added:,} free runs came to an end that only the JDK's own steps add. None came to another end."
@@ -79,9 +81,9 @@ def figures(jdk, tally, wrong, freely, ran, seconds):
         yield f"| {name} | {tally.known[name]:,} |"
 
 
-def write(jdk, tally, wrong, freely, ran, seconds):
+def write(jdk, tally, real, wrong, freely, ran, seconds):
     with open(PATH) as file:
         before, rest = file.read().split(BEGIN)
     after = rest.split(END)[1]
     with open(PATH, "w") as file:
-        file.write(before + "\n".join([BEGIN, "", *figures(jdk, tally, wrong, freely, ran, seconds), "", END]) + after)
+        file.write(before + "\n".join([BEGIN, "", *figures(jdk, tally, real, wrong, freely, ran, seconds), "", END]) + after)

@@ -20,11 +20,16 @@ use Rattle.look_text.specs.Lines.{fault_lines}
 use Rattle.look_refusal.specs.Weights.{weight_lines}
 use Rattle.sts_budget.specs.declared.change.Resource.{Resource}
 use Rattle.sts_budget.specs.Change.{cause_of}
+use Rattle.look_accepted.specs.declared.notes.Note.{Note}
+use Rattle.look_accepted.specs.Notes.{AreNotes}
+use Rattle.look_accepted.specs.Lines.{note_lines}
 use Rattle.look_refusal.specs.declared.heavy.Heavy.{Heavy}
 use Rattle.look_refusal.specs.Heavy.{IsHeavy, NeedsMoreBits}
 
-abbrev pub accepted_output : Output
-accepted_output = record { bytes = codes "accepted\n"; status = 0 }
+-- a line for each instruction that relies on a rule that JDK 25 doesn't share comes last
+abbrev pub accepted_output : Outline → Program → List Note → Output
+accepted_output o p notes =
+    record { bytes = codes "accepted\n" ++ note_lines o p notes; status = 0 }
 
 abbrev pub fault_output : AsmError → List ℕ → Output
 fault_output e text = record { bytes = fault_lines e text; status = 3 }
@@ -68,7 +73,8 @@ pub record IsRefused (p : Program) (o : Outline) (output : Output) : Type 0 wher
 
 -- of a program that is accepted, or refused
 pub data IsVerdict (p : Program) (o : Outline) (output : Output) : Type 0 where
-  accepted : IsAccepted p → output ≡ accepted_output → IsVerdict p o output
+  accepted : (notes : List Note) → IsAccepted p → AreNotes p notes
+      → output ≡ accepted_output o p notes → IsVerdict p o output
   refused : IsRefused p o output → IsVerdict p o output
 
 -- ---- texts

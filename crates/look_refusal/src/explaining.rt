@@ -1,7 +1,7 @@
 //! Explains what is wrong with a text, if anything is.
 
 ghost use Rattle.std.specs.Prelude.{◌≡◌, IfOk, OnOk, Result, Ok, Err};
-ghost use Rattle.sts_rules.specs.Refusal.{IsRefusal};
+ghost use Rattle.sts_rules.specs.Refusal.{IsAccepted, IsRefusal};
 ghost use Rattle.sts_asm.specs.Source.{outlined as outlined_of};
 ghost use Rattle.sts_asm.specs.Text.{judged};
 ghost use Rattle.sts_asm.specs.Fault.{FailsAt};
@@ -17,6 +17,7 @@ use crate::lines::refused_lines;
 use crate::remedy::remedy_for;
 use crate::ways::find_meeting;
 use crate::weights::weight_lines;
+use look_accepted::{all_notes, note_lines};
 use look_text::{fault_lines, say};
 use std::alloc::{AllocError, Global};
 use std::io::Write;
@@ -158,11 +159,14 @@ fn refused(
     Ok(Output { bytes, status: 4 })
 }
 
-fn accepted(alloc: Global) -> Result<Output, AllocError>
-    ensures { IfOk result (λ o. o ≡ def.accepted_output) }
+fn accepted(alloc: Global, outline: &Outline<'_>, program: &Program) -> Result<Output, AllocError>
+    requires { IsAccepted program.now }
+    ensures { IfOk result (λ o. def.IsVerdict program.now outline.now o) }
 {
+    let notes = all_notes(alloc, program)?;
     let mut bytes = Vec::new(alloc);
     say(&mut bytes, "accepted\n")?;
+    note_lines(alloc, &mut bytes, outline, program, notes.as_slice())?;
     Ok(Output { bytes, status: 0 })
 }
 
@@ -170,7 +174,7 @@ fn verdict(alloc: Global, outline: &Outline<'_>, program: Program) -> Result<Out
     ensures { IfOk result (λ o. def.IsVerdict program outline.now o) }
 {
     match verify(alloc, program) {
-        Ok(_) => accepted(alloc),
+        Ok(verified) => accepted(alloc, outline, verified.program()),
         Err(VerifyError::Memory(_)) => Err(AllocError),
         Err(
             VerifyError::Refused {

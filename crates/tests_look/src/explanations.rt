@@ -3,6 +3,7 @@
 mod faults;
 mod near;
 mod refusals;
+mod relying;
 mod remedies;
 mod row;
 mod run_remedies;

@@ -1,0 +1,5 @@
+pub mod Found
+pub mod Lines
+pub mod Nodes
+pub mod Notes
+pub mod Relying

@@ -1,0 +1,14 @@
+//! Where an accepted program relies on a rule that JDK 25 doesn't share, by the lines of its text.
+//!
+//! `node` says where a control path can be, `search` finds all such nodes of a function, and `notes`
+//! lists the instructions that rely on such a rule.
+#![tactic(auto)]
+
+mod lines;
+pub mod node;
+pub mod notes;
+pub mod reliance;
+pub mod search;
+
+pub use lines::note_lines;
+pub use notes::{Note, all_notes};

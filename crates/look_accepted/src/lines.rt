@@ -1,0 +1,63 @@
+//! The lines of the notes.
+
+ghost use Rattle.std.specs.Prelude.{◌≡◌, ◌++◌, OnOk};
+ghost use Rattle.look_accepted.specs.Lines as def;
+
+use crate::notes::Note;
+use crate::reliance::Reliance;
+use look_text::{say, say_place};
+use std::alloc::{AllocError, Global};
+use sts_asm::Outline;
+use sts_code::{Program, name_of};
+
+/// What JDK 25 does there, up to the place.
+fn rule_words(reliance: Reliance) -> &'static str
+    ensures { result.now ≡ def.rule_words reliance }
+{
+    match reliance {
+        Reliance::SecondJoin => {
+            "JDK 25 throws IllegalStateException at a join after an interrupted one: in "
+        }
+        Reliance::FirstBinding => {
+            "JDK 25 throws StructureViolationException at a fork behind a thread's first binding: in "
+        }
+        Reliance::LateRead => "JDK 25 throws IllegalStateException at a read after a timeout: in ",
+    }
+}
+
+fn say_note(
+    alloc: Global,
+    out: &mut Vec<u8>,
+    outline: &Outline<'_>,
+    program: &Program,
+    note: Note,
+) -> Result<(), AllocError>
+    ensures { OnOk result (out.new.items
+        ≡ out.old.items ++ def.note_line outline.now program.now note) }
+{
+    say(out, rule_words(note.reliance))?;
+    say(out, name_of(program, note.function))?;
+    say_place(alloc, out, outline.sentence(note.function, note.place))?;
+    say(out, "\n")
+}
+
+/// A line for each note.
+///
+/// # Errors
+///
+/// Memory was refused; a part of them may then stand in `out`.
+pub fn note_lines(
+    alloc: Global,
+    out: &mut Vec<u8>,
+    outline: &Outline<'_>,
+    program: &Program,
+    notes: &[Note],
+) -> Result<(), AllocError>
+    ensures { OnOk result (out.new.items
+        ≡ out.old.items ++ def.note_lines outline.now program.now notes.now) }
+{
+    for note in notes {
+        say_note(alloc, out, outline, program, *note)?;
+    }
+    Ok(())
+}
