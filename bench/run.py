@@ -4,7 +4,7 @@
 ONLY=workers prints one of the tables: texts, machines, workers, growth or labels. Rates are of the whole process less the
 time that a text of one function takes. Runs by workers are taken in turns, one by each number of workers after the other,
 and have no journal; their median stands there too. Few runs of them mislead where processors are shared: to take figures
-like those of README.md, RUNS=300 ONLY=workers on a machine that does nothing else.
+like those of docs/SPEED.md, RUNS=300 ONLY=workers on a machine that does nothing else.
 """
 import itertools
 import os
