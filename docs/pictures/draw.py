@@ -1,5 +1,5 @@
 #!/usr/bin/env python3
-"""Draws the three pictures of the documents, as SVG files beside this script.
+"""Draws the three pictures of the documents, as SVG files next to this script.
 
 phases.svg   the phases of a scope, and what moves it from one to another
 run.svg      the run of examples/sum as a journal: a row for each task, a column for each event
