@@ -81,7 +81,7 @@ def fan_out_trace():
 
 
 def chain(scopes):
-    """Functions of 14 bindings, each a subtask of the next; the first opens so many scopes, one after another."""
+    """Functions of 14 bindings, each a subtask of the next; the first opens this number of scopes, one by one."""
     binds = " / ".join(f"push {key} / bind {key}" for key in range(14))
     unbinds = " / ".join(["unbind"] * 14)
     ending = f"{unbinds} / push 0 / ret / end"
