@@ -81,7 +81,7 @@ def fan_out_trace():
 
 
 def chain(scopes):
-    """Functions of 14 bindings, each a subtask of the next; the first opens so many scopes, one after another."""
+    """Functions of 14 bindings, each a subtask of the next; the first opens this number of scopes, one by one."""
     binds = " / ".join(f"push {key} / bind {key}" for key in range(14))
     unbinds = " / ".join(["unbind"] * 14)
     ending = f"{unbinds} / push 0 / ret / end"
@@ -103,7 +103,7 @@ def chain(scopes):
 
 
 def last_of_many(subtasks):
-    """Reads the subtask that ended last of so many, as often."""
+    """Reads the subtask that ended last, once for each subtask."""
     turns = subtasks // 10
     text = lines(
         f"func kid 0 / push 7 / ret / end / func main 0 / open s0 awaitall / push 10 / times 10 / push {turns} / times {turns} / "
@@ -115,7 +115,7 @@ def last_of_many(subtasks):
 
 
 def fifties(scopes):
-    """Fifty subtasks in each of so many scopes."""
+    """Fifty subtasks in each of this number of scopes."""
     text = lines(
         f"func kid 0 / push 7 / ret / end / func main 0 / push {scopes} / times {scopes} / open s0 awaitall / push 50 / times 50 / "
         f"fork s0 kid _ / next / join s0 - - intr / close s0 / jmp on / intr: / close s0 / on: / next / push 1 / ret / end"
@@ -127,7 +127,7 @@ def fifties(scopes):
 
 
 def never_run(scopes):
-    """Fifty subtasks forked after the cancel in each of so many scopes."""
+    """Fifty subtasks forked after the cancel, in each of this number of scopes."""
     text = lines(
         f"func kid 0 / push 7 / ret / end / func main 0 / push {scopes} / times {scopes} / open s0 any / fork s0 kid _ / push 50 / "
         f"times 50 / fork s0 kid _ / next / join s0 bad - intr / pop / close s0 / jmp on / bad: / pop / close s0 / jmp on / "

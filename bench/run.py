@@ -2,9 +2,9 @@
 """Prints tables of the throughputs of `sts`, each the least time of several runs.  usage: run.py [PATH_OF_sts]  (RUNS=9)
 
 ONLY=workers prints one of the tables: texts, machines, workers, growth or labels. Rates are of the whole process less the
-time that a text of one function takes. Runs by workers are taken in turns, one by each number of workers after the other,
-and have no journal; their median stands there too. Few runs of them mislead where processors are shared: to take figures
-like those of README.md, RUNS=300 ONLY=workers on a machine that does nothing else.
+time that a text of one function takes. Runs by workers are taken in turns, one by each number of workers after the other.
+They have no journal, and their median is printed too. If processors are shared, a few runs mislead: for figures like those
+of docs/SPEED.md use RUNS=300 ONLY=workers on a machine that does nothing else.
 """
 import itertools
 import os
@@ -56,7 +56,7 @@ def instructions(path):
 
 
 def steps_of(output):
-    """The steps that a run took, which stand last."""
+    """The steps that a run took, which are printed last."""
     return int(output.decode().split("steps ")[-1])
 
 

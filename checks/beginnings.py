@@ -1,8 +1,8 @@
 #!/usr/bin/env python3
 """Gives the program every beginning of the texts and traces in examples/.  usage: beginnings.py [PROGRAM]
 
-A text is whole as soon as the `end` of its last function is; every shorter beginning is a fault of a text, status 3.
-A beginning of a trace is one exactly where it is empty or ends with a newline; else the answer is `error T3`.
+A text is whole once the `end` of its last function is there. Every shorter beginning is a fault of a text, status 3.
+A beginning of a trace is a trace if and only if it is empty or ends with a newline. Otherwise the answer is `error T3`.
 The last line is `N passed, M failed`, of beginnings.
 """
 import glob

@@ -1,15 +1,15 @@
 #!/usr/bin/env python3
 """Compares the program with itself, over generated programs and traces.  usage: differ.py [options]
 
-No single mistake in one mode survives it, since another mode says the same by other code:
-- `replay` prints what `plain` prints where the program is accepted, and what `verify` prints where it isn't;
-- an accepted program comes to no fault, and takes no more steps than its budget;
-- `run` prints what `verify` prints and then what `replay` prints of the journal that it wrote, in which a beginning of
-  the outside events stands in their order;
+A mistake in one mode is found, since another mode says the same by other code:
+- `replay` prints what `plain` prints if the program is accepted, and otherwise what `verify` prints;
+- an accepted program never faults, and takes at most the steps of its budget;
+- `run` prints what `verify` prints and then what `replay` prints of the journal that it wrote. The journal has a
+  beginning of the outside events in their order;
 - `list` prints a text of the same program: with the same verdict, the same run, and listed as itself.
 
 Programs are drawn as texts of both profiles: whole ones, which are accepted for the most part, ones with a line
-that was changed, and lines without order.  A case is drawn from the seed and its number alone, so it can be had
+that was changed, and lines without order.  A case is drawn from the seed and its number alone, so it can be drawn
 again.  A case that fails is left in a folder.  The last line is `N passed, M failed`, of cases.
 """
 import argparse

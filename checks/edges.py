@@ -2,11 +2,11 @@
 """Gives the programs words and files at their edges.  usage: edges.py [PROGRAM [LOOK]]
 
 PROGRAM is `sts`, LOOK is `look`; each of their commands is tried where it applies.
-- Words: all of them count, also of 300, and ten may be right; words that are mistaken, are no text or ask for help
-  are answered on standard error alone, with status 2 or 0.
-- Files: a name is taken as it is, with the blanks around it; FILE is read before the other file, up to a byte more than a
-  text may have; a trace is made under the name that was given and under no other, and has the journal.
-- Output and status: of each command for each of its statuses.
+- Words: all of them count, even if there are 300, and ten may be right. Words that are mistaken, are no text or ask for
+  help are answered on standard error alone, with status 2 or 0.
+- Files: a name is taken as it is, with the blanks around it. FILE is read before the other file, up to a byte more than a
+  text may have. A trace is made only under the name that was given, and has the journal.
+- Output and status: each command, for each of its statuses.
 Expected answers were worked out by hand from the rules.  The last line is `N passed, M failed`, of runs.
 """
 import os

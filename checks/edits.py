@@ -4,7 +4,7 @@
     checks/edits.py [--jobs N] [CRATE ..]
 
 An edit makes a body of a function wrong; its first line says how. The gate tries some sixty, which are in the crates' own
-folders `must-fail/`. The others are in checks/edits/CRATE/, since they take two hours of processor time.
+folders `must-fail/`. The others are in checks/edits/CRATE/, since they take hours of processor time.
 
 With no crate named, the edits of all crates are tried, N crates side by side (as many as there are processors, if no N is
 given). The script works on a copy of the repository, by `rt must-fail CRATE`. It takes along the libraries that were built

@@ -1,13 +1,14 @@
 #!/usr/bin/env python3
 """Compares what `look explain` says weighs most with sums over generated programs.  usage: heaviest.py [options]
 
-A program is drawn as a tree of stretches, branches, loops, scopes, bindings and forks. What a function weighs is summed
-over its tree, with no table over places: of a branch the heavier way, of a loop all its turns. `look explain` has to say:
-- `accepted`, where all four sums of `main` are within the limits;
-- else, of the first that isn't, this sum, at a line that has the words told, and where it counts steps at the last `ret`;
-- and with it lines of the text that add up to the sum: all of them where none is left out, at most 50 of them. Of a sum
-  of more than 128 bits nothing is said.
-A program is drawn from the seed and its number alone, so it can be had again. One that fails is left in a folder.
+A program is drawn as a tree of stretches, branches, loops, scopes, bindings and forks. The sums of a function
+are made over its tree, with no table over places: a branch has the sum of its heavier way, a loop that of all its turns.
+`look explain` has to say:
+- `accepted`, if all four sums of `main` are within the limits;
+- otherwise the first sum over its limit, at a line that has the words that are printed. For steps it is the last `ret`;
+- and with it at most 50 lines of the text. If no line is left out, they add up to the sum. Nothing is printed about a sum
+  of more than 128 bits.
+A program is drawn from the seed and its number alone, so it can be drawn again. One that fails is left in a folder.
 The last line is `N passed, M failed`, of programs.
 """
 import argparse
@@ -33,8 +34,8 @@ TURNS = (1, 2, 3, 10, 100, 1_000, 10_000)
 
 @dataclass
 class Piece:
-    """A piece of a function: its lines, the steps of its heaviest way, and of each peak the most that stands at once and
-    what still stands behind it, in the scope around."""
+    """A piece of a function: its lines and the steps of its heaviest way. For each peak it has the most that counts at once,
+    and how much still counts after it, in the scope around."""
 
     lines: list
     steps: int
@@ -220,7 +221,7 @@ def is_right(functions, text, status, printed):
 
 
 def adds_up(text, lines, weight, own):
-    """Says whether these lines are of the text, and add up to the weight where none is left out."""
+    """Says whether these lines are of the text, and add up to the weight if no line is left out."""
     if own is not None and lines[-1:] != [own]:
         return False
     lines = lines[: len(lines) - (own is not None)]

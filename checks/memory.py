@@ -6,19 +6,19 @@ For n = 1, 2, .. until nothing is refused any more:
 - the nth request for memory is refused, or that and all later ones: the answer is `error memory` alone with status
   6, or the right one;
 - the nth read fails: `error file` alone with status 6;
-- the nth write fails: a beginning of the right answer with status 6, or `error file` alone where it was the journal's, or
-  the right answer where it was the line on standard error that says why a text or an outside text is refused.
-Of `look draw` the right answer is what it draws where nothing is refused: what that should be is compared elsewhere.
-A run by workers says `error threads` where the start of a worker was refused, and may say so where the memory was that
-such a start asks for, and nowhere else. It starts as many workers as it is told to, with a journal and without.
-And all reads and writes take one byte at a time; or the output is full, closed, or read by nobody: status 6.
-Then the same for memory alone and for single calls, by the program CALLS (tests_alloc), which says what each answers:
-- each of the calls that lead to the one that is tried, and this one, finds no memory in turn; else the answer is right;
-- what `verify` refused for want of memory it gives back, and a machine is as it was before such an event: the same
-  program, or the same event, once more gives the right answer;
+- the nth write fails: a beginning of the right answer with status 6. If it was a write of the journal, `error file` alone.
+  If it was the line on standard error that says why a text or an outside text is refused, the right answer.
+The right answer of `look draw` is what it draws if nothing is refused: another script compares that.
+A run by workers says `error threads` if the start of a worker was refused. It may say this if the refused memory was for
+such a start, and never otherwise. It starts as many workers as it is asked for, with a journal and without.
+Then all reads and writes take one byte at a time. And the output is full, closed, or read by nobody: status 6.
+Then single calls are tried with refused memory, by the program CALLS (tests_alloc), which prints what each answers:
+- each call that leads to the one that is tried, and this one, finds no memory in turn; otherwise the answer is right;
+- `verify` gives a program back if memory runs out, and a machine is as it was before such an event. The same program, or
+  the same event, then gives the right answer;
 - between `prepare`, or the start of a book, and the end of a whole run there is no request for memory.
-The refusals are those of refuse.c, which a C compiler makes a library that is loaded before the program as it was
-built; where there is no compiler, or the library can't be loaded, that is said, and the status is 1.
+refuse.c makes the refusals. A C compiler makes a library of it, which is loaded before the program as it was built. If
+there is no compiler, or the library can't be loaded, the script says that, and the status is 1.
 The last line is `N passed, M failed`, of runs.
 """
 import collections

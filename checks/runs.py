@@ -7,8 +7,8 @@ and `replay` of the journal prints these two again. examples/README.md: `deadlin
 and `replay` print what is shown of each trace, and files from other editors are judged as is shown. The lines for a shell
 that PATTERNS.md, LANGUAGE.md and VERIFIER.md show do what is said of them.
 
-Beside what is shown: programs of one task with outside events, whose ends and journals follow from when an event is due;
-a long loop; and a scope of 65,535 subtasks in a text of 1,048,576 bytes. Each of these is run with a journal and without.
+It also runs other programs, each with a journal and without: programs of one task with outside events, whose ends and
+journals follow from when an event is due; a long loop; and a scope of 65,535 subtasks in a text of 1,048,576 bytes.
 The last line is `N passed, M failed`, of runs.
 """
 import os
@@ -206,7 +206,7 @@ def journal_text(short):
 
 
 def with_outside(program, folder, text, short, workers):
-    """Returns what a run says beside the budgets, with a journal and without one, and the journal."""
+    """Returns what a run prints besides the budgets, with a journal and without one, and the journal."""
     file, outside, journal = kept(folder, "text", text), kept(folder, "outside", outside_text(short)), os.path.join(folder, "journal")
     words = ["run", file, "--workers", workers, *(["--outside", outside] if short else [])]
     budgets = says(program, "verify", file)

@@ -2,14 +2,14 @@
 """Gives the programs readers that never end and writers that fail.  usage: streams.py [PROGRAM [LOOK]]
 
 PROGRAM is `sts`, LOOK is `look`; each of their commands is tried. Each run has 64 MiB of addresses and a minute. A text
-without end is too long (`error A8`, status 3): no more of it is read than a text may have and a byte. A trace, an outside
-text or an input without end is read until there is no memory (`error memory`, status 6). Where standard output, or
-standard error for help and mistakes, is full, closed or read by nobody, the status is 6, and the journal of a run is
-whole. A journal that can't be made or written is told (`error file`, status 6); one of a run that never begins is made
-and stays empty, but where a file that is read first can't be. A journal that is a file that the run reads, also by another
-path or a link, is refused in the same way, and all files stay as they were. Where standard error can't be written, the
-output and the status of a failure are the same. Standard input is `-` for `look`, and for `sts` at a terminal it says that
-it waits.
+without end is too long (`error A8`, status 3): the program reads one byte more than a text may have. It reads a trace, an
+outside text or an input without end until memory runs out (`error memory`, status 6). The status is 6, and the journal of
+a run is whole, if standard output is full, closed or read by nobody; for help and mistakes that is standard error.
+
+A journal that can't be made or written is `error file`, status 6. If a run never begins, its journal is made and stays
+empty, except if a file that is read first can't be read. A journal that is a file that the run reads, also by another path
+or a link, is refused in the same way, and all files stay as they were. If standard error can't be written, the output and
+the status of a failure are the same. Standard input is `-` for `look`. For `sts` at a terminal it says that it waits.
 The last line is `N passed, M failed`, of runs.
 """
 import contextlib

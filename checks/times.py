@@ -1,8 +1,8 @@
 #!/usr/bin/env python3
 """Runs the gate, `rt ci`, and then prints the processor seconds of each crate: its proofs, its tests' proofs, its must-fail edits.
 
-What the gate says goes to standard output as it comes, the table follows it. The status is the gate's.
-The figures are read off /proc twice a second, so a process that ends between two looks loses half a second at most.
+The output of the gate goes to standard output as it comes, and the table follows it. The status is the gate's.
+The figures are read off /proc twice a second, so a process that ends between two readings loses half a second at most.
 """
 import collections
 import os

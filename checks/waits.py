@@ -6,9 +6,9 @@ subtask has two units of work. A move is what one worker does under one hold of 
 turns a hold does, which task is claimed, whether a slice was worth it, whom a wake-up reaches, and wake-ups for no reason.
 A second search stops the run after any move, as a refused start does, and wakes nobody for it.
 
-A state is bad where every worker sleeps or has ended and one of them sleeps; where several workers are wanted, a task is
-left, one sleeps and the others are all out with slices; or where no moves lead to the end of all workers. The rule has no
-bad state. Each fault of FAULTS is planted in turn, and has one. The last line is `N passed, M failed`.
+There are three kinds of bad states. Every worker sleeps or has ended, and one of them sleeps. Or several workers are needed
+and a task is left, but one worker sleeps and the others are all out with slices. Or no moves lead to the end of all workers.
+The rule has no bad state. Each fault of FAULTS is planted in turn, and has a bad state. The last line is `N passed, M failed`.
 """
 import sys
 
@@ -135,7 +135,7 @@ class Rule:
             yield from self.find(book, numbers, workers, i)
 
     def after(self, book, numbers, workers, i, task):
-        """Yields what comes of the turns of a task, and of what the worker does then."""
+        """Yields the states after the turns of a task and after the worker's next move."""
         for turned, is_step in turns(book, task):
             yield from (self.slices if is_step else self.find)(turned, numbers, workers, i)
 

@@ -1,7 +1,7 @@
 #!/usr/bin/env python3
 """Prints the trace that is written short.  usage: write_trace.py WORDS
 
-`0*5` stands for five lines `step 0`, `i0` for `interrupt 0` and `x0` for `expire 0`; blanks stand between them.
+`0*5` stands for five lines `step 0`, `i0` for `interrupt 0` and `x0` for `expire 0`. Words are separated by blanks.
 """
 import re
 import sys
@@ -10,7 +10,7 @@ LINES = {"i": "interrupt", "x": "expire"}
 
 
 def lines(word):
-    """Returns the lines that a word stands for, or none where it is no such word."""
+    """Returns the lines that a word stands for, or no lines if it is no such word."""
     steps, other = re.fullmatch(r"(\d+)\*(\d+)", word), re.fullmatch(r"([ix])(\d+)", word)
     if steps:
         return [f"step {steps[1]}"] * int(steps[2])

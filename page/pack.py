@@ -59,7 +59,7 @@ def legend(title):
 
 
 def whole(made):
-    """Returns the page; a script that is made is taken from there, all else from the files beside this one."""
+    """Returns the page; a script that is made is taken from there, all else from the files next to this one."""
     source = lambda name: made[name]() if name in made else read(os.path.join(HERE, name))
     page = re.sub("<!-- legend: (.*) -->", lambda it: legend(it[1]), read(os.path.join(HERE, "index.html")))
     page = re.sub(r'<link rel="stylesheet" href="([\w.]+)">', lambda it: f"<style>\n{source(it[1])}</style>", page)

@@ -3,13 +3,14 @@
 
 - each call answers what `sts` and `look` print, with their status: over every example and every beginning of its trace, and
   over texts and traces with faults, refused texts, and runs that come to a fault;
-- texts are explained as the rows of crates/tests_look say, and the line that is told is marked and in view;
-- every example is played by the page's own buttons, after each event of its trace: there is one for each event that counts
-  there and none else, as `look view --each` tells; beside the listing a number stands for each task that lives, at its
-  instruction, and each that is ready can be clicked: that writes its step; the page shows what `look view`, `look explain`
-  and `look draw` print of the trace; the buttons of the columns, and First to Last, show what stands after each event;
-- so it shows of texts and traces with faults, and of runs that come to a fault; a trace is passed on as it is written, but
-  for the last newline; the place is kept over faults;
+- texts are explained as the rows of crates/tests_look say, and the line that is named is marked and in view;
+- every example is played by the page's own buttons, after each event of its trace. There is a button for each event that
+  counts there and no other, as `look view --each` says. Next to the listing is a number for each task that lives, at its
+  instruction. A click on the number of a task that is ready writes its step. The page shows what `look view`,
+  `look explain` and `look draw` print for the trace. The buttons of the columns, and First to Last, show the tasks and
+  scopes after each event;
+- the page does the same with texts and traces with faults, and with runs that fault. It passes a trace on as it is written,
+  except for the last newline. It keeps the place over faults;
 - the words and marks are explained as docs/LOOK.md does; the keyboard plays; every control has a name for screen readers.
 
 Pictures of the page, light and dark, are left in page/out. The last line is `N passed, M failed`, of comparisons; where no
@@ -174,11 +175,11 @@ class Page:
         self.chromium.tap(*self.chromium.value(middle))
 
     def shown(self):
-        """Returns the lines of what stands, as they are shown."""
+        """Returns the lines of tasks and scopes, as they are shown."""
         return "".join(self.each("#stands .words", "it.textContent + '\\n'"))
 
     def buttons(self):
-        """Returns the events that have a button beside what stands."""
+        """Returns the events that have a button next to a task or a scope."""
         return self.each("#stands button", "it.dataset.event")
 
     def marks(self):
@@ -259,7 +260,7 @@ def stands(page, programs, what, text, trace, whole):
 
 
 def marks_clicked(page, programs, what, text, before):
-    """Clicks each number beside the listing that can be clicked, and yields whether that plays a step of its task."""
+    """Clicks each number next to the listing that can be clicked, and yields whether that plays a step of its task."""
     for task in [task for _, task, is_ready in programs.marks(text, before) if is_ready]:
         after = f"{before}step {task}\n"
         yield f"{what}: the number {task} is there", page.click(f'#listing button[data-event="step {task}"]')
@@ -283,7 +284,7 @@ def event_played(page, programs, what, text, before, after):
 
 
 def columns(page, programs, name, text, trace):
-    """Clicks the button of each column, and yields whether that shows what stands after its event."""
+    """Clicks the button of each column, and yields whether that shows the tasks and scopes after its event."""
     heads = ["before the first event", *programs.heads(text, trace)]
     yield f"{name}: a button for each column", len(page.each(".columns button", "0")) == len(heads)
     for number, (head, events) in enumerate(zip(heads, beginnings(trace))):
@@ -365,7 +366,7 @@ def as_written(page, programs):
 
 
 def verdicts(page, programs):
-    """Yields whether texts that are accepted, refused and faulty are told so, and their lines marked."""
+    """Yields whether texts are shown as accepted, refused or faulty, and their lines marked."""
     text = read(EXAMPLES[0])
     page.write("text", text)
     yield "accepted", page.text_of("verdict") == "accepted\n" + programs.says(programs.sts, "verify", [text])[1]
@@ -403,7 +404,7 @@ def in_view(page):
 
 
 def place_kept(page, programs):
-    """Yields whether the page shows as many events as before, once a fault is mended or the trace is long enough again."""
+    """Yields whether the page shows as many events as before, once a fault is fixed or the trace is long enough again."""
     path = EXAMPLES[NAMES.index("failure_stops_siblings.sts")]
     text, trace = read(path), read(f"{path[:-4]}.trace")
     fifth = programs.view(text, beginnings(trace)[5])[1]
@@ -432,7 +433,7 @@ def legends(page):
 
 
 def mouse(page):
-    """Yields whether a number beside the listing and a column can be reached by the mouse."""
+    """Yields whether a number next to the listing and a column can be reached by the mouse."""
     page.choose(NAMES.index("failure_stops_siblings.sts"))
     page.write("trace", "step 0\nstep 0\n")
     page.click("#last")

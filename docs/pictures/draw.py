@@ -1,5 +1,5 @@
 #!/usr/bin/env python3
-"""Draws the three pictures of the documents, as SVG files beside this script.
+"""Draws the three pictures of the documents, as SVG files next to this script.
 
 phases.svg   the phases of a scope, and what moves it from one to another
 run.svg      the run of examples/sum as a journal: a row for each task, a column for each event
@@ -178,10 +178,10 @@ def run():
 # ---- the ladder
 
 LADDER = [  # floor, its crates, the theorem on the arrow to the next one, and the contracts that say it
-    ("text", "sts_text, sts_asm", "assembled exactly where the text spells the program; a listing reads back", "assemble, list"),
-    ("program", "sts_code", "accepted exactly where the definitions accept it; four budgets, exact over control paths", "verify"),
-    ("accepted", "sts_verify", "no list of events leads to a fault; steps and what stands stay within the budgets", "every_run"),
-    ("plain machine", "sts_plain", "the machine that tests nothing stands where the plain machine stands", "Plain::apply, Machine::turn"),
+    ("text", "sts_text, sts_asm", "assembled if and only if the text spells the program; a listing reads back", "assemble, list"),
+    ("program", "sts_code", "accepted if and only if the definitions accept it; four budgets, exact over control paths", "verify"),
+    ("accepted", "sts_verify", "no list of events leads to a fault; steps, tasks, scopes and bindings stay within the budgets", "every_run"),
+    ("plain machine", "sts_plain", "the machine that tests nothing has the live view and the steps of the plain machine", "Plain::apply, Machine::turn"),
     ("machine", "sts_machine", "the workers' journals are lists of events, and lead to the reported end", "Book::journal, run"),
     ("workers", "sts_pool", None, None),
 ]

@@ -1,5 +1,5 @@
 #!/usr/bin/env python3
-"""Draws three runs by `look draw`, as SVG files beside this script.
+"""Draws three runs by `look draw`, as SVG files next to this script.
 
 run_sum.svg        examples/sum: forks, a join that waits, ends
 run_failure.svg    examples/failure_stops_siblings: a failure cancels a scope and interrupts

@@ -18,7 +18,7 @@ fn numbers(line: &str) -> Option<(u32, u32)> {
     Some((births.parse::<u32>().ok()?, standing.parse::<u32>().ok()?))
 }
 
-/// Runs so many rounds, and gives the nanoseconds of an event.
+/// Runs `count` rounds, and returns the nanoseconds of an event.
 fn timed(rt: &HostRuntime, tree: &mut Tree<u32>, standing: u32, count: u32) -> io::Result<u128> {
     let start = Instant::now(rt)?;
     let done = rounds::run(tree, standing, count);

@@ -1,7 +1,7 @@
 //! Rounds of the tree of records: a scope from its opening to its close, with so many subtasks.
 //!
-//! What the calls require is tested before each, so the times are above those of a caller that has
-//! it proved.
+//! Each call is made after a test of what it requires. So the times are above those of a caller
+//! that has it proved.
 
 ghost use Rattle.std.specs.Prelude.{◌≡◌, ◌≢◌, ◌<◌, ◌≤◌, Some, None, slice_index_or};
 
@@ -71,7 +71,7 @@ fn fork_all(tree: &mut Tree<u32>, s: u32, standing: u32) -> Option<()> {
     Some(())
 }
 
-/// Ends so many living subtasks of a scope, the first first.
+/// Ends `standing` living subtasks of a scope, the first one first.
 fn end_all(tree: &mut Tree<u32>, s: u32, standing: u32) -> Option<()> {
     for _ in 0..standing {
         let t = tree.living_front(s)?;
@@ -89,7 +89,7 @@ fn round(tree: &mut Tree<u32>, standing: u32) -> Option<()> {
     close(tree, s)
 }
 
-/// Runs so many rounds, and answers how many were done: fewer where there is no room.
+/// Runs `count` rounds, and returns how many were done: fewer if there is no room.
 pub fn run(tree: &mut Tree<u32>, standing: u32, count: u32) -> u32 {
     for done in 0..count {
         if round(tree, standing).is_none() {

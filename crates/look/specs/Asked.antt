@@ -15,7 +15,7 @@ use Rattle.look.specs.declared.asked.Asked.{Asked}
 use Rattle.look.specs.declared.asked.Asked.TheVariants as asked
 use Rattle.look.specs.Command.{program}
 
--- what a line says: the command, its files in order, and of `view` what is wanted of it
+-- what a line says: the command, its files in order, and the options of `view`
 pub record Said : Type 0 where
   pub name : Text
   pub files : List Text
@@ -57,7 +57,7 @@ wanted_at rows = record { each = is_set (codes "each") rows; full = is_set (code
 abbrev pub is_view : Text → Bool
 is_view name = bytes_eq name (codes "view")
 
--- does a command want a trace?
+-- does a command need a trace?
 abbrev pub wants_trace : Text → Bool
 wants_trace name = is_view name || bytes_eq name (codes "draw")
 

@@ -57,7 +57,7 @@ IsShown (asked.Draw file trace) files o =
     IsOfTexts IsPictureOf (files file.now) (files trace.now) o
 
 -- what the program writes, and its status: that of the line that the words ask for, 0 after help
--- that they ask for, 2 where they are mistaken, or that memory was refused
+-- that they ask for, or 2 if they are mistaken. It may also be that memory was refused.
 pub data Ends (words : List Text) (files : Files) (s : Streams) (status : ℕ) : Type 0 where
   shown : (a : Asked) (o : Output) → Asks words a → IsShown a files o → Prints s status o
       → Ends words files s status

@@ -5,13 +5,13 @@ use look_lines::Wanted;
 /// What is to be shown: the names of the files come as they were written.
 #[derive(Clone, Copy, Debug)]
 pub enum Asked<'a> {
-    /// What stands after a trace.
+    /// The tasks and scopes after a trace.
     View {
         file: &'a str,
         trace: &'a str,
         wanted: Wanted,
     },
-    /// What is wrong with a text, if anything is; with a trace how a run of it stands after that.
+    /// What is wrong with a text, if anything is. With a trace: where its tasks are after that.
     Explain {
         file: &'a str,
         trace: Option<&'a str>,

@@ -1,4 +1,4 @@
-//! The commands that the program knows, as `clap` is told of them.
+//! The commands that the program knows, as `clap` gets them.
 
 ghost use Rattle.std.specs.Prelude.{◌≡◌, IfOk, codes, false};
 ghost use Rattle.clap.specs.Words.{app_of, rule_of};

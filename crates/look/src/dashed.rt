@@ -1,4 +1,4 @@
-//! The files of the process, of which `-` is its standard input.
+//! The files of the process, with `-` for its standard input.
 
 use std::io::{Input, Read};
 use std::rt::Files;

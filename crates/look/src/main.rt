@@ -1,4 +1,4 @@
-//! The program `look`: shows how a run of the plain machine stands.
+//! The program `look`: shows runs of the plain machine, and what is wrong with a text.
 #![tactic(auto)]
 
 pub mod asked;

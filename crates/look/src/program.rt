@@ -1,5 +1,5 @@
-//! The program `look`, but for its `main`: opens what a command line names, and writes what is
-//! shown.
+//! The program `look`, except its `main`: opens the files that a command line names, and writes the
+//! output.
 
 ghost use Rattle.std.specs.Prelude.{◌≡◌, IfOk, map};
 ghost use Rattle.sts_output.specs.Output.{Output, Writes};
@@ -60,7 +60,7 @@ fn show<W: Write>(
     }
 }
 
-/// The same of two files.
+/// Writes what is shown for two files.
 fn on_texts<S: Sources, W: Write>(
     alloc: Global,
     sources: &S,
@@ -161,11 +161,13 @@ fn on_line<S: Sources, W: Write>(
     }
 }
 
-/// Does what a command line asks for, its first word being the program's name, and gives the
-/// status: 0 accepted, root succeeded or help; 1 root failed; 2 usage; 3 a fault of a text;
-/// 4 refused; 5 a fault of the run, or it runs still; 6 memory, a file or a stream failed.
+/// Does what a command line asks for, and returns the status. The first word is the program's name.
 ///
-/// Usage faults are told to `err`, all else is written to `out`.
+/// The status is 0 if the text is accepted, the root succeeded or help was asked for. It is 1 if
+/// the root failed, 2 for usage, 3 for a fault of a text, 4 for a refusal, and 5 if the run faulted
+/// or goes on. It is 6 if memory, a file or a stream failed.
+///
+/// Usage faults are written to `err`, everything else to `out`.
 /// `notes` gets the lines that say why a file, a text or its events failed; none of these is
 /// written.
 ///

@@ -72,7 +72,7 @@ fn asked_of<'a>(
     }
 }
 
-/// Was the option given that takes no value?
+/// Is this option given? It takes no value.
 fn is_set(inner: &ArgMatches<'_>, id: &str) -> bool
     ensures { result ≡ is_set id.now (rows_of (found_of inner.now)) }
 {

@@ -113,7 +113,7 @@ fn tell_refused(rt: &HostRuntime, is_same: bool) -> io::Result<()> {
     println!(rt; "refused, {after}")
 }
 
-/// Verifies a program, and once more where it comes back for want of memory.
+/// Verifies a program, and once more if it comes back since memory ran out.
 fn verified_again(
     rt: &HostRuntime,
     alloc: Global,

@@ -23,7 +23,7 @@ impl From<io::Error> for Failure {
     }
 }
 
-/// What a call answered that fails by want of memory alone.
+/// Returns the answer of a call that fails only if memory runs out.
 ///
 /// # Errors
 ///

@@ -2,7 +2,7 @@
 //! memory meanwhile.
 //!
 //! Standard input has a line of calls, a text, a line `%`, a trace, a line `%` and an outside text.
-//! Where a call finds no memory, `error memory in` and its name are told, with status 6.
+//! If a call finds no memory, the program prints `error memory in` and its name, with status 6.
 #![tactic(auto)]
 
 mod calls;

@@ -13,7 +13,7 @@ const LOCALS: u32 = 64;
 /// A task that is never born.
 const NOBODY: u32 = u32::MAX;
 
-/// Whichever task can step steps, until none can or a turn is idle.
+/// Steps some task that can step, until no task can or a turn is idle.
 pub fn of_machine(machine: &mut Machine<'_>) {
     for _ in 0..MOST_ROUNDS {
         let Some(task) = machine.ready() else {

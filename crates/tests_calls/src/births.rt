@@ -26,7 +26,7 @@ fn remove(rt: &impl Abort, held: &mut Held<u32>, birth: usize) -> u32 {
     held.remove(birth)
 }
 
-/// The birth that stands under the key of this birth, which is the same.
+/// Returns the birth in the record under the key of this birth: the same birth.
 fn birth_again(held: &Held<u32>, birth: usize) -> Option<usize> {
     match held.key_of(birth) {
         None => None,

@@ -1,6 +1,6 @@
-//! Tests of calls by themselves, which no row can say: readers of texts, traces and command lines, the
-//! verifier, lists, environments, births, the tree of records, the store, and the machine that tests
-//! nothing.
+//! Tests of single calls, for what no row can say. They test readers of texts, traces and command
+//! lines, the verifier, lists, environments and births. They also test the tree of records, the
+//! store, and the machine that tests nothing.
 #![tactic(auto)]
 
 #[cfg(test)]

@@ -1,5 +1,5 @@
-//! Budgets and runs: a run that reaches all four budgets exactly, and for each budget a text of
-//! which no run reaches it.
+//! Budgets and runs: a run that reaches all four budgets exactly, and for each budget a text whose
+//! runs never reach it.
 
 use std::alloc::Global;
 use std::process::Abort;
@@ -12,7 +12,7 @@ use sts_trace::read_trace;
 use sts_verify::{Verified, verify};
 use sts_world::World;
 
-/// Steps, and the most tasks, scopes and bindings that stand at once.
+/// Steps, and the most tasks, scopes and bindings that count at once.
 #[derive(Clone, Copy, Debug, PartialEq, Eq)]
 struct Costs {
     steps: u64,
@@ -192,7 +192,7 @@ fn open_binds(world: &World, t: u32) -> usize {
     own.count()
 }
 
-/// The bindings that stand.
+/// Returns the number of bindings that count.
 fn standing_binds(world: &World) -> usize {
     let mut count = 0usize;
     for t in 0..world.records().tasks_born() as u32 {

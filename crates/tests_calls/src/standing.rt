@@ -1,4 +1,4 @@
-//! What stands after some steps, and what room is left.
+//! How much counts after some steps, and what room is left.
 
 use crate::rows::{BOUND, DOUBLES, THOUSAND};
 use std::alloc::{AllocError, Global};
@@ -12,7 +12,7 @@ use sts_verify::verify;
 /// So many steps of a task.
 struct Steps(u32, u16);
 
-/// A text, steps of its tasks in order, and what stands after them beside the room that is left.
+/// A text, steps of its tasks in order, and afterwards what counts and the room that is left.
 struct Point {
     text: &'static str,
     steps: &'static [Steps],
@@ -111,8 +111,8 @@ fn what_stands_is_told(rt: HostRuntime) -> Result<(), Fail> {
     Ok(())
 }
 
-/// Whichever task can step steps, until none can: each turn is one step, no more than two tasks and
-/// a scope ever stand, and the root alone does at the end.
+/// Steps some task that can step, until no task can. Each turn is one step. At most two tasks and a
+/// scope count at once, and only the root counts at the end.
 #[test]
 fn a_thousand_scopes_stand_one_at_a_time(rt: HostRuntime) -> Result<(), Fail> {
     let alloc = rt.alloc();

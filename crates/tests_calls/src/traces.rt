@@ -95,7 +95,7 @@ fn a_trace_is_written(rt: HostRuntime) -> Result<(), Fail> {
     Ok(())
 }
 
-// Takes so many bytes, and then each write fails.
+// Takes some bytes, and then each write fails.
 #[derive(Drop)]
 struct Narrow {
     room: usize,

@@ -41,7 +41,7 @@ fn is_right(ends: &[String], expected: &str) -> bool {
 }
 
 impl<'t> Table<'t> {
-    /// Returns a table of which no line was read yet.
+    /// Returns a table before its first line is read.
     pub fn new(alloc: Global) -> Table<'t> {
         Table {
             alloc,

@@ -1,4 +1,4 @@
-//! What stands, by rows worked out by hand from the rules.
+//! Tests of `look view`, by rows worked out by hand from the rules.
 
 use look_lines::{Wanted, viewed};
 use std::alloc::Global;

@@ -54,7 +54,7 @@ fn said(alloc: Global, asked: Asked, text: &[u8], trace: &[u8]) -> Result<String
 }
 
 impl<'t> Table<'t> {
-    /// Returns a table of which no line was read yet.
+    /// Returns a table before its first line is read.
     pub fn new(alloc: Global) -> Table<'t> {
         Table {
             alloc,

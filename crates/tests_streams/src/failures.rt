@@ -10,7 +10,7 @@ use std::test::Fail;
 use std::thread::Threads;
 use sts_cli::{Notes, run};
 
-/// What is told of files that aren't there.
+/// The reason that is printed for a file that doesn't exist.
 const READ_NONE: &str = "sts: cannot read none.sts: there is no such file\n";
 
 const WRITE_NONE: &str = "sts: cannot write none: permission is denied\n";

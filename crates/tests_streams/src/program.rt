@@ -1,4 +1,4 @@
-//! The whole program over files, an input and two streams that stand in for the process's own.
+//! The whole program over files, an input and two streams, in place of the process's own.
 
 use std::alloc::Global;
 use std::env::FillError;
@@ -17,7 +17,7 @@ const NAME: &[u8] = b"sts";
 
 const SEVEN: &[u8] = b"func main 0\npush 7\nret\nend\n";
 
-/// What is told of a refusal.
+/// The reason that is printed for a refusal.
 const REFUSED: &str = "sts: ./look explain FILE says why\n";
 
 const FAILS: &[u8] = b"func main 0\npush 7\nfail\nend\n";
@@ -194,8 +194,8 @@ pub(crate) const FOLDER: Folder = Folder {
     },
 };
 
-/// Runs the words, and compares the status, what is printed, and what is told: a line that begins
-/// with the program's name is all of it, and other words stand in it.
+/// Runs the words, and compares the status and what both streams get. A line that begins with the
+/// program's name has to be all of standard error; other words only have to be in it.
 pub(crate) fn runs<R: Abort + Threads + Wait + Sync>(
     rt: &R,
     alloc: Global,
@@ -424,7 +424,7 @@ fn printed_of<R: Threads + Wait + Sync>(
     Ok((out, ended))
 }
 
-/// A line of these bytes and so many `x`, and 27 bytes that are a program behind it.
+/// Returns a line of these bytes and `count` times `x`, and after it 27 bytes that are a program.
 fn long_text(alloc: Global, first: &[u8], count: usize) -> Result<Vec<u8>, Fail> {
     let mut text = Vec::new(alloc);
     text.extend_from_slice(first)?;
@@ -443,7 +443,7 @@ fn a_text_may_have_a_mebibyte_and_is_not_cut(rt: HostRuntime) -> Result<(), Fail
     let (printed, status) = printed_of(&rt, alloc, text.as_slice(), b"")?;
     assert_eq!(rt; str::from_utf8(printed.as_slice())?, "error A2 line 1\n");
     assert_eq!(rt; status, 3);
-    // The same number of bytes, of which the last one counts: without it `en` would be unknown.
+    // The same number of bytes. The last one counts: without it `en` would be unknown.
     let text = long_text(alloc, b";", 1_048_548)?;
     let (printed, status) = printed_of(&rt, alloc, text.as_slice(), b"")?;
     assert_eq!(rt; str::from_utf8(printed.as_slice())?, "running\nsteps 0\n");

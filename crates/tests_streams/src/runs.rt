@@ -155,7 +155,7 @@ fn without_a_report_the_trace_stays_empty(rt: HostRuntime) -> Result<(), Fail> {
     prints_alone(&rt, alloc, SQUARES, "at 0 interrupt 0", 3, "error T3\n")
 }
 
-/// Takes so many bytes, and then each write fails.
+/// Takes some bytes, and then each write fails.
 #[derive(Drop)]
 struct Narrow {
     room: usize,

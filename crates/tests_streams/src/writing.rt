@@ -6,7 +6,7 @@ use std::test::Fail;
 use sts_cli::{WriteFailed, play};
 use sts_output::Mode;
 
-/// Takes a byte at each write, and fails once it took so many.
+/// Takes a byte at each write, and fails after some bytes.
 #[derive(Drop)]
 struct Failing {
     taken: Vec<u8>,

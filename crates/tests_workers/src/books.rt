@@ -17,7 +17,7 @@ enum Which {
     Second,
 }
 
-/// Out of which book a slice was taken.
+/// The book from which a slice was taken.
 #[derive(Clone, Copy, Debug)]
 enum Whose {
     Own,
@@ -30,9 +30,10 @@ enum Act {
     Turn(u32, Turned),
     Interrupt(u32, Turned),
     Expire(u32, Turned),
-    /// A slice is taken out: of which task, if there is one.
+    /// A slice is taken out, and this is its task, if there is one.
     Out(Option<u32>),
-    /// At most so many local instructions on the slice that is out: how many were done.
+    /// The slice that is out does local instructions, at most the first number. The second number
+    /// of them were done.
     Local(u32, u32),
     /// A slice is given back: whether the book takes it.
     In(Whose, bool),

@@ -139,7 +139,7 @@ fn two_workers_meet(rt: HostRuntime) -> Result<(), Fail> {
     Ok(())
 }
 
-/// The same where the end tells of both events, so that no journal is needed.
+/// Tests the same with an end that shows both events, so that no journal is needed.
 #[test]
 fn two_workers_meet_and_the_end_tells_of_it(rt: HostRuntime) -> Result<(), Fail> {
     let verified = accepted(rt.alloc(), GREETED)?;
@@ -195,8 +195,8 @@ impl Gate for Holding {
     }
 }
 
-/// A subtask of two steps is worked on once: nobody else takes it while it is out, and who took it
-/// does both.
+/// A subtask of two steps is worked on once: no other worker takes it while it is out, and the
+/// worker that took it does both.
 #[test]
 fn out_is_out(rt: HostRuntime) -> Result<(), Fail> {
     let verified = accepted(rt.alloc(), TIMED)?;
@@ -211,8 +211,8 @@ fn out_is_out(rt: HostRuntime) -> Result<(), Fail> {
     Ok(())
 }
 
-/// A subtask of fifty thousand steps of its own is worked on once under the lock and once with none:
-/// slices that do nothing, or fewer instructions, come to the gate again.
+/// A subtask of fifty thousand steps of its own is worked on once under the lock and once without
+/// it. If slices did nothing, or fewer instructions, the worker would come to the gate again.
 #[test]
 fn a_long_subtask_is_out_once(rt: HostRuntime) -> Result<(), Fail> {
     let verified = accepted(rt.alloc(), LOOP)?;

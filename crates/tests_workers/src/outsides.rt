@@ -22,8 +22,8 @@ pub enum Weather {
     Storm { task: u32 },
     /// An interrupt of this task before the first step.
     Gust { task: u32 },
-    /// So many interrupts of no task, and then an expiry of this scope, once the journal has so many
-    /// entries.
+    /// First `idle` interrupts of no task, and then an expiry of this scope, once the journal has
+    /// `at` entries.
     Due { idle: u32, at: u64, scope: u32 },
 }
 

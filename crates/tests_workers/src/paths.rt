@@ -18,7 +18,8 @@ pub enum Path {
 
 pub static PATHS: [Path; 2] = [Path::Written, Path::Unwritten];
 
-/// How a run ends on its path by so many workers, all of whom come to it. A journal is replayed.
+/// Returns how a run on its path ends with this number of workers, which all come. A journal is
+/// replayed.
 pub fn ending<R: Abort + Threads + Wait + Sync, G: Gate + Sync, O: Outside + Send + Drop>(
     rt: &R,
     alloc: Global,

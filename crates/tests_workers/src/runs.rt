@@ -11,7 +11,7 @@ use std::thread::Threads;
 use sts_model::End;
 use sts_pool::run;
 
-/// With so many workers each text runs.
+/// The numbers of workers with which each text runs.
 static WORKERS: [u32; 4] = [1, 2, 8, 16];
 
 /// A text, what comes from outside, the ends that it may have, and the steps that it takes, where
@@ -98,7 +98,7 @@ static RUNS: [Run; 13] = [
         ends: &[End::Failed(0)],
         steps: None,
     },
-    // what is due when the root ends is recorded behind its last step
+    // events that are due when the root ends are recorded after its last step
     Run {
         text: SEVEN,
         weather: Weather::Due {

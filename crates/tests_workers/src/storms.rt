@@ -9,8 +9,8 @@ use std::test::Fail;
 use sts_model::{End, Event};
 use sts_pool::run;
 
-/// An interrupt that comes whenever it may stands 4,096 times beside the steps, however many workers
-/// there are.
+/// An interrupt that comes whenever it may is recorded 4,096 times, besides the steps, whatever the
+/// number of workers is.
 #[test]
 fn a_storm_stands_in_the_journal(rt: HostRuntime) -> Result<(), Fail> {
     let verified = accepted(rt.alloc(), DOUBLES)?;

@@ -7,7 +7,7 @@ use std::process::Abort;
 use std::str;
 use std::test::Fail;
 
-/// Lines, and how many times they stand one after the other; ` / ` stands between two lines.
+/// How many times lines are repeated, and the lines, with ` / ` between two of them.
 #[derive(Clone, Copy)]
 pub struct Part(pub u16, pub &'static str);
 

@@ -1,5 +1,5 @@
-//! How runs stand after traces, by the lines of their texts: each fault of a run and of a trace, and
-//! who waits for whom.
+//! Where runs are after traces, by the lines of their texts: each fault of a run and of a trace,
+//! and which task waits for which.
 
 use crate::explanations::row::{Part, RunRow, all_runs};
 use look_run::explain_run;

@@ -7,15 +7,15 @@ use std::process::Abort;
 use std::str;
 use std::test::Fail;
 
-/// A text, a trace, and the picture; ` / ` stands between two lines of a text, of a trace and of
-/// what stands in the end, and between two elements.
+/// A text, a trace, and the picture. Between two lines of a text, of a trace and of the last view,
+/// and between two elements, there is ` / `.
 pub struct Row {
     pub name: &'static str,
     pub text: &'static str,
     pub trace: &'static str,
     /// How wide and how high the picture is, and the grid.
     pub sizes: [u32; 4],
-    /// How the run stands, the steps that it took, and all that stands.
+    /// The state of the run, the steps that it took, and the lines of its last view.
     pub state: &'static str,
     pub steps: u32,
     pub stands: &'static str,
