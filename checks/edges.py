@@ -7,6 +7,9 @@ PROGRAM is `sts`, LOOK is `look`; each of their commands is tried where it appli
 - Files: a name is taken as it is, with the blanks around it. FILE is read before the other file, up to a byte more than a
   text may have. A trace is made only under the name that was given, and has the journal.
 - Output and status: each command, for each of its statuses.
+- Outside events: each is recorded as soon as it is due and those before it are recorded. It counts as an entry, with a
+  journal and without one.
+- Large runs: 65,535 subtasks, and a text of 1,048,576 bytes, by 4 workers.
 Expected answers were worked out by hand from the rules.  The last line is `N passed, M failed`, of runs.
 """
 import os
@@ -28,6 +31,14 @@ TWICE = "step 0\nstep 0\n"
 OWNER = "func kid 0\npush 4\nret\nend\nfunc main 0\nopen s0 any\nfork s0 kid _\njoin s0 bad - intr\nclose s0\nret\n" \
     "bad:\nclose s0\nfail\nintr:\npush 0\nclose s0\nfail\nend\n"
 ENDED = "step 0\nstep 0\nstep 1\nstep 1\ninterrupt 1\n"
+# Its flag is read at steps 1, 4 and 8, and each time gives a digit.
+DIGITS = "func main 0\ninterrupted\npush 10\nmul\ninterrupted\nadd\npush 10\nmul\ninterrupted\nadd\nret\nend\n"
+# 65,535 subtasks of two steps.  `main` takes 3 + 15 * (2 + 4369 * 2 + 1) steps up to its `join`, and 3 from there.
+WIDE = "func kid 0\npush 0\nret\nend\nfunc main 0\nopen s0 all\npush 15\ntimes 15\npush 4369\ntimes 4369\nfork s0 kid _\nnext\nnext\n" \
+    "join s0 bad - intr\nclose s0\nret\nbad:\nclose s0\nfail\nintr:\npush 0\nclose s0\nfail\nend\n"
+# (a `close` may take two steps, and the longest path is that of an interrupt)
+OF_WIDE = "kid steps 2\nkid tasks 1\nkid scopes 0\nkid binds 0\n" \
+    "main steps 262193\nmain tasks 65536\nmain scopes 1\nmain binds 0\nsuccess 65535\nsteps 262191\n"
 NO_FILE = (6, "error file\n", "")
 NOT_TEXT = "error: a word of the command line is not UTF-8\n"
 
@@ -236,6 +247,64 @@ def outputs_of_sts(sts):
         yield f"the input {text!r} {trace!r}", sts.says(given=f"{text}%\n{trace}"), (status, plain, "")
 
 
+# An outside text, the value of DIGITS with it, and its journal in short: `s` is a step, and a number an interrupt of it.
+DUES = [
+    ("at 0 interrupt 0", 100, "0 s s s s s s s s s s"),
+    ("at 1 interrupt 0", 10, "s 0 s s s s s s s s s"),
+    ("at 3 interrupt 0", 10, "s s s 0 s s s s s s s"),
+    ("at 4 interrupt 0", 1, "s s s s 0 s s s s s s"),
+    ("at 7 interrupt 0", 1, "s s s s s s s 0 s s s"),
+    ("at 8 interrupt 0", 0, "s s s s s s s s 0 s s"),
+    # what is due when the root ends is recorded, and what is due later isn't
+    ("at 10 interrupt 0", 0, "s s s s s s s s s s 0"),
+    ("at 11 interrupt 0", 0, "s s s s s s s s s s"),
+    # an event is an entry, also one that is idle
+    ("at 0 interrupt 5 / at 4 interrupt 0", 10, "5 s s s 0 s s s s s s s"),
+    ("at 0 interrupt 5 / at 5 interrupt 0", 1, "5 s s s s 0 s s s s s s"),
+    ("at 0 interrupt 0 / at 3 interrupt 0", 110, "0 s s 0 s s s s s s s s"),
+    ("at 0 interrupt 0 / at 0 interrupt 0 / at 7 interrupt 0", 101, "0 0 s s s s s 0 s s s s s"),
+    # a line that isn't due holds back those after it, and then they come at once
+    ("at 4 interrupt 5 / at 0 interrupt 0", 1, "s s s s 5 0 s s s s s s"),
+    ("at 4 interrupt 5 / at 0 interrupt 6 / at 6 interrupt 0", 1, "s s s s 5 6 0 s s s s s s"),
+    ("at 11 interrupt 5 / at 0 interrupt 0", 0, "s s s s s s s s s s"),
+]
+
+
+def dues_of_sts(sts):
+    """Yields the same of outside texts, which one worker asks before each step."""
+    for short, value, journal in DUES:
+        outside = "".join(f"{it}\n" for it in short.split(" / "))
+        right = 0, f"{BUDGETS.replace('2', '10')}success {value}\nsteps 10\n", ""
+        words = ["run", "text", "--workers", "1", "--outside", "due"]
+        sts.has(text=DIGITS, due=outside)
+        yield f"{short!r} with no journal", sts.says(*words), right
+        yield f"{short!r} with a journal", sts.says(*words, "--trace", "journal"), right
+        events = "".join("step 0\n" if it == "s" else f"interrupt {it}\n" for it in journal.split())
+        yield f"the journal of {short!r}", sts.read("journal"), events
+
+
+def large_runs(sts):
+    """Yields the same of as many subtasks as a scope may have, in a text that is as long as one may be."""
+    sts.has(text=WIDE + ";" * (MOST - len(WIDE) - 1) + "\n")
+    for more in ([], ["--trace", "journal"]):
+        yield f"a large run: {more}", sts.says("run", "text", "--workers", "4", *more), (0, OF_WIDE, "")
+    yield "its journal", sts.read("journal").count("step ") if "journal" in sts.names() else 0, 262191
+
+
+def dashed_names(sts, look):
+    """Yields the same of names that begin with `-`: only `-` itself, of `look`, is standard input."""
+    names = {"-text": SEVEN, "--": SEVEN, "-e": SEVEN, "trace": TWICE}
+    for name in ("-text", "--", "-e"):
+        sts.has(**names)
+        yield f"verify {name!r}", sts.says("verify", "--", name, given=POPS), (0, BUDGETS, "")
+        yield f"plain {name!r}", sts.says("plain", "--", name, "trace", given=POPS), (0, "success 7\nsteps 2\n", "")
+        yield f"look explain {name!r}", look.says("explain", "--", name, given=POPS), (0, "accepted\n", "")
+        yield f"look explain {name!r} after a trace", look.says("explain", "--", name, "trace", given=POPS), (0, "success 7\n", "")
+    sts.has(**{"-": POPS, "trace": TWICE})
+    yield "a file that is called -", sts.says("verify", "--", "-", given=SEVEN), (4, "refused V1 in main at 0: pop\n", "")
+    yield "look and a file that is called -", look.says("explain", "--", "-", given=SEVEN), (0, "accepted\n", "")
+
+
 def tried(sts, look):
     yield from words_of_sts(sts)
     yield from words_of_look(look)
@@ -243,6 +312,9 @@ def tried(sts, look):
     yield from names_of_look(look)
     yield from outputs_of_sts(sts)
     yield from outputs_of_look(look)
+    yield from dues_of_sts(sts)
+    yield from large_runs(sts)
+    yield from dashed_names(sts, look)
     run = ["run", "text", "--workers", "2"]
     both = [["plain", "text", "trace"], ["replay", "text", "trace"], [*run, "--outside", "trace"]]
     yield from files(sts, "sts", [["verify", "text"], ["list", "text"], run], both)
