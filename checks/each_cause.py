@@ -28,25 +28,25 @@ from write_trace import trace
 PAGE = "docs/CAUSES.md"
 HEAD = """# Each cause and fault, shown
 
-What `look explain` prints of one text for each cause of a refusal, each fault of a text or a trace, and each fault of a run;
-beside it the status of `look view` and `look draw` and what they begin with. Lines are parted by ` / `; of an explanation of
-more than seven lines the first six stand here, and `..` for the others. Traces are written short: `0*5` is five lines
-`step 0`, and `1..3*2` stands for `1*2 2*2 3*2`. These tables are written by `checks/each_cause.py write`, and the gate
-compares them with what the program prints. What the words mean is in [LOOK.md](LOOK.md), the causes are in
-[VERIFIER.md](VERIFIER.md), the faults in [LANGUAGE.md](LANGUAGE.md) and [BEHAVIOUR.md](BEHAVIOUR.md#misuse).
+This page shows one text for each cause of a refusal, each fault of a text or a trace, and each fault of a run. A row has what
+`look explain` prints, and then the status of `look view` and `look draw` with the beginning of what they print. ` / ` separates
+lines. If an explanation has more than seven lines, the row has the first six and `..`. Traces are written short: `0*5` is five
+lines `step 0`, and `1..3*2` is `1*2 2*2 3*2`. `checks/each_cause.py write` writes these tables, and the gate compares them with
+what the program prints. [LOOK.md](LOOK.md) says what the words mean. [VERIFIER.md](VERIFIER.md) has the causes, and
+[LANGUAGE.md](LANGUAGE.md) and [BEHAVIOUR.md](BEHAVIOUR.md#misuse) have the faults.
 
-- Of V1 to V20 `explain` has the text alone, `view` and `draw` the trace too: the plain machine runs refused programs, and the
-  trace brings it to the fault, or where there is none to the end of the root, or round the loop of V4 once more.
-- The runs of V17 to V20 have more columns and lanes than a browser shows: `draw` has the beginning that stands beside it.
-- A10 and T4 have no row. They are want of memory, which no text or trace brings about at will: each command then prints
-  `error memory` alone, with status 6, as `checks/memory.py` has it with each request for memory refused.
+- For V1 to V20 `explain` takes the text alone. `view` and `draw` take the trace, too, since the plain machine runs refused
+  programs. The trace leads to the fault. If there is none, it leads to the end of the root, or once more round the loop of V4.
+- The runs of V17 to V20 have more columns and lanes than a browser shows, so `draw` has only its beginning here.
+- A10 and T4 have no row: they say that memory ran out, which no text or trace brings about at will. Each command then prints
+  `error memory` alone, with status 6. `checks/memory.py` tries it with each request for memory refused.
 
 | Code | Text | Trace | `look explain` | `look view` | `look draw` |
 |---|---|---|---|---|---|
 """
 ROWS_HEAD = """
-What `look explain` says depends on the instruction and on what is at hand there. These rows are written by hand, and are
-tests (`crates/tests_look/src/explanations`):
+The sentence that `look explain` prints depends on the instruction and on what is known there. These rows are written by hand,
+and are tests (`crates/tests_look/src/explanations`):
 
 | Text | Trace | `look explain` |
 |---|---|---|
