@@ -4,7 +4,7 @@
 A program is drawn as a tree of stretches, branches, loops, scopes, bindings and forks. The sums of a function
 are made over its tree, with no table over places: a branch has the sum of its heavier way, a loop that of all its turns.
 `look explain` has to say:
-- `accepted`, if all four sums of `main` are within the limits;
+- `accepted`, if all four sums of `main` are within the limits, and lines on what JDK 25 does differently;
 - otherwise the first sum over its limit, at a line that has the words that are printed. For steps it is the last `ret`;
 - and with it at most 50 lines of the text. If no line is left out, they add up to the sum. Nothing is printed about a sum
   of more than 128 bits.
@@ -20,6 +20,7 @@ import sys
 from dataclasses import dataclass
 
 ROOT = os.path.dirname(os.path.dirname(os.path.realpath(__file__)))
+RELIES = re.compile(r"JDK 25 throws \w+ at [^:]+: in \w+, line (\d+): (.*)")
 LIMITS = {"steps": 1_000_000, "tasks": 65_536, "scopes": 65_536, "binds": 65_536}
 PEAKS = ("tasks", "scopes", "binds")
 CAUSES = {
@@ -201,12 +202,18 @@ def told(text, line):
     return int(found[1]), found[2].strip(), int(found[3])
 
 
+def names_a_line(text, line):
+    """Says whether a line names an instruction of the text that relies on a rule which JDK 25 doesn't share."""
+    found = RELIES.fullmatch(line)
+    return found is not None and words_at(text, int(found[1])) == found[2]
+
+
 def is_right(functions, text, status, printed):
     """Says whether this is what has to be printed of a program."""
     main = functions[-1].weighs
     over = [it for it in LIMITS if main[it] > LIMITS[it]]
     if not over:
-        return (status, printed) == (0, ["accepted"])
+        return status == 0 and printed[:1] == ["accepted"] and all(names_a_line(text, it) for it in printed[1:])
     cause, words = CAUSES[over[0]]
     if status != 4 or printed[0] != f"refused {cause} in main, at its end":
         return False

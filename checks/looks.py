@@ -30,7 +30,7 @@ sys.path.insert(0, os.path.join(ROOT, "docs", "pictures"))
 import drawn  # noqa: E402
 LOOK, STS = (os.path.join(ROOT, "crates", name, "out", name) for name in ("look", "sts"))
 SHOWN = re.compile(r"After the first (\d+) events of \[(\w+)\].*?:\n\n((?:    .*\n)+)")
-TOLD = re.compile(r"Told after the first (\d+) events of \[(\w+)\].*?:\n\n((?:    .*\n)+)")
+TOLD = re.compile(r"This is printed after the first (\d+) events of \[(\w+)\].*?:\n\n((?:    .*\n)+)")
 EXPLAINED = re.compile(r"\n\n((?:    .*\n)+)\n`explain` prints:\n\n((?:    .*\n)+)")
 LIVING = re.compile(r"task (\d+) under (\S+) in (\S+) at (\d+) (ready|waits (?:join|close) (\d+))(?: interrupted)?")
 
