@@ -28,7 +28,7 @@ set_there (x ∷ xs) zero (suc j) y h = refl
 set_there (x ∷ xs) (suc i) zero y h = refl
 set_there (x ∷ xs) (suc i) (suc j) y h = set_there xs i j y (λ e. h (ap suc e))
 
--- a name whose bucket is the same as before is found as before
+-- a name in a bucket that didn't change is found as before
 pub kept_in : (buckets : List (BTreeMap (Bor (List ℕ)) ℕ)) (i : ℕ) (old new : BTreeMap (Bor (List ℕ)) ℕ) → slice_get buckets i ≡ Some old → ((q : List ℕ) → got new q ≡ got old q) → (q : List ℕ) → found_in (slice_set buckets i new) q ≡ found_in buckets q
 kept_in bs i old new is same q = by (nat_eq i (bucket_of q)) refl
   where

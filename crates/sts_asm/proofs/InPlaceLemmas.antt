@@ -19,7 +19,7 @@ moved : {B : Type 0} (front : List B) (y : B) (r : Result (List B) AsmError) →
 moved front y (Ok ys) = ap (λ (zs : List _). Ok zs) (append_assoc front (y ∷ []) ys)
 moved front y (Err e) = refl
 
--- what is read next goes behind what was read so far
+-- the next result is appended to the results so far
 pub next_read : {A B : Type 0} (read : A → Result B AsmError) (front : List B) (x : A) (y : B) (rest : List A) (whole : Result (List B) AsmError) → with_front front (each read (x ∷ rest)) ≡ whole → read x ≡ Ok y → with_front (front ++ y ∷ []) (each read rest) ≡ whole
 next_read read front x y rest whole e h =
     moved front y (each read rest) ∙ sym (ap (with_front front) (ok_bind (read x) (λ z. each read rest >>= λ ys. Ok (z ∷ ys)) y h)) ∙ e
@@ -43,7 +43,7 @@ said_before names ss code i s c small is room c_is left without =
     let first : instr_of None s.words ≡ Ok c = ap (λ (rs : List (Result Instr AsmKind)). get_or rs 0 (Err UnknownWord)) (both_next ss code i s c small is room c_is left) in
     ap (at_line s.line) (nameless (Some names) c s.words without first)
 
--- one line more is read, and its instruction stands in place
+-- one line more is read, and its instruction is in place
 pub read_more : (names : Names) (ss : List Sentence) (code next : List Instr) (i : ℕ) (s : Sentence) (y : Instr) (whole : Result (List Instr) AsmError) → i < length ss → s ≡ get_or ss i s → take (i + 1) next ≡ take i code ++ y ∷ [] → instr_at names s ≡ Ok y → with_front (take i code) (each (instr_at names) (drop i ss)) ≡ whole → with_front (take (i + 1) next) (each (instr_at names) (drop (i + 1) ss)) ≡ whole
 read_more names ss code next i s y whole small is front reads read =
     ap (λ (xs : List Instr). with_front xs (each (instr_at names) (drop (i + 1) ss))) front

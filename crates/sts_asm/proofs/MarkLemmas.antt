@@ -40,6 +40,6 @@ kept false None at h = refl
 pub marked_push : (ms : List Mark) (new : Mark) (q : List ℕ) → marked ms new.name ≡ None → marked (ms ++ new ∷ []) q ≡ cond (bytes_eq new.name q) (Some new.at) (marked ms q)
 marked_push ms new q h = marked_append ms new q ∙ pushed (bytes_eq new.name q) (marked ms q) new.at (λ (e : bytes_eq new.name q ≡ true). ap (marked ms) (sym ((bytes_eq-Decides new.name q).0 e)) ∙ h)
 
--- a name that stands already keeps what it names
+-- a name that has a mark already keeps its first meaning
 pub marked_again : (ms : List Mark) (new : Mark) (q : List ℕ) → (marked ms new.name ≡ None → ⊥) → marked (ms ++ new ∷ []) q ≡ marked ms q
 marked_again ms new q h = marked_append ms new q ∙ kept (bytes_eq new.name q) (marked ms q) new.at (λ (e : bytes_eq new.name q ≡ true) (none : marked ms q ≡ None). h (ap (marked ms) ((bytes_eq-Decides new.name q).0 e) ∙ none))

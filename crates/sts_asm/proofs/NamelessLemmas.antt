@@ -45,6 +45,6 @@ nameless_spelled names i.Interrupted words without spelled = spelled
 nameless_spelled names i.Ret words without spelled = spelled
 nameless_spelled names i.Fail words without spelled = spelled
 
--- what names nothing is read alike whatever the names
+-- an instruction without names is read alike, whatever the names
 pub nameless : (names : Option Names) (instr : Instr) (words : List (List ℕ)) → has_names instr ≡ false → instr_of None words ≡ Ok instr → instr_of names words ≡ Ok instr
 nameless names instr words e h = spelled_read names instr words (nameless_spelled names instr words e (read_spelled None words instr h))

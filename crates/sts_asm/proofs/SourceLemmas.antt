@@ -11,6 +11,6 @@ line_first text line more n cut e = rw (cut, e) refl
 pub line_later : (text line rest : List ℕ) (n : ℕ) → lines text ≡ line ∷ lines rest → 0 < n → slice_get (lines text) n ≡ slice_get (lines rest) (n - 1)
 line_later text line rest n cut h = grind (arith, common_steps)
 
--- behind the last line there is none
+-- there is no line after the last
 pub line_past : (text : List ℕ) (n : ℕ) → lines text ≡ text ∷ [] → 0 < n → slice_get (lines text) n ≡ None
 line_past text n cut h = grind (arith, common_steps)

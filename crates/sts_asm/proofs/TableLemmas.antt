@@ -204,7 +204,7 @@ handle_found (w ∷ rest) p e =
     let h = wanted_ok BadOperands (handle w) rest p e in
     (w, ap (λ (r : List (List ℕ)). w ∷ r) h.1, handle_ok (bytes_eq w (codes "_")) (slot w) w p.0 refl refl h.0)
 
--- what a table has for a word is what stands beside that word
+-- a table gives a word the value of the word's own row
 look_if : {A : Type 0} (P : List ℕ → A → Type 0) (b : Bool) (v w : List ℕ) (y x : A) (o : Option A) → bytes_eq w v ≡ b → P v y → (o ≡ Some x → P w x) → cond b (Some y) o ≡ Some x → P w x
 look_if P true v w y x o d h more e = let is : y ≡ x = cc in rw (same w v d, ← is) h
 look_if P false v w y x o d h more e = more e
@@ -273,7 +273,7 @@ timed_found : (words : List (List ℕ)) (p : Bool × List (List ℕ)) → timed_
 timed_found [] p e none = let h = parts false [] p e in rw (← h.0) refl
 timed_found (w ∷ rest) p e none = timed_if (bytes_eq w (codes "timed")) w rest p refl e none
 
--- what follows this first word is read as the table says
+-- the operands of this first word are read as the table says
 abbrev IsRight : List ℕ → Mnemonic → Type 0
 IsRight word m = (names : Option Names) (rest : List (List ℕ)) (instr : Instr) → operated names m rest ≡ Ok instr → Spells names instr (word ∷ rest)
 

@@ -56,7 +56,7 @@ outline_fails at o e line more rest text read cut h =
     fails_on e.kind e (at_line at (line_read at o line)) (outline_of text)
     (λ (f : at_line at (line_read at o line) ≡ Err e). err_bind (lines_read 1 empty (lines text)) (λ p. closed (length (lines text)) p) e (sym read ∙ ap (lines_read at o) cut ∙ line_fault at o e line more f)) h
 
--- after the last line the outline is what the text's is, but for a function that is left open
+-- after the last line the outline is the whole text's; only a function may still be open
 pub outline_read : (at : ℕ) (o p : Outline) (rest text : List ℕ) → lines_read at o (lines rest) ≡ lines_read 1 empty (lines text) → at + length (lines rest) ≡ length (lines text) + 1 → lines rest ≡ rest ∷ [] → at_line at (line_read at o rest) ≡ Ok p → outline_of text ≡ closed at p
 outline_read at o p rest text read number last e =
     let whole : lines_read 1 empty (lines text) ≡ Ok p = sym read ∙ line_last at o p rest last e in

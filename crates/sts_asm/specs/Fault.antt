@@ -27,12 +27,12 @@ abbrev pub code_error : AsmKind → Option CodeError
 code_error (Code e) = Some e
 code_error kind = None
 
--- want of memory; it has no line
+-- memory ran out; this fault has no line
 abbrev pub out_of_memory : AsmError
 out_of_memory = record { line = 0; kind = Memory }
 
 infixl 10 ◌>>=◌
--- what follows where all was well so far; else the first fault
+-- goes on if all was well so far; otherwise the first fault remains
 abbrev pub ◌>>=◌ : {A B E : Type 0} → Result A E → (A → Result B E) → Result B E
 (Ok x) >>= f = f x
 (Err e) >>= f = Err e
@@ -42,33 +42,33 @@ abbrev pub at_line : {A : Type 0} → ℕ → Result A AsmKind → Result A AsmE
 at_line at (Ok x) = Ok x
 at_line at (Err kind) = Err (record { line = at; kind = kind })
 
--- What a function returned and left of the words is what reading gives.
+-- What a function returned, and the words that it left, are what reading gives.
 abbrev pub Reads : {X Y : Type 0} → (X → Y) → Result X AsmKind → List (List ℕ)
     → Result (Y × List (List ℕ)) AsmKind → Type 0
 Reads view (Ok x) left read = read ≡ Ok (view x, left)
 Reads view (Err kind) left read = read ≡ Err kind
 
--- The fault is the one that reading gives, unless memory ran out.
+-- Reading gives this fault, unless memory ran out.
 abbrev pub Fails : {Y : Type 0} → AsmKind → Result Y AsmKind → Type 0
 Fails Memory read = Unit {0}
 Fails kind read = read ≡ Err kind
 
--- What a function left is what reading gives, unless memory ran out.
+-- The new state is what reading gives, unless memory ran out.
 abbrev pub Steps : {X Y : Type 0} → Result X AsmKind → Y → Result Y AsmKind → Type 0
 Steps (Ok x) new read = read ≡ Ok new
 Steps (Err kind) new read = Fails kind read
 
--- The same of a fault with its line; want of memory has line 0.
+-- Like `Fails`, for a fault with its line. If memory ran out, the line is 0.
 abbrev pub FailsAt : {Y : Type 0} → AsmError → AsmKind → Result Y AsmError → Type 0
 FailsAt e Memory read = e.line ≡ 0
 FailsAt e kind read = read ≡ Err e
 
--- The same, where what a function left is the value.
+-- Like `Steps`, for a fault with its line.
 abbrev pub StepsAt : {X Y : Type 0} → Result X AsmError → Y → Result Y AsmError → Type 0
 StepsAt (Ok x) new read = read ≡ Ok new
 StepsAt (Err e) new read = FailsAt e e.kind read
 
--- What a function returned is what the definition gives, unless memory ran out.
+-- A function returned the value that the definition gives, unless memory ran out.
 abbrev pub Judges : {X Y : Type 0} → (X → Y) → Result X AsmError → Result Y AsmError → Type 0
 Judges view (Ok x) judged = judged ≡ Ok (view x)
 Judges view (Err e) judged = FailsAt e e.kind judged

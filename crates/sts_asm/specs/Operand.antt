@@ -22,7 +22,7 @@ use Rattle.sts_asm.specs.Marks.{Names, label_in, function_in}
 abbrev pub Read : Type 0 → Type 0
 Read A = Result (A × List (List ℕ)) AsmKind
 
--- what a word has to be, or else the fault
+-- the value that a word was read as; if there is none, this fault
 abbrev pub wanted : {A : Type 0} → AsmKind → Option A → List (List ℕ) → Read A
 wanted kind None rest = Err kind
 wanted kind (Some x) rest = Ok (x, rest)

@@ -34,8 +34,7 @@ pub record Draft : Type 0 where
   pub labels : List Mark
   pub code : List Sentence
 
--- a text as far as it was read: its functions by name, those that are ended, and the one that is
--- open
+-- the part of a text that was read so far: its functions by name, the ended ones, and the open one
 pub record Outline : Type 0 where
   pub profile : Profile
   pub functions : List Mark
@@ -66,7 +65,7 @@ profile_at (word ∷ rest) = profile_of (number_up_to 2 word) >>= λ p. finished
 abbrev pub profiled : Outline → List (List ℕ) → Result Outline AsmKind
 profiled o words = profile_at words >>= λ p. Ok (record o { profile = p })
 
--- the keys that are named, beside those that were
+-- the keys of a needs list, and those that further words name
 abbrev pub with_keys : List Bool → List (List ℕ) → Result (List Bool) AsmKind
 with_keys needs [] = Ok needs
 with_keys needs (word ∷ rest) =
@@ -167,7 +166,7 @@ is_semicolon b = b == 59
 abbrev pub is_plain : ℕ → Bool
 is_plain b = (nat_le 32 b && nat_le b 126) && not (is_semicolon b)
 
--- what the line of this number adds; its bytes are judged first, those of a comment too
+-- adds the line of this number; its bytes are judged first, even those of a comment
 abbrev pub line_read : ℕ → Outline → List ℕ → Result Outline AsmKind
 line_read at o line =
     if list_all is_allowed line then said at o (words (before_first is_semicolon line))
@@ -193,6 +192,6 @@ abbrev pub instructions : Option Draft → ℕ
 instructions None = 0
 instructions (Some d) = length d.code
 
--- how many functions are ended and how many instructions the open one has
+-- the number of ended functions and of instructions in the open one
 abbrev pub size_of : Outline → ℕ
 size_of o = length o.done + instructions o.current

@@ -9,7 +9,7 @@ use Rattle.sts_asm.specs.declared.fault.AsmError.{AsmError}
 use Rattle.sts_asm.specs.Marks.{Mark, Names}
 use Rattle.sts_asm.specs.Outline.{Sentence, Draft, Outline, is_semicolon, outline_of}
 
--- the functions of a text with their lines; of a text that is too long there are none
+-- the functions of a text with their lines; a text that is too long has a fault instead
 abbrev pub outlined : List ℕ → Result Outline AsmError
 outlined text =
     if nat_lt 1048576 (length text) then Err (record { line = 0; kind = TextTooLong })

@@ -13,7 +13,7 @@ use thiserror::Error;
 pub enum AsmKind {
     /// A1: a byte that isn't allowed.
     NotAscii,
-    /// A2: a first word that is none, or that may not stand there.
+    /// A2: an unknown first word, or one that isn't allowed on this line.
     UnknownWord,
     /// A3: a word in a number's place that isn't a number of its range.
     BadNumber,
@@ -21,7 +21,7 @@ pub enum AsmKind {
     BadOperands,
     /// A5: a label that isn't in the function, or a function that isn't in the text.
     UnknownLabel,
-    /// A6: a label that stands already in this function.
+    /// A6: a label that the function has already.
     DuplicateLabel,
     /// A7: a function that isn't ended.
     Unclosed,

@@ -2,8 +2,8 @@
 
 ghost use Rattle.sts_asm.specs.Table.{ReadByTable};
 
-/// Words are read as an instruction exactly where the instruction table says that they spell it.
-/// Nothing is done.
+/// A law: words are read as an instruction if and only if the instruction table says that they
+/// spell it. The function itself does nothing.
 pub fn instructions_are_read_by_the_table()
     ensures { ReadByTable }
 {}

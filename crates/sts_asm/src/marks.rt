@@ -106,11 +106,11 @@ impl<'a> Marks<'a> {
         }
     }
 
-    /// Adds a name that doesn't stand yet.
+    /// Adds a new name.
     ///
     /// # Errors
     ///
-    /// Want of memory; the marks are as they were.
+    /// Memory ran out; the marks are as they were.
     pub fn push_new(&mut self, name: &'a [u8], at: u32) -> Result<(), AllocError>
         requires { marked self.old name.now ≡ None }
         ensures ok { OnOk result (self.new ≡ self.old ++ record { name = name.now; at = at } ∷ []) }
@@ -136,11 +136,11 @@ impl<'a> Marks<'a> {
         Ok(())
     }
 
-    /// Adds a name; one that stands already keeps what it names.
+    /// Adds a name. If the marks have the name already, it keeps its first meaning.
     ///
     /// # Errors
     ///
-    /// Want of memory; the marks are as they were.
+    /// Memory ran out; the marks are as they were.
     pub fn push(&mut self, name: &'a [u8], at: u32) -> Result<(), AllocError>
         ensures ok { OnOk result (self.new ≡ self.old ++ record { name = name.now; at = at } ∷ []) }
         ensures err { OnErr result (self.new ≡ self.old) }

@@ -100,7 +100,7 @@ pub enum Mnemonic {
     Tally,
 }
 
-/// The instruction without operands whose word this is.
+/// The instruction without operands that this word spells.
 pub fn plain_word(word: &[u8]) -> Option<Instr>
     ensures { option_map (λ instr. Plain instr) result ≡ looked_up plain_words word.now }
 {

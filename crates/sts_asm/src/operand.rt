@@ -21,7 +21,7 @@ use sts_text::{Words, digits_up_to, number, number_up_to};
 ///
 /// # Errors
 ///
-/// That no word is left, or that the next one spells none.
+/// No word is left (A4), or the next one is no number up to `most` (A3).
 pub fn number_at(words: &mut Words<'_>, most: u32) -> Result<u32, AsmKind>
     ensures read { Reads (λ n. n) result words.new (number_at most words.old) }
     ensures at_most { IfOk result (λ n. n ≤ most) }
@@ -39,7 +39,7 @@ pub fn number_at(words: &mut Words<'_>, most: u32) -> Result<u32, AsmKind>
 ///
 /// # Errors
 ///
-/// That no word is left, or that the next one spells none.
+/// No word is left (A4), or the next one is no number up to 255 (A3).
 pub fn byte_at(words: &mut Words<'_>) -> Result<u8, AsmKind>
     ensures { Reads (λ n. n) result words.new (number_at 255 words.old) }
 {
@@ -51,7 +51,7 @@ pub fn byte_at(words: &mut Words<'_>) -> Result<u8, AsmKind>
 ///
 /// # Errors
 ///
-/// That no word is left, or that the next one spells none.
+/// No word is left (A4), or the next one spells no `i64` (A3).
 pub fn value_at(words: &mut Words<'_>) -> Result<i64, AsmKind>
     ensures { Reads (λ v. v) result words.new (value_at words.old) }
 {
@@ -78,7 +78,7 @@ pub fn slot(word: &[u8]) -> Option<u8>
 ///
 /// # Errors
 ///
-/// That no word is left, or that the next one spells none.
+/// No word is left, or the next one spells no slot.
 pub fn slot_at(words: &mut Words<'_>) -> Result<u8, AsmKind>
     ensures { Reads (λ s. s) result words.new (slot_at words.old) }
 {
@@ -105,7 +105,7 @@ pub fn handle(word: &[u8]) -> Option<Option<u8>>
 ///
 /// # Errors
 ///
-/// That no word is left, or that the next one spells none.
+/// No word is left, or the next one is neither a slot nor `_`.
 pub fn handle_at(words: &mut Words<'_>) -> Result<Option<u8>, AsmKind>
     ensures { Reads (λ h. h) result words.new (handle_at words.old) }
 {
@@ -119,7 +119,7 @@ pub fn handle_at(words: &mut Words<'_>) -> Result<Option<u8>, AsmKind>
 ///
 /// # Errors
 ///
-/// That no word is left, or that the next one spells none.
+/// No word is left, or the next one is no name.
 pub fn name_at<'a>(words: &mut Words<'a>) -> Result<&'a [u8], AsmKind>
     ensures read { Reads (λ name. name.now) result words.new (name_at words.old) }
     ensures name { IfOk result (λ name. def_name.is_name name.now ≡ true) }
@@ -150,7 +150,7 @@ pub fn name_text(name: &[u8]) -> &str
 ///
 /// # Errors
 ///
-/// That no word is left, that the next one is no name, or that nothing has it.
+/// No word is left or the next one is no name (A4), or no label has this name (A5).
 pub fn target_at(words: &mut Words<'_>, names: Option<&Names<'_, '_>>) -> Result<u32, AsmKind>
     ensures { Reads (λ to. to) result words.new (target_at (option_copied names.entry) words.old) }
 {
@@ -162,7 +162,7 @@ pub fn target_at(words: &mut Words<'_>, names: Option<&Names<'_, '_>>) -> Result
 ///
 /// # Errors
 ///
-/// That no word is left, that the next one is no name, or that nothing has it.
+/// No word is left or the next one is no name (A4), or no function has this name (A5).
 pub fn function_at(words: &mut Words<'_>, names: Option<&Names<'_, '_>>) -> Result<u32, AsmKind>
     ensures { Reads (λ f. f) result words.new (function_at (option_copied names.entry) words.old) }
 {
@@ -174,7 +174,7 @@ pub fn function_at(words: &mut Words<'_>, names: Option<&Names<'_, '_>>) -> Resu
 ///
 /// # Errors
 ///
-/// That no word is left, that the next one is no name, or that nothing has it.
+/// No word is left or the next one is no name (A4), or no label has this name (A5).
 pub fn maybe_target_at(
     words: &mut Words<'_>,
     names: Option<&Names<'_, '_>>,
@@ -256,7 +256,7 @@ pub fn one_word_joiner(word: &[u8]) -> Option<Joiner>
 ///
 /// # Errors
 ///
-/// That no word is left, or that the next one spells none.
+/// No word is left, or the words spell no joiner.
 pub fn joiner_at(words: &mut Words<'_>) -> Result<Joiner, AsmKind>
     ensures { Reads (λ j. j) result words.new (joiner_at words.old) }
 {
@@ -273,7 +273,7 @@ pub fn joiner_at(words: &mut Words<'_>) -> Result<Joiner, AsmKind>
 ///
 /// # Errors
 ///
-/// That the next word is another one.
+/// The next word isn't `timed`.
 pub fn timed_at(words: &mut Words<'_>) -> Result<bool, AsmKind>
     ensures { Reads (λ t. t) result words.new (timed_at words.old) }
 {
@@ -306,7 +306,7 @@ pub fn kind_counted(word: &[u8]) -> Option<Kind>
 ///
 /// # Errors
 ///
-/// That no word is left, or that the next one spells none.
+/// No word is left, or the next one is none of `S`, `F` and `U`.
 pub fn kind_at(words: &mut Words<'_>) -> Result<Kind, AsmKind>
     ensures { Reads (λ k. k) result words.new (kind_at words.old) }
 {
@@ -316,11 +316,11 @@ pub fn kind_at(words: &mut Words<'_>) -> Result<Kind, AsmKind>
     kind_counted(word).ok_or(AsmKind::BadOperands)
 }
 
-/// The instruction, where no word is left over.
+/// The instruction, if no word is left over.
 ///
 /// # Errors
 ///
-/// That a word is left over.
+/// A word is left over.
 pub fn finished(words: &mut Words<'_>, instr: Instr) -> Result<Instr, AsmKind>
     ensures { result ≡ finished instr words.old }
 {

@@ -135,7 +135,7 @@ fn profile_at(rest: &mut Words<'_>) -> Result<Profile, AsmKind>
     Ok(profile)
 }
 
-/// The keys that are left, beside those that were named before.
+/// Adds the keys that the other words name to `needs`.
 fn with_keys(needs: [bool; 16], rest: &mut Words<'_>) -> Result<[bool; 16], AsmKind>
     ensures { result ≡ with_keys needs rest.old }
 {
@@ -414,7 +414,7 @@ impl<'a> Outline<'a> {
     ///
     /// # Errors
     ///
-    /// The kind of the line's fault; or want of memory.
+    /// The kind of the line's fault, or memory ran out.
     #[tactic(auto, using(crate::proofs::PlainLemmas::plain_lines))]
     pub fn line(&mut self, at: u32, line: &'a [u8]) -> Result<(), AsmKind>
         requires { size_of self.old < 2 ^ 32 }

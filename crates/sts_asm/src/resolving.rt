@@ -115,7 +115,7 @@ fn routines_of<'a>(
 ///
 /// # Errors
 ///
-/// The first fault, with its line; or want of memory.
+/// The first fault with its line, or memory ran out.
 pub fn program_of(alloc: Global, outline: Outline<'_>) -> Result<Program, AsmError>
     ensures { Judges (λ p. p) result (program_of outline.entry) }
 {

@@ -18,7 +18,7 @@ use sts_text::{Words, cut_at_newline};
 ///
 /// # Errors
 ///
-/// The first fault that is found without looking up a name, or want of memory.
+/// The first fault that is found without looking up a name, or memory ran out.
 pub fn outlined<'a>(alloc: Global, text: &'a [u8]) -> Result<Outline<'a>, AsmError>
     ensures { Judges (λ o. o) result (outlined text.now) }
 {

@@ -55,7 +55,7 @@ pub(crate) fn outline_of<'a>(alloc: Global, text: &'a [u8]) -> Result<Outline<'a
 ///
 /// # Errors
 ///
-/// The kind and the line of the first fault; or want of memory, as A10 at line 0.
+/// The kind and the line of the first fault. If memory ran out, it is A10 at line 0.
 pub fn assemble(alloc: Global, text: &[u8]) -> Result<Program, AsmError>
     ensures { Judges (λ p. p) result (judged text.now) }
 {

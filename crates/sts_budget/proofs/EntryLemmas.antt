@@ -29,8 +29,8 @@ pub long : (es : List OpenEntry) → length (names es) ≡ length es
 long [] = refl
 long (e ∷ es) = ap suc (long es)
 
--- the sum over the first d entries; the list has the innermost first, so an entry is one of them
--- where fewer than d stand outside it
+-- the sum over the first d entries; the list has the innermost first, so an entry belongs to them
+-- if fewer than d entries are outside it
 abbrev pub front : Measure → List OpenEntry → ℕ → ℕ
 front m [] d = 0
 front m (e ∷ es) d = cond (ltb (length es) d) (entry_sum m e) 0 + front m es d

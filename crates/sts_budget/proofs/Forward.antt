@@ -40,7 +40,7 @@ module _ (c : Skeleton) (around : ℕ → List ℕ) (good : IsStructured c aroun
   new_go a k d EndsTurn places pc e e' among = let o : EndsTurn ≡ GoesTo places = sym e ∙ e' in absurd (cc)
   new_go a k d EndsPath places pc e e' among = let o : EndsPath ≡ GoesTo places = sym e ∙ e' in absurd (cc)
 
-  -- the loop that ends at k is the one of its head
+  -- the loop that ends at k is that of its head
   one_head : (k p n : ℕ) → c.shape p ≡ Repeats n → c.mate p ≡ k → (p ≡ head k) × (n ≡ bound_of (c.shape (head k))) × (c.shape k ≡ EndsTurn)
   one_head k p n e is =
       let l = good.loop p n e in
@@ -96,7 +96,7 @@ module _ (c : Skeleton) (around : ℕ → List ℕ) (good : IsStructured c aroun
   new_later a k EndsTurn e pc d m w = omega (arith, w.0)
   new_later a k EndsPath e pc d m w = absurd w
 
-  -- the one value that it hands on to a place, if it does
+  -- the only value that it hands on to a place, if it hands on one
   new_cases : (a : ℕ → ℕ → ℕ) (k : ℕ) (s : Shape) (pc d : ℕ) → ((v : ℕ) × (New c f head a k s pc d v × ((m : ℕ) → New c f head a k s pc d m → v ≡ m))) ⊎ ((m : ℕ) → New c f head a k s pc d m → ⊥)
   new_cases a k (GoesTo places) pc d = elim (among_cases places pc) [ inl among ↦ inl (a k (f.source k d) + f.added k d, ((among, refl), λ m w. w.1)) | inr out ↦ inr (λ m w. out w.0) ]
   new_cases a k (Repeats n) pc d = inr (λ m w. w)
@@ -116,7 +116,7 @@ module _ (c : Skeleton) (around : ℕ → List ℕ) (good : IsStructured c aroun
       earlier : (pc d : ℕ) → pc < k + 1 → pc < c.size → d ≤ f.depth pc → b pc d ≡ a pc d
       earlier pc d lt within low = sp.same pc d within low (λ m w. (let l = new_later a k (c.shape k) refl pc d m w in omega arith))
 
-      -- what is handed on comes from places of the code
+      -- values are handed on only from places of the code
       both : (x y : ℕ → ℕ → ℕ) → ((pc d : ℕ) → pc < k + 1 → pc < c.size → d ≤ f.depth pc → x pc d ≡ y pc d) → (pc d m : ℕ) → Handed c f x (k + 1) pc d m → Handed c f y (k + 1) pc d m
       both x y same pc d m (over_go from to e places lt is among low) =
           let g = good.forward from to places is among in

@@ -1,4 +1,4 @@
--- The four budgets: what the pass sums is what control paths count and hold.
+-- The four budgets: the sums of the pass are the counts of control paths.
 use Rattle.std.proofs.Common.{◌≡◌, ℕ, suc, ◌+◌, ◌<◌, ◌≤◌, List, [], ◌∷◌, length, refl, sym, ap, ◌∙◌}
 use Rattle.std.proofs.Common.{subst, arith}
 use Rattle.sts_code.specs.declared.instr.Instr.{Instr}

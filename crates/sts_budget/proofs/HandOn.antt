@@ -1,4 +1,4 @@
--- What the code hands on at a place is what the pass hands on.
+-- The code and the pass hand on the same values at a place.
 use Rattle.std.proofs.Common.{◌≡◌, ℕ, zero, suc, ◌+◌, ◌*◌, ◌<◌, ◌≤◌, max, min, inl, inr, List, []}
 use Rattle.std.proofs.Common.{◌∷◌, ◌++◌, length, get_or, replicate, true, false, Option, unwrap_or}
 use Rattle.std.proofs.Common.{refl, sym, ap, ◌∙◌, subst, arith}
@@ -160,7 +160,7 @@ module _ (k : Resource) (earlier : List Budgets) (code : List Instr) (l : Layout
   pub counts_next : (pc d : ℕ) → instr_at code pc ≡ Next → f.added pc d ≡ own_step k
   counts_next pc d t = ap (λ j. added_of (change_of k earlier j (names_in l pc)) (depth_of k (names_in l pc)) d) t ∙ next_counts k earlier (names_in l pc) d
 
-  -- what is new is handed over to the places that the instruction names
+  -- each new value is handed on to the places that the instruction names
   new_is : (best : ℕ → ℕ → ℕ) (pc : ℕ) (i : Instr) → instr_at code pc ≡ i → Sort any_program code pc i → is_quiet i ≡ false → (q d m : ℕ) → New c f (head_in l) best pc (shape_of pc i) q d m → Among (targets i ++ next_place pc i) q × (value_by k earlier code l best pc i d ≡ m)
   new_is best pc i at (is_times n) quiet q d m w = absurd (cc)
   new_is best pc i at is_next quiet q d m w =
@@ -179,7 +179,7 @@ module _ (k : Resource) (earlier : List Budgets) (code : List Instr) (l : Layout
       let w' : Among (targets i ++ next_place pc i) q × (best pc (f.source pc d) + f.added pc d ≡ m) = subst (λ s. New c f (head_in l) best pc s q d m) g.shape w in
       (w'.0, value_goes k earlier code l best pc i d g ∙ ap (λ j. best pc (source_of (change_of k earlier j (names_in l pc)) (depth_of k (names_in l pc)) d) + added_of (change_of k earlier j (names_in l pc)) (depth_of k (names_in l pc)) d) (sym at) ∙ w'.1)
 
-  -- and the other way round
+  -- and each value that is handed on is new
   new_of : (best : ℕ → ℕ → ℕ) (pc : ℕ) (i : Instr) → instr_at code pc ≡ i → Sort any_program code pc i → is_quiet i ≡ false → (q d : ℕ) → Among (targets i ++ next_place pc i) q → New c f (head_in l) best pc (shape_of pc i) q d (value_by k earlier code l best pc i d)
   new_of best pc i at (is_times n) quiet q d among = absurd (cc)
   new_of best pc i at is_next quiet q d (inl same) =
@@ -274,7 +274,7 @@ module _ (k : Resource) (earlier : List Budgets) (code : List Instr) (l : Layout
   pub partial_next : (pc : ℕ) (before after : List (List ℕ)) → IsPartial c f pc before → IsSpread c f (head_in l) pc before after → IsPartial c f (pc + 1) after
   partial_next pc before after h sp = partial_more c (around code) ready.good f fits_here (head_in l) heads_right pc before after h sp
 
-  -- where a place hands on too much, so much stands at some point
+  -- if a place hands on a value over the limit, some point has a sum over the limit
   pub too_much : (pc most : ℕ) (rows : List (List ℕ)) → pc < length code → IsPartial c f pc rows → HandsTooMuch c f (head_in l) pc (read rows) most → Passes c f most
   too_much pc most rows within h (q, (d, (m, t))) = by (c.shape pc) refl t.2
     where

@@ -260,7 +260,7 @@ module _ (p : Program) (f : ℕ) (accepted : IsWellTyped p f) (some_code : 0 < l
   abbrev code : List Instr
   code = (routine p f).code
 
-  -- the names of the one typestate of each place
+  -- the names in the only typestate of each place
   abbrev pub names_here : ℕ → Names
   names_here pc = elim (cases_lt pc (length (routine p f).code)) [ inl lt ↦ names (accepted pc lt).state.entries | inr ge ↦ [] ]
 

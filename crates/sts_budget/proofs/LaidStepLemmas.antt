@@ -26,7 +26,7 @@ among_at [] i d lt = absurd (omega arith)
 among_at (x ∷ xs) zero d lt = inl refl
 among_at (x ∷ xs) (suc i) d lt = inr (among_at xs i d (omega arith))
 
--- where the pass stands: at a place of a well-typed function of a program that passed the checks
+-- the stage of the pass: a place of a well-typed function, in a program that passed the checks
 pub record Stage (p : Program) (f k : ℕ) (code : List Instr) (heads : List (Option ℕ)) (mates : List ℕ) (table : List Names) : Type 0 where
   pub fine : program_fault p.routines ≡ None
   pub in_program : f < length p.routines

@@ -141,7 +141,7 @@ module _ (k : Resource) (earlier : List Budgets) (code : List Instr) (l : Layout
           let w = full_inside c (around code) ready.good f (fits_here k earlier code l ready) (read rows) table pc x xs is in
           omega arith
 
-  -- more than the limit stands where a place's greatest sum passes it
+  -- if a place's greatest sum is over the limit, some point has a sum over the limit
   pub over : (pc most : ℕ) → pc < length code → most < here pc → Passes c f most
   over pc most lt more =
       (here pc, ((depth_of k (names_in l pc), (pc, (_, (here pc, (omega arith, point_attained c (around code) ready.good f (fits_here k earlier code l ready) (read rows) table pc lt, omega arith))))), more))

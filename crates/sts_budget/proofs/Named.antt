@@ -1,5 +1,5 @@
--- The names of the open entries are known by their place in a well-typed function, and a loop
--- closes nothing that stood before it.
+-- The place in a well-typed function gives the names of the open entries, and a loop closes nothing
+-- that was opened before it.
 use Rattle.std.proofs.Common.{◌≡◌, ℕ, suc, ◌+◌, ◌<◌, ◌≤◌, ◌⊎◌, inl, inr, List, [], ◌∷◌, ◌++◌}
 use Rattle.std.proofs.Common.{length, drop, map, Bool, true, false, cond, not, ◌&&◌, ◌||◌, ◌==◌}
 use Rattle.std.proofs.Common.{Option, Some, None, refl, sym, ap, ◌∙◌, subst, arith, option_map}
@@ -43,7 +43,7 @@ use Rattle.sts_budget.specs.TypedNames.{names}
 
 -- ---- one instruction
 
--- a test that is none of its two
+-- a slot kind that isn't lent is own, if it is one of these two
 own_of : (k : SlotKind) → not (is_own k || is_lent k) ≡ false → is_lent k ≡ false → is_own k ≡ true
 own_of slot.Empty a b = absurd (cc)
 own_of slot.Own a b = refl
@@ -127,7 +127,8 @@ dropped : (ns : Names) → length ns ≤ length (drop 1 ns) + 1
 dropped [] = omega arith
 dropped (n ∷ ns) = omega arith
 
--- an instruction leaves no fewer entries, or takes out one that stood at no open loop's head
+-- an instruction leaves at least the entries that were there, or takes out one that was opened
+-- after each open loop began
 keeps_depth : (i : Instr) (s : TypeState) → breaks_structure i s ≡ false → has_wrong_slot i s ≡ false → is_strangers i s ≡ false → (length (names s.entries) ≤ length (names_after i (names s.entries))) ⊎ ((is_held s ≡ false) × (length (names s.entries) ≤ length (names_after i (names s.entries)) + 1))
 keeps_depth (Push k) s ordered right own = inl (omega arith)
 keeps_depth Pop s ordered right own = inl (omega arith)
@@ -241,7 +242,7 @@ module _ (p : Program) (f : ℕ) (accepted : IsWellTyped p f) (some_code : 0 < l
         back_to [] e = absurd (cc)
         back_to (l ∷ ls) e = let same : l.at ≡ pc = cc in ap (λ (k : ℕ). Some (k + 1)) same
 
-    -- each open loop keeps the number of entries at its head, and as many stand
+    -- each open loop keeps the number of entries at its head, and at least that number is open
     abbrev Held : List TypedLoop → ℕ → Type 0
     Held [] n = Unit {0}
     Held (l ∷ ls) n = (l.entries ≤ n) × (l.entries ≡ length (names_at l.at)) × Held ls n

@@ -1,4 +1,4 @@
--- What the sums of a path are at its end, and what is known of a layout.
+-- The sums of a path at its end, and the facts of a layout.
 use Rattle.std.proofs.Common.{◌≡◌, ℕ, ◌+◌, ◌<◌, List, length, sym, ap, ◌∙◌, arith}
 use Rattle.std.specs.Prelude.{None}
 use Rattle.sts_code.specs.Checks.{program_fault}

@@ -104,7 +104,7 @@ jump p code pc to = record {
   some = (to, inl refl);
 }
 
--- to the next place, or to the one targets
+-- to the next place, or to the only target
 branch : (p : Program) (code : List Instr) (pc to : ℕ) (i : Instr) (here there : TypeState → TypeState) → shape_of pc i ≡ GoesTo (targets i ++ next_place pc i) → (targets i ++ next_place pc i ≡ to ∷ (pc + 1) ∷ []) → skipped_to code pc i ≡ [] → ((hs : List ℕ) → open_after pc i hs ≡ hs)
     → ((s : TypeState) → follows p code pc i s ≡ (pc + 1, here s) ∷ (to, there s) ∷ []) → ((s : TypeState) → ((here s).loops ≡ s.loops) × ((there s).loops ≡ s.loops)) → ((s : TypeState) → (names (here s).entries ≡ names_after i (names s.entries)) × (names (there s).entries ≡ names_after i (names s.entries))) → GoesOn p code pc i
 branch p code pc to i here there shape places no_skip keeps is loops entries = record {

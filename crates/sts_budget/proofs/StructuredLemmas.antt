@@ -13,7 +13,7 @@ module _ (c : Skeleton) (around : ℕ → List ℕ) (good : IsStructured c aroun
   FitTurns [] = Unit {0}
   FitTurns (l ∷ ls) = (0 < l.1) × (l.1 ≤ bound_of (c.shape l.0)) × FitTurns ls
 
-  -- the innermost loop is the one that the instruction ends
+  -- an instruction that ends a turn ends the innermost loop's turn
   pub own_loop : (pc p t : ℕ) (ls : Loops) → heads ((p, t) ∷ ls) ≡ around pc → c.shape pc ≡ EndsTurn → (n : ℕ) × ((c.shape p ≡ Repeats n) × (c.mate p ≡ pc) × (heads ls ≡ around p))
   own_loop pc p t ls inside e =
       let q = good.end pc e in
@@ -58,7 +58,7 @@ module _ (c : Skeleton) (around : ℕ → List ℕ) (good : IsStructured c aroun
   comes_inside pc loops m es start = inside_start
   comes_inside pc loops m es (step {pc = from} {loops = ls} {before = before} {entries = entries} r f) = inside_step from ls pc loops (comes_inside from ls before entries r) f
 
-  -- from a place a path comes to an end, or to the end of the innermost loop's turn, and loses no
+  -- from each place some path reaches an end, or the end of the innermost loop's turn, and loses no
   -- step
   pub data Goes (pc : ℕ) (ls : Loops) (m : ℕ) : Type 0 where
     ends : (at before : ℕ) (after : Loops) (es : List OpenEntry) → Comes c at after before es → c.shape at ≡ EndsPath → m + c.weight pc ≤ before + c.weight at → Goes pc ls m
@@ -83,7 +83,7 @@ module _ (c : Skeleton) (around : ℕ → List ℕ) (good : IsStructured c aroun
       by ih EndsTurn e = turned pc m es r e inside (omega arith)
       by ih EndsPath e = ends pc m ls es r e (omega arith)
 
-  -- a whole path that counts at least so much
+  -- a whole path that counts at least m
   abbrev pub Counts : ℕ → Type 0
   Counts m = (more : ℕ) × (PathCounts c more × (m ≤ more))
 

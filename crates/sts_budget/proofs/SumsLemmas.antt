@@ -38,8 +38,8 @@ heads_last [] = refl
 heads_last (p ∷ ps) = ap (λ (hs : List ℕ). p ∷ hs) (heads_last ps)
 
 module _ (c : Skeleton) (around : ℕ → List ℕ) (good : IsStructured c around) (f : Flows) (fits : FitsEntries c around f) (best : ℕ → ℕ → ℕ) (bound : ℕ) (sourced : IsSourced c f best bound) where
-  -- a path stands at the start of the innermost loop's turn, with this sum over the first d of the
-  -- entries that the loop found
+  -- a path is at the start of the innermost loop's turn, with this sum over the first d of the
+  -- entries that were open when the loop began
   abbrev pub Begins : Loops → ℕ → ℕ → Type 0
   Begins [] d m = m ≡ 0
   Begins (l ∷ ls) d m = Sums c f (min d (f.depth l.0)) (l.0 + 1) (l ∷ ls) m
@@ -156,7 +156,7 @@ module _ (c : Skeleton) (around : ℕ → List ℕ) (good : IsStructured c aroun
   pub attained : (pc : ℕ) → pc < bound → (d : ℕ) → d ≤ f.depth pc → (ls : Loops) (m : ℕ) → heads ls ≡ around pc → Begins ls d m → Sums c f d pc ls (m + best pc d)
   attained pc within d low ls m inside r = attained_below (suc pc) pc (omega arith) within d low ls m inside r
 
-  -- some path comes to the place: each loop round it makes one turn
+  -- some path reaches the place: each loop around it makes one turn
   begins : (ps : List ℕ) (pc d : ℕ) → pc < bound → around pc ≡ ps → (m : ℕ) × Begins (last_turns ps) d m
   begins [] pc d within is = (0, refl)
   begins (p ∷ ps) pc d within is =
@@ -175,14 +175,14 @@ module _ (c : Skeleton) (around : ℕ → List ℕ) (good : IsStructured c aroun
       let here = attained p p_in x low (last_turns ps) outer.0 inside outer.1 in
       (_, plain x p _ _ _ _ low_1 (fits.times p n x e) here (enter n 1 e (omega arith) (omega (arith, l.0))))
 
-  -- what a place hands on over a jump stands at some point
+  -- each sum that a jump hands on is reached at some point
   pub go_stands : (pc to d : ℕ) (places : List ℕ) → pc < bound → c.shape pc ≡ GoesTo places → Among places to → d ≤ f.depth to → Stands c f (best pc (f.source pc d) + f.added pc d)
   go_stands pc to d places within e among low =
       let b = begins (around pc) pc (f.source pc d) within refl in
       let at = attained pc within (f.source pc d) (fits.from pc to d places e among low) (last_turns (around pc)) b.0 (heads_last (around pc)) b.1 in
       (d, (to, (_, (_, (low, more low at (go places e among), omega arith)))))
 
-  -- what a loop hands on stands at some point
+  -- each sum that a loop hands on is reached at some point
   pub loop_stands : (p n d : ℕ) → c.mate p < bound → c.shape p ≡ Repeats n → d ≤ f.depth p → Stands c f (best p d + f.added p d + n * gain c f best p d)
   loop_stands p n d within e low =
       let l = good.loop p n e in
@@ -199,7 +199,7 @@ module _ (c : Skeleton) (around : ℕ → List ℕ) (good : IsStructured c aroun
     pub low : d ≤ f.depth pc
     pub most : m ≤ base c f best loops d + best pc d
 
-  -- a jump moves no entry that stood at the innermost loop's head
+  -- a jump moves no entry that was open at the innermost loop's head
   base_kept : (pc to d : ℕ) (places : List ℕ) (loops : Loops) → c.shape pc ≡ GoesTo places → Among places to → d ≤ f.depth to → heads loops ≡ around pc → base c f best loops (f.source pc d) ≡ base c f best loops d
   base_kept pc to d places [] e among low inside = refl
   base_kept pc to d places (l ∷ ls) e among low inside =

@@ -118,7 +118,7 @@ reached : (pc : ℕ) (o : Option ℕ) → reaches_to pc o ≡ true → (q : ℕ)
 reached pc None e = absurd (cc)
 reached pc (Some q) e = (q, (refl, leb-true pc q e))
 
--- what is round a place is a `times` whose match is no earlier
+-- a loop around a place is a `times` with its match no earlier than the place
 pub is_round : (code : List Instr) (pc p : ℕ) → Among (around code pc) p → (is_times (instr_at code p) ≡ true) × ((q : ℕ) × ((match_of code p ≡ Some q) × (pc ≤ q)))
 is_round code pc p a =
     let m = member_passes (is_inside code pc) (reverse (range_with_len 0 pc)) p a in
@@ -281,7 +281,7 @@ module _ (p : Program) (f : ℕ) (accepted : IsWellTyped p f) (some_code : 0 < l
   pub here : (pc : ℕ) → pc < length (routine p f).code → Here pc
   here pc lt = let k = accepted pc lt in record { clear = k; fit = (fits pc k.state k.alone.0).0; rules = allowed p f pc (instr_at (routine p f).code pc) k.state k.out k.fine }
 
-  -- what is at a place that is no end of a path
+  -- a place with an instruction other than `ret` is in the code
   pub inside : (pc : ℕ) (i : Instr) → instr_at (routine p f).code pc ≡ i → (i ≡ Ret → ⊥) → pc < length (routine p f).code
   inside pc i e no_end = elim (cases_lt pc (length (routine p f).code)) [ inl lt ↦ lt | inr ge ↦ absurd (no_end (sym e ∙ get_or_past (routine p f).code pc Ret ge)) ]
 

@@ -1,5 +1,5 @@
--- What instructions do to the sums over the open entries, the outermost first, by which the budgets
--- are found (this project's own).
+-- How instructions change the sums over the open entries, the outermost first. The budgets are
+-- found from these sums (this project's own).
 use Rattle.std.specs.Prelude.{ℕ, ◌<◌, List, [], ◌∷◌, length, min, nat_lt, ◌==◌, if◌then◌else◌, Some}
 use Rattle.std.specs.Prelude.{None}
 use Rattle.sts_code.specs.declared.instr.Instr.{Instr}
@@ -24,7 +24,7 @@ abbrev pub source_of : SumChange → ℕ → ℕ → ℕ
 source_of (Opens own) n d = min d n
 source_of _ n d = d
 
--- what the instruction adds to the sum over the first d
+-- the amount that the instruction adds to the sum over the first d entries
 abbrev pub added_of : SumChange → ℕ → ℕ → ℕ
 added_of (Rises amount) n d = amount
 added_of (Opens own) n d = if nat_lt n d then own else 0
@@ -65,7 +65,7 @@ abbrev pub depth_of : Resource → Names → ℕ
 depth_of Steps ns = 0
 depth_of _ ns = length ns
 
--- what the function counts beside the sums: the last step of a path, the task itself
+-- the function's own part, outside the sums: the last step of a path, or the task itself
 abbrev pub own_of : Resource → ℕ
 own_of Steps = 1
 own_of Tasks = 1

@@ -10,7 +10,7 @@ use Rattle.sts_budget.specs.declared.layout.Layout.{Layout}
 use Rattle.sts_budget.specs.Change.{source_of, added_of, change_of, depth_of, own_step}
 use Rattle.sts_budget.specs.Ready.{names_in, head_in}
 
--- nothing is handed on at the end of a path, nor at a `times`, behind which sums begin again
+-- nothing is handed on at the end of a path, nor at a `times`, after which sums begin again
 abbrev pub is_quiet : Instr → Bool
 is_quiet (Times n) = true
 is_quiet Ret = true

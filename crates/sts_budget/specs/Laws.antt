@@ -24,7 +24,8 @@ PointsAreWithin earlier code b =
     → (before + steps_of earlier (instr_at code pc) ≤ b.steps) × (tasks_sum earlier es ≤ b.tasks)
     × (scopes_sum earlier es ≤ b.scopes) × (binds_sum earlier es ≤ b.binds)
 
--- at a fork the budgets of the subtask are part of the forker's, beside what stands there
+-- at a fork the budgets of the subtask are part of the forker's, added to what the open entries
+-- count there
 abbrev pub ChildrenArePart : List Budgets → List Instr → Budgets → Type 0
 ChildrenArePart earlier code b =
     (pc : ℕ) (loops : Loops) (before : ℕ) (es : List OpenEntry)

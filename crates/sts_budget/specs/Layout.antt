@@ -6,7 +6,8 @@ use Rattle.sts_code.specs.declared.limits.TheConstants.{MAX_ENTRIES}
 use Rattle.sts_code.specs.declared.instr.Instr.TheVariants.{Div, Jmp, Jz, Open, Fork, Join, Close}
 use Rattle.sts_code.specs.declared.instr.Instr.TheVariants.{Case, Bind, Unbind, Ret, Fail}
 
--- the names of the open entries, the innermost first: a scope's slot, or none for a binding
+-- the names of the open entries, the innermost first: a scope's name is its slot, and a binding has
+-- none
 abbrev pub Names : Type 0
 Names = List (Option ℕ)
 

@@ -1,4 +1,4 @@
--- What is answered where the budgets of a function are asked for (this project's own).
+-- The answers for the budgets of a function (this project's own).
 use Rattle.std.specs.Prelude.{◌≡◌, ◌≤◌, ℕ, List, Result, Ok, Err}
 use Rattle.sts_code.specs.declared.instr.Instr.{Instr}
 use Rattle.sts_rules.specs.declared.typing.Cause.{Cause}
@@ -9,15 +9,15 @@ use Rattle.sts_budget.specs.Change.{cause_of, limit_of, IsMost}
 use Rattle.sts_budget.specs.declared.budgets.BudgetError.{BudgetError}
 use Rattle.sts_budget.specs.declared.budgets.BudgetError.TheVariants.{Memory, TooMuch}
 
--- the budgets, none of which passes its limit; or the least cause by which one does, if there was
--- memory
+-- the budgets, all within their limits, or the least cause that a budget over its limit gives; no
+-- claim is made if memory ran out
 abbrev pub IsFound : List Budgets → List Instr → Result Budgets BudgetError → Type 0
 IsFound earlier code (Ok b) = IsBudget earlier code b × ((c : Cause) → ¬ Exceeds earlier code c)
 IsFound earlier code (Err (TooMuch c)) = IsLeastExcess earlier code c
 IsFound earlier code (Err Memory) = Unit {0}
 
--- the budget of one resource, within its limit; or the cause by which it passes it, if there was
--- memory
+-- the budget of one resource within its limit, or its cause if it is over; no claim is made if
+-- memory ran out
 abbrev pub IsNumber : Resource → List Budgets → List Instr → Result ℕ BudgetError → Type 0
 IsNumber k earlier code (Ok m) = IsMost k earlier code m × (m ≤ limit_of k)
 IsNumber k earlier code (Err (TooMuch c)) = (c ≡ cause_of k) × Exceeds earlier code (cause_of k)

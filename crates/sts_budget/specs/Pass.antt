@@ -30,7 +30,7 @@ low_at p pc = depth_of p.resource (names_in p.layout.now pc)
 abbrev pub leads : ℕ → Instr → List ℕ
 leads pc i = targets i ++ next_place pc i
 
--- the budget, within its limit; or none where it passes the limit
+-- the budget within its limit, or none if it is over
 abbrev pub IsBudgetOr : Pass → Option ℕ → Type 0
 IsBudgetOr p o =
     MatchOption o (Exceeds p.earlier.now p.code.now (cause_of p.resource))

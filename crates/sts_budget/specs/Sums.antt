@@ -13,20 +13,20 @@ pub record Flows : Type 0 where
   pub source : ℕ → ℕ → ℕ
   pub added : ℕ → ℕ → ℕ
 
--- some control path comes to the place with these loops, and the sum over its first d entries is m
+-- some control path reaches the place with these loops, and the sum over its first d entries is m
 pub data Sums (c : Skeleton) (f : Flows) : ℕ → ℕ → Loops → ℕ → Type 0 where
   none : Sums c f 0 0 [] 0
   more : {d pc : ℕ} {loops : Loops} {m : ℕ} {to : ℕ} {after : Loops} → d ≤ f.depth to
       → Sums c f (f.source pc d) pc loops m → Follows c pc loops to after
       → Sums c f d to after (m + f.added pc d)
 
--- the structure list fits the jumps: what an instruction leaves is known by its place, and a loop
--- closes nothing that stood before it
+-- the structure list fits the jumps: the place of an instruction says how many entries are open
+-- after it, and a loop closes nothing that was opened before it
 pub record FitsEntries (c : Skeleton) (around : ℕ → List ℕ) (f : Flows) : Type 0 where
   pub empty : f.depth 0 ≡ 0
   pub from : (pc to d : ℕ) (places : List ℕ) → c.shape pc ≡ GoesTo places → Among places to
       → d ≤ f.depth to → f.source pc d ≤ f.depth pc
-  -- the entries that stood at a loop's head keep their places
+  -- the entries that were open at a loop's head keep their places
   pub kept : (pc to d : ℕ) (places : List ℕ) (p : ℕ) (ps : List ℕ) → c.shape pc ≡ GoesTo places
       → Among places to → d ≤ f.depth to → around pc ≡ p ∷ ps
       → min (f.source pc d) (f.depth p) ≡ min d (f.depth p)
@@ -34,10 +34,10 @@ pub record FitsEntries (c : Skeleton) (around : ℕ → List ℕ) (f : Flows) : 
   pub next : (pc d : ℕ) → c.shape pc ≡ EndsTurn → f.source pc d ≡ d
   pub same : (p n : ℕ) → c.shape p ≡ Repeats n → (f.depth (p + 1) ≡ f.depth p)
       × (f.depth (c.mate p) ≡ f.depth p) × (f.depth (c.mate p + 1) ≡ f.depth p)
-  -- inside a loop no fewer entries stand than at its head
+  -- inside a loop at least the entries of its head are open
   pub deeper : (pc p : ℕ) (ps : List ℕ) → around pc ≡ p ∷ ps → f.depth p ≤ f.depth pc
 
--- so much or more stands at some point, over the first entries
+-- at some point the first entries have a sum of at least v
 abbrev pub Stands : Skeleton → Flows → ℕ → Type 0
 Stands c f v =
     (d : ℕ)
@@ -53,7 +53,7 @@ abbrev pub last_turns : List ℕ → Loops
 last_turns [] = []
 last_turns (p ∷ ps) = (p, 1) ∷ last_turns ps
 
--- the greatest sum before the turns under way, where so many are left
+-- the greatest sum before the current turns of these loops, by the turns that are left
 abbrev pub base : Skeleton → Flows → (ℕ → ℕ → ℕ) → Loops → ℕ → ℕ
 base c f best [] d = 0
 base c f best (l ∷ ls) d =
@@ -61,7 +61,7 @@ base c f best (l ∷ ls) d =
     (min d (f.depth l.0)) + (bound_of (c.shape l.0) - l.1) * gain c f best l.0
     (min d (f.depth l.0))
 
--- the greatest sum of all that stands at a place
+-- the greatest sum of all open entries at a place
 abbrev pub full : Skeleton → Flows → (ℕ → List ℕ) → (ℕ → ℕ → ℕ) → ℕ → ℕ
 full c f around best pc = base c f best (last_turns (around pc)) (f.depth pc) + best pc (f.depth pc)
 

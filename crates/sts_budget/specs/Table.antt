@@ -73,6 +73,6 @@ HandsTooMuch c f head k best most =
     × ((d : ℕ) × ((m : ℕ)
     × ((pc < c.size) × (d ≤ f.depth pc) × New c f head best k (c.shape k) pc d m × (most < m))))
 
--- more than the limit stands at some point
+-- at some point the sum is over the limit
 abbrev pub Passes : Skeleton → Flows → ℕ → Type 0
 Passes c f most = (v : ℕ) × (Stands c f v × (most < v))

@@ -40,7 +40,7 @@ impl From<AllocError> for BudgetError {
 ///
 /// # Errors
 ///
-/// The least cause from V17 to V20 that holds; or want of memory.
+/// The least cause from V17 to V20 that holds, or memory ran out.
 pub fn budget(
     alloc: Global,
     program: &Program,

@@ -20,11 +20,11 @@ pub enum Resource {
 /// What an instruction does to the sums over the first open entries, the outermost first.
 #[derive(Clone, Copy, Debug, PartialEq, Eq)]
 pub enum SumChange {
-    /// Each sum rises by so much.
+    /// Each sum rises by this amount.
     Rises(u64),
-    /// An entry opens, which counts so much itself.
+    /// An entry opens, which counts this amount itself.
     Opens(u64),
-    /// The entry at this position counts so much more.
+    /// The entry at this position counts `amount` more.
     Adds { position: usize, amount: u64 },
 }
 
@@ -39,7 +39,7 @@ pub fn source_of(change: SumChange, depth: usize, d: usize) -> usize
     }
 }
 
-/// What the instruction adds to the sum over the first `d`.
+/// The amount that the instruction adds to the sum over the first `d` entries.
 pub fn added_of(change: SumChange, depth: usize, d: usize) -> u64
     ensures { result ≡ def.added_of change depth d }
 {

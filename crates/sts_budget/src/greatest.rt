@@ -18,7 +18,7 @@ use std::alloc::{AllocError, Global};
 use sts_code::{Instr, MAX_STANDING, MAX_STEPS};
 use sts_rules::filled;
 
-/// What the function counts beside the sums: the last step of a path, the task itself.
+/// The function's own part, outside the sums: the last step of a path, or the task itself.
 pub fn own_of(resource: Resource) -> u32
     ensures { result ≡ own_of resource }
 {
@@ -38,7 +38,7 @@ pub fn limit_of(resource: Resource) -> u32
     }
 }
 
-/// The most that the sums may come to, beside what the function counts itself.
+/// The limit for the sums, after the function's own part is taken off.
 pub(crate) fn most_of(resource: Resource) -> u32
     ensures { result ≡ limit_of resource - own_of resource }
 {
@@ -56,7 +56,7 @@ fn base_at(bases: &[u64], head: Option<u32>) -> u64
     }
 }
 
-/// The greatest sum over so many entries at a place.
+/// The greatest sum over the first `depth` entries at a place.
 fn sum_at<const N: usize>(best: &[Row<N>], pc: usize, depth: usize) -> u32
     requires in_code { pc < length best.now }
     requires few { depth < N }
@@ -95,7 +95,7 @@ fn turn_end<const N: usize>(pass: &Pass<'_>, best: &[Row<N>], pc: usize, depth: 
     }
 }
 
-/// The budget of this resource by a table of rows of `N` sums, or none where it passes its limit.
+/// The budget of this resource, found with rows of `N` sums, or `None` if it is over its limit.
 fn greatest_by<const N: usize>(alloc: Global, pass: &Pass<'_>) -> Result<Option<u32>, AllocError>
     requires ready { IsSet pass.now }
     requires most { pass.now.most ≡ limit_of pass.now.resource - own_of pass.now.resource }
@@ -131,8 +131,8 @@ fn greatest_by<const N: usize>(alloc: Global, pass: &Pass<'_>) -> Result<Option<
     Ok(Some(own + greatest as u32))
 }
 
-/// The budget of a resource that counts what stands in the open entries, by rows as short as those
-/// allow, and by none where nothing ever opens.
+/// The budget of a resource that the open entries count. The rows are as short as the entries
+/// allow. If nothing ever opens, no table is made.
 fn peak(alloc: Global, pass: &Pass<'_>) -> Result<Option<u32>, AllocError>
     requires ready { IsSet pass.now }
     requires most { pass.now.most ≡ limit_of pass.now.resource - own_of pass.now.resource }
@@ -148,7 +148,8 @@ fn peak(alloc: Global, pass: &Pass<'_>) -> Result<Option<u32>, AllocError>
     greatest_by::<17>(alloc, pass)
 }
 
-/// The budget of this resource, or none where it passes its limit. Steps are summed over no entry.
+/// The budget of this resource, or `None` if it is over its limit. The sum of the steps counts no
+/// entry.
 pub(crate) fn greatest(alloc: Global, pass: &Pass<'_>) -> Result<Option<u32>, AllocError>
     requires ready { IsSet pass.now }
     requires most { pass.now.most ≡ limit_of pass.now.resource - own_of pass.now.resource }

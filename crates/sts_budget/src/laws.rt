@@ -1,4 +1,4 @@
-//! Laws of the budgets: functions with empty bodies, whose contracts are the laws.
+//! Laws of the budgets: functions with empty bodies. Their contracts are the laws.
 
 ghost use Rattle.std.specs.Prelude.{◌<◌, length};
 ghost use Rattle.sts_code.specs.Program.{routine};

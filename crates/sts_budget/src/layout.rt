@@ -17,8 +17,8 @@ use sts_code::{Instr, MAX_INSTRUCTIONS, Program, code_of, falls_through, targets
 use sts_model::Stack;
 use sts_rules::filled;
 
-/// The names of the open entries at a place, the innermost on top: a scope's slot, or none for a
-/// binding.
+/// The names of the open entries at a place, the innermost on top. A scope's name is its slot; a
+/// binding has none.
 pub type Names = Stack<Option<u8>, 16>;
 
 /// What is open at each place of a function.
@@ -28,8 +28,7 @@ pub struct Layout {
     pub heads: Vec<Option<u32>>,
     /// The `next` that ends the loop of a `times`.
     pub mates: Vec<u32>,
-    /// The lists of names, of which each place has one: a new one for each entry that opens or
-    /// closes.
+    /// The lists of names that places refer to: a new list for each entry that opens or closes.
     pub lists: Vec<Names>,
     /// Which of the lists each place has.
     pub which: Vec<usize>,
@@ -225,7 +224,7 @@ fn write_mate(mates: &mut Vec<u32>, instr: Instr, pc: u32, head: Option<u32>)
 ///
 /// # Errors
 ///
-/// Want of memory.
+/// Memory ran out.
 pub fn lay_out(alloc: Global, program: &Program, function: usize) -> Result<Layout, AllocError>
     requires in_program { function < length program.now.routines }
     requires typed { IsWellTyped program.now function }

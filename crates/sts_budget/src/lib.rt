@@ -1,5 +1,5 @@
-//! The four budgets of a function: the steps of its control paths, and the peaks of what stands at
-//! their points.
+//! The four budgets of a function: the most steps of its control paths, and the most tasks, scopes
+//! and bindings that count at one point.
 #![tactic(auto)]
 
 mod budgets;

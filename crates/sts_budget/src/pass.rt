@@ -22,8 +22,8 @@ use std::alloc::{AllocError, Global};
 use sts_code::{Instr, MAX_INSTRUCTIONS};
 use sts_rules::{Budgets, filled};
 
-/// What one pass over a function is about: a resource, the budgets of the functions before, the
-/// function's code and its layout, and the most that the sums may come to.
+/// The input of one pass over a function: a resource, the budgets of the functions before, the
+/// function's code and layout, and the limit for the sums.
 #[derive(Clone, Copy)]
 pub(crate) struct Pass<'p> {
     pub(crate) resource: Resource,
@@ -103,8 +103,8 @@ fn send_on<const N: usize>(
     send(best, places.as_slice(), values, pass)
 }
 
-/// Does the instruction hand on nothing: is it the end of a path, or a `times`, behind which sums
-/// begin again?
+/// Does the instruction hand on nothing? It is the end of a path, or a `times`, after which sums
+/// begin again.
 fn is_quiet(instr: Instr) -> bool
     ensures { result ≡ is_quiet instr }
 {
@@ -199,7 +199,7 @@ fn hand_on<const N: usize>(pass: &Pass<'_>, best: &mut Vec<Row<N>>, pc: usize) -
     send_on(best, instr, pc, &values, pass)
 }
 
-/// The table of the greatest sums, or none where one passes the limit.
+/// The table of the greatest sums, or `None` if a sum is over the limit.
 pub(crate) fn table<const N: usize>(
     alloc: Global,
     pass: &Pass<'_>,

@@ -12,7 +12,7 @@ pub(crate) type Row<const N: usize> = [u32; N];
 /// Sums that are handed on, before they are held to a limit.
 pub(crate) type Values<const N: usize> = [u64; N];
 
-/// The sums of a row, each risen by so much.
+/// The sums of a row, with `amount` added to each.
 fn risen<const N: usize>(amount: u64, row: &Row<N>) -> Values<N>
     ensures { (d : ℕ) → d < N →
         get_or result d 0 ≡ min (get_or row.now d 0 + amount) 18446744073709551615 }
@@ -24,7 +24,7 @@ fn risen<const N: usize>(amount: u64, row: &Row<N>) -> Values<N>
     values
 }
 
-/// The sums after an instruction, over as many entries as can be open then.
+/// The sums after an instruction, one for each number of entries that can be open then.
 pub(crate) fn values_after<const N: usize>(
     change: SumChange,
     depth: usize,
@@ -48,7 +48,7 @@ pub(crate) fn values_after<const N: usize>(
     values
 }
 
-/// The sums after a loop: those at its head, and so many times those of a turn.
+/// The sums after a loop: those at its head, and `turns` times those of a turn.
 pub(crate) fn values_of_loop<const N: usize>(
     turns: u16,
     own: u32,

@@ -18,7 +18,7 @@ neither : {A : Type 0} (a b : Option A) → option_or a b ≡ None → (a ≡ No
 neither None b e = (refl, e)
 neither (Some x) b e = cc
 
--- a cause that is told nowhere is none
+-- if no error is reported for a cause, there is no cause
 no_cause : (at pc : ℕ) (cause : Option CodeCause) → def.fault_at at pc cause ≡ None → cause ≡ None
 no_cause at pc None e = refl
 no_cause at pc (Some c) e = cc

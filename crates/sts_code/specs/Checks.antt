@@ -27,7 +27,7 @@ use Rattle.sts_code.specs.Program.{Routine}
 
 -- ---- one instruction
 
--- does it name a place that is none of n instructions?
+-- does it name a place outside the n instructions?
 abbrev pub has_bad_target : ℕ → Instr → Bool
 has_bad_target n i = list_any (nat_le n) (targets i)
 
@@ -84,7 +84,7 @@ instr_cause at n i =
 
 -- ---- one function
 
--- a cause, told with its place
+-- a cause, with the place where it was found
 abbrev pub fault_at : ℕ → ℕ → Option CodeCause → Option CodeError
 fault_at at pc cause = option_map (λ c. record { cause = c; function = at; pc = pc }) cause
 

@@ -1,5 +1,5 @@
 -- Facts of one instruction: what it pops and pushes, the places and slots that it names, and what
--- its joiner tells (this project's own).
+-- the answer of its joiner is (this project's own).
 use Rattle.std.specs.Prelude.{ℕ, List, [], ◌∷◌, ◌++◌, Bool, true, false, Option, Some, None, not}
 use Rattle.std.specs.Prelude.{option_to_list}
 use Rattle.sts_code.specs.declared.instr.Instr.{Instr}

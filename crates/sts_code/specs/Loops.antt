@@ -13,7 +13,7 @@ abbrev pub is_next : Instr → Bool
 is_next Next = true
 is_next _ = false
 
--- as many `next` as `times`
+-- does it have the same number of `next` as of `times`?
 abbrev pub is_balanced : List Instr → Bool
 is_balanced is = count_by is_next is == count_by is_times is
 

@@ -1,7 +1,7 @@
 //! The instructions.
 
-/// The condition of the joiner `until`: so many failures, so many successes, or a success of at
-/// least this value.
+/// The condition of the joiner `until`: a number of failures, a number of successes, or one success
+/// of at least the value.
 #[derive(Clone, Copy, Debug, PartialEq, Eq)]
 pub enum Pred {
     Failed(u32),

@@ -22,9 +22,9 @@ pub const MAX_LOOPS: usize = 8;
 pub const MAX_ENTRIES: usize = 16;
 /// Steps of a path through a function, with those of its subtasks.
 pub const MAX_STEPS: u32 = 1_000_000;
-/// Tasks, scopes and bindings, of each so many, that stand at once.
+/// The limit for the tasks that count at once, and the same limit for scopes and for bindings.
 pub const MAX_STANDING: u32 = 65_536;
-/// Tasks and scopes, of each so many, that are born in a run.
+/// The limit for the tasks that are born in a run, and the same limit for scopes.
 pub const MAX_BIRTHS: usize = 1_000_000;
 /// Events of a run that come from outside.
 pub const MAX_OUTSIDE: u32 = 4096;

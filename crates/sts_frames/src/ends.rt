@@ -1,4 +1,4 @@
-//! What a subtask's end is to a task that reads it.
+//! The end of a subtask, as the task that reads it sees it.
 
 ghost use Rattle.std.specs.Prelude.{◌≡◌};
 ghost use Rattle.sts_model.specs.Effect as effect;

@@ -15,7 +15,7 @@ pub fn code<'a>(program: &'a Program, frame: &Frame) -> &'a [Instr]
     code_of(program, frame.function as usize)
 }
 
-/// The instruction that is next, or none at the end.
+/// The next instruction, or `None` at the end of the function.
 pub fn instr_at(program: &Program, frame: &Frame) -> Option<Instr>
     ensures value { result ≡ def.instr_at program.now frame.now }
     ensures within { IfSome result (λ _. frame.now.pc < length (def.code program.now frame.now)) }

@@ -1,9 +1,12 @@
-//! One task's frame: what the machine that tests everything and the machine that tests nothing both
-//! read of it and make of it.
+//! One task's frame: how the machine that tests everything and the machine that tests nothing both
+//! read and change it.
 //!
-//! The records and their stacks are in `sts_model`. Here is what begins a frame, what its program
-//! says at it, its slots, which instructions are local and what they do, the frame's part of the
-//! others, and a copy of a frame by what is used of it.
+//! The records and their stacks are in `sts_model`. This crate has:
+//!
+//! - The first frame of a function, the next instruction, and the slots.
+//! - The local instructions: their list, and what each does.
+//! - The change that each other instruction makes to its task's frame.
+//! - A copy of a frame that holds only the used parts.
 #![tactic(auto)]
 
 mod beginning;

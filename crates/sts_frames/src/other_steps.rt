@@ -1,4 +1,4 @@
-//! What an instruction that is not local makes of its task's frame. The task goes on.
+//! The change that an instruction makes to its task's frame if it isn't local. The task goes on.
 
 ghost use Rattle.std.specs.Prelude.{◌≡◌, ◌<◌, ◌+◌, ◌^◌, length, [], ◌∷◌, drop, slice_set};
 ghost use Rattle.sts_code.specs.declared.limits.TheConstants.{MAX_ENTRIES};

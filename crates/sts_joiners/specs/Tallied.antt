@@ -1,5 +1,5 @@
--- What contracts see of a tally: its joiner, and what is kept of the ends that it was told (this
--- project's own).
+-- What contracts see of a tally: its joiner, and the counters of the ends so far (this project's
+-- own).
 use Rattle.std.specs.Prelude.{◌≡◌, ℕ, ◌+◌, List}
 use Rattle.sts_code.specs.declared.instr.Joiner.{Joiner}
 use Rattle.sts_model.specs.declared.event.End.{End}
@@ -15,7 +15,7 @@ pub record Tallied : Type 0 where
 abbrev pub StandsFor : Tallied → List End → Type 0
 StandsFor tally ends = tally.told ≡ kept.told tally.joiner ends
 
--- the tally of a joiner that was told these ends
+-- the tally of a joiner after these ends
 abbrev pub tallied : Joiner → List End → Tallied
 tallied joiner ends = record { joiner = joiner; told = kept.told joiner ends }
 
@@ -23,6 +23,6 @@ tallied joiner ends = record { joiner = joiner; told = kept.told joiner ends }
 abbrev pub with_end : Tallied → End → Tallied
 with_end tally end = record tally { told = kept.tell tally.joiner tally.told end }
 
--- how many ends were told
+-- the number of ends that the joiner was told of
 abbrev pub ends_told : Tallied → ℕ
 ends_told tally = tally.told.successes + tally.told.failures

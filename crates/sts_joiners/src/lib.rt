@@ -1,4 +1,4 @@
-//! The five joiners by counters: a few words in place of the list of all ends.
+//! The five joiners, by counters: a few words instead of the list of all ends.
 #![tactic(auto)]
 
 ghost use Rattle.std.specs.Prelude.{ℕ, List};
@@ -11,8 +11,8 @@ mod tally;
 pub use sts_model::Verdict;
 pub use tally::Tally;
 
-/// A law of the definitions: what is kept of the ends goes on by itself, and gives what the whole
-/// list gives.
+/// A law of the definitions: the counters can be updated by each new end, and they answer as the
+/// whole list does.
 pub fn what_is_kept_is_enough()
     ensures { (joiner : Joiner) (ends : List End) (end : End) (subtasks : ℕ) →
         IsEnough joiner ends end subtasks }

@@ -12,10 +12,10 @@ use std::marker::Model;
 use sts_code::{Joiner, Pred};
 use sts_model::{End, Verdict};
 
-/// What a joiner has to know of the ends that it was told, in order of completion.
+/// Counts the ends that a joiner is told of, in order of completion.
 ///
-/// Contracts see the joiner and what is kept of the ends. A tally that stands for a list of ends
-/// answers as the definitions do over that list.
+/// Contracts see the joiner and its counters. A tally that represents a list of ends answers as the
+/// definitions do for that list.
 #[derive(Drop)]
 pub struct Tally {
     joiner: Joiner,
@@ -142,8 +142,8 @@ impl Tally {
         }
     }
 
-    /// The answer of `join` for a scope of so many subtasks, those included that never ran or
-    /// weren't told.
+    /// The answer of `join` for a scope with `subtasks` subtasks. All of them count, even if one
+    /// never ran, or ended after the scope was cancelled.
     pub fn result(&self, subtasks: u32) -> Verdict
         ensures kept { result ≡ result_told self.now.joiner self.now.told subtasks }
         ensures ends { (ends : List AnyEnd) → StandsFor self.now ends →
@@ -162,7 +162,7 @@ impl Tally {
         }
     }
 
-    /// The joiner that is told.
+    /// The joiner that the tally counts for.
     pub fn joiner(&self) -> Joiner
         ensures { result ≡ self.now.joiner }
     {
@@ -197,7 +197,7 @@ impl Tally {
     }
 }
 
-/// Is this success the one that the joiner waits for?
+/// Is this a success that the joiner waits for?
 fn is_awaited(joiner: Joiner, value: i64) -> bool
     ensures { result ≡ reaches joiner (Success value) }
 {

@@ -42,7 +42,7 @@ abbrev pub mark_if : Bool → ℕ → List Mark
 mark_if true pc = record { name = label pc; at = pc } ∷ []
 mark_if false pc = []
 
--- the labels that stand before the instructions from pc on
+-- the labels before the instructions from pc on
 abbrev pub marks_of : List Instr → ℕ → List Instr → List Mark
 marks_of code pc [] = []
 marks_of code pc (instr ∷ rest) = mark_if (is_target code pc) pc ++ marks_of code (pc + 1) rest

@@ -14,11 +14,11 @@ all_more : {A : Type 0} (P : A → Type 0) (xs : List A) (x : A) → AllByRecurs
 all_more P [] x h p = (p, tt)
 all_more P (y ∷ xs) x h p = (h.0, all_more P xs x h.1 p)
 
--- one more is told
+-- the property holds for one element more
 pub all_take : {A : Type 0} (P : A → Type 0) (xs : List A) (i : ℕ) (d : A) → i < length xs → AllByRecursion P (take i xs) → P (get_or xs i d) → AllByRecursion P (take (i + 1) xs)
 all_take P xs i d small h p = rw (take_more xs i d small) (all_more P (take i xs) (get_or xs i d) h p)
 
--- all are told
+-- the property holds for all elements
 pub all_taken : {A : Type 0} (P : A → Type 0) (xs : List A) (i : ℕ) → length xs ≤ i → AllByRecursion P (take i xs) → AllByRecursion P xs
 all_taken P xs i past h = rw (take_all i xs past) at h
 

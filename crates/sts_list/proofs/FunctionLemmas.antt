@@ -23,7 +23,7 @@ pub record IsGoodRoutine (p : Program) (r : Routine) : Type 0 where
   pub short : length r.code ≤ 4096
   pub code : AllByRecursion (IsGood p) r.code
 
--- what a function is read as, from the line of its header on
+-- the draft that a function is read as, if its header is at this line
 abbrev pub draft_at : Program → ℕ → Routine → Draft
 draft_at p at r = record { name = r.name; args = r.args; needs = r.needs; labels = marks_of r.code 0 r.code; code = sentences p r.code (at + 1) 0 r.code }
 

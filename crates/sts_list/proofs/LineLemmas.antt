@@ -41,7 +41,7 @@ words_said at o p w ws rest h hs e =
     let t = sentence_text w ws h hs in
     line_step at o p (w ++ after_spaces ws) ((w ++ after_spaces ws) ++ 10 ∷ rest) rest (line_cut (w ++ after_spaces ws) rest t) (ap (at_line at) (text_said at o (w ++ after_spaces ws) (w ∷ ws) t (words_read w ws h hs) ∙ e))
 
--- the same behind two spaces
+-- like `words_said`, for a line that begins with two spaces
 pub indented_said : (at : ℕ) (o p : Outline) (w : List ℕ) (ws : List (List ℕ)) (rest : List ℕ) → IsWord w → AreWords ws → said at o (w ∷ ws) ≡ Ok p → lines_read at o (lines ((32 ∷ 32 ∷ (w ++ after_spaces ws)) ++ 10 ∷ rest)) ≡ lines_read (at + 1) p (lines rest)
 indented_said at o p w ws rest h hs e =
     let t : list_all is_text (32 ∷ 32 ∷ (w ++ after_spaces ws)) ≡ true = sentence_text w ws h hs in
@@ -51,7 +51,7 @@ and_false : (b : Bool) → (b && false) ≡ false
 and_false true = refl
 and_false false = refl
 
--- a first word that is none of `func`, `end` and `profile`
+-- a first word other than `func`, `end` and `profile`
 record IsInner (w : List ℕ) : Type 0 where
   no_func : bytes_eq w (codes "func") ≡ false
   no_end : bytes_eq w (codes "end") ≡ false

@@ -36,7 +36,7 @@ pub record Labels (names : Option Names) (found : ℕ → ℕ) (to : ℕ) : Type
   pub small : to < 10000
   pub named : label_in names (label to) ≡ Some (found to)
 
--- an instruction of which each label and function is found elsewhere
+-- an instruction with each label and each function moved to another place
 abbrev pub moved : (ℕ → ℕ) → (ℕ → ℕ) → Instr → Instr
 moved found other (i.Div to) = i.Div (found to)
 moved found other (i.Jmp to) = i.Jmp (found to)

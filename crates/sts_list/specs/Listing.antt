@@ -16,7 +16,7 @@ use Rattle.sts_list.specs.Spelling.{label, spelled}
 abbrev pub is_target : List Instr → ℕ → Bool
 is_target code pc = list_any (λ to. to == pc) (flat_map targets code)
 
--- the instructions of a list, by index, of which each is marked that is named
+-- marks the instructions at these places
 abbrev pub with_marks : List Bool → List ℕ → List Bool
 with_marks marks [] = marks
 with_marks marks (to ∷ rest) = with_marks (slice_set marks to true) rest
@@ -62,7 +62,7 @@ code_lines p code pc (instr ∷ rest) =
 abbrev pub function_lines : Program → Routine → List ℕ
 function_lines p r = header r ++ code_lines p r.code 0 r.code ++ codes "end\n"
 
--- profile one has no line
+-- profile one needs no line
 abbrev pub profile_line : Profile → List ℕ
 profile_line One = []
 profile_line Two = codes "profile 2\n"

@@ -123,7 +123,7 @@ fn write_profile(out: &mut String, profile: Profile) -> Result<(), AllocError>
 ///
 /// # Errors
 ///
-/// Want of memory.
+/// Memory ran out.
 pub fn list(alloc: Global, program: &Program) -> Result<String, AllocError>
     ensures listing { IfOk result (λ text. string_bytes text ≡ listing program.now) }
 

@@ -86,7 +86,7 @@ fn write_kind(out: &mut String, kind: Kind) -> Result<(), AllocError>
 ///
 /// # Errors
 ///
-/// Memory was refused; a part of them may then stand in `out`.
+/// Memory ran out; `out` may then have a part of them.
 pub fn write_joiner(out: &mut String, joiner: Joiner) -> Result<(), AllocError>
     ensures { OnOk result (string_bytes out.new ≡
         string_bytes out.old ++ after_spaces (def.joiner_words joiner)) }
@@ -207,7 +207,7 @@ fn write_operands(out: &mut String, instr: Instr, program: &Program) -> Result<(
 ///
 /// # Errors
 ///
-/// Want of memory; some of the words may be written then.
+/// Memory ran out; some of the words may be written then.
 pub fn write_instr(out: &mut String, instr: Instr, program: &Program) -> Result<(), AllocError>
     ensures { OnOk result (string_bytes out.new ≡
         string_bytes out.old ++ spelled program.now instr) }
@@ -216,11 +216,11 @@ pub fn write_instr(out: &mut String, instr: Instr, program: &Program) -> Result<
     write_operands(out, instr, program)
 }
 
-/// The words of one instruction of a program, one space apart, as they stand in its listing.
+/// The words of one instruction of a program, one space apart, as in its listing.
 ///
 /// # Errors
 ///
-/// Want of memory.
+/// Memory ran out.
 pub fn spell(alloc: Global, instr: &Instr, program: &Program) -> Result<String, AllocError>
     ensures { IfOk result (λ text. string_bytes text ≡ spelled program.now instr.now) }
 {

@@ -62,7 +62,7 @@ fn mark_targets(marks: &mut Vec<bool>, instr: Instr)
 ///
 /// # Errors
 ///
-/// Want of memory.
+/// Memory ran out.
 pub fn target_marks(alloc: Global, code: &[Instr]) -> Result<Vec<bool>, AllocError>
     ensures length { IfOk result (λ marks. length marks.items ≡ length code.now) }
     ensures named { IfOk result (λ marks. (pc : ℕ) → pc < length code.now →

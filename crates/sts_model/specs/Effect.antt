@@ -104,8 +104,8 @@ join_verdict (verdict.Ok None) w t s f failed = joined w t s (steps f 0 [])
 join_verdict (verdict.Ok (Some v)) w t s f failed = joined w t s (steps f 0 (v ∷ []))
 join_verdict (verdict.Failed c) w t s f failed = joined w t s (goes f failed 0 (c ∷ []))
 
--- the outcome of a `join`: a timeout, the joiner's result, or else interrupted, as a task whose
--- flag isn't set waits here
+-- the outcome of a `join`: a timeout, or the joiner's result, or interrupted. The last needs no
+-- test: a task waits here if its flag isn't set.
 unfoldable pub join_scope : World → ℕ → Frame → ℕ → ℕ → ℕ → ℕ → World
 join_scope w t f s failed timeout interrupted =
     let scope = scope_at w s in
@@ -141,7 +141,7 @@ close_scope w t f s =
 
 -- ---- the end of a task
 
--- the scope once it was told of an end
+-- the scope after its joiner was told of an end
 abbrev pub told : Scope → ℕ → End → Scope
 told scope t end =
     record scope { completions = scope.completions ++ record { task = t; end = end } ∷ [] }
@@ -158,7 +158,7 @@ abbrev pub tell : World → ℕ → Option ℕ → End → World
 tell w t None end = w
 tell w t (Some s) end = complete w t s end
 
--- the task has ended, and nobody was told
+-- the task has ended, and its end was not reported to a joiner
 abbrev pub ended : World → ℕ → Frame → End → World
 ended w t f end = with_task w t (record (task_at w t) { frame = steps f 1 []; outcome = Some end })
 

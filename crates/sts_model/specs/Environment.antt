@@ -1,6 +1,6 @@
 -- Scoped values: the environment of a task.
--- Restates "Description" of JEP 506: a binding is in force until it ends, the innermost one is
--- read, and a subtask inherits those that were in force when its scope was opened.
+-- Restates "Description" of JEP 506. A binding is in force until it ends. The innermost one is
+-- read. A subtask inherits those that were in force when its scope was opened.
 use Rattle.std.specs.Prelude.{ℕ, ℤ, List, ◌++◌, Option, Some, None, option_map, find, filter_map}
 use Rattle.std.specs.Prelude.{◌==◌}
 use Rattle.sts_model.specs.declared.record.Task.{Task}

@@ -45,7 +45,7 @@ verdict_or None other = other
 verdict_or (Some (Success v)) other = verdict.Ok (Some v)
 verdict_or (Some (Failed c)) other = verdict.Failed c
 
--- the answer of `join`, for so many subtasks
+-- the answer of `join` for n subtasks
 abbrev pub result_of : Joiner → List End → ℕ → Verdict
 result_of AllSucceed ends n = verdict_or (find is_failure ends) (verdict.Ok (Some (pos n)))
 result_of AwaitOk ends n = verdict_or (find is_failure ends) (verdict.Ok None)

@@ -1,5 +1,6 @@
--- The live view: what can still be asked of a state that is no fault, by birth, with a hole for
--- each task and scope that no longer stands (this project's own).
+-- The live view of a state that is no fault: everything that can still be asked of it. Tasks and
+-- scopes are numbered by birth; a task or scope that no longer counts has a hole (this project's
+-- own).
 use Rattle.std.specs.Prelude.{ℕ, List, length, map, filter_map, Bool, Option, Some, None}
 use Rattle.std.specs.Prelude.{option_map, if◌then◌else◌, slice_index_or}
 use Rattle.std.specs.List.{range_with_len, enumerate_from}
@@ -23,14 +24,14 @@ pub record Alive : Type 0 where
   pub flag : Bool
   pub environment : List Bound
 
--- a task that stands: its scope, its state as a subtask (none: unavailable), and what it has if it
--- lives
+-- a task that counts: its scope, its state as a subtask (none: unavailable), and, if it lives, its
+-- own state
 pub record LiveTask : Type 0 where
   pub scope : Option ℕ
   pub state : Option End
   pub alive : Option Alive
 
--- a scope that stands, with what its joiner keeps of the ends
+-- a scope that isn't closed, with the counters that its joiner needs
 pub record LiveScope : Type 0 where
   pub owner : ℕ
   pub joiner : Joiner
@@ -41,7 +42,7 @@ pub record LiveScope : Type 0 where
   pub environment : List Bound
   pub told : Told
 
--- the tasks and scopes by birth number: as many were born as the lists are long
+-- the tasks and scopes by birth number; each list is as long as the number of births
 pub record Live : Type 0 where
   pub tasks : List (Option LiveTask)
   pub scopes : List (Option LiveScope)
@@ -96,7 +97,7 @@ subtask_in s (t, Some task) = if is_in s task.scope then Some (t, task) else Non
 abbrev pub subtasks_in : Live → ℕ → List (ℕ × LiveTask)
 subtasks_in v s = filter_map (subtask_in s) (enumerate_from 0 v.tasks)
 
--- the joiner's result as it stands
+-- the joiner's result at this moment
 abbrev pub result_in : Live → ℕ → Option Verdict
 result_in v s =
     option_map (λ (scope : LiveScope). result_told scope.joiner scope.told (length

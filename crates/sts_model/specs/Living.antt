@@ -1,6 +1,6 @@
 -- Which tasks live, which are subtasks of a scope, and the state of a subtask.
--- Restates `StructuredTaskScope.Subtask.State` and "Description" of JEP 505: a subtask whose end
--- came before its scope was cancelled is a success or failed, every other is unavailable.
+-- Restates `StructuredTaskScope.Subtask.State` and "Description" of JEP 505. A subtask is a success
+-- or failed if its end came before its scope was cancelled. Every other subtask is unavailable.
 use Rattle.std.specs.Prelude.{ℕ, List, Bool, true, false, Option, Some, None, option_map, find}
 use Rattle.std.specs.Prelude.{count_by, map, is_none, ◌&&◌, ◌==◌}
 use Rattle.std.specs.List.{list_any}
@@ -60,6 +60,6 @@ parent w (Some s) = scope_at w s
 abbrev pub scope_of : World → ℕ → Scope
 scope_of w t = parent w (task_at w t).scope
 
--- the state of a subtask: a success or failed as it completed, or none, which is unavailable
+-- the state of a subtask: a success or failed, as it completed; none means unavailable
 abbrev pub sub_state : World → ℕ → Option End
 sub_state w t = completion_of (scope_of w t).completions t

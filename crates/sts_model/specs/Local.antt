@@ -1,4 +1,4 @@
--- Local instructions: what they read and change is the frame alone (this project's own).
+-- Local instructions: they read and change only the frame (this project's own).
 use Rattle.std.specs.Prelude.{ℕ, ◌+◌, ◌-◌, ℤ, pos, negsuc, ◌+ℤ◌, ◌-ℤ◌, ◌*ℤ◌, int_lt, List, [], ◌∷◌}
 use Rattle.std.specs.Prelude.{◌++◌, length, drop, min, Bool, true, false, Option, nat_le, ◌==◌}
 use Rattle.std.specs.Prelude.{if◌then◌else◌, slice_set, slice_index_or, slice_range, count_by, find}
@@ -55,7 +55,7 @@ abbrev pub clipped : ℕ → ℤ → ℕ
 clipped n (pos k) = min k n
 clipped n (negsuc k) = 0
 
--- enters the loop at this `times` with so many turns, or goes past it
+-- enters the loop at this `times` with these turns, or goes past it if there are none
 abbrev pub enters : List Instr → Frame → ℕ → Frame
 enters code f turns =
     if turns == 0

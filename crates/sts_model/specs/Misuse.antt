@@ -1,4 +1,4 @@
--- Misuse: what is wrong with the instruction that a task is at, and which fault that is.
+-- Misuse: whether the instruction that a task is at may be taken, and if not, which fault it is.
 -- Restates the exceptions of `fork`, `join`, `close` and `Subtask.get` in the API documentation
 -- (`IllegalStateException`, `WrongThreadException`, `StructureViolationException`) and of
 -- `ScopedValue.get` (`NoSuchElementException`). The fault Operand, the limits, the order of the
@@ -54,7 +54,7 @@ lacks_operands p f i = nat_lt (length f.operands) (pops p i)
 abbrev pub overflows : Program → Frame → Instr → Bool
 overflows p f i = nat_lt MAX_OPERANDS (length f.operands - pops p i + pushes i)
 
--- is the innermost open loop the one whose match is at pc?
+-- is pc the match of the innermost open loop?
 abbrev pub closes_loop : List Instr → ℕ → List Loop → Bool
 closes_loop is pc [] = false
 closes_loop is pc (l ∷ ls) = is_at (match_of is l.at) pc
@@ -131,7 +131,7 @@ misjoins w f (Join s failed timeout interrupted) =
     at_own w (slot f s) (λ _ scope. joins_wrongly f failed timeout scope)
 misjoins w f _ = false
 
--- 65,536 stand, or 1,000,000 were born?
+-- do 65,536 count now, or were 1,000,000 born?
 abbrev pub is_crowded : ℕ → ℕ → Bool
 is_crowded standing born = nat_le MAX_STANDING standing || nat_le MAX_BIRTHS born
 
@@ -248,7 +248,7 @@ abbrev pub fault_at : Program → World → ℕ → Frame → Option Instr → O
 fault_at p w t f None = Some Operand
 fault_at p w t f (Some i) = fault_of p w t f i
 
--- the fault that a step of this task would be, or none
+-- the fault of a step of this task, or none if the step may be taken
 abbrev pub misuse : Program → World → ℕ → Option Fault
 misuse p w t = let f = (task_at w t).frame in fault_at p w t f (instr_at p f)
 

@@ -1,7 +1,7 @@
 -- What comes from outside: interrupts and expiries.
 -- Restates `Thread.interrupt` and the timeout of `StructuredTaskScope.Configuration.withTimeout`.
--- That an expiry is an event handed in, and that it marks a scope which is cancelled already, is
--- this project's own.
+-- Two points are this project's own: an expiry is an event that is handed in, and it also marks a
+-- scope that is cancelled already.
 use Rattle.std.specs.Prelude.{ℕ, Bool, true, ◌&&◌, not, if◌then◌else◌}
 use Rattle.sts_model.specs.declared.record.Scope.{Scope}
 use Rattle.sts_model.specs.World.{World, task_at, scope_at, with_task, with_scope}
@@ -14,8 +14,8 @@ abbrev pub interrupt : World → ℕ → World
 interrupt w t =
     if lives (task_at w t) then with_task w t (record (task_at w t) { flag = true }) else w
 
--- may this scope expire now? Its `join` has had no outcome but interrupted, and its close has not
--- begun
+-- may this scope expire now? A timed scope may until its `join` has an outcome other than
+-- interrupted, or its close begins
 abbrev pub can_expire : Scope → Bool
 can_expire scope = scope.timed && not scope.expired && can_join scope.phase
 

@@ -1,5 +1,5 @@
--- What has to be kept of the ends to answer for a joiner: counters in place of the whole list (this
--- project's own).
+-- The counters that a joiner needs to answer, instead of the whole list of ends (this project's
+-- own).
 use Rattle.std.specs.Prelude.{ℕ, ◌+◌, ℤ, pos, negsuc, List, [], ◌∷◌, Bool, false, ◌||◌, Option}
 use Rattle.std.specs.Prelude.{Some, None, is_some, find, count_by, nat_le, if◌then◌else◌}
 use Rattle.std.specs.List.{list_any}

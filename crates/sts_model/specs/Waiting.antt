@@ -1,8 +1,8 @@
--- Where a task stands, and which tasks can step.
+-- Which tasks are at a `join` or a `close`, and which can step.
 -- Restates `join` and `close` of `StructuredTaskScope`: `join` waits until all subtasks have
--- completed or the scope is cancelled, `close` until all threads have finished. That an interrupt
--- ends the wait of `join` and not that of `close` is said there too; the order in which `join`
--- looks is this project's own.
+-- completed or the scope is cancelled, `close` until all threads have finished. It says too that an
+-- interrupt ends the wait of `join`, and not that of `close`. The order in which `join` looks is
+-- this project's own.
 use Rattle.std.specs.Prelude.{ℕ, Bool, true, Option, Some, None, ◌&&◌, ◌||◌, not, if◌then◌else◌}
 use Rattle.sts_code.specs.Program.{Program}
 use Rattle.sts_code.specs.declared.instr.Instr.{Instr}
@@ -34,11 +34,11 @@ stand_at_instr p w t (Some (Join x failed timeout interrupted)) =
 stand_at_instr p w t (Some (Close x)) = stands_at_close w (slot (task_at w t).frame x)
 stand_at_instr p w t _ = Free
 
--- where the task stands: at a `join`, at a `close` that has begun, or free
+-- whether the task is at a `join`, at a `close` that has begun, or at neither
 abbrev pub stand_at : Program → World → ℕ → Stand
 stand_at p w t = stand_at_instr p w t (instr_at p (task_at w t).frame)
 
--- may the task go on from where it stands?
+-- may the task take its next step?
 abbrev pub can_go : World → Task → Stand → Bool
 can_go w task Free = true
 can_go w task (AtJoin s) =

@@ -18,7 +18,7 @@ pub record World : Type 0 where
   pub tasks : List Task
   pub scopes : List Scope
 
--- it runs, or it stands at a fault of a task, at an instruction of a function
+-- a state runs, or a task has faulted at an instruction of a function
 pub data State : Type 0 where
   Running : World → State
   Faulted : (kind : Fault) (task function pc : ℕ) → State
@@ -63,7 +63,7 @@ no_task =
       outcome = None;
     }
 
--- what is read where no scope was born: nothing can be done with it
+-- the scope that is read if no scope has this birth number: every use of it is a fault
 abbrev pub no_scope : Scope
 no_scope =
     record {

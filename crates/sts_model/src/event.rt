@@ -1,4 +1,5 @@
-//! Events, ends, faults, phases, results of joiners, and where a task stands.
+//! Events, ends, faults, phases, results of joiners, and whether a task is at a `join` or a
+//! `close`.
 
 /// What happens next.
 #[derive(Clone, Copy, Debug, PartialEq, Eq)]
@@ -42,7 +43,8 @@ pub enum Verdict {
     Failed(i64),
 }
 
-/// Where a task stands: at a `join` of a scope that is no misuse, at a `close` that has begun, or at neither.
+/// Where a task is: at a `join` of a scope that is no misuse, at a `close` that has begun, or at
+/// neither.
 #[derive(Clone, Copy, Debug, PartialEq, Eq)]
 pub enum Stand {
     Free,

@@ -28,8 +28,8 @@ reaches_to pc (Some q) = nat_le pc q
 abbrev pub is_inside : List Instr → ℕ → ℕ → Bool
 is_inside code pc p = is_times (instr_at code p) && reaches_to pc (match_of code p)
 
--- the `times` before a place whose match isn't before it, the innermost first; one without match is
--- around no place
+-- the loops around a place, the innermost first: each `times` before it, unless its match is before
+-- it too; a `times` without match is around no place
 abbrev pub around : List Instr → ℕ → List ℕ
 around code pc = filter (is_inside code pc) (reverse (range_with_len 0 pc))
 

@@ -1,5 +1,5 @@
 -- The four budgets of a function: the steps of its control paths, and the most tasks, scopes and
--- bindings that stand at a point of them (this project's own).
+-- bindings that count at one point of a path (this project's own).
 use Rattle.std.specs.Prelude.{ℕ, ◌+◌, ◌<◌, List, [], ◌∷◌, ◌++◌, length, take, drop, sum_by}
 use Rattle.std.specs.Prelude.{if◌then◌else◌, ◌==◌, unwrap_or, slice_index_or}
 use Rattle.sts_code.specs.declared.instr.Instr.{Instr}

@@ -56,7 +56,7 @@ at_slot s (Some x) test = test (kind s x)
 abbrev pub at_own : TypeState → ℕ → (Option TypedScope → Bool) → Bool
 at_own s x test = is_own (kind s x) && test (scope_in s.entries x)
 
--- a test of the scope of the subtask in a slot, and of what is known of the subtask
+-- a test of a slot's subtask, by its scope and what is known of its state
 abbrev pub at_sub : List TypedEntry → SlotKind → (Option TypedScope → Known → Bool) → Bool
 at_sub entries (Sub x state) test = test (scope_in entries x) state
 at_sub entries _ test = false
@@ -207,11 +207,11 @@ binds_after x [] = false
 binds_after x (Binding k ∷ es) = true
 binds_after x (Scope r ∷ es) = if r.slot == x then false else binds_after x es
 
--- did the innermost entry stand at the `times` of an open loop?
+-- was the innermost entry in the list before an open loop began?
 abbrev pub is_held : TypeState → Bool
 is_held s = list_any (λ l. nat_le (length s.entries) l.entries) s.loops
 
--- V13: against the order of the structure list; in a loop, of what stood there before
+-- V13: against the order of the structure list; a loop may not close what was opened before it
 abbrev pub breaks_structure : Instr → TypeState → Bool
 breaks_structure (Fork x g h) s = at_own s x (λ _. binds_after x s.entries)
 breaks_structure (Close x) s =

@@ -35,8 +35,8 @@ abbrev pub Among : List ℕ → ℕ → Type 0
 Among [] x = ⊥
 Among (y ∷ ys) x = (y ≡ x) ⊎ Among ys x
 
--- the open loops, the innermost first: the place where it opened, and the turns left with the one
--- under way
+-- the open loops, the innermost first: the place of each `times`, and the turns left, with the
+-- current one
 abbrev pub Loops : Type 0
 Loops = List (ℕ × ℕ)
 
@@ -53,8 +53,8 @@ pub data Follows (c : Skeleton) : ℕ → Loops → ℕ → Loops → Type 0 whe
   leave : {pc : ℕ} (p : ℕ) {loops : Loops} → c.shape pc ≡ EndsTurn
       → Follows c pc ((p, 1) ∷ loops) (pc + 1) loops
 
--- a point of a control path: some path comes to this place with these loops open, counts so many
--- steps before it, and has these entries open at it
+-- a point of a control path: some path reaches this place with these open loops and these open
+-- entries, and counts this many steps before it
 pub data Comes (c : Skeleton) : ℕ → Loops → ℕ → List OpenEntry → Type 0 where
   start : Comes c 0 [] 0 []
   step : {pc : ℕ} {loops : Loops} {before : ℕ} {entries : List OpenEntry} {to : ℕ} {after : Loops}
@@ -72,7 +72,7 @@ PathCounts c m =
 abbrev pub IsGreatest : Skeleton → ℕ → Type 0
 IsGreatest c m = PathCounts c m × ((other : ℕ) → PathCounts c other → other ≤ m)
 
--- at some point of some control path so much stands, as this sum tells it
+-- at some point of some control path the sum of the open entries is m
 abbrev pub PointHolds : Skeleton → (List OpenEntry → ℕ) → ℕ → Type 0
 PointHolds c sum m =
     (pc : ℕ)

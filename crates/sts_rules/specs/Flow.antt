@@ -6,14 +6,14 @@ use Rattle.std.specs.Prelude.{◌≡◌, ◌≢◌, ℕ, ◌<◌, ◌⊎◌, Lis
 pub record Flow (S C : Type 0) : Type 0 where
   -- the following places with their states, or the cause that holds there
   pub edges : ℕ → S → Result (List (ℕ × S)) C
-  -- the place whose state has to be the same as the one here, at the end of a loop
+  -- at the end of a loop: the place where the state must be the same as here
   pub back : ℕ → S → Option ℕ
   pub entry : S
   -- the cause where no state arrives, and where two differ
   pub dead : C
   pub differ : C
 
--- the pair stands in the list
+-- the list has this pair
 abbrev pub Leads : {S : Type 0} → List (ℕ × S) → ℕ → S → Type 0
 Leads [] pc s = ⊥
 Leads (e ∷ es) pc s = ((e.0 ≡ pc) × (e.1 ≡ s)) ⊎ Leads es pc s
@@ -24,7 +24,7 @@ pub data Reaches {S C : Type 0} (f : Flow S C) : ℕ → S → Type 0 where
   then : (from : ℕ) (before : S) (out : List (ℕ × S)) {pc : ℕ} {s : S} → Reaches f from before
       → f.edges from before ≡ Ok out → Leads out pc s → Reaches f pc s
 
--- s is the one state that reaches the place
+-- s reaches the place, and no other state does
 abbrev pub IsAlone : {S C : Type 0} → Flow S C → ℕ → S → Type 0
 IsAlone {S} f pc s = Reaches f pc s × ((other : S) → Reaches f pc other → other ≡ s)
 

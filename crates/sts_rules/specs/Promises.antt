@@ -8,9 +8,9 @@ use Rattle.sts_rules.specs.Fits.{Fits}
 use Rattle.sts_rules.specs.Flow.{Reaches, Leads, TurnKeeps}
 use Rattle.sts_rules.specs.Refusal.{size}
 
--- a typestate s that is reached at pc: it stands at an instruction, no other one is reached there,
--- no cause holds, the open loops are those around the place, what follows is reached too, and a
--- loop's turn ends in the typestate in which it began
+-- The promise for a typestate s that is reached at pc. pc is the place of an instruction, and no
+-- other typestate is reached there. No cause holds. The open loops are those around the place. Each
+-- typestate that follows is reached too. A loop's turn ends in the typestate in which it began.
 pub record IsPromised (p : Program) (f pc : ℕ) (s : TypeState) : Type 0 where
   pub within : pc < size p f
   pub alone : (other : TypeState) → Reaches (typing p f) pc other → other ≡ s

@@ -31,17 +31,18 @@ pub record IsSound (p : Program) (f : ℕ) : Type 0 where
 -- the least place of the function that has a cause, and the least cause there
 pub data IsUnsound (p : Program) (f : ℕ) : ℕ → Cause → Type 0 where
   ill_typed : {pc : ℕ} {c : Cause} → IsTypeRefusal p f pc c → IsUnsound p f pc c
-  -- a cause from V17 to V20, behind its last instruction
+  -- a cause from V17 to V20, at the place after its last instruction
   too_much : (earlier : List Budgets) {c : Cause} → IsWellTyped p f → length earlier ≡ f
       → AreBudgets p earlier → IsLeastExcess earlier (routine p f).code c
       → IsUnsound p f (size p f) c
 
--- of all places, function by function, the least with a cause, and the least cause there
+-- a program's refusal: the first function with a cause, its least place with a cause, and the least
+-- cause there
 abbrev pub IsRefusal : Program → ℕ → ℕ → Cause → Type 0
 IsRefusal p f pc c =
     (f < length p.routines) × IsUnsound p f pc c × ((earlier : ℕ) → earlier < f → IsSound p earlier)
 
--- there is no such place
+-- no place of the program has a cause
 pub record IsAccepted (p : Program) : Type 0 where
   pub sound : (f : ℕ) → f < length p.routines → IsSound p f
 

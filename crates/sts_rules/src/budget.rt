@@ -1,7 +1,7 @@
 //! What a function can cost at most.
 
-/// The budgets of a function: the steps of a path through it, and the most tasks, scopes and
-/// bindings that stand at a point of one, each with those of its subtasks.
+/// The budgets of a function: the most steps of a path through it, and the most tasks, scopes and
+/// bindings that count at one point of a path. Each includes those of its subtasks.
 #[derive(Clone, Copy, Debug, PartialEq, Eq)]
 pub struct Budgets {
     pub steps: u32,

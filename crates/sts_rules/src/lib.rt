@@ -1,4 +1,4 @@
-//! What the verifier knows and tells (its records), and its definitions (in specs/).
+//! The records of what the verifier knows and reports, and its definitions (in specs/).
 #![tactic(auto)]
 
 mod budget;

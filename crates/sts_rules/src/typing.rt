@@ -56,7 +56,7 @@ impl Default for TypedEntry {
     }
 }
 
-/// An open loop: where its `times` stands, and how many entries the structure list had there.
+/// An open loop: the place of its `times`, and the length that the structure list had there.
 #[derive(Clone, Copy, Debug, PartialEq, Eq, Default)]
 pub struct TypedLoop {
     pub at: u32,

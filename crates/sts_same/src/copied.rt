@@ -1,4 +1,4 @@
-//! Copies, which may want memory.
+//! Copies. A copy fails if memory runs out.
 
 ghost use Rattle.std.specs.Prelude.{◌≡◌, IfOk};
 

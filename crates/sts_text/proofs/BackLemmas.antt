@@ -1,4 +1,4 @@
--- What a number is spelled as is read back.
+-- The spelling of a number is read back as the number.
 use Rattle.std.proofs.Common.{◌≡◌, ℕ, suc, ◌<◌, ◌≤◌, ◌^◌, Bool, true, false, cond, List, [], ◌∷◌}
 use Rattle.std.proofs.Common.{get_or, drop, arith, refl, ◌∙◌, ap}
 use Rattle.std.specs.Prelude.{Option, Some, None, nat_lt, nat_le, ◌==◌, ◌&&◌, pos, negsuc, neg_ℤ}

@@ -30,7 +30,7 @@ unfit_at : (b : Bool) (n : ℕ) → nat_lt n (2 ^ 64) ≡ b → 2 ^ 64 ≤ n →
 unfit_at true n e h = absurd (grind (arith, nat_tests))
 unfit_at false n e h = refl
 
--- what one more digit makes is the value of the digits so far
+-- one more digit gives the value of one digit more of the word
 pub more_digits : (word : List ℕ) (i value next : ℕ) → value ≡ digits_value 10 (take i word) → i < length word → if_fits (value * 10 + digit_value (get_or word i 0)) ≡ Some next → (next ≡ digits_value 10 (take (i + 1) word)) × (next < 2 ^ 64)
 more_digits word i value next so_far small e =
     let n : ℕ = value * 10 + digit_value (get_or word i 0) in

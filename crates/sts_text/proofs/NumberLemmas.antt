@@ -93,7 +93,6 @@ decimal_read n h =
     let small : nat_le n (2 ^ 32 - 1) ≡ true = grind (arith, nat_tests) in
     rw (no_zero_before n h, decimal_is_digits n (omega arith), digits_value-decimal own n (omega arith), small) refl
 
--- what is read as `numeral` says is a number exactly where the word is the number's decimal
--- spelling
+-- `numeral` reads a number if and only if the word is the number's decimal spelling
 pub numeral_spelled : (word : List ℕ) (read : Option ℕ) → read ≡ numeral word → (n : ℕ) → (read ≡ Some n) ↔ ((n < 2 ^ 32) × (word ≡ decimal n))
 numeral_spelled word read e n = rw e (spells word n, λ (h : (n < 2 ^ 32) × (word ≡ decimal n)). rw h.1 (decimal_read n h.0))

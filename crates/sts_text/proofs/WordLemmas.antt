@@ -94,8 +94,8 @@ words_none (x ∷ xs) h = absurd (omega arith)
 
 pub ruleset words_first = (word_first, word_later, after_shorter, words_none)
 
--- at the first element that passes, the parts are what stands before it and the parts of what
--- stands behind it
+-- at the first element that passes, the parts are the elements before it, and the parts of those
+-- after it
 pub cut_some : (p : ℕ → Bool) (xs : List ℕ) (i : ℕ) → position p xs ≡ Some i → slice_split p xs ≡ take i xs ∷ slice_split p (take (length xs - (i + 1)) (drop (i + 1) xs))
 cut_some p xs i e =
     let h = position_some p xs i e in

@@ -16,11 +16,11 @@ digits_up_to most word =
     if is_digits word && nat_le (digits_value 10 word) most then Some (digits_value 10 word)
     else None
 
--- does a 0 stand before another byte?
+-- does the word begin with a 0 and go on?
 abbrev pub has_leading_zero : List ℕ → Bool
 has_leading_zero word = nat_lt 1 (length word) && (slice_index word 0 == 48)
 
--- the number below 2^32 whose one spelling the word is
+-- the number below 2^32 that the word spells without a leading zero
 abbrev pub numeral : List ℕ → Option ℕ
 numeral word = if has_leading_zero word then None else digits_up_to (2 ^ 32 - 1) word
 

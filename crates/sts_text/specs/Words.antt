@@ -12,11 +12,12 @@ is_space b = b == 32
 abbrev pub is_blank : ℕ → Bool
 is_blank b = b == 32 || (b == 9 || b == 13)
 
--- what stands between newlines; the last is what stands behind the last newline
+-- the parts of a text between newlines; the last part comes after the last newline
 abbrev pub lines : List ℕ → List (List ℕ)
 lines text = slice_split is_newline text
 
--- what stands between spaces, each of which separates: two spaces have an empty field between them
+-- the parts of a line between spaces; each space separates, so two spaces have an empty field
+-- between them
 abbrev pub fields : List ℕ → List (List ℕ)
 fields line = slice_split is_space line
 
@@ -24,6 +25,6 @@ fields line = slice_split is_space line
 abbrev pub is_filled : List ℕ → Bool
 is_filled bytes = not (length bytes == 0)
 
--- what stands between blanks, where it has a byte
+-- the parts of a line between blanks that have a byte
 abbrev pub words : List ℕ → List (List ℕ)
 words line = filter is_filled (slice_split is_blank line)

@@ -54,7 +54,8 @@ pub fn cut_at_space(line: &[u8]) -> Option<(&[u8], &[u8])>
     }
 }
 
-/// What stands before and after the first blank, or all and nothing where there is none.
+/// The parts before and after the first blank, or the whole line and an empty part if it has no
+/// blank.
 #[tactic(auto, using(crate::proofs::WordLemmas::positions))]
 fn cut_at_blank(line: &[u8]) -> (&[u8], &[u8])
     ensures front { result.0.now ≡ before_first is_blank line.now }

@@ -96,7 +96,7 @@ fn read_numeral(word: &[u8]) -> Option<u32>
     digits(word)
 }
 
-/// The number whose one spelling the word is: digits without a leading zero.
+/// The number that the word spells: digits without a leading zero, up to 4294967295.
 #[tactic(auto, using(crate::proofs::NumberLemmas::numeral_spelled))]
 pub fn numeral(word: &[u8]) -> Option<u32>
     ensures number { result ≡ numeral word.now }

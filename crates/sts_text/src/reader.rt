@@ -22,7 +22,7 @@ impl<'a> Model for Words<'a> {
 }
 
 impl<'a> Words<'a> {
-    /// The words of the line, none of them read.
+    /// The words of the line. No word is read yet.
     pub fn new(line: &'a [u8]) -> Words<'a>
         ensures { result ≡ words line.now }
     {

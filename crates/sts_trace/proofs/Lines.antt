@@ -20,7 +20,7 @@ unfolding lines_read
 read_more said at line [] h = absurd (let empty : [] ≡ h.first ∷ h.others = h.is in cc)
 read_more said at line (p ∷ ps) h = refl
 
--- the first line, and then the text behind it
+-- the first line, and then the text after it
 pub cut : {A : Type 0} (said : ℕ → List ℕ → Result A TraceError) (at : ℕ) (text line after : List ℕ) → lines text ≡ line ∷ lines after → lines_read said at (lines text) ≡ (said at line >>= λ x. lines_read said (at + 1) (lines after) >>= λ xs. Ok (x ∷ xs))
 cut said at text line after e = rw e (read_more said at line (lines after) (has_part is_newline after))
 

@@ -19,7 +19,7 @@ abbrev pub ◌>>=◌ : {A B : Type 0} → Result A TraceError → (A → Result 
 (Ok x) >>= f = f x
 (Err e) >>= f = Err e
 
--- an error is the one that reading meets, but want of memory may come in place of any answer
+-- an error is the one that reading meets; but any answer may be that memory ran out
 abbrev pub Fails : {Y : Type 0} → TraceError → Result Y TraceError → Type 0
 Fails Memory read = ⊤
 Fails e read = read ≡ Err e
@@ -68,12 +68,11 @@ due_said at (first ∷ time ∷ word ∷ number ∷ []) =
     else Err (BadLine at)
 due_said at _ = Err (BadLine at)
 
--- what line `at` of an outside text says; there are no more than a run takes events from outside
+-- reads line `at` of an outside text, which is within the limit of outside events for a run
 abbrev pub due_line : ℕ → List ℕ → Result Due TraceError
 due_line at line = if nat_lt MAX_OUTSIDE at then Err (BadLine at) else due_said at (fields line)
 
--- what the lines from line `at` on say, one after the other; the last is what stands behind the
--- last newline
+-- reads the lines from line `at` on; the last one comes after the last newline
 unfoldable pub lines_read : {A : Type 0} → (ℕ → List ℕ → Result A TraceError) → ℕ → List (List ℕ)
     → Result (List A) TraceError
 lines_read said at [] = Ok []

@@ -9,11 +9,10 @@ use thiserror::Error;
 /// The first fault of a trace text or an outside text. Lines count from 1.
 #[derive(Clone, Copy, Debug, PartialEq, Eq, Error)]
 pub enum TraceError {
-    /// T1: this line is not of the wanted form.
+    /// T1: this line doesn't have the expected form.
     #[error("line {0} is not of the wanted form")]
     BadLine(u64),
-    /// T2: this line is, but a number of it isn't `0` or digits without a leading zero, up to
-    /// 4294967295.
+    /// T2: a number of this line isn't `0` or digits without a leading zero, up to 4294967295.
     #[error("line {0} has a bad number")]
     BadNumber(u64),
     /// T3: bytes are left after the last newline.

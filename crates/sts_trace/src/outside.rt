@@ -90,14 +90,17 @@ fn read_dues(alloc: Global, text: &[u8]) -> Result<Vec<Due>, TraceError>
     }
 }
 
-/// The outside events whose text the bytes are, at most 4,096, or the first fault of them.
+/// Reads the outside events that the bytes spell, at most 4,096, or reports the first fault.
 ///
 /// # Errors
 ///
-/// Lines are judged in order. `BadLine`: a line that isn't `at`, a word, `interrupt` or `expire`,
-/// and a word, with one space between them, or that is line 4,097. `BadNumber`: one where one of
-/// those two words isn't `0` or digits without a leading zero, at most 4294967295. `NoNewline`:
-/// bytes after the last newline. `Memory` may come in place of any answer.
+/// Lines are judged in order.
+/// - `BadLine`: the line isn't `at`, a word, `interrupt` or `expire`, and a word, with one space
+///   between them; or it is line 4,097.
+/// - `BadNumber`: one of those two words isn't `0` or digits without a leading zero, or is over
+///   4294967295.
+/// - `NoNewline`: bytes follow the last newline.
+/// - `Memory`: memory ran out. This may be the answer for any text.
 #[tactic(auto, using(crate::proofs::Found::dues_found, crate::proofs::Only::outside_only))]
 pub fn read_outside(alloc: Global, text: &[u8]) -> Result<Vec<Due>, TraceError>
     // What is read is what the text spells.

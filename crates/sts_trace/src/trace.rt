@@ -57,14 +57,16 @@ fn read_events(alloc: Global, text: &[u8]) -> Result<Vec<Event>, TraceError>
     }
 }
 
-/// The events whose trace text the bytes are, or the first fault of them.
+/// Reads the events that the bytes spell, or reports the first fault.
 ///
 /// # Errors
 ///
-/// Lines are judged in order. `BadLine`: a line that isn't `step`, `interrupt` or `expire`, one
-/// space, and one or more bytes without a space. `BadNumber`: one whose last word isn't `0` or
-/// digits without a leading zero, at most
-/// 4294967295. `NoNewline`: bytes after the last newline. `Memory` may come in place of any answer.
+/// Lines are judged in order.
+/// - `BadLine`: the line isn't `step`, `interrupt` or `expire`, one space, and one or more bytes
+///   without a space.
+/// - `BadNumber`: the last word isn't `0` or digits without a leading zero, or is over 4294967295.
+/// - `NoNewline`: bytes follow the last newline.
+/// - `Memory`: memory ran out. This may be the answer for any text.
 #[tactic(auto, using(crate::proofs::Found::events_found, crate::proofs::Only::trace_only))]
 pub fn read_trace(alloc: Global, text: &[u8]) -> Result<Vec<Event>, TraceError>
     // What is read is what the text spells.

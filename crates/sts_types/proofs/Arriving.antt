@@ -1,4 +1,4 @@
--- Typestates arrive one after the other.
+-- Typestates arrive in order.
 use Rattle.std.proofs.Common.{◌≡◌, ℕ, zero, suc, ◌+◌, ◌<◌, List, [], ◌∷◌, ◌++◌, length, take}
 use Rattle.std.proofs.Common.{get_or, set, Option, Some, None, slice_get, inl, inr, refl, sym, ap}
 use Rattle.std.proofs.Common.{◌∙◌, subst, arith, length-set}
@@ -20,7 +20,7 @@ module _ {S : Type 0} where
   arrive_next out table now after k to s b h there m is =
       subst (λ t. Arrive table (take (k + 1) out) t) (sym is) (subst (λ es. Arrive table es (set now to b)) (sym (take_there out k (to, s) there)) (arrive_push (take k out) table now (to, s) b h m))
 
-  -- the one of this number has arrived, if there is one
+  -- the typestate of edge k has arrived, if there is such an edge
   pub arrive_numbered : (out : List (ℕ × S)) (table now after : List (Arrival S)) (k : ℕ) → Arrive table (take k out) now → ArriveAt now (slice_get out k) after → Arrive table (take (k + 1) out) after × (length after ≡ length now)
   arrive_numbered out table now after k h at = by (slice_get out k) refl at
     where

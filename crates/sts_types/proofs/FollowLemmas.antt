@@ -1,4 +1,4 @@
--- The edges of an instruction, one after the other.
+-- The edges of an instruction, in order.
 use Rattle.std.proofs.Common.{◌≡◌, ℕ, suc, ◌+◌, ◌<◌, ◌≤◌, List, [], ◌∷◌, ◌++◌, length, take, map}
 use Rattle.std.proofs.Common.{Option, Some, None, option_map, option_to_list, get_or, ◌⊎◌, inl, inr}
 use Rattle.std.proofs.Common.{slice_get, sym, ap, ◌∙◌, arith}

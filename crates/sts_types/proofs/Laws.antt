@@ -24,7 +24,7 @@ use Rattle.sts_types.proofs.FollowLemmas.{at_place}
 use Rattle.sts_types.proofs.MatchingLemmas.{ends}
 use Rattle.sts_types.proofs.Passing.{IsForward}
 
--- the place stands in the list
+-- the list has the place
 abbrev pub Among : List ℕ → ℕ → Type 0
 Among [] to = ⊥
 Among (x ∷ xs) to = (x ≡ to) ⊎ Among xs to
@@ -61,7 +61,7 @@ leads_among [] s to x m = elim m [ ]
 leads_among (y ∷ ys) s to x (inl l) = inl l.0
 leads_among (y ∷ ys) s to x (inr m) = inr (leads_among ys s to x m)
 
--- the one edge to the next place
+-- the only edge, to the next place
 next_leads : (code : List Instr) (pc : ℕ) (i : Instr) (y : TypeState) (to : ℕ) (x : TypeState) → falls_through i ≡ true → Leads ((pc + 1, y) ∷ []) to x → LeadsTo code pc i to
 next_leads code pc i y to x f (inl l) = inr (inl (l.0, f))
 next_leads code pc i y to x f (inr m) = elim m [ ]

@@ -68,7 +68,7 @@ count_from f code p (suc k) h =
 
 -- ---- the match
 
--- as many `next` as `times` from p up to k
+-- from p up to k there are the same numbers of `next` and of `times`
 abbrev pub IsEven : List Instr → ℕ → ℕ → Type 0
 IsEven code p k = nexts_before code (k + 1) + times_before code p ≡ times_before code (k + 1) + nexts_before code p
 

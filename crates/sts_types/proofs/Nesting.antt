@@ -63,7 +63,7 @@ below_head code pc (suc k) p e =
     let h = head_more code pc k p (is_inside code pc k) refl (ap (λ xs. slice_get xs 0) (sym (below_more code pc k)) ∙ e) (λ r. below_head code pc k p r) in
     (h.0, h.1, below_more code pc k ∙ h.2)
 
--- what lies before the innermost loop is around a place just where it is around that loop
+-- a place before the innermost loop is around a place if and only if it is around that loop
 inside_same : (code : List Instr) (q p r : ℕ) → p < q → IsWithin code q p → r < p → is_inside code q r ≡ is_inside code p r
 inside_same code q p r lt w less = by (is_times (instr_at code r)) refl (match_of code r) refl
   where

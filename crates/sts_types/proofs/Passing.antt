@@ -97,7 +97,7 @@ module _ {S C : Type 0} (f : Flow S C) (n : ℕ) (laws : IsForward f n) where
   more k pc s at_entry = at_entry
   more k pc s (out_of from before out lt r e l) = let lt' : from < k + 1 = omega arith in out_of from before out lt' r e l
 
-  -- the places below k + 1 add the edges of the one state at k
+  -- the places below k + 1 add the edges of the only state at k
   split : (k : ℕ) (now : S) (next : List (ℕ × S)) → IsAlone f k now → f.edges k now ≡ Ok next → (pc : ℕ) (s : S) → Below f (k + 1) pc s → Below f k pc s ⊎ Leads next pc s
   split k now next alone fine pc s at_entry = inl at_entry
   split k now next alone fine pc s (out_of from before out lt r e l) = by (cases_lt from k)
@@ -116,7 +116,7 @@ module _ {S C : Type 0} (f : Flow S C) (n : ℕ) (laws : IsForward f n) where
   join k now next alone fine pc s (inl b) = more k pc s b
   join k now next alone fine pc s (inr l) = let lt : k < k + 1 = omega arith in out_of k now next lt alone.0 fine l
 
-  -- what the table says of a place up to k is said of all that reaches it
+  -- the table is right about the places up to k, so it is right about all states that reach them
   pub known : (table : List (Arrival S)) (k pc : ℕ) → pc ≤ k → Stands (Below f k pc) (get_or table pc Nothing) → Stands (Reaches f pc) (get_or table pc Nothing)
   known table k pc le h = to (get_or table pc Nothing) h
     where

@@ -29,7 +29,7 @@ use Rattle.sts_types.proofs.RoomLemmas.{has_room}
 pub within_code : (loops code : List Instr) (count pc : ℕ) → count ≡ length loops → loops ≡ code → pc < count → pc < length code
 within_code loops code count pc e same h = omega (arith, e, ap length same)
 
--- what stands in a table that is the same
+-- the state of a place in a table that didn't change
 pub loaded_is : {X : Type 0} (table new : List (Arrival TypeState)) (k : ℕ) (s : TypeState) (r a : Arrival X) → new ≡ table → get_or table k Nothing ≡ filled s r → r ≡ a → get_or new k Nothing ≡ filled s a
 loaded_is table new k s r a e l is = ap (λ t. get_or t k Nothing) e ∙ l ∙ ap (filled s) is
 

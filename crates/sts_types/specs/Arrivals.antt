@@ -28,7 +28,8 @@ ArriveAt {S} table (Some e) after =
     (b : Arrival S)
     × (Merged (slice_index_or table e.0 Nothing) e.1 b × (after ≡ slice_set table e.0 b))
 
--- what has arrived at each place, the typestate at hand, and that of the place that was loaded last
+-- the typestates that have arrived at each place, the current one, and that of the place that was
+-- loaded last
 pub record Arrived : Type 0 where
   pub table : List (Arrival TypeState)
   pub state : TypeState
@@ -51,12 +52,12 @@ arrival_of kept Nothing = Nothing
 arrival_of kept (One m) = One (state_of kept m)
 arrival_of kept Several = Several
 
--- a mark stands for one of so many, with no more than 32 operands
+-- a mark refers to one of n kept typestates, and has no more than 32 operands
 abbrev pub IsMarked : ℕ → Arrival Mark → Type 0
 IsMarked n (One m) = (m.like < n) × (m.height ≤ MAX_OPERANDS)
 IsMarked n _ = Unit {0}
 
--- the one that arrived is this
+-- replaces the typestate that arrived by this one
 abbrev pub filled : {S X : Type 0} → S → Arrival X → Arrival S
 filled s Nothing = Nothing
 filled s (One x) = One s
@@ -68,7 +69,7 @@ abbrev pub Goes : Option (ℕ × TypeState) → TypeState → Option ℕ → Typ
 Goes None before to after = (to ≡ None) × (after ≡ before)
 Goes (Some e) before to after = (to ≡ Some e.0) × (after ≡ e.1)
 
--- where one has arrived, it is at hand
+-- if one has arrived, it is the current one
 abbrev pub IsAtStart : {X : Type 0} → Arrival X → Arrived → Type 0
 IsAtStart (One x) a = a.start ≡ a.state
 IsAtStart _ a = Unit {0}

@@ -1,4 +1,4 @@
--- A place of a function that is being typed, and the edges behind the first (this project's own).
+-- A place of a function that is being typed, and its edges after the first (this project's own).
 use Rattle.std.specs.Prelude.{◌≡◌, ℕ, ◌<◌, List, [], ◌∷◌, ◌++◌, length, Option, option_to_list}
 use Rattle.sts_code.specs.Program.{routine}
 use Rattle.sts_rules.specs.declared.typing.Known.TheVariants as known
@@ -23,14 +23,14 @@ follows_at s state = follows s.program.now s.loops.now s.pc s.instr state
 abbrev pub HasRoomAt : Site → TypeState → Type 0
 HasRoomAt s state = HasRoom s.program.now s.instr state
 
--- the edges of `join` behind that of ok
+-- the edges of `join` after that of ok
 abbrev pub outcomes : ℕ → Option ℕ → Option ℕ → ℕ → TypeState → List (ℕ × TypeState)
 outcomes x failed timeout interrupted s =
     to_optional failed (raised 1 (with_phase x Joined s))
     ++ to_optional timeout (with_phase x Late s)
     ++ (interrupted, with_phase x Attempted s) ∷ []
 
--- the edges of `case` behind that of a subtask in neither state
+-- the edges of `case` after that of a subtask in neither state
 abbrev pub states : ℕ → ℕ → ℕ → TypeState → List (ℕ × TypeState)
 states h success failed s =
     (success, with_known h known.Success s) ∷ (failed, with_known h known.Failed s) ∷ []

@@ -18,15 +18,15 @@ use std::marker::Model;
 use sts_code::MAX_OPERANDS;
 use sts_rules::filled;
 
-/// A typestate that arrived: its number of operands, and which of those that are kept is like it
-/// but for that number.
+/// A typestate that arrived at a place: its number of operands, and the index of a kept typestate
+/// that differs from it only in that number.
 #[derive(Clone, Copy)]
 pub(crate) struct Mark {
     height: u8,
     like: usize,
 }
 
-/// What has arrived at each place, and the typestate at hand.
+/// The typestates that have arrived at each place, and the current typestate.
 ///
 /// Most instructions change no more than the number of operands: whole typestates are kept for the
 /// others alone.
@@ -35,7 +35,8 @@ pub(crate) struct Arrivals {
     marks: Vec<Arrival<Mark>>,
     kept: Vec<TypeState>,
     state: TypeState,
-    /// Which of those that are kept is like the one at hand.
+    /// The index of a kept typestate that differs from the current one only in its number of
+    /// operands.
     like: usize,
     /// The typestate of the place that was loaded last.
     start: Mark,
@@ -85,7 +86,8 @@ fn merged(kept: &[TypeState], before: Arrival<Mark>, mark: Mark) -> Arrival<Mark
     }
 }
 
-/// A typestate is kept, if the one that it may be like isn't: answers which is like it.
+/// Keeps a typestate, unless the kept one at `like` differs from it only in its number of operands.
+/// Answers the index of the kept one.
 fn keep(kept: &mut Vec<TypeState>, like: usize, state: &TypeState) -> Result<usize, AllocError>
     requires { like < length kept.old.items }
     ensures like { IfOk result (λ at. (at < length kept.new.items) ×
@@ -101,8 +103,8 @@ fn keep(kept: &mut Vec<TypeState>, like: usize, state: &TypeState) -> Result<usi
     Ok(count)
 }
 
-/// The typestate for which a mark stands comes to hand, where that at hand is like the one that is
-/// told.
+/// Makes the typestate of this mark the current one. The current one is like the kept typestate at
+/// `like`.
 fn come_to(state: &mut TypeState, like: &mut usize, kept: &[TypeState], mark: Mark)
     requires mark { IsMarked (length kept.now) (Arrival.One mark) }
     requires hand { state.old ≡ state_of kept.now
@@ -118,7 +120,7 @@ fn come_to(state: &mut TypeState, like: &mut usize, kept: &[TypeState], mark: Ma
 }
 
 impl Arrivals {
-    /// So many places, at the first of which this typestate has arrived, which is at hand.
+    /// A table of `count` places. This typestate has arrived at the first, and is the current one.
     pub(crate) fn new(
         alloc: Global,
         places: usize,
@@ -147,14 +149,14 @@ impl Arrivals {
         })
     }
 
-    /// The typestate at hand.
+    /// The current typestate.
     pub(crate) fn state(&self) -> &TypeState
         ensures { result.now ≡ self.now.state }
     {
         &self.state
     }
 
-    /// Has one typestate arrived at a place? It is at hand then.
+    /// Has one typestate arrived at a place? If so, it becomes the current one.
     pub(crate) fn load(&mut self, place: u32) -> Arrival<()>
         requires { place < length self.old.table }
         ensures table { self.new.table ≡ self.old.table }
@@ -173,7 +175,7 @@ impl Arrivals {
         }
     }
 
-    /// The typestate that was loaded last is at hand again.
+    /// Makes the typestate that was loaded last the current one again.
     pub(crate) fn go_back(&mut self)
         ensures { self.new ≡ record self.old { state = self.old.start } }
     {
@@ -185,7 +187,7 @@ impl Arrivals {
         );
     }
 
-    /// The typestate at hand arrives at a place, with another number of operands.
+    /// The current typestate arrives at a place, with another number of operands.
     pub(crate) fn arrive_moved(&mut self, place: u32, height: u8)
         requires place { place < length self.old.table }
         requires few { height ≤ MAX_OPERANDS }
@@ -205,8 +207,8 @@ impl Arrivals {
         );
     }
 
-    /// The typestate at hand goes along an edge of an instruction, by number from 0, and arrives
-    /// where that leads.
+    /// The current typestate goes along an edge of an instruction, by number from 0, and arrives at
+    /// the place where the edge ends.
     pub(crate) fn arrive_along(&mut self, site: &Site<'_>, number: usize) -> Result<(), AllocError>
         requires site { IsSite site.now }
         requires room { HasRoomAt site.now self.old.state }
@@ -236,7 +238,7 @@ impl Arrivals {
         Ok(())
     }
 
-    /// Is the typestate at hand the only one that arrived at a place?
+    /// Is the current typestate the only one that arrived at a place?
     pub(crate) fn is_one(&self, place: u32) -> bool
         requires { place < length self.now.table }
         ensures { IsTrue result ↔ (slice_index_or self.now.table place Arrival.Nothing

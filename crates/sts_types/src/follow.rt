@@ -57,7 +57,7 @@ fn first_edge(site: &Site<'_>, state: &mut TypeState) -> Option<u32>
     }
 }
 
-/// Along an edge of a `join` but for that of ok, by number from 0.
+/// Follows an edge of a `join`, by number from 0, without that of ok.
 fn join_edge(
     state: &mut TypeState,
     slot: u8,
@@ -93,7 +93,7 @@ fn join_edge(
     }
 }
 
-/// Along an edge of a `case` but for that of a subtask in neither state, by number from 0.
+/// Follows an edge of a `case`, by number from 0, without that of a subtask in neither state.
 fn case_edge(
     state: &mut TypeState,
     handle: u8,
@@ -117,7 +117,7 @@ fn case_edge(
     }
 }
 
-/// Along an edge of an instruction but for the first, by number from 0.
+/// Follows an edge of an instruction after its first, by number from 0.
 fn later_edge(site: &Site<'_>, state: &mut TypeState, number: usize) -> Option<u32>
     requires site { IsSite site.now }
     requires room { HasRoomAt site.now state.old }
@@ -152,8 +152,8 @@ fn later_edge(site: &Site<'_>, state: &mut TypeState, number: usize) -> Option<u
     }
 }
 
-/// Along an edge of an instruction, by number from 0: answers the place that it leads to, and the
-/// typestate becomes the one there; with no such edge nothing changes.
+/// Follows an edge of an instruction, by number from 0. Answers the place where it ends, and
+/// changes the typestate to the one there. If there is no such edge, nothing changes.
 pub(crate) fn edge(site: &Site<'_>, state: &mut TypeState, number: usize) -> Option<u32>
     requires site { IsSite site.now }
     requires room { HasRoomAt site.now state.old }

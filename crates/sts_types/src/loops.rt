@@ -89,7 +89,7 @@ impl<'c> CodeLoops<'c> {
         place + 1
     }
 
-    /// Does a `times` stand there?
+    /// Is the instruction at this place a `times`?
     fn has_times(&self, at: u32) -> bool
         ensures value { result ≡ matching.is_times (program.instr_at self.now at) }
     {
@@ -109,7 +109,7 @@ impl<'c> CodeLoops<'c> {
         }
     }
 
-    /// Does a `times` stand there whose match isn't before this place?
+    /// Is there a `times` whose match isn't before this place?
     fn is_inside(&self, place: u32, at: u32) -> bool
         ensures { result ≡ def.is_inside self.now place at }
     {
@@ -143,7 +143,7 @@ impl<'c> CodeLoops<'c> {
         }
     }
 
-    /// Are the loops around this place the open ones but for the innermost `closed`?
+    /// Are the loops around this place the open ones without the innermost `closed`?
     pub fn are_around(&self, place: u32, loops: &Stack<TypedLoop, 8>, closed: usize) -> bool
         ensures { result ≡ bytes_eq (def.around self.now place) (drop closed (heads loops.now)) }
     {

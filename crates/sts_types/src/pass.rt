@@ -40,7 +40,7 @@ impl From<AllocError> for TypeError {
     }
 }
 
-/// The place after the `times` whose turn a `next` ends.
+/// The place after the `times` of the loop whose turn a `next` ends.
 fn back_to(instr: Instr, state: &TypeState) -> Option<u32>
     requires { IfSome (def.back_of instr state.now) (λ q. q < 2 ^ 32) }
     ensures { result ≡ def.back_of instr state.now }
@@ -92,12 +92,12 @@ fn follow(site: &Site<'_>, arrivals: &mut Arrivals) -> Result<(), AllocError>
     }
 }
 
-/// Whether each place of one of the program's functions has one typestate and no cause from V1 to
-/// V16; else the least place that has a cause, with the least cause there.
+/// Checks that each place of the function has one typestate and no cause from V1 to V16. If not,
+/// reports the least place that has a cause, with the least cause there.
 ///
 /// # Errors
 ///
-/// The least place that has a cause and the least cause there; or want of memory.
+/// The least place that has a cause, with the least cause there; or memory ran out.
 pub fn type_function(alloc: Global, program: &Program, function: u32) -> Result<(), TypeError>
     requires { function < length program.now.routines }
     ensures { MatchResult result (λ _. IsWellTyped program.now function)

@@ -145,7 +145,7 @@ impl TypeState {
         binds_after(&self.entries, slot)
     }
 
-    /// Did the innermost entry stand at the `times` of an open loop?
+    /// Was the innermost entry in the list before an open loop began?
     pub fn is_held(&self) -> bool
         ensures { result ≡ def.is_held self.now }
     {

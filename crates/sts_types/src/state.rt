@@ -9,8 +9,9 @@ use sts_code::{MAX_OPERANDS, Program};
 use sts_model::Stack;
 use sts_rules::{SlotKind, TypedEntry, TypedLoop};
 
-/// What the verifier knows of a task at an instruction: contracts see the number of operands, the
-/// open loops and the structure list, the innermost first, and what each slot holds.
+/// The verifier's knowledge of a task at an instruction. Contracts see the number of operands, the
+/// open loops, the structure list and the content of each slot. Loops and entries have the
+/// innermost first.
 #[derive(Drop)]
 pub struct TypeState {
     pub(crate) height: u8,
@@ -96,7 +97,7 @@ impl TypeState {
         self.height == other.height && self.is_like(other)
     }
 
-    /// Are all parts of the two the same but for the number of operands?
+    /// Do the two differ at most in their number of operands?
     pub fn is_like(&self, other: &TypeState) -> bool
         ensures { IsTrue result ↔ (record self.now { height = 0 } ≡
             record other.now { height = 0 }) }
@@ -106,7 +107,7 @@ impl TypeState {
             && are_same_slots(&self.slots, &other.slots)
     }
 
-    /// So many operands are there from now on.
+    /// Sets the number of operands.
     pub fn set_height(&mut self, height: u8)
         requires { height ≤ MAX_OPERANDS }
         ensures { self.new ≡ record self.old { height = height } }

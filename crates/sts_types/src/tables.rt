@@ -55,7 +55,7 @@ impl Tables {
     ///
     /// # Errors
     ///
-    /// Want of memory.
+    /// Memory ran out.
     pub fn new(alloc: Global, code: &[Instr]) -> Result<Tables, AllocError>
         requires { length code.now ≤ MAX_INSTRUCTIONS }
         ensures { IfOk result (table.AreTablesOf code.now) }

@@ -1,5 +1,5 @@
--- Lemmas on the budgets of a program's functions: those of one function more, those of one
--- function, and that a function has only one.
+-- Lemmas on the budgets of a program's functions: one function more has its budgets, and a function
+-- has only one set of budgets.
 use Rattle.std.proofs.Common.{◌≡◌, ℕ, zero, suc, ◌+◌, ◌<◌, ◌≤◌, ◌⊎◌, inl, inr, List, [], ◌∷◌, ◌++◌}
 use Rattle.std.proofs.Common.{length, take, arith, subst, sym, ap, refl, ◌∙◌, length-append}
 use Rattle.std.proofs.Common.{length-take-le}

@@ -1,4 +1,4 @@
--- What the verifier tells (this project's own).
+-- The errors that the verifier reports (this project's own).
 use Rattle.std.specs.Prelude.{◌≡◌, ℕ}
 use Rattle.sts_code.specs.Program.{Program}
 use Rattle.sts_budget.specs.declared.budgets.BudgetError.{BudgetError}
@@ -15,18 +15,18 @@ abbrev pub Tells : Program → VerifyError → Type 0
 Tells given (Memory p) = p ≡ given
 Tells given (Refused p f pc cause) = (p ≡ given) × IsRefusal given f pc cause
 
--- the refusal of a function, told of the program
+-- the refusal of a function, as an error of the program
 abbrev pub told : Program → ℕ → TypeError → VerifyError
 told p f typing.Memory = Memory p
 told p f (typing.Refused pc cause) = Refused p f pc cause
 
--- want of memory says nothing; a refusal is the least place of the function with a cause, and the
--- least cause there
+-- a refusal names the least place of the function with a cause, and the least cause there; running
+-- out of memory promises nothing
 abbrev pub TellsOf : Program → ℕ → TypeError → Type 0
 TellsOf p f typing.Memory = Unit {0}
 TellsOf p f (typing.Refused pc cause) = IsUnsound p f pc cause
 
--- the causes of budgets are told behind the last of so many instructions
+-- a budget over its limit is reported at the place after the last of `count` instructions
 abbrev pub at_end : ℕ → BudgetError → TypeError
 at_end count budgets.Memory = typing.Memory
 at_end count (budgets.TooMuch cause) = typing.Refused count cause

@@ -1,13 +1,13 @@
-//! Laws of the verifier: each stands on a function that does nothing.
+//! Laws of the verifier. Each is the contract of a function that does nothing.
 
 ghost use Rattle.sts_rules.specs.Promises.{TypingPromises};
 ghost use Rattle.sts_rules.specs.Refusal.{IsAccepted, IsOneVerdict};
 
 use sts_code::Program;
 
-/// Each typestate that is reached in an accepted program is the only one at its place, fits the
-/// instruction there by every cause, has just the loops open that are around the place, and is
-/// followed by typestates that are reached too.
+/// A law about each typestate that is reached in an accepted program. It is the only one at its
+/// place, and no cause holds for it there. Its open loops are those around the place. Each
+/// typestate that follows it is reached too.
 pub fn typing_promises(program: &Program)
     requires { IsAccepted program.now }
     ensures { TypingPromises program.now }

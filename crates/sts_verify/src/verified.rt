@@ -61,7 +61,7 @@ impl Verified {
     }
 }
 
-/// The refusal of a function, told of the program.
+/// The refusal of a function, as an error of the program.
 fn told(program: Program, function: u32, error: TypeError) -> VerifyError
     ensures { result ≡ def.told program function error }
 {
@@ -76,7 +76,8 @@ fn told(program: Program, function: u32, error: TypeError) -> VerifyError
     }
 }
 
-/// A cause of budgets is told behind the last of so many instructions.
+/// Reports a budget over its limit (V17 to V20) at the place after the last of `count`
+/// instructions.
 fn at_end(count: usize, error: BudgetError) -> TypeError
     requires { count ≤ MAX_INSTRUCTIONS }
     ensures { result ≡ def.at_end count error }
@@ -122,7 +123,7 @@ fn verify_function(
 ///
 /// # Errors
 ///
-/// The refusal, or want of memory; both give the program back.
+/// The refusal, or memory ran out; both give the program back.
 pub fn verify(alloc: Global, program: Program) -> Result<Verified, VerifyError>
     ensures { MatchResult result (λ verified. (verified ≡ program) ×
         IsAccepted program) (def.Tells program) }

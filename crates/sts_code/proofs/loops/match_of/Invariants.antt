@@ -3,7 +3,7 @@ use Rattle.std.specs.List.{range_with_len}
 use Rattle.sts_code.specs.Loops as def
 use Rattle.sts_code.proofs.loops.match_of.Given as goal
 
--- the match is the first among the rest, and so many `times` and `next` were passed
+-- the match is the first among the rest, and `times` and `next` count the instructions passed
 abbrev pub invariant-loop-q : goal.invariant-loop-q
 invariant-loop-q l = record {
   rest : find (λ q. def.is_balanced (slice_range l.code l.at (q + 1))) (range_with_len l.q (length l.code - l.q)) ≡ def.match_of l.code l.at;

@@ -4,7 +4,8 @@ use Rattle.sts_trace.specs.Reading.{lines_read, due_line, outside_read}
 use Rattle.sts_trace.proofs.Lines.{with_front}
 use Rattle.sts_trace.proofs.outside.read_dues.Given as goal
 
--- the outside events so far and those of the rest are those of the text; each line has taken a byte
+-- the outside events so far, with the events of the rest, are the text's; each line has taken a
+-- byte
 abbrev pub invariant-loop-line : goal.invariant-loop-line
 invariant-loop-line l = record {
   read : with_front l.dues.items (lines_read due_line l.at (lines l.rest)) ≡ outside_read l.text;

@@ -4,7 +4,7 @@ use Rattle.sts_trace.specs.Reading.{lines_read, event_line, trace_read}
 use Rattle.sts_trace.proofs.Lines.{with_front}
 use Rattle.sts_trace.proofs.trace.read_events.Given as goal
 
--- the events so far and those of the rest are those of the text; each line has taken a byte
+-- the events so far, with the events of the rest, are the text's; each line has taken a byte
 abbrev pub invariant-loop-line : goal.invariant-loop-line
 invariant-loop-line l = record {
   read : with_front l.events.items (lines_read event_line l.at (lines l.rest)) ≡ trace_read l.text;
