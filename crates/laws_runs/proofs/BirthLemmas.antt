@@ -68,7 +68,7 @@ later-more_tasks w x is_fresh =
           (none_fresh w w (omega arith) u s late cancelled);
     }
 
--- a subtask of a scope that isn't closed and whose owner was born
+-- a subtask of a scope that isn't closed and has a born owner
 pub record IsChild (w : World) (x : Task) (s : ℕ) : Type 0 where
   pub scope : x.scope ≡ Some s
   pub born : s < length w.scopes
@@ -173,7 +173,7 @@ owner-new xs x =
     let n = length-append xs (x ∷ []) in
     record { born = omega (arith, n); owner = ap (λ (scope : Scope). scope.owner) (get_or-append_seam xs x [] no_scope) }
 
--- a task but for its frame, which has all entries and more
+-- a task with another frame, which has all its entries and perhaps more
 pub holds-more : (task : Task) (f : Frame) (s : ℕ) → (list_any (is_entry_of s) task.frame.entries ≡ true → list_any (is_entry_of s) f.entries ≡ true) → Holds task s → Holds (record task { frame = f }) s
 holds-more task f s more h = record { alive = h.alive; entry = more h.entry }
 

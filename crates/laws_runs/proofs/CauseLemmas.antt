@@ -103,11 +103,11 @@ staying_at_join Joined e = refl
 staying_at_join Closing e = cc
 staying_at_join Closed e = cc
 
--- a scope whose close hasn't begun was born
+-- if the close of a scope hasn't begun, the scope was born
 born_staying : (w : World) (s : ℕ) → is_leaving (scope_at w s).phase ≡ false → s < length w.scopes
 born_staying w s e = within (λ (scope : Scope). not (is_leaving scope.phase)) w.scopes s no_scope refl (rw e refl)
 
--- another phase of a scope whose close hasn't begun
+-- another phase of a scope before its close begins
 follow-phase : (w : World) (s : ℕ) (phase : Phase) → AllCaused w → is_leaving (scope_at w s).phase ≡ false → is_leaving phase ≡ false → (is_joined phase ≡ true → (scope_at w s).cancelled ≡ false → any_lives w s ≡ false) → AllFollow w (with_phase w s phase).scopes
 follow-phase w s phase h before after settled =
     let c = h s (born_staying w s before) in
@@ -176,7 +176,7 @@ follow-close w t f s h born =
 
 -- ---- the end of a task
 
--- the scope was told, and its joiner asks for a cancel
+-- the joiner of the scope is told, and asks for a cancel
 follow-asked : (w v : World) (s : ℕ) (y : Scope) → AllCaused w → v.scopes ≡ set w.scopes s y → s < length w.scopes → is_asked (scope_at v s) ≡ true → AllFollow w (marked v s).scopes
 follow-asked w v s y h is born asked r less =
     let z : Scope = record (scope_at v s) { cancelled = true } in
@@ -186,7 +186,7 @@ follow-asked w v s y h is born asked r less =
     (λ e. caused w r z refl (λ timely staying. asked))
     (λ other. rw (is, get_or-set_other w.scopes s r y no_scope other) (follow-refl w h r (omega (arith, count, marks, less))))
 
--- the scope was told, and its joiner does not ask
+-- the joiner of the scope is told, and doesn't ask for a cancel
 follow-quiet : (w : World) (s : ℕ) (x y : Scope) → AllCaused w → s < length w.scopes → scope_at w s ≡ x → x.cancelled ≡ false → y.cancelled ≡ x.cancelled → y.expired ≡ x.expired → y.phase ≡ x.phase → is_asked y ≡ false → AllFollow w (set w.scopes s y)
 follow-quiet w s x y h born at still cancelled expired phase quiet =
     let c : HasCause x = rw (← at) (h s born) in

@@ -94,7 +94,7 @@ pub record ToldIn (tasks : List Task) (s : ℕ) (scope : Scope) : Type 0 where
 abbrev pub AllTold : World → Type 0
 AllTold w = (s : ℕ) → ToldIn w.tasks s (scope_at w s)
 
--- a scope that was told of nothing
+-- the joiner of a new scope was told of no end
 pub told-new : (tasks : List Task) (s : ℕ) (scope : Scope) → scope.completions ≡ [] → ((u : ℕ) (end : End) → (get_or tasks u no_task).scope ≡ Some s → (get_or tasks u no_task).outcome ≡ Some end → ⊥) → ToldIn tasks s scope
 told-new tasks s scope none never =
     record {
@@ -140,7 +140,7 @@ told-more_tasks tasks x s scope none h =
 
 -- ---- an end
 
--- of a scope that isn't to be told: the task isn't in it, or it is cancelled
+-- a scope without a new completion: the ended task isn't in it, or the scope is cancelled
 told-ended : (w : World) (t s : ℕ) (f : Frame) (end : End) (scope : Scope) → lives (task_at w t) ≡ true → (scope.cancelled ≡ false → (task_at w t).scope ≡ Some s → ⊥) → ToldIn w.tasks s scope → ToldIn (ended w t f end).tasks s scope
 told-ended w t s f end scope alive never h =
     record {
@@ -156,7 +156,7 @@ told-ended w t s f end scope alive never h =
     x : Task
     x = record (task_at w t) { frame = steps f 1 []; outcome = Some end }
 
--- of the task's own scope, which isn't cancelled
+-- the scope of the ended task, if it isn't cancelled
 told-told : (w : World) (t s : ℕ) (f : Frame) (end : End) (scope : Scope) → lives (task_at w t) ≡ true → scope.cancelled ≡ false → (task_at w t).scope ≡ Some s → ToldIn w.tasks s scope → ToldIn (ended w t f end).tasks s (told scope t end)
 told-told w t s f end scope alive still mine h =
     record {
@@ -228,7 +228,7 @@ told-fork p w t s g h alive o =
 told-untold : (w : World) (t : ℕ) (f : Frame) (end : End) → lives (task_at w t) ≡ true → ((s : ℕ) → (scope_at w s).cancelled ≡ false → (task_at w t).scope ≡ Some s → ⊥) → AllTold w → AllTold (ended w t f end)
 told-untold w t f end alive never h s = told-ended w t s f end (scope_at w s) alive (never s) (h s)
 
--- the task has ended, and its scope was told
+-- the task has ended, and the joiner of its scope was told
 told-scope : (w : World) (t s : ℕ) (f : Frame) (end : End) → lives (task_at w t) ≡ true → s < length w.scopes → (task_at w t).scope ≡ Some s → (scope_at w s).cancelled ≡ false → AllTold w → AllTold (with_scope (ended w t f end) s (told (scope_at w s) t end))
 told-scope w t s f end alive born mine still h r =
     at_put (λ (scope : Scope). ToldIn (ended w t f end).tasks r scope) w.scopes s r (told (scope_at w s) t end) no_scope born

@@ -124,7 +124,7 @@ pub some-is_in : (s : ℕ) (o : Option ℕ) → is_in s o ≡ true → o ≡ Som
 some-is_in s None e = cc
 some-is_in s (Some r) e = let q : r ≡ s = grind (arith, nat_tests) in ap Some q
 
--- where no subtask lives, none of them does
+-- if no subtask lives, this one doesn't
 pub dead_in : (w : World) (s u : ℕ) → any_lives w s ≡ false → (task_at w u).scope ≡ Some s → lives (task_at w u) ≡ false
 dead_in w s u none inside = by (lives (task_at w u)) refl
   where

@@ -82,7 +82,7 @@ times_none (x ∷ es) s e = by (is_entry_of s x) refl e (times-cons x es s) (tim
     by true h e k next = cc
     by false h e k next = let c = none_if (is_entry_of s x) h in let n = next e in omega (arith, k, c, n)
 
--- a scope that stands once in a list with it first isn't in the rest
+-- a scope that occurs once in a list, at its front, isn't in the rest
 not_again : (es : List Entry) (s : ℕ) → times_in s es ≤ 1 → not (innermost (is_entry_of s) es) ≡ false → Has s (drop 1 es) → ⊥
 not_again [] s once first has = cc
 not_again (entry.Binding k x ∷ es) s once first has = cc
@@ -171,7 +171,7 @@ entered_or w x s t es true e owner still old has =
     rw (← same) (record { owner = record { born = new.born; owner = new.owner ∙ owner }; still = rw (get_or-append_seam w.scopes x [] no_scope) still })
 entered_or w x s t es false e owner still old has = grown w x s t (old has)
 
--- the new scope stands nowhere else
+-- the new scope occurs nowhere else
 once_more : (w : World) (t s : ℕ) (es : List Entry) → (Has s es → IsOpen w.scopes s t) → times_in s es ≤ 1 → (b : Bool) → (length w.scopes == s) ≡ b → times_in s (entry.Scope (length w.scopes) ∷ es) ≡ cond (length w.scopes == s) 1 0 + times_in s es → times_in s (entry.Scope (length w.scopes) ∷ es) ≤ 1
 once_more w t s es old once false e k = let c = none_if (length w.scopes == s) e in omega (arith, k, c, once)
 once_more w t s es old once true e k =

@@ -224,13 +224,13 @@ right_fold p (e ∷ es) (Faulted kind t f pc) h = right_fold p es (Faulted kind 
 pub right-after : (p : Program) (events : List Event) → In Right (after p events)
 right-after p events = right_fold p events (opening p) (right-opening p)
 
--- a further fact beside them
+-- the state is right, and a further fact holds
 pub record Also (E : World → Type 0) (w : World) : Type 0 where
   pub right : Right w
   pub also : E w
 
--- a fact that holds at the beginning and that each effect keeps, of which it is known that it leads
--- to what is right and later, holds in every state of every run
+-- A fact holds in every state of every run if it holds at the beginning and each effect keeps it.
+-- Each effect may take for granted that it leads to a state that is right and later.
 pub also-after : (p : Program) (E : World → Type 0) → In E (opening p) → Leads p (Also E) (λ w v. Next w v → E v) → (events : List Event) → In (Also E) (after p events)
 also-after p E start l events = fold_also events (opening p) (record { right = right-opening p; also = start })
   where

@@ -130,7 +130,7 @@ raises-calm w v k =
       kept = λ u on. k.flag u ∙ on;
     }
 
--- a calm change before, by which no task moves
+-- first a calm change that moves no task
 raises-after : (w a v : World) → Calm w a → ((u : ℕ) → (task_at a u).scope ≡ (task_at w u).scope) → Raises a v → Raises w v
 raises-after w a v k scopes h =
     record {
@@ -141,7 +141,7 @@ raises-after w a v k scopes h =
       kept = λ u on. h.kept u (k.flag u ∙ on);
     }
 
--- a calm change afterwards, by which no task moves or comes to life
+-- last a calm change that moves no task and brings none to life
 raises-before : (w b v : World) → Raises w b → Calm b v → ((u : ℕ) → (task_at v u).scope ≡ (task_at b u).scope) → ((u : ℕ) → lives (task_at v u) ≡ lives (task_at b u)) → Raises w v
 raises-before w b v h k scopes alive =
     record {
@@ -303,7 +303,7 @@ follows-raises p w e v h never_interrupted never_taken =
           };
     }
 
--- a step whose instruction does not take the flag
+-- a step with an instruction that does not take the flag
 follows-step : (p : Program) (w : World) (t : ℕ) (i : Instr) (v : World) → Does p w t i → takes_flag w (task_at w t).frame (Some i) ≡ false → Raises w v → Follows p w (event.Step t) v
 follows-step p w t i v d keeps h = follows-raises p w (event.Step t) v h (λ u is. cc) never
   where

@@ -24,8 +24,8 @@ pub record Holds (task : Task) (s : ℕ) : Type 0 where
   pub alive : lives task ≡ true
   pub entry : list_any (is_entry_of s) task.frame.entries ≡ true
 
--- nothing was born; no frame owns more; who held a scope holds it until it is closed; a scope is
--- closed once nothing in it lives
+-- nothing was born; no frame owns more; a task that held a scope holds it until it is closed; if a
+-- scope is closed, no task in it lives
 pub record Kept (w v : World) : Type 0 where
   pub tasks : length v.tasks ≡ length w.tasks
   pub scopes : length v.scopes ≡ length w.scopes

@@ -1,4 +1,5 @@
--- That what is later keeps what the specs say: of the state itself, of one after another.
+-- A later state keeps what the specs say; a state is later than itself, and a later one than a
+-- later one is later.
 use Rattle.std.proofs.Common.{◌≡◌, ℕ, ◌≤◌, [], ◌++◌, Bool, true, false, Some, refl, sym, ◌∙◌, ap}
 use Rattle.std.proofs.Common.{length, arith, append_assoc, nat_lt}
 use Rattle.std.proofs.lemmas.Bool.Decides.{nat_tests}
@@ -30,7 +31,7 @@ same_scope-refl x = record { owner = refl; joiner = refl; timed = refl; environm
 pub completes-refl : (x : Scope) → Completes x x
 completes-refl x = record { grow = ([], sym (append-nil x.completions)); stop = λ e. refl }
 
--- of the same phase, and expired or not as before
+-- a scope with the same phase and the same expiry
 pub moves_on-same : (x y : Scope) → y.phase ≡ x.phase → y.expired ≡ x.expired → MovesOn x y
 moves_on-same x y phase expired = record { forward = rw phase (omega arith); timely = λ e. expired }
 

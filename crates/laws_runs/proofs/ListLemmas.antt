@@ -55,7 +55,7 @@ pub found : {X : Type 0} (test : X → Bool) (xs : List X) (d : X) → list_any 
 found test [] d e = cc
 found test (x ∷ xs) d e = found_by test x xs d (test x) refl e (λ r. found test xs d r)
 
--- none of them does
+-- if no element passes, this one doesn't
 pub none_found : {X : Type 0} (test : X → Bool) (xs : List X) (u : ℕ) (d : X) → test d ≡ false → list_any test xs ≡ false → test (get_or xs u d) ≡ false
 none_found test [] u d none e = none
 none_found test (x ∷ xs) zero d none e = (or_parts (test x) _ e).0

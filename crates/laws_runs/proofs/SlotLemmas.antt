@@ -1,4 +1,5 @@
--- What the slots of a living task name stands: kept by each effect.
+-- Each effect keeps the law of slots: each scope and subtask that a slot of a living task names
+-- still counts.
 use Rattle.std.proofs.Common.{◌≡◌, ℕ, zero, suc, ◌<◌, ◌-◌, List, [], ◌∷◌, Bool, true, false, Option}
 use Rattle.std.proofs.Common.{Some, None, refl, sym, ◌∙◌, ap, subst, length, arith, get_or, cond}
 use Rattle.std.proofs.Common.{replicate, take, drop, ◌+◌, ◌||◌, not, pos, unwrap_or}
@@ -91,7 +92,7 @@ named-cond false x y h k = k refl
 
 -- ---- building blocks
 
--- one task, whose slots hold what they may
+-- one task changes, and its slots name only what they may
 named-task : (w : World) (t : ℕ) (x : Task) → Named w → x.scope ≡ (task_at w t).scope → (lives x ≡ true → (i : ℕ) → IsNamed w t (slot x.frame i)) → Named (with_task w t x)
 named-task w t x h scope names u i alive =
     is_named-stays w (with_task w t x) u (slot (task_at (with_task w t x) u).frame i)
@@ -145,7 +146,7 @@ named-more_scopes w x h u i alive =
     })
     (h u i alive)
 
--- with one task more, whose slots hold what they may
+-- one task more, with slots that name only what they may
 named-more_tasks : (w : World) (x : Task) → Named w → ((i : ℕ) → IsNamed (more_tasks w x) (length w.tasks) (slot x.frame i)) → Named (more_tasks w x)
 named-more_tasks w x h new u i =
     at_more (λ (task : Task). lives task ≡ true → IsNamed (more_tasks w x) u (slot task.frame i)) w.tasks x u no_task

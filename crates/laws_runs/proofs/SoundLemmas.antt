@@ -1,4 +1,4 @@
--- What holds of every state of every run: who owns what, which scopes stand, who lives.
+-- Laws for every state of every run: who owns what, which scopes count, who lives.
 use Rattle.std.proofs.Common.{◌≡◌, ℕ, ◌<◌, List, Bool, true, false, Option, Some, None, refl, sym}
 use Rattle.std.proofs.Common.{◌∙◌, length, get_or, subst, not}
 use Rattle.sts_model.specs.declared.record.Slot.TheVariants.{Own}
@@ -59,7 +59,7 @@ sound-kept w v o k =
 pub born_open : (w : World) (s : ℕ) → is_closed (scope_at w s).phase ≡ false → s < length w.scopes
 born_open w s e = within is_standing_scope w.scopes s no_scope refl (rw e refl)
 
--- where a task's scope does not stand, it was closed
+-- if a task doesn't count, its scope was closed
 closed_around : (w : World) (q : Option ℕ) (s : ℕ) → q ≡ Some s → stands_in w q ≡ false → is_closed (scope_at w s).phase ≡ true
 closed_around w q s e out = by (is_closed (scope_at w s).phase) (subst (λ (o : Option ℕ). stands_in w o ≡ false) e out)
   where
@@ -67,7 +67,7 @@ closed_around w q s e out = by (is_closed (scope_at w s).phase) (subst (λ (o : 
     by true e = refl
     by false e = cc
 
--- a task whose scope was closed doesn't live
+-- a task in a closed scope doesn't live
 pub dead_around : (w : World) (u : ℕ) → Sound w → stands_in w (task_at w u).scope ≡ false → lives (task_at w u) ≡ false
 dead_around w u o out = by (task_at w u).scope refl
   where

@@ -1,4 +1,4 @@
--- What every effect keeps by which no task is born or ends and no scope opens.
+-- Facts that an effect keeps if no task is born or ends and no scope opens.
 use Rattle.std.proofs.Common.{◌≤◌, ◌≡◌, ℕ, Bool, true, false, Some, refl, ◌∙◌, cond}
 use Rattle.sts_model.specs.declared.event.Phase.{Phase}
 use Rattle.sts_model.specs.declared.record.Slot.TheVariants.{Own}
@@ -19,7 +19,7 @@ use Rattle.laws_runs.proofs.LaterLemmas.{completes-refl}
 use Rattle.laws_runs.proofs.KeptLemmas.{Kept, kept-refl, kept-trans, kept-task, kept-scope}
 use Rattle.laws_runs.proofs.KeptLemmas.{kept-cancel, at_raised}
 
--- besides what is kept, no task ends and nobody is told
+-- like `Kept`; also no task ends, and no joiner is told
 pub record Still (w v : World) : Type 0 where
   pub kept : Kept w v
   pub outcome : (u : ℕ) → (task_at v u).outcome ≡ (task_at w u).outcome
@@ -71,7 +71,7 @@ still-scope w s x later same emptied =
       completions = λ r. at_set (λ (scope : Scope). scope.completions ≡ (scope_at w r).completions) w.scopes s r x no_scope (λ e. rw e same) refl;
     }
 
--- a phase that does not reopen a closed scope, nor close one in which a task lives
+-- a phase that does not reopen a closed scope, and closes a scope only if no task in it lives
 pub still-phase : (w : World) (s : ℕ) (phase : Phase) → stage (scope_at w s).phase ≤ stage phase → (is_closed (scope_at w s).phase ≡ true → is_closed phase ≡ true) → (is_closed (scope_at w s).phase ≡ false → is_closed phase ≡ true → (u : ℕ) → (task_at w u).scope ≡ Some s → lives (task_at w u) ≡ false) → Still w (with_phase w s phase)
 still-phase w s phase forward closed emptied =
     let c = completes-refl (scope_at w s) in

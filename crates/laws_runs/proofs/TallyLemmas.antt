@@ -1,4 +1,4 @@
--- Tallies: each subtask that completed is counted once, by the state in which it completed.
+-- Tallies: each subtask that completed is counted once, by the state it completed with.
 use Rattle.std.proofs.Common.{◌≡◌, ℕ, zero, suc, ◌+◌, ◌-◌, ◌<◌, ◌≤◌, List, [], ◌∷◌, Bool, true}
 use Rattle.std.proofs.Common.{false, Option, Some, None, refl, sym, ◌∙◌, ap, length, arith, get_or}
 use Rattle.std.proofs.Common.{cond, ◌&&◌, not}
@@ -72,7 +72,7 @@ count-point Q R t a (suc n) same out low high = by (a == t) refl (λ other. coun
         let head : cond {A = ℕ} (R a) 1 0 ≡ cond (Q a) 1 0 = ap (λ b. cond b 1 0) (same a other) in
         omega (arith, q, r, rest, head)
 
--- a test that is two tests, of which each number passes one
+-- a test that is passed if and only if one of two tests is
 count-split : (A B C : ℕ → Bool) (xs : List ℕ) → ((u : ℕ) → cond {A = ℕ} (A u) 1 0 + cond (B u) 1 0 ≡ cond (C u) 1 0) → count_by A xs + count_by B xs ≡ count_by C xs
 count-split A B C [] each = refl
 count-split A B C (x ∷ xs) each =
@@ -91,7 +91,7 @@ count-shift Q a (suc n) =
     let r = count-cons (λ u. Q (u + 1)) a (range_with_len (a + 1) n) in
     omega (arith, rest, q, r)
 
--- of a list, and of its places
+-- the count over a list, and the count over its places
 count-places : {X : Type 0} (test : X → Bool) (xs : List X) (d : X) → count_by (λ u. test (get_or xs u d)) (range_with_len 0 (length xs)) ≡ count_by test xs
 count-places test [] d = refl
 count-places test (x ∷ xs) d =
@@ -119,7 +119,7 @@ uncounted (c ∷ cs) u e = by (c.task == u) (count-cons (Test u) c cs) (uncounte
     by true k next = absurd (omega (arith, k, e))
     by false k next = next (omega (arith, k, e))
 
--- of the first one, and of the others
+-- the first completion is found by its task
 first : (c : Completion) (cs : List Completion) → completion_of (c ∷ cs) c.task ≡ Some c.end
 first c cs = by (c.task == c.task) (grind (arith, nat_tests))
   where
@@ -156,7 +156,7 @@ counted-rest inside n c cs h =
       once = λ u. let k = count-cons (Test u) c cs in let most = h.once u in omega (arith, k, most);
     }
 
--- so as many are in a state as completed in it
+-- so the number of subtasks in a state is the number that completed in it
 count-completed : (inside : ℕ → Bool) (n : ℕ) (P : Option End → Bool) → P None ≡ false → (cs : List Completion) → Counted inside n cs → count_by (λ u. inside u && P (completion_of cs u)) (range_with_len 0 n) ≡ count_by (λ (c : Completion). P (Some c.end)) cs
 count-completed inside n P none [] h = count-none _ 0 n (λ u. rw none (never (inside u)))
   where
@@ -209,7 +209,7 @@ module _ (w : World) (s : ℕ) (told : ToldIn w.tasks s (scope_at w s)) where
   abbrev inside : ℕ → Bool
   inside u = is_subtask s (task_at w u)
 
-  -- the number of subtasks whose state passes a test
+  -- the number of subtasks in a state that passes a test
   abbrev number : (Option End → Bool) → ℕ
   number P = count_by (λ u. inside u && P (completion_of cs u)) (births w)
 

@@ -1,8 +1,8 @@
--- Flags: what sets one and what clears one, by each event of every run.
--- That a cancelled scope interrupts the threads of its unfinished subtasks restates "Description"
--- of JEP 505; that an interrupt sets the flag, and that it is cleared where the task asks for it or
--- where a wait ends by it, restates `Thread.interrupt`, `Thread.interrupted` and `join` of
--- `StructuredTaskScope`. That nothing else sets or clears a flag is this project's own.
+-- Which events of a run set a flag, and which clear one.
+-- Restates "Description" of JEP 505 (a cancelled scope interrupts the threads of its unfinished
+-- subtasks), `Thread.interrupt` (sets the flag), `Thread.interrupted` and `join` of
+-- `StructuredTaskScope` (clear the flag when the task asks for it, or when it ends a wait).
+-- It is this project's own that no other event sets or clears a flag.
 use Rattle.std.specs.Prelude.{◌≡◌, ◌⊎◌, ℕ, Bool, true, false, Option, Some, ◌==◌, ◌&&◌, not}
 use Rattle.sts_code.specs.Program.{Program}
 use Rattle.sts_code.specs.declared.instr.Instr.{Instr}
@@ -36,7 +36,7 @@ InterruptSetsFlag =
     Each (λ p w e v. (t : ℕ) → e ≡ event.Interrupt t → lives (task_at w t) ≡ true
     → (task_at v t).flag ≡ true)
 
--- nothing but an interrupt of the task or the cancel of its scope sets a flag
+-- a flag is set only by an interrupt of the task or by the cancel of its scope
 abbrev pub FlagsHaveCause : Type 0
 FlagsHaveCause =
     Each (λ p w e v. (t : ℕ) → (task_at w t).flag ≡ false → (task_at v t).flag ≡ true
@@ -56,7 +56,7 @@ takes_flag w f (Some Interrupted) = true
 takes_flag w f (Some (Join s failed timeout interrupted)) = is_unfinished w (named (slot f s))
 takes_flag w f _ = false
 
--- is the event a step by which the task takes its flag?
+-- is the event a step in which the task takes its flag?
 abbrev pub is_taken : Program → World → Event → ℕ → Bool
 is_taken p w (event.Step u) t =
     u == t && (can_step p w t && takes_flag w (task_at w t).frame (instr_at p (task_at w t).frame))

@@ -72,7 +72,7 @@ NothingStarts w v =
     (u s : ℕ) → length w.tasks ≤ u → (scope_at w s).cancelled ≡ true → (task_at v u).scope ≡ Some s
     → (task_at v u).started ≡ false
 
--- of what was born before
+-- the tasks and scopes of w are those of v at an earlier time
 pub record Later (w v : World) : Type 0 where
   pub tasks : length w.tasks ≤ length v.tasks
   pub scopes : length w.scopes ≤ length v.scopes

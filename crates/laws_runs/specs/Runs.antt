@@ -1,5 +1,5 @@
--- The words in which laws of runs are stated: what holds in every state, between any state and a
--- later one, and by each event; and what has to be shown of each effect (this project's own).
+-- The words for laws of runs (this project's own). A law holds in every state, between any state
+-- and a later one, or for each event. Each word says too what has to be shown of each effect.
 use Rattle.std.specs.Prelude.{◌≡◌, List, [], ◌∷◌, ◌++◌, ℕ, true, false, Some}
 use Rattle.sts_code.specs.Program.{Program}
 use Rattle.sts_code.specs.declared.instr.Instr.{Instr}
@@ -15,7 +15,7 @@ use Rattle.sts_model.specs.Run.{after}
 
 -- ---- laws
 
--- what holds in a state that is no fault; of a fault nothing is asked
+-- P holds, unless the state is a fault
 abbrev pub In : (World → Type 0) → State → Type 0
 In P (Running w) = P w
 In P (Faulted kind t f pc) = Unit {0}
@@ -24,11 +24,11 @@ In P (Faulted kind t f pc) = Unit {0}
 abbrev pub Ever : (Program → World → Type 0) → Type 0
 Ever P = (p : Program) (events : List Event) → In (P p) (after p events)
 
--- no run comes to a fault
+-- no run faults
 abbrev pub NeverFaults : Program → Type 0
 NeverFaults p = (events : List Event) → (w : World) × (after p events ≡ Running w)
 
--- what holds between two states that are no fault; of a fault nothing is asked
+-- R holds between the two states, unless one of them is a fault
 abbrev pub Between : (World → World → Type 0) → State → State → Type 0
 Between R (Running w) (Running v) = R w v
 Between R _ _ = Unit {0}

@@ -1,6 +1,6 @@
--- Why a scope is cancelled, what is settled in it and where it is entered, in every state of every
--- run. That `join` waits until all subtasks have completed or the scope is cancelled restates
--- `join` of `StructuredTaskScope`; the rest is this project's own.
+-- Why a scope is cancelled, which tasks of it have ended, and which task has entered it, in every
+-- state of every run. Restates `join` of `StructuredTaskScope`, which waits until all subtasks have
+-- completed or the scope is cancelled. The rest is this project's own.
 use Rattle.std.specs.Prelude.{◌≡◌, ℕ, ◌<◌, ◌≤◌, count_by, [], length, Bool, true, false, Some, None}
 use Rattle.std.specs.List.{list_any}
 use Rattle.sts_model.specs.declared.event.Phase.{Phase}
@@ -22,9 +22,9 @@ is_leaving _ = false
 abbrev pub is_asked : Scope → Bool
 is_asked scope = cancels scope.joiner (ends scope)
 
--- a scope that was born is cancelled by an end after which its joiner asks for it, by its expiry or
--- by its close, and by nothing else; a joiner that asks for it without any end (`until failed 0`)
--- is heard at the first one
+-- A scope that was born is cancelled only by one of three causes: an end after which its joiner
+-- asks for it, its expiry, or its close. A joiner that asks for it without any end (`until failed
+-- 0`) gets it at the first end.
 pub record HasCause (scope : Scope) : Type 0 where
   pub asked : scope.cancelled ≡ false → is_asked scope ≡ true → scope.completions ≡ []
   pub expired : scope.expired ≡ true → scope.cancelled ≡ true
@@ -48,7 +48,8 @@ JoinedIsSettled =
     → (scope_at w s).cancelled ≡ false → (task_at w u).scope ≡ Some s
     → lives (task_at w u) ≡ false)
 
--- a scope in the structure list of a living task is its own, isn't closed, and stands there once
+-- a scope in the structure list of a living task belongs to that task, isn't closed, and occurs
+-- once
 pub record IsEntered (w : World) (t s : ℕ) : Type 0 where
   pub born : s < length w.scopes
   pub owner : (scope_at w s).owner ≡ t

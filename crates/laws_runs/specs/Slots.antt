@@ -7,8 +7,8 @@ use Rattle.sts_model.specs.Standing.{stands_in}
 use Rattle.sts_model.specs.Misuse.{slot}
 use Rattle.laws_runs.specs.Runs.{Ever}
 
--- each scope and subtask that a slot of a living task names stands; what is lent is the task's own
--- scope
+-- each scope and subtask that a slot of a living task names still counts; a lent scope is the
+-- task's own scope
 pub record NamesStanding (w : World) (t x : ℕ) : Type 0 where
   pub own : (s : ℕ) → slot (task_at w t).frame x ≡ Own s → stands_in w (Some s) ≡ true
   pub lent : (s : ℕ) → slot (task_at w t).frame x ≡ Lent s

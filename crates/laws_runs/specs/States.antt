@@ -1,7 +1,7 @@
--- What holds of every state of every run.
--- That no subtask of a closed scope lives, and that a scope which isn't closed has a living owner,
--- restates "Description" of JEP 505 (the lifetime of subtasks and scopes is confined to the block
--- that opened the scope); the rest is this project's own.
+-- Laws for every state of every run.
+-- Two of them restate "Description" of JEP 505: no subtask of a closed scope lives, and a scope
+-- that isn't closed has a living owner. (The lifetime of subtasks and scopes is confined to the
+-- block that opened the scope.) The rest is this project's own.
 use Rattle.std.specs.Prelude.{◌≡◌, ℕ, ◌<◌, ◌≤◌, true, false, Some, count_by, length, ◌==◌}
 use Rattle.std.specs.List.{list_any}
 use Rattle.sts_code.specs.Program.{Program}

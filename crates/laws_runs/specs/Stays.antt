@@ -1,6 +1,6 @@
--- What no event undoes: laws over every run, of a state and any later one.
--- That nothing is started in a cancelled scope restates "Cancellation" of `StructuredTaskScope`;
--- the rest is this project's own.
+-- Facts that no event undoes: laws between a state of a run and any later one.
+-- One restates "Cancellation" of `StructuredTaskScope`: nothing is started in a cancelled scope.
+-- The rest is this project's own.
 use Rattle.std.specs.Prelude.{◌≡◌, ℕ, ◌+◌, ◌<◌, ◌≤◌, List, [], ◌∷◌, ◌++◌, length, true, false, Some}
 use Rattle.std.specs.Prelude.{◌&&◌}
 use Rattle.sts_code.specs.Program.{Program}
@@ -23,7 +23,7 @@ FaultsStay =
 
 -- ---- two states of a run
 
--- tasks and scopes are never fewer, and each is the one that was born
+-- the numbers of tasks and scopes never fall, and each birth number keeps its task or scope
 pub record KeepsBorn (w v : World) : Type 0 where
   pub tasks : length w.tasks ≤ length v.tasks
   pub scopes : length w.scopes ≤ length v.scopes
@@ -69,7 +69,7 @@ CancelledStartsNothing = Always (λ p w v. NothingStarts w v)
 
 -- ---- steps taken
 
--- one event more: at most one step more, and one exactly where a step counts
+-- one event more adds one step if it is a step that counts, and otherwise none
 pub record Counts (p : Program) (events : List Event) (e : Event) : Type 0 where
   pub never_less : taken p events ≤ taken p (events ++ e ∷ [])
   pub at_most_one : taken p (events ++ e ∷ []) ≤ taken p events + 1

@@ -22,12 +22,13 @@ pub fn joined_is_settled()
     ensures { JoinedIsSettled }
 {}
 
-/// A scope in the structure list of a living task is its own, isn't closed, and stands there once.
+/// A scope in the structure list of a living task belongs to that task, isn't closed, and occurs
+/// once.
 pub fn entries_are_open()
     ensures { EntriesAreOpen }
 {}
 
-/// What the slots of a living task name stands.
+/// Each scope and subtask that a slot of a living task names still counts.
 pub fn slots_stand()
     ensures { SlotsStand }
 {}

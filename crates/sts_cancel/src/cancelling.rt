@@ -1,4 +1,4 @@
-//! What comes to a scope or a task from outside, or from a joiner.
+//! Interrupts and expiries from outside, and cancels that a joiner asks for.
 
 ghost use Rattle.std.specs.Prelude.{◌≡◌, ◌≢◌, Some, None, true, slice_index_or};
 ghost use Rattle.sts_tree.specs.declared.record.Task.{Task as AnyTask};

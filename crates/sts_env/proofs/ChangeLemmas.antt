@@ -1,4 +1,4 @@
--- What `bind` and `unbind` make of an environment, and of every other.
+-- The effect of `bind` and `unbind` on an environment and on every other.
 use Rattle.std.proofs.Common.{◌≡◌, ◌≢◌, ℕ, suc, List, [], ◌∷◌, length, set, Some, None, refl, ap}
 use Rattle.std.proofs.Common.{sym, ◌∙◌, arith}
 use Rattle.sts_env.specs.Environments.{NotIn, AreWhole, keys, Records, record_at, Stays, PutsRecord}
@@ -54,7 +54,7 @@ unbinds old new env k n r front length is gone others w =
           staying old new e (same (record_at old) (record_at new) k others e.length e.front u (rw same_key h));
     }
 
--- no whole environment holds a key where no record stands
+-- no whole environment holds a key without a record
 pub vacant_to : (records : Records) (env : Env) (k : ℕ) → record_at records k ≡ None → IsWhole records env → NotIn k (keys_of records env)
 vacant_to records env k none w = vacant (record_at records) k none env.length env.front w
 

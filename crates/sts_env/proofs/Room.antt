@@ -1,4 +1,4 @@
--- An environment has no more bindings than records stand.
+-- The bindings of an environment are no more than the records that exist.
 use Rattle.std.proofs.Common.{◌≡◌, ℕ, zero, suc, ◌+◌, ◌≤◌, ◌<◌, List, length, get_or, set, Option}
 use Rattle.std.proofs.Common.{Some, None, is_some, count_by, cond, refl, arith}
 use Rattle.std.proofs.lemmas.List.{get_or-set_other, get_or_past}
@@ -16,7 +16,7 @@ emptied slots k r is =
     let t : cond (is_some (get_or slots k None)) one 0 ≡ one = rw is refl in
     omega (arith, s, t)
 
--- so many records don't stand one behind the other unless so many stand
+-- a chain of n records needs n records that exist
 pub within : (slots : List (Option Record)) (n : ℕ) (front : Option ℕ) → AreWhole (λ k. get_or slots k None) n front → n ≤ count_by is_some slots
 within slots zero front w = omega arith
 within slots (suc n) front (k, r, e, is, size, rest) =

@@ -1,4 +1,4 @@
--- The front record of a task whose last entry is a binding is in no other environment in use.
+-- If the last entry of a task is a binding, no other environment in use has its record.
 use Rattle.std.proofs.Common.{◌≡◌, ◌≢◌, ℕ, zero, suc, ◌<◌, List, [], ◌∷◌, ◌++◌, Option, Some, None}
 use Rattle.std.proofs.Common.{refl, sym, ◌∙◌, subst, arith, nat_eq, Bool, true, false}
 use Rattle.std.proofs.lemmas.Bool.Decides.{nat_tests}
@@ -44,7 +44,7 @@ once c h t k is f =
     not_front k f.rest (inherited c h (h.home t))
     (once_in_keys (record_at c) (h.env t).length (h.env t).front k (f.rest ++ inherited c h (h.home t)) (is.whole t f.lives) (is.tasks t f.lives ∙ (rw f.own refl)))
 
--- it is one of t's
+-- the record is one of t's own
 mine : (h : Sharing) (t k : ℕ) → IsLastBinding h t k → NotIn k (h.own t) → ⊥
 mine h t k f n = let m : NotIn k (k ∷ f.rest) = subst (NotIn k) f.own n in m.0 refl
 

@@ -1,4 +1,4 @@
--- Records that stand one behind the other, and what a change of one record leaves of them.
+-- Chains of records, and the chains that a change of one record leaves alone.
 use Rattle.std.proofs.Common.{◌≡◌, ◌≢◌, ℕ, zero, suc, ◌≤◌, List, ◌∷◌, length, Option, Some, None}
 use Rattle.std.proofs.Common.{false, refl, ap, sym, ◌∙◌, arith, subst}
 use Rattle.std.specs.Prelude.{nat_eq}
@@ -53,7 +53,7 @@ vacant at k none (suc n) (Some x) w =
     let f = front_of at n x w in
     subst (NotIn k) (sym (keys_cons at n x f.r f.is)) ((λ e. let q : at k ≡ Some f.r = rw e f.is in cc), vacant at k none n f.r.rest.front f.rest)
 
--- a record with more behind it than a list has is not in it
+-- a record with more records after it than a chain has is not in that chain
 pub longer : (at : ℕ → Option Record) (k : ℕ) (r : Record) → at k ≡ Some r → (n : ℕ) (front : Option ℕ) → n ≤ r.rest.length → AreWhole at n front → NotIn k (keys at n front)
 longer at k r is zero front less w = tt
 longer at k r is (suc n) None less w = tt

@@ -1,7 +1,7 @@
--- Environments of scoped values as chains of records: which binding is innermost, and what stays of
--- those that share records. Restates "Description" of JEP 506: the innermost binding is read, and a
--- subtask inherits those in force when its scope was opened. That environments share records is
--- this project's own.
+-- Environments of scoped values as chains of records: which binding is innermost, and what remains
+-- of chains that share records.
+-- Restates "Description" of JEP 506: the innermost binding is read, and a subtask inherits those in
+-- force when its scope was opened. It is this project's own that environments share records.
 use Rattle.std.specs.Prelude.{◌≡◌, ◌≢◌, ℕ, zero, suc, List, [], ◌∷◌, Option, Some, None}
 use Rattle.std.specs.Prelude.{slice_index_or}
 use Rattle.sts_env.specs.declared.env.Env.{Env}
@@ -13,31 +13,31 @@ pub record Records : Type 0 where
   pub slots : List (Option Record)
   pub room : ℕ
 
--- the record at a key, if one stands there
+-- the record at a key, if there is one
 abbrev pub record_at : Records → ℕ → Option Record
 record_at records k = slice_index_or records.slots k None
 
--- so many records stand one behind the other, and each knows how many are behind it
+-- the chain from here has n records, and each knows how many come after it
 abbrev pub AreWhole : (ℕ → Option Record) → ℕ → Option ℕ → Type 0
 AreWhole at zero front = front ≡ None
 AreWhole at (suc n) front =
     (k : ℕ) × (r : Record) × (front ≡ Some k) × (at k ≡ Some r) × (r.rest.length ≡ n)
     × AreWhole at n r.rest.front
 
--- the keys of so many records, from the front
+-- the keys of the first n records
 abbrev pub keys : (ℕ → Option Record) → ℕ → Option ℕ → List ℕ
 keys at zero front = []
 keys at (suc n) None = []
 keys at (suc n) (Some k) = k ∷ elim (at k) [ None ↦ [] | Some r ↦ keys at n r.rest.front ]
 
--- the bindings of so many records, from the front
+-- the bindings of the first n records
 abbrev pub bindings : (ℕ → Option Record) → ℕ → Option ℕ → List Bound
 bindings at zero front = []
 bindings at (suc n) None = []
 bindings at (suc n) (Some k) =
     elim (at k) [ None ↦ [] | Some r ↦ r.bound ∷ bindings at n r.rest.front ]
 
--- all records of the environment stand
+-- each record of the environment exists
 abbrev pub IsWhole : Records → Env → Type 0
 IsWhole records env = AreWhole (record_at records) env.length env.front
 
@@ -49,7 +49,7 @@ keys_of records env = keys (record_at records) env.length env.front
 abbrev pub list_of : Records → Env → List Bound
 list_of records env = bindings (record_at records) env.length env.front
 
--- the key is none of these
+-- the list doesn't have the key
 abbrev pub NotIn : ℕ → List ℕ → Type 0
 NotIn k [] = Unit {0}
 NotIn k (x ∷ xs) = (k ≢ x) × NotIn k xs
@@ -60,7 +60,7 @@ pub record Stays (old new : Records) (env : Env) : Type 0 where
   pub keys : keys_of new env ≡ keys_of old env
   pub list : list_of new env ≡ list_of old env
 
--- the result has one more record in front, at a key where none stood
+-- the result has one more record in front, at a key that had no record
 pub record PutsRecord (old new : Records) (env result : Env) : Type 0 where
   pub key : ℕ
   pub front : result.front ≡ Some key
@@ -74,7 +74,7 @@ pub record TakesRecord (old new : Records) (env result : Env) : Type 0 where
   pub gone : record_at new key ≡ None
   pub keys : keys_of old env ≡ key ∷ keys_of new result
 
--- the other environment stays, unless it holds the front record of the first
+-- another environment is unchanged, unless it holds the front record of this one
 abbrev pub KeepsWithout : (old new : Records) (env other : Env) → Type 0
 KeepsWithout old new env other =
     (k : ℕ) → env.front ≡ Some k → NotIn k (keys_of old other) → Stays old new other

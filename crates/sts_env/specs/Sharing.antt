@@ -1,6 +1,6 @@
 -- Which environments in use hold which records, for tasks and scopes by birth.
 -- Restates "Description" of JEP 506: a subtask inherits the bindings of its scope, and binds in
--- front of them. That environments share records is this project's own.
+-- front of them. It is this project's own that environments share records.
 use Rattle.std.specs.Prelude.{◌≡◌, ◌≢◌, ℕ, ◌<◌, List, [], ◌∷◌, ◌++◌, Option, Some, None, Bool, true}
 use Rattle.sts_env.specs.Environments.{Records, IsWhole, keys_of, NotIn}
 use Rattle.sts_env.specs.declared.env.Env.{Env}
@@ -42,7 +42,7 @@ pub record IsSharing (records : Records) (h : Sharing) : Type 0 where
   pub owners : (s : ℕ) → IsOpen h s → Lives h (h.owner s)
   -- the scope of a living task is open, and its owner is older than the task
   pub homes : (t s : ℕ) → Lives h t → h.home t ≡ Some s → IsOpen h s × (h.owner s < t)
-  -- all records of a living task's environment stand
+  -- each record of a living task's environment exists
   pub whole : (t : ℕ) → Lives h t → IsWhole records (h.env t)
   -- a task's environment is made of its own bindings and of what its scope keeps
   pub tasks : (t : ℕ) → Lives h t
@@ -57,8 +57,8 @@ pub record IsSharing (records : Records) (h : Sharing) : Type 0 where
   pub apart : (t u k : ℕ) → Lives h t → Lives h u → t ≢ u → (NotIn k (h.own t) → ⊥)
       → NotIn k (h.own u)
 
--- the last entry of a living task is a binding, whose record is at this key: each scope that the
--- task opened stands outside of it
+-- the last entry of a living task is a binding with its record at this key: each open scope of the
+-- task was opened before it
 pub record IsLastBinding (h : Sharing) (t k : ℕ) : Type 0 where
   pub lives : Lives h t
   pub rest : List ℕ

@@ -34,11 +34,11 @@ impl Model for Chains {
 }
 
 impl Chains {
-    /// No records, and room for so many bindings at once. No other call takes memory.
+    /// No records, and room for `binds` bindings at once. No other call takes memory.
     ///
     /// # Errors
     ///
-    /// Want of memory.
+    /// Memory ran out.
     pub fn with_room(alloc: Global, binds: u32) -> Result<Chains, AllocError>
         ensures room { IfOk result (λ c. c.room ≡ binds) }
         ensures empty { IfOk result (λ c. (k : ℕ) → record_at c k ≡ None) }
@@ -86,9 +86,9 @@ impl Chains {
         }
     }
 
-    /// The environment without its innermost binding, whose record is taken out.
+    /// Takes out the record of the innermost binding, and gives the environment without it.
     ///
-    /// Of other environments that hold that record nothing is promised.
+    /// Nothing is promised of other environments that hold that record.
     pub fn unbind(&mut self, env: Env) -> Env
         requires some { list_of self.old env ≢ [] }
         requires whole { IsWhole self.old env }
@@ -105,7 +105,7 @@ impl Chains {
         record.rest
     }
 
-    /// The value of the innermost binding of this key; none where it is not bound.
+    /// The value of the innermost binding of this key, or `None` if it is not bound.
     pub fn read(&self, env: Env, key: u8) -> Option<i64>
         requires whole { IsWhole self.now env }
         ensures { result ≡ scoped.read (list_of self.now env) key }

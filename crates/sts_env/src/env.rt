@@ -2,10 +2,10 @@
 
 use sts_model::Bound;
 
-/// An environment: a list of bindings, innermost first, whose records stand in a `Chains`.
+/// An environment: a list of bindings, innermost first. A `Chains` holds their records.
 #[derive(Clone, Copy, Debug, PartialEq, Eq)]
 pub struct Env {
-    /// The key of the innermost binding's record; none where nothing is bound.
+    /// The key of the innermost binding's record, or `None` if nothing is bound.
     pub front: Option<usize>,
     /// How many bindings there are.
     pub length: u32,
@@ -15,7 +15,7 @@ pub struct Env {
 #[derive(Clone, Copy, Debug, PartialEq, Eq)]
 pub struct Record {
     pub bound: Bound,
-    /// The environment in which it was bound.
+    /// The environment before this binding was made.
     pub rest: Env,
 }
 
@@ -23,7 +23,7 @@ impl Env {
     ghost use Rattle.std.specs.Prelude.{◌≡◌, None, []};
     ghost use Rattle.sts_env.specs.Environments.{Records, IsWhole, list_of};
 
-    /// The environment in which nothing is bound.
+    /// The environment without a binding.
     pub fn empty() -> Env
         ensures value { result ≡ record { front = None; length = 0 } }
         ensures list { (records : Records) →

@@ -1,10 +1,10 @@
-//! Who holds the record of a binding: a law that the definitions of this crate keep.
+//! Which environments hold the record of a binding: a law that the definitions of this crate keep.
 
 ghost use Rattle.sts_env.specs.Sharing.{FrontIsUnshared};
 
-/// Where each task's environment is made of the task's own bindings in front of what its scope
-/// keeps, and a binding is the last entry of a task, no environment in use but that task's own
-/// holds the record of that binding.
+/// A law of environments that are built up as tasks build them: a task's own bindings in front of
+/// those that its scope keeps. If the last entry of a task is a binding, only that task's
+/// environment holds its record.
 ///
 /// So the task may take that record out: no other environment in use changes.
 pub fn front_is_unshared()

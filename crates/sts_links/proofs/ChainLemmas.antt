@@ -44,7 +44,7 @@ rehead at new p prev (x ∷ xs) n d a changed same = (
   stays at new (Some x) xs n (λ k inside. same k (λ h. inside h.1) (λ e. inside (let q : k ≡ x = cc in rw q d.0))) a.1,
 )
 
--- the link of a key that stands in a list, and of its neighbours
+-- the link of a key in a list, and the links of its neighbours
 pub last_is : (at : ℕ → Option Link) (p : Option ℕ) (x : ℕ) (xs : List ℕ) (n : Option ℕ) (k : ℕ) → AreLinked at p (x ∷ xs) n → last_or p (x ∷ xs) ≡ Some k → at k ≢ None
 last_is at p x [] n k a e none = let f = a.0 in let q : x ≡ k = cc in cc
 last_is at p x (y ∷ ys) n k a e none = last_is at (Some x) y ys n k a.1 e none
@@ -75,10 +75,10 @@ pub without_link : (at : ℕ → Option Link) (k : ℕ) (p : Option ℕ) (xs : L
 without_link at k p [] n none a = tt
 without_link at k p (x ∷ xs) n none a = ((λ e. let f = a.0 in let q : at k ≡ at x = rw e refl in cc), without_link at k (Some x) xs n none a.1)
 
--- a list of keys whose links stay
+-- a list of keys with unchanged links
 pub list_stays : (at new : ℕ → Option Link) (list : Ends) (keys : List ℕ) → ((k : ℕ) → (NotIn k keys → ⊥) → new k ≡ at k) → IsList at list keys → IsList new list keys
 list_stays at new list keys same is = record { first = is.first; last = is.last; linked = stays at new None keys None same is.linked; distinct = is.distinct }
 
--- a list of keys none of which is the one that changes
+-- a list that doesn't have the changed key
 pub list_stays_beside : (at new : ℕ → Option Link) (x : ℕ) (list : Ends) (keys : List ℕ) → ((k : ℕ) → k ≢ x → new k ≡ at k) → NotIn x keys → IsList at list keys → IsList new list keys
 list_stays_beside at new x list keys others apart is = list_stays at new list keys (λ k inside. others k (λ e. inside (rw e apart))) is

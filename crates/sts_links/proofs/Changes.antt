@@ -1,4 +1,4 @@
--- What `push_back` and `unlink` make of a list, and of every other.
+-- The effect of `push_back` and `unlink` on their list and on every other.
 use Rattle.std.proofs.Common.{◌≡◌, ◌≢◌, ℕ, List, [], ◌∷◌, ◌++◌, Option, Some, None, sym, ◌∙◌}
 use Rattle.std.specs.List.{last_or}
 use Rattle.sts_links.specs.Lists.{first_or, NotIn, AreDistinct, IsList, with_after, with_before}
@@ -11,7 +11,7 @@ use Rattle.sts_links.proofs.KeyLemmas.{first_less, last_less, apart_key}
 use Rattle.sts_links.proofs.ChainLemmas.{joined, front_of, back_of, list_stays, relast, rehead}
 use Rattle.sts_links.proofs.ChainLemmas.{head_link}
 
--- a list whose keys alone got other links leaves the others as they were
+-- if only the keys of one list got other links, the other lists are unchanged
 becomes : (a c : ℕ → ℕ → Option Link) (l : ℕ) (result : Ends) (keys : List ℕ) → IsList (c l) result keys → Differs a c l keys → BecomesList a c l result keys
 becomes a c l result keys is d =
     record {
@@ -73,7 +73,7 @@ unlinked a b c l list key link front back is at re rf =
     rf.others m j (λ e q. head_not j back (not_back j front back (h e)) (sym after ∙ q))
     ∙ re.others m j (λ e q. last_none j front (not_front j front back (h e)) (sym before ∙ q)))
 
--- the key after the one taken out keeps a link while the one before it changes
+-- the next key of a key that is taken out keeps a link while the key before it changes
 pub after_link : (a b : ℕ → ℕ → Option Link) (l : ℕ) (list : Ends) (front : List ℕ) (key : ℕ) (back : List ℕ) (link : Link) (k : ℕ) → IsList (a l) list (front ++ key ∷ back) → a l key ≡ Some link → Relinks a b (with_after link.after) l link.before → link.after ≡ Some k → b l k ≢ None
 after_link a b l list front key back link k is e re q =
     let here = (back_of (a l) None front (key ∷ back) None is.linked) in

@@ -1,4 +1,4 @@
--- What a list of keys is in a store of links, and what a change of links leaves alone.
+-- Lists of keys in a store of links, and the lists that a change of links leaves alone.
 -- This project's own.
 use Rattle.std.specs.Prelude.{◌≡◌, ◌≢◌, ℕ, List, [], ◌∷◌, Option, Some, None}
 use Rattle.std.specs.List.{last_or}
@@ -10,7 +10,7 @@ abbrev pub first_or : List ℕ → Option ℕ → Option ℕ
 first_or [] next = next
 first_or (k ∷ ks) next = Some k
 
--- the key is none of these
+-- the list doesn't have the key
 abbrev pub NotIn : ℕ → List ℕ → Type 0
 NotIn k [] = Unit {0}
 NotIn k (x ∷ xs) = (k ≢ x) × NotIn k xs
@@ -20,7 +20,7 @@ abbrev pub AreDistinct : List ℕ → Type 0
 AreDistinct [] = Unit {0}
 AreDistinct (x ∷ xs) = NotIn x xs × AreDistinct xs
 
--- none of the second keys is one of the first
+-- the two lists have no key in common
 abbrev pub AreApart : List ℕ → List ℕ → Type 0
 AreApart xs [] = Unit {0}
 AreApart xs (y ∷ ys) = NotIn y xs × AreApart xs ys
@@ -58,8 +58,7 @@ pub record Relinks (old new : ℕ → ℕ → Option Link) (change : Link → Li
 abbrev pub Differs : (old new : ℕ → ℕ → Option Link) → ℕ → List ℕ → Type 0
 Differs old new layer keys = (m j : ℕ) → (m ≡ layer → NotIn j keys) → new m j ≡ old m j
 
--- each list of another layer, and each list of this layer that has none of these keys, has the keys
--- that it had
+-- a list keeps its keys if it is in another layer, or has none of these keys
 abbrev pub KeepsOthers : (old new : ℕ → ℕ → Option Link) → ℕ → List ℕ → Type 0
 KeepsOthers old new layer keys =
     (m : ℕ) (list : Ends) (others : List ℕ) → IsList (old m) list others
@@ -78,7 +77,7 @@ abbrev pub if_none : Option ℕ → (when_none when_some : Option ℕ) → Optio
 if_none None when_none when_some = when_none
 if_none (Some k) when_none when_some = when_some
 
--- the key after the one with this link
+-- the next key, by this link
 abbrev pub after_of : Option Link → Option ℕ
 after_of None = None
 after_of (Some link) = link.after

@@ -1,6 +1,7 @@
-//! Lists by index: doubly linked lists of keys whose links stand in a store, in several layers.
+//! Lists by index: doubly linked lists of keys, in several layers. The links are part of the
+//! records of a store.
 //!
-//! A record of the store can stand in one list of each layer. The crate asks nothing else of the
+//! A record of the store can be in one list of each layer. The crate asks nothing else of the
 //! store, keeps no list of its own, and takes no memory.
 #![tactic(auto)]
 

@@ -1,4 +1,4 @@
-//! What a list by index is made of: links, ends, and the store that holds the links.
+//! The parts of a list by index: links, ends, and the store that holds the links.
 
 /// The neighbours of a key in a list.
 #[derive(Clone, Copy, Debug, PartialEq, Eq)]
@@ -12,9 +12,9 @@ pub struct Link {
 /// A list by index: its two ends. Its keys are found by the links of a store.
 #[derive(Clone, Copy, Debug, PartialEq, Eq)]
 pub struct Ends {
-    /// The first key; none where the list is empty.
+    /// The first key, or `None` if the list is empty.
     pub first: Option<usize>,
-    /// The last key; none where the list is empty.
+    /// The last key, or `None` if the list is empty.
     pub last: Option<usize>,
 }
 
@@ -35,7 +35,7 @@ impl Ends {
     }
 }
 
-/// A store of records by key, each of which has one link in each layer.
+/// A store of records by key. Each record has one link in each layer.
 pub trait Links {
     ghost use Rattle.std.specs.Prelude.{◌≡◌, ◌≢◌, ℕ, Option, Some, None};
     ghost use Rattle.sts_links.specs.declared.links.Link.{Link};
@@ -43,7 +43,7 @@ pub trait Links {
     /// The link of a key in a layer, where the store has that key and that layer.
     ghost at: { Self → ℕ → ℕ → Option Link };
 
-    /// Two stores hold the same beside links.
+    /// Two stores differ at most in their links.
     ghost alike: { Self → Self → Type 0 };
 
     /// The link of a key in a layer.

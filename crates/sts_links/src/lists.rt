@@ -43,7 +43,7 @@ fn if_none(neighbour: Option<usize>, none: Option<usize>, some: Option<usize>) -
     }
 }
 
-/// Appends a key that stands in no list of the layer, and gives the list with it.
+/// Appends a key that is in no list of the layer, and gives the list with it.
 pub fn push_back<S: Links>(store: &mut S, layer: u8, list: Ends, key: usize) -> Ends
     requires list { (keys : List ℕ) × IsList (S.at store.old layer) list keys × NotIn key keys }
     requires key { S.at store.old layer key ≢ None }
@@ -66,7 +66,7 @@ pub fn push_back<S: Links>(store: &mut S, layer: u8, list: Ends, key: usize) -> 
     }
 }
 
-/// Takes out a key that stands in the list, and gives the list without it.
+/// Takes out a key of the list, and gives the list without it.
 ///
 /// The link of the key itself stays as it was.
 pub fn unlink<S: Links>(store: &mut S, layer: u8, list: Ends, key: usize) -> Ends
@@ -86,7 +86,7 @@ pub fn unlink<S: Links>(store: &mut S, layer: u8, list: Ends, key: usize) -> End
     }
 }
 
-/// The first key of a list; none where the list is empty.
+/// The first key of a list, or `None` if the list is empty.
 pub fn front(list: Ends) -> Option<usize>
     ensures value { result ≡ list.first }
     ensures key { (at : ℕ → Option Link) (keys : List ℕ) → IsList at list keys →
@@ -95,7 +95,7 @@ pub fn front(list: Ends) -> Option<usize>
     list.first
 }
 
-/// The key after a key that stands in a list; none at the back of the list.
+/// The key after a key of a list, or `None` at the back.
 pub fn after<S: Links>(store: &S, layer: u8, key: usize) -> Option<usize>
     requires { S.at store.now layer key ≢ None }
     ensures value { result ≡ chain.after_of (S.at store.now layer key) }

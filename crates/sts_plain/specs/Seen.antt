@@ -33,7 +33,7 @@ after_event s e =
       steps = one_more (is_step e && counts s.program s.state e) s.steps;
     }
 
--- so many of the events were applied, in order, and the one after them was not
+-- the first `count` of the events were applied, in order, and the next one was not
 pub record AppliesFirst (old new : Seen) (events : List Event) : Type 0 where
   pub count : ℕ
   pub within : count < length events
@@ -48,7 +48,7 @@ abbrev pub shown : State → PlainState
 shown (Running w) = ended_or_running (task_at w 0).outcome
 shown (Faulted kind t f pc) = plain.Fault kind t f pc
 
--- it stands at a fault
+-- has a task faulted?
 abbrev pub is_fault : State → Bool
 is_fault (Running w) = false
 is_fault (Faulted kind t f pc) = true

@@ -30,7 +30,7 @@ pub fn overflows(program: &Program, frame: &Frame, instr: Instr) -> bool
     left + pushes(instr) as usize > usize::from(MAX_OPERANDS)
 }
 
-/// Is the innermost open loop the one whose match is at `pc`?
+/// Is `pc` the match of the innermost open loop?
 fn closes_loop(code: &[Instr], frame: &Frame) -> bool
     requires { length code.now ≤ MAX_INSTRUCTIONS }
     ensures { result ≡ misuse.closes_loop code.now frame.now.pc frame.now.loops }
@@ -143,7 +143,7 @@ fn is_innermost(frame: &Frame, s: u32) -> bool
     }
 }
 
-/// Is the instruction against the order in which scopes and bindings were opened?
+/// Does the instruction break the order of the open scopes and bindings?
 pub fn breaks_structure(frame: &Frame, instr: Instr) -> bool
     ensures { (w : def.World) → result ≡ misuse.breaks_structure w frame.now instr }
 {

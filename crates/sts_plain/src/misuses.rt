@@ -48,7 +48,7 @@ fn misjoins(records: &Records, frame: &Frame, instr: Instr) -> bool
     }
 }
 
-/// Do too many stand, or were too many born?
+/// Do too many count now, or were too many born?
 fn is_crowded(standing: usize, born: usize) -> bool
     ensures { result ≡ misuse.is_crowded standing born }
 {
@@ -183,7 +183,7 @@ fn fault_of(world: &World, program: &Program, t: u32, frame: &Frame, instr: Inst
     }
 }
 
-/// The fault that a step of this task would be, or none.
+/// The fault of a step of this task, or `None` if the step may be taken.
 pub fn misuse(world: &World, program: &Program, t: u32) -> Option<Fault>
     requires born { t < length world.now.tasks }
     requires lives { living.lives (def.task_at world.now t) ≡ true }

@@ -52,7 +52,7 @@ fn push_value(world: &mut World, t: u32, n: usize, value: i64)
 ///
 /// # Errors
 ///
-/// Want of memory; the world is as it was.
+/// Memory ran out; the world is unchanged.
 #[tactic(auto, using(sts_model::proofs::FineLemmas::fine))]
 pub fn act(world: &mut World, alloc: Global, program: &Program, t: u32) -> Result<(), AllocError>
     requires born { t < length world.old.tasks }

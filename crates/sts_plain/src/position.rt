@@ -33,7 +33,7 @@ impl Model for Position {
     ghost view = { λ p. state_of p.misstep p.world };
 }
 
-/// A step of a task that can step: the fault, or none.
+/// Takes a step of a task that can step. Answers the fault, if the step is one.
 fn step(
     world: &mut World,
     alloc: Global,
@@ -80,7 +80,7 @@ impl Position {
         })
     }
 
-    /// How it stands.
+    /// The state of the machine.
     pub fn state(&self) -> PlainState
         ensures { result ≡ shown self.now }
     {
@@ -137,7 +137,7 @@ impl Position {
         }
     }
 
-    /// The tasks and scopes, unless it stands at a fault.
+    /// The tasks and scopes, unless the machine has faulted.
     pub fn world(&self) -> Option<&World>
         ensures running { IfSome result (λ w. self.now ≡ def.Running w.now) }
         ensures fault { IsNone result → is_fault self.now ≡ true }

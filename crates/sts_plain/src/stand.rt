@@ -1,4 +1,4 @@
-//! Where a task stands, and whether it can step.
+//! Whether a task is at a `join` or a `close`, and whether it can step.
 
 ghost use Rattle.std.specs.Prelude.{◌≡◌, ◌<◌, length, true};
 ghost use Rattle.sts_model.specs.Living as living;
@@ -12,7 +12,7 @@ use sts_frames::{instr_at, slot};
 use sts_model::{Phase, Slot, Stand};
 use sts_world::World;
 
-/// Where the task stands.
+/// Whether the task is at a `join`, at a `close` that has begun, or at neither.
 pub fn stand_at(world: &World, program: &Program, t: u32) -> Stand
     requires born { t < length world.now.tasks }
     requires lives { living.lives (def.task_at world.now t) ≡ true }
@@ -32,7 +32,7 @@ pub fn stand_at(world: &World, program: &Program, t: u32) -> Stand
     }
 }
 
-/// Where a task stands at the `close` of a scope of its own.
+/// Whether a task at the `close` of a scope of its own waits there.
 fn stand_at_close(world: &World, s: u32) -> Stand
     ensures { result ≡ waiting.stands_at_close world.now (Own s) }
 {
@@ -43,7 +43,7 @@ fn stand_at_close(world: &World, s: u32) -> Stand
     }
 }
 
-/// May the task go on from where it stands?
+/// May the task take its next step?
 fn can_go(world: &World, t: u32, stand: Stand) -> bool
     ensures { result ≡ waiting.can_go world.now (def.task_at world.now t) stand }
 {

@@ -1,4 +1,4 @@
--- What stands at each birth, when an entry or the table changes.
+-- The record at each birth, when an entry or the table changes.
 use Rattle.std.proofs.Common.{◌≡◌, ◌≢◌, ℕ, zero, suc, ◌+◌, ◌<◌, ◌≤◌, List, [], ◌∷◌, ◌++◌, length}
 use Rattle.std.proofs.Common.{Option, Some, None, refl, sym, ◌∙◌, ap, arith, get_or, set, nat_eq}
 use Rattle.std.proofs.Common.{Bool, true, false, nat_lt, length-set, get_or-set_same}
@@ -31,7 +31,7 @@ module _ {T : Type 0} where
   pub slot_past : (keys : List ℕ) (entries : List (Option (Entry T))) (i : ℕ) → length keys ≤ i → get_or (slots 0 keys entries) i None ≡ None
   slot_past keys entries i le = let n = length-slots 0 keys entries in get_or_past (slots 0 keys entries) i None (omega (arith, n))
 
-  -- a birth whose record stands: its key, and its entry
+  -- a birth with a record: its key, and its entry
   pub record Stands (keys : List ℕ) (entries : List (Option (Entry T))) (birth : ℕ) : Type 0 where
     pub less : birth < length keys
     pub entry : Entry T
@@ -150,7 +150,7 @@ module _ {T : Type 0} where
   pub skipped : (keys : List ℕ) (entries : List (Option (Entry T))) (k : ℕ) → get_or entries k None ≡ None → slots 0 (keys ++ k ∷ []) entries ≡ slots 0 keys entries ++ None ∷ []
   skipped keys entries k was = let more = more_keys 0 keys entries k in rw was at more
 
-  -- what stands has the key that it was given, and the entry under that key has its birth
+  -- if a birth has a record, its key leads to an entry with that birth
   pub key_is : (keys : List ℕ) (entries : List (Option (Entry T))) (birth key : ℕ) → key_at (slots 0 keys entries) keys birth ≡ Some key → (e : Entry T) × (get_or entries key None ≡ Some e) × (e.birth ≡ birth) × (birth < length keys)
   key_is keys entries birth key h = by (get_or (slots 0 keys entries) birth None) refl
     where
@@ -172,7 +172,7 @@ module _ {T : Type 0} where
   pub is_born : (keys : List ℕ) (entries : List (Option (Entry T))) (birth : ℕ) (x : T) → Some x ≡ get_or (slots 0 keys entries) birth None → birth < length keys
   is_born keys entries birth x h = (stands keys entries birth (λ n. let no : Some x ≡ None = h ∙ n in cc)).less
 
-  -- the body of a standing record is replaced
+  -- the body of a record is replaced
   pub lent : (keys : List ℕ) (entries : List (Option (Entry T))) (birth : ℕ) (w : T) (room : ℕ) (s : Stands keys entries birth) → ◌≡◌ {A = Holes T} (record { slots = slots 0 keys (set entries (get_or keys birth 0) (Some (record { birth = s.entry.birth; body = w }))); keys = keys; room = room }) (record { slots = set (slots 0 keys entries) birth (Some w); keys = keys; room = room })
   lent keys entries birth w room s =
       let k : ℕ = get_or keys birth 0 in

@@ -3,8 +3,8 @@ use Rattle.std.specs.Prelude.{ℕ, List, Option, Some, None, refl, is_some, if�
 use Rattle.std.specs.Prelude.{slice_index_or}
 use Rattle.std.specs.Coded.{Coded, code_by, coded×, coded_ℕ, coded_list, coded_option}
 
--- by birth, with a hole for each that doesn't stand; the key that each birth was given; how many
--- more fit
+-- the records by birth, with a hole for each that was taken out; the key that each birth was given;
+-- how many more fit
 pub record Holes (T : Type 0) : Type 0 where
   pub slots : List (Option T)
   pub keys : List ℕ
@@ -18,7 +18,7 @@ holes_code {T} code =
     (λ p. record { slots = p.0; keys = p.1.0; room = p.1.1 })
     (λ _. refl)
 
--- the key under which a birth stands: none where it doesn't
+-- the key of the record of a birth, or none if there is no record
 abbrev pub key_at : {T : Type 0} → List (Option T) → List ℕ → ℕ → Option ℕ
 key_at slots keys b =
     if is_some (slice_index_or slots b None) then Some (slice_index_or keys b 0) else None

@@ -8,7 +8,7 @@ abbrev pub body_of : {T : Type 0} → ℕ → Option (Entry T) → Option T
 body_of b None = None
 body_of b (Some e) = if nat_eq e.birth b then Some e.body else None
 
--- what stands at each birth from b on, for these keys
+-- the record at each birth from b on, for these keys
 abbrev pub slots : {T : Type 0} → ℕ → List ℕ → List (Option (Entry T)) → List (Option T)
 slots b [] entries = []
 slots b (k ∷ keys) entries = body_of b (slice_index_or entries k None) ∷ slots (suc b) keys entries

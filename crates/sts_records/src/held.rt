@@ -1,4 +1,4 @@
-//! The records that stand, found by birth.
+//! Records found by birth, until they are taken out.
 
 ghost use Rattle.std.specs.Prelude.{◌≡◌, ◌≢◌, ◌+◌, ◌-◌, ◌<◌, ◌≤◌, ◌++◌, [], ◌∷◌, ℕ, length};
 ghost use Rattle.std.specs.Prelude.{Option, Some, None, IfOk, slice_index_or, slice_set};
@@ -18,10 +18,10 @@ struct Entry<T> {
     body: T,
 }
 
-/// Records by birth, some of which no longer stand: contracts see a list by birth with holes.
+/// Records by birth. Contracts see a list by birth, with a hole for each record that was taken out.
 ///
-/// Births count from 0 and never come back. A record stands under a key that a later record may be
-/// given once it was taken out.
+/// Births count from 0 and are never used twice. Each record has a key. When it is taken out, a
+/// later record may be given its key.
 #[derive(Drop)]
 pub struct Held<T> {
     /// The key that each birth was given.
@@ -52,11 +52,12 @@ impl<T> Model for Held<T> {
 }
 
 impl<T: Drop> Held<T> {
-    /// No records, room for so many at once, and for 1,000,000 births. No other call takes memory.
+    /// No records, room for `room` records at once, and for 1,000,000 births. No other call takes
+    /// memory.
     ///
     /// # Errors
     ///
-    /// Want of memory.
+    /// Memory ran out.
     pub fn with_room(alloc: Global, room: u32) -> Result<Held<T>, AllocError>
         ensures { IfOk result (λ h. h ≡ record { slots = []; keys = []; room = room }) }
     {
@@ -85,7 +86,7 @@ impl<T: Drop> Held<T> {
         self.room
     }
 
-    /// The record of a birth, if it stands.
+    /// The record of a birth, if it exists.
     pub fn get(&self, birth: usize) -> Option<&T>
         ensures { option_copied result ≡ slice_index_or self.now.slots birth None }
     {
@@ -104,7 +105,7 @@ impl<T: Drop> Held<T> {
         }
     }
 
-    /// The record of a birth that stands, for writing.
+    /// The record of a birth, for writing. It must exist.
     pub fn at(&mut self, birth: usize) -> &mut T
         requires { slice_index_or self.old.slots birth None ≢ None }
         ensures* writes_back { sem 𝓛 (lends_slot T.row self.entry birth result) }
@@ -115,7 +116,7 @@ impl<T: Drop> Held<T> {
         &mut entry.body
     }
 
-    /// The key under which the record of a birth stands, if it does.
+    /// The key of the record of a birth, if it exists.
     pub fn key_of(&self, birth: usize) -> Option<usize>
         ensures { result ≡ key_at self.now.slots self.now.keys birth }
     {
@@ -125,7 +126,7 @@ impl<T: Drop> Held<T> {
         }
     }
 
-    /// The birth of the record that stands under a key.
+    /// The birth of the record at a key. It must exist.
     pub fn birth(&self, key: usize) -> usize
         requires { (b : ℕ) × (key_at self.now.slots self.now.keys b ≡ Some key) }
         ensures value { (b : ℕ) → key_at self.now.slots self.now.keys b ≡ Some key → result ≡ b }
@@ -150,7 +151,8 @@ impl<T: Drop> Held<T> {
         birth
     }
 
-    /// The next birth without a record, which is answered: it never stands, and takes no room.
+    /// Takes the next birth without a record, and answers it. It takes no room, and never has a
+    /// record.
     pub fn skip(&mut self) -> usize
         requires { length self.old.slots < 1000000 }
         ensures birth { result ≡ length self.old.slots }
@@ -159,12 +161,12 @@ impl<T: Drop> Held<T> {
         ensures room { self.new.room ≡ self.old.room }
     {
         let birth = self.keys.len();
-        // Nothing stands under this key now, and what comes to stand there has a later birth.
+        // This key has no record now. A record that gets it has a later birth.
         self.keys.push_reserved(self.entries.vacant_key());
         birth
     }
 
-    /// Takes the record of a birth out, whose key may then be given to a later one.
+    /// Takes the record of a birth out. Its key may then be given to a later record.
     pub fn remove(&mut self, birth: usize) -> T
         requires { slice_index_or self.old.slots birth None ≢ None }
         ensures value { slice_index_or self.old.slots birth None ≡ Some result }

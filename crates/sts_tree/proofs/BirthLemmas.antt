@@ -1,4 +1,4 @@
--- Births whose record meets a test, when a record is added, changed or taken out.
+-- Births with a record that passes a test, when a record is added, changed or taken out.
 use Rattle.std.proofs.Common.{◌≡◌, ℕ, zero, suc, ◌+◌, ◌<◌, ◌≤◌, List, [], ◌∷◌, ◌++◌, length, Option, Some, None, refl, sym, ap, arith, get_or, set, Bool, true, false, cond, is_some, count_by, subst}
 use Rattle.std.proofs.lemmas.List.Sums.{sum_by-cons}
 use Rattle.sts_links.specs.Lists.{NotIn, AreApart}
@@ -44,7 +44,7 @@ module _ {T : Type 0} where
       by true e r = rw (e, suc_more n (length xs)) (ap (λ l. n ∷ l) r)
       by false e r = rw (e, suc_more n (length xs)) r
 
-  -- a record is changed, and the test answers the same of it
+  -- a record is changed, but not the answer of the test
   pub births_kept : (p : T → Bool) (n : ℕ) (xs : List (Option T)) (i : ℕ) (x y : T) → get_or xs i None ≡ Some x → p y ≡ p x → births p n (set xs i (Some y)) ≡ births p n xs
   births_kept p n [] i x y at e = refl
   births_kept p n (o ∷ xs) zero x y at e = rw (at, e) refl

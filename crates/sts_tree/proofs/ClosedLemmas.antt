@@ -42,7 +42,7 @@ module _ {T : Type 0} where
   pub kept_at : (q : T → Bool) (xs : List (Option T)) (k : ℕ) (x : T) → get_or (map (drop_if q) xs) k None ≡ Some x → (get_or xs k None ≡ Some x) × (q x ≡ false)
   kept_at q xs k x e = drop_some q (get_or xs k None) x (sym (drop_at q xs k) ∙ e)
 
-  -- births by a test that none of them meets
+  -- births by a test that no dropped record passes
   pub births_dropped : (p q : T → Bool) (n : ℕ) (xs : List (Option T)) → ((x : T) → p x ≡ true → q x ≡ false) → births p n (map (drop_if q) xs) ≡ births p n xs
   births_dropped p q n [] h = refl
   births_dropped p q n (None ∷ xs) h = births_dropped p q (suc n) xs h
@@ -53,7 +53,7 @@ module _ {T : Type 0} where
       by false true e f r = rw (f, e) r
       by a false e f r = rw (f, r) refl
 
-  -- how many stand then
+  -- how many records are left then
   pub count_dropped : (q : T → Bool) (n : ℕ) (xs : List (Option T)) → count_by is_some (map (drop_if q) xs) + length (births q n xs) ≡ count_by is_some xs
   count_dropped q n [] = refl
   count_dropped q n (None ∷ xs) =
@@ -106,7 +106,7 @@ module _ {T : Type 0} where
 
 -- ---- the list of subtasks, one after the other
 
--- so many records were taken out, and these are to go
+-- the first n records were taken out, and these are left to take out
 pub record Removes (first now : Holes TaskRecord) (keys : List ℕ) (n : ℕ) (at : Option ℕ) : Type 0 where
   pub rest : List ℕ
   pub before : Option ℕ
@@ -219,7 +219,7 @@ link_kept s m k slots h = ap (link_of m) (drop_at (of_record s) slots k ∙ by (
     by None e = refl
     by (Some r) e = rw (h r e) refl
 
--- a list none of whose tasks is a subtask of s
+-- a list without a subtask of s
 list_kept : (s m : ℕ) (slots : List (Option TaskRecord)) (list : Ends) (keys : List ℕ) → ((k : ℕ) (x : Task) → (NotIn k keys → ⊥) → get_or (tasks_of slots) k None ≡ Some x → is_of s x ≡ false) → IsList (link_at slots m) list keys → IsList (link_at (map (drop_if (of_record s)) slots) m) list keys
 list_kept s m slots list keys h is =
     list_stays (link_at slots m) (link_at (map (drop_if (of_record s)) slots) m) list keys

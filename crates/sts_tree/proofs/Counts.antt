@@ -1,4 +1,4 @@
--- How many records stand, when one is written or taken out.
+-- How many records exist, when one is written or taken out.
 use Rattle.std.proofs.Common.{◌≡◌, ℕ, ◌+◌, ◌<◌, List, [], ◌∷◌, ◌++◌, length, Option, Some, None, refl, sym, ◌∙◌, arith, get_or, set, cond, is_some, count_by}
 use Rattle.std.proofs.lemmas.List.Sums.{sum_by-set, fold-append}
 use Rattle.sts_tree.proofs.HoldingLemmas.{inside_of}

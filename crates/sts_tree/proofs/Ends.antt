@@ -59,7 +59,7 @@ ended at new tasks families ready keys room t s x y f g living i is scope same_s
       born = let n = length-set tasks t (Some y) in let born = i.born in omega (arith, n, born);
     }
 
--- fewer were told than there are subtasks
+-- the joiner was told of fewer ends than there are subtasks
 pub spare : (at : ℕ → ℕ → Option Link) (tasks : List (Option Task)) (families : List (Option Family)) (ready : Ends) (keys : List ℕ) (room t s : ℕ) (x y : Task) (f : Family) → IsForest at tasks families ready keys room → get_or tasks t None ≡ Some x → y.scope ≡ x.scope → get_or families s None ≡ Some f → OneLess (births (lives_in s) 0 tasks) (births (lives_in s) 0 (set tasks t (Some y))) t → f.ends + length (births (lives_in s) 0 (set tasks t (Some y))) < length (births (is_of s) 0 (set tasks t (Some y)))
 spare at tasks families ready keys room t s x y f i is same_scope there o =
     let of : births (is_of s) 0 (set tasks t (Some y)) ≡ births (is_of s) 0 tasks = births_kept (is_of s) 0 tasks t x y is (ap (is_in s) same_scope) in

@@ -53,7 +53,7 @@ unborn p tasks = not_in p tasks (length tasks) (λ x e. let n : get_or tasks (le
 pub some_eq : (a b : ℕ) → Some a ≡ Some b → a ≡ b
 some_eq a b e = cc
 
--- what stood still stands after a write
+-- after a write each record still exists
 pub stays_some : {T : Type 0} → (xs : List (Option T)) (i j : ℕ) (x y : T) → get_or xs i None ≡ Some x → get_or xs j None ≢ None → get_or (set xs i (Some y)) j None ≢ None
 stays_some xs i j x y is h = by (nat_eq j i) refl
   where

@@ -19,7 +19,7 @@ unseen f xs k x y at same =
     let e : get_or (map (option_map f) xs) k None ≡ Some (f y) = map_at f xs k ∙ ap (option_map f) at ∙ ap (λ z. Some z) (sym same) in
     map-set (option_map f) xs k (Some y) ∙ ap (λ z. set (map (option_map f) xs) k z) (sym e) ∙ set-get_or (map (option_map f) xs) k None
 
--- the key under which a record stands
+-- the key of a record
 some_seen : {A B : Type 0} → (f : A → B) (o : Option A) → is_some (option_map f o) ≡ is_some o
 some_seen f None = refl
 some_seen f (Some x) = refl

@@ -18,7 +18,7 @@ use Rattle.sts_tree.proofs.HoldingLemmas.{map_at, inside_of, no_link}
 use Rattle.sts_tree.proofs.Rows.{family_at}
 use Rattle.sts_tree.proofs.Stores.{Stored}
 
--- a scope that doesn't stand has no subtasks
+-- a scope without a record has no subtasks
 none_of_scope : {E : Type 0} → (slots : List (Option TaskRecord)) (rows : List (Option (ScopeRecord E))) (ready : Ends) (room s : ℕ) → Stored slots (families_of rows) ready room → get_or rows s None ≡ None → (k : ℕ) (x : Task) → get_or (tasks_of slots) k None ≡ Some x → is_of s x ≡ false
 none_of_scope slots rows ready room s i none k x at = by x.scope (λ r e. i.homes k r x at e)
   where
@@ -54,7 +54,7 @@ no_middle : (front : List ℕ) (key : ℕ) (back : List ℕ) → [] ≡ front ++
 no_middle [] key back e = cc
 no_middle (x ∷ front) key back e = cc
 
--- the list in which a living subtask stands
+-- the list of a living subtask
 pub lists_living : {E : Type 0} → (slots : List (Option TaskRecord)) (rows : List (Option (ScopeRecord E))) (ready : Ends) (room s t : ℕ) (front back : List ℕ) → Stored slots (families_of rows) ready room → births (lives_in s) 0 (tasks_of slots) ≡ front ++ t ∷ back → (list : Ends) × IsList (link_at slots 1) list (front ++ t ∷ back)
 lists_living {E} slots rows ready room s t front back i e = by (get_or rows s None) refl
   where
@@ -62,7 +62,7 @@ lists_living {E} slots rows ready room s t front back i e = by (get_or rows s No
     by None q = absurd (no_middle front t back (sym (no_living slots rows ready room s i q) ∙ e))
     by (Some row) q = (row.living, rw (← e) (i.living s (family_of row) (family_at rows s row q)))
 
--- the list in which a subtask stands
+-- the list of a subtask
 pub lists_forks : {E : Type 0} → (slots : List (Option TaskRecord)) (rows : List (Option (ScopeRecord E))) (ready : Ends) (room s t : ℕ) (front back : List ℕ) → Stored slots (families_of rows) ready room → births (is_of s) 0 (tasks_of slots) ≡ front ++ t ∷ back → (list : Ends) × IsList (link_at slots 0) list (front ++ t ∷ back)
 lists_forks {E} slots rows ready room s t front back i e = by (get_or rows s None) refl
   where

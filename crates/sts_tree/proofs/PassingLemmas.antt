@@ -25,7 +25,7 @@ pub record Passes (ready out : List ℕ) (at : Option ℕ) : Type 0 where
   pub next : at ≡ first_or back None
   pub passed : (t : ℕ) → is_out out t ≡ false → has t ready ≡ true → has t back ≡ true
 
--- the same, with a task at hand
+-- like the record before, with a current task
 pub record IsAt (ready out : List ℕ) (t : ℕ) : Type 0 where
   pub front : List ℕ
   pub back : List ℕ

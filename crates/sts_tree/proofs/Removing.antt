@@ -39,7 +39,7 @@ ends_alone slots families ready room t r q i is links scope none flag =
     let stored : IsForest (link_at (set slots t (Some q))) (tasks_of (set slots t (Some q))) families ready (ready_of slots ready) room = rw e new in
     record { is = rekeyed (set slots t (Some q)) families ready (ready_of slots ready) room stored; tasks = e; keys_are = ready_is (set slots t (Some q)) ready (ready_of slots ready) new.is_ready }
 
--- the scope of a task stands
+-- the scope of a task has a record
 pub row_stands : {E : Type 0} → (slots : List (Option TaskRecord)) (rows : List (Option (ScopeRecord E))) (ready : Ends) (room t s : ℕ) (r : TaskRecord) → Stored slots (families_of rows) ready room → get_or slots t None ≡ Some r → r.task.scope ≡ Some s → get_or rows s None ≢ None
 row_stands slots rows ready room t s r i is scope none = i.homes t s r.task (task_at slots t r is) scope (map_at family_of rows s ∙ ap (option_map family_of) none)
 

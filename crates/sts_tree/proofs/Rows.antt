@@ -8,7 +8,7 @@ use Rattle.sts_tree.specs.declared.record.ScopeRecord.{ScopeRecord}
 use Rattle.sts_tree.proofs.HoldingLemmas.{map_at, unseen}
 
 module _ {E : Type 0} where
-  -- a record is written whose lists stay
+  -- a record is written, and its lists are unchanged
   pub same_families : (rows : List (Option (ScopeRecord E))) (s : ℕ) (r q : ScopeRecord E) → get_or rows s None ≡ Some r → family_of q ≡ family_of r → families_of (set rows s (Some q)) ≡ families_of rows
   same_families rows s r q is same = unseen family_of rows s r q is same
 
@@ -18,7 +18,7 @@ module _ {E : Type 0} where
   pub seen_row : (rows : List (Option (ScopeRecord E))) (s : ℕ) (q : ScopeRecord E) → scopes_of (set rows s (Some q)) ≡ set (scopes_of rows) s (Some q.scope)
   seen_row rows s q = map-set (option_map scope_of) rows s (Some q)
 
-  -- a record is written whose scope stays
+  -- a record is written, and its scope is unchanged
   pub same_scopes : (rows : List (Option (ScopeRecord E))) (s : ℕ) (r q : ScopeRecord E) → get_or rows s None ≡ Some r → q.scope ≡ r.scope → scopes_of (set rows s (Some q)) ≡ scopes_of rows
   same_scopes rows s r q is same = unseen scope_of rows s r q is same
 
@@ -38,7 +38,7 @@ module _ {E : Type 0} where
   pub no_scope_there : (rows : List (Option (ScopeRecord E))) (s : ℕ) (x : Scope E) → get_or rows s None ≡ None → get_or (scopes_of rows) s None ≡ Some x → ⊥
   no_scope_there rows s x none is = let e = map_at scope_of rows s ∙ ap (option_map scope_of) none in cc
 
-  -- a scope whose lists are there
+  -- a scope with lists has a record
   pub scope_there : (rows : List (Option (ScopeRecord E))) (s : ℕ) → get_or (families_of rows) s None ≢ None → get_or (scopes_of rows) s None ≢ None
   scope_there rows s h none = by (get_or rows s None) refl (sym (map_at scope_of rows s) ∙ none)
     where

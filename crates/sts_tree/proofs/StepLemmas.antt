@@ -93,7 +93,7 @@ unreadied at new tasks families ready ready2 keys room t x i is list =
     (λ m l ks less q. list.others m l ks q (λ e. absurd (omega (arith, e))))
     is refl (λ s. refl) list.is_list (sym (without_own t keys i.is_ready.distinct)) (λ k ne. without_other k t keys ne)
 
--- a list of some layer after a record of the next birth, whose links nobody has
+-- a list of some layer, after a record of the next birth is added, which is in no list
 pub fresh_list : (at new : ℕ → Option Link) (n : ℕ) (list : Ends) (ks : List ℕ) → at n ≡ None → ((k : ℕ) → k ≢ n → new k ≡ at k) → IsList at list ks → IsList new list ks
 fresh_list at new n list ks none same is =
     let out = without_link at n None ks None none is.linked in
@@ -148,7 +148,7 @@ pub apart_more : (xs ys zs : List ℕ) → AreApart xs ys → AreApart xs zs →
 apart_more xs [] zs a b = b
 apart_more xs (y ∷ ys) zs a b = (a.0, apart_more xs ys zs a.1 b)
 
--- this birth, if it is wanted
+-- this birth, if `wanted` is true
 abbrev pub one_if : Bool → ℕ → List ℕ
 one_if wanted t = cond wanted (t ∷ []) []
 

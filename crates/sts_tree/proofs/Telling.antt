@@ -1,4 +1,4 @@
--- One end more was told.
+-- The joiner was told of one end more.
 use Rattle.std.proofs.Common.{◌≡◌, ℕ, ◌+◌, ◌≤◌, List, length, Option, Some, None, ◌∙◌, arith, get_or, set}
 use Rattle.sts_joiners.specs.Tallied.{Tallied, ends_told, with_end}
 use Rattle.sts_links.specs.Lists.{IsList}

@@ -8,7 +8,7 @@ use Rattle.sts_tree.specs.Births.{has}
 use Rattle.sts_tree.specs.Stored.{walk}
 use Rattle.sts_tree.proofs.KeyLemmas.{has_not, split}
 
--- the keys of a list are those of a walk of so many steps
+-- the keys of a list are those of a walk of n steps
 walks : (at : ℕ → Option Link) (n : ℕ) (p : Option ℕ) (xs : List ℕ) → AreLinked at p xs None → length xs ≤ n → walk at n (first_or xs None) ≡ xs
 walks at zero p [] a le = refl
 walks at zero p (x ∷ xs) a le = absurd (omega arith)

@@ -1,4 +1,4 @@
--- The tasks and scopes that stand, by birth, and what their lists are (this project's own).
+-- The tasks and scopes that count, by birth, and their lists (this project's own).
 use Rattle.std.specs.Prelude.{◌≡◌, ◌≢◌, ℕ, ◌+◌, ◌<◌, ◌≤◌, List, [], map, length, count_by, is_some}
 use Rattle.std.specs.Prelude.{Bool, true, false, ◌&&◌, Option, Some, None, option_map}
 use Rattle.std.specs.Prelude.{slice_index_or, slice_set}
@@ -19,8 +19,9 @@ use Rattle.sts_tree.specs.declared.record.TaskRecord.{TaskRecord}
 use Rattle.sts_tree.specs.declared.record.Scope.{Scope}
 use Rattle.sts_tree.specs.declared.record.ScopeRecord.{ScopeRecord}
 
--- by birth, with a hole for each that no longer stands; the ready list in its order; the keys that
--- births were given; how many more fit
+-- The tasks and scopes by birth, with a hole for each that no longer counts. The ready list is in
+-- its order. Each birth keeps the key that it was given. The room is the number of records that
+-- still fit.
 pub record Forest (E : Type 0) : Type 0 where
   pub tasks : List (Option Task)
   pub scopes : List (Option (Scope E))
@@ -37,7 +38,7 @@ is_of s task = is_in s task.scope
 abbrev pub lives_in : ℕ → Task → Bool
 lives_in s task = is_in s task.scope && task.lives
 
--- the lists of a scope, and how many ends its joiner was told
+-- the lists of a scope, and how many ends its joiner was told of
 pub record Family : Type 0 where
   pub forks : Ends
   pub fork_count : ℕ
@@ -128,16 +129,16 @@ no_family = record {
   ends = 0;
 }
 
--- a scope that stands was told fewer ends than it has subtasks that don't live
+-- the joiner of a scope was told of fewer ends than the scope has subtasks that don't live
 abbrev pub HasSpare : {E : Type 0} → Forest E → ℕ → Type 0
 HasSpare {E} f s = (c : Scope E) → slice_index_or f.scopes s None ≡ Some c
     → ends_told c.tally + length (births (lives_in s) 0 f.tasks) < length (births (is_of s) 0 f.tasks)
 
--- does its joiner ask to cancel once it is told of this end?
+-- does its joiner ask to cancel after it is told of this end?
 abbrev pub asks : {E : Type 0} → Scope E → End → Bool
 asks c end = cancels_told c.tally.joiner (with_end c.tally end).told
 
--- a scope and its subtasks no longer stand
+-- neither a scope nor its subtasks count any longer
 abbrev pub closed : {E : Type 0} → Forest E → ℕ → Forest E
 closed f s =
     record f {

@@ -39,7 +39,7 @@ pub chained : (a b c : Holes TaskRecord) → SameTasks a b → SameTasks b c →
 chained a b c h l =
     record { tasks = l.tasks ∙ h.tasks; keys = l.keys ∙ h.keys; room = l.room ∙ h.room }
 
--- the keys in a row from here, at most so many
+-- the keys in a row from here, at most n
 abbrev pub walk : (ℕ → Option Link) → ℕ → Option ℕ → List ℕ
 walk at zero first = []
 walk at (suc n) None = []

@@ -1,4 +1,4 @@
-//! The end of a task, beside the ready list.
+//! The end of a task, without the ready list.
 
 ghost use Rattle.std.specs.Prelude.{◌≡◌, Some, None, true, slice_index_or};
 ghost use Rattle.sts_tree.specs.declared.record.Task.{Task as AnyTask};
@@ -20,8 +20,8 @@ pub(crate) fn waiter<E: Drop>(forest: &Forest<E>, t: u32) -> u32
     }
 }
 
-/// Ends a task, tells its scope unless that is cancelled, and answers whether the joiner now asks
-/// to cancel.
+/// Ends a task, and tells the joiner of its scope unless the scope is cancelled. Answers whether
+/// the joiner now asks to cancel.
 pub(crate) fn end_told<E: Drop>(forest: &mut Forest<E>, t: u32, end: End) -> bool
     requires { (x : AnyTask)
         × (slice_index_or forest.old.tasks t None ≡ Some x) × (x.lives ≡ true) }

@@ -19,7 +19,7 @@ use sts_links::{Ends, Link, after, push_back, unlink};
 use sts_model::{End, Phase, Stand};
 use sts_records::Held;
 
-/// The tasks and scopes that stand. Each task is in the lists that its fields say.
+/// The tasks and scopes that count. Each task is in the lists that its fields name.
 #[derive(Drop)]
 pub struct Forest<E> {
     tasks: Tasks,
@@ -62,7 +62,7 @@ fn small(key: Option<usize>) -> Option<u32>
     }
 }
 
-/// Appends a key where that is wanted.
+/// Appends a key if `wanted` is true.
 fn push_if(tasks: &mut Tasks, layer: u8, list: Ends, key: usize, wanted: bool) -> Ends
     requires list { (keys : List ℕ)
         × IsList (link_at tasks.old.held.slots layer) list keys × NotIn key keys }
@@ -107,12 +107,12 @@ impl<E: Drop> Forest<E> {
     ghost use Rattle.sts_joiners.specs.Tallied.{ends_told, with_end};
     ghost use Rattle.sts_tree.specs.declared.record.Scope.{Scope as AnyScope};
 
-    /// The root task alone, ready, with room for so many tasks and scopes. No other call takes
-    /// memory.
+    /// The root task alone, ready, with room for `tasks` tasks and `scopes` scopes. No other call
+    /// takes memory.
     ///
     /// # Errors
     ///
-    /// Want of memory.
+    /// Memory ran out.
     pub fn with_room(alloc: Global, tasks: u32, scopes: u32) -> Result<Forest<E>, AllocError>
         requires some { 0 < tasks }
         requires few { tasks ≤ 65536 }
@@ -153,7 +153,7 @@ impl<E: Drop> Forest<E> {
         })
     }
 
-    /// The task of a birth, if its record stands.
+    /// The task of a birth, if its record exists.
     pub fn task(&self, t: u32) -> Option<&Task>
         ensures value { option_copied result ≡ slice_index_or self.now.tasks t None }
         ensures home { (x : AnyTask) (s : ℕ) → slice_index_or self.now.tasks t None ≡ Some x →
@@ -165,7 +165,7 @@ impl<E: Drop> Forest<E> {
         }
     }
 
-    /// The scope of a birth, if its record stands.
+    /// The scope of a birth, if its record exists.
     pub fn scope(&self, s: u32) -> Option<&Scope<E>>
         ensures { option_copied result ≡ slice_index_or self.now.scopes s None }
     {
@@ -200,7 +200,7 @@ impl<E: Drop> Forest<E> {
         self.tasks.held.at(t as usize).task.flag = flag;
     }
 
-    /// Says where a task stands.
+    /// Sets whether a task is at a `join`, at a `close` or at neither.
     pub fn set_stand(&mut self, t: u32, stand: Stand)
         requires { slice_index_or self.old.tasks t None ≢ None }
         ensures { (x : AnyTask) → slice_index_or self.old.tasks t None ≡ Some x →
@@ -337,8 +337,8 @@ impl<E: Drop> Forest<E> {
         self.scopes.at(s as usize).scope.expired = true;
     }
 
-    /// Ends a task: it leaves the living subtasks of its scope, and has this state. The scope is
-    /// not told.
+    /// Ends a task: it leaves the living subtasks of its scope, and has this state. The scope's
+    /// joiner is not told.
     pub fn end_task(&mut self, t: u32, state: Option<End>)
         requires lives { (x : AnyTask)
             × (slice_index_or self.old.tasks t None ≡ Some x) × (x.lives ≡ true) }
@@ -374,7 +374,7 @@ impl<E: Drop> Forest<E> {
         self.scopes.at(s as usize).scope.tally.on_complete(end)
     }
 
-    /// Takes out a scope and its subtasks, of which none is ready.
+    /// Takes out a scope and its subtasks. None of these may be ready.
     pub fn close_scope(&mut self, s: u32)
         requires stands { slice_index_or self.old.scopes s None ≢ None }
         requires waits { (t : ℕ) (x : AnyTask) → slice_index_or self.old.tasks t None ≡ Some x →
@@ -401,14 +401,14 @@ impl<E: Drop> Forest<E> {
         self.scopes.born()
     }
 
-    /// The key under which the record of a task stands, if it does.
+    /// The key of a task's record, if it exists.
     pub fn key_of(&self, t: u32) -> Option<usize>
         ensures { result ≡ key_at self.now.tasks self.now.task_keys t }
     {
         self.tasks.held.key_of(t as usize)
     }
 
-    /// The task whose record stands under a key.
+    /// The task that has its record at this key.
     pub fn birth(&self, key: usize) -> u32
         requires { (t : ℕ) × (key_at self.now.tasks self.now.task_keys t ≡ Some key) }
         ensures { (t : ℕ) → key_at self.now.tasks self.now.task_keys t ≡ Some key → result ≡ t }
@@ -416,14 +416,14 @@ impl<E: Drop> Forest<E> {
         self.tasks.held.birth(key) as u32
     }
 
-    /// The key under which the record of a scope stands, if it does.
+    /// The key of a scope's record, if it exists.
     pub fn scope_key_of(&self, s: u32) -> Option<usize>
         ensures { result ≡ key_at self.now.scopes self.now.scope_keys s }
     {
         self.scopes.key_of(s as usize)
     }
 
-    /// The scope whose record stands under a key.
+    /// The scope that has its record at this key.
     pub fn scope_birth(&self, key: usize) -> u32
         requires { (s : ℕ) × (key_at self.now.scopes self.now.scope_keys s ≡ Some key) }
         ensures { (s : ℕ) → key_at self.now.scopes self.now.scope_keys s ≡ Some key → result ≡ s }

@@ -1,4 +1,4 @@
-//! What is read of the tasks and scopes that stand.
+//! Readings of the tasks and scopes that count.
 
 ghost use Rattle.std.specs.Prelude.{◌≡◌, ◌≢◌, ◌++◌, ◌∷◌, ◌≤◌, ℕ, List, length, Some, None, true};
 ghost use Rattle.std.specs.Prelude.{◌&&◌, ◌==◌, false, not, slice_index_or, option_copied};
@@ -20,7 +20,7 @@ use sts_model::{End, Phase, Verdict};
 impl<E: Drop> Tree<E> {
     ghost use Rattle.sts_tree.specs.declared.record.Scope.{Scope as AnyScope};
 
-    /// The task of a birth, if it stands.
+    /// The task of a birth, if it still counts.
     pub fn task(&self, t: u32) -> Option<&Task>
         ensures value { option_copied result ≡ slice_index_or self.now.tasks t None }
         ensures home { (x : AnyTask) (s : ℕ) → slice_index_or self.now.tasks t None ≡ Some x →
@@ -29,7 +29,7 @@ impl<E: Drop> Tree<E> {
         self.forest.task(t)
     }
 
-    /// The scope of a birth, if it stands.
+    /// The scope of a birth, if it isn't closed.
     pub fn scope(&self, s: u32) -> Option<&Scope<E>>
         ensures { option_copied result ≡ slice_index_or self.now.scopes s None }
     {
@@ -113,7 +113,7 @@ impl<E: Drop> Tree<E> {
         self.forest.any_lives(s)
     }
 
-    /// The joiner's result as it stands.
+    /// The joiner's result at this moment.
     pub fn result(&self, s: u32) -> Verdict
         requires { slice_index_or self.now.scopes s None ≢ None }
         ensures { (c : AnyScope E) → slice_index_or self.now.scopes s None ≡ Some c →
@@ -138,7 +138,7 @@ impl<E: Drop> Tree<E> {
         }
     }
 
-    /// The sum of the values of the successes that were told.
+    /// The sum of the values of the successes that the joiner was told of.
     pub fn total(&self, s: u32) -> i64
         requires { slice_index_or self.now.scopes s None ≢ None }
         ensures { (c : AnyScope E) → slice_index_or self.now.scopes s None ≡ Some c →
@@ -215,14 +215,14 @@ impl<E: Drop> Tree<E> {
         self.forest.living_after(t)
     }
 
-    /// The key under which the record of a task stands, if it does.
+    /// The key of a task's record, if it exists.
     pub fn key_of(&self, t: u32) -> Option<usize>
         ensures { result ≡ key_at self.now.tasks self.now.task_keys t }
     {
         self.forest.key_of(t)
     }
 
-    /// The task whose record stands under a key.
+    /// The task that has its record at this key.
     pub fn birth(&self, key: usize) -> u32
         requires { (t : ℕ) × (key_at self.now.tasks self.now.task_keys t ≡ Some key) }
         ensures { (t : ℕ) → key_at self.now.tasks self.now.task_keys t ≡ Some key → result ≡ t }
@@ -230,14 +230,14 @@ impl<E: Drop> Tree<E> {
         self.forest.birth(key)
     }
 
-    /// The key under which the record of a scope stands, if it does.
+    /// The key of a scope's record, if it exists.
     pub fn scope_key_of(&self, s: u32) -> Option<usize>
         ensures { result ≡ key_at self.now.scopes self.now.scope_keys s }
     {
         self.forest.scope_key_of(s)
     }
 
-    /// The scope whose record stands under a key.
+    /// The scope that has its record at this key.
     pub fn scope_birth(&self, key: usize) -> u32
         requires { (s : ℕ) × (key_at self.now.scopes self.now.scope_keys s ≡ Some key) }
         ensures { (s : ℕ) → key_at self.now.scopes self.now.scope_keys s ≡ Some key → result ≡ s }
@@ -254,7 +254,7 @@ impl<E: Drop> Tree<E> {
         self.forest.ready_after(t)
     }
 
-    /// Some task that can step and is not in this list: none only where there is none.
+    /// A task that can step and is not in this list, or `None` if there is no such task.
     pub fn ready_beside(&self, out: &[u32]) -> Option<u32>
         ensures some { (t : ℕ) → result ≡ Some t → (steps.can_step self.now t
             && not (list_any (λ o. o == t) out.now)) ≡ true }

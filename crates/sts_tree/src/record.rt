@@ -4,7 +4,7 @@ use sts_joiners::Tally;
 use sts_links::{Ends, Link};
 use sts_model::{End, Phase, Stand};
 
-/// A task that stands, by birth numbers.
+/// A task that still counts. It names others by birth number.
 #[derive(Clone, Copy, Debug)]
 pub struct Task {
     /// The scope that it is a subtask of; none for the root.
@@ -26,7 +26,7 @@ pub(crate) struct TaskRecord {
     pub(crate) links: [Link; 3],
 }
 
-/// A scope that stands.
+/// A scope that isn't closed.
 #[derive(Drop)]
 pub struct Scope<E> {
     pub owner: u32,

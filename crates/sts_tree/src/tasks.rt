@@ -7,7 +7,7 @@ use crate::record::{Task, TaskRecord};
 use sts_links::{Link, Links};
 use sts_records::Held;
 
-/// The tasks that stand, with their links.
+/// The tasks that count, with their links.
 #[derive(Drop)]
 pub(crate) struct Tasks {
     pub(crate) held: Held<TaskRecord>,

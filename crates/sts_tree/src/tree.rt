@@ -19,8 +19,8 @@ use std::marker::Model;
 use sts_code::Joiner;
 use sts_model::{End, Phase, Stand};
 
-/// Tasks and scopes that stand. Contracts see them as a forest whose ready list has the tasks that
-/// can step.
+/// The tasks and scopes that count. Contracts see them as a forest with a ready list of the tasks
+/// that can step.
 #[derive(Drop)]
 pub struct Tree<E> {
     pub(crate) forest: Forest<E>,
@@ -41,12 +41,12 @@ impl<E> Model for Tree<E> {
 impl<E: Drop> Tree<E> {
     ghost use Rattle.sts_tree.specs.declared.record.Scope.{Scope as AnyScope};
 
-    /// The root task alone, which can step, with room for so many tasks and scopes. No other call
-    /// takes memory.
+    /// The root task alone, which can step, with room for `tasks` tasks and `scopes` scopes. No
+    /// other call takes memory.
     ///
     /// # Errors
     ///
-    /// Want of memory.
+    /// Memory ran out.
     pub fn with_room(alloc: Global, tasks: u32, scopes: u32) -> Result<Tree<E>, AllocError>
         requires some { 0 < tasks }
         requires few { tasks ≤ 65536 }
@@ -80,8 +80,8 @@ impl<E: Drop> Tree<E> {
         self.forest.open_scope(owner, joiner, timed, environment)
     }
 
-    /// Adds a subtask, and answers its birth and whether it lives: in a scope that is cancelled it
-    /// never runs. An owner that stands at the scope may have to wait again.
+    /// Adds a subtask, and answers its birth and whether it lives. In a cancelled scope it never
+    /// runs. An owner that waits at the scope may have to wait again.
     pub fn add_subtask(&mut self, s: u32) -> (u32, bool)
         requires stands { slice_index_or self.old.scopes s None ≢ None }
         requires room { 0 < self.old.task_room }
@@ -105,7 +105,7 @@ impl<E: Drop> Tree<E> {
         (t, lives)
     }
 
-    /// Takes out a scope and its subtasks, of which none lives.
+    /// Takes out a scope and its subtasks. None of these may live.
     pub fn close_scope(&mut self, s: u32)
         requires stands { slice_index_or self.old.scopes s None ≢ None }
         requires ended { any_lives self.old.tasks s ≡ false }
@@ -117,8 +117,8 @@ impl<E: Drop> Tree<E> {
         self.forest.close_scope(s);
     }
 
-    /// Ends a task. Its scope is told unless that is cancelled; the answer is whether the joiner
-    /// now asks to cancel.
+    /// Ends a task. The joiner of its scope is told unless the scope is cancelled. Answers whether
+    /// the joiner now asks to cancel.
     pub fn end_task(&mut self, t: u32, end: End) -> bool
         requires { (x : AnyTask)
             × (slice_index_or self.old.tasks t None ≡ Some x) × (x.lives ≡ true) }
@@ -183,7 +183,7 @@ impl<E: Drop> Tree<E> {
         flag
     }
 
-    /// Says where a task stands.
+    /// Sets whether a task is at a `join`, at a `close` or at neither.
     pub fn stand(&mut self, t: u32, stand: Stand)
         requires stands { slice_index_or self.old.tasks t None ≢ None }
         requires owner { (s : ℕ) → stands_at s stand ≡ true →

@@ -83,7 +83,7 @@ sums true false a c d e f g h k = omega arith
 sums false true a c d e f g h k = omega arith
 sums false false a c d e f g h k = omega arith
 
--- closing a scope takes its subtasks from those that stand
+-- closing a scope takes its subtasks from those that count
 pub stands-set : (s : ℕ) (closed : List Bool) (b : Bool) (xs : List Line) → s < length closed → count_by (λ (x : Line). stands (set closed s b) x.scope) xs + cond (get_or closed s true) 0 (count_in s xs) ≡ count_by (λ (x : Line). stands closed x.scope) xs + cond b 0 (count_in s xs)
 stands-set s closed b [] h = none (get_or closed s true) b
   where
@@ -139,7 +139,7 @@ in_stands : (closed : List Bool) (s : ℕ) (o : Option ℕ) → get_or closed s 
 in_stands closed s None e = omega arith
 in_stands closed s (Some r) e = stands_here closed s r e (eqb r s) refl
 
--- the subtasks of an open scope stand, and so does the root
+-- the subtasks of an open scope count, and so does the root
 pub root_besides : (closed : List Bool) (s : ℕ) (xs : List Line) → get_or closed s true ≡ false → 0 < length xs → (get_or xs 0 no_line).scope ≡ None → count_in s xs + 1 ≤ count_by (λ (x : Line). stands closed x.scope) xs
 root_besides closed s [] e h root = absurd (omega arith)
 root_besides closed s (x ∷ xs) e h root =

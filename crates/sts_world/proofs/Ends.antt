@@ -1,4 +1,4 @@
--- Whose end a scope was told, after each change of the tasks and scopes.
+-- Each change of the tasks and scopes keeps the list of told ends right.
 use Rattle.std.proofs.Common.{◌≡◌, ℕ, zero, suc, ◌<◌, List, [], ◌∷◌, ◌++◌, length, Bool, true}
 use Rattle.std.proofs.Common.{false, cond, ◌&&◌, Option, Some, None, is_none, eqb, refl, ap, sym}
 use Rattle.std.proofs.Common.{◌∙◌, arith, get_or, set}
@@ -23,7 +23,7 @@ use Rattle.sts_world.specs.Ends.{KnowsEnds, end_in}
 
 -- ---- lists
 
--- another item of which the same is read
+-- an item is replaced by another with the same reading
 alike_set : {X Y : Type 0} (f : X → Y) (xs : List X) (t u : ℕ) (x d : X) → f x ≡ f (get_or xs t d) → f (get_or (set xs t x) u d) ≡ f (get_or xs u d)
 alike_set f [] t u x d e = refl
 alike_set f (y ∷ ys) zero zero x d e = e
@@ -31,7 +31,7 @@ alike_set f (y ∷ ys) zero (suc u) x d e = refl
 alike_set f (y ∷ ys) (suc t) zero x d e = refl
 alike_set f (y ∷ ys) (suc t) (suc u) x d e = alike_set f ys t u x d e
 
--- one more item, of which the same is read as where there is none
+-- an item is added that has the reading of the default
 alike_push : {X Y : Type 0} (f : X → Y) (xs : List X) (u : ℕ) (x d : X) → f x ≡ f d → f (get_or (xs ++ x ∷ []) u d) ≡ f (get_or xs u d)
 alike_push f [] zero x d e = e
 alike_push f [] (suc u) x d e = refl
@@ -113,11 +113,11 @@ no_end true None e = refl
 no_end true (Some end) e = cc
 no_end false o e = cc
 
--- no scope was told of a task that lives
+-- no joiner was told of a task that lives
 untold : (w : World) (bs : List Bool) (s t : ℕ) → lives (task_at w t) ≡ true → KnowsEnds w bs → completion_of (scope_at w s).completions t ≡ None
 untold w bs s t alive k = k.ends s t ∙ rw (no_end (task_at w t).started (task_at w t).outcome alive) (none_either _)
 
--- nobody is told
+-- no joiner is told
 pub ends_end : (w v : World) (bs : List Bool) (t : ℕ) (f : Frame) (end : End) → v ≡ ended w t f end → t < length w.tasks → lives (task_at w t) ≡ true → KnowsEnds w bs → KnowsEnds v (set bs t false)
 ends_end w v bs t f end e born alive k =
     rw e (record { as_many = simp length-set k.as_many; ends = λ s u. by_test s u (eqb u t) refl })
@@ -152,7 +152,7 @@ completion_new cs t end e = completion_more cs (record { task = t; end = end }) 
 completion_other : (cs : List Completion) (t u : ℕ) (end : End) → eqb t u ≡ false → completion_of (cs ++ record { task = t; end = end } ∷ []) u ≡ completion_of cs u
 completion_other cs t u end e = completion_more cs (record { task = t; end = end }) u ∙ rw e (or_none (completion_of cs u))
 
--- its scope is told
+-- the joiner of its scope is told
 pub ends_told : (w v : World) (bs : List Bool) (t s : ℕ) (f : Frame) (end : End) → v ≡ ended (with_scope w s (told (scope_at w s) t end)) t f end → t < length w.tasks → s < length w.scopes → lives (task_at w t) ≡ true → (task_at w t).scope ≡ Some s → KnowsEnds w bs → KnowsEnds v (set bs t true)
 ends_told w v bs t s f end e born bound alive inside k =
     rw e (record { as_many = simp length-set k.as_many; ends = λ r u. by_scope r u (eqb r s) refl })

@@ -1,4 +1,4 @@
--- What is kept is what a walk over the tasks finds.
+-- The counters are what a walk over the tasks finds.
 use Rattle.std.proofs.Common.{◌≡◌, ℕ, zero, suc, ◌+◌, List, [], ◌∷◌, length, map, count_by, Bool}
 use Rattle.std.proofs.Common.{true, false, cond, not, Option, Some, None, nat_lt, ◌||◌, refl, arith}
 use Rattle.std.proofs.Common.{ap, sym, ◌∙◌, slice_index_or}

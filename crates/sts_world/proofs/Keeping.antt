@@ -172,7 +172,7 @@ fewer_live : (r : ℕ) (xs : List Line) (t : ℕ) (o : Option ℕ) (d : Line) �
 fewer_live r xs t o d h e =
     less_one (is_in r o) _ _ (rw e at (sum_by-set (as_one (lives_in r)) xs t (record { scope = o; lives = false }) d h))
 
--- of a task without a scope
+-- a task without a scope ends
 pub kept_end : (l : Lines) (fs : List Family) (ts : List Tallied) (n m t : ℕ) (d : Line) → IsKept l fs ts n m → t < length l.tasks → get_or l.tasks t d ≡ record { scope = None; lives = true } → IsKept (record l { tasks = set l.tasks t (record { scope = None; lives = false }) }) fs ts n m
 kept_end l fs ts n m t d k h e =
     record {
@@ -187,7 +187,7 @@ kept_end l fs ts n m t d k h e =
       few = λ r. rw (same_in r l.tasks t (record { scope = None; lives = false }) d (rw e refl)) (k.few r);
     }
 
--- of a subtask
+-- a subtask ends
 pub kept_end_in : (l : Lines) (fs : List Family) (ts : List Tallied) (n m t s : ℕ) (d : Line) → IsKept l fs ts n m → t < length l.tasks → s < length fs → get_or l.tasks t d ≡ record { scope = Some s; lives = true } → IsKept (record l { tasks = set l.tasks t (record { scope = Some s; lives = false }) }) (set fs s (with_death (get_or fs s no_family))) ts n m
 kept_end_in l fs ts n m t s d k h g e =
     let after : List Line = set l.tasks t (record { scope = Some s; lives = false }) in
@@ -205,7 +205,7 @@ kept_end_in l fs ts n m t s d k h g e =
       few = λ r. rw (same_in r l.tasks t (record { scope = Some s; lives = false }) d (rw e refl)) (k.few r);
     }
 
--- its scope may be told
+-- the tally of the task's scope has room for one more end
 pub room_to_tell : (l : Lines) (fs : List Family) (ts : List Tallied) (n m t s : ℕ) (d : Line) → IsKept l fs ts n m → t < length l.tasks → get_or l.tasks t d ≡ record { scope = Some s; lives = true } → ends_told (get_or l.tallies s no_tally) + count_by (lives_in s) (set l.tasks t (record { scope = Some s; lives = false })) + 1 ≤ count_in s (set l.tasks t (record { scope = Some s; lives = false }))
 room_to_tell l fs ts n m t s d k h e =
     let fewer = fewer_live s l.tasks t (Some s) d h e in
@@ -216,7 +216,7 @@ told_more : (tally : Tallied) (end : End) → ends_told (with_end tally end) ≡
 told_more tally (Success v) = omega arith
 told_more tally (Failed c) = omega arith
 
--- a scope is told of an end
+-- the joiner of a scope is told of an end
 pub kept_told : (l : Lines) (fs : List Family) (ts : List Tallied) (n m s : ℕ) (end : End) → IsKept l fs ts n m → s < length l.tallies → ends_told (get_or l.tallies s no_tally) + count_by (lives_in s) l.tasks + 1 ≤ count_in s l.tasks → IsKept (record l { tallies = set l.tallies s (with_end (get_or l.tallies s no_tally) end) }) fs (set ts s (with_end (get_or ts s no_tally) end)) n m
 kept_told l fs ts n m s end k h room =
     record {

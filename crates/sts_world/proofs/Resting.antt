@@ -33,7 +33,7 @@ sole_slot (y ∷ ys) n d x h e f =
     let all : take n ys ≡ ys = rw (← long) (take-length ys) in
     rw f (ap (λ (zs : List Slot). x ∷ zs) (all_empty ys (rw all at e) ∙ ap (λ m. replicate m Empty) long))
 
--- the last so many, the top last, are the topmost
+-- the last n elements, if the top is last, are the n topmost
 pub topmost : {X : Type 0} (xs ys : List X) (n : ℕ) → reverse xs ≡ ys → n ≤ length ys → take (length xs - (length xs - n)) (drop (length xs - n) xs) ≡ reverse (take n ys)
 topmost xs ys n e h =
     let as_long : length ys ≡ length xs = ap length (sym e) ∙ length-reverse xs in

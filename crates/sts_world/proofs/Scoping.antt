@@ -66,7 +66,7 @@ shown_push old new xs x y h g e = rw (map-append (shown new), shown_grown old ne
 pub shown_set : (links : List Link) (tasks : List Task) (xs : List ScopeRecord) (s : ℕ) (x : ScopeRecord) (y : Scope) → shown links x ≡ y → record { tasks = tasks; scopes = map (shown links) (set xs s x) } ≡ with_scope (record { tasks = tasks; scopes = map (shown links) xs }) s y
 shown_set links tasks xs s x y e = rw (map-set (shown links) xs s x, e) refl
 
--- a scope is opened by a task in front of whose inherited environment its own bindings are
+-- a task opens a scope, which gets the task's own bindings in front of those it inherited
 pub opened : (tasks : List Task) (old new : List Link) (xs : List ScopeRecord) (t s slot : ℕ) (joiner : Joiner) (timed : Bool) (front rest : Option ℕ) → AreWithin old xs → Grows old new → s ≡ length xs → rest ≡ front_of xs (get_or tasks t no_task).scope → bindings_of new front ≡ own_bindings (get_or tasks t no_task) ++ bindings_of old rest → record { tasks = set tasks t (record (get_or tasks t no_task) { frame = record (steps (get_or tasks t no_task).frame 0 []) { entries = entry.Scope s ∷ (get_or tasks t no_task).frame.entries; slots = set (get_or tasks t no_task).frame.slots slot (Own s) } }); scopes = map (shown new) (xs ++ record { owner = t; joiner = joiner; timed = timed; phase = Opened; cancelled = false; expired = false; completions = []; front = front } ∷ []) } ≡ open_scope (record { tasks = tasks; scopes = map (shown old) xs }) t (get_or tasks t no_task).frame slot joiner timed
 unfolding open_scope
 opened tasks old new xs t s slot joiner timed front rest h g es er l =

@@ -131,7 +131,7 @@ kept_task_end w v fs ts n m t s f end e h living in_scope k =
     rw (after_end w v t f end e, in_scope)
     (kept_end_in (lines w) fs ts n m t s (line no_task) k (rw length-map h) (task_family w fs ts n m t s h living in_scope k).0 (alive w t h living ∙ rw in_scope refl))
 
--- a scope that is told of an end
+-- the tally of a scope whose joiner is told of an end
 tally_told : (scope : Scope) (t : ℕ) (end : End) → tally_of (told scope t end) ≡ with_end (tally_of scope) end
 tally_told scope t end = rw (map-append, (is_enough scope.joiner (ends scope) end 0).more) refl
 
@@ -173,11 +173,11 @@ found_living w fs ts n m s k = ap (λ (f : Family). nat_lt 0 f.living) (k.famili
 pub found_tally : (w : World) (fs : List Family) (ts : List Tallied) (n m s : ℕ) → IsKept (lines w) fs ts n m → get_or ts s no_tally ≡ tally_of (scope_at w s)
 found_tally w fs ts n m s k = ap (λ (xs : List Tallied). get_or xs s no_tally) k.tallies ∙ read_tally w.scopes s
 
--- each end that a scope was told is a success or a failure
+-- each completion of a scope is a success or a failure
 pub count_told : (scope : Scope) → count_by is_success (ends scope) + count_by is_failure (ends scope) ≡ length scope.completions
 count_told scope = (is_enough scope.joiner (ends scope) (Success (pos 0)) 0).count ∙ length-map scope.completions (λ (c : Completion). c.end)
 
--- no scope was told of too many ends
+-- no joiner was told of too many ends
 pub told_bound : (w : World) (fs : List Family) (ts : List Tallied) (n m s : ℕ) → IsKept (lines w) fs ts n m → ends_told (get_or ts s no_tally) < MAX_STANDING
 told_bound w fs ts n m s k = omega (arith, ap (λ (xs : List Tallied). ends_told (get_or xs s no_tally)) k.tallies, k.told s, k.few s)
 

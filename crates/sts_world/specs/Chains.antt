@@ -1,5 +1,5 @@
--- Environments that share their bindings: each binding is a link, and says which older link is
--- behind it (this project's own).
+-- Environments that share their bindings: each binding is a link, which names the next older link
+-- (this project's own).
 use Rattle.std.specs.Prelude.{◌≡◌, ℕ, zero, suc, pos, List, [], ◌∷◌, ◌++◌, length, nat_lt}
 use Rattle.std.specs.Prelude.{slice_index_or, Bool, true, Option, Some, None, if◌then◌else◌}
 use Rattle.sts_model.specs.declared.record.Bound.{Bound}
@@ -13,7 +13,7 @@ no_link = record { bound = record { key = 0; value = pos 0 }; behind = None }
 abbrev pub link_at : List Link → ℕ → Link
 link_at links i = slice_index_or links i no_link
 
--- the bindings from this link on, innermost first, among the first so many links
+-- the bindings from this link on, innermost first, among the first n links
 abbrev pub chain : List Link → ℕ → Option ℕ → List Bound
 chain links zero front = []
 chain links (suc n) front =
@@ -24,7 +24,7 @@ chain links (suc n) front =
 abbrev pub bindings_of : List Link → Option ℕ → List Bound
 bindings_of links front = chain links (length links) front
 
--- is the link one of the first so many, if there is one?
+-- is the link one of the first n, if there is one?
 abbrev pub is_within : ℕ → Option ℕ → Bool
 is_within n None = true
 is_within n (Some i) = nat_lt i n

@@ -15,7 +15,7 @@ abbrev pub slot_of : Option ℕ → Slot
 slot_of None = Empty
 slot_of (Some s) = Lent s
 
--- the frame at rest: no loop and no entry is open, no slot but the first is used, and the other
+-- the frame at rest: no loop and no entry is open, only the first slot is used, and the other
 -- locals are 0
 abbrev pub whole : RestingFrame → Frame
 whole r =

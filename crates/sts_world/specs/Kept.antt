@@ -1,5 +1,5 @@
--- What is kept so that no event walks over all tasks: of each scope the birth numbers of its
--- subtasks and how many of them live, and how many tasks and scopes stand (this project's own).
+-- Counters that save walks over all tasks: the subtasks of each scope by birth number, how many of
+-- them live, and how many tasks and scopes count against the limits (this project's own).
 use Rattle.std.specs.Prelude.{◌≡◌, ℕ, ◌+◌, ◌-◌, ◌<◌, ◌≤◌, List, [], ◌∷◌, ◌++◌, length, count_by}
 use Rattle.std.specs.Prelude.{Bool, true, false, Option, Some, None, ◌&&◌, not, if◌then◌else◌}
 use Rattle.std.specs.Prelude.{slice_index_or}
@@ -43,7 +43,7 @@ with_child f t lives =
 abbrev pub with_death : Family → Family
 with_death f = record f { living = f.living - 1 }
 
--- a task stands until its scope is closed
+-- a task counts until its scope is closed
 abbrev pub stands : List Bool → Option ℕ → Bool
 stands closed None = true
 stands closed (Some s) = not (slice_index_or closed s true)
@@ -65,8 +65,8 @@ no_tally = tallied AwaitAll []
 abbrev pub count_in : ℕ → List Line → ℕ
 count_in s tasks = count_by (λ (x : Line). is_in s x.scope) tasks
 
--- what is kept, of each scope and of what stands, is what a walk would find. Besides, the root is
--- in no scope, no subtask that lives was told of, and no scope has more subtasks than may stand
+-- The counters are what a walk would find. The root is in no scope. No joiner was told of a living
+-- subtask. No scope has more subtasks than the limit.
 pub record IsKept (l : Lines) (kept : List Family) (tallies_kept : List Tallied)
     (tasks_kept scopes_kept : ℕ) : Type 0 where
   pub as_many : length kept ≡ length l.closed

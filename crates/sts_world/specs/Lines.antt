@@ -1,5 +1,5 @@
--- What the kept numbers go by: of each task its scope and whether it lives, of each scope whether
--- it is closed and its joiner's tally (this project's own).
+-- The input of the counters: for each task its scope and whether it lives, and for each scope its
+-- joiner's tally and whether it is closed (this project's own).
 use Rattle.std.specs.Prelude.{ℕ, List, map, Bool, Option}
 use Rattle.sts_model.specs.declared.record.Task.{Task}
 use Rattle.sts_model.specs.declared.record.Scope.{Scope}
@@ -23,7 +23,7 @@ line task = record { scope = task.scope; lives = lives task }
 abbrev pub is_shut : Scope → Bool
 is_shut scope = is_closed scope.phase
 
--- the tally of the ends that the scope was told
+-- the tally of the ends that the scope's joiner was told of
 abbrev pub tally_of : Scope → Tallied
 tally_of scope = tallied scope.joiner (ends scope)
 

@@ -56,7 +56,7 @@ pub record IsShown (s : ScopeRecord) (scope : Scope) : Type 0 where
   pub expired : scope.expired ≡ s.expired
   pub completions : scope.completions ≡ s.completions
 
--- the two have all the same but the places of their environments
+-- the two scopes differ at most in the places of their environments
 pub record IsAlike (a b : ScopeRecord) : Type 0 where
   pub owner : a.owner ≡ b.owner
   pub joiner : a.joiner ≡ b.joiner

@@ -10,7 +10,7 @@ use std::marker::Model;
 use sts_code::MAX_ENTRIES;
 use sts_model::{Bound, Entry, Frame};
 
-/// A binding, and the place of the link behind it, which is older.
+/// A binding, and the place of the next older link.
 #[derive(Clone, Copy, Debug, PartialEq, Eq)]
 pub struct Link {
     pub bound: Bound,
@@ -104,7 +104,7 @@ impl Chains {
         Ok(place)
     }
 
-    /// The place of the link behind a link, if there is one.
+    /// The place of the next older link, if there is one.
     fn behind(&self, place: usize) -> Option<usize> {
         match self.links.get(place) {
             Some(link) => link.behind,
@@ -132,11 +132,11 @@ impl Chains {
 
     /// The environment of the frame's own bindings in front of an environment.
     ///
-    /// As many links as fit are those of the environment whose innermost link is given as a hint.
+    /// The links of the environment that `hint` leads to are used again, as far as they fit.
     ///
     /// # Errors
     ///
-    /// Want of memory, where links may have been added.
+    /// Memory ran out; links may have been added.
     pub fn extend(
         &mut self,
         frame: &Frame,

@@ -78,7 +78,7 @@ impl Records {
     ///
     /// # Errors
     ///
-    /// Want of memory, where the records stay as they were.
+    /// Memory ran out; the records are unchanged.
     pub(crate) fn tell(&mut self, s: u32, t: u32, end: End) -> Result<(), AllocError>
         ensures ok { OnOk result (self.new ≡ def.with_scope self.old s
             (effect.told (def.scope_at self.old s) t end)) }
@@ -103,7 +103,7 @@ impl Records {
         }
     }
 
-    /// Cancels the scope whose subtasks these are.
+    /// Cancels the scope that has these subtasks.
     pub(crate) fn cancel(&mut self, s: u32, births: &[u32])
         requires { births.now ≡ births_of s (lines self.old).tasks }
         ensures { self.new ≡ cancelling.cancel self.old s }
@@ -150,7 +150,7 @@ impl Records {
     ///
     /// # Errors
     ///
-    /// Want of memory.
+    /// Memory ran out.
     pub(crate) fn opening(alloc: Global, program: &Program) -> Result<Records, AllocError>
         ensures { IfOk result (λ w. def.opening program.now ≡ def.Running w) }
     {
@@ -168,7 +168,7 @@ impl Records {
     ///
     /// # Errors
     ///
-    /// Want of memory, where the records stay as they were.
+    /// Memory ran out; the records are unchanged.
     #[tactic(auto, unfolding(sts_model::specs::Effect::open_scope))]
     pub(crate) fn open_scope(
         &mut self,
@@ -208,7 +208,7 @@ impl Records {
     ///
     /// # Errors
     ///
-    /// Want of memory, where the records stay as they were.
+    /// Memory ran out; the records are unchanged.
     #[tactic(auto, unfolding(sts_model::specs::Effect::fork_task))]
     pub(crate) fn fork_task(
         &mut self,

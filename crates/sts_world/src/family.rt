@@ -57,7 +57,7 @@ impl Family {
     ///
     /// # Errors
     ///
-    /// Want of memory, where the subtasks stay as they were.
+    /// Memory ran out; the subtasks are unchanged.
     pub fn add(&mut self, task: u32, lives: bool) -> Result<(), AllocError>
         ensures ok { OnOk result (self.new ≡ with_child self.old task lives) }
         ensures err { OnErr result (self.new ≡ self.old) }

@@ -52,7 +52,7 @@ fn are_empty(slots: &[Slot]) -> bool
     slots.iter().all(|slot| is_empty(*slot))
 }
 
-/// The scope in the first slot, or none; none at all where another slot is used.
+/// The scope in the first slot, if it has one. `None` means that another slot is used.
 fn sole_scope(slots: &[Slot; 16]) -> Option<Option<u32>>
     ensures { IfSome result (λ s. slots.now ≡ slot_of s ∷ replicate LAST_SLOT Empty) }
 {
@@ -99,7 +99,7 @@ fn arguments(alloc: Global, count: usize, forker: &Frame) -> Result<Vec<i64>, Al
 ///
 /// # Errors
 ///
-/// Want of memory.
+/// Memory ran out.
 pub fn resting_entry(
     alloc: Global,
     function: u32,

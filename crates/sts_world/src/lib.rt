@@ -1,5 +1,4 @@
-//! The tasks and scopes of the plain machine, with what a walk over them would find kept beside
-//! them.
+//! The tasks and scopes of the plain machine, with counters that save walks over them.
 #![tactic(auto)]
 
 pub mod chains;

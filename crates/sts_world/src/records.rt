@@ -185,7 +185,7 @@ impl Records {
         }
     }
 
-    /// The ends that a scope was told of, in order.
+    /// The ends that a scope's joiner was told of, in order.
     pub fn completions(&self, s: u32) -> &[Completion]
         ensures { result.now ≡ (def.scope_at self.now s).completions }
     {
@@ -312,7 +312,7 @@ impl Records {
     ///
     /// # Errors
     ///
-    /// Want of memory.
+    /// Memory ran out.
     pub fn copied(&self, alloc: Global) -> Result<Records, AllocError>
         ensures { IfOk result (λ r. r ≡ self.now) }
     {

@@ -22,7 +22,7 @@ pub struct ScopeRecord {
     pub front: Option<usize>,
 }
 
-/// The place of the environment that a scope keeps, or none.
+/// The place of the environment that a scope keeps, if it keeps one.
 pub fn front_of(scopes: &[ScopeRecord], scope: Option<u32>) -> Option<usize>
     ensures { result ≡ def.front_of scopes.now scope }
 {
@@ -35,7 +35,7 @@ pub fn front_of(scopes: &[ScopeRecord], scope: Option<u32>) -> Option<usize>
     }
 }
 
-/// What a scope was opened with, but its environment.
+/// Were the two scopes opened alike? Environments are not compared.
 fn same_opening(a: &ScopeRecord, b: &ScopeRecord) -> bool
     ensures owner { result ≡ true → a.now.owner ≡ b.now.owner }
     ensures joiner { result ≡ true → a.now.joiner ≡ b.now.joiner }
@@ -57,7 +57,7 @@ fn same_marks(a: &ScopeRecord, b: &ScopeRecord) -> bool
         && same_items(&a.completions, &b.completions)
 }
 
-/// Scopes, compared but for their environments.
+/// Are the two scopes alike? Environments are not compared.
 pub fn same_scope(a: &ScopeRecord, b: &ScopeRecord) -> bool
     ensures { result ≡ true → def.IsAlike a.now b.now }
 {

@@ -70,7 +70,7 @@ impl TaskRecord {
     ///
     /// # Errors
     ///
-    /// Want of memory.
+    /// Memory ran out.
     pub fn root(alloc: Global, function: u32) -> Result<TaskRecord, AllocError>
         ensures { IfOk result
             (λ t. t ≡ record {
@@ -97,7 +97,7 @@ impl TaskRecord {
     ///
     /// # Errors
     ///
-    /// Want of memory.
+    /// Memory ran out.
     pub fn subtask(
         alloc: Global,
         function: u32,
@@ -221,7 +221,7 @@ impl TaskRecord {
     ///
     /// # Errors
     ///
-    /// Want of memory, where links may have been added.
+    /// Memory ran out; links may have been added.
     pub fn environment(
         &self,
         chains: &mut Chains,

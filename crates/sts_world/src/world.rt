@@ -31,9 +31,9 @@ use sts_same::copied::copy_all;
 
 /// The tasks and scopes: contracts see the two lists of all that were ever born.
 ///
-/// Beside them it keeps of each scope its subtasks, how many of them live and its joiner's tally,
-/// of each task whether its scope was told of its end, and how many tasks and scopes stand, so that
-/// no call walks over all tasks or all completions.
+/// The rest saves walks over all tasks and completions. For each scope it keeps the subtasks, the
+/// number that live, and the joiner's tally. For each task it keeps whether the joiner of its scope
+/// was told of its end. It also counts the tasks and the scopes that count against the limits.
 #[derive(Drop)]
 pub struct World {
     records: Records,
@@ -93,7 +93,7 @@ fn any_lives(families: &[Family], s: u32) -> bool
     }
 }
 
-/// Was this task's scope told of its end?
+/// Was the joiner of this task's scope told of its end?
 fn is_told(was_told: &[bool], t: u32) -> bool
     ensures { result ≡ slice_index_or was_told.now t false }
 {
@@ -110,7 +110,7 @@ impl World {
         &self.records
     }
 
-    /// How many tasks stand.
+    /// The number of tasks that count against the limit.
     #[tactic(auto, using(crate::proofs::Finds::finds_tasks))]
     pub fn standing_tasks(&self) -> usize
         ensures value { result ≡ standing.standing_tasks self.now }
@@ -122,7 +122,7 @@ impl World {
         self.standing_tasks
     }
 
-    /// How many scopes stand.
+    /// The number of scopes that count against the limit.
     #[tactic(auto, using(crate::proofs::Finds::finds_scopes))]
     pub fn standing_scopes(&self) -> usize
         ensures value { result ≡ standing.standing_scopes self.now }
@@ -152,7 +152,7 @@ impl World {
         any_lives(&self.families, s)
     }
 
-    /// The end of a subtask, where its scope was told of it.
+    /// The end of a subtask, if the joiner of its scope was told of it.
     pub fn sub_state(&self, t: u32) -> Option<End>
         ensures { result ≡ living.sub_state self.now t }
     {
@@ -177,7 +177,7 @@ impl World {
         }
     }
 
-    /// How many ends a scope was told of.
+    /// The number of ends that a scope's joiner was told of.
     fn told(&self, s: u32) -> usize
         ensures { result ≡ length (def.scope_at self.now s).completions }
     {
@@ -344,7 +344,7 @@ impl World {
 // ---- phases
 
 impl World {
-    /// Sets the phase of a scope. Where it is closed, its subtasks and the scope no longer stand.
+    /// Sets the phase of a scope. Once it is closed, neither the scope nor its subtasks count.
     fn set_phase(&mut self, s: u32, phase: Phase)
         ensures { self.new ≡ effect.with_phase self.old s phase }
     {
@@ -364,7 +364,7 @@ impl World {
 // ---- the end of a task
 
 impl World {
-    /// Sets the end of a living task, and tells nobody.
+    /// Sets the end of a living task, without telling a joiner.
     fn set_end(&mut self, alloc: Global, t: u32, end: End)
         requires born { t < length self.old.tasks }
         requires lives { living.lives (def.task_at self.old t) ≡ true }
@@ -380,12 +380,12 @@ impl World {
         }
     }
 
-    /// Ends a living subtask of a scope that is told of it, and answers whether the scope's joiner
-    /// now asks to cancel it.
+    /// Ends a living subtask and tells the joiner of its scope. Answers whether the joiner now asks
+    /// to cancel the scope.
     ///
     /// # Errors
     ///
-    /// Want of memory, where the world stays as it was.
+    /// Memory ran out; the world is unchanged.
     fn complete(&mut self, alloc: Global, t: u32, s: u32, end: End) -> Result<bool, AllocError>
         requires born { t < length self.old.tasks }
         requires lives { living.lives (def.task_at self.old t) ≡ true }
@@ -410,7 +410,7 @@ impl World {
     ///
     /// # Errors
     ///
-    /// Want of memory, where the world stays as it was.
+    /// Memory ran out; the world is unchanged.
     #[tactic(auto, unfolding(sts_model::specs::Effect::end_task))]
     pub fn end_task(&mut self, alloc: Global, t: u32, end: End) -> Result<(), AllocError>
         requires born { t < length self.old.tasks }
@@ -544,7 +544,7 @@ impl World {
     ///
     /// # Errors
     ///
-    /// Want of memory.
+    /// Memory ran out.
     pub fn opening(alloc: Global, program: &Program) -> Result<World, AllocError>
         ensures { IfOk result (λ w. def.opening program.now ≡ def.Running w) }
     {
@@ -565,7 +565,7 @@ impl World {
     ///
     /// # Errors
     ///
-    /// Want of memory, where the world stays as it was.
+    /// Memory ran out; the world is unchanged.
     pub fn open_scope(
         &mut self,
         alloc: Global,
@@ -597,7 +597,7 @@ impl World {
     ///
     /// # Errors
     ///
-    /// Want of memory, where the world stays as it was.
+    /// Memory ran out; the world is unchanged.
     pub fn fork_task(
         &mut self,
         alloc: Global,
@@ -660,7 +660,7 @@ impl World {
     ///
     /// # Errors
     ///
-    /// Want of memory.
+    /// Memory ran out.
     pub fn copied(&self, alloc: Global) -> Result<World, AllocError>
         ensures { IfOk result (λ w. w ≡ self.now) }
     {
