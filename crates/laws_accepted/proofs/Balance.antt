@@ -1,5 +1,5 @@
--- What stands and the room that is left add up to what the root was given: in each state, from who
--- owns what.
+-- In each state the numbers that count and the room that is left add up to what the root was given.
+-- This follows from who owns what.
 use Rattle.std.proofs.Common.{◌≡◌, ℕ, zero, suc, ◌+◌, ◌-◌, ◌<◌, ◌≤◌, List, [], ◌∷◌, Bool, true}
 use Rattle.std.proofs.Common.{false, Option, Some, None, refl, sym, ◌∙◌, length, arith, get_or}
 use Rattle.std.proofs.Common.{cond, not, ◌||◌, is_none}
@@ -119,7 +119,7 @@ gates_upto g n (x ∷ es) born =
     added f h (suc m) = let q = added f h m in omega (arith, q)
 
 module _ (w : World) (o : Sound w) (e : Entered w) (idle : Idle w) where
-  -- who has an entry lives
+  -- a task with an entry lives
   entered_lives : (u s : ℕ) → Has s (task_at w u).frame.entries → lives (task_at w u) ≡ true
   entered_lives u s has = by (lives (task_at w u)) refl
     where
@@ -157,7 +157,7 @@ module _ (w : World) (o : Sound w) (e : Entered w) (idle : Idle w) where
       by true h = let z : cond (not (is_closed (scope_at w s).phase)) (g s) 0 ≡ 0 = rw h refl in of_closed g s h ∙ sym z
       by false h = let z : cond (not (is_closed (scope_at w s).phase)) (g s) 0 ≡ g s = rw h refl in of_open g s born h ∙ sym z
 
-  -- each standing scope is an entry of one task
+  -- each scope that isn't closed is an entry of one task
   pub over_entries : (g : ℕ → ℕ) → sum_by (λ (x : Task). sum_by (gate g) x.frame.entries) w.tasks ≡ upto (λ s. cond (is_standing_scope (scope_at w s)) (g s) 0) (length w.scopes)
   over_entries g =
       sum-same (λ (x : Task). sum_by (gate g) x.frame.entries) (λ (x : Task). upto (λ s. sum_by (at_scope g s) x.frame.entries) (length w.scopes)) w.tasks no_task
@@ -192,7 +192,7 @@ module _ (w : World) (o : Sound w) (e : Entered w) (idle : Idle w) where
       outside s other false h true = let out : is_subtask s (task_at w u) ≡ false = rw q h in rw out refl
       outside s other false h false = refl
 
-  -- the standing tasks are the root and the subtasks of standing scopes
+  -- the tasks that count are the root and the subtasks of open scopes
   pub over_tasks : (p : Program) (f : Task → ℕ) → Rooted p w.tasks → sum_by (λ (x : Task). cond (is_standing_task w x) (f x) 0) w.tasks ≡ f (task_at w 0) + upto (λ s. cond (is_standing_scope (scope_at w s)) (sum_by (λ (x : Task). cond (is_subtask s x) (f x) 0) w.tasks) 0) (length w.scopes)
   over_tasks p f r =
       let n : ℕ = length w.scopes in
@@ -233,7 +233,7 @@ entries_parts k budgets tasks (x ∷ es) =
     omega (arith, a, b, c, d, e)
 
 module _ (p : Program) (k : Peak) (budgets : List Budgets) (w : World) (o : Sound w) (e : Entered w) (idle : Idle w) (thrifty : Thrifty k budgets w) (rooted : Rooted p w.tasks) where
-  -- a task that doesn't stand doesn't live
+  -- a task that doesn't count doesn't live
   pub not_standing : (u : ℕ) → is_standing_task w (task_at w u) ≡ false → lives (task_at w u) ≡ false
   not_standing u h = by (task_at w u).scope refl
     where
@@ -245,7 +245,7 @@ module _ (p : Program) (k : Peak) (budgets : List Budgets) (w : World) (o : Soun
           closed true n = refl
           closed false n = cc
 
-  -- what a standing task was given is what it uses and may still use
+  -- the share of a task that counts is the sum of its use and its slack
   of_task : (u : ℕ) → u < length w.tasks → cond (is_standing_task w (task_at w u)) (share k budgets (task_at w u)) 0 ≡ cond (is_standing_task w (task_at w u)) k.task 0 + sum_by (entry_use k budgets w.tasks) (task_at w u).frame.entries + slack k budgets w (task_at w u)
   of_task u less = by (is_standing_task w (task_at w u)) refl
     where
@@ -285,7 +285,7 @@ zero_cond : (b : Bool) → cond {A = ℕ} b 0 0 ≡ 0
 zero_cond true = refl
 zero_cond false = refl
 
--- what stands and the room add up to the root's budget
+-- the numbers that count and the room add up to the root's budget
 pub balance_tasks : (p : Program) (budgets : List Budgets) (w : World) → Sound w → Entered w → Idle w → Thrifty tasks_peak budgets w → Rooted p w.tasks → standing_tasks w + room tasks_peak budgets w ≡ share tasks_peak budgets (task_at w 0)
 balance_tasks p budgets w o e idle thrifty rooted =
     let a = balance p tasks_peak budgets w o e idle thrifty rooted in

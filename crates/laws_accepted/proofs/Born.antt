@@ -19,7 +19,7 @@ use Rattle.laws_accepted.proofs.TimelyLemmas.{Timely}
 use Rattle.laws_accepted.specs.Costs.{BirthsAreSteps}
 use Rattle.laws_accepted.proofs.CostRuns.{Keeps, counted-after}
 
--- so many tasks and scopes were born
+-- at most n tasks and scopes were born, without the root
 abbrev Born : World → ℕ → Type 0
 Born w n = length w.tasks + length w.scopes ≤ n + 1
 

@@ -48,7 +48,7 @@ use Rattle.laws_accepted.proofs.JoinRows.{Landed}
 
 -- ---- the other scopes
 
--- a cancel and a phase of scope n leave the other scopes
+-- a cancel and a phase of scope n leave the other scopes alone
 other-scope : (w : World) (n m : ℕ) (ph : Phase) → (m ≡ n → ⊥) → scope_at (with_phase (cancel w n) n ph) m ≡ scope_at w m
 other-scope w n m ph never =
     get_or-set_other (cancel w n).scopes n m (record (scope_at (cancel w n) n) { phase = ph }) no_scope never
@@ -72,7 +72,7 @@ closing-fits Attempted expired closing e = e
 closing-fits Joined expired closing e = e
 closing-fits Late expired closing e = e
 
--- the frame stands at the close of this slot
+-- the frame is at the close of this slot
 at_this_close : (p : Program) (f : Frame) (x y : ℕ) → instr_at p f ≡ Some (Close x) → y ≡ x → closes (instr_at p f) y ≡ true
 at_this_close p f x y at same = rw (at, same) (grind (arith, nat_tests))
 

@@ -124,14 +124,14 @@ module _ (Typed : Type 0) (p : Program) (budgets : List Budgets) (w : World) (n 
       by true e = refl
       by false e = let dead = not_standing p tasks_peak budgets w facts.right.sound facts.also.orderly.entered o.idle (thrifty tasks_peak (bounds_tasks p budgets high)) o.rooted u e in cc
 
-  -- what a living task has left is part of the room
+  -- the rest of a living task's share is part of the room
   has_slack : (k : Peak) (t gain : ℕ) → lives (task_at w t) ≡ true → use_of k budgets w.tasks (task_at w t) + gain ≤ share k budgets (task_at w t) → gain ≤ room k budgets w
   has_slack k t gain alive fits =
       let part = get_or-le-sum_by (slack k budgets w) w.tasks t no_task (born_alive w t alive) in
       let e : slack k budgets w (task_at w t) ≡ share k budgets (task_at w t) - use_of k budgets w.tasks (task_at w t) = rw (stands t alive) refl in
       omega (arith, part, e, fits)
 
-  -- where a step leads to a point at which so much more is used, so much is left
+  -- if a step leads to a point that uses `gain` more, at least `gain` is left
   gains : (k : Peak) → Bounds k p budgets → (t : ℕ) (i : Instr) (gain : ℕ) → (alive : lives (task_at w t) ≡ true) → instr_at p (task_at w t).frame ≡ Some i → shape_of (task_at w t).frame.pc i ≡ GoesTo (((task_at w t).frame.pc + 1) ∷ [])
       → ((q : Point p budgets w.tasks (task_at w t).frame (o.placed t alive).before) → entries_sum (measure_of k (take (task_at w t).frame.function budgets)) (entries_of i q.opened) ≡ entries_sum (measure_of k (take (task_at w t).frame.function budgets)) q.opened + gain)
       → gain ≤ room k budgets w

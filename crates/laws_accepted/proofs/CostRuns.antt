@@ -114,14 +114,14 @@ module _ (p : Program) (E : World → ℕ → Type 0) (keeps : Keeps p E) where
   run [] before h = subst Counted (sym (append-nil before)) h
   run (e ∷ es) before h = subst Counted (append_assoc before (e ∷ []) es) (run es (before ++ e ∷ []) (one_more before e h))
 
-  -- what holds at the beginning and is kept by each event holds in every state of every run
+  -- a fact holds in every state of every run if it holds at the beginning and each event keeps it
   pub counted-after : E (record { tasks = main p ∷ []; scopes = [] }) 0 → (events : List Event) → In (λ w. E w (taken p events)) (after p events)
   counted-after beginning events = run events [] beginning
 
 -- ---- costs
 
 module _ (Typed : Type 0) (p : Program) (budgets : List Budgets) (is : IsCosted Typed p budgets) where
-  -- nothing but flags and scopes changed
+  -- only flags and scopes changed
   good_outside : (w v : World) (n : ℕ) → Also Timely w → Also Timely v → Later w v → Alike w v → Good Typed p budgets w n → Good Typed p budgets v n
   good_outside w v n facts ov later a o = good_alike Typed p budgets w v n o a (λ u alive. waits-stay p w v u facts.right.sound ov.also.orderly.entered later (a.each u).frame alive)
 

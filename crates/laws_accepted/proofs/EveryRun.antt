@@ -27,7 +27,7 @@ a_step_is_left p checked some ok fine law =
     by b events (Running w) h left = λ t alive. left t (h t alive).instr alive (h t alive).at
     by b events (Faulted kind t f pc) h left = tt
 
--- the laws that every run stands on
+-- the laws that the promises for every run follow from
 pub record Laws : Type 0 where
   pub closed : ClosedIsEmpty
   pub root : RootEndsLast

@@ -1,4 +1,4 @@
--- Where living tasks misuse nothing no run comes to a fault.
+-- If living tasks misuse nothing, no run faults.
 use Rattle.std.proofs.Common.{◌≡◌, ℕ, List, [], ◌∷◌, ◌++◌, Bool, true, false, None, refl, ◌∙◌, ap}
 use Rattle.std.proofs.Common.{cond, fold}
 use Rattle.sts_code.specs.Program.{Program}

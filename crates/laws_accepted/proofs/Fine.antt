@@ -219,7 +219,7 @@ readable-phase Two Late phase.Closed e a b = cc
 readable-phase profile Opened ph e a b = cc
 readable-phase profile Attempted ph e a b = cc
 
--- a scope in whose close the frame doesn't stand
+-- the frame isn't at the close of this scope
 not-at-close : (p : Program) (w : World) (f : Frame) (i : Instr) (x n : ℕ) (r : TypedScope) → instr_at p f ≡ Some i → ((y : ℕ) → closes (Some i) y ≡ false) → InSlot p w f x n r → fits_phase false r.phase (scope_at w n).phase (scope_at w n).expired ≡ true
 not-at-close p w f i x n r at none h = subst (λ (b : Bool). fits_phase b r.phase (scope_at w n).phase (scope_at w n).expired ≡ true) (not_closing p f i at none r.slot) h.fits.scope.phase
 
@@ -378,7 +378,7 @@ fine-bound p w t i s checked st bound = refl
 
 -- ---- all rows
 
--- a typed task that forks does so in a scope of its own
+-- a typed task that forks uses a scope of its own
 forks-own : (p : Program) (w : World) (f : Frame) (x g : ℕ) (h : Option ℕ) (s : TypeState) → Stands p w f (Fork x g h) s → slot f x ≡ Own (named (slot f x))
 forks-own p w f x g h s st = own_slot (slot f x) (first_no _ _ (first_no _ _ (fine-slots p w f (Fork x g h) s st))) (fine-own p w f (Fork x g h) s st)
 

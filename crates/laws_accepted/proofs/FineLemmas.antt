@@ -1,4 +1,4 @@
--- A task that is fine where it stands misuses nothing.
+-- A task that is fine at its instruction misuses nothing.
 use Rattle.std.proofs.Common.{◌≡◌, ℕ, None, refl, ◌∙◌, ap}
 use Rattle.sts_code.specs.Program.{Program}
 use Rattle.sts_code.specs.declared.instr.Instr.{Instr}

@@ -1,5 +1,5 @@
--- What holds in every state of a run of a program with budgets: each living task is at a point of a
--- control path, and what is left of its steps, all together, is left of the root's.
+-- Facts of every state of a run of a program with budgets. Each living task is at a point of a
+-- control path. The steps that are left to all tasks together are part of the root's.
 use Rattle.std.proofs.Common.{◌≡◌, ℕ, ◌+◌, ◌-◌, ◌<◌, ◌≤◌, List, [], true, false, None, sym, ◌∙◌, ap}
 use Rattle.std.proofs.Common.{subst, length, arith, get_or, set, take, length-set, get_or-set_same}
 use Rattle.std.proofs.Common.{get_or-set_other}
@@ -29,13 +29,14 @@ use Rattle.laws_accepted.proofs.Flow.{GoesOn}
 use Rattle.laws_accepted.proofs.Points.{zips_map}
 use Rattle.laws_accepted.proofs.Turns.{Alike, Turned, like-lives, lent-same, each-task}
 
--- a program that passed its checks, and budgets that no point of a control path of its functions
--- passes; steps are bounded where it is well typed, since only then each point lies on a whole path
+-- A program that passed its checks, with budgets that no point of a control path of its functions
+-- exceeds. The steps are bounded only if the program is well typed, since only then each point is
+-- on a whole path.
 pub record IsCosted (Typed : Type 0) (p : Program) (budgets : List Budgets) : Type 0 where
   pub checked : program_fault p.routines ≡ None
   pub within : Typed → (f : ℕ) → f < length p.routines → PointsAreWithin (take f budgets) (routine p f).code (budget_at budgets f)
 
--- a task at a point, with so many steps taken of a close, and enough steps left
+-- a task at a point, with enough steps left; `waiting` of them were taken of a close
 pub record Placed (Typed : Type 0) (p : Program) (budgets : List Budgets) (tasks : List Task) (f : Frame) (waiting left : ℕ) : Type 0 where
   pub before : ℕ
   pub point : Point p budgets tasks f before
@@ -99,7 +100,7 @@ point_next p budgets tasks later f g i before at goes function size o zips slots
       size = size ∙ o.size;
     }
 
--- the steps that an instruction counts are left, but for the first one of a close that waits
+-- enough steps are left for an instruction, less the first one of a close that waits
 pub steps_left : (Typed : Type 0) (p : Program) (budgets : List Budgets) (tasks : List Task) (f : Frame) (i : Instr) (waiting left : ℕ) → IsCosted Typed p budgets → f.function < length p.routines → instr_at (code p f) f.pc ≡ i → Placed Typed p budgets tasks f waiting left → Typed → steps_of (take f.function budgets) i ≤ waiting + left
 steps_left Typed p budgets tasks f i waiting left is within at o y =
     let b = is.within y f.function within f.pc (loops_of f.loops) o.before o.point.opened o.point.comes in
@@ -163,7 +164,7 @@ module _ (Typed : Type 0) (p : Program) (budgets : List Budgets) (w v : World) (
             };
       }
 
--- nothing but flags and scopes changed
+-- only flags and scopes changed
 pub good_alike : (Typed : Type 0) (p : Program) (budgets : List Budgets) (w v : World) (n : ℕ) → Good Typed p budgets w n → Alike w v → ((u : ℕ) → lives (task_at v u) ≡ true → steps_begun (stand_at p w u) ≤ steps_begun (stand_at p v u)) → Good Typed p budgets v n
 good_alike Typed p budgets w v n o h patient =
     let count = h.count in

@@ -148,7 +148,7 @@ found-none test (y ∷ ys) e = by (test y) e (found-none test ys)
     by true e next = cc
     by false e next = next e
 
--- what an answer tells: how much is pushed, that a failure may be told, and that none failed
+-- the facts of an answer: how much it pushes, when it may be a failure, and when no subtask failed
 pub record Answers (j : Joiner) (es : List End) (v : Verdict) : Type 0 where
   pub nothing : v ≡ verdict.Ok None → ok_pushes j ≡ 0
   pub value : (x : ℤ) → v ≡ verdict.Ok (Some x) → ok_pushes j ≡ 1
@@ -257,7 +257,7 @@ pub record AtJoin (p : Program) (w : World) (t x n : ℕ) (failed timeout : Opti
   pub joiner : joiner_of (scope_in s.entries x) ≡ (scope_at w n).joiner
   pub succeeded : (scope_at w n).expired ≡ false → ((scope_at w n).cancelled || not (any_lives w n)) ≡ true → is_all_success (scope_at w n).joiner ≡ true → list_any joining.is_failure (ends (scope_at w n)) ≡ false → (u : ℕ) → (task_at w u).scope ≡ Some n → has_succeeded (sub_state w u) ≡ true
 
--- the step leads to a world in which the task lands
+-- the step leads to a world that fits the task's new place
 abbrev pub Landed : Program → World → ℕ → World → Type 0
 Landed p w t v = Later w v → Lands p v (task_at w t).frame (task_at v t).frame
 

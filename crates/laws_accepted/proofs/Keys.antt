@@ -26,7 +26,7 @@ other_due : (a b c : Bool) → a ≡ false → ((a || b) || c) ≡ true → (b |
 other_due false b c e h = h
 other_due true b c e h = cc
 
--- the own bindings, and behind them what covers the needs, cover what is due behind the entries
+-- bindings that cover the needs of g, with the task's own bindings in front, cover all that is due
 pub covers-own : (p : Program) (w : World) (f : Frame) (g : ℕ) (es : List Entry) (rs : List TypedEntry) (environment : List Bound) → Zips (FitsEntry p w f) es rs → Covers p g [] environment → Covers p g rs (filter_map bound_of es ++ environment)
 covers-own p w f g [] [] environment z h k less due = h k less due
 covers-own p w f g (entry.Binding j v ∷ es) (typed.Binding i ∷ rs) environment z h k less due = by (j == k) refl (covers-own p w f g es rs environment z.1 h k less)
@@ -40,7 +40,7 @@ covers-own p w f g (e ∷ es) [] environment z h k less due = absurd z
 covers-own p w f g (entry.Binding j v ∷ es) (typed.Scope r ∷ rs) environment z h k less due = absurd z.0
 covers-own p w f g (entry.Scope n ∷ es) (typed.Binding i ∷ rs) environment z h k less due = absurd z.0
 
--- what is due where no binding comes after a scope is bound in what the scope keeps
+-- if no binding comes after a scope, the bindings that the scope keeps cover all that is due
 pub covers-scope : (p : Program) (w : World) (f : Frame) (es : List Entry) (rs : List TypedEntry) (x n : ℕ) (r : TypedScope) → Zips (FitsEntry p w f) es rs → binds_after x rs ≡ false → scope_in rs x ≡ Some r → slot f x ≡ Own n → Covers p f.function rs (scope_at w n).environment
 covers-scope p w f [] [] x n r z after there own = cc
 covers-scope p w f (entry.Binding j v ∷ es) (typed.Binding i ∷ rs) x n r z after there own = cc
@@ -74,7 +74,7 @@ if_needed true true e h = refl
 if_needed true false e h = cc
 if_needed false b e h = cc
 
--- what covers all that is due covers the needs of a function that may be forked
+-- bindings that cover all that is due cover the needs of a function that may be forked
 pub covers-child : (p : Program) (f g : ℕ) (rs : List TypedEntry) (environment : List Bound) → list_any (λ k. needs p g k && not (is_due p f rs k)) (range_with_len 0 16) ≡ false → Covers p f rs environment → Covers p g [] environment
 covers-child p f g rs environment none h k less due =
     h k less (if_needed (needs p g k) (is_due p f rs k) (none_in (λ k. needs p g k && not (is_due p f rs k)) 0 16 k none (omega arith) (omega (arith, less))) due)

@@ -30,11 +30,11 @@ use Rattle.laws_accepted.proofs.Stands.{not_closing}
 
 -- ---- operands
 
--- as many operands as are popped
+-- there are enough operands for the pops
 pub enough : (p : Program) (i : Instr) (s : TypeState) → cause.lacks_operands p i s ≡ false → pops p i ≤ s.height
 enough p i s e = grind (arith, nat_tests)
 
--- pops and pushes so many
+-- pops n operands and pushes others
 pub height-moved : (ops pushed : List ℤ) (n height : ℕ) → length ops ≡ height → length (pushed ++ drop n ops) ≡ height - n + length pushed
 height-moved ops pushed n height e =
     let a = length-append pushed (drop n ops) in

@@ -142,7 +142,7 @@ module _ (p : Program) (budgets : List Budgets) (w : World) (t x : ℕ) (failed 
   moves_verdict s (verdict.Ok (Some y)) can = moves_joined s (steps (task_at w t).frame 0 (y ∷ [])) (among_next failed timeout interrupted ((task_at w t).frame.pc + 1)) refl (record { function = refl; entries = refl; slots = refl })
   moves_verdict s (verdict.Failed c) can = moves_joined s (goes (task_at w t).frame (unwrap_or failed 0) 0 (c ∷ [])) (among_failed failed timeout interrupted ((task_at w t).frame.pc + 1) (can c refl)) refl (record { function = refl; entries = refl; slots = refl })
 
-  -- a join whose targets fit its scope; only a scope with a timeout expires
+  -- a join with targets that fit its scope; only a scope with a timeout expires
   pub moves_join : (s : ℕ) → joins_wrongly (task_at w t).frame failed timeout (scope_at w s) ≡ false → ((scope_at w s).expired ≡ true → (scope_at w s).timed ≡ true) → Moves p budgets w (join_scope w t (task_at w t).frame s (unwrap_or failed 0) (unwrap_or timeout 0) interrupted) t (Join x failed timeout interrupted)
   unfolding join_scope
   moves_join s right timely =

@@ -53,7 +53,7 @@ in-slot p w f (entry.Scope m ∷ es) (typed.Binding i ∷ rs) x n r z there own 
 
 -- ---- another phase
 
--- the same but for its phase, which is this one
+-- the scope differs only in its phase, which is this one
 pub record Moved (x y : Scope) (to : Phase) : Type 0 where
   pub joiner : y.joiner ≡ x.joiner
   pub timed : y.timed ≡ x.timed

@@ -58,7 +58,7 @@ has-rest s (entry.Scope r) es h = by (r == s) refl
     by true e = rw e refl
     by false e = rw e h
 
--- slots that own the scopes still, whose subtasks were given the same
+-- the slots still own the scopes, and the subtasks of these were given the same
 pub zips_map : (budgets earlier : List Budgets) (tasks later : List Task) (own new : ℕ → Slot) (es : List Entry) (os : List OpenEntry)
     → ((x s : ℕ) → Has s es → own x ≡ Own s → new x ≡ Own s)
     → ((k : Peak) (s : ℕ) → Has s es → subtask_shares k budgets later s ≡ subtask_shares k budgets tasks s)

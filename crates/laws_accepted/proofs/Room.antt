@@ -19,7 +19,7 @@ use Rattle.laws_accepted.specs.Costs.{AcceptedHasPlace, HasPlaceFor, HasPlace}
 use Rattle.laws_accepted.specs.Typed.{crowds, is_crowding, WantsRoomAlone, OnlyRoomIsWanted}
 use Rattle.laws_accepted.specs.Accepted.{AllFine, LivingTasksAreFine}
 
--- no instruction that has its place wants for room
+-- no instruction breaks a limit, if there is room for it
 no_crowd : (w : World) (f : Frame) (o : Option Instr) → ((i : Instr) → o ≡ Some i → HasPlaceFor w f i) → crowds w f o ≡ false
 no_crowd w f (Some (Open x joiner timed)) place = place (Open x joiner timed) refl
 no_crowd w f (Some (Fork x g h)) place = by (slot f x) (place (Fork x g h) refl)

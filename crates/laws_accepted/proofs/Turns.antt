@@ -33,7 +33,7 @@ use Rattle.laws_runs.proofs.EnteredLemmas.{Entered}
 use Rattle.laws_accepted.specs.Costs.{Peak, share_in, subtask_shares, steps_begun}
 use Rattle.laws_accepted.proofs.Sums.{sum-alike}
 
--- a task, but for its flag
+-- two tasks that differ at most in their flags
 pub record IsLike (x y : Task) : Type 0 where
   pub frame : y.frame ≡ x.frame
   pub started : y.started ≡ x.started
@@ -49,12 +49,12 @@ like-trans x y z h k = record { frame = k.frame ∙ h.frame; started = k.started
 pub like-lives : (x y : Task) → IsLike x y → lives y ≡ lives x
 like-lives x y h = ap (λ b. b && is_none y.outcome) h.started ∙ ap (λ o. x.started && is_none o) h.outcome
 
--- all tasks, but for flags
+-- all tasks are the same, or differ only in flags
 pub record Alike (w v : World) : Type 0 where
   pub count : length v.tasks ≡ length w.tasks
   pub each : (u : ℕ) → IsLike (task_at w u) (task_at v u)
 
--- the task t is x now, and all others are as they were, but for flags
+-- the task t is x now, and all others differ at most in flags
 pub record Turned (w v : World) (t : ℕ) (x : Task) : Type 0 where
   pub count : length v.tasks ≡ length w.tasks
   pub here : IsLike x (task_at v t)

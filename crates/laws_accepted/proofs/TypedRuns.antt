@@ -95,7 +95,7 @@ tasks-open : (w : World) (t x : ℕ) (joiner : Joiner) (timed : Bool) → length
 unfolding open_scope
 tasks-open w t x joiner timed = length-set w.tasks t _
 
--- no instruction but `fork` makes a task
+-- only `fork` makes a task
 pub is_fork : Instr → Bool
 is_fork (Fork s g h) = true
 is_fork _ = false
@@ -135,7 +135,7 @@ begins-lent p w a n args less = by (a + 1 == length p.routines) (grind (arith, n
     by false e = tt
     by true e = cc
 
--- what a forked function needs is bound in what the scope keeps
+-- the needs of a forked function are bound in the environment that the scope keeps
 child-bound : (p : Program) (w : World) (f : Frame) (x a n : ℕ) (h : Option ℕ) (s : TypeState) → Stands p w f (Fork x a h) s → slot f x ≡ slots.Own n → Covers p a [] (scope_at w n).environment
 child-bound p w f x a n h s st own =
     let r = own-scope p w f s x n cause.is_opened st.fits own st.clear.legal in

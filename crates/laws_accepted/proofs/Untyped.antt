@@ -1,5 +1,5 @@
--- A program whose steps pass its budget: a path of it ends at a `next` of no loop, so it is part of
--- no whole path.
+-- A program with more steps than its budget: a path of it ends at a `next` of no loop, so it is
+-- part of no whole path.
 use Rattle.std.proofs.Common.{◌≡◌, ℕ, zero, suc, ◌+◌, ◌<◌, ◌≤◌, inl, inr, List, [], ◌∷◌, refl, sym}
 use Rattle.std.proofs.Common.{◌∙◌, ap, subst, arith}
 use Rattle.std.specs.Prelude.{codes, pos}

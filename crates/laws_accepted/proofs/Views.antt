@@ -1,4 +1,4 @@
--- What stands in a view stands in the world that it is seen of, so the laws of costs speak of it.
+-- The view has what counts in its world, so the laws of costs hold for the view.
 use Rattle.std.proofs.Common.{◌≡◌, ℕ, zero, suc, ◌<◌, ◌≤◌, List, [], ◌∷◌, Bool, true, false, Some}
 use Rattle.std.proofs.Common.{None, refl, sym, ◌∙◌, ap, subst, length, arith, get_or, cond}
 use Rattle.std.specs.Prelude.{filter_map, count_by, sum_by}
@@ -83,7 +83,7 @@ bindings_are_seen p idle events = by (after p events) (facts-after p events) (id
 
 -- ---- what stands in a view
 
--- a fact of the worlds that a list of events leads to, said of the views that stand at it
+-- a fact of the worlds after a list of events is a fact of the views after it
 of_views : (p : Program) (P : Budgets → List Event → World → Type 0) (Q : Budgets → Live → Type 0) → WithMain p P → ((b : Budgets) (events : List Event) (w : World) → after p events ≡ Running w → P b events w → Q b (live w)) → ViewsWithMain p Q
 of_views p P Q law step b is events v n h = subst (Q b) h.view (step b events h.world h.runs (holds-in (P b events) (after p events) h.world h.runs (law b is events)))
 

@@ -1,4 +1,4 @@
--- Entries of frames and of typestates, side by side; slots and their kinds likewise.
+-- Pairs of the entries of frames and of typestates, and pairs of slots and their kinds.
 use Rattle.std.proofs.Common.{◌≡◌, ℕ, zero, suc, List, [], ◌∷◌, length, map, drop, get_or, set}
 use Rattle.std.proofs.Common.{refl, ap, arith, Bool, false}
 use Rattle.std.specs.List.{list_any}
@@ -51,7 +51,7 @@ both-set P (x ∷ xs) (y ∷ ys) (suc h) (suc i) a d b e same new old = both-set
 both-set P [] (y ∷ ys) h i a d b e same new old = absurd (omega (arith, same))
 both-set P (x ∷ xs) [] h i a d b e same new old = absurd (omega (arith, same))
 
--- an element of a list each element of which is changed
+-- an element of a list that a function was applied to
 pub mapped : {X Y : Type 0} (g : X → Y) (xs : List X) (y : ℕ) (d : X) → get_or (map g xs) y (g d) ≡ g (get_or xs y d)
 mapped g [] y d = refl
 mapped g (x ∷ xs) zero d = refl

@@ -24,7 +24,7 @@ pub record ArePrinted (p : Program) (budgets : List Budgets) : Type 0 where
   pub have : HasBudgets p budgets
   pub only : (f : ℕ) (b : Budgets) → f < length budgets → IsBudgetOf p f b → b ≡ budget_at budgets f
 
--- so of some budgets
+-- some budgets are those that are printed
 abbrev pub BudgetsArePrinted : Program → Type 0
 BudgetsArePrinted p = (budgets : List Budgets) × ArePrinted p budgets
 

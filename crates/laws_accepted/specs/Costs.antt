@@ -1,6 +1,6 @@
--- What a run of a program with budgets costs: its steps, and the tasks, scopes and bindings that
--- stand in any state of it, stay within the budgets of `main`; and what is left of them is what the
--- standing tasks may still use (this project's own).
+-- The costs of a run of a program with budgets (this project's own). Its steps stay within the
+-- budgets of `main`, and so do the tasks, scopes and bindings that count in any state. The rest of
+-- each budget is what the tasks that count may still use.
 use Rattle.std.specs.Prelude.{◌≡◌, ℕ, ◌+◌, ◌-◌, ◌<◌, ◌≤◌, List, length, take, sum_by, Bool, true}
 use Rattle.std.specs.Prelude.{false, Option, Some, None, if◌then◌else◌}
 use Rattle.sts_code.specs.Checks.{program_fault}
@@ -45,7 +45,7 @@ Costs P =
 abbrev pub AreTyped : Program → Type 0
 AreTyped p = (f : ℕ) → f < length p.routines → IsWellTyped p f
 
--- the same of a program that is well typed
+-- like `Costs`, for a program that is well typed
 abbrev pub TypedCosts : (Program → List Budgets → List Event → World → Type 0) → Type 0
 TypedCosts P =
     (p : Program) (budgets : List Budgets) → HasBudgets p budgets → AreTyped p
@@ -67,7 +67,7 @@ abbrev pub steps_begun : Stand → ℕ
 steps_begun (AtClose s) = 1
 steps_begun _ = 0
 
--- the steps that the next instruction of a living task counts are left, but for those begun
+-- enough steps are left for the next instruction of a living task, less those that it has begun
 abbrev pub LeavesSteps : Program → List Budgets → List Event → World → Type 0
 LeavesSteps p budgets events w =
     (t : ℕ) (i : Instr) → lives (task_at w t) ≡ true → instr_at p (task_at w t).frame ≡ Some i
@@ -88,7 +88,8 @@ AStepIsLeft = TypedCosts (λ p budgets events w. LeavesAStep p (main_budget p bu
 
 -- ---- what stands
 
--- no more tasks stand than the budget of `main`; so of scopes and bindings
+-- the tasks that count are never more than the budget of `main`; two definitions more say this for
+-- scopes and for bindings
 abbrev pub TasksAreWithin : Type 0
 TasksAreWithin = Costs (λ p budgets events w. standing_tasks w ≤ (main_budget p budgets).tasks)
 
@@ -98,8 +99,8 @@ ScopesAreWithin = Costs (λ p budgets events w. standing_scopes w ≤ (main_budg
 abbrev pub BindsAreWithin : Type 0
 BindsAreWithin = Costs (λ p budgets events w. standing_bindings w ≤ (main_budget p budgets).binds)
 
--- one of the three budgets of what stands: what a task, an open scope and an open binding count in
--- it, and which part of the budgets it is
+-- one of the three budgets other than steps: how much a task, an open scope and an open binding
+-- count in it, and which part of the budgets it is
 pub record Peak : Type 0 where
   pub task : ℕ
   pub scope : ℕ
@@ -119,7 +120,7 @@ binds_peak = record { task = 0; scope = 0; binding = 1; part = λ b. b.binds }
 abbrev pub share : Peak → List Budgets → Task → ℕ
 share k budgets task = k.part (budget_at budgets task.frame.function)
 
--- the same of a subtask of the scope s, and of any other task nothing
+-- a task's share if it is a subtask of the scope s, and otherwise 0
 abbrev pub share_in : Peak → List Budgets → ℕ → Task → ℕ
 share_in k budgets s task = if is_subtask s task then share k budgets task else 0
 
@@ -136,7 +137,7 @@ entry_use k budgets tasks (entry.Binding key value) = k.binding
 abbrev pub use_of : Peak → List Budgets → List Task → Task → ℕ
 use_of k budgets tasks task = k.task + sum_by (entry_use k budgets tasks) task.frame.entries
 
--- what a standing task may still use
+-- the part of its share that a task may still use; 0 if the task doesn't count
 abbrev pub slack : Peak → List Budgets → World → Task → ℕ
 slack k budgets w task =
     if is_standing_task w task then share k budgets task - use_of k budgets w.tasks task else 0
@@ -145,7 +146,7 @@ slack k budgets w task =
 abbrev pub room : Peak → List Budgets → World → ℕ
 room k budgets w = sum_by (slack k budgets w) w.tasks
 
--- what stands and the room that is left add up to the budgets of `main`
+-- the numbers that count and the room that is left add up to the budgets of `main`
 pub record RoomAddsUp (p : Program) (budgets : List Budgets) (w : World) : Type 0 where
   pub tasks : standing_tasks w + room tasks_peak budgets w ≡ (main_budget p budgets).tasks
   pub scopes : standing_scopes w + room scopes_peak budgets w ≡ (main_budget p budgets).scopes
@@ -154,15 +155,15 @@ pub record RoomAddsUp (p : Program) (budgets : List Budgets) (w : World) : Type 
 abbrev pub RoomIsSlack : Type 0
 RoomIsSlack = Costs (λ p budgets events w. RoomAddsUp p budgets w)
 
--- there is room for what this instruction of a frame opens, binds or forks in a scope of its own:
--- less stands than the peaks of these budgets
+-- these budgets leave room for the scope, the binding or the task that this instruction of a frame
+-- makes; a fork must be in a scope of its own
 abbrev pub HasRoomFor : Budgets → World → Frame → Instr → Type 0
 HasRoomFor b w f (Open x joiner timed) = standing_scopes w < b.scopes
 HasRoomFor b w f (Bind key) = standing_bindings w < b.binds
 HasRoomFor b w f (Fork x g h) = (s : ℕ) → slot f x ≡ Own s → standing_tasks w < b.tasks
 HasRoomFor b w f _ = Unit {0}
 
--- so of the next instruction of each living task
+-- there is room for the next instruction of each living task
 abbrev pub HasRoom : Program → Budgets → World → Type 0
 HasRoom p b w =
     (t : ℕ) (i : Instr) → lives (task_at w t) ≡ true → instr_at p (task_at w t).frame ≡ Some i
@@ -173,7 +174,7 @@ RoomIsLeft = Costs (λ p budgets events w. HasRoom p (main_budget p budgets) w)
 
 -- ---- births
 
--- each task but the root and each scope was born by a step; of every program
+-- each scope was born by a step, and so was each task except the root; this holds for every program
 abbrev pub BirthsAreSteps : Type 0
 BirthsAreSteps =
     (p : Program) (events : List Event)
@@ -197,8 +198,8 @@ pub record IsModest (p : Program) (events : List Event) (w : World) : Type 0 whe
 abbrev pub AcceptedIsModest : Type 0
 AcceptedIsModest = Accepted IsModest
 
--- at an `open`, and at a `fork` in a scope of its own, neither do too many stand nor were too many
--- born
+-- the limits leave room, to count and to be born, for the scope or the task that this instruction
+-- makes; a fork must be in a scope of its own
 abbrev pub HasPlaceFor : World → Frame → Instr → Type 0
 HasPlaceFor w f (Open x joiner timed) =
     is_crowded (standing_scopes w) (length w.scopes) ≡ false
@@ -206,7 +207,7 @@ HasPlaceFor w f (Fork x g h) =
     (s : ℕ) → slot f x ≡ Own s → is_crowded (standing_tasks w) (length w.tasks) ≡ false
 HasPlaceFor w f _ = Unit {0}
 
--- so of the next instruction of each living task
+-- the limits leave room for the next instruction of each living task
 abbrev pub HasPlace : Program → World → Type 0
 HasPlace p w =
     (t : ℕ) (i : Instr) → lives (task_at w t) ≡ true → instr_at p (task_at w t).frame ≡ Some i

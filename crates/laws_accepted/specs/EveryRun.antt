@@ -1,7 +1,7 @@
--- What every run of an accepted program keeps, whatever the events are.
--- That no subtask of a closed scope lives, and that no task outlives the root, restates
--- "Description" of JEP 505 (the lifetime of subtasks and scopes is confined to the block that
--- opened the scope); the rest is this project's own.
+-- Promises for every run of an accepted program, whatever the events are.
+-- Two of them restate "Description" of JEP 505: no subtask of a closed scope lives, and no task
+-- outlives the root. (The lifetime of subtasks and scopes is confined to the block that opened the
+-- scope.) The rest is this project's own.
 use Rattle.std.specs.Prelude.{◌≡◌, ℕ, ◌≤◌, List, true, false, Some}
 use Rattle.sts_code.specs.Program.{Program}
 use Rattle.sts_rules.specs.declared.budget.Budgets.{Budgets}
@@ -28,9 +28,9 @@ RootIsLast w =
 abbrev pub SomeCanStep : Program → World → Type 0
 SomeCanStep p w = lives (task_at w 0) ≡ true → (t : ℕ) × (can_step p w t ≡ true)
 
--- after these events the program, whose `main` has this budget, stands at no fault; closed scopes
--- are empty, the root ends last and some task can step until then; no more steps were taken, and no
--- more tasks, scopes and bindings stand, than the budget
+-- The promises after these events, for a program with this budget of `main`. It has not faulted.
+-- Its closed scopes are empty, its root ends last, and until then some task can step. Neither the
+-- steps taken nor the tasks, scopes and bindings that count are more than the budget.
 pub record RunsWell (p : Program) (budget : Budgets) (events : List Event) : Type 0 where
   pub world : World
   pub no_fault : after p events ≡ Running world

@@ -1,5 +1,5 @@
--- Where the tasks of a run stand: each living one at a point of a control path of its function
--- (this project's own).
+-- The places of the tasks of a run: each living task is at a point of a control path of its
+-- function (this project's own).
 use Rattle.std.specs.Prelude.{◌≡◌, ℕ, ◌⊎◌, ◌<◌, List, [], ◌∷◌, length, take, sum_by, true, false}
 use Rattle.std.specs.Prelude.{None}
 use Rattle.sts_code.specs.Checks.{program_fault}
@@ -31,8 +31,8 @@ loops_of (l ∷ ls) = (l.at, l.left) ∷ loops_of ls
 abbrev pub skeleton_of : Program → List Budgets → Frame → Skeleton
 skeleton_of p budgets f = skeleton (take f.function budgets) (code p f)
 
--- an entry and that of a control path: the slot owns the scope, and its subtasks have the shares
--- of the functions that were forked in it; a binding and a binding
+-- An entry of a frame matches one of a control path. Both are bindings, or both are scopes: the
+-- slot owns the scope, and its subtasks have the shares of the functions that were forked in it.
 abbrev pub Matches : List Budgets → List Budgets → List Task → (ℕ → Slot) → Entry → OpenEntry
     → Type 0
 Matches budgets earlier tasks own (entry.Scope s) (OpenScope x forked) =
@@ -56,7 +56,8 @@ Opens x [] = ⊥
 Opens x (OpenScope y forked ∷ os) = (y ≡ x) ⊎ Opens x os
 Opens x (OpenBinding ∷ os) = Opens x os
 
--- the frame is at a point of a control path of its function, before which so many steps count
+-- the frame is at a point of a control path of its function, which counts `before` steps before
+-- that point
 pub record Point (p : Program) (budgets : List Budgets) (tasks : List Task) (f : Frame)
     (before : ℕ) : Type 0 where
   pub opened : List OpenEntry

@@ -1,5 +1,5 @@
--- What it means that a living task is typed: its frame fits a typestate that is reached at its pc
--- (this project's own).
+-- A living task is typed: its frame fits a typestate that is reached at its pc (this project's
+-- own).
 use Rattle.std.specs.Prelude.{◌≡◌, ℕ, ◌<◌, List, [], ◌∷◌, length, map, Bool, true, false, Option}
 use Rattle.std.specs.Prelude.{Some, is_some, ◌==◌, ◌||◌, not}
 use Rattle.std.specs.List.{list_any}
@@ -46,8 +46,8 @@ abbrev pub closes : Option Instr → ℕ → Bool
 closes (Some (Close x)) y = x == y
 closes _ y = false
 
--- does the phase of a scope fit its typed one? Once its close has begun it does while its owner
--- stands at that `close`
+-- does the phase of a scope fit its typed one? Once its close has begun, it fits if its owner is at
+-- that `close`
 abbrev pub fits_phase : (closing : Bool) → TypedPhase → Phase → (expired : Bool) → Bool
 fits_phase closing Opened phase.Opened expired = true
 fits_phase closing Attempted phase.Attempted expired = true
@@ -63,7 +63,7 @@ pub record FitsScope (closing : Bool) (scope : Scope) (r : TypedScope) : Type 0 
 
 -- ---- keys
 
--- is the key bound for certain in function f, behind these entries?
+-- is the key bound for certain in function f, after these entries are taken off?
 abbrev pub is_due : Program → ℕ → List TypedEntry → ℕ → Bool
 is_due p f es k = list_any (binds k) es || needs p f k
 
@@ -74,8 +74,8 @@ Covers p f es environment =
 
 -- ---- the structure list
 
--- the open scope n, which stands before these entries: its slot owns it, it keeps what was bound
--- when it was opened, and no scope of its slot is behind it
+-- An open scope n fits its entry. Its slot owns it. It keeps the bindings from when it was opened.
+-- No older entry is a scope of the same slot.
 pub record FitsOpen (p : Program) (w : World) (f : Frame) (n : ℕ) (r : TypedScope)
     (behind : List TypedEntry) : Type 0 where
   pub own : slot f r.slot ≡ Own n
@@ -88,7 +88,7 @@ FitsEntry p w f (entry.Binding k v) (typed.Binding j) behind = k ≡ j
 FitsEntry p w f (entry.Scope n) (typed.Scope r) behind = FitsOpen p w f n r behind
 FitsEntry p w f _ _ behind = ⊥
 
--- entry by entry, each with those behind it
+-- R holds for each pair of entries and the older typed entries
 abbrev pub Zips : (Entry → TypedEntry → List TypedEntry → Type 0) → List Entry → List TypedEntry
     → Type 0
 Zips R [] [] = Unit {0}
@@ -145,8 +145,8 @@ AllTyped p w =
 
 -- ---- room
 
--- does the next instruction of the frame make a scope, or a task in a scope of its own, where too
--- many stand or were born?
+-- does the next instruction of the frame break a limit? It makes a scope, or a task in a scope of
+-- its own, and too many count or were born
 abbrev pub crowds : World → Frame → Option Instr → Bool
 crowds w f (Some (Open x joiner timed)) = is_crowded (standing_scopes w) (length w.scopes)
 crowds w f (Some (Fork x g h)) =
@@ -172,7 +172,7 @@ ExpiredIsTimed = Ever (λ p w. (s : ℕ) → IsTimely (scope_at w s))
 abbrev pub LivingTasksAreTyped : Program → Type 0
 LivingTasksAreTyped p = (events : List Event) → In (AllTyped p) (after p events)
 
--- the task stands at an instruction, and no row of misuse applies to it
+-- the task is at an instruction, and no row of misuse applies to it
 pub record IsFineAt (p : Program) (w : World) (t : ℕ) : Type 0 where
   pub instr : Instr
   pub at : instr_at p (task_at w t).frame ≡ Some instr

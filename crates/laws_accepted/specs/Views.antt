@@ -1,5 +1,5 @@
--- What stands in the live views of an accepted program, and the room that is left for more, in
--- words of the view alone (this project's own).
+-- The numbers of tasks, scopes and bindings in the live views of an accepted program, and the room
+-- that is left, in words of the view alone (this project's own).
 use Rattle.std.specs.Prelude.{◌≡◌, ℕ, ◌<◌, ◌≤◌, List, true, Option, Some, None, is_some, count_by}
 use Rattle.std.specs.Prelude.{sum_by}
 use Rattle.sts_code.specs.Program.{Program}
@@ -41,20 +41,20 @@ bindings_in (Some task) = open_bindings task.alive
 abbrev pub live_bindings : Live → ℕ
 live_bindings v = sum_by bindings_in v.tasks
 
--- as many bindings are seen as stand
+-- the view has the bindings that count
 abbrev pub BindingsAreSeen : Program → Type 0
 BindingsAreSeen p =
     (events : List Event) → In (λ w. live_bindings (live w) ≡ standing_bindings w) (after p events)
 
 -- ---- with the budgets that are printed of `main`
 
--- of every view that stands at a list of events
+-- P holds for every view after a list of events
 abbrev pub ViewsWithMain : Program → (Budgets → Live → Type 0) → Type 0
 ViewsWithMain p P =
     (b : Budgets) → IsBudgetOf p (main_of p) b
     → (events : List Event) (v : Live) (n : ℕ) → StandsAt p events v n → P b v
 
--- no more stands than the budgets
+-- the numbers of the view are within the budgets
 pub record IsWithin (b : Budgets) (v : Live) : Type 0 where
   pub tasks : live_tasks v ≤ b.tasks
   pub scopes : live_scopes v ≤ b.scopes
@@ -63,15 +63,15 @@ pub record IsWithin (b : Budgets) (v : Live) : Type 0 where
 abbrev pub ViewsAreWithin : Program → Type 0
 ViewsAreWithin p = ViewsWithMain p IsWithin
 
--- less stands than the budgets where this instruction of a frame opens, binds or forks in a scope
--- of its own
+-- the numbers of the view leave room for what this instruction of a frame opens, binds or forks in
+-- a scope of its own
 abbrev pub LiveHasRoomFor : Budgets → Live → Frame → Instr → Type 0
 LiveHasRoomFor b v f (Open x joiner timed) = live_scopes v < b.scopes
 LiveHasRoomFor b v f (Bind key) = live_bindings v < b.binds
 LiveHasRoomFor b v f (Fork x g h) = (s : ℕ) → slot f x ≡ Own s → live_tasks v < b.tasks
 LiveHasRoomFor b v f _ = Unit {0}
 
--- so of the next instruction of each living task
+-- the view has room for the next instruction of each living task
 abbrev pub LiveHasRoom : Program → Budgets → Live → Type 0
 LiveHasRoom p b v =
     (t : ℕ) (i : Instr) → lives_in v t ≡ true → instr_at p (alive_at v t).frame ≡ Some i

@@ -20,10 +20,14 @@ use laws_runs::{closed_is_empty, root_ends_last, some_task_steps};
 use sts_rules::Budgets;
 use sts_verify::Verified;
 
-/// Every run of an accepted program, whatever the events are: it comes to no fault, its closed
-/// scopes are empty, its root ends last and some task can step until then; and the steps that it
-/// takes, and the tasks, scopes and bindings that stand in it, stay within the budgets of `main`.
-/// These are the budgets that are printed, and are returned.
+/// Promises for every run of an accepted program, whatever the events are:
+///
+/// - It never faults.
+/// - Its closed scopes are empty, its root ends last, and until then some task can step.
+/// - Its steps stay within the budget of `main`, and so do the tasks, scopes and bindings that
+///   count at any time.
+///
+/// These are the budgets that are printed, and the function returns them.
 pub fn every_run(verified: &Verified) -> Budgets
     ensures printed { IsBudgetOf verified.now (main_of verified.now) result }
     ensures runs_well { (events : List Event) → RunsWell verified.now result events }
@@ -91,7 +95,8 @@ pub fn room_is_left(verified: &Verified)
     crate::costs::room_is_left();
 }
 
-/// No run takes more than 1,000,000 steps, nor do more than 65,536 tasks, scopes or bindings stand.
+/// No run takes more than 1,000,000 steps, and never do more than 65,536 tasks, scopes or bindings
+/// count.
 pub fn limits_hold(verified: &Verified)
     ensures { LimitsHold verified.now }
 {
@@ -99,8 +104,8 @@ pub fn limits_hold(verified: &Verified)
     accepted_is_modest();
 }
 
-/// What stands at a list of events, a view and a number of steps, stands after one event more at
-/// the longer list; and it is seen in the view whether the event counts.
+/// The view and the steps after a list of events give those after one event more. The view shows
+/// whether that event counts.
 pub fn turns_are_seen(verified: &Verified)
     ensures { TurnsAreSeen verified.now }
 {
@@ -116,7 +121,7 @@ pub fn turns_are_safe(verified: &Verified)
     laws_live::turns_are_safe();
 }
 
-/// Whom an event doesn't concern can step afterwards exactly where it could before.
+/// An event doesn't change whether a task can step, unless it concerns the task.
 pub fn others_stay(verified: &Verified)
     ensures { OthersStay verified.now }
 {
@@ -132,8 +137,8 @@ pub fn ready_stays(verified: &Verified)
     laws_live::ready_stays();
 }
 
-/// An event moves no task but the one whose step it is: who lives goes on living, and stands where
-/// it stood.
+/// Only its own steps move a task: after any other event a living task still lives, and is at the
+/// same scope or at none.
 pub fn stands_stay(verified: &Verified)
     ensures { StandsStay verified.now }
 {
@@ -141,8 +146,8 @@ pub fn stands_stay(verified: &Verified)
     laws_live::stands_stay();
 }
 
-/// As many bindings are open in the living tasks of a view as stand: a record for each of them is
-/// all that a machine keeps of bindings.
+/// The living tasks of a view have the bindings that count, and no others. So a machine needs one
+/// record for each of them.
 pub fn bindings_are_seen(verified: &Verified)
     ensures { BindingsAreSeen verified.now }
 {
@@ -150,7 +155,7 @@ pub fn bindings_are_seen(verified: &Verified)
     crate::costs::idle_have_no_entries();
 }
 
-/// No more tasks, scopes and bindings stand in a view than the budgets of `main`.
+/// No view has more tasks, scopes or bindings than the budgets of `main`.
 pub fn views_are_within(verified: &Verified)
     ensures { ViewsAreWithin verified.now }
 {
@@ -162,8 +167,9 @@ pub fn views_are_within(verified: &Verified)
     crate::costs::binds_are_within();
 }
 
-/// Where the next instruction of a living task opens a scope, binds or forks, less stands in the
-/// view than the budgets of `main`: so records that were made by the budget are never all in use.
+/// If the next instruction of a living task opens a scope, binds or forks, the view has fewer of
+/// these than the budget of `main`. So one of the records that were made for the budget is still
+/// free.
 pub fn views_have_room(verified: &Verified)
     ensures { ViewsHaveRoom verified.now }
 {

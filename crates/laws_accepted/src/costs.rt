@@ -1,5 +1,5 @@
-//! Laws over all event lists of every program with budgets: what a run costs, and what stands in
-//! it.
+//! Laws over all event lists of every program with budgets: the steps of a run, and the tasks,
+//! scopes and bindings that count in it.
 
 ghost use Rattle.laws_accepted.specs.Costs.{StepsAreWithin, StepsAreLeft, AStepIsLeft};
 ghost use Rattle.laws_accepted.specs.Costs.{StepsNeedTypes, TasksAreWithin, ScopesAreWithin};
@@ -33,8 +33,8 @@ pub fn steps_are_within()
     ensures { StepsAreWithin }
 {}
 
-/// The steps that the next instruction of a living task counts are left, but for the first one of a
-/// close that waits.
+/// Enough steps are left for the next instruction of a living task. A close that waits has taken
+/// its first step already.
 pub fn steps_are_left()
     ensures { StepsAreLeft }
 {}
@@ -44,27 +44,28 @@ pub fn a_step_is_left()
     ensures { AStepIsLeft }
 {}
 
-/// Of a program that isn't well typed a run may take more steps than the budget of `main`.
+/// If a program isn't well typed, a run of it may take more steps than the budget of `main`.
 pub fn steps_need_types()
     ensures { StepsNeedTypes }
 {}
 
-/// No more tasks stand than the budget of `main`.
+/// The tasks that count are never more than the budget of `main`.
 pub fn tasks_are_within()
     ensures { TasksAreWithin }
 {}
 
-/// No more scopes stand than the budget of `main`.
+/// The scopes that count are never more than the budget of `main`.
 pub fn scopes_are_within()
     ensures { ScopesAreWithin }
 {}
 
-/// No more bindings stand than the budget of `main`.
+/// The bindings that count are never more than the budget of `main`.
 pub fn binds_are_within()
     ensures { BindsAreWithin }
 {}
 
-/// What stands and what the standing tasks may still use add up to the budgets of `main`.
+/// The number that counts, and the number that its tasks may still use, add up to each budget of
+/// `main`.
 pub fn room_is_slack()
     ensures { RoomIsSlack }
 {}
@@ -79,7 +80,8 @@ pub fn accepted_is_modest()
     ensures { AcceptedIsModest }
 {}
 
-/// In an accepted program too much never stands, nor was too much born, at an `open` or a `fork`.
+/// At an `open` or a `fork` of an accepted program, the limits leave room for one more to count and
+/// to be born.
 pub fn accepted_has_place()
     ensures { AcceptedHasPlace }
 {}

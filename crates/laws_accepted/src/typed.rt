@@ -5,7 +5,7 @@ ghost use Rattle.laws_accepted.specs.Typed.{LivingTasksAreTyped, OnlyRoomIsWante
 
 use sts_verify::{Verified, typing_promises};
 
-/// Only a scope with a timeout expires; of every program.
+/// Only a scope with a timeout expires. This holds for every program.
 pub fn expired_is_timed()
     ensures { ExpiredIsTimed }
 {}

@@ -1,4 +1,4 @@
--- What is seen of a change is the change of what is seen: the building blocks.
+-- The building blocks: the view after a change is the view's own change.
 use Rattle.std.proofs.Common.{◌≡◌, ℕ, ◌<◌, ◌≤◌, ◌+◌, List, [], ◌∷◌, ◌++◌, Bool, true, false, Option}
 use Rattle.std.proofs.Common.{Some, None, refl, sym, ◌∙◌, ap, length, arith, get_or, set, cond}
 use Rattle.std.proofs.Common.{◌&&◌, nat_lt, length-set, length-append, get_or-set_same}
@@ -31,7 +31,7 @@ use Rattle.laws_live.proofs.ViewLemmas.{task_here, scope_here, same_view, scope_
 
 -- ---- one task
 
--- what a task has is changed, if it is seen and lives
+-- a task's own state is changed, if the task is in the view and lives
 kept_alive : (o : Option ℕ) (q : Option End) (a : Alive) (change : Alive → Alive) (b c : Bool) → cond b (Some (record { scope = o; state = q; alive = cond c (Some (change a)) None })) None ≡ option_map (λ (task : LiveTask). record task { alive = option_map change task.alive }) (cond b (Some (record { scope = o; state = q; alive = cond c (Some a) None })) None)
 kept_alive o q a change true true = refl
 kept_alive o q a change true false = refl

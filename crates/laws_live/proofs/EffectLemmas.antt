@@ -1,4 +1,4 @@
--- What is seen of an instruction's effect is the effect on what is seen.
+-- The view after an instruction's effect is the view's own effect of that instruction.
 use Rattle.std.proofs.Common.{◌≡◌, ℕ, ◌<◌, ◌+◌, ◌-◌, List, [], ◌∷◌, ◌++◌, Bool, true, false, Option}
 use Rattle.std.proofs.Common.{Some, None, refl, sym, ◌∙◌, ap, length, arith, drop, cond, ◌&&◌, ◌||◌}
 use Rattle.std.proofs.Common.{not, pos, unwrap_or, length-append}
@@ -120,7 +120,7 @@ sub_named w t x h e = by (slot (task_at w t).frame x) refl e
     by (slots.Lent s) is e = cc
     by (slots.Sub u) is e = h.sub u is
 
--- the state of a subtask that stands
+-- the state of a subtask in the view
 state_is : (w : World) (u : ℕ) → stands_in w (task_at w u).scope ≡ true → live_state (live w) u ≡ sub_state w u
 state_is w u stands = ap (λ (task : LiveTask). task.state) (task_is w u stands)
 
@@ -270,7 +270,7 @@ seen-close w t s o alive still order =
 
 -- ---- readings
 
--- the completions are as many as the successes and failures
+-- the number of completions is that of the successes and failures
 told_count : (scope : Scope) → length scope.completions ≡ (kept.told scope.joiner (ends scope)).successes + (kept.told scope.joiner (ends scope)).failures
 told_count scope =
     let all : length (ends scope) ≡ length scope.completions = length-map scope.completions _ in

@@ -1,4 +1,4 @@
--- The end of a task, and what its scope is told.
+-- The end of a task, and what the joiner of its scope learns of it.
 use Rattle.std.proofs.Common.{◌≡◌, ℕ, ◌<◌, List, [], ◌∷◌, ◌++◌, Bool, true, false, Option, Some}
 use Rattle.std.proofs.Common.{None, refl, sym, ◌∙◌, ap, subst, length, arith, get_or, set, cond}
 use Rattle.std.proofs.Common.{not, pos, length-set, get_or-set_same, get_or-set_other}

@@ -155,7 +155,7 @@ live_taken_more : (p : Program) (v : Live) (events : List Event) (e : Event) →
 live_taken_more p v [] e = omega arith
 live_taken_more p v (x ∷ xs) e = let h = live_taken_more p (live_apply p v x) xs e in omega (arith, h)
 
--- what is seen of a list of events, and of the steps that it takes
+-- the view after a list of events, and the steps that the list takes
 record Agrees (p : Program) (events : List Event) (w : World) : Type 0 where
   pub view : live w ≡ live_after p events
   pub steps : taken p events ≡ live_taken p events

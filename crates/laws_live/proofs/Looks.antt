@@ -31,7 +31,7 @@ use Rattle.laws_live.proofs.ViewLemmas.{scope_is, alive_is, any_is, lives_is}
 use Rattle.laws_live.proofs.EndLemmas.{open_some}
 use Rattle.laws_live.proofs.EffectLemmas.{Facts}
 
--- u sees the same: itself, its own scopes, and who lives in them
+-- the change concerns neither u, nor its scopes, nor their living subtasks
 pub record Looks (w v : World) (u : ℕ) : Type 0 where
   pub scopes : length w.scopes ≤ length v.scopes
   pub task : task_at v u ≡ task_at w u

@@ -42,7 +42,7 @@ record Known (w : World) : Type 0 where
   pub held : (s : ℕ) → s < length w.scopes → is_closed (scope_at w s).phase ≡ false → (lives (task_at w (scope_at w s).owner) ≡ true) × (list_any (is_entry_of s) (task_at w (scope_at w s).owner).frame.entries ≡ true)
   pub main : (0 < length w.tasks) × ((task_at w 0).scope ≡ None)
 
--- a scope that isn't closed stands
+-- a scope that isn't closed is in the view
 stands_open : (w : World) (s : ℕ) → is_closed (scope_at w s).phase ≡ false → is_some (scope_in (live w) s) ≡ true
 stands_open w s still = rw (scope_here w s (born_open w s still), still) refl
 
@@ -62,7 +62,7 @@ owned w t s still mine =
       still = ap (λ (scope : LiveScope). is_closed scope.phase) is ∙ still;
     }
 
--- the scope that is seen of a task that stands
+-- the view shows the scope of each task that counts
 scope_seen : (w : World) (u : ℕ) → stands_in w (task_at w u).scope ≡ true → (live_task_at (live w) u).scope ≡ (task_at w u).scope
 scope_seen w u stands = ap (λ (task : LiveTask). task.scope) (task_is w u stands)
 

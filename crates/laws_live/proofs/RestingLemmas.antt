@@ -1,4 +1,4 @@
--- What a task looks at to see where it stands, which is left as it is by what others do.
+-- The parts of a view that say at which scope a task is. Steps of other tasks leave them alone.
 use Rattle.std.proofs.Common.{◌≡◌, ℕ, zero, suc, List, [], ◌∷◌, ◌++◌, Bool, true, false, Option}
 use Rattle.std.proofs.Common.{Some, None, refl, sym, ◌∙◌, ap, get_or, set, map, cond, ◌&&◌}
 use Rattle.std.proofs.Common.{get_or-set_other, length, arith, is_some}
@@ -13,7 +13,7 @@ use Rattle.laws_live.specs.Reading.{is_live_living, live_any_lives}
 use Rattle.laws_live.specs.Cancelling.{live_raise, live_raised, live_marked, live_cancel}
 use Rattle.laws_live.specs.Effect.{without, live_gone}
 
--- the scope stands, with the same owner and in the same phase
+-- the scope is still in the view, with the same owner and in the same phase
 pub record IsAsWas (o : Option LiveScope) (c : LiveScope) : Type 0 where
   pub now : LiveScope
   pub there : o ≡ Some now
@@ -138,7 +138,7 @@ rests-scope v s u change owner phase =
     (λ e. record { now = change c; there = ap (option_map change) (ap (scope_in v) (sym e) ∙ is); owner = owner c; phase = phase c })
     (record { now = c; there = is; owner = refl; phase = refl }))
 
--- the scope is none of u
+-- the scope doesn't belong to u
 abbrev pub IsAlien : Live → ℕ → ℕ → Type 0
 IsAlien v s u = (c : LiveScope) → scope_in v s ≡ Some c → c.owner ≡ u → ⊥
 

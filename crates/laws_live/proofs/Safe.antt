@@ -119,7 +119,7 @@ fine_is p w t i o alive is =
 
 -- ---- what is next
 
--- a step that leads to no fault is none of a misuse
+-- a step that doesn't fault is no misuse
 unmisused : (p : Program) (w x : World) (t : ℕ) → can_step p w t ≡ true → apply p (Running w) (event.Step t) ≡ Running x → misuse p w t ≡ None
 unmisused p w x t can e = by (misuse p w t) refl
   where

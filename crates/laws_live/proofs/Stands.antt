@@ -1,4 +1,4 @@
--- Where a task stands changes by its own steps alone.
+-- Only a task's own steps change at which scope it is.
 use Rattle.std.proofs.Common.{◌≡◌, ℕ, [], ◌∷◌, ◌++◌, Bool, true, false, Option, Some, None, refl}
 use Rattle.std.proofs.Common.{sym, ◌∙◌, ap, subst, set, cond, ◌||◌, not, get_or-set_other, length}
 use Rattle.std.proofs.Common.{arith, is_some, take}
@@ -96,7 +96,7 @@ idle_stand_free p v t idle = stands_free p v t (idle-owns_nothing v t idle)
 
 -- ---- who rests doesn't move
 
--- what a slot owns is the task's, whether it lives or not
+-- a scope that a slot owns belongs to the task, whether it lives or not
 owned : (v : Live) (u y s : ℕ) → InOrder v → slot (alive_at v u).frame y ≡ Own s → IsOwned v u s
 owned v u y s o e = by (lives_in v u) refl
   where
@@ -104,7 +104,7 @@ owned v u y s o e = by (lives_in v u) refl
     by true alive = (o.alive u alive).own y s e
     by false idle = absurd (idle-owns_nothing v u idle y s e)
 
--- of a scope of u
+-- the phase of a scope of u is unchanged
 phase_same : (v x : Live) (u s : ℕ) → Rests v x u → IsOwned v u s → (live_scope_at x s).phase ≡ (live_scope_at v s).phase
 phase_same v x u s h mine = by (scope_in v s) refl mine.stands
   where

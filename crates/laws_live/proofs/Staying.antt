@@ -183,7 +183,7 @@ can-still p w v u o q h can =
 
 -- ---- building blocks
 
--- where one passes, the other does
+-- if an element of the first list passes, so does that of the second
 any_less : (test : Task → Bool) (xs ys : List Task) → length xs ≡ length ys → ((i : ℕ) → test (get_or xs i no_task) ≡ true → test (get_or ys i no_task) ≡ true) → list_any test xs ≡ true → list_any test ys ≡ true
 any_less test [] [] len h e = e
 any_less test [] (y ∷ ys) len h e = absurd (omega (arith, len))

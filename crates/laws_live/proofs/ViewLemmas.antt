@@ -81,7 +81,7 @@ same_view w v tasks scopes task scope root =
 
 -- ---- reading
 
--- a scope that stands
+-- a scope that isn't closed is in the view
 pub scope_is : (w : World) (s : ℕ) → is_closed (scope_at w s).phase ≡ false → live_scope_at (live w) s ≡ shown_scope (scope_at w s)
 scope_is w s e = ap (λ o. unwrap_or o no_live_scope) (scope_here w s (born_open w s e) ∙ by (is_closed (scope_at w s).phase) e)
   where
@@ -89,7 +89,7 @@ scope_is w s e = ap (λ o. unwrap_or o no_live_scope) (scope_here w s (born_open
     by true e = cc
     by false e = refl
 
--- a task that stands, or was not born
+-- a task that counts is in the view; a task that was not born reads alike in the view
 pub task_is : (w : World) (u : ℕ) → stands_in w (task_at w u).scope ≡ true → live_task_at (live w) u ≡ shown w (task_at w u).scope u (task_at w u)
 task_is w u stands = by (nat_lt u (length w.tasks)) refl
   where
@@ -108,7 +108,7 @@ task_is w u stands = by (nat_lt u (length w.tasks)) refl
         let no : task_at w u ≡ no_task = past w.tasks u no_task more in
         rw (none, no) refl
 
--- of a task whose scope was closed nothing is seen
+-- a task in a closed scope isn't in the view
 pub task_gone : (w : World) (u : ℕ) → stands_in w (task_at w u).scope ≡ false → task_in (live w) u ≡ None
 task_gone w u out = by (nat_lt u (length w.tasks)) refl
   where
@@ -119,7 +119,7 @@ task_gone w u out = by (nat_lt u (length w.tasks)) refl
         let more : length w.tasks ≤ u = grind (arith, nat_tests) in
         past (live w).tasks u None (omega (arith, n, more))
 
--- of a closed scope nothing is seen
+-- a closed scope isn't in the view
 pub scope_gone : (w : World) (s : ℕ) → is_closed (scope_at w s).phase ≡ true → scope_in (live w) s ≡ None
 scope_gone w s closed = by (nat_lt s (length w.scopes)) refl
   where
@@ -176,7 +176,7 @@ subtasks_counted s n (Some task ∷ xs) =
     by true next here = omega (arith, next, here)
     by false next here = omega (arith, next, here)
 
--- the scope of one that stands
+-- a task in a scope that isn't closed counts
 pub stands_some : (w : World) (s : ℕ) (q : Option ℕ) → is_closed (scope_at w s).phase ≡ false → is_in s q ≡ true → stands_in w q ≡ true
 stands_some w s None still e = cc
 stands_some w s (Some r) still e = let same : r ≡ s = grind (arith, nat_tests) in rw (same, still) refl

@@ -1,4 +1,4 @@
--- Whom an event does not concern sees the same.
+-- An event that doesn't concern a task leaves all that it depends on unchanged.
 use Rattle.std.proofs.Common.{List, ◌≡◌, ℕ, [], ◌∷◌, ◌++◌, Bool, true, false, Option, Some, None}
 use Rattle.std.proofs.Common.{refl, sym, ◌∙◌, ap, subst, length, drop, cond, ◌&&◌, ◌||◌, not}
 use Rattle.std.proofs.Common.{unwrap_or, arith, get_or-set_other}
@@ -69,11 +69,11 @@ use Rattle.laws_live.proofs.Looks.{can-same}
 pub apart : (a b : ℕ) → (a == b) ≡ false → a ≡ b → ⊥
 apart a b e same = grind (arith, nat_tests)
 
--- u is in no scope s that stands
+-- u is in no open scope s
 outside_is : (w : World) (s u : ℕ) → is_closed (scope_at w s).phase ≡ false → is_in s (live_task_at (live w) u).scope ≡ false → is_in s (task_at w u).scope ≡ false
 outside_is w s u still e = sym (of_is w s (slots.Sub u) still) ∙ e
 
--- or_parts the owner of a scope that stands nor in it
+-- u is neither the owner of an open scope nor in it
 record IsApart (w : World) (s u : ℕ) : Type 0 where
   pub owner : (scope_at w s).owner ≡ u → ⊥
   pub outside : is_in s (task_at w u).scope ≡ false
@@ -179,7 +179,7 @@ looks-end w t u f end other h =
 pub owner_of : (p : Program) (w : World) (t x : ℕ) (i : Instr) → Facts w → slot (task_at w t).frame x ≡ slots.Own (named (slot (task_at w t).frame x)) → (scope_at w (named (slot (task_at w t).frame x))).owner ≡ t
 owner_of p w t x i o mine = (o.sound.own t x (named (slot (task_at w t).frame x)) mine).owner
 
--- of the scope of a task that ends
+-- u is apart from the scope of a task that ends
 apart_around : (w : World) (t u : ℕ) → Facts w → lives (task_at w t) ≡ true → is_around (live w) (live_task_at (live w) t).scope u ≡ false → (s : ℕ) → (task_at w t).scope ≡ Some s → IsApart w s u
 apart_around w t u o alive e s inside =
     let stands = stands_alive w t o.sound alive in

@@ -1,4 +1,4 @@
--- What an instruction that is no misuse does to a live view (this project's own).
+-- The effect of an instruction that is no misuse on a live view (this project's own).
 use Rattle.std.specs.Prelude.{ℕ, ◌+◌, ◌-◌, ℤ, pos, List, [], ◌∷◌, ◌++◌, length, take, drop, reverse}
 use Rattle.std.specs.Prelude.{map, Bool, false, Option, Some, None, is_some, unwrap_or, ◌==◌, ◌||◌}
 use Rattle.std.specs.Prelude.{not, if◌then◌else◌, slice_set}
@@ -92,8 +92,8 @@ live_verdict (verdict.Ok None) v t s f failed = live_joined v t s (steps f 0 [])
 live_verdict (verdict.Ok (Some n)) v t s f failed = live_joined v t s (steps f 0 (n ∷ []))
 live_verdict (verdict.Failed c) v t s f failed = live_joined v t s (goes f failed 0 (c ∷ []))
 
--- the outcome of a `join`: a timeout, the joiner's result, or else interrupted, as a task whose
--- flag isn't set waits here
+-- the outcome of a `join`: a timeout, or the joiner's result, or interrupted. The last needs no
+-- test: a task waits here if its flag isn't set.
 unfoldable pub live_join : Live → ℕ → Frame → ℕ → ℕ → ℕ → ℕ → Live
 live_join v t f s failed timeout interrupted =
     let scope = live_scope_at v s in
@@ -118,7 +118,7 @@ abbrev pub without : ℕ → Option LiveTask → Option LiveTask
 without s None = None
 without s (Some task) = if is_in s task.scope then None else Some task
 
--- the scope and its subtasks no longer stand
+-- neither the scope nor its subtasks count any longer
 abbrev pub live_gone : Live → ℕ → Live
 live_gone v s = record v { tasks = map (without s) v.tasks; scopes = slice_set v.scopes s None }
 
@@ -137,7 +137,7 @@ live_close v t f s =
 
 -- ---- the end of a task
 
--- the task's state, and what the scope's joiner keeps, once the scope was told of an end
+-- the task's state and the scope's counters, after the joiner was told of an end
 abbrev pub live_told : Live → ℕ → ℕ → End → Live
 live_told v t s end =
     with_live_scope (with_live_task v t (λ task. record task { state = Some end })) s
@@ -157,7 +157,7 @@ abbrev pub live_tell : Live → ℕ → Option ℕ → End → Live
 live_tell v t None end = v
 live_tell v t (Some s) end = live_complete v t s end
 
--- the task has ended, and nobody was told
+-- the task has ended, and no joiner was told
 abbrev pub live_ended : Live → ℕ → End → Live
 live_ended v t end =
     record (with_live_task v t (λ task. record task { alive = None })) {

@@ -121,7 +121,7 @@ pub record IsSafe (p : Program) (v : Live) (t : ℕ) : Type 0 where
   pub at : instr_at p (alive_at v t).frame ≡ Some instr
   pub fine : IsLiveFine p v t (alive_at v t).frame instr
 
--- so of each task that can step, in every view that stands at a list of events
+-- in every view after a list of events, each task that can step is safe
 abbrev pub TurnsAreSafe : Program → Type 0
 TurnsAreSafe p =
     (events : List Event) (v : Live) (n : ℕ) → StandsAt p events v n

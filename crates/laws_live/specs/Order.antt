@@ -1,5 +1,4 @@
--- What holds of every live view that stands at a list of events, in words of the view alone (this
--- project's own).
+-- Facts of every live view after a list of events, in words of the view alone (this project's own).
 use Rattle.std.specs.Prelude.{◌≡◌, ℕ, ◌<◌, ◌≤◌, List, [], ◌++◌, true, false, Option, Some, None}
 use Rattle.std.specs.Prelude.{is_some, count_by, filter_map}
 use Rattle.std.specs.List.{list_any}
@@ -15,13 +14,13 @@ use Rattle.laws_live.specs.Seen.{StandsAt}
 use Rattle.laws_live.specs.Reading.{task_in, scope_in, live_task_at, live_scope_at, alive_at}
 use Rattle.laws_live.specs.Reading.{lives_in}
 
--- the scope stands, isn't closed, and belongs to t
+-- the scope is in the view, isn't closed, and belongs to t
 pub record IsOwned (v : Live) (t s : ℕ) : Type 0 where
   pub stands : is_some (scope_in v s) ≡ true
   pub owner : (live_scope_at v s).owner ≡ t
   pub still : is_closed (live_scope_at v s).phase ≡ false
 
--- a subtask that stands, of a scope that belongs to t
+-- a subtask in the view, of a scope that belongs to t
 pub record IsOwnSub (v : Live) (t u : ℕ) : Type 0 where
   pub scope : ℕ
   pub inside : (live_task_at v u).scope ≡ Some scope
@@ -36,8 +35,8 @@ outer_in v (Some s) = (live_scope_at v s).environment
 abbrev pub HasEntry : Live → ℕ → ℕ → Type 0
 HasEntry v t s = list_any (is_entry_of s) (alive_at v t).frame.entries ≡ true
 
--- of a living task: what its slots and entries name stands and is its own, or lent; its environment
--- is that of its bindings; it has no state
+-- A living task is in order. Each scope and subtask in its slots and entries is in the view, and is
+-- its own or lent. Its environment has its bindings. It has no state as a subtask.
 pub record LivesInOrder (v : Live) (t : ℕ) : Type 0 where
   pub own : (x s : ℕ) → slot (alive_at v t).frame x ≡ Own s → IsOwned v t s
   pub lent : (x s : ℕ) → slot (alive_at v t).frame x ≡ Lent s → (live_task_at v t).scope ≡ Some s
@@ -48,12 +47,12 @@ pub record LivesInOrder (v : Live) (t : ℕ) : Type 0 where
       ≡ filter_map bound_of (alive_at v t).frame.entries ++ outer_in v (live_task_at v t).scope
   pub state : (live_task_at v t).state ≡ None
 
--- a scope that stands is an entry of its owner, which lives
+-- a scope in the view is an entry of its owner, which lives
 pub record IsHeld (v : Live) (s : ℕ) : Type 0 where
   pub alive : lives_in v (live_scope_at v s).owner ≡ true
   pub entry : HasEntry v (live_scope_at v s).owner s
 
--- the scope of a task that stands stands, and its owner was born before
+-- the scope of a task in the view is in the view too, and its owner was born before the task
 pub record IsInside (v : Live) (u s : ℕ) : Type 0 where
   pub stands : is_some (scope_in v s) ≡ true
   pub before : (live_scope_at v s).owner < u

@@ -10,14 +10,14 @@ use Rattle.sts_model.specs.Live.{Live, LiveTask, LiveScope, Alive, shown_scope, 
 
 -- ---- tasks and scopes
 
--- the task, the scope of this birth number, if it stands
+-- the task or the scope of this birth number, if it is in the view
 abbrev pub task_in : Live → ℕ → Option LiveTask
 task_in v t = slice_index_or v.tasks t None
 
 abbrev pub scope_in : Live → ℕ → Option LiveScope
 scope_in v s = slice_index_or v.scopes s None
 
--- what is read where none stands, and of a task that doesn't live
+-- the values that are read if there is no such task, scope or living task
 abbrev pub no_live_task : LiveTask
 no_live_task = record { scope = None; state = None; alive = None }
 

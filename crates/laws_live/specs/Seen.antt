@@ -56,7 +56,7 @@ abbrev pub EventIsSeen : Type 0
 EventIsSeen =
     Ever (λ p w. (e : Event) → In (λ v. live v ≡ live_apply p (live w) e) (apply p (Running w) e))
 
--- the joiner's result, of a scope that stands
+-- the joiner's result of a scope that isn't closed
 abbrev pub ResultIsSeen : Type 0
 ResultIsSeen =
     Ever
@@ -64,7 +64,7 @@ ResultIsSeen =
     → result_in (live w) s
     ≡ Some (result_of (scope_at w s).joiner (ends (scope_at w s)) (subtask_count w s)))
 
--- what stands is what is seen
+-- the view has the tasks and scopes that count
 pub record StandsSeen (w : World) : Type 0 where
   pub tasks : count_by is_some (live w).tasks ≡ standing_tasks w
   pub scopes : count_by is_some (live w).scopes ≡ standing_scopes w
@@ -84,19 +84,19 @@ TakenIsSeen =
     (p : Program) (events : List Event)
     → In (λ w. taken p events ≡ live_taken p events) (after p events)
 
--- a view and a number of steps stand at a list of events
+-- v is the view after these events, and n is the number of steps taken
 pub record StandsAt (p : Program) (events : List Event) (v : Live) (n : ℕ) : Type 0 where
   pub world : World
   pub runs : after p events ≡ Running world
   pub view : live world ≡ v
   pub steps : taken p events ≡ n
 
--- after one event more they stand there, and it is seen whether the event counts
+-- the view gives the view and the steps after one event more, and whether that event counts
 pub record Turns (p : Program) (events : List Event) (v : Live) (n : ℕ) (e : Event) : Type 0 where
   pub stands : StandsAt p (events ++ e ∷ []) (live_apply p v e) (n + live_steps_in p v e)
   pub count : counts p (after p events) e ≡ live_counts p v e
 
--- so of every view that stands at a list of events
+-- this holds for every view after a list of events
 abbrev pub TurnsAreSeen : Program → Type 0
 TurnsAreSeen p =
     (events : List Event) (v : Live) (n : ℕ) (e : Event) → StandsAt p events v n

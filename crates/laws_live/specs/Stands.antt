@@ -1,4 +1,4 @@
--- Where a task stands changes by its own steps alone (this project's own).
+-- Only a task's own steps change at which scope it is (this project's own).
 use Rattle.std.specs.Prelude.{◌≡◌, ℕ, List, Bool, true, false, ◌==◌}
 use Rattle.sts_code.specs.Program.{Program}
 use Rattle.sts_code.specs.declared.instr.Instr.{Instr}
@@ -16,7 +16,8 @@ use Rattle.laws_live.specs.Fine.{IsLiveFine}
 use Rattle.laws_live.specs.Order.{IsOwned, InOrder}
 use Rattle.laws_live.specs.Waking.{is_step_of}
 
--- the task stands in x where it stood in v, and lives if it did
+-- the task is at the same scope in x as in v, or at none in both, and it lives in x if it lives in
+-- v
 pub record IsUnmoved (p : Program) (v x : Live) (u : ℕ) : Type 0 where
   pub alive : lives_in v u ≡ true → lives_in x u ≡ true
   pub stand : live_stand_at p x u ≡ live_stand_at p v u
@@ -40,18 +41,18 @@ abbrev pub ExpiriesMoveNone : Type 0
 ExpiriesMoveNone =
     (p : Program) (v : Live) → InOrder v → (s u : ℕ) → IsUnmoved p v (live_expire v s) u
 
--- a task that doesn't live stands at no scope; so one that is forked has yet to move
+-- a task that doesn't live is at no scope; so is a task that was just forked
 abbrev pub IdleStandFree : Type 0
 IdleStandFree =
     (p : Program) (v : Live) (t : ℕ) → lives_in v t ≡ false → live_stand_at p v t ≡ Free
 
--- is it this scope that the task stands at?
+-- is the task at this scope?
 abbrev pub is_stand_at : ℕ → Stand → Bool
 is_stand_at s Free = false
 is_stand_at s (AtJoin r) = r == s
 is_stand_at s (AtClose r) = r == s
 
--- a task stands at scopes of its own alone
+-- a task is only at scopes of its own
 abbrev pub StandsAreOwned : Type 0
 StandsAreOwned =
     (p : Program) (v : Live) → InOrder v
@@ -59,7 +60,7 @@ StandsAreOwned =
 
 -- ---- in every view that stands at a list of events
 
--- an event moves no task but the one whose step it is
+-- only its own steps move a task
 abbrev pub StandsStay : Program → Type 0
 StandsStay p =
     (events : List Event) (v : Live) (n : ℕ) → StandsAt p events v n

@@ -1,5 +1,5 @@
--- Where a task of a live view stands, and which tasks can step, where no instruction is misused
--- (this project's own).
+-- Which tasks of a live view are at a `join` or a `close`, and which can step, if no instruction is
+-- misused (this project's own).
 use Rattle.std.specs.Prelude.{ℕ, Bool, true, Option, Some, ◌&&◌, ◌||◌, not, if◌then◌else◌}
 use Rattle.sts_code.specs.Program.{Program}
 use Rattle.sts_code.specs.declared.instr.Instr.{Instr}
@@ -32,7 +32,7 @@ live_stand_at_instr v t _ = Free
 abbrev pub live_stand_at : Program → Live → ℕ → Stand
 live_stand_at p v t = live_stand_at_instr v t (instr_at p (alive_at v t).frame)
 
--- may the task go on from where it stands?
+-- may the task take its next step?
 abbrev pub live_can_go : Live → ℕ → Stand → Bool
 live_can_go v t Free = true
 live_can_go v t (AtJoin s) =

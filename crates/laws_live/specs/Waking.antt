@@ -1,4 +1,4 @@
--- Whom an event may wake or put to sleep (this project's own).
+-- The tasks that an event may wake or put to sleep (this project's own).
 use Rattle.std.specs.Prelude.{◌≡◌, ℕ, List, length, Bool, true, false, Option, Some, None, ◌==◌}
 use Rattle.std.specs.Prelude.{◌||◌}
 use Rattle.sts_code.specs.Program.{Program}
@@ -36,7 +36,7 @@ concerns p v (event.Step t) u = u == t || touches v t (instr_at p (alive_at v t)
 concerns p v (event.Interrupt t) u = u == t
 concerns p v (event.Expire s) u = is_around v (Some s) u
 
--- whom it doesn't concern can step afterwards exactly where it could before
+-- an event doesn't change whether a task can step, unless it concerns the task
 abbrev pub OthersStay : Program → Type 0
 OthersStay p =
     (events : List Event) (v : Live) (n : ℕ) → StandsAt p events v n

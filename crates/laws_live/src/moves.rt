@@ -1,5 +1,5 @@
-//! Laws of live views that stand at a list of events: what a machine that is seen as one may rely
-//! on, of programs that no list of events leads to a fault.
+//! Laws of the live views that lists of events lead to, for programs that never fault. A machine
+//! that keeps such a view may rely on them.
 
 ghost use Rattle.sts_code.specs.Program.{Program};
 ghost use Rattle.laws_runs.specs.Runs.{NeverFaults};
@@ -9,15 +9,15 @@ ghost use Rattle.laws_live.specs.Stands.{EffectsMoveOne, InterruptsMoveNone, Exp
 ghost use Rattle.laws_live.specs.Stands.{IdleStandFree, StandsAreOwned, StandsStay};
 ghost use Rattle.laws_live.specs.Waking.{OthersStay, ReadyStays};
 
-/// What a live view names stands, who owns it has it as an entry, and environments are those of the
-/// bindings; of every program.
+/// Each scope and subtask that a live view names counts. The owner of a scope has it as an entry.
+/// Environments are built from the bindings. This holds for every program.
 pub fn seen_in_order()
     ensures { SeenInOrder }
 {}
 
-/// An event changes who can step among few: the task that steps or is interrupted, the owner and
-/// the subtasks of a scope that is told of an end or expires, the subtasks of one that is being
-/// closed, and a task that is forked.
+/// An event leaves alone whether a task can step, unless it concerns the task. A step or an
+/// interrupt concerns its own task. The end of a subtask, or an expiry, concerns the owner and the
+/// subtasks of the scope. A close concerns the subtasks of its scope, and a fork the new task.
 pub fn others_stay()
     ensures { (p : Program) → NeverFaults p → OthersStay p }
 {}
@@ -32,8 +32,8 @@ pub fn turns_are_safe()
     ensures { (p : Program) → NeverFaults p → TurnsAreSafe p }
 {}
 
-/// In a view in order an instruction that is no misuse moves its own task alone: each other task
-/// stands where it stood, and one that the instruction brings to life stands at no scope.
+/// In a view in order an instruction that is no misuse moves only its own task. Each other task
+/// stays at its `join` or `close`, and a task that the instruction brings to life is at no scope.
 pub fn effects_move_one()
     ensures { EffectsMoveOne }
 {}
@@ -48,18 +48,18 @@ pub fn expiries_move_none()
     ensures { ExpiriesMoveNone }
 {}
 
-/// A task that doesn't live stands at no scope.
+/// A task that doesn't live is at no scope.
 pub fn idle_stand_free()
     ensures { IdleStandFree }
 {}
 
-/// In a view in order a task stands at scopes of its own alone.
+/// In a view in order a task is only at scopes of its own.
 pub fn stands_are_owned()
     ensures { StandsAreOwned }
 {}
 
-/// An event moves no task but the one whose step it is: who lives goes on living, and stands where
-/// it stood.
+/// Only its own steps move a task: after any other event a living task still lives, and is at the
+/// same scope or at none.
 pub fn stands_stay()
     ensures { (p : Program) → NeverFaults p → StandsStay p }
 {}

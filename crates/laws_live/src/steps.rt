@@ -6,17 +6,17 @@ ghost use Rattle.laws_live.specs.Seen.{EffectIsSeen, InterruptIsSeen, ExpireIsSe
 ghost use Rattle.laws_live.specs.Seen.{CountsIsSeen, EventIsSeen, RunIsSeen, TakenIsSeen};
 ghost use Rattle.laws_live.specs.Seen.{ResultIsSeen, StandingIsSeen, TurnsAreSeen};
 
-/// What is seen of an instruction's effect is the effect on what is seen.
+/// The view after an instruction's effect is the view's own effect of that instruction.
 pub fn effect_is_seen()
     ensures { EffectIsSeen }
 {}
 
-/// The same of an interrupt.
+/// The view after an interrupt is the view's own interrupt.
 pub fn interrupt_is_seen()
     ensures { InterruptIsSeen }
 {}
 
-/// The same of an expiry.
+/// The view after an expiry is the view's own expiry.
 pub fn expire_is_seen()
     ensures { ExpireIsSeen }
 {}
@@ -31,22 +31,22 @@ pub fn counts_is_seen()
     ensures { CountsIsSeen }
 {}
 
-/// The joiner's result of a scope that stands is seen.
+/// The view shows the joiner's result of each scope that isn't closed.
 pub fn result_is_seen()
     ensures { ResultIsSeen }
 {}
 
-/// As many tasks and scopes are seen as stand.
+/// The view has the tasks and scopes that count, and no others.
 pub fn standing_is_seen()
     ensures { StandingIsSeen }
 {}
 
-/// What is seen of an event is the event on what is seen.
+/// The view after an event is the view's own event.
 pub fn event_is_seen()
     ensures { EventIsSeen }
 {}
 
-/// The same of a list of events.
+/// The view after a list of events is the view's own run of that list.
 pub fn run_is_seen()
     ensures { RunIsSeen }
 {}
@@ -56,8 +56,8 @@ pub fn taken_is_seen()
     ensures { TakenIsSeen }
 {}
 
-/// Where no list of events leads to a fault: what stands at a list of events stands, after one
-/// event more, at the longer list.
+/// In a program that never faults, the view after a list of events gives the view after one event
+/// more.
 pub fn turns_are_seen()
     ensures { (p : Program) → NeverFaults p → TurnsAreSeen p }
 {}

@@ -135,7 +135,7 @@ pub picked : (b : BookSeen) (o : Option ℕ) → Picks (is_free b) o → MatchBo
 picked b (Some t) h = (t, h)
 picked b None h = h
 
--- who lives does so at another frame
+-- a task lives if and only if it lives at another frame
 pub lives_at_frame : (v : Live) (t : ℕ) (f : Frame) (q : ℕ) → lives_in (with_live_frame v t f) q ≡ lives_in v q
 lives_at_frame v t f q = at_set (λ o. is_some (unwrap_or o no_live_task).alive ≡ lives_in v q) v.tasks t q (option_map change (task_in v t)) None (λ e. rw e (here (task_in v t))) refl
   where
@@ -179,7 +179,7 @@ entries_few m events out is main =
     let most = is.most in
     omega (arith, few, same, counted, most)
 
--- no more tasks are out than stand
+-- the tasks that are out are no more than the tasks that count
 out_few : (m : Seen) (events : List Event) (out : List ℕ) → IsBook m events out → (c : Budgets) → IsBudgetOf m.program (main_of m.program) c → ViewsAreWithin m.program → length out ≤ c.tasks
 out_few m events out is c printed within =
     let few = (within c printed events m.live m.steps is.stands).tasks in
@@ -238,7 +238,7 @@ picks_alike a b None same picks = λ t. same t ∙ picks t
 pub free_parts : (can : Bool) (out : List ℕ) (t : ℕ) → (can && not (among out t)) ≡ true → (can ≡ true) × (among out t ≡ false)
 free_parts can out t free = let both = and_parts can (not (among out t)) free in (both.0, not-true _ both.1)
 
--- none may turn that is out, or whose step doesn't count
+-- a task may not turn if it is out
 pub out_no_turn : (can out : Bool) → out ≡ true → (can && not out) ≡ false
 out_no_turn can out is = and_right can (not out) (not_from_true out is)
 
@@ -258,7 +258,7 @@ steps_and_outside journal =
     let both : length (filter is_step journal) + length (filter (λ e. not (is_step e)) journal) ≡ length journal = length-filter_both is_step (λ e. not (is_step e)) (λ e. refl) journal in
     omega (arith, steps, others, both)
 
--- a machine has taken as many steps as its events are
+-- the steps of a machine are the steps among its events
 pub steps_counted : (m : Seen) (events : List Event) (out : List ℕ) → IsBook m events out → m.steps ≡ count_by is_step events
 steps_counted m events out is =
     let counted = is.counted in

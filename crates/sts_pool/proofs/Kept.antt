@@ -1,4 +1,4 @@
--- What keeps the facts of a book whose journal is written or only counted.
+-- A book keeps its facts, whether its journal is written or only counted.
 use Rattle.std.proofs.Common.{◌≡◌, ℕ, ◌+◌, ◌≤◌, List, [], ◌∷◌, ◌++◌, length, true, false, Option, Some, refl, sym, ap, ◌∙◌, subst, vec_len, vec_capacity, count_by, rules, arith}
 use Rattle.std.specs.Prelude.{IfSome, option_map, unwrap_or}
 use Rattle.sts_model.specs.declared.event.End.{End}

@@ -1,5 +1,4 @@
--- Lists of numbers that differ: which are in them, and that a table has as many records as such a
--- list names.
+-- Lists of different numbers: which numbers are in them, and that a table has a record for each.
 use Rattle.std.proofs.Common.{◌≡◌, ◌≢◌, ℕ, zero, suc, ◌+◌, ◌≤◌, List, [], ◌∷◌, ◌++◌, length, Bool, true, false, not, cond, inl, inr, ◌⊎◌, ◌||◌, ◌==◌, eqb, Option, Some, None, refl, sym, ◌∙◌, ap, filter, get_or, is_some, arith}
 use Rattle.std.proofs.lemmas.Bool.{cases_eq, or_cases, or_right}
 use Rattle.std.proofs.lemmas.Bool.Decides.{nat_tests}

@@ -22,7 +22,7 @@ use Rattle.sts_pool.specs.declared.journal.Journal.{Journal}
 
 -- ---- what contracts see of a book
 
--- a program of no functions, which stands where none is picked yet
+-- a program without functions, until one is picked
 abbrev pub no_program : Program
 no_program = record { profile = One; routines = [] }
 
@@ -48,8 +48,8 @@ book_of m journal outside out = record {
 abbrev pub outside_entries : List Event → ℕ
 outside_entries events = count_by (λ e. not (is_step e)) events
 
--- the events may be the journal's entries: the machine stands where they lead, and each is a step
--- that was taken or one of those from outside
+-- the events may be the journal's entries: they lead to the state of the machine, and each is a
+-- step that was taken or one of the events from outside
 pub record MayBe (b : BookSeen) (events : List Event) : Type 0 where
   pub stands : Stands b.machine events
   pub outside : outside_entries events ≡ b.outside
@@ -60,8 +60,8 @@ pub record MayBe (b : BookSeen) (events : List Event) : Type 0 where
 abbrev pub OfJournal : BookSeen → (List Event → Type 0) → Type 0
 OfJournal b P = MatchOption b.journal ((events : List Event) → MayBe b events → P events) P
 
--- these events were recorded: they came at the end of the journal where it is written, those from
--- outside were counted, and the machine stands where they lead
+-- these events were recorded: a written journal has them at its end, those from outside were
+-- counted, and they lead to the new state of the machine
 pub record Records (old new : BookSeen) (events : List Event) : Type 0 where
   pub written : new.journal ≡ option_map (λ journal. journal ++ events) old.journal
   pub outside : new.outside ≡ old.outside + outside_entries events
@@ -86,7 +86,7 @@ IsOurs b s = (is_out b s.task ≡ true) × Fits b.machine s
 
 -- ---- what the type of a book keeps
 
--- the machine stands where the events lead, each of them is a step that counted or came from
+-- the events lead to the state of the machine, each of them is a step that counted or came from
 -- outside, and the tasks that are out live
 pub record IsBook (m : Seen) (events : List Event) (out : List ℕ) : Type 0 where
   pub stands : Stands m events
@@ -104,8 +104,8 @@ pub record HasBookRoom (p : Program) (journal out : ℕ) : Type 0 where
   pub journal_room : main.budget.steps + MAX_OUTSIDE ≤ journal
   pub out_room : main.budget.tasks ≤ out
 
--- some list of events leads where its machine stands, with as many from outside as were counted:
--- they are those of the journal, where it is written, and there is room for more
+-- Some list of events leads to the state of the machine, and has the counted number of events from
+-- outside. If the journal is written, it has these events, and there is room for more.
 pub record IsKept (m : Seen) (journal : Journal) (outside : ℕ) (out : List ℕ) (out_room : ℕ)
     : Type 0 where
   pub events : List Event

@@ -14,12 +14,12 @@ written Counted = None
 abbrev pub opened : Bool → Option (List Event)
 opened is_written = if is_written then Some [] else None
 
--- where entries are written, they are these, and there is room for so many in all
+-- a written journal has these entries, and room for `room` entries in all
 abbrev pub Holds : Journal → List Event → ℕ → Type 0
 Holds (Written entries) events room = (entries.items ≡ events) × (room ≤ vec_capacity entries)
 Holds Counted events room = Unit {0}
 
--- there is room for so many entries more
+-- there is room for `more` further entries
 abbrev pub HasRoomFor : Journal → ℕ → Type 0
 HasRoomFor (Written entries) more = vec_len entries + more ≤ vec_capacity entries
 HasRoomFor Counted more = Unit {0}

@@ -10,8 +10,8 @@ use Rattle.sts_model.specs.World.{World, Running, task_at}
 use Rattle.sts_model.specs.Run.{after, is_step, taken}
 use Rattle.laws_accepted.specs.Accepted.{main_of}
 
--- no more steps are taken than the budget of `main`, and no more entries are beside them than a run
--- takes from outside
+-- the steps taken are within the budget of `main`, and the other entries within the limit of
+-- outside events
 pub record IsBounded (p : Program) (journal : List Event) (budget : Budgets) : Type 0 where
   pub steps : taken p journal ≤ budget.steps
   pub entries : length journal ≤ budget.steps + MAX_OUTSIDE

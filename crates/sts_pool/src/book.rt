@@ -27,10 +27,10 @@ use sts_machine::{Machine, Slice, Turned};
 use sts_model::{End, Event};
 use sts_verify::Verified;
 
-/// A machine, the journal of its events, and the tasks whose frames are out.
+/// A machine, the journal of its events, and the tasks that workers have out.
 ///
-/// Where nobody asks for the journal its entries are only counted: some journal leads where the
-/// machine stands, and each call does the same as where it is written.
+/// If the journal isn't asked for, its entries are only counted. Then some journal leads to the
+/// state of the machine, and each call does what it does with a written journal.
 #[derive(Drop)]
 pub struct Book<'p> {
     machine: Machine<'p>,
@@ -51,7 +51,7 @@ impl<'p> Model for Book<'p> {
     ghost invariant = { λ b. IsKept b.machine b.journal b.outside b.out.items (vec_capacity b.out) };
 }
 
-/// The book has as many outside events as it takes.
+/// The book has taken the limit of outside events.
 #[derive(Clone, Copy, Debug, PartialEq, Eq)]
 pub struct OutsideFull;
 
@@ -62,12 +62,13 @@ pub struct Stranger<'p> {
 }
 
 impl<'p> Book<'p> {
-    /// A book before the first event, with room for as many steps as the budget of `main` and 4,096
-    /// outside events, and for as many tasks out as that budget lets stand. No other call takes memory.
+    /// A book before the first event. It has room for the steps of `main`'s budget and 4,096
+    /// outside events in the journal, and for the tasks of that budget to be out. No other call
+    /// takes memory.
     ///
     /// # Errors
     ///
-    /// Want of memory.
+    /// Memory ran out.
     pub fn start(alloc: Global, verified: &'p Verified) -> Result<Book<'p>, AllocError>
         ensures program { IfOk result (λ b. b.program ≡ verified.now) }
         ensures journal { IfOk result (λ b. b.journal ≡ Some []) }
@@ -81,7 +82,7 @@ impl<'p> Book<'p> {
     ///
     /// # Errors
     ///
-    /// Want of memory.
+    /// Memory ran out.
     pub(crate) fn with_journal(
         alloc: Global,
         verified: &'p Verified,
@@ -107,8 +108,8 @@ impl<'p> Book<'p> {
         })
     }
 
-    /// The entries so far, oldest first: the machine stands where they lead. A journal that is only
-    /// counted has none to show.
+    /// The entries so far, oldest first. They lead to the state of the machine. A journal that is
+    /// only counted shows none.
     pub fn journal(&self) -> &[Event]
         ensures value { IfSome self.now.journal (λ entries. result.now ≡ entries) }
         ensures stands { IfSome self.now.journal (MayBe self.now) }
@@ -122,7 +123,7 @@ impl<'p> Book<'p> {
         self.machine.steps().saturating_add(u64::from(self.outside))
     }
 
-    /// Some task that can step, out or not: none only where there is none.
+    /// A task that can step, out or not; `None` if and only if no task can.
     pub fn ready(&self) -> Option<u32>
         ensures { OfJournal self.now (λ events. In (λ w. Picks (can_step self.now.program w) result)
             (after self.now.program events)) }
@@ -184,7 +185,8 @@ impl<'p> Book<'p> {
         Ok(turned)
     }
 
-    /// Claims a task that can step and isn't out, and it is out then: none only where there is none.
+    /// Claims a task that can step and isn't out, and marks it as out. Returns `None` if and only
+    /// if there is no such task.
     pub(crate) fn claim(&mut self) -> Option<u32>
         ensures none { IfNone result ((self.new ≡ self.old) × OfJournal self.old (λ events.
             (t : ℕ) → may_turn self.old events t ≡ false)) }
@@ -207,7 +209,8 @@ impl<'p> Book<'p> {
         forget(&mut self.out, task);
     }
 
-    /// Takes the slice of a task that can step and isn't out: none only where there is none.
+    /// Takes the slice of a task that can step and isn't out. Returns `None` if and only if there
+    /// is no such task.
     pub fn check_out(&mut self) -> Option<Slice<'p>>
         ensures none { IfNone result ((self.new ≡ self.old) × OfJournal self.old (λ events.
             (t : ℕ) → may_turn self.old events t ≡ false)) }
@@ -227,7 +230,7 @@ impl<'p> Book<'p> {
         Some(self.machine.slice(task))
     }
 
-    /// Takes a slice back, and records as many steps of its task as it has done.
+    /// Takes a slice back, and records one step of its task for each instruction of the slice.
     ///
     /// # Errors
     ///
@@ -254,7 +257,7 @@ impl<'p> Book<'p> {
         Ok(())
     }
 
-    /// How the root ended and the steps taken, by as many workers.
+    /// The end of the root and the steps taken, with `workers` as the number of workers.
     ///
     /// # Errors
     ///
@@ -312,7 +315,7 @@ impl<'p> Book<'p> {
         self.pick().is_some()
     }
 
-    /// Some task that can step and isn't out: none only where there is none.
+    /// A task that can step and isn't out; `None` if and only if there is no such task.
     fn pick(&self) -> Option<u32>
         ensures free { Picks (is_free self.now) result }
         ensures told { OfJournal self.now (λ events. Picks (may_turn self.now events) result) }

@@ -12,8 +12,8 @@ pub trait Gate {
 
 /// Gives the interrupts and expiries of a run; it never gives a step.
 pub trait Outside {
-    /// The next event, if one is due where the journal has so many entries. It is asked under the
-    /// lock before each turn, until it gives none or 4,096 events were taken.
+    /// The next event, if one is due when the journal has `journal_length` entries. A worker asks
+    /// under the lock before each turn, until the answer is `None` or 4,096 events were taken.
     fn next(&mut self, journal_length: u64) -> Option<Event>
         ensures { IfSome result IsOutside };
 }

@@ -7,7 +7,7 @@ ghost use Rattle.sts_pool.specs.Journal as def;
 use std::alloc::{AllocError, Global};
 use sts_model::Event;
 
-/// The entries so far, oldest first; or none of them, where they are only counted.
+/// The entries so far, oldest first, or only their number.
 #[derive(Drop)]
 pub(crate) enum Journal {
     Written(Vec<Event>),
@@ -15,11 +15,11 @@ pub(crate) enum Journal {
 }
 
 impl Journal {
-    /// A journal before the first entry: one that is written has room for as many entries.
+    /// A journal before the first entry. A written one has room for `entries` entries.
     ///
     /// # Errors
     ///
-    /// Want of memory.
+    /// Memory ran out.
     pub(crate) fn start(
         alloc: Global,
         is_written: bool,
@@ -55,7 +55,7 @@ impl Journal {
         }
     }
 
-    /// Records as many steps of a task.
+    /// Records `count` steps of a task.
     pub(crate) fn push_steps(&mut self, task: u32, count: u32)
         requires { def.HasRoomFor self.old count }
         ensures { def.IsRecorded self.old self.new (steps_of count task) }

@@ -40,7 +40,7 @@ impl Outside for Silent<'_> {
     }
 }
 
-/// A `main` of 480,052 steps, each third of which asks for the flag.
+/// A `main` of 480,052 steps. Every third step asks for the flag.
 fn long(alloc: Global) -> Result<Verified, Fail> {
     let code = [
         Instr::Push(16),
@@ -66,7 +66,7 @@ fn long(alloc: Global) -> Result<Verified, Fail> {
     Ok(verify(alloc, program).ok().ok_or("not accepted")?)
 }
 
-/// No stack has that many bytes, so the last of the workers is not started, and the others end long
+/// No stack can have that size, so the last of the workers is not started. The others end long
 /// before the program does.
 #[test]
 fn a_refused_start_ends_the_others(rt: HostRuntime) -> Result<(), Fail> {

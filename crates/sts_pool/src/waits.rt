@@ -1,30 +1,35 @@
-//! Who of the workers sleeps, and who wakes another: the one place that decides it.
+//! Decides which workers sleep and which wake another. No other file decides that.
 //!
 //! A worker *waits* for the lock, *works* under it, is *out* with a slice or at the gate, *sleeps*,
-//! or has ended. All that is below is read and written under the lock, in the hold in which the
-//! worker looks for a task, and `Condvar::wait` gives the lock up and sleeps in one step.
+//! or has ended. The two numbers below are read and written only under the lock, in the hold in
+//! which the worker looks for a task. `Condvar::wait` gives the lock up and sleeps in one step.
 //!
 //! Why the workers never all sleep while a task is left:
 //!
-//! 1. `awake` is the number of workers that neither sleep nor are out with a slice, except that one
-//!    who was woken is counted once it has the lock: `lends` and `sleeps` take one away, `back` and
-//!    `rises` add one, each in the hold that makes it so.
-//! 2. A worker sleeps only in the hold in which it saw that no task is left, or that `leaves` holds:
-//!    then another one is awake.
-//! 3. Who is awake comes to the lock and looks for a task once more before it sleeps, and who is out
-//!    with a slice is counted again when it brings it back.
-//! 4. So the last worker that is awake sleeps only where no task is left. A task is left again only
-//!    by a step or an event from outside, and these are done under the lock by a worker that is
-//!    awake then.
-//! 5. Hence the run goes on with no wake-up at all. One matters to its end: who sees the end or the
-//!    stop wakes all, under the lock, and who sleeps later has looked for both first.
+//! 1. `awake` is the number of workers that neither sleep nor are out with a slice. `lends` and
+//!    `sleeps` take one away, `back` and `rises` add one. Each is called in the hold that makes the
+//!    change. A woken worker counts once it has the lock.
 //!
-//! `checks/waits.py` searches every schedule of three workers for a state in which this is not so.
+//! 2. A worker sleeps only in a hold in which it saw that no task is left, or that `leaves` holds.
+//!    In the second case another worker is awake.
+//!
+//! 3. A worker that is awake takes the lock and looks for a task once more before it sleeps. A
+//!    worker that is out with a slice is counted again when it brings the slice back.
+//!
+//! 4. So the last worker that is awake sleeps only if no task is left. Only a step or an event from
+//!    outside makes a task left again. A worker does these under the lock, and is awake then.
+//!
+//! 5. So the run goes on even if no worker ever wakes another. Wake-ups matter to its end: a worker
+//!    that sees the end or the stop wakes all, under the lock. A worker that sleeps later has looked
+//!    for both first.
+//!
+//! `checks/waits.py` searches every schedule of three workers for a state that contradicts this.
 
-/// A slice of so many instructions is worth the wake-up of another worker.
+/// A slice with at least this many instructions was long enough to justify waking another worker.
 const WORTH: u32 = 512;
 
-/// So many tasks are claimed by several workers at once, until a slice is worth it again.
+/// Several workers at once claim this many tasks. After that only one does, until a slice is long
+/// enough.
 const TRIES: u32 = 64;
 
 /// How many workers are awake with no slice out, and how many tasks may still be claimed by several
@@ -36,7 +41,8 @@ pub(crate) struct Waits {
 }
 
 impl Waits {
-    /// Before the first of so many workers has come: all of them are on their way to the lock.
+    /// The state before the first worker has come: all `workers` workers are on their way to the
+    /// lock.
     pub(crate) fn new(workers: u32) -> Waits {
         Waits {
             awake: workers,
@@ -44,13 +50,14 @@ impl Waits {
         }
     }
 
-    /// Is what is left to be left to another worker, who is awake?
+    /// Should the worker leave the remaining tasks to another worker that is awake?
     pub(crate) fn leaves(&self) -> bool {
         self.tries == 0 && self.awake > 1
     }
 
-    /// Are several workers wanted? Then who claims a task or takes a slice wakes one other where a
-    /// task is left, and who finds none looks again for a while before it sleeps.
+    /// May several workers claim tasks? If so, a worker that claims a task or takes a slice wakes
+    /// another if a task is left. A worker that finds none looks again for a while before it
+    /// sleeps.
     pub(crate) fn wants_several(&self) -> bool {
         self.tries > 0
     }
@@ -65,7 +72,7 @@ impl Waits {
         self.awake = self.awake.saturating_sub(1);
     }
 
-    /// A worker is back with a slice on which so many instructions were done.
+    /// A worker is back with a slice in which it did `done` instructions.
     pub(crate) fn back(&mut self, done: u32) {
         self.awake = self.awake.saturating_add(1);
         if done >= WORTH {
@@ -84,9 +91,9 @@ impl Waits {
     }
 }
 
-/// How many turns come in a row before a slice is tried, after one that did so many instructions,
-/// where so many turns came before it: ever more while slices are not worth it, up to a bound, since
-/// the lock is held meanwhile.
+/// The number of turns in a row before a slice is tried again. The last slice did `done`
+/// instructions, and `before` turns came before it. The number grows while slices are too short. It
+/// has a bound, since the lock is held during the turns.
 pub(crate) fn turns_after(done: u32, before: u32) -> u32 {
     match done {
         AT_ONCE => 1,
@@ -95,11 +102,11 @@ pub(crate) fn turns_after(done: u32, before: u32) -> u32 {
     }
 }
 
-/// As many local instructions as a worker does at most with no lock held.
+/// The limit for the local instructions that a worker does with no lock held.
 pub(crate) const AT_ONCE: u32 = 65_536;
 
-/// After so many steps in a row a task's slice is taken.
+/// A task's slice is taken after this many steps in a row.
 pub(crate) const IN_A_ROW: u32 = 16;
 
-/// As many turns as a worker does at most under one hold of the lock.
+/// The limit for the turns of a worker under one hold of the lock.
 const IN_A_HOLD: u32 = 1_024;

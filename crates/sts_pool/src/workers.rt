@@ -41,8 +41,8 @@ impl Runs for Brand {
     ghost program = { no_program };
 }
 
-/// What the workers share: the book, the outside, whether the run is stopped, how many workers have
-/// come to the lock, and what decides who of them sleeps.
+/// The state that workers share: the book, the outside, whether the run is stopped, how many
+/// workers have reached the lock, and the rule for who sleeps.
 #[derive(Drop)]
 struct Shared<'p, O, B: Runs> {
     book: Book<'p>,
@@ -89,7 +89,8 @@ impl<'p, O: Outside, B: Runs> Shared<'p, O, B> {
         }
     }
 
-    /// Turns of a task until one is no step, at most so many: were all of them steps?
+    /// Does up to `most` turns of a task, until one is no step. Answers whether all of them were
+    /// steps.
     fn turns(&mut self, task: u32, most: u32) -> bool {
         for _ in 0..most {
             self.ask();
@@ -132,8 +133,8 @@ impl<'p, O: Outside, B: Runs> Shared<'p, O, B> {
         Some(slice)
     }
 
-    /// Takes a slice back on which so many instructions were done. One that is not the book's, which
-    /// never comes, stops the run.
+    /// Takes back a slice in which `done` instructions were done. A slice of another book stops the
+    /// run; none ever comes.
     fn take_back(&mut self, slice: Slice<'p>, done: u32) {
         self.waits.back(done);
         if self.book.check_in(slice).is_err() {
@@ -150,7 +151,8 @@ fn pause() {
 }
 
 impl<'p, O: Outside, B: Runs> Pool<'p, O, B> {
-    /// The lock, which the worker waits for once it was taken by others at so many looks.
+    /// Takes the lock. The worker sleeps until the lock is free only after it looked for a while
+    /// and others had it each time.
     fn locked<R: Wait>(&self, rt: &R) -> MutexGuard<'_, Shared<'p, O, B>> {
         for _ in 0..LOOKS {
             if let Some(guard) = self.shared.try_lock() {
@@ -168,7 +170,7 @@ impl<'p, O: Outside, B: Runs> Pool<'p, O, B> {
         }
     }
 
-    /// A task to work on, or none where the worker is to end. Here alone a worker sleeps.
+    /// A task to work on, or `None` if the worker is to end. A worker sleeps only in this function.
     fn find<'b, R: Wait>(&'b self, rt: &R, guard: MutexGuard<'b, Shared<'p, O, B>>) -> Option<u32> {
         let mut guard = guard;
         let mut looks = LOOKS;
@@ -210,8 +212,8 @@ impl<'p, O: Outside, B: Runs> Pool<'p, O, B> {
         self.find(rt, guard)
     }
 
-    /// Takes slices, does their local instructions with no lock held, gives each back and does the
-    /// steps behind it, until a task can't step; then another one is found.
+    /// Takes slices, does their local instructions with no lock held, and gives them back. It does
+    /// the step after each slice, until the task can't step; then it finds another.
     fn slices<'b, R: Wait, G: Gate>(
         &'b self,
         rt: &R,
@@ -267,9 +269,9 @@ impl<'p, O: Outside, B: Runs> Pool<'p, O, B> {
 ///
 /// # Errors
 ///
-/// Memory was refused, or a worker could not be started: then the others were stopped and have ended.
-/// That the root had not ended when the workers were done would be told too: no test has met it, and
-/// nothing is proved of it.
+/// Memory ran out, or a worker could not be started. In the second case the other workers were
+/// stopped and have ended. An error would also report that the root had not ended when the workers
+/// were done. No test has met that, and nothing is proved of it.
 pub fn run<R: Threads + Wait + Sync, G: Gate + Sync, O: Outside + Send + Drop>(
     rt: &R,
     alloc: Global,
@@ -323,12 +325,12 @@ pub(crate) struct Left<'p> {
     workers: u32,
 }
 
-/// The book of the program that was picked once its workers have ended, of which there is one for
-/// each of these sizes of a stack.
+/// Starts one worker for each of these stack sizes, and returns the book of the picked program once
+/// all of them have ended.
 ///
 /// # Errors
 ///
-/// A worker could not be started, or not as many came to the lock as were started.
+/// A worker could not be started, or a started worker never reached the lock.
 pub(crate) fn run_on<
     'p,
     B: Runs + Send + Sync,
