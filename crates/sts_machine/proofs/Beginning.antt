@@ -35,7 +35,7 @@ same_stand s = grind (arith, nat_tests)
 same_close : (s : ℕ) → is_stand_at s (AtClose s) ≡ true
 same_close s = grind (arith, nat_tests)
 
--- the root stands at no scope, as there is none
+-- the root is at no scope, as there is none
 root_is_free : (p : Program) → StandsAreOwned → InOrder (live_opening p) → live_stand_at p (live_opening p) 0 ≡ Free
 root_is_free p owned order = by (live_stand_at p (live_opening p) 0) refl
   where

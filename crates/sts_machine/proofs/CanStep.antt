@@ -1,4 +1,4 @@
--- A store that knows where its tasks stand tells which of them can step.
+-- A store that has recorded at which scopes its tasks are knows which of them can step.
 use Rattle.std.proofs.Common.{◌≡◌, ℕ, Bool, true, false, Option, Some, None, refl, sym, ◌∙◌, ap, ◌&&◌}
 use Rattle.sts_code.specs.Program.{Program}
 use Rattle.laws_live.specs.Reading.{lives_in}

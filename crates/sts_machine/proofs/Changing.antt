@@ -35,7 +35,7 @@ life_is (Some task) = refl
 pub lives_quiet : (v x : Live) (i : ℕ) → IsQuiet v x → lives_in x i ≡ lives_in v i
 lives_quiet v x i h = life_is (task_in x i) ∙ (h.tasks i).living ∙ sym (life_is (task_in v i))
 
--- who lives does so at another frame
+-- a task lives if and only if it lives at another frame
 lives_written : (v : Live) (t : ℕ) (f : Frame) (i : ℕ) → lives_in (with_live_frame v t f) i ≡ lives_in v i
 lives_written v t f i = at_set (λ o. is_some (unwrap_or o no_live_task).alive ≡ lives_in v i) v.tasks t i (option_map over (task_in v t)) None (λ e. rw e (by (task_in v t))) refl
   where
@@ -50,7 +50,7 @@ lives_written v t f i = at_set (λ o. is_some (unwrap_or o no_live_task).alive �
     by None = refl
     by (Some task) = held task.alive
 
--- who lives was born
+-- a living task was born
 pub inside : (v : Live) (t : ℕ) → lives_in v t ≡ true → t < length v.tasks
 inside v t lives = within (λ o. is_some (unwrap_or o no_live_task).alive) v.tasks t None refl lives
 
@@ -94,7 +94,7 @@ quiet_scopes v x h = same_sums (λ o. cond (is_some o) 1 0) None v.scopes x.scop
 quiet_bindings : (v x : Live) → IsQuiet v x → live_bindings x ≡ live_bindings v
 quiet_bindings v x h = same_sums bindings_in None v.tasks x.tasks h.born (λ i. (h.tasks i).binds)
 
--- where a task of the first view is said to stand
+-- the scope that is recorded for a living task of the first view
 abbrev said : Live → Unseen → ℕ → Stand
 said v u i = cond (lives_in v i) (stand_in u i) Free
 
@@ -188,7 +188,7 @@ module _ (v : Live) (u : Unseen) (t : ℕ) (keys : List ℕ) (room : 0 < u.scope
       let w : Live = record v { scopes = v.scopes ++ Some (opened_scope v t joiner timed) ∷ [] } in
       then-quiet v w _ u opened_unseen t (opened (opened_scope v t joiner timed)) (quiet-frame w t _ (entered (length v.scopes) (alive_at v t).frame.entries))
 
--- who opens it goes on
+-- the task that opens the scope goes on
 pub opener_lives : (v : Live) (t x : ℕ) (f : Frame) (joiner : Joiner) (timed : Bool) → lives_in v t ≡ true → lives_in (live_open v t f x joiner timed) t ≡ true
 unfolding live_open
 opener_lives v t x f joiner timed lives = lives_written (record v { scopes = v.scopes ++ Some (opened_scope v t joiner timed) ∷ [] }) t _ t ∙ lives
@@ -265,7 +265,7 @@ forker_lives p v t s g f h lives =
     ∙ ap (λ o. is_some (unwrap_or o no_live_task).alive) (get_or_append_left v.tasks more None t (inside v t lives))
     ∙ lives
 
--- where the forker is said to stand
+-- the scope that is recorded for the forker
 pub forker_stands : (v : Live) (u : Unseen) (t : ℕ) → lives_in v t ≡ true → length u.stands ≡ length v.tasks → unwrap_or (get_or (u.stands ++ Some Free ∷ []) t None) Free ≡ stand_in u t
 forker_stands v u t lives same = let less = inside v t lives in ap (λ o. unwrap_or o Free) (get_or_append_left u.stands (Some Free ∷ []) None t (omega (arith, less, same)))
 
@@ -285,7 +285,7 @@ module _ (v : Live) (t : ℕ) (l : Living v t) where
       ap (λ o. sum_by f (set v.tasks t y) + f o) (sym lives_there)
       ∙ sum_by-set f v.tasks t y None (inside v t (ap (λ o. is_some (unwrap_or o no_live_task).alive) lives_there))
 
-  -- who lives but t
+  -- the living tasks other than t
   others_live : (u : Unseen) (y : Option LiveTask) (i : ℕ) → (i == t) ≡ false → lives_in (record v { tasks = set v.tasks t y }) i ≡ true → stand_in u i ≡ said v u i
   others_live u y i other lives = still_said v u i (ap (λ o. is_some (unwrap_or o no_live_task).alive) (sym (get_or-set_other v.tasks t i y None (apart i t other))) ∙ lives)
 

@@ -31,7 +31,7 @@ use Rattle.sts_machine.proofs.Changing.{life_is, changes-quiet, then-quiet, stoo
 
 -- ---- the subtasks of s are taken out
 
--- who is left stands where it was said to stand
+-- the tasks that are left keep their recorded scopes
 left_at : (s : ℕ) (xs : List (Option LiveTask)) (ys : List (Option Stand)) (i : ℕ) → is_living (without s (get_or xs i None)) ≡ true → get_or (stands_left s xs ys) i None ≡ get_or ys i None
 left_at s [] ys i e = cc
 left_at s (x ∷ xs) [] i e = refl
@@ -46,7 +46,7 @@ left_at s (x ∷ xs) (y ∷ ys) zero e = by x e
     by (Some task) e = by2 task (is_in s task.scope) refl e
 left_at s (x ∷ xs) (y ∷ ys) (suc i) e = left_at s xs ys i e
 
--- who lives afterwards lived before
+-- a task that lives afterwards lived before
 left_lives : (s : ℕ) (o : Option LiveTask) → is_living (without s o) ≡ true → is_living o ≡ true
 left_lives s None e = e
 left_lives s (Some task) e = by (is_in s task.scope) e
@@ -68,7 +68,7 @@ fewer_by s n task xs false rest =
     let b = counted (Some task) (map (without s) xs) in
     omega (arith, rest, a, b)
 
--- as many tasks stand less as there are subtasks
+-- the number of tasks falls by the number of subtasks
 fewer : (s n : ℕ) (xs : List (Option LiveTask)) → count_by is_some (map (without s) xs) + length (filter_map (subtask_in s) (enumerate_from n xs)) ≡ count_by is_some xs
 fewer s n [] = refl
 fewer s n (None ∷ xs) =
@@ -78,7 +78,7 @@ fewer s n (None ∷ xs) =
     omega (arith, rest, a, b)
 fewer s n (Some task ∷ xs) = fewer_by s n task xs (is_in s task.scope) (fewer s (n + 1) xs)
 
--- where none of the subtasks lives
+-- no subtask lives
 none_ends : (s : ℕ) (xs : List (Option LiveTask)) (f : Option LiveTask → ℕ) → ((task : LiveTask) → task.alive ≡ None → f (Some task) ≡ 0) → f None ≡ 0 → list_any (is_live_living s) xs ≡ false → sum_by f (map (without s) xs) ≡ sum_by f xs
 none_ends s [] f dead none e = refl
 none_ends s (x ∷ xs) f dead none e =
@@ -103,7 +103,7 @@ none_ends s (x ∷ xs) f dead none e =
 
 -- ---- the end of a close
 
--- a scope of a view, none of whose subtasks lives
+-- a scope of a view without living subtasks
 pub record IsIdle (v : Live) (s : ℕ) : Type 0 where
   pub stands : is_some (scope_in v s) ≡ true
   pub none : live_any_lives v s ≡ false
@@ -143,7 +143,7 @@ module _ (v : Live) (u : Unseen) (t s : ℕ) (k : IsIdle v s) where
   unbound (entry.Binding key n ∷ es) e = cc
   unbound (entry.Scope r ∷ es) e = let one = sum_by-cons (λ (x : Entry). cond (is_binding x) 1 0) (entry.Scope r) es in omega (arith, one)
 
-  -- what the owner has is what it had, if it is left
+  -- the owner keeps its own state, if it is left
   owner : (o : Option LiveTask) → task_in v t ≡ o → (a : Alive) → (unwrap_or (without s o) no_live_task).alive ≡ Some a → alive_at v t ≡ a
   owner None e a h = cc
   owner (Some task) e a h = by (is_in s task.scope) h

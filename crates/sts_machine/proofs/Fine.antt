@@ -1,4 +1,4 @@
--- What an instruction that is no misuse may rely on.
+-- Facts that an instruction may rely on if it is no misuse.
 use Rattle.std.proofs.Common.{◌≡◌, ℕ, length, Bool, true, false, ◌&&◌, not, Option, refl, sym, ◌∙◌, is_some}
 use Rattle.std.specs.Prelude.{nat_le}
 use Rattle.sts_code.specs.Program.{Program}

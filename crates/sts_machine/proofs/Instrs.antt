@@ -1,4 +1,5 @@
--- `==` on instructions tells whether they are the same: a lemma for each, so that each is a small split.
+-- `==` on instructions is true if and only if they are the same: a lemma for each, so that each is
+-- a small split.
 use Rattle.std.proofs.Common.{◌≡◌, ℕ, ℤ, Bool, true, false, ◌&&◌, Option, Some, None, refl, subst, arith, eqb, eqb-true, eq-eqb}
 use Rattle.std.specs.Bool.{Decides}
 use Rattle.std.proofs.lemmas.Bool.Decides.{Decides-int_eq}

@@ -7,7 +7,7 @@ use Rattle.std.specs.Prelude.{sum_by, ◌==◌}
 pub apart : (i t : ℕ) → (i == t) ≡ false → i ≢ t
 apart i t e same = grind (arith, nat_tests)
 
--- what is summed is the same at each place
+-- two sums are the same if each place adds the same
 pub same_sums : {X : Type 0} (f : X → ℕ) (d : X) (xs ys : List X) → length ys ≡ length xs → ((i : ℕ) → f (get_or ys i d) ≡ f (get_or xs i d)) → sum_by f ys ≡ sum_by f xs
 same_sums f d [] [] e h = refl
 same_sums f d [] (y ∷ ys) e h = absurd (omega (arith, e))

@@ -166,7 +166,7 @@ twice-framed v t f g e =
 
 -- ---- one step
 
--- a local instruction stands free, and its effect is on the frame
+-- at a local instruction the task is at no scope, and its effect is on the frame
 free : (v : Live) (t : ℕ) (i : Instr) → is_local i ≡ true → live_stand_at_instr v t (Some i) ≡ Free
 free v t (Push k) e = refl
 free v t Pop e = refl

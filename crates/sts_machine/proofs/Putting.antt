@@ -1,4 +1,5 @@
--- What a machine gives a slice that is taken out of it, and what it is after one that fits was put back.
+-- The facts of a slice that a machine gives out, and of the machine after a slice that fits was put
+-- back.
 use Rattle.std.proofs.Common.{◌≡◌, ℕ, ◌+◌, ◌≤◌, List, ◌++◌, Bool, false, true, Option, Some, None, refl, sym, ◌∙◌, ap, subst, get_or-set_other}
 use Rattle.std.specs.Prelude.{option_map, unwrap_or, count_by, is_some, ◌==◌, ◌↔◌, IsTrue}
 use Rattle.sts_code.specs.Program.{Program}
@@ -53,7 +54,7 @@ no e = cc
 fits_here : {m u : Seen} {s : Cut} → m ≡ u → Fits u s → Fits m s
 fits_here {m} {u} {s} view = subst (λ (x : Seen). Fits x s) (sym view)
 
--- what a machine is asked of a slice: t is its task
+-- the questions that a machine asks about a slice: t is its task
 module _ {m u : Seen} {s : Cut} {t : ℕ} (view : m ≡ u) (task : t ≡ s.task) where
   pub of_no_task : {b : Bool} → b ≡ lives_in m.live t → b ≡ false → IsTrue false ↔ Fits u s
   of_no_task asked off = (λ e. absurd (no e), λ fits. absurd (no (sym off ∙ asked ∙ ap (lives_in m.live) task ∙ (fits_here view fits).lives)))
@@ -122,7 +123,7 @@ same_view u s none fits done =
 abbrev pub seen_of : Program → Parts → ℕ → Seen
 seen_of p m n = record { program = p; live = live_of m; unseen = unseen_of m; steps = n }
 
--- what may be said of a machine whose task t is put at the frame f, as many steps later
+-- the facts of a machine with its task t put at the frame f, `count` steps later
 pub record Puts (p : Program) (m : Parts) (n t : ℕ) (f : Frame) (count : ℕ) : Type 0 where
   pub entries : f.entries ≡ (frame_of m t).entries
   pub few : n + count ≤ 1000000
@@ -173,7 +174,7 @@ module _ {p : Program} {m : Parts} {n t count : ℕ} {f : Frame} (x : Parts) (g 
       (subst (λ (w : Unseen). AreStandingBut p (live_of x) w t) (sym unseen)
       (subst (λ (v : Live). AreStandingBut p v (unseen_of m) t) (sym live) g.others))
 
-  -- and the parts y where the task says where it stands
+  -- and the parts y after the task's scope was recorded
   module _ (y : Parts) (still : live_of y ≡ live_of x) where
     stands_on : (events : List Event) → StandsAt p events (live_of m) n → StandsAt p (events ++ steps_of count t) (live_of y) (n + count)
     stands_on events h = subst (λ v. StandsAt p (events ++ steps_of count t) v (n + count)) (sym (still ∙ live)) (g.stands events h)
@@ -190,7 +191,7 @@ module _ {p : Program} {m : Parts} {n t count : ℕ} {f : Frame} (x : Parts) (g 
           laws = is.laws;
         }
 
-    -- at every list of events at which the machine stood
+    -- each list of events that led to the machine leads to it with these steps
     pub stands_there : (u : Seen) (s : Cut) → seen_of p m n ≡ u
         → t ≡ s.task → count ≡ s.count → (events : List Event) → Stands u events
         → StandsAt p (events ++ steps_of s.count s.task) (live_of y) (n + count)

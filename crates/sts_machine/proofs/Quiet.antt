@@ -1,4 +1,4 @@
--- Effects that leave as many tasks, scopes and bindings as there were.
+-- Effects that don't change the numbers of tasks, scopes and bindings.
 use Rattle.std.proofs.Common.{◌≡◌, ℕ, List, [], ◌∷◌, length, Bool, true, false, ◌||◌, not, Option, Some, None, refl, ◌∙◌, ap, set, cond, is_some}
 use Rattle.std.proofs.lemmas.List.{length-set, length-map}
 use Rattle.std.specs.Ordering.{int_eq}
@@ -34,13 +34,13 @@ use Rattle.sts_machine.proofs.Lists.{mapped}
 abbrev pub changed : (Alive → Alive) → LiveTask → LiveTask
 changed change task = record task { alive = option_map change task.alive }
 
--- it stands, lives and binds alike
+-- the two tasks are both there or not, both live or not, and have the same number of bindings
 pub record Alike (o q : Option LiveTask) : Type 0 where
   pub stands : is_some q ≡ is_some o
   pub living : is_living q ≡ is_living o
   pub binds : bindings_in q ≡ bindings_in o
 
--- each task does, and the same scopes stand
+-- each task is alike, and the same scopes are open
 pub record IsQuiet (v x : Live) : Type 0 where
   pub born : length x.tasks ≡ length v.tasks
   pub tasks : (u : ℕ) → Alike (task_in v u) (task_in x u)
@@ -81,7 +81,7 @@ quiet-task v t o same =
       scopes = λ s. refl;
     }
 
--- what it has is changed if it lives, and has as many bindings
+-- the task's own state changes if it lives, but not its number of bindings
 alike-alive : (task : LiveTask) (change : Alive → Alive) → ((a : Alive) → task.alive ≡ Some a → count_by is_binding (change a).frame.entries ≡ count_by is_binding a.frame.entries) → Alike (Some task) (Some (record task { alive = option_map change task.alive }))
 alike-alive task change same = by task.alive refl
   where
@@ -100,7 +100,7 @@ quiet-alive v t change same = quiet-task v t (option_map (changed change) (task_
 bound_alike : (v : Live) (t : ℕ) (a : Alive) → (live_task_at v t).alive ≡ Some a → count_by is_binding (alive_at v t).frame.entries ≡ count_by is_binding a.frame.entries
 bound_alike v t a e = ap (λ q. count_by is_binding (unwrap_or q no_alive).frame.entries) e
 
--- a frame is written, with as many bindings
+-- a frame is written with the same number of bindings
 pub quiet-frame : (v : Live) (t : ℕ) (f : Frame) → count_by is_binding f.entries ≡ count_by is_binding (alive_at v t).frame.entries → IsQuiet v (with_live_frame v t f)
 quiet-frame v t f same = quiet-alive v t (λ alive. record alive { frame = f }) (λ a e. same ∙ bound_alike v t a e)
 

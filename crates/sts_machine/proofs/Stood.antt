@@ -1,4 +1,5 @@
--- Where tasks are said to stand, after an instruction of one of them and from outside; and room.
+-- The scopes that are recorded for tasks, after an instruction of one task and after an event from
+-- outside; and the room.
 use Rattle.std.proofs.Common.{◌≡◌, ℕ, suc, List, [], ◌∷◌, length, map, Bool, true, false, Option, Some, None, refl, sym, ◌∙◌, ap, subst, cond, arith, get_or-set_same, get_or-set_other}
 use Rattle.std.proofs.lemmas.Bool.Decides.{nat_tests}
 use Rattle.std.specs.Prelude.{option_map, unwrap_or, ◌==◌}
@@ -40,7 +41,7 @@ others_stand p v x u w t moved idle standing c i other lives = by (lives_in v i)
     by true e = c.others i other lives ∙ ap (λ b. cond b (stand_in u i) Free) e ∙ standing i e ∙ sym (moved i other).stand
     by false e = c.others i other lives ∙ ap (λ b. cond b (stand_in u i) Free) e ∙ sym (idle p v i e) ∙ sym (moved i other).stand
 
--- the same of the view y that was made
+-- like `others_stand`, for the view y that was made
 pub others_stood : (p : Program) (v x y : Live) (u w : Unseen) (t : ℕ) → y ≡ x → ((i : ℕ) → (i == t) ≡ false → IsUnmoved p v x i) → IdleStandFree → AreStanding p v u → Changes v u y w t → AreStandingBut p y w t
 others_stood p v x y u w t same moved idle standing c =
     others_stand p v y u w t (λ i other. subst (λ (z : Live). IsUnmoved p v z i) (sym same) (moved i other)) idle standing c
@@ -75,7 +76,7 @@ stands_anew p m t others lives i alive = by (i == t) refl
         ∙ ap (live_stand_at p v) (sym same)
     by false e = ap (λ o. unwrap_or o Free) (get_or-set_other u.stands t i (Some (live_stand_at p v t)) None (apart i t e)) ∙ others i e alive
 
--- who is at no `join` and no `close` stands at no scope
+-- a task at neither a `join` nor a `close` is at no scope
 pub unwaiting : (p : Program) (v : Live) (t : ℕ) (i : Instr) → instr_at p (alive_at v t).frame ≡ Some i → may_wait i ≡ false → live_stand_at p v t ≡ Free
 unwaiting p v t i at e = ap (live_stand_at_instr v t) at ∙ by i e
   where

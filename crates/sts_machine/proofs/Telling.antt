@@ -27,7 +27,7 @@ use Rattle.sts_machine.specs.declared.standing.Standing.{Standing}
 use Rattle.sts_machine.proofs.CanStep.{picks_alike}
 
 module _ (p : Program) (events : List Event) (v : Live) (n : ℕ) (h : StandsAt p events v n) where
-  -- what holds of the world that is seen holds after the events
+  -- a fact of the world behind the view holds after the events
   there : (P : World → Type 0) → P h.world → In P (after p events)
   there P k = subst (In P) (sym h.runs) k
 
@@ -57,7 +57,7 @@ module _ (p : Program) (events : List Event) (v : Live) (n : ℕ) (h : StandsAt 
 abbrev pub KnowsRoom : Seen → Type 0
 KnowsRoom m = (b : Budgets) → IsBudgetOf m.program (main_of m.program) b → HasRoomOf b m.live m.unseen
 
--- what stands, where so much of these budgets is left
+-- the numbers that count, if this room is left of these budgets
 abbrev pub rest_of : Budgets → Standing → Standing
 rest_of b room =
     record { tasks = b.tasks - room.tasks; scopes = b.scopes - room.scopes; binds = b.binds - room.binds }
@@ -75,7 +75,7 @@ taken_off b v u h =
 pub add_up : (b : Budgets) (v : Live) (u : Unseen) (s : Standing) → s ≡ standing_of v → HasRoomOf b v u → AddUpTo b s (room_of u)
 add_up b v u s is h = rw is (record { tasks = h.tasks; scopes = h.scopes; binds = h.binds })
 
--- a key exactly for what stands
+-- there is a key if and only if there is a record
 pub key_is_some : {X : Type 0} (o : Option X) (k : ℕ) → is_some (cond (is_some o) (Some k) None) ≡ is_some o
 key_is_some None k = refl
 key_is_some (Some x) k = refl

@@ -53,7 +53,7 @@ asked s u e f same is counts =
     subst (λ x. live_counts s.program s.live x ≡ true) is
     (subst (λ (x : Seen). live_counts x.program x.live e ≡ true) (sym same) counts)
 
--- the instruction at hand is the one that is next
+-- the instruction that is read is the next one
 module _ (p q : Program) (f g : Frame) (xs : List Instr) (same : q ≡ p) (here : g ≡ f) (is : xs ≡ code q g) (next : (i : Instr) × (instr_at p f ≡ Some i)) where
   got : slice_get xs g.pc ≡ Some next.0
   got = ap (λ ys. slice_get ys g.pc) is ∙ ap (instr_at q) here ∙ ap (λ r. instr_at r f) same ∙ next.1
@@ -104,7 +104,7 @@ living_few (x ∷ xs) =
     one None = omega arith
     one (Some task) = some_few (is_some task.alive)
 
--- less than the budgets stands, so there is room
+-- the numbers that count are below the budgets, so there is room
 left : (b : Budgets) (v : Live) (u : Unseen) (f : Frame) (i : Instr) → HasRoomOf b v u → LiveHasRoomFor b v f i → HasRoomLeft u f i
 left b v u f (Open x joiner timed) h less = let both = h.scopes in omega (arith, both, less)
 left b v u f (Bind key) h less = let both = h.binds in omega (arith, both, less)
@@ -133,7 +133,7 @@ module _ (p : Program) (m : Parts) (n : ℕ) (is : IsMachine p m n) where
   pub ordered : InOrder (live_of m)
   ordered = is.laws.order is.events (live_of m) n is.stands
 
-  -- after an event the view stands, and is in order
+  -- after an event the view is that of one event more, and is in order
   pub stood : (e : Event) → StandsAt p (is.events ++ e ∷ []) (live_apply p (live_of m) e) (n + live_steps_in p (live_of m) e)
   stood e = (is.laws.turns is.events (live_of m) n e is.stands).stands
 

@@ -28,7 +28,7 @@ one_more : (p : Program) (state : State) (events : List Event) (e : Event) → A
 one_more p state [] e steps step count = (step, count, tt)
 one_more p state (x ∷ xs) e steps step count = (steps.0, steps.1, one_more p (apply p state x) xs e steps.2 step count)
 
--- of a task that can step
+-- a step of a task that can step
 pub steps_on : (p : Program) (m : Seen) (t : ℕ) → HasLaws p → m.program ≡ p → live_can_step m.program m.live t ≡ true → (events : List Event) → Stands m events → AreSteps p (opening p) events → AreSteps p (opening p) (events ++ event.Step t ∷ [])
 steps_on p m t laws same can events h steps =
     let there : StandsAt p events m.live m.steps = subst (λ q. StandsAt q events m.live m.steps) same h in

@@ -10,7 +10,7 @@ use Rattle.laws_accepted.specs.Views.{live_tasks, live_scopes, live_bindings}
 use Rattle.sts_store.specs.Parts.{Unseen, stand_in}
 use Rattle.sts_machine.specs.Room.{living_tasks}
 
--- does it leave as many tasks, scopes and bindings as there were, with nothing to say of them?
+-- does it leave the numbers of tasks, scopes and bindings unchanged, and nothing to record?
 abbrev pub is_quiet : Instr → Bool
 is_quiet (Open x joiner timed) = false
 is_quiet (Fork x g h) = false
@@ -21,7 +21,7 @@ is_quiet Ret = false
 is_quiet Fail = false
 is_quiet _ = true
 
--- may its task have been said to stand at a scope, before it or after it?
+-- may a scope be recorded for its task, before it or after it?
 abbrev pub may_wait : Instr → Bool
 may_wait (Join x failed timeout interrupted) = true
 may_wait (Close x) = true
@@ -36,10 +36,11 @@ may_leave _ = false
 
 -- an instruction of t made x of the view v, and w of u, what v doesn't show
 pub record Changes (v : Live) (u : Unseen) (x : Live) (w : Unseen) (t : ℕ) : Type 0 where
-  -- who lives but t is said to stand where it was, or at no scope if it has just been born
+  -- each living task other than t has the same recorded scope as before, or none if it was just
+  -- born
   pub others : (i : ℕ) → (i == t) ≡ false → lives_in x i ≡ true →
       stand_in w i ≡ (if lives_in v i then stand_in u i else Free)
-  -- what stands and the room that is left add up to what they did
+  -- the sums of the numbers that count and of the room that is left don't change
   pub tasks : live_tasks x + w.task_room ≡ live_tasks v + u.task_room
   pub frames : living_tasks x + w.frame_room ≡ living_tasks v + u.frame_room
   pub scopes : live_scopes x + w.scope_room ≡ live_scopes v + u.scope_room

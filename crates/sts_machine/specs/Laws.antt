@@ -12,7 +12,7 @@ use Rattle.laws_accepted.specs.Accepted.{main_of, LimitsHold}
 use Rattle.laws_accepted.specs.EveryRun.{RunsWell}
 use Rattle.laws_accepted.specs.Views.{ViewsHaveRoom}
 
--- the budgets that are printed of `main`, with which every run goes well
+-- the budgets of `main` that are printed; every run keeps `RunsWell` with them
 pub record MainBudget (p : Program) : Type 0 where
   pub budget : Budgets
   pub printed : IsBudgetOf p (main_of p) budget

@@ -1,4 +1,4 @@
--- What contracts see of a machine, and where it stands (this project's own).
+-- What contracts see of a machine, and which lists of events lead to it (this project's own).
 use Rattle.std.specs.Prelude.{ℕ, List}
 use Rattle.sts_code.specs.Program.{Program}
 use Rattle.sts_rules.specs.declared.budget.Budgets.{Budgets}
@@ -20,12 +20,13 @@ pub record Seen : Type 0 where
   pub unseen : Unseen
   pub steps : ℕ
 
--- the machine stands where these events lead
+-- these events lead to the view and the steps of the machine
 abbrev pub Stands : Seen → List Event → Type 0
 Stands m events = StandsAt m.program events m.live m.steps
 
--- it stands at some list of events, its store knows where each task stands, and what stands and the
--- room that is left add up to the budgets of `main`; and the laws of its program hold
+-- Some list of events leads to the machine. Its store has recorded at which scope each task is. The
+-- numbers that count and the room that is left add up to the budgets of `main`. The laws of its
+-- program hold.
 pub record IsMachine (p : Program) (m : Parts) (steps : ℕ) : Type 0 where
   pub events : List Event
   pub stands : StandsAt p events (live_of m) steps

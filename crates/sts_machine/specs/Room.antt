@@ -1,4 +1,4 @@
--- How much room there is beside what stands (this project's own).
+-- The room that is left for more tasks, scopes and bindings (this project's own).
 use Rattle.std.specs.Prelude.{◌≡◌, ℕ, ◌+◌, ◌<◌, Bool, false, Option, Some, None, is_some, count_by}
 use Rattle.sts_code.specs.declared.instr.Instr.{Instr}
 use Rattle.sts_code.specs.declared.instr.Instr.TheVariants.{Open, Fork, Bind}
@@ -18,7 +18,7 @@ is_living (Some task) = is_some task.alive
 abbrev pub living_tasks : Live → ℕ
 living_tasks v = count_by is_living v.tasks
 
--- what stands and the room that is left add up to these budgets
+-- the numbers that count and the room that is left add up to these budgets
 pub record HasRoomOf (b : Budgets) (v : Live) (u : Unseen) : Type 0 where
   pub tasks : live_tasks v + u.task_room ≡ b.tasks
   pub frames : living_tasks v + u.frame_room ≡ b.tasks

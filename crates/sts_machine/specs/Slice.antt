@@ -31,19 +31,19 @@ abbrev pub and_local : List Instr → Option Frame → Option Frame
 and_local is None = None
 and_local is (Some f) = option_map (λ i. local is i f) (local_at is f)
 
--- the frame after so many local instructions; none where one of them isn't local
+-- the frame after n local instructions, or none if one of them isn't local
 abbrev pub locals : List Instr → Frame → ℕ → Option Frame
 locals is f zero = Some f
 locals is f (suc n) = and_local is (locals is f n)
 
--- a step of this task, so many times over
+-- `count` steps of this task
 abbrev pub steps_of : ℕ → ℕ → List Event
 steps_of count t = replicate count (event.Step t)
 
 -- ---- slices
 
--- what contracts see of a slice: its task, the code of its function, the frame that was taken out,
--- the frame as it is now, and how many instructions lie between the two
+-- What contracts see of a slice: its task, the code of its function, the frame that was taken out,
+-- the current frame, and the number of instructions between the two.
 pub record Cut : Type 0 where
   pub task : ℕ
   pub code : List Instr
@@ -51,7 +51,7 @@ pub record Cut : Type 0 where
   pub frame : Frame
   pub count : ℕ
 
--- some list of events leads to a view in which the task lives at this frame
+-- some list of events leads to a view where the task lives at this frame
 pub record IsReached (p : Program) (t : ℕ) (f : Frame) : Type 0 where
   pub events : List Event
   pub view : Live
@@ -66,8 +66,8 @@ pub record IsLawful (p : Program) : Type 0 where
   pub safe : TurnsAreSafe p
   pub limits : LimitsHold p
 
--- the frame is the starting one after as many local instructions as were counted, the task may have
--- got there by as many steps, and the program is an accepted one
+-- The frame is the starting one after the counted number of local instructions. The task may have
+-- got there by the same number of steps. The program is an accepted one.
 pub record IsSlice (p : Program) (t : ℕ) (start frame : Frame) (count : ℕ) : Type 0 where
   pub lawful : IsLawful p
   pub local : locals (code p start) start count ≡ Some frame

@@ -7,7 +7,7 @@ use Rattle.sts_machine.specs.declared.turned.Turned.TheVariants.{Stepped, Idle}
 abbrev pub turned : Bool → Turned
 turned counts = if counts then Stepped else Idle
 
--- the answer passes the test; there is none only where nothing does
+-- a task that is picked passes the test; none is picked if and only if none passes
 abbrev pub Picks : (ℕ → Bool) → Option ℕ → Type 0
 Picks test (Some t) = test t ≡ true
 Picks test None = (t : ℕ) → test t ≡ false

@@ -1,4 +1,4 @@
-//! Which task is next, beside those that are out.
+//! The next task to step that isn't out.
 
 ghost use Rattle.std.specs.Prelude.{not, ◌&&◌, ◌==◌};
 ghost use Rattle.std.specs.List.{list_any};
@@ -8,7 +8,8 @@ ghost use Rattle.laws_live.specs.Waiting.{live_can_step};
 use crate::machine::Machine;
 
 impl<'p> Machine<'p> {
-    /// Some task that can step and is not in this list: none only where there is none.
+    /// A task that can step and is not in this list, or `None` if and only if there is no such
+    /// task.
     pub fn ready_beside(&self, out: &[u32]) -> Option<u32>
         ensures { Picks (λ t. live_can_step self.now.program self.now.live t
             && not (list_any (λ o. o == t) out.now)) result }

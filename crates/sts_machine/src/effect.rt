@@ -1,4 +1,5 @@
-//! What an instruction does to a store, but for where its task stands afterwards.
+//! The effect of an instruction on a store, without recording at which scope its task is
+//! afterwards.
 
 ghost use Rattle.std.specs.Prelude.{◌≡◌, ◌<◌, ◌≤◌, ◌+◌, ◌^◌, length, true, false};
 ghost use Rattle.sts_code.specs.declared.limits.TheConstants.{MAX_INSTRUCTIONS};
@@ -66,7 +67,7 @@ pub(crate) fn effect(store: &mut Store, program: &Program, code: &[Instr], t: u3
     }
 }
 
-/// Does an instruction that leaves as many tasks, scopes and bindings as there were.
+/// Does an instruction that doesn't change the numbers of tasks, scopes and bindings.
 fn quiet(store: &mut Store, program: &Program, code: &[Instr], t: u32, instr: &Instr)
     requires lives { lives_in (live_of store.old) t ≡ true }
     requires own_code { code.now ≡ world.code program.now (frame_of store.old t) }

@@ -1,5 +1,5 @@
-//! The machine that tests nothing: it runs a verified program, and stands where the plain machine
-//! stands.
+//! The machine that tests nothing. It runs a verified program, and has the same live view and the
+//! same number of steps as the plain machine.
 #![tactic(auto)]
 
 pub mod beside;

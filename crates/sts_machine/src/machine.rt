@@ -54,12 +54,12 @@ impl<'p> Model for Machine<'p> {
 }
 
 impl<'p> Machine<'p> {
-    /// The machine before the first event. It has room for as much as the budgets of `main` let stand
-    /// at once, so no other call takes memory.
+    /// The machine before the first event. It has room for the budgets of `main`, so no other call
+    /// takes memory.
     ///
     /// # Errors
     ///
-    /// Want of memory.
+    /// Memory ran out.
     pub fn prepare(alloc: Global, verified: &'p Verified) -> Result<Machine<'p>, AllocError>
         ensures program { IfOk result (λ m. m.program ≡ verified.now) }
         ensures live { IfOk result (λ m. m.live ≡ live_opening verified.now) }
@@ -124,8 +124,8 @@ impl<'p> Machine<'p> {
         }
     }
 
-    /// One event. At each list of events at which the machine stood, it stands afterwards at that
-    /// list and the event, the answer says whether the event counted there, and the run goes well.
+    /// Applies one event, and answers whether it counted. If a list of events led to the state
+    /// before, the list with this event leads to the state after. The run keeps `RunsWell`.
     #[inline(always)]
     pub fn turn(&mut self, event: Event) -> Turned
         ensures program { self.new.program ≡ self.old.program }
@@ -151,7 +151,7 @@ impl<'p> Machine<'p> {
         Turned::Stepped
     }
 
-    /// Some task that can step: none only where there is none.
+    /// A task that can step, or `None` if and only if there is no such task.
     pub fn ready(&self) -> Option<u32>
         ensures seen { Picks (live_can_step self.now.program self.now.live) result }
         ensures stands { (events : List AnyEvent) → Stands self.now events

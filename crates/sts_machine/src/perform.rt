@@ -20,7 +20,7 @@ use laws_live::{effects_move_one, idle_stand_free};
 use sts_code::{Instr, Program};
 use sts_store::Store;
 
-/// May the task have been said to stand at a scope, before the instruction or after it?
+/// May a scope be recorded for the task, before the instruction or after it?
 fn may_wait(instr: &Instr) -> bool
     ensures { result ≡ may_wait instr.now }
 {

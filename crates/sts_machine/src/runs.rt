@@ -1,4 +1,4 @@
-//! Whole runs: of a list of events, and of steps alone.
+//! Whole runs: over a list of events, and by steps alone.
 
 ghost use Rattle.std.specs.Prelude.{◌≡◌, IfOk};
 ghost use Rattle.laws_accepted.specs.Accepted.{main_of};
@@ -15,11 +15,11 @@ use std::alloc::{AllocError, Global};
 use sts_model::{End, Event};
 use sts_verify::Verified;
 
-/// The machine after a list of events; and the run goes well.
+/// The machine after a list of events. The run keeps `RunsWell`.
 ///
 /// # Errors
 ///
-/// Want of memory.
+/// Memory ran out.
 pub fn replay<'p>(
     alloc: Global,
     verified: &'p Verified,
@@ -43,7 +43,7 @@ pub fn replay<'p>(
 ///
 /// # Errors
 ///
-/// Want of memory.
+/// Memory ran out.
 pub fn run_alone(alloc: Global, verified: &Verified) -> Result<End, AllocError>
     ensures { IfOk result (λ end. RunsTo verified.now end) }
 {

@@ -12,8 +12,8 @@ use sts_frames::{copy_frame, is_local, local};
 use sts_model::Frame;
 use sts_verify::Verified;
 
-/// A task's frame, taken out of a machine: the one that it was taken out with, and what local
-/// instructions have made of it.
+/// A task's frame, taken out of a machine: the frame that was taken out, and that frame after local
+/// instructions.
 #[derive(Drop)]
 pub struct Slice<'p> {
     verified: &'p Verified,
@@ -103,7 +103,7 @@ impl<'p> Slice<'p> {
         &self.start
     }
 
-    /// The frame as it is now: the one that was taken out, after as many local instructions as were
+    /// The frame as it is now: the one that was taken out, after the local instructions that were
     /// done.
     pub fn frame(&self) -> &Frame
         ensures value { result.now ≡ self.now.frame }

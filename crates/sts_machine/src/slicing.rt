@@ -48,8 +48,8 @@ impl<'p> Machine<'p> {
         same_code(slice.code(), code(self.verified.program(), slice.start()))
     }
 
-    /// Does what as many steps of its task do as the slice has done: nothing, if that is none. Of
-    /// what the view doesn't show, where tasks stand alone may change: keys and room stay.
+    /// Does the steps that the slice has done, if any. It changes no keys and no room. In the parts
+    /// that the view doesn't show, it changes only the scopes that are recorded for tasks.
     pub fn put(&mut self, slice: &Slice<'p>)
         requires { Fits self.old slice.now }
         ensures program { self.new.program ≡ self.old.program }

@@ -1,4 +1,4 @@
-//! What stands, the room that is left for more, and the keys of what stands.
+//! The numbers of tasks, scopes and bindings that count, the room that is left, and the keys.
 
 ghost use Rattle.std.specs.Prelude.{◌≡◌, ℕ, List, is_some};
 ghost use Rattle.sts_records.specs.Holes.{key_at};
@@ -26,8 +26,8 @@ pub struct Standing {
 }
 
 impl<'p> Machine<'p> {
-    /// How many tasks, scopes and bindings stand. With the room that is left they add up to the
-    /// budgets of `main`.
+    /// The numbers of tasks, scopes and bindings that count. With the room that is left they add up
+    /// to the budgets of `main`.
     pub fn standing(&self) -> Standing
         ensures seen { result ≡ standing_of self.now.live }
         ensures stands { (events : List AnyEvent) → Stands self.now events
@@ -58,7 +58,7 @@ impl<'p> Machine<'p> {
         }
     }
 
-    /// The key under which the record of a task stands: one exactly for each that stands.
+    /// The key of a task's record. A task has one if and only if it counts.
     pub fn key_of(&self, t: u32) -> Option<usize>
         ensures key { result ≡ key_at self.now.live.tasks self.now.unseen.task_keys t }
         ensures stands { is_some result ≡ is_some (task_in self.now.live t) }
@@ -66,7 +66,7 @@ impl<'p> Machine<'p> {
         self.store.key_of(t)
     }
 
-    /// The key under which the record of a scope stands: one exactly for each that stands.
+    /// The key of a scope's record. A scope has one if and only if it isn't closed.
     pub fn scope_key_of(&self, s: u32) -> Option<usize>
         ensures key { result ≡ key_at self.now.live.scopes self.now.unseen.scope_keys s }
         ensures stands { is_some result ≡ is_some (scope_in self.now.live s) }

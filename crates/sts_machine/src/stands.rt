@@ -1,4 +1,4 @@
-//! Where a task stands.
+//! Recording at which scope a task is.
 
 ghost use Rattle.std.specs.Prelude.{◌≡◌, true, false};
 ghost use Rattle.sts_machine.specs.Room.{HasRoomOf};
@@ -43,7 +43,8 @@ fn stands_at_close(store: &Store, slot: Slot) -> Stand
     }
 }
 
-/// Where the next instruction of a living task says that it stands.
+/// Whether the next instruction of a living task is a `join` or a `close` that it may have to wait
+/// at.
 fn stand_at(store: &Store, program: &Program, t: u32) -> Stand
     requires { lives_in (live_of store.now) t ≡ true }
     ensures { result ≡ live_stand_at program.now (live_of store.now) t }
@@ -56,15 +57,15 @@ fn stand_at(store: &Store, program: &Program, t: u32) -> Stand
     }
 }
 
-/// Does the task stand at no scope?
+/// Is the task at no scope?
 fn is_free(stand: Stand) -> bool
     ensures { result ≡ is_free stand }
 {
     matches!(stand, Stand::Free)
 }
 
-/// Says where a living task stands. One that can't have waited was last said to stand at no scope,
-/// and needn't say so again.
+/// Records at which scope a living task is. For a task that can't have waited no scope is recorded,
+/// so it needs no new record.
 #[inline(always)]
 pub(crate) fn say_stand(store: &mut Store, program: &Program, t: u32, waited: bool)
     requires lives { lives_in (live_of store.old) t ≡ true }
@@ -85,7 +86,7 @@ pub(crate) fn say_stand(store: &mut Store, program: &Program, t: u32, waited: bo
     }
 }
 
-/// The same of a task that may have ended: then it stands nowhere.
+/// Does what `say_stand` does if the task lives, and nothing if it has ended.
 #[inline(always)]
 pub(crate) fn say_stand_if_alive(store: &mut Store, program: &Program, t: u32, waited: bool)
     requires order { InOrder (live_of store.old) }

@@ -29,7 +29,7 @@ module _ (frame : Frame) (fresh : frame.entries ≡ []) where
   abbrev pub root_held : List (Option Holder)
   root_held = Some (holder_of (root_running frame)) ∷ []
 
-  -- what is so of the root is so of every task that lives
+  -- a fact of the root is a fact of every living task, since only the root lives
   alone : (P : ℕ → Holder → Type 0) → P zero (holder_of (root_running frame)) → (t : ℕ) (h : Holder) → Holds root_held t h → P t h
   alone P one zero h e = subst (P zero) (just (holder_of (root_running frame)) h e) one
   alone P one (suc t) h e = cc

@@ -108,7 +108,7 @@ module _ (m : Parts) (is : IsStore m) (t : ℕ) (r q : Running) (d : Records) (a
 
   -- ---- one binding less
 
-  -- a task whose last entry is a binding: its innermost record, and the rest of its own
+  -- a task with a binding as its last entry: its innermost record, and the rest of its own
   pub record Innermost : Type 0 where
     pub key : ℕ
     pub rest : List ℕ

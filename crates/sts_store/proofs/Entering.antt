@@ -36,7 +36,7 @@ use Rattle.sts_store.proofs.Seeing.{scope_stands}
 use Rattle.sts_store.proofs.Opening.{open_shares}
 use Rattle.sts_store.proofs.Shared.{instead}
 
--- a living task, by what stands in its slot
+-- a living task, by the record in its slot
 abbrev pub with_run : (m : Parts) (t : ℕ) (r : Running) → Lived m t → get_or m.frames.slots t None ≡ Some r → Lived m t
 with_run m t r l at =
     let same : l.run ≡ r = just l.run r (sym l.runs ∙ at) in
@@ -94,7 +94,7 @@ behind_here s es = let same : nat_eq s s ≡ true = grind (arith, nat_tests) in 
 pub behind_there : (s r : ℕ) (es : List Entry) → r ≢ s → behind r (entry.Scope s ∷ es) ≡ behind r es
 behind_there s r es ne = let other : nat_eq s r ≡ false = grind (arith, nat_tests) in rw other refl
 
--- no task that stands is in a scope that was never opened
+-- no task is in a scope that was never opened
 fresh : (m : Parts) → InOrder (live_of m) → (u r : ℕ) → home_at (homes m) u ≡ Some r → r ≢ length (keepers m)
 fresh m order u r home same =
     let p = scope_stands m r (order.inside u r (home_seen m u ∙ home)).stands in

@@ -15,11 +15,11 @@ use Rattle.sts_store.specs.Agreeing.{at_end, TaskAt}
 use Rattle.sts_store.proofs.ViewingLemmas.{root_seen, end_seen}
 use Rattle.sts_store.specs.Ending.{finished_of, finished_in, finished}
 
--- the scope once it was told
+-- the scope after its joiner was told
 abbrev pub told_scope : {E : Type 0} → Scope E → End → Scope E
 told_scope c end = record c { tally = with_end c.tally end }
 
--- the task's scope stands, wasn't cancelled, and is now
+-- the task's scope isn't closed and wasn't cancelled; now it is cancelled
 pub record Asking {E : Type 0} (f : Forest E) (t : ℕ) (x : Task) (end : End) (s : ℕ) : Type 0 where
   pub scope : Scope E
   pub there : get_or f.scopes s None ≡ Some scope
@@ -66,7 +66,7 @@ module _ {E : Type 0} (f : Forest E) (t : ℕ) (x : Task) (end : End) where
       by None = refl
       by (Some s) = by2 s (get_or f.scopes s None)
 
-  -- of the root nobody asks
+  -- no joiner asks about the root
   pub root_asks_not : x.scope ≡ None → asks_ended f x end ≡ false
   root_asks_not scope = ap (asks_in f end) scope
 

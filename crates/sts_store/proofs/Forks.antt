@@ -54,7 +54,7 @@ length_from b n (x ∷ xs) = ap suc (length_from b (suc n) xs)
 abbrev pub with_subtask : Forest Env → ℕ → Bool → List ℕ → ℕ → Forest Env
 with_subtask f s lives keys room = record f { tasks = f.tasks ++ Some (subtask s lives) ∷ []; task_keys = keys; task_room = room }
 
--- what stands at the next birth
+-- the record at the next birth
 abbrev pub born_if : Bool → Running → Option Running
 born_if lives child = cond lives (Some child) None
 

@@ -67,7 +67,7 @@ stands_gone b s n (Some x ∷ xs) = by (is_in s x.scope) (stands_gone b s (suc n
 
 -- ---- who leaves
 
--- the scope of a living task's innermost entry, none of whose subtasks lives
+-- the scope of a living task's innermost entry, if no subtask of it lives
 pub record Leaves (m : Parts) (t s : ℕ) : Type 0 where
   pub is : IsStore m
   pub order : InOrder (live_of m)
@@ -129,7 +129,7 @@ module _ (m : Parts) (t s : ℕ) (k : Leaves m t s) where
   homes_left : List (Option (Option ℕ))
   homes_left = map (option_map home_of) (map (drop_if (is_of s)) m.tree.tasks)
 
-  -- who lives is no subtask of it
+  -- a living task is no subtask of it
   apart : (u : ℕ) (x : Task) → get_or m.tree.tasks u None ≡ Some x → x.lives ≡ true → is_of s x ≡ false
   apart u x at lives = by (is_of s x) refl
     where

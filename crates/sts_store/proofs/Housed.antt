@@ -1,4 +1,4 @@
--- Of a view in order: the owner of a scope lives, and the home of a living task stands.
+-- In a view in order the owner of a scope lives, and the scope of a living task isn't closed.
 use Rattle.std.proofs.Common.{◌≡◌, ℕ, ◌<◌, true, false, Option, Some, None, refl, sym, ◌∙◌, ap, subst, get_or}
 use Rattle.std.specs.Prelude.{option_map, is_some}
 use Rattle.sts_env.specs.declared.env.Env.{Env}
@@ -21,7 +21,7 @@ some_seen : {A B : Type 0} (f : A → B) (o : Option A) → is_some (option_map 
 some_seen f None = refl
 some_seen f (Some x) = refl
 
--- what is kept of a scope that stands
+-- the part that is kept of an open scope
 kept_of : (m : Parts) (s : ℕ) (x : Scope Env) → get_or m.tree.scopes s None ≡ Some x → get_or (keepers m) s None ≡ Some (keeper_of x)
 kept_of m s x e = map_at keeper_of m.tree.scopes s ∙ ap (option_map keeper_of) e
 

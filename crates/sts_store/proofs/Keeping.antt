@@ -42,7 +42,7 @@ kept_frame m t r q is at same = kept_running m t r q m.chains is at (rw (unseen 
 pub live_seen : (m : Parts) (f g : Forest Env) → seen f ≡ seen g → live_of (record m { tree = f }) ≡ live_of (record m { tree = g })
 live_seen m f g e = same_view (beside m) f g e
 
--- what no mark changes is the same before and after
+-- a part that no mark changes is the same before and after
 by_marks : {X Y : Type 0} (p : X → Y) (mark : X → X) → ((x : X) → p (mark x) ≡ p x) → (xs : List (Option X)) → map (option_map p) (map (option_map mark) xs) ≡ map (option_map p) xs
 by_marks p mark same [] = refl
 by_marks p mark same (None ∷ xs) = ap (λ l. None ∷ l) (by_marks p mark same xs)
@@ -86,7 +86,7 @@ same_order m f g o is =
 pub store_seen : (m : Parts) (f g : Forest Env) → seen f ≡ seen g → IsStore (record m { tree = g }) → IsStore (record m { tree = f })
 store_seen m f g e is = same_order m f g (order_seen f g e) is
 
--- where tasks stand, the keys and the room
+-- the recorded scopes of tasks, the keys and the room
 pub rest_seen : (m : Parts) (f g : Forest Env) → seen f ≡ seen g → unseen_of (record m { tree = f }) ≡ unseen_of (record m { tree = g })
 rest_seen m f g e =
     ap (λ l. record (unseen_of (record m { tree = f })) { stands = l }) (read_seen stand_of (λ x. refl) f g e)
@@ -110,6 +110,6 @@ kept_task m t x y is at home lives =
     still (o ∷ xs) (suc k) zero e = refl
     still (o ∷ xs) (suc k) (suc u) e = still xs k u e
 
--- its stand is the same
+-- the same scope is recorded for it
 pub same_stand : (m : Parts) (t : ℕ) (x y : Task) → get_or m.tree.tasks t None ≡ Some x → y.stand ≡ x.stand → unseen_of (record m { tree = with_task m.tree t y }) ≡ unseen_of m
 same_stand m t x y at same = ap (λ l. record (unseen_of m) { stands = l }) (unseen stand_of m.tree.tasks t x y at same)

@@ -30,7 +30,7 @@ use Rattle.sts_store.proofs.Scoping.{raised_read, raised_lives}
 use Rattle.sts_store.proofs.Finishing.{asking, not_asking, root_asks_not, told_scope, finished_seen}
 use Rattle.sts_store.proofs.Shared.{end_shares}
 
--- of two trees, the second is the first with t ended: what the store's order depends on
+-- the second tree is the first one after t ended, as far as the store's order depends on it
 pub record Ends (f g : Forest Env) (t : ℕ) : Type 0 where
   pub born : length g.tasks ≡ length f.tasks
   pub dead : lives_at g t ≡ false

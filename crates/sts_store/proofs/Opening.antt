@@ -8,7 +8,7 @@ use Rattle.sts_store.specs.Sharing.{Shares, Holder, Keeper, keys_kept, inherited
 use Rattle.sts_store.proofs.Views.{just}
 use Rattle.sts_store.proofs.Shared.{by_place, there, instead, instead_here, instead_there}
 
--- of a list with one more, what is at r: it is the new one, or it was there
+-- an element at r of a list with one more element is the new one, or was there before
 by_new : {X : Type 0} (Q : ℕ → X → Type 0) (xs : List (Option X)) (y : X) → Q (length xs) y → ((r : ℕ) (z : X) → r ≢ length xs → get_or xs r None ≡ Some z → Q r z) → (r : ℕ) (z : X) → get_or (xs ++ Some y ∷ []) r None ≡ Some z → Q r z
 by_new Q [] y one others zero z e = subst (Q zero) (just y z e) one
 by_new Q [] y one others (suc r) z e = cc
@@ -24,7 +24,7 @@ old_at [] y (suc r) ne = refl
 old_at (x ∷ xs) y zero ne = refl
 old_at (x ∷ xs) y (suc r) ne = old_at xs y r (λ q. ne (ap suc q))
 
--- who lives now lived before
+-- a task that lives now lived before
 was : (hs : List (Option Holder)) (t : ℕ) (h g : Holder) → get_or hs t None ≡ Some h → (u : ℕ) (l : Holder) → get_or (set hs t (Some g)) u None ≡ Some l → (k : Holder) × (get_or hs u None ≡ Some k)
 was hs t h g at = by_place (λ u l. (k : Holder) × (get_or hs u None ≡ Some k)) hs t h g at (h, at) (λ u l ne e. (l, e))
 
@@ -75,7 +75,7 @@ module _ {c : Records} {hs : List (Option Holder)} {ks : List (Option Keeper)} {
           by None e = refl
           by (Some r) e = ap (keys_kept c) (old_at ks new r (fresh u r e))
 
-  -- a scope is closed, of which no subtask lives, and the homes of its subtasks are gone
+  -- a scope without living subtasks is closed, and its subtasks have no scope any longer
   pub close_shares : Shares c hs ks os own outside → (t s : ℕ) (h g : Holder) (qs : List (Option (Option ℕ))) → get_or hs t None ≡ Some h → g.env ≡ h.env → count_by is_binding g.entries ≡ count_by is_binding h.entries → ((r : ℕ) → r ≢ s → behind r g.entries ≡ behind r h.entries) → ((u : ℕ) (l : Holder) → get_or hs u None ≡ Some l → (home_at qs u ≡ home_at os u) × (home_at os u ≢ Some s)) → ((r : ℕ) (k : Keeper) → r ≢ s → get_or ks r None ≡ Some k → (l : Holder) × (get_or hs k.owner None ≡ Some l)) → Shares c (set hs t (Some g)) (set ks s None) qs own outside
   close_shares z t s h g qs at env same others homes owners =
       record {
@@ -105,7 +105,7 @@ module _ {c : Records} {hs : List (Option Holder)} {ks : List (Option Keeper)} {
           by None ne = refl
           by (Some r) ne = ap (keys_kept c) (there ks s r None (λ q. ne (ap (λ i. Some i) q)))
 
-  -- a task is forked in a scope that stands: it lives with that scope's environment, or never does
+  -- a task is forked in an open scope: it lives with that scope's environment, or never lives
   pub fork_shares : Shares c hs ks os own outside → (s : ℕ) (k : Keeper) (o : Option Holder) → get_or ks s None ≡ Some k → length os ≡ length hs → ((g : Holder) → o ≡ Some g → (g.env ≡ k.kept) × (g.entries ≡ [])) → ((r : ℕ) (x : Keeper) → get_or ks r None ≡ Some x → x.owner ≢ length hs) → Shares c (hs ++ o ∷ []) ks (os ++ Some (Some s) ∷ []) (instead own (length hs) []) outside
   fork_shares z s k o at born new owners =
       record {

@@ -1,4 +1,4 @@
--- What keeps the parts in order where a scope is marked, or its subtasks are raised.
+-- The parts stay in order when a scope is marked, or when the flags of its subtasks are set.
 use Rattle.std.proofs.Common.{◌≡◌, ℕ, List, [], ◌∷◌, map, Bool, true, false, Option, Some, None, refl, sym, ◌∙◌, ap, get_or, cond}
 use Rattle.std.proofs.lemmas.List.{length-map, get_or-set_same}
 use Rattle.std.specs.Prelude.{option_map, unwrap_or}
@@ -23,7 +23,7 @@ use Rattle.sts_store.proofs.Keeping.{live_seen, store_seen, rest_seen}
 
 -- ---- a scope that stands
 
--- a test that no scope passes where none stands
+-- a test that the default scope doesn't pass is passed only by scopes that aren't closed
 pub standing_by : (m : Parts) (s : ℕ) (test : LiveScope → Bool) → test no_live_scope ≡ false → test (live_scope_at (live_of m) s) ≡ true → (c : Scope Env) × (get_or m.tree.scopes s None ≡ Some c)
 standing_by m s test none e = by (get_or m.tree.scopes s None) refl
   where

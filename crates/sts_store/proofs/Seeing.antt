@@ -27,7 +27,7 @@ use Rattle.sts_store.proofs.Views.{just, lives_is, lives_of}
 
 -- ---- tasks
 
--- the state of a task, by what stands at its birth
+-- the state of a task, by the record at its birth
 pub state_is : (m : Parts) (t : ℕ) (o : Option Task) → get_or m.tree.tasks t None ≡ o → live_state (live_of m) t ≡ (elim o [ None ↦ None | Some x ↦ x.state ])
 state_is m t o e = ap (λ y. (unwrap_or y no_live_task).state) (task_is (beside m) m.tree t ∙ ap (option_map (task_seen (beside m) t)) e) ∙ by o
   where
@@ -39,7 +39,7 @@ state_is m t o e = ap (λ y. (unwrap_or y no_live_task).state) (task_is (beside 
 abbrev pub scope_of : Option Task → Option ℕ
 scope_of o = elim o [ None ↦ None | Some x ↦ x.scope ]
 
--- by what stands at its birth
+-- the scope of a task, by the record at its birth
 pub home_is : (m : Parts) (t : ℕ) (o : Option Task) → get_or m.tree.tasks t None ≡ o → (live_task_at (live_of m) t).scope ≡ scope_of o
 home_is m t o e = ap (λ y. (unwrap_or y no_live_task).scope) (task_is (beside m) m.tree t ∙ ap (option_map (task_seen (beside m) t)) e) ∙ by o
   where
@@ -47,7 +47,7 @@ home_is m t o e = ap (λ y. (unwrap_or y no_live_task).scope) (task_is (beside m
     by None = refl
     by (Some x) = refl
 
--- where a task was said to stand
+-- the scope that is recorded for a task
 pub stand_is : (m : Parts) (t : ℕ) (x : Task) → get_or m.tree.tasks t None ≡ Some x → stand_in (unseen_of m) t ≡ x.stand
 stand_is m t x e = ap (λ o. unwrap_or o Free) (map_at stand_of m.tree.tasks t ∙ ap (option_map stand_of) e)
 
@@ -66,11 +66,11 @@ steps_seen m t = by (get_or m.tree.tasks t None) refl
 
 -- ---- scopes
 
--- a scope, by what stands at its birth
+-- a scope, by the record at its birth
 pub scope_by : (m : Parts) (s : ℕ) (o : Option (Scope Env)) → get_or m.tree.scopes s None ≡ o → live_scope_at (live_of m) s ≡ unwrap_or (option_map (scope_seen (beside m)) o) no_live_scope
 scope_by m s o e = ap (λ y. unwrap_or y no_live_scope) (scope_is (beside m) m.tree s ∙ ap (option_map (scope_seen (beside m))) e)
 
--- what stands in the view stands in the tree
+-- a scope in the view is in the tree
 pub scope_stands : (m : Parts) (s : ℕ) → is_some (scope_in (live_of m) s) ≡ true → (c : Scope Env) × (get_or m.tree.scopes s None ≡ Some c)
 scope_stands m s stands = by (get_or m.tree.scopes s None) refl
   where
@@ -103,7 +103,7 @@ none_has (k ∷ ks) t e = cc
 
 -- ---- keys
 
--- who stands in the tree stands in the view
+-- a task in the tree is in the view, and has the same key
 pub task_key : (m : Parts) (t : ℕ) → key_at m.tree.tasks m.tree.task_keys t ≡ key_at (live_of m).tasks m.tree.task_keys t
 task_key m t = sym (ap (λ (o : Option LiveTask). cond (is_some o) (Some (get_or m.tree.task_keys t 0)) None) (task_is (beside m) m.tree t) ∙ by (get_or m.tree.tasks t None))
   where

@@ -34,7 +34,7 @@ instead_here own t ks = let same : nat_eq t t ≡ true = grind (arith, nat_tests
 pub instead_there : (own : ℕ → List ℕ) (t u : ℕ) (ks : List ℕ) → u ≢ t → instead own t ks u ≡ own u
 instead_there own t u ks ne = let other : nat_eq u t ≡ false = grind (arith, nat_tests) in rw other refl
 
--- of a written list, what is at u: it was written at t, or it was there
+-- an element at u of a written list was written at t, or was there before
 pub by_place : {X : Type 0} (P : ℕ → X → Type 0) (xs : List (Option X)) (t : ℕ) (x y : X) → get_or xs t None ≡ Some x → P t y → ((u : ℕ) (z : X) → u ≢ t → get_or xs u None ≡ Some z → P u z) → (u : ℕ) (z : X) → get_or (set xs t (Some y)) u None ≡ Some z → P u z
 by_place P xs t x y at one others u z e = by (nat_eq u t) refl
   where
@@ -60,7 +60,8 @@ inherited_stays c d ks stays (Some s) = by (get_or ks s None) refl
     by None e = refl
     by (Some k) e = (stays s k e).keys
 
--- a task's own bindings without the innermost: each scope that it opened stands outside of that one
+-- a task's own bindings without the innermost one: each scope that the task opened was opened
+-- before that one
 pub inner : (own outside : ℕ → List ℕ) (t k r : ℕ) (rest : List ℕ) → own t ≡ k ∷ rest → length (outside r) ≤ length rest → (inside : List ℕ) × (own t ≡ inside ++ outside r) → (inside : List ℕ) × (rest ≡ inside ++ outside r)
 inner own outside t k r rest is few ([], e) =
     let long : length (outside r) ≡ suc (length rest) = ap (λ (l : List ℕ). length l) (sym e ∙ is) in
@@ -71,7 +72,7 @@ inner own outside t k r rest is few (i ∷ inside, e) = (inside, by rest (inside
     by xs ys e = cc
 
 module _ {c d : Records} {hs : List (Option Holder)} {ks : List (Option Keeper)} {os : List (Option (Option ℕ))} {own outside : ℕ → List ℕ} where
-  -- a task puts one more binding in front, at a key where no record stood
+  -- a task puts one more binding in front, at a key that had no record
   pub bind_shares : Shares c hs ks os own outside → (t k : ℕ) (h g : Holder) → get_or hs t None ≡ Some h → record_at c k ≡ None → IsWhole d g.env → keys_of d g.env ≡ k ∷ keys_of c h.env → ((e : Env) → IsWhole c e → Stays c d e) → count_by is_binding g.entries ≡ suc (count_by is_binding h.entries) → ((r : ℕ) → behind r g.entries ≡ behind r h.entries) → Shares d (set hs t (Some g)) ks os (instead own t (k ∷ own t)) outside
   bind_shares s t k h g at none whole keys others more outer =
       let stays : (r : ℕ) (x : Keeper) → get_or ks r None ≡ Some x → Stays c d x.kept = λ r x e. others x.kept (s.kept r x e) in
@@ -133,7 +134,7 @@ module _ {c d : Records} {hs : List (Option Holder)} {ks : List (Option Keeper)}
               let held_a : NotIn j (own a) → ⊥ = subst (λ l. NotIn j l → ⊥) (instead_there own t a (k ∷ own t) e) held in
               subst (NotIn j) (sym (instead_there own t b (k ∷ own t) f)) (s.apart a b j x y (sym (there hs t a (Some g) e) ∙ p) (sym (there hs t b (Some g) f) ∙ q) ne held_a)
 
-  -- a task takes out its innermost binding, whose record no other environment in use holds
+  -- a task takes out its innermost binding, and no other environment in use holds its record
   pub unbind_shares : Shares c hs ks os own outside → (t k : ℕ) (h g : Holder) (rest : List ℕ) → get_or hs t None ≡ Some h → own t ≡ k ∷ rest → IsWhole d g.env → keys_of c h.env ≡ k ∷ keys_of d g.env → ((u : ℕ) (l : Holder) → u ≢ t → get_or hs u None ≡ Some l → Stays c d l.env) → ((r : ℕ) (x : Keeper) → get_or ks r None ≡ Some x → Stays c d x.kept) → count_by is_binding h.entries ≡ suc (count_by is_binding g.entries) → ((r : ℕ) → behind r g.entries ≡ behind r h.entries) → ((r : ℕ) → count_by is_binding (behind r g.entries) ≤ count_by is_binding g.entries) → Shares d (set hs t (Some g)) ks os (instead own t rest) outside
   unbind_shares s t k h g rest at first whole keys others kept less outer fewer =
       record {

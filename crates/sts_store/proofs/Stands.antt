@@ -1,4 +1,4 @@
--- A task was said to stand somewhere.
+-- It was recorded at which scope a task is.
 use Rattle.std.proofs.Common.{◌≡◌, ℕ, true, Option, Some, None, refl, sym, ◌∙◌, ap, get_or, set}
 use Rattle.std.proofs.Math.ListN.{get_or-map}
 use Rattle.std.proofs.lemmas.List.{map-set, set-get_or}
@@ -38,7 +38,7 @@ module _ (m : Parts) (is : IsStore m) (t : ℕ) (l : Lived m t) (stand : Stand) 
       rest_seen m f (with_task m.tree t (record l.task { stand = stand })) same
       ∙ ap (λ stands. record (unseen_of m) { stands = stands }) (map-set (option_map stand_of) m.tree.tasks t (Some (record l.task { stand = stand })))
 
--- to say again where a task stands changes nothing
+-- to record the same scope for a task again changes nothing
 pub said_again : (m : Parts) (t : ℕ) (x : Task) (stand : Stand) → get_or m.tree.tasks t None ≡ Some x → x.stand ≡ stand → stood_unseen (unseen_of m) t stand ≡ unseen_of m
 said_again m t x stand there is =
     let stands = (unseen_of m).stands in
@@ -46,7 +46,7 @@ said_again m t x stand there is =
     ap (λ o. record (unseen_of m) { stands = set stands t o }) (sym here)
     ∙ ap (λ stands. record (unseen_of m) { stands = stands }) (set-get_or stands t None)
 
--- a scope that is the task's own in the view is so in the tree
+-- a scope that belongs to the task in the view belongs to it in the tree
 pub own_stand : (m : Parts) (t : ℕ) (stand : Stand) → ((s : ℕ) → is_stand_at s stand ≡ true → IsOwned (live_of m) t s) → (s : ℕ) → stands_at s stand ≡ true → (c : Scope Env) × (get_or m.tree.scopes s None ≡ Some c) × (c.owner ≡ t)
 own_stand m t stand owned s e =
     let o = owned s (same_test stand e) in
@@ -58,7 +58,7 @@ own_stand m t stand owned s e =
     same_test (AtJoin r) e = e
     same_test (AtClose r) e = e
 
--- a task's own scope is so after a cancel
+-- a task's own scope remains its own after a cancel
 pub own_cancelled : (v : Live) (t s r : ℕ) → IsOwned v t r → IsOwned (live_cancel v s) t r
 own_cancelled v t s r o = by (scope_in v r) refl o.stands
   where

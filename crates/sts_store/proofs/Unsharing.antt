@@ -33,7 +33,7 @@ sharing_of hs ks os own outside =
       outside = outside;
     }
 
--- the owner of a scope that stands lives; the scope of a living task stands, and its owner is older
+-- the owner of an open scope lives; the scope of a living task isn't closed, and has an older owner
 pub record AreHoused (hs : List (Option Holder)) (ks : List (Option Keeper)) (os : List (Option (Option ℕ))) : Type 0 where
   pub owners : (s : ℕ) (k : Keeper) → get_or ks s None ≡ Some k → is_some (get_or hs k.owner None) ≡ true
   pub homes : (t s : ℕ) → is_some (get_or hs t None) ≡ true → home_at os t ≡ Some s → (k : Keeper) × ((get_or ks s None ≡ Some k) × (k.owner < t))
@@ -67,7 +67,7 @@ module _ (c : Records) (hs : List (Option Holder)) (ks : List (Option Keeper)) (
         apart = λ t u k a b ne held. let p = some_of (get_or hs t None) a in let q = some_of (get_or hs u None) b in s.apart t u k p.0 q.0 p.1 q.1 ne held;
       }
 
-  -- the innermost binding of a task whose last entry is a binding
+  -- the innermost binding of a task, if that is its last entry
   pub unshared : FrontIsUnshared → (t k : ℕ) (rest : List ℕ) (h : Holder) → get_or hs t None ≡ Some h → own t ≡ k ∷ rest → ((r : ℕ) → count_by is_binding (behind r h.entries) ≤ length rest) → IsUnshared c (sharing_of hs ks os own outside) t k
   unshared law t k rest h at first few =
       law c (sharing_of hs ks os own outside) t k is_sharing

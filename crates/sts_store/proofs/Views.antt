@@ -1,4 +1,4 @@
--- What is seen of the parts, and how a view changes with what is kept beside the tree.
+-- The live view of the parts, and how it changes with the parts outside the tree.
 use Rattle.std.proofs.Common.{◌≡◌, ◌≢◌, ℕ, zero, suc, ◌<◌, List, [], ◌∷◌, map, length, Bool, true, false, Option, Some, None, refl, sym, ◌∙◌, ap, get_or, set, cond, nat_eq, arith}
 use Rattle.std.proofs.lemmas.Bool.Decides.{nat_tests}
 use Rattle.std.proofs.lemmas.List.{ext_get_or, length-set, get_or-set_same, get_or-set_other}
@@ -71,7 +71,7 @@ module _ {E : Type 0} (b d : Beside E) where
       by true = ap (λ a. task_with x (Some a)) (same x.flag)
       by false = refl
 
-  -- tasks of which no living one has anything else
+  -- the tasks look the same if no living task differs
   pub tasks_same : (f : Forest E) → ((u : ℕ) (x : Task) → get_or f.tasks u None ≡ Some x → x.lives ≡ true → Same b d u) → tasks_from d 0 f.tasks ≡ tasks_from b 0 f.tasks
   tasks_same f same = ext_get_or None _ _ (length_from d 0 f.tasks ∙ sym (length_from b 0 f.tasks)) (λ u less. task_is d f u ∙ by u (get_or f.tasks u None) refl ∙ sym (task_is b f u))
     where
@@ -79,7 +79,7 @@ module _ {E : Type 0} (b d : Beside E) where
       by u None e = refl
       by u (Some x) e = ap (λ z. Some z) (seen_same u x (same u x e))
 
-  -- tasks of which one has something else if it lives
+  -- one task differs if it lives
   pub tasks_changed : (f : Forest E) (t : ℕ) (change : Alive → Alive) → ((flag : Bool) → kept_alive d t flag ≡ change (kept_alive b t flag)) → ((u : ℕ) → u ≢ t → Same b d u) → tasks_from d 0 f.tasks ≡ set (tasks_from b 0 f.tasks) t (option_map (changed change) (get_or (tasks_from b 0 f.tasks) t None))
   tasks_changed f t change here there = ext_get_or None (tasks_from d 0 f.tasks) (set old t new) (length_from d 0 f.tasks ∙ sym (length-set old t new ∙ length_from b 0 f.tasks)) (λ u less. task_is d f u ∙ by u less (nat_eq u t) refl)
     where
@@ -107,7 +107,7 @@ module _ {E : Type 0} (b d : Beside E) where
           let ne : u ≢ t = grind (arith, nat_tests) in
           other u ne (get_or f.tasks u None) ∙ sym (task_is b f u) ∙ sym (get_or-set_other old t u new None ne)
 
-  -- scopes of which none keeps anything else
+  -- the scopes look the same if none keeps another environment
   pub scopes_same : (cs : List (Option (Scope E))) → ((s : ℕ) (c : Scope E) → get_or cs s None ≡ Some c → d.kept c.environment ≡ b.kept c.environment) → map (option_map (scope_seen d)) cs ≡ map (option_map (scope_seen b)) cs
   scopes_same [] same = refl
   scopes_same (None ∷ cs) same = ap (λ l. None ∷ l) (scopes_same cs (λ s. same (suc s)))
@@ -146,7 +146,7 @@ task_seen_is m t x r stands lives runs =
 abbrev pub lives_of : Option Task → Bool
 lives_of o = elim o [ None ↦ false | Some x ↦ x.lives ]
 
--- who lives in the view lives in the tree
+-- a task lives in the view if and only if it lives in the tree
 pub lives_is : (m : Parts) (t : ℕ) → lives_in (live_of m) t ≡ lives_at m.tree t
 lives_is m t = lives_same (beside m) m.tree t
 
@@ -176,7 +176,7 @@ lived m is t lives = by (get_or m.tree.tasks t None) refl (get_or m.frames.slots
           scope = ap (λ o. (unwrap_or o no_live_task).scope) seen;
         }
 
--- the frame that is at hand is the one that is seen
+-- the frame in the record is the frame in the view
 pub same_frame : (m : Parts) (t : ℕ) (r : Running) → Lived m t → get_or m.frames.slots t None ≡ Some r → (alive_at (live_of m) t).frame ≡ r.frame
 same_frame m t r l e = ap (λ (a : Alive). a.frame) l.at ∙ ap (λ (q : Running). q.frame) (just l.run r (sym l.runs ∙ e))
 

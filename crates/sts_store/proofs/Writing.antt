@@ -1,4 +1,4 @@
--- The frame of a living task is written: what each call that does so has to show.
+-- The frame of a living task is written: what each call that writes it has to show.
 use mir.Val.{SFits, bool_byte, to_z, of_z}
 use Rattle.std.proofs.lemmas.Int.{to_z-of_z}
 use Rattle.sts_model.specs.Local.{goes, steps, truth}
@@ -24,15 +24,15 @@ pub has_task : {m : Parts} {t : ℕ} → Lived m t → get_or m.tree.tasks t Non
 has_task {m} {t} l = some_not (get_or m.tree.tasks t None) l.task l.stands
 
 module _ (m now : Parts) (t : ℕ) (r : Running) (l : Lived m t) (at : get_or m.frames.slots t None ≡ Some r) (same : m ≡ now) where
-  -- the frame at hand is the one that contracts see
+  -- the frame in the record is the frame that contracts see
   pub frame_is : frame_of now t ≡ r.frame
   frame_is = ap (λ p. frame_of p t) (sym same) ∙ same_frame m t r l at
 
-  -- what is required of the one holds of the other
+  -- a fact of the frame that contracts see is a fact of the frame in the record
   pub at_hand : (P : Frame → Type 0) → P (frame_of now t) → P r.frame
   at_hand P h = subst P frame_is h
 
-  -- what a word makes of the one is what is seen afterwards
+  -- the view after a change of the frame in the record is the change of the frame in the view
   pub frame_done : (f : Frame) (word : Frame → Frame) → f ≡ word r.frame → live_of (with_running m t (record r { frame = f }) m.chains) ≡ with_live_frame (live_of now) t (word (frame_of now t))
   frame_done f word is =
       frame_seen m t r (record r { frame = f }) (λ alive. record alive { frame = f }) at (λ flag. refl)

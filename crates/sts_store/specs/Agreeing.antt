@@ -25,15 +25,15 @@ use Rattle.laws_live.specs.Cancelling.{live_cancel}
 use Rattle.laws_live.specs.Effect.{live_gone, live_told, live_ended, live_tell}
 use Rattle.sts_store.specs.View.{Beside, alive_of, view_of}
 
--- what is kept beside the forest when a task ends
+-- the parts outside the forest after a task ends
 abbrev pub at_end : {E : Type 0} → Beside E → ℕ → End → Beside E
 at_end b t end = record b { root_end = if t == 0 then Some end else b.root_end }
 
--- this task stands at this birth
+-- the forest has this task at this birth
 abbrev pub TaskAt : {E : Type 0} → Forest E → ℕ → Task → Type 0
 TaskAt f t x = slice_index_or f.tasks t None ≡ Some x
 
--- this scope stands at this birth
+-- the forest has this scope at this birth
 abbrev pub ScopeAt : {E : Type 0} → Forest E → ℕ → Scope E → Type 0
 ScopeAt f s c = slice_index_or f.scopes s None ≡ Some c
 
@@ -44,7 +44,8 @@ decided f t x end s c =
     then cancel (ended f t x end) s (record c { tally = with_end c.tally end })
     else ended f t x end
 
--- what is seen after a word is the live view's word on what was seen, and both read the same
+-- the live view after a change of the forest is the live view's own change; what is read from both
+-- is the same
 pub record WordsAgree (E : Type 0) : Type 0 where
   pub same : (b : Beside E) (f g : Forest E) → seen f ≡ seen g → view_of b f ≡ view_of b g
   pub flag : (b : Beside E) (f : Forest E) (t : ℕ) (x : Task) (flag : Bool) → TaskAt f t x →

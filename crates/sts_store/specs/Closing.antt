@@ -18,13 +18,13 @@ abbrev pub stand_left : ℕ → Option LiveTask → Option Stand → Option Stan
 stand_left s None stand = stand
 stand_left s (Some task) stand = if is_in s task.scope then None else stand
 
--- where the tasks were said to stand, with a hole for each subtask of s
+-- the recorded scopes of tasks, with a hole for each subtask of s
 abbrev pub stands_left : ℕ → List (Option LiveTask) → List (Option Stand) → List (Option Stand)
 stands_left s [] stands = stands
 stands_left s (x ∷ xs) [] = []
 stands_left s (x ∷ xs) (stand ∷ stands) = stand_left s x stand ∷ stands_left s xs stands
 
--- the scope and its subtasks no longer stand, and their room comes back
+-- neither the scope nor its subtasks count any longer, and their room comes back
 abbrev pub gone_unseen : Live → Unseen → ℕ → Unseen
 gone_unseen v u s =
     record u {

@@ -15,6 +15,7 @@ abbrev pub finished_in : {E : Type 0} → Forest E → ℕ → Task → End → 
 finished_in f t x end None = ended f t x end
 finished_in f t x end (Some s) = finished_of f t x end s (slice_index_or f.scopes s None)
 
--- the task has ended, its scope was told, and is cancelled where its joiner asks for it
+-- the task has ended, the joiner of its scope was told, and the scope is cancelled if the joiner
+-- asks for it
 abbrev pub finished : {E : Type 0} → Forest E → ℕ → Task → End → Forest E
 finished f t x end = finished_in f t x end x.scope

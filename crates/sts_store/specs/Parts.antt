@@ -34,7 +34,7 @@ no_running = record { frame = no_alive.frame; env = record { front = None; lengt
 abbrev pub running_at : Parts → ℕ → Running
 running_at m t = unwrap_or (slice_index_or m.frames.slots t None) no_running
 
--- what is kept beside the tree
+-- the parts outside the tree
 abbrev pub beside : Parts → Beside Env
 beside m =
     record {
@@ -70,7 +70,7 @@ root_alone frame =
 abbrev pub stand_of : Task → Stand
 stand_of x = x.stand
 
--- where each task was last said to stand, the keys that births were given, and how many more fit
+-- the scope that is recorded for each task, the keys that births were given, and how many more fit
 pub record Unseen : Type 0 where
   pub stands : List (Option Stand)
   pub task_keys : List ℕ
@@ -92,14 +92,14 @@ unseen_of m =
       binding_room = m.chains.room;
     }
 
--- where a task was last said to stand; free where it doesn't stand
+-- the scope that is recorded for a task; a task that doesn't count is at none
 abbrev pub stand_in : Unseen → ℕ → Stand
 stand_in u t = unwrap_or (slice_index_or u.stands t None) Free
 
--- a task was said to stand here
+-- it is recorded at which scope a task is
 abbrev pub stood_unseen : Unseen → ℕ → Stand → Unseen
 stood_unseen u t stand = record u { stands = slice_set u.stands t (Some stand) }
 
--- may the task go on from where it was last said to stand?
+-- may the task take its next step, by the scope that is recorded for it?
 abbrev pub can_go_on : Parts → ℕ → Bool
 can_go_on m t = lives_in (live_of m) t && live_can_go (live_of m) t (stand_in (unseen_of m) t)

@@ -1,6 +1,6 @@
 -- Which environments in use share which records of bindings, over the parts of a store.
 -- Restates "Description" of JEP 506: a subtask inherits the bindings of its scope, and binds in
--- front of them. That environments share records is this project's own.
+-- front of them. It is this project's own that environments share records.
 use Rattle.std.specs.Prelude.{◌≡◌, ◌≢◌, ℕ, List, [], ◌∷◌, ◌++◌, length, map, count_by}
 use Rattle.std.specs.Prelude.{Option, Some, None, option_map, ◌==◌, if◌then◌else◌, slice_index_or}
 use Rattle.sts_env.specs.Environments.{Records, IsWhole, keys_of, NotIn}
@@ -13,12 +13,12 @@ use Rattle.sts_model.specs.Misuse.{is_binding}
 use Rattle.sts_store.specs.declared.running.Running.{Running}
 use Rattle.sts_store.specs.Parts.{Parts}
 
--- what a living task has of it: its environment, and its structure list
+-- the part of a living task that matters here: its environment, and its structure list
 pub record Holder : Type 0 where
   pub env : Env
   pub entries : List Entry
 
--- what a scope that stands has of it: who opened it, and the environment that it keeps
+-- the part of an open scope that matters here: its owner, and the environment that it keeps
 pub record Keeper : Type 0 where
   pub owner : ℕ
   pub kept : Env
@@ -38,14 +38,14 @@ holders m = map (option_map holder_of) m.frames.slots
 abbrev pub keepers : Parts → List (Option Keeper)
 keepers m = map (option_map keeper_of) m.tree.scopes
 
--- the scope of each task that stands, if it has one
+-- the scope of each task that counts, if it has one
 abbrev pub homes : Parts → List (Option (Option ℕ))
 homes m = map (option_map home_of) m.tree.tasks
 
 abbrev pub home_at : List (Option (Option ℕ)) → ℕ → Option ℕ
 home_at os t = elim (slice_index_or os t None) [ None ↦ None | Some o ↦ o ]
 
--- the records that a scope keeps, if it stands
+-- the records that a scope keeps, if it isn't closed
 abbrev pub keys_kept : Records → Option Keeper → List ℕ
 keys_kept c None = []
 keys_kept c (Some k) = keys_of c k.kept
@@ -65,7 +65,7 @@ behind s (entry.Binding key value ∷ es) = behind s es
 abbrev pub Holds : List (Option Holder) → ℕ → Holder → Type 0
 Holds hs t h = slice_index_or hs t None ≡ Some h
 
--- the scope of this birth stands, and has this of it
+-- the scope of this birth isn't closed, and this is its part
 abbrev pub Keeps : List (Option Keeper) → ℕ → Keeper → Type 0
 Keeps ks s k = slice_index_or ks s None ≡ Some k
 
@@ -73,9 +73,9 @@ Keeps ks s k = slice_index_or ks s None ≡ Some k
 -- two tasks' own
 pub record Shares (c : Records) (hs : List (Option Holder)) (ks : List (Option Keeper))
     (os : List (Option (Option ℕ))) (own outside : ℕ → List ℕ) : Type 0 where
-  -- all records of a living task's environment stand
+  -- each record of a living task's environment exists
   pub whole : (t : ℕ) (h : Holder) → Holds hs t h → IsWhole c h.env
-  -- all records of the environment that a scope keeps stand
+  -- each record of the environment that a scope keeps exists
   pub kept : (s : ℕ) (k : Keeper) → Keeps ks s k → IsWhole c k.kept
   -- a task's environment is made of its own records and of what its scope keeps
   pub tasks : (t : ℕ) (h : Holder) → Holds hs t h →
@@ -95,7 +95,8 @@ pub record Shares (c : Records) (hs : List (Option Holder)) (ks : List (Option K
   pub behind : (s : ℕ) (k : Keeper) (h : Holder) → Keeps ks s k → Holds hs k.owner h →
       length (outside s) ≡ count_by is_binding (behind s h.entries)
 
--- there are own records, and records outside of each scope, so that it is so
+-- records are shared in this way for some lists of own records, and of records outside of each
+-- scope
 pub record AreShared (c : Records) (hs : List (Option Holder)) (ks : List (Option Keeper))
     (os : List (Option (Option ℕ))) : Type 0 where
   pub own : ℕ → List ℕ

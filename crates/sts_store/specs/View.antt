@@ -1,4 +1,4 @@
--- What is seen of a forest, beside frames and bindings: a live view (this project's own).
+-- The live view of a forest, with frames and bindings (this project's own).
 use Rattle.std.specs.Prelude.{ℕ, suc, List, [], ◌∷◌, map, Option, Some, None, option_map}
 use Rattle.std.specs.Prelude.{if◌then◌else◌}
 use Rattle.sts_model.specs.declared.event.End.{End}
@@ -9,7 +9,7 @@ use Rattle.sts_tree.specs.Forest.{Forest}
 use Rattle.sts_tree.specs.declared.record.Task.{Task}
 use Rattle.sts_tree.specs.declared.record.Scope.{Scope}
 
--- what is kept beside the forest: each living task's frame and bindings, those of a scope, and the
+-- the parts outside the forest: each living task's frame and bindings, those of a scope, and the
 -- root's end
 pub record Beside (E : Type 0) : Type 0 where
   pub frame : ℕ → Frame
@@ -39,7 +39,7 @@ scope_seen b c =
       told = c.tally.told;
     }
 
--- the tasks, of which the first has this birth
+-- the tasks from birth n on
 abbrev pub tasks_from : {E : Type 0} → Beside E → ℕ → List (Option Task) → List (Option LiveTask)
 tasks_from b n [] = []
 tasks_from b n (o ∷ xs) = option_map (task_seen b n) o ∷ tasks_from b (suc n) xs

@@ -28,7 +28,7 @@ impl Store {
         enter_binding(&mut running.frame, key);
     }
 
-    /// Ends the innermost binding of a task, whose last entry it is, and goes on.
+    /// Ends the innermost binding of a task, which is its last entry, and goes on.
     pub fn unbind(&mut self, t: u32)
         requires lives { lives_in (live_of self.old) t ≡ true }
         requires more { (frame_of self.old t).pc + 1 < 2 ^ 32 }

@@ -20,7 +20,7 @@ use sts_frames::leave_entry;
 use sts_model::{Phase, Slot, Stand};
 use sts_tree::Tree;
 
-/// The scope that a task is a subtask of, if it stands and has one.
+/// The scope that a task is a subtask of, if the task counts and has one.
 fn home(tree: &Tree<Env>, t: u32) -> Option<u32>
     ensures { result ≡ home_in tree.now t }
 {
@@ -76,8 +76,8 @@ impl Store {
         self.set_phase(s, Phase::Closing);
     }
 
-    /// Takes out a scope and its subtasks, of which none lives. The owner, which stands free, goes
-    /// on.
+    /// Takes out a scope and its subtasks. None of these may live. The owner, which is recorded as
+    /// being at no scope, goes on.
     fn take_out(&mut self, t: u32, s: u32)
         requires lives { lives_in (live_of self.old) t ≡ true }
         requires more { (frame_of self.old t).pc + 1 < 2 ^ 32 }

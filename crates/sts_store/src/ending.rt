@@ -15,7 +15,8 @@ use sts_env::Env;
 use sts_model::End;
 use sts_tree::Tree;
 
-/// Ends a living task, tells its scope, and cancels that where the joiner asks for it.
+/// Ends a living task and tells the joiner of its scope. Cancels the scope if the joiner asks for
+/// it.
 fn finish(tree: &mut Tree<Env>, t: u32, end: End)
     requires { (x : AnyTask)
         × (slice_index_or tree.old.tasks t None ≡ Some x) × (x.lives ≡ true) }
@@ -41,8 +42,8 @@ fn root_end_after(root_end: Option<End>, t: u32, end: End) -> Option<End>
 }
 
 impl Store {
-    /// Ends a living task: its scope is told, unless that is cancelled, and is cancelled where its
-    /// joiner asks for it.
+    /// Ends a living task. The joiner of its scope is told unless the scope is cancelled, and may
+    /// ask to cancel it.
     pub fn end(&mut self, t: u32, end: End)
         requires { lives_in (live_of self.old) t ≡ true }
         ensures live { live_of self.new ≡ live_end (live_of self.old) t end }

@@ -33,8 +33,7 @@ fn place(frames: &mut Held<Running>, running: Running, lives: bool)
 }
 
 impl Store {
-    /// Forks a subtask in a scope that stands, and goes on. In a scope that is cancelled it never
-    /// runs.
+    /// Forks a subtask in an open scope, and goes on. In a cancelled scope the subtask never runs.
     pub fn fork(&mut self, program: &Program, t: u32, s: u32, function: u32, handle: Option<u8>)
         requires lives { lives_in (live_of self.old) t ≡ true }
         requires stands { is_some (scope_in (live_of self.old) s) ≡ true }

@@ -15,7 +15,7 @@ use sts_code::{Instr, Program};
 use sts_frames::{forget, local};
 
 impl Store {
-    /// Does a local instruction of a task, whose function has this code.
+    /// Does a local instruction of a task. `code` is the code of its function.
     pub fn local(&mut self, program: &Program, code: &[Instr], t: u32, instr: Instr)
         requires lives { lives_in (live_of self.old) t ≡ true }
         requires own_code { code.now ≡ world.code program.now (frame_of self.old t) }

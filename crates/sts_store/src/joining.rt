@@ -15,7 +15,7 @@ use crate::store::Store;
 use sts_model::{Phase, Verdict};
 
 impl Store {
-    /// Has the scope expired? One that doesn't stand hasn't.
+    /// Has the scope expired? The answer is no if there is no such scope.
     pub fn expired(&self, s: u32) -> bool
         ensures { result ≡ (live_scope_at (live_of self.now) s).expired }
     {
@@ -32,7 +32,8 @@ impl Store {
         self.tree.any_lives(s)
     }
 
-    /// Has a `join` a result, whoever waits: the scope is cancelled, or none of its subtasks lives?
+    /// Has a `join` a result, whichever task waits? It has one if the scope is cancelled or no
+    /// subtask of it lives.
     fn has_result(&self, s: u32) -> bool
         ensures { result ≡ ((live_scope_at (live_of self.now) s).cancelled
             || not (live_any_lives (live_of self.now) s)) }
@@ -40,7 +41,7 @@ impl Store {
         self.cancelled(s) || !self.any_lives(s)
     }
 
-    /// The joiner's result, as it stands, of a scope that stands.
+    /// The joiner's result at this moment, of a scope that isn't closed.
     pub fn verdict(&self, s: u32) -> Verdict
         requires { is_some (scope_in (live_of self.now) s) ≡ true }
         ensures { result ≡ result_told (live_scope_at (live_of self.now) s).joiner

@@ -28,8 +28,8 @@ impl Store {
         self.goes(t, case_target(state, success, failed, next), 0);
     }
 
-    /// Pushes the value or the code of the subtask in a slot, 0 where its end wasn't told: `get`,
-    /// and `except` likewise.
+    /// Does `get` and `except`: pushes the value or the code of the subtask in a slot. Pushes 0 if
+    /// the joiner was not told of its end.
     pub fn push_value(&mut self, t: u32, handle: u8)
         requires lives { lives_in (live_of self.old) t ≡ true }
         requires more { (frame_of self.old t).pc + 1 < 2 ^ 32 }
@@ -78,7 +78,7 @@ impl Store {
         self.goes_with(t, next, 0, i64::from(tally));
     }
 
-    /// Pushes the sum of the values of the successes that the scope in a slot was told of.
+    /// Pushes the sum of the values of the successes so far in the scope in a slot.
     pub fn push_total(&mut self, t: u32, scope: u8)
         requires lives { lives_in (live_of self.old) t ≡ true }
         requires more { (frame_of self.old t).pc + 1 < 2 ^ 32 }

@@ -27,7 +27,7 @@ impl Store {
         &self.frames.get(t as usize).unwrap().frame
     }
 
-    /// What a living task reads under a key: none where it is not bound.
+    /// The value that a living task reads under a key, or `None` if it is not bound.
     pub fn read(&self, t: u32, key: u8) -> Option<i64>
         requires { lives_in (live_of self.now) t ≡ true }
         ensures { result ≡ live_read (live_of self.now) t key }
@@ -46,7 +46,7 @@ impl Store {
         }
     }
 
-    /// Is the scope cancelled? One that doesn't stand isn't.
+    /// Is the scope cancelled? The answer is no if there is no such scope.
     pub fn cancelled(&self, s: u32) -> bool
         ensures { result ≡ (live_scope_at (live_of self.now) s).cancelled }
     {
@@ -56,7 +56,7 @@ impl Store {
         }
     }
 
-    /// Has the close of the scope begun? That of one that doesn't stand hasn't.
+    /// Has the close of the scope begun? The answer is no if there is no such scope.
     pub fn closing(&self, s: u32) -> bool
         ensures { result ≡ is_closing (live_scope_at (live_of self.now) s).phase }
     {
@@ -80,7 +80,7 @@ impl Store {
         }
     }
 
-    /// How many subtasks of a scope that stands are in a state.
+    /// The number of subtasks of a scope in a state. The scope must not be closed.
     pub fn tally(&self, s: u32, kind: Kind) -> u32
         requires { is_some (scope_in (live_of self.now) s) ≡ true }
         ensures { result ≡ live_tally (live_of self.now) s kind }
@@ -88,7 +88,8 @@ impl Store {
         self.tree.count(s, kind)
     }
 
-    /// The sum of the values of the successes that a scope that stands was told of.
+    /// The sum of the values of the successes that a scope's joiner was told of. The scope must not
+    /// be closed.
     pub fn total(&self, s: u32) -> i64
         requires { is_some (scope_in (live_of self.now) s) ≡ true }
         ensures { result ≡ (live_scope_at (live_of self.now) s).told.total }

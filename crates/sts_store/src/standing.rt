@@ -1,4 +1,4 @@
-//! Where tasks are said to stand, which tasks may step, keys and room.
+//! Recording at which scopes tasks are, which tasks may step, keys, and room.
 
 ghost use Rattle.std.specs.Prelude.{◌≡◌, ℕ, Some, None, true, false, not, ◌&&◌, ◌==◌};
 ghost use Rattle.std.specs.List.{list_any};
@@ -12,7 +12,7 @@ use crate::store::Store;
 use sts_model::Stand;
 
 impl Store {
-    /// Was a living task last said to stand here? Then to say so again changes nothing.
+    /// Is this recorded for a living task already? Then to record it again changes nothing.
     fn is_said(&self, t: u32, stand: Stand) -> bool
         requires { lives_in (live_of self.now) t ≡ true }
         ensures { result ≡ true → stood_unseen (unseen_of self.now) t stand ≡ unseen_of self.now }
@@ -20,7 +20,7 @@ impl Store {
         self.tree.task(t).unwrap().stand == stand
     }
 
-    /// Says where a living task stands: free, or at a scope that is its own.
+    /// Records whether a living task is at a scope of its own, or at none.
     pub fn stand(&mut self, t: u32, stand: Stand)
         requires lives { lives_in (live_of self.old) t ≡ true }
         requires owned { (s : ℕ) → is_stand_at s stand ≡ true → IsOwned (live_of self.old) t s }
@@ -32,14 +32,14 @@ impl Store {
         }
     }
 
-    /// May the task step, from where it was last said to stand?
+    /// May the task step, by the scope that is recorded for it?
     pub fn can_step(&self, t: u32) -> bool
         ensures { result ≡ can_go_on self.now t }
     {
         self.tree.can_step(t)
     }
 
-    /// Some task that may step: none only where there is none.
+    /// A task that may step, or `None` if and only if there is no such task.
     pub fn ready_front(&self) -> Option<u32>
         ensures some { (t : ℕ) → result ≡ Some t → can_go_on self.now t ≡ true }
         ensures none { (t : ℕ) → result ≡ None → can_go_on self.now t ≡ false }
@@ -47,7 +47,8 @@ impl Store {
         self.tree.ready_front()
     }
 
-    /// Some task that may step and is not in this list: none only where there is none.
+    /// A task that may step and is not in this list, or `None` if and only if there is no such
+    /// task.
     pub fn ready_beside(&self, out: &[u32]) -> Option<u32>
         ensures some { (t : ℕ) → result ≡ Some t →
             (can_go_on self.now t && not (list_any (λ o. o == t) out.now)) ≡ true }
@@ -57,14 +58,14 @@ impl Store {
         self.tree.ready_beside(out)
     }
 
-    /// The key under which the record of a task stands, if it does.
+    /// The key of a task's record, if it exists.
     pub fn key_of(&self, t: u32) -> Option<usize>
         ensures { result ≡ key_at (live_of self.now).tasks (unseen_of self.now).task_keys t }
     {
         self.tree.key_of(t)
     }
 
-    /// The key under which the record of a scope stands, if it does.
+    /// The key of a scope's record, if it exists.
     pub fn scope_key_of(&self, s: u32) -> Option<usize>
         ensures { result ≡ key_at (live_of self.now).scopes (unseen_of self.now).scope_keys s }
     {

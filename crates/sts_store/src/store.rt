@@ -20,8 +20,8 @@ pub struct Room {
     pub bindings: u32,
 }
 
-/// Tasks and scopes that stand, with the frames of the living ones and all bindings. Contracts see
-/// the parts, and speak of the live view that these make up.
+/// The tasks and scopes that count, the frames of the living tasks, and all bindings. Contracts see
+/// the parts, and speak of the live view that they form.
 #[derive(Drop)]
 pub struct Store {
     pub(crate) tree: Tree<Env>,
@@ -57,7 +57,7 @@ impl Store {
     ///
     /// # Errors
     ///
-    /// Want of memory.
+    /// Memory ran out.
     pub fn with_room(alloc: Global, room: Room, frame: Frame) -> Result<Store, AllocError>
         requires some { 0 < room.tasks }
         requires few { room.tasks ≤ 65536 }

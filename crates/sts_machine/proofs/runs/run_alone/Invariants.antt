@@ -5,7 +5,7 @@ use Rattle.sts_machine.specs.Machine.{Stands}
 use Rattle.sts_machine.specs.Whole.{AreSteps}
 use Rattle.sts_machine.proofs.runs.run_alone.Given as goal
 
--- the machine stands where some steps lead, each of which counts
+-- some steps lead to the machine, and each of them counts
 abbrev pub invariant-loop-task : goal.invariant-loop-task
 invariant-loop-task l =
     (l.machine.program ≡ l.verified) × ((events : List Event) × (AreSteps l.verified (opening l.verified) events × Stands l.machine events))
