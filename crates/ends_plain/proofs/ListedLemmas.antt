@@ -41,7 +41,7 @@ shown_here g states k x f less is way shows ends = record {
   ends = ends;
 }
 
--- one state more, whose end is there if it is one
+-- one state more; if it is an end, the end is there
 pub has_more : (states : List Config) (k : ℕ) (x : Config) (ends more : List PlainState) → k < length states → x ≡ slice_index_or states k x → HasShown states k ends
     → (is_end (shown x.position) ≡ true → Contains (ends ++ more) (shown x.position)) → HasShown states (k + 1) (ends ++ more)
 has_more states k x ends more within is all here j d less e = by (split j k less)

@@ -13,7 +13,7 @@ use Rattle.ends_plain.specs.declared.config.Config.{Config}
 use Rattle.ends_plain.specs.declared.config.Setting.{Setting}
 use Rattle.ends_plain.specs.Ends.{is_interrupt}
 
--- so many interrupts are left after an event
+-- the number of interrupts that are left after an event
 abbrev pub left_after : ℕ → Event → ℕ
 left_after n e = if is_interrupt e then n - 1 else n
 

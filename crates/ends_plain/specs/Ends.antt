@@ -20,7 +20,7 @@ abbrev pub is_expiry : Event → Bool
 is_expiry (event.Expire s) = true
 is_expiry _ = false
 
--- steps come anywhere, no more than so many interrupts, and expiries if they may
+-- steps may come anywhere, interrupts up to a limit, and expiries if they are allowed
 pub record IsAllowed (may_expire : Bool) (most : ℕ) (events : List Event) : Type 0 where
   pub interrupts : count_by is_interrupt events ≤ most
   pub expiries : may_expire ≡ false → count_by is_expiry events ≡ 0

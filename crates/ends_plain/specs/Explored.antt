@@ -6,8 +6,8 @@ use Rattle.ends_plain.specs.declared.config.Config.{Config}
 use Rattle.ends_plain.specs.declared.config.Setting.{Setting}
 use Rattle.ends_plain.specs.Configs.{next, can, start}
 
--- the states are those that a search found from the start of the program, and what any event leads
--- to from the first so many is among them
+-- a search found these states from the start of the program, and any event leads from each of the
+-- first `closed` states to one of them
 pub record IsExplored (g : Setting) (states : List Config) (origins : List Origin) (closed : ℕ)
     : Type 0 where
   pub begins : Begins (start g) states

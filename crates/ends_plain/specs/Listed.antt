@@ -31,7 +31,7 @@ pub record IsShownBy (g : Setting) (states : List Config) (f : Found) : Type 0 w
 abbrev pub AreShown : Setting → List Config → List Found → Type 0
 AreShown g states found = (f : Found) → Contains found f → IsShownBy g states f
 
--- of the first n states, each end that is shown is among these
+-- each end that one of the first n states shows is among these
 abbrev pub HasShown : List Config → ℕ → List PlainState → Type 0
 HasShown states n ends =
     (k : ℕ) (d : Config) → k < n → is_end (shown (slice_index_or states k d).position) ≡ true

@@ -68,7 +68,7 @@ pub struct Found {
     pub trace: Vec<Event>,
 }
 
-/// The ends that were found, each once, among so many states. Where `whole` is true, these are the
+/// The ends that were found, each once, among `states` states. If `whole` is true, these are the
 /// ends of all schedules.
 #[derive(Drop)]
 pub struct Ends {

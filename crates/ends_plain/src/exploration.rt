@@ -49,7 +49,7 @@ impl Exploration {
     ///
     /// # Errors
     ///
-    /// There is no memory. What was found is given back to the allocator.
+    /// Memory ran out. The states found so far are given back to the allocator.
     pub fn advance(self, alloc: Global, count: usize) -> Result<Exploration, AllocError>
         ensures { IfOk result (λ x. x ≡ self) }
     {

@@ -1,4 +1,4 @@
-//! Every end that a program can come to, over all schedules.
+//! Every end that a program can reach, over all schedules.
 #![tactic(auto)]
 
 pub mod config;

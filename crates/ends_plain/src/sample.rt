@@ -24,7 +24,7 @@ pub struct Sample {
     pub unfinished: u64,
 }
 
-/// How many schedules are tried, from which seed, and how many events one has at most.
+/// How many schedules are tried, from which seed, and the limit for the events of one schedule.
 #[derive(Clone, Copy, Debug)]
 pub struct Sampling {
     pub schedules: u64,

@@ -108,7 +108,7 @@ way_back next can states back o at place from h d =
 
 -- ---- one event
 
--- what the state made of the one at k is, is there
+-- the state that an event makes from the state at k is there
 pub there : {S : Type 0} (next : S → Event → S) (old new : List S) (k : ℕ) (x s : S) (e : Event) → k < length old → x ≡ slice_index_or old k x → s ≡ next x e → Contains new s → Follows next old k e new
 there next old new k x s e within is made h d =
     let same : next (slice_index_or old k d) e ≡ s = ap (λ y. next y e) (get_or_default old k d x within ∙ sym is) ∙ sym made in

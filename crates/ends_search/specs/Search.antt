@@ -60,16 +60,16 @@ pub record Begins {S : Type 0} (start : S) (states : List S) : Type 0 where
 
 -- ---- what states lead to
 
--- what the event leads to from the older state at k is there
+-- the event leads from the older state at k to a state that is there
 abbrev pub Follows : {S : Type 0} → (S → Event → S) → List S → ℕ → Event → List S → Type 0
 Follows {S} next old k e new = (d : S) → Contains new (next (slice_index_or old k d) e)
 
--- so of any event that can come
+-- this holds for any event that can come
 abbrev pub LeadsInto : {S : Type 0} → (S → Event → S) → (S → Event → Bool) → List S → ℕ → List S
     → Type 0
 LeadsInto next can old k new = (e : Event) → CanAt can old k e → Follows next old k e new
 
--- so of the first so many states
+-- this holds for each of the first n states
 abbrev pub IsClosed : {S : Type 0} → (S → Event → S) → (S → Event → Bool) → List S → ℕ → Type 0
 IsClosed next can states n = (k : ℕ) → k < n → LeadsInto next can states k states
 
@@ -78,8 +78,8 @@ pub record Grows {S : Type 0} (old new : List S) : Type 0 where
   pub more : List S
   pub same : new ≡ old ++ more
 
--- a search so far: it has a first state, each other one was found from an older one, and what any
--- event leads to from the first so many states is among them
+-- A search so far. It has a first state. Each other state was found from an older one. Any event
+-- leads from each of the first `closed` states to one of the states.
 pub record IsSearched {S : Type 0} (next : S → Event → S) (can : S → Event → Bool)
     (states : List S) (origins : List Origin) (closed : ℕ) : Type 0 where
   pub some : 0 < length states

@@ -8,7 +8,7 @@ const NOWHERE: usize = usize::MAX;
 /// How many chains there are at first.
 const FIRST_CHAINS: usize = 1024;
 
-/// Places in chains by hash. There are at least as many chains as half of the places.
+/// Places in chains by hash. There are at least half as many chains as places.
 #[derive(Drop)]
 pub struct Index {
     heads: Vec<usize>,
@@ -65,7 +65,7 @@ impl Index {
         self.next_of(behind, hash)
     }
 
-    /// Puts a place in front of the chain of its hash; returns the one that was in front.
+    /// Puts a place in front of the chain of its hash. Returns the place that was in front.
     fn put(&mut self, place: usize, hash: u64) -> usize {
         let chain = chain_of(hash, self.heads.len());
         let front = self.heads.get(chain).copied().unwrap_or(NOWHERE);
@@ -75,7 +75,7 @@ impl Index {
         front
     }
 
-    /// Twice as many chains.
+    /// Doubles the number of chains.
     fn grow(&mut self, alloc: Global) -> Result<(), AllocError> {
         let chains = self.heads.len().saturating_mul(2);
         self.heads = Vec::from_elem(alloc, NOWHERE, chains)?;

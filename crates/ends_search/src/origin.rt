@@ -2,7 +2,7 @@
 
 use sts_model::Event;
 
-/// By an event, from the state at this place.
+/// Where a state came from: an event, and the place of the state before it.
 #[derive(Clone, Copy, Debug, PartialEq, Eq)]
 pub struct Origin {
     pub parent: usize,

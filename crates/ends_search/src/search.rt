@@ -14,7 +14,7 @@ use sts_model::Event;
 /// What a search found so far.
 #[derive(Drop)]
 pub struct Space<S> {
-    /// The states, in the order in which they were found.
+    /// The states, in the order of their discovery.
     pub states: Vec<S>,
     /// How each of them was found.
     pub origins: Vec<Origin>,
@@ -46,8 +46,8 @@ fn is_known<S: Machine>(states: &[S], index: &Index, state: &S, hash: u64) -> bo
     false
 }
 
-/// Adds the state that an event leads to from the one at a place, unless it is there. It returns
-/// `false` where there is no room for it.
+/// Adds the state that an event leads to from the state at a place, unless it is there already.
+/// Returns `false` if there is no room for it.
 fn add<S: Machine>(
     alloc: Global,
     setting: &S::Setting,
@@ -149,12 +149,12 @@ pub fn begin<S: Machine>(
     })
 }
 
-/// The search after `count` more states were expanded, or all that there are, or as many as there
-/// is room for.
+/// The search after `count` more states were expanded. It stops earlier if no state or no room is
+/// left.
 ///
 /// # Errors
 ///
-/// There is no memory. What was found is given back to the allocator.
+/// Memory ran out. The states found so far are given back to the allocator.
 pub fn advance<S: Machine>(
     alloc: Global,
     setting: &S::Setting,
@@ -201,7 +201,7 @@ pub fn advance<S: Machine>(
     })
 }
 
-/// A list of events that leads from the first state to the one at this place.
+/// A list of events that leads from the first state to the state at this place.
 ///
 /// # Errors
 ///

@@ -16,7 +16,7 @@ use sts_args::{LineError, text_of, told, trace_of, unknown};
 ///
 /// # Errors
 ///
-/// Memory was refused, help was asked for, or the words are mistaken: then the text says how.
+/// Memory ran out, help was asked for, or the words are mistaken: then the text says how.
 pub fn line<'a>(alloc: Global, words: &'a [&'a str]) -> Result<Asked<'a>, LineError>
     ensures asked { IfOk result (Asks (map (λ w. w.now) words.entry.now)) }
     ensures refused { IfErr result (Refuses (map (λ w. w.now) words.entry.now)) }

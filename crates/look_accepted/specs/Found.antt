@@ -5,7 +5,7 @@ use Rattle.sts_code.specs.Program.{Program}
 use Rattle.look_accepted.specs.declared.node.Node.{Node}
 use Rattle.look_accepted.specs.Nodes.{Comes, followers}
 
--- a control path comes to each of these
+-- a control path reaches each of these nodes
 abbrev pub AreFound : Program → ℕ → List Node → Type 0
 AreFound p f nodes = (n : Node) → Contains nodes n → Comes p f n
 
@@ -25,7 +25,7 @@ abbrev pub IsSpread : Program → ℕ → List Node → ℕ → List Node → Ty
 IsSpread p f old at new =
     (d m : Node) → Contains (followers p f (slice_index_or old at d)) m → Contains new m
 
--- these are all the nodes that control paths come to
+-- these are the nodes that control paths reach, and no others
 pub record AreAll (p : Program) (f : ℕ) (nodes : List Node) : Type 0 where
   pub found : AreFound p f nodes
   pub all : (n : Node) → Comes p f n → Contains nodes n

@@ -1,9 +1,9 @@
 -- Where the control paths of a function can be, with the typestate there and what is known of the
 -- thread's first binding (this project's own).
 --
--- JDK 25 keeps with a scope the bindings of the thread that opened it. It can't tell that they are
--- the same again behind the thread's first binding: before it the thread has none, and behind it
--- an empty list of them. So a scope counts that was open when the thread made its first binding.
+-- JDK 25 keeps with a scope the bindings of the thread that opened it. Before its first binding a
+-- thread has none; after that binding has ended, it has an empty list. The JDK can't see that the
+-- two are the same. So it matters which scopes were open when the thread made its first binding.
 use Rattle.std.specs.Prelude.{ℕ, List, [], ◌∷◌, ◌++◌, map, length, Bool, Option, Some, None}
 use Rattle.std.specs.Prelude.{Result, Ok, Err, nat_lt, nat_le, if◌then◌else◌}
 use Rattle.std.specs.List.{Contains, list_any}
@@ -26,7 +26,7 @@ needs_key p f = list_any (λ (needed : Bool). needed) (routine p f).needs
 abbrev pub start_mark : Program → ℕ → Option ℕ
 start_mark p f = if needs_key p f then Some 0 else None
 
--- the first binding is made where so many entries are open
+-- a first binding sets the mark to the number of open entries
 abbrev pub first_mark : Instr → ℕ → Option ℕ
 first_mark (Bind k) entries = Some entries
 first_mark _ entries = None
@@ -48,7 +48,7 @@ first_node p f = record { pc = 0; state = entry p f; mark = start_mark p f }
 abbrev pub along : Instr → Node → ℕ × TypeState → Node
 along i n e = record { pc = e.0; state = e.1; mark = next_mark i n.state e.1 n.mark }
 
--- the edges, none where a cause holds
+-- the edges; if a cause holds, there is none
 abbrev pub edge_list : Result (List (ℕ × TypeState)) Cause → List (ℕ × TypeState)
 edge_list (Ok out) = out
 edge_list (Err c) = []
@@ -70,7 +70,7 @@ followers p f n =
     then edge_nodes p f n ++ turn_nodes n (back_of (instr_at (routine p f).code n.pc) n.state)
     else []
 
--- a control path of the function comes to the node
+-- a control path of the function reaches the node
 pub data Comes (p : Program) (f : ℕ) : Node → Type 0 where
   first : Comes p f (first_node p f)
   then : (from to : Node) → Comes p f from → Contains (followers p f from) to → Comes p f to

@@ -10,8 +10,8 @@ use Rattle.look_accepted.specs.Relying.{Relies}
 abbrev pub IsPlain : Program → ℕ → ℕ → Type 0
 IsPlain p f pc = (r : Reliance) → ¬ Relies p f pc r
 
--- of so many places of a function those where the instruction relies on such a rule, with the rule,
--- in order: all of these, and no other
+-- the notes on the first places of a function: each place where the instruction relies on such a
+-- rule, with the rule, in order, and no other place
 pub data NotesTo (p : Program) (f : ℕ) : ℕ → List Note → Type 0 where
   none : NotesTo p f 0 []
   plain : (pc : ℕ) {notes : List Note} → NotesTo p f pc notes → IsPlain p f pc
@@ -25,7 +25,7 @@ pub record AddsNotes (p : Program) (f count : ℕ) (before after : List Note) : 
   pub right : NotesTo p f count notes
   pub added : after ≡ before ++ notes
 
--- of so many functions
+-- the notes on the first functions
 pub data NotesOf (p : Program) : ℕ → List Note → Type 0 where
   none : NotesOf p 0 []
   more : (f : ℕ) {before notes : List Note} → NotesOf p f before → NotesTo p f (size p f) notes

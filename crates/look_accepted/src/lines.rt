@@ -45,7 +45,7 @@ fn say_note(
 ///
 /// # Errors
 ///
-/// Memory was refused; a part of them may then stand in `out`.
+/// Memory ran out; `out` may then have a part of them.
 pub fn note_lines(
     alloc: Global,
     out: &mut Vec<u8>,

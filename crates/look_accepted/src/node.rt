@@ -10,8 +10,8 @@ use std::alloc::{AllocError, Global};
 use sts_code::{Instr, Program, code_of};
 use sts_types::{TypeState, edges, entry};
 
-/// A place that a control path can come to, with the typestate there, and how many of the open
-/// entries were open before the thread's first binding, if there was one.
+/// A place that a control path can reach, with the typestate there. If the thread has made its
+/// first binding, `mark` is the number of entries that were open then and still are.
 #[derive(Drop)]
 pub struct Node {
     pub pc: usize,
@@ -70,7 +70,7 @@ pub fn is_same(one: &Node, other: &Node) -> bool
     one.pc == other.pc && one.mark == other.mark && one.state.is_same(&other.state)
 }
 
-/// The first binding is made where so many entries are open.
+/// The mark after an instruction: a first binding sets it to the number of open entries.
 fn first_mark(instr: Instr, entries: usize) -> Option<usize>
     ensures { result ≡ def.first_mark instr entries }
 {
@@ -153,7 +153,7 @@ fn add_edges(
 ///
 /// # Errors
 ///
-/// Memory was refused.
+/// Memory ran out.
 pub fn followers(
     alloc: Global,
     program: &Program,

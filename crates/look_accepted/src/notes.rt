@@ -78,7 +78,7 @@ fn add_notes(
 ///
 /// # Errors
 ///
-/// Memory was refused.
+/// Memory ran out.
 pub fn all_notes(alloc: Global, program: &Program) -> Result<Vec<Note>, AllocError>
     ensures { IfOk result (λ v. def.AreNotes program.now v.items) }
 {

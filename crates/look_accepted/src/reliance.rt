@@ -13,7 +13,7 @@ use sts_types::TypeState;
 pub enum Reliance {
     /// A `join` comes after an interrupted one.
     SecondJoin,
-    /// A `fork` comes behind a thread's first binding, which was made after the scope was opened.
+    /// A `fork` comes after a thread's first binding, which was made after the scope was opened.
     FirstBinding,
     /// A value or a code is read after a timeout.
     LateRead,
@@ -48,7 +48,7 @@ fn late_subtask(state: &TypeState, kind: SlotKind) -> Option<Reliance>
     }
 }
 
-/// Is the scope in this slot one of so many outermost entries?
+/// Is the scope in this slot one of the `outer` outermost entries?
 fn is_outer(entries: &Stack<TypedEntry, 16>, slot: u8, outer: usize) -> bool
     ensures { result ≡ def.is_outer slot outer entries.now }
 {

@@ -1,4 +1,4 @@
-//! All nodes that the control paths of a function come to.
+//! All nodes that the control paths of a function reach.
 
 ghost use Rattle.std.specs.Prelude.{◌≡◌, ◌<◌, true, length, IfOk};
 ghost use Rattle.std.specs.List.{Contains};
@@ -53,11 +53,11 @@ fn expand(
     Ok(())
 }
 
-/// All nodes that the control paths of a function come to.
+/// All nodes that the control paths of a function reach.
 ///
 /// # Errors
 ///
-/// Memory was refused.
+/// Memory ran out.
 pub fn search(alloc: Global, program: &Program, function: u32) -> Result<Vec<Node>, AllocError>
     requires { function < length program.now.routines }
     ensures { IfOk result (λ v. def.AreAll program.now function v.items) }

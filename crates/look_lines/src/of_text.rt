@@ -32,7 +32,7 @@ fn traced(
 ///
 /// # Errors
 ///
-/// Memory was refused.
+/// Memory ran out.
 pub fn viewed(
     alloc: Global,
     wanted: Wanted,

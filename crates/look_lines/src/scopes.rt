@@ -38,7 +38,7 @@ pub fn phase_word(phase: Phase) -> &'static str
 ///
 /// # Errors
 ///
-/// Memory was refused; a part of it may then stand in `out`.
+/// Memory ran out; `out` may then have a part of it.
 pub fn scope_place(out: &mut String, records: &Records, s: u32) -> Result<(), AllocError>
     ensures { OnOk result (string_bytes out.new
         ≡ string_bytes out.old ++ def.scope_place s (model.scope_at records.now s)) }
@@ -98,7 +98,7 @@ fn scope_block(out: &mut String, full: bool, records: &Records, s: u32) -> Resul
 ///
 /// # Errors
 ///
-/// Memory was refused; a part of them may then stand in `out`.
+/// Memory ran out; `out` may then have a part of them.
 pub fn scope_lines(out: &mut String, full: bool, records: &Records) -> Result<(), AllocError>
     ensures { OnOk result (string_bytes out.new
         ≡ string_bytes out.old ++ def.scope_lines full records.now records.now.scopes 0) }

@@ -97,7 +97,7 @@ fn rest_words(out: &mut String, world: &World, t: u32) -> Result<(), AllocError>
 ///
 /// # Errors
 ///
-/// Memory was refused; a part of it may then stand in `out`.
+/// Memory ran out; `out` may then have a part of it.
 pub fn stand_words(
     out: &mut String,
     program: &Program,
@@ -121,7 +121,7 @@ pub fn stand_words(
 ///
 /// # Errors
 ///
-/// Memory was refused; a part of it may then stand in `out`.
+/// Memory ran out; `out` may then have a part of it.
 pub fn under_words(out: &mut String, scope: Option<u32>) -> Result<(), AllocError>
     ensures { OnOk result (string_bytes out.new ≡ string_bytes out.old ++ def.under_words scope) }
 {
@@ -262,7 +262,7 @@ fn task_block(
 ///
 /// # Errors
 ///
-/// Memory was refused; a part of them may then stand in `out`.
+/// Memory ran out; `out` may then have a part of them.
 pub fn task_lines(
     out: &mut String,
     program: &Program,

@@ -29,7 +29,7 @@ pub struct Wanted {
 ///
 /// # Errors
 ///
-/// Memory was refused; a part of them may then stand in `out`.
+/// Memory ran out; `out` may then have a part of them.
 pub fn lines(out: &mut String, watch: &Watch<'_>, full: bool) -> Result<(), AllocError>
     ensures { OnOk result (string_bytes out.new
         ≡ string_bytes out.old ++ def.lines_of full watch.now) }
@@ -44,7 +44,7 @@ pub fn lines(out: &mut String, watch: &Watch<'_>, full: bool) -> Result<(), Allo
 ///
 /// # Errors
 ///
-/// Memory was refused; a part of it may then stand in `out`.
+/// Memory ran out; `out` may then have a part of it.
 pub fn event_words(out: &mut String, event: Event) -> Result<(), AllocError>
     ensures { OnOk result (string_bytes out.new ≡ string_bytes out.old ++ event_text event) }
 {
@@ -69,7 +69,7 @@ fn event_line(out: &mut String, n: usize, event: Event, is_counted: bool) -> Res
 ///
 /// # Errors
 ///
-/// Memory was refused.
+/// Memory ran out.
 pub fn after<'p>(
     alloc: Global,
     program: &'p Program,
@@ -165,7 +165,7 @@ fn after_each(
 ///
 /// # Errors
 ///
-/// Memory was refused.
+/// Memory ran out.
 pub fn view(
     alloc: Global,
     program: &Program,

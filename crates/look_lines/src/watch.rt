@@ -74,7 +74,7 @@ impl<'p> Watch<'p> {
     ///
     /// # Errors
     ///
-    /// Memory was refused.
+    /// Memory ran out.
     pub fn start(alloc: Global, program: &'p Program) -> Result<Watch<'p>, AllocError>
         ensures { IfOk result (λ w. w ≡ watched program.now []) }
     {
@@ -145,7 +145,7 @@ impl<'p> Watch<'p> {
     ///
     /// # Errors
     ///
-    /// Memory was refused; it stands as before.
+    /// Memory ran out; the machine is unchanged.
     pub fn apply(&mut self, alloc: Global, event: Event) -> Result<(), AllocError>
         ensures ok { OnOk result (self.new ≡ after_event self.old event) }
         ensures err { OnErr result (self.new ≡ self.old) }

@@ -25,7 +25,7 @@ pub(crate) enum Asked {
 ///
 /// # Errors
 ///
-/// Memory was refused.
+/// Memory ran out.
 pub(crate) fn print(
     alloc: Global,
     asked: Asked,

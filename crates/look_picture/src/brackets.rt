@@ -176,7 +176,7 @@ fn scope_cell(
 ///
 /// # Errors
 ///
-/// Memory was refused; a part of it may then stand in `out`.
+/// Memory ran out; `out` may then have a part of it.
 pub fn scope_cells(
     out: &mut String,
     before: &Records,

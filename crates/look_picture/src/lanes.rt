@@ -221,7 +221,7 @@ fn task_cell(
 ///
 /// # Errors
 ///
-/// Memory was refused; a part of it may then stand in `out`.
+/// Memory ran out; `out` may then have a part of it.
 pub fn task_cells(
     out: &mut String,
     program: &Program,
@@ -276,7 +276,7 @@ fn lane_name(
 ///
 /// # Errors
 ///
-/// Memory was refused; a part of it may then stand in `out`.
+/// Memory ran out; `out` may then have a part of it.
 pub fn lane_names(out: &mut String, program: &Program, records: &Records) -> Result<(), AllocError>
     ensures { OnOk result (string_bytes out.new
         ≡ string_bytes out.old ++ def.lane_names program.now records.now records.now.tasks 0) }

@@ -27,7 +27,7 @@ fn traced(alloc: Global, program: &Program, trace: &[u8]) -> Result<Output, Allo
 ///
 /// # Errors
 ///
-/// Memory was refused.
+/// Memory ran out.
 pub fn drawn(alloc: Global, text: &[u8], trace: &[u8]) -> Result<Output, AllocError>
     ensures { IfOk result (λ o. o ≡ def.text_output (judged text.now) trace.now) }
 {

@@ -340,7 +340,7 @@ fn framed(
 ///
 /// # Errors
 ///
-/// Memory was refused.
+/// Memory ran out.
 pub fn picture(alloc: Global, program: &Program, events: &[Event]) -> Result<Output, AllocError>
     ensures { IfOk result (λ o. o ≡ def.picture_output program.now events.now) }
 {

@@ -204,7 +204,7 @@ fn say_parts(alloc: Global, out: &mut Vec<u8>, named: &Named<'_>) -> Result<(), 
 ///
 /// # Errors
 ///
-/// Memory was refused; a part of them may then stand in `out`.
+/// Memory ran out; `out` may then have a part of them.
 pub(crate) fn difference_lines(
     alloc: Global,
     out: &mut Vec<u8>,

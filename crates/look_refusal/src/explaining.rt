@@ -48,7 +48,7 @@ impl Model for Output {
 ///
 /// # Errors
 ///
-/// Memory was refused.
+/// Memory ran out.
 pub fn text_fault(alloc: Global, error: AsmError, text: &[u8]) -> Result<Output, AllocError>
     ensures { (read : Result AnyProgram AsmError) → FailsAt error error.kind read
         → IfOk result (λ o. (read ≡ Err error) × (o ≡ def.fault_output error text.now)) }

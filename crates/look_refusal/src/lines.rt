@@ -16,7 +16,7 @@ use sts_rules::Cause;
 ///
 /// # Errors
 ///
-/// Memory was refused; a part of them may then stand in `out`.
+/// Memory ran out; `out` may then have a part of them.
 pub(crate) fn refused_lines(
     alloc: Global,
     out: &mut Vec<u8>,

@@ -162,7 +162,7 @@ fn write_part(out: &mut String, part: Part, state: &TypeState) -> Result<(), All
 ///
 /// # Errors
 ///
-/// Memory was refused.
+/// Memory ran out.
 pub(crate) fn part_words(alloc: Global, part: Part, state: &TypeState) -> Result<String, AllocError>
     ensures words { IfOk result (λ s. string_bytes s ≡ def.part_words part state.now) }
 
@@ -178,7 +178,7 @@ pub(crate) fn part_words(alloc: Global, part: Part, state: &TypeState) -> Result
 ///
 /// # Errors
 ///
-/// Memory was refused.
+/// Memory ran out.
 pub(crate) fn part_name(alloc: Global, part: Part) -> Result<String, AllocError>
     ensures { IfOk result (λ s. string_bytes s ≡ def.part_name part) }
 {

@@ -449,7 +449,7 @@ fn reached_remedy(
 ///
 /// # Errors
 ///
-/// Memory was refused.
+/// Memory ran out.
 pub(crate) fn remedy_for(
     alloc: Global,
     program: &Program,

@@ -164,7 +164,7 @@ fn first_ways(
 ///
 /// # Errors
 ///
-/// Memory was refused.
+/// Memory ran out.
 pub(crate) fn state_at(
     alloc: Global,
     program: &Program,
@@ -286,7 +286,7 @@ fn turn_at(program: &Program, function: u32, pc: u32, table: &[Option<Way>]) -> 
 ///
 /// # Errors
 ///
-/// Memory was refused.
+/// Memory ran out.
 pub fn find_meeting(
     alloc: Global,
     program: &Program,

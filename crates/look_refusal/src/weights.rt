@@ -167,7 +167,7 @@ fn say_weight(
 ///
 /// # Errors
 ///
-/// Memory was refused; a part of them may then stand in `out`.
+/// Memory ran out; `out` may then have a part of them.
 pub(crate) fn weight_lines(
     alloc: Global,
     out: &mut Vec<u8>,

@@ -95,7 +95,7 @@ fn say_end(alloc: Global, out: &mut Vec<u8>, end: End) -> Result<(), AllocError>
 ///
 /// # Errors
 ///
-/// Memory was refused; a part of it may then stand in `out`.
+/// Memory ran out; `out` may then have a part of it.
 pub(crate) fn say_state(
     alloc: Global,
     out: &mut Vec<u8>,
@@ -251,7 +251,7 @@ fn say_if_living(
 ///
 /// # Errors
 ///
-/// Memory was refused; a part of them may then stand in `out`.
+/// Memory ran out; `out` may then have a part of them.
 pub(crate) fn say_living(
     alloc: Global,
     out: &mut Vec<u8>,

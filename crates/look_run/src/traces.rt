@@ -99,7 +99,7 @@ fn say_fault(
 ///
 /// # Errors
 ///
-/// Memory was refused.
+/// Memory ran out.
 pub(crate) fn trace_fault(
     alloc: Global,
     text: &[u8],

@@ -37,7 +37,7 @@ passed_said test wanted next word words left before space more e f n g h =
     ∙ ap (λ (b : Bool). said_if before (if b then option_map (behind word) (first_failing test (after wanted word) left) else Some (first_wrong (wanted_there wanted) word))) (sym f)
     ∙ ap (λ (ws : List (List ℕ)). said_if before (first_failing test wanted ws)) (sym e)
 
--- one that doesn't is told
+-- a word that doesn't pass is reported
 pub failed_said : (test : Wanted → List ℕ → Bool) (wanted : Wanted) (word : List ℕ) (words left : List (List ℕ)) (before : List ℕ) → words ≡ word ∷ left → test wanted word ≡ false → said_if before (first_failing test wanted words) ≡ before ++ stop_words (first_wrong (wanted_there wanted) word)
 failed_said test wanted word words left before e f =
     ap (λ (ws : List (List ℕ)). said_if before (first_failing test wanted ws)) e
@@ -69,7 +69,7 @@ named_there : (o : Option Draft) (word : List ℕ) → at_option (λ (d : Draft)
 named_there None word = refl
 named_there (Some d) word = refl
 
--- of the functions before one the name is that of the function at a place, or of a later one
+-- a name that an earlier function has is that of the function at this place, or of a later one
 pub earlier_more : (o : Outline) (f i : ℕ) (word : List ℕ) (b : Bool) → i < f → is_named (name_at o i) word ≡ b → list_any (λ (d : Draft). bytes_eq d.name word) (drop i (take f o.done)) ≡ (b || list_any (λ (d : Draft). bytes_eq d.name word) (drop (i + 1) (take f o.done)))
 earlier_more o f i word b small e =
     let p : Draft → Bool = λ (d : Draft). bytes_eq d.name word in
@@ -78,7 +78,7 @@ earlier_more o f i word b small e =
     ∙ ap (λ (c : Bool). c || list_any p (drop (suc i) (take f o.done))) (ap (at_option p) (get_taken f i o.done small) ∙ named_there (slice_get o.done i) word ∙ e)
     ∙ ap (λ (n : ℕ). b || list_any p (drop n (take f o.done))) next
 
--- none of them is left
+-- no earlier function is left
 pub none_earlier : (f : ℕ) (ds : List Draft) (p : Draft → Bool) → list_any p (drop f (take f ds)) ≡ false
 none_earlier zero ds p = refl
 none_earlier (suc f) [] p = refl

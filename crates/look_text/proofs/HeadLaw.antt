@@ -27,7 +27,7 @@ abbrev opened : Option Draft → List (List (List ℕ))
 opened None = []
 opened (Some d) = opening d ∷ []
 
--- of the ended functions and the open one
+-- the openings of the ended functions and of the open one
 abbrev openings : Outline → List (List (List ℕ))
 openings o = map opening o.done ++ opened o.current
 

@@ -1,4 +1,4 @@
--- A label stands behind the last instruction of its function where it names none.
+-- A label comes after the last instruction of its function if and only if it names none.
 use Rattle.std.proofs.Common.{◌≡◌, ℕ, suc, ◌+◌, ◌-◌, ◌<◌, ◌≤◌, List, [], ◌∷◌, ◌++◌, Some, None, Bool, true, false, length, slice_get, get_or, drop, refl, sym, ap, subst, ◌∙◌, length-append, arith}
 use Rattle.std.specs.Prelude.{Ok, Err, Option, is_some, nat_lt, nat_le, codes, ◌==◌, ◌&&◌, ◌||◌, not, ⊤}
 use Rattle.std.specs.List.{All, before_first, list_all, list_any}
@@ -24,7 +24,7 @@ use Rattle.look_text.proofs.HeadLaw.{either_way}
 abbrev giving : List ℕ → ℕ → List ℕ → Bool
 giving text passed name = are_giving (drop passed (lines text)) name
 
--- of a function that is ended
+-- the labels of a function that is ended
 abbrev Settled : List ℕ → Draft → Type 0
 Settled text d = 0 < length d.code → (name : List ℕ) → giving text (last_line d.code) name ≡ names_none d name
 

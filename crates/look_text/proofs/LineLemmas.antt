@@ -1,4 +1,4 @@
--- Texts that are said one after the other (for callers too), and a wrong word behind others.
+-- Texts that are appended in a row (for callers too), and a wrong word after others.
 use Rattle.std.proofs.Common.{◌≡◌, ℕ, List, [], ◌∷◌, ◌++◌, true, sym, ap, ◌∙◌, append_assoc}
 use Rattle.std.specs.Prelude.{if◌then◌else◌, Some, codes}
 use Rattle.std.proofs.lemmas.List.{append-nil}
@@ -7,7 +7,7 @@ use Rattle.look_text.specs.declared.wanted.Wanted.{Wanted}
 use Rattle.look_text.specs.Wanted.{Stop, stop, behind, fits, after}
 use Rattle.look_text.specs.Wrong.{bracketed, expected_words, wanted_words, stop_words}
 
--- three texts, one after the other
+-- three texts are appended in a row
 pub three_said : (a b d before one two three : List ℕ) → one ≡ before ++ a → two ≡ one ++ b → three ≡ two ++ d → three ≡ before ++ (a ++ (b ++ d))
 three_said a b d before one two three e f g =
     g ∙ ap (λ (x : List ℕ). x ++ d) (f ∙ ap (λ (x : List ℕ). x ++ b) e ∙ append_assoc before a b)
@@ -25,7 +25,7 @@ stop_behind wanted word left e = ap (λ b. if b then behind word (stop (after wa
 pub missing_words : (wanted : Wanted) → stop_words (stop wanted []) ≡ codes " []" ++ expected_words wanted
 missing_words wanted = ap (λ (x : List ℕ). codes " []" ++ x) (append-nil (expected_words wanted))
 
--- a word that is what is wanted was said after a space
+-- a word that is as expected was appended after a space
 pub one_word_said : (wanted next : Wanted) (word : List ℕ) (words left : List (List ℕ)) (before space after_word : List ℕ) → words ≡ word ∷ left → fits wanted word ≡ true → next ≡ after wanted word → space ≡ before ++ 32 ∷ [] → after_word ≡ space ++ word → after_word ++ stop_words (stop next left) ≡ before ++ stop_words (stop wanted words)
 one_word_said wanted next word words left before space after_word e f n g h =
     let rest : List ℕ = stop_words (stop (after wanted word) left) in

@@ -1,4 +1,4 @@
--- The words of a line up to the one that names nothing.
+-- The words of a line up to the first that names nothing.
 use Rattle.std.proofs.Common.{◌≡◌, ℕ, ◌+◌, ◌<◌, List, [], ◌∷◌, ◌++◌, Option, Some, None, true, refl, sym, ap, subst, ◌∙◌, ◌⊎◌, inl, inr, append_assoc, arith}
 use Rattle.std.proofs.Common.{length, drop, get_or}
 use Rattle.std.specs.Prelude.{option_map, if◌then◌else◌, is_some, IfSome, slice_get, codes, ◌≤◌}
@@ -88,7 +88,7 @@ functions_stop_at o f small =
     let at = draft_at o.done f small in
     ap (functions_stop o.functions) at.1.1 ∙ ap (λ (x : Option Stop). option_or x (functions_stop o.functions (drop (f + 1) o.done))) (sym (stop_of o f at.0 at.1.0))
 
--- what was said of the line is what is said of the text
+-- the words that were appended for the line are those of the text
 pub text_said : (o : Outline) (f : ℕ) (s : Sentence) (words : List (List ℕ)) (before here new : List ℕ) → f < length o.done → functions_stop o.functions o.done ≡ functions_stop o.functions (drop f o.done) → StopsAt (names_at o f) (sentences_of (slice_get o.done f)) s → words ≡ s.words → here ≡ before → IfSome (line_stop (names_at o f) words) (λ t. new ≡ here ++ named_line t) → new ≡ before ++ wrong_line (functions_stop o.functions o.done)
 text_said o f s words before here new small left stops same_words same said_there =
     let rest : Option Stop = functions_stop o.functions (drop (f + 1) o.done) in

@@ -17,7 +17,7 @@ use Rattle.sts_asm.specs.Source.{sentences_of, labels_of}
 use Rattle.sts_asm.specs.Text.{each, instr_at, routine_of, checked, program_of}
 use Rattle.look_text.specs.Places.{LinesSayInstructions, FunctionsSayInstructions}
 
--- what is read of a list at some number is read of its element there
+-- an element of the result was read from the element of the list with the same number
 abbrev ReadAt : {A B : Type 0} → (A → Result B AsmError) → List A → List B → Type 0
 ReadAt {A} {B} read xs ys = (n : ℕ) (y : B) → slice_get ys n ≡ Some y → (x : A) × ((slice_get xs n ≡ Some x) × (read x ≡ Ok y))
 

@@ -1,4 +1,4 @@
--- The line of an instruction stands in its text.
+-- The line of an instruction is in its text.
 use Rattle.std.proofs.Common.{◌≡◌, ℕ, suc, ◌+◌, ◌-◌, ◌<◌, ◌≤◌, List, [], ◌∷◌, ◌++◌, Some, None, Bool, true, false, length, slice_get, refl, sym, ap, subst, arith}
 use Rattle.std.specs.Prelude.{Result, Ok, Err, Option, is_some, nat_lt, if◌then◌else◌, codes, ◌==◌, ◌&&◌}
 use Rattle.std.specs.List.{All, before_first, list_all}
@@ -16,8 +16,8 @@ use Rattle.sts_asm.specs.Source.{sentences_of, words_of}
 use Rattle.look_text.specs.Places.{Stands, LinesStandInText}
 use Rattle.look_text.proofs.PlaceLemmas.{line_says}
 
--- each line of an instruction of the outline, of the ended functions and of the open one, stands in
--- the text
+-- each line of an instruction of the outline is in the text, for the ended functions and the open
+-- one
 abbrev AllStand : List ℕ → Outline → Type 0
 AllStand text o = All (λ (d : Draft). All (Stands text) d.code) o.done × All (Stands text) (sentences_of o.current)
 
@@ -28,7 +28,7 @@ pub after : {A B E S : Type 0} (r : Result A E) (f : A → Result B E) (y : B) �
 after (Ok x) f y e k = k x refl e
 after (Err z) f y e k = absurd (cc)
 
--- what was Ok is the one or the other
+-- if a choice is Ok, the chosen side is
 pub either : {A E S : Type 0} (b : Bool) (x y : Result A E) (z : A) → (if b then x else y) ≡ Ok z → (x ≡ Ok z → S) → (y ≡ Ok z → S) → S
 either true x y z e f g = f e
 either false x y z e f g = g e
@@ -119,7 +119,7 @@ outlined_stand text o e =
     let same : p ≡ o = cc in
     subst (AllStand text) same (lines_read_stand text 1 empty (lines text) p (omega arith) first (All-nil (λ (d : Draft). All (Stands text) d.code), All-nil (Stands text)) r))))
 
--- what holds of all holds of the one there
+-- a property of all elements is one of each
 pub one_of : {A : Type 0} (P : A → Type 0) (xs : List A) (n : ℕ) (x : A) → All P xs → slice_get xs n ≡ Some x → P x
 one_of P xs n x all g = subst P (get_or_from_slice_get xs n x x g) (all n x (slice_get_within xs n x g))
 

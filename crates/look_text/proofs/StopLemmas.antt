@@ -1,4 +1,4 @@
--- Where a line stops being what is wanted, word by word.
+-- Where a line stops being as expected, word by word.
 use Rattle.std.proofs.Common.{◌≡◌, ℕ, Bool, true, false, cond, List, [], ◌∷◌, ◌++◌, refl, sym, ap, ◌∙◌}
 use Rattle.std.specs.Prelude.{Option, Some, None, Result, Ok, Err, is_some}
 use Rattle.sts_asm.specs.declared.fault.AsmKind.{AsmKind}
@@ -10,7 +10,7 @@ use Rattle.look_text.specs.declared.wanted.Wanted.TheVariants as w
 use Rattle.look_text.specs.Wanted.{Stop, stop, behind, fits, after}
 use Rattle.look_text.specs.WrongWord.{Allows, IsWrong, wrong, missing, Stops}
 
--- Where reading begins, and what is wanted there.
+-- The state in which reading begins, and what is expected there.
 abbrev pub StopsFrom : {X : Type 0} → Wanted → (List (List ℕ) → Result X AsmKind) → Type 0
 StopsFrom {X} s read = (kind : AsmKind) (words : List (List ℕ)) → read words ≡ Err kind → Stops read kind words (stop s words)
 
@@ -36,7 +36,8 @@ one_before read next kind first words before word shift (wrong v rest e l s) =
 one_before read next kind first words before word shift (missing e l) =
     missing (ap (λ (xs : List (List ℕ)). first ∷ xs) e) (l.0, λ q. l.1 (sym (shift (before ++ l.0)) ∙ q))
 
--- One word is wanted: another one settles the fault; behind it reading goes on.
+-- One word is expected. Another word makes the fault certain; after the expected one reading goes
+-- on.
 pub one_on : {X : Type 0} (s : Wanted) (read : List (List ℕ) → Result X AsmKind) (kind : AsmKind) (word : List ℕ) (words : List (List ℕ)) → Allows read kind []
     → (fits s word ≡ false → (bad : AsmKind) × ((more : List (List ℕ)) → read (word ∷ more) ≡ Err bad))
     → (fits s word ≡ true → (next : List (List ℕ) → Result X AsmKind) × (((more : List (List ℕ)) → read (word ∷ more) ≡ next more) × (next words ≡ Err kind → Stops next kind words (stop (after s word) words))))
@@ -61,7 +62,7 @@ one s read allowed bad good kind [] e = missing refl (allowed kind)
 one s read allowed bad good kind (word ∷ words) e =
     one_on s read kind word words (allowed kind) (bad word) (λ q. let g = good word q in (g.0, (g.1.0, λ h. g.1.1 kind words h))) e
 
--- One word is wanted that spells something.
+-- A word is expected that spells something.
 pub spelled : {A X : Type 0} (s : Wanted) (f : List ℕ → Option A) (kind : AsmKind) (next : A → List (List ℕ) → Result X AsmKind) (read : List (List ℕ) → Result X AsmKind)
     → ((kind : AsmKind) → Allows read kind []) → ((word : List ℕ) → fits s word ≡ is_some (f word))
     → ((word : List ℕ) (more : List (List ℕ)) → read (word ∷ more) ≡ (wanted kind (f word) more >>= λ a. next a.0 a.1))

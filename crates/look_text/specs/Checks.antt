@@ -12,7 +12,7 @@ use Rattle.sts_asm.specs.Source.{sentence_at, name_at, args_at, words_at}
 use Rattle.sts_list.specs.Spelling.{after_spaces}
 use Rattle.look_text.specs.Heads.{head_at}
 
--- `, line 9: close s0`, the words as they stand in the text
+-- `, line 9: close s0`, with the words as they are in the text
 abbrev pub line_words : ℕ → List (List ℕ) → List ℕ
 line_words line words = codes ", line " ++ decimal line ++ codes ":" ++ after_spaces words
 
@@ -32,8 +32,8 @@ abbrev pub instr_place : Option Sentence → List ℕ
 instr_place None = []
 instr_place (Some s) = line_words s.line s.words
 
--- the function that a check is about: the first one too many, the last one, or the one that it
--- names
+-- the function that a check is about: the first one too many, the last one, or the one named by the
+-- error
 abbrev pub failing : Outline → ℕ → CodeCause → ℕ
 failing o f code.TooManyFunctions = MAX_FUNCTIONS
 failing o f code.NoMain = length o.done - 1

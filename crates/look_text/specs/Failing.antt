@@ -29,7 +29,7 @@ abbrev pub is_slot : Option ℕ → Bool
 is_slot None = false
 is_slot (Some s) = nat_le s LAST_SLOT
 
--- or none?
+-- or is it `_`?
 abbrev pub is_handle : Option (Option ℕ) → Bool
 is_handle None = false
 is_handle (Some None) = true
@@ -40,7 +40,7 @@ abbrev pub is_positive : Option ℕ → Bool
 is_positive None = false
 is_positive (Some n) = nat_lt 0 n
 
--- is the word in the range of what is wanted?
+-- is the word in the range of what is expected?
 abbrev pub is_in_range : Wanted → List ℕ → Bool
 is_in_range w.Byte word = is_some (number_up_to LAST_SLOT word)
 is_in_range w.Turns word = is_positive (number_up_to MAX_TURNS word)
@@ -55,7 +55,7 @@ is_in_range w.TallySlot word = is_slot (slot word)
 is_in_range w.Args word = is_some (number_up_to MAX_ARGS word)
 is_in_range wanted word = true
 
--- is a label wanted?
+-- is a label expected?
 abbrev pub is_label : Wanted → Bool
 is_label w.Label = true
 is_label w.JoinFailed = true
@@ -73,12 +73,12 @@ passes text o f code.DuplicateName w.Name word = not (is_earlier o f word)
 passes text o f code.BadRange wanted word = is_in_range wanted word
 passes text o f cause wanted word = true
 
--- what is wanted instead of a word that doesn't
+-- what is expected instead of a word that doesn't pass
 abbrev pub wanted_there : Wanted → Wanted
 wanted_there w.Function = w.KnownFunction
 wanted_there wanted = if is_label wanted then w.KnownLabel else wanted
 
--- the first word that doesn't pass a test, and what is wanted there
+-- the first word that doesn't pass a test, and what is expected there
 abbrev pub first_failing : (Wanted → List ℕ → Bool) → Wanted → List (List ℕ) → Option Stop
 first_failing test wanted [] = None
 first_failing test wanted (word ∷ rest) =

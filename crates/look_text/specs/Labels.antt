@@ -1,4 +1,4 @@
--- The labels that stand behind the last instruction of a function (this project's own).
+-- The labels that come after the last instruction of a function (this project's own).
 use Rattle.std.specs.Prelude.{◌≡◌, ℕ, ◌-◌, ◌<◌, List, [], ◌∷◌, drop, length, Bool, false, not}
 use Rattle.std.specs.Prelude.{◌&&◌, ◌||◌, nat_le, Option, Some, None, Ok, slice_get, codes}
 use Rattle.std.specs.List.{list_any}
@@ -39,7 +39,7 @@ number_of (Some s) = s.line
 abbrev pub last_line : List Sentence → ℕ
 last_line code = number_of (slice_get code (length code - 1))
 
--- does this label of a function stand behind the last of its instructions?
+-- does this label of a function come after the last of its instructions?
 abbrev pub is_behind : List ℕ → Outline → ℕ → List ℕ → Bool
 is_behind text o f name =
     are_giving (drop (last_line (sentences_of (slice_get o.done f))) (lines text)) name
@@ -49,7 +49,7 @@ abbrev pub names_none : Draft → List ℕ → Bool
 names_none d name =
     list_any (λ (m : Mark). bytes_eq m.name name && nat_le (length d.code) m.at) d.labels
 
--- In a function with instructions a label stands behind the last one where it names none.
+-- In a function with instructions, a label comes after the last one if and only if it names none.
 abbrev pub BehindNamesNone : Type 0
 BehindNamesNone =
     (text : List ℕ) (o : Outline) (f : ℕ) (d : Draft) (name : List ℕ) → outlined text ≡ Ok o

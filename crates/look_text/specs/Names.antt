@@ -24,7 +24,7 @@ is_label names word = is_some (marked names.labels word)
 abbrev pub is_maybe_label : Names → List ℕ → Bool
 is_maybe_label names word = bytes_eq word (codes "-") || is_label names word
 
--- does the word name what is wanted there? Where no name is wanted, any word does.
+-- does the word name what is expected there? If no name is expected, any word does.
 abbrev pub names_some : Names → Wanted → List ℕ → Bool
 names_some names w.Label word = is_label names word
 names_some names w.Function word = is_some (marked names.functions word)
@@ -35,7 +35,7 @@ names_some names w.CaseSuccess word = is_label names word
 names_some names w.CaseFailed word = is_label names word
 names_some names wanted word = true
 
--- what is wanted instead of a name that there isn't
+-- what is expected instead of a name that isn't in the text
 abbrev pub known : Wanted → Wanted
 known w.Function = w.KnownFunction
 known wanted = w.KnownLabel
@@ -48,7 +48,7 @@ name_stop names wanted (word ∷ rest) =
     then option_map (behind word) (name_stop names (after wanted word) rest)
     else Some (first_wrong (known wanted) word)
 
--- the first of a line, behind the first word of its instruction
+-- the first one of a line, after the first word of its instruction
 abbrev pub line_stop : Names → List (List ℕ) → Option Stop
 line_stop names [] = None
 line_stop names (word ∷ rest) =
@@ -70,8 +70,8 @@ functions_stop functions (d ∷ rest) =
 abbrev pub unknown_name : Outline → Option Stop
 unknown_name o = functions_stop o.functions o.done
 
--- The first word of a text that names nothing stands in the line in which the assembler finds an
--- unknown name, and is the word at which it finds it.
+-- The first word of a text that names nothing is in the line where the assembler finds an unknown
+-- name, and is the word that it finds.
 abbrev pub UnknownNamesStop : Type 0
 UnknownNamesStop =
     (text : List ℕ) (o : Outline) (e : AsmError) → outlined text ≡ Ok o → judged text ≡ Err e

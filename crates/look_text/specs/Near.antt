@@ -26,7 +26,7 @@ is_one_apart (x ∷ xs) [] = length (x ∷ xs) == 1
 is_one_apart (x ∷ xs) (y ∷ ys) =
     if x == y then is_one_apart xs ys else is_one_off (x ∷ xs) (y ∷ ys)
 
--- one of them begins with the other, and is longer
+-- one of them is longer, and begins with the second one
 abbrev pub begins_other : List ℕ → List ℕ → Bool
 begins_other [] ys = nat_lt 0 (length ys)
 begins_other (x ∷ xs) [] = true

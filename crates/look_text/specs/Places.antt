@@ -1,4 +1,4 @@
--- What the line of an instruction has to do with it (this project's own).
+-- The lines of instructions: how each line fits its instruction (this project's own).
 use Rattle.std.specs.Prelude.{◌≡◌, ℕ, ◌<◌, ◌≤◌, List, Some, Ok, length, slice_get, slice_index_or}
 use Rattle.sts_code.specs.Program.{Program, Routine, routine, no_routine}
 use Rattle.sts_code.specs.declared.instr.Instr.{Instr}
@@ -13,7 +13,8 @@ use Rattle.sts_asm.specs.Text.{each, routine_of, judged}
 abbrev pub Says : Outline → ℕ → Sentence → Instr → Type 0
 Says o f s i = instr_of (Some (names_at o f)) s.words ≡ Ok i
 
--- Each instruction of the program that a text spells has a line in the text, whose words spell it.
+-- Each instruction of the program that a text spells has a line in the text, and the words of the
+-- line spell it.
 abbrev pub LinesSayInstructions : Type 0
 LinesSayInstructions =
     (text : List ℕ) (p : Program) (o : Outline) (f pc : ℕ) (i : Instr) → judged text ≡ Ok p
@@ -34,7 +35,7 @@ abbrev pub Stands : List ℕ → Sentence → Type 0
 Stands text s =
     (0 < s.line) × (s.line ≤ length (lines text)) × (words_at text s.line ≡ s.words)
 
--- Each line of an instruction stands in the text by its number, with its words.
+-- Each line of an instruction is in the text, by its number and with its words.
 abbrev pub LinesStandInText : Type 0
 LinesStandInText =
     (text : List ℕ) (o : Outline) (f pc : ℕ) (s : Sentence) → outlined text ≡ Ok o

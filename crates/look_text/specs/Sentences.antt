@@ -16,7 +16,7 @@ use Rattle.look_text.specs.Wanted.{begins_line}
 use Rattle.look_text.specs.declared.wanted.Wanted.{Wanted}
 use Rattle.look_text.specs.declared.wanted.Wanted.TheVariants as wanted
 
--- why functions are no program, C1 to C7; of a bad range that of an instruction
+-- why functions are no program, C1 to C7; the sentence for a bad range is that of an instruction
 abbrev pub code_sentence : CodeCause → List ℕ
 code_sentence code.TooManyFunctions = codes "there are more than 64 functions"
 code_sentence code.TooLong = codes "the function has more than 4096 instructions"
@@ -26,8 +26,8 @@ code_sentence code.NoMain = codes "the text must end with a function main 0, wit
 code_sentence code.BadRange = codes "a number here is out of its range"
 code_sentence code.DuplicateName = codes "an earlier function has the same name"
 
--- the same by the function that the check is of: its arguments, if there is one, and whether it has
--- the instruction
+-- like `code_sentence`, and by the function: its arguments, if there is one, and whether it has the
+-- instruction
 abbrev pub check_sentence : CodeCause → Option ℕ → Bool → List ℕ
 check_sentence code.BadRange args has_instr =
     if takes_too_many args then codes "a function takes at most 8 arguments"

@@ -1,4 +1,5 @@
--- What has to stand at each place of a line, and where a line stops being so (this project's own).
+-- What is expected at each place of a line, and where a line stops being as expected (this
+-- project's own).
 use Rattle.std.specs.Prelude.{ℕ, ◌^◌, ◌-◌, ◌==◌, Bool, false, ◌||◌, List, [], ◌∷◌, codes}
 use Rattle.std.specs.Prelude.{Option, Some, None, is_some, if◌then◌else◌}
 use Rattle.std.specs.Str.{bytes_eq}
@@ -42,7 +43,7 @@ begins_line word =
     || (bytes_eq word (codes "profile") || (is_some (label_of word)
     || is_some (mnemonic_of word))))
 
--- is the word what is wanted?
+-- is the word what is expected?
 abbrev pub fits : Wanted → List ℕ → Bool
 fits w.First word = begins_line word
 fits w.Inner word = false
@@ -82,7 +83,7 @@ fits w.Profile word = is_profile (number_up_to 2 word)
 
 -- ---- what comes next
 
--- behind the first word of an instruction
+-- what is expected after the first word of an instruction
 abbrev pub of_mnemonic : Option Mnemonic → Wanted
 of_mnemonic None = w.Nothing
 of_mnemonic (Some (m.Plain instr)) = w.Nothing
@@ -97,11 +98,11 @@ of_mnemonic (Some m.Join) = w.JoinSlot
 of_mnemonic (Some m.Case) = w.CaseSlot
 of_mnemonic (Some m.Tally) = w.TallySlot
 
--- behind the first word of a line in a function: behind a label nothing
+-- what is expected after the first word of a line in a function: nothing after a label
 abbrev pub after_inner : List ℕ → Wanted
 after_inner word = if is_some (label_of word) then w.Nothing else of_mnemonic (mnemonic_of word)
 
--- behind the first word of a line
+-- what is expected after the first word of a line
 abbrev pub after_first : List ℕ → Wanted
 after_first word =
     if bytes_eq word (codes "func") then w.Name
@@ -109,7 +110,7 @@ after_first word =
     else (if bytes_eq word (codes "profile") then w.Profile
     else after_inner word))
 
--- what is wanted behind a word that is what was wanted
+-- what is expected after a word that is as expected
 abbrev pub after : Wanted → List ℕ → Wanted
 after w.First word = after_first word
 after w.OpenSlot word = w.Joiner
@@ -133,8 +134,8 @@ after wanted word = w.Nothing
 
 -- ---- where it stops
 
--- the words before the wrong one, the wrong one (none, where one is missing), and what is wanted
--- there
+-- the words before the wrong one, the wrong word itself (none, if a word is missing), and what is
+-- expected there
 pub record Stop : Type 0 where
   pub before : List (List ℕ)
   pub word : Option (List ℕ)
@@ -143,7 +144,7 @@ pub record Stop : Type 0 where
 abbrev pub behind : List ℕ → Stop → Stop
 behind word s = record { before = word ∷ s.before; word = s.word; wanted = s.wanted }
 
--- the first word that isn't what is wanted there
+-- the first word that isn't what is expected there
 abbrev pub stop : Wanted → List (List ℕ) → Stop
 stop wanted [] = record { before = []; word = None; wanted = wanted }
 stop wanted (word ∷ rest) =

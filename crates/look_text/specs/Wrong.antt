@@ -69,7 +69,7 @@ abbrev pub byte_words : ℕ → ℕ → List ℕ
 byte_words column byte =
     codes "at column " ++ decimal column ++ codes ": byte " ++ decimal byte ++ codes "\n"
 
--- of a line, whose first column has this number, the first byte that isn't allowed
+-- the first byte of a line that isn't allowed; the line's first column has this number
 abbrev pub byte_line : ℕ → List ℕ → List ℕ
 byte_line column [] = []
 byte_line column (byte ∷ rest) =
@@ -79,7 +79,8 @@ abbrev pub byte_line_of : Option (List ℕ) → List ℕ
 byte_line_of None = []
 byte_line_of (Some line) = byte_line 1 line
 
--- the form of a line that begins with these words: that of `join`, whose labels go by their order
+-- the form of a line that begins with these words; only `join` has a form here, as its labels are
+-- known by their order
 abbrev pub form_line : List (List ℕ) → List ℕ
 form_line [] = []
 form_line (word ∷ rest) = if bytes_eq word (codes "join") then join_form ++ codes "\n" else []

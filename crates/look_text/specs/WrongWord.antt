@@ -11,18 +11,18 @@ use Rattle.sts_asm.specs.declared.fault.AsmError.{AsmError}
 use Rattle.look_text.specs.declared.wanted.Wanted.TheVariants.{First}
 use Rattle.look_text.specs.Wanted.{Stop, stop}
 
--- Whatever stands behind these words, reading finds this fault.
+-- Whatever comes after these words, reading finds this fault.
 abbrev pub Settles : {X : Type 0} → (List (List ℕ) → Result X AsmKind) → AsmKind
     → List (List ℕ) → Type 0
 Settles read kind words = (more : List (List ℕ)) → read (words ++ more) ≡ Err kind
 
--- Some words may stand behind these with which reading doesn't find this fault.
+-- Some words can come after these so that reading doesn't find this fault.
 abbrev pub Allows : {X : Type 0} → (List (List ℕ) → Result X AsmKind) → AsmKind
     → List (List ℕ) → Type 0
 Allows read kind words = (more : List (List ℕ)) × (read (words ++ more) ≢ Err kind)
 
--- The fault of these words is of the word behind the ones before: those allow a line without it,
--- and with this word it is settled. Where it is of no word, one is missing behind the last.
+-- The word that causes the fault of these words. The words before it allow a line without the
+-- fault; with this word every line has it. If no word causes it, one is missing after the last.
 pub data IsWrong {X : Type 0} (read : List (List ℕ) → Result X AsmKind) (kind : AsmKind)
     (words before : List (List ℕ)) : Option (List ℕ) → Type 0 where
   wrong : (word : List ℕ) → (rest : List (List ℕ)) → words ≡ before ++ word ∷ rest
@@ -30,7 +30,7 @@ pub data IsWrong {X : Type 0} (read : List (List ℕ) → Result X AsmKind) (kin
       → IsWrong read kind words before (Some word)
   missing : words ≡ before → Allows read kind before → IsWrong read kind words before None
 
--- where a line stops being what is wanted is where reading finds its fault
+-- a line stops being as expected where reading finds its fault
 abbrev pub Stops : {X : Type 0} → (List (List ℕ) → Result X AsmKind) → AsmKind
     → List (List ℕ) → Stop → Type 0
 Stops read kind words s = IsWrong read kind words s.before s.word
@@ -39,7 +39,7 @@ Stops read kind words s = IsWrong read kind words s.before s.word
 abbrev pub IsOfOperand : AsmKind → Type 0
 IsOfOperand kind = (kind ≡ BadNumber) ⊎ (kind ≡ BadOperands)
 
--- The first word of a line that isn't what is wanted there is the one at which the assembler finds
+-- The first word of a line that isn't what is expected there is the word where the assembler finds
 -- the fault of an operand, after the lines before.
 abbrev pub OperandsStop : Type 0
 OperandsStop =

@@ -123,12 +123,12 @@ fn say_check_place(
     say_instr(alloc, out, outline.sentence(error.function, error.pc))
 }
 
-/// Where a program check fails: in which function, and at the line of its head or of an
+/// The place where a program check fails: the function, and the line of its head or of an
 /// instruction.
 ///
 /// # Errors
 ///
-/// Memory was refused; a part of it may then stand in `out`.
+/// Memory ran out; `out` may then have a part of it.
 #[tactic(auto, using(crate::proofs::HeadLemmas::functions_short))]
 pub(crate) fn say_code_place(
     alloc: Global,

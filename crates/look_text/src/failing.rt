@@ -128,7 +128,7 @@ fn wanted_there(wanted: Wanted) -> Wanted
     }
 }
 
-/// Appends the words up to the first that doesn't pass the check, and what is wanted there.
+/// Appends the words up to the first that doesn't pass the check, and what is expected there.
 fn say_failing<'a>(
     alloc: Global,
     out: &mut Vec<u8>,
@@ -190,7 +190,7 @@ fn check_words<'a>(outline: &Outline<'a>, error: CodeError, text: &'a [u8]) -> W
 ///
 /// # Errors
 ///
-/// Memory was refused; a part of it may then stand in `out`.
+/// Memory ran out; `out` may then have a part of it.
 #[tactic(auto, using(crate::proofs::HeadLemmas::functions_short))]
 pub(crate) fn check_line(
     alloc: Global,

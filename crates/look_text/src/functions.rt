@@ -10,7 +10,7 @@ use sts_asm::{AsmError, AsmKind, Outline, outlined};
 ///
 /// # Errors
 ///
-/// Memory was refused.
+/// Memory ran out.
 pub(crate) fn functions_of<'a>(
     alloc: Global,
     text: &'a [u8],

@@ -16,7 +16,7 @@ fn is_head<'a>(words: Words<'a>) -> bool
     }
 }
 
-/// How many functions are to be passed behind a line.
+/// The number of functions to pass over after a line.
 fn left_behind(is_head: bool, left: usize) -> usize
     requires { is_head ≡ true → 0 < left }
     ensures { result ≡ (if is_head then left - 1 else left) }

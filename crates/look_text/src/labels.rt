@@ -1,4 +1,4 @@
-//! The labels that stand behind the last instruction of a function.
+//! The labels that come after the last instruction of a function.
 
 ghost use Rattle.std.specs.Prelude.{◌≡◌, [], drop, slice_get, MatchOption};
 ghost use Rattle.std.specs.Option.{option_copied};
@@ -56,7 +56,7 @@ fn are_giving(text: &[u8], name: &[u8]) -> bool
     !is_end(words_at(rest, 1)) && gives(words_at(rest, 1), name)
 }
 
-/// What stands behind so many lines, if there are more.
+/// The text after the first `count` lines, if there are more.
 fn behind_lines(text: &[u8], count: u32) -> Option<&[u8]>
     ensures { MatchOption result (drop count (lines text.now) ≡ [])
         (λ rest. lines rest.now ≡ drop count (lines text.now)) }
@@ -93,7 +93,7 @@ fn last_line(outline: &Outline<'_>, function: u32) -> u32
     number_of(code.get(code.len().saturating_sub(1)))
 }
 
-/// Does this label of a function stand behind the last of its instructions?
+/// Does this label of a function come after the last of its instructions?
 pub(crate) fn is_behind(outline: &Outline<'_>, function: u32, text: &[u8], name: &[u8]) -> bool
     ensures { result ≡ def.is_behind text.now outline.now function name.now }
 {

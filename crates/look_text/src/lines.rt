@@ -18,7 +18,7 @@ use sts_text::Words;
 ///
 /// # Errors
 ///
-/// Memory was refused.
+/// Memory ran out.
 pub fn say(out: &mut Vec<u8>, text: &str) -> Result<(), AllocError>
     ensures { OnOk result (out.new.items ≡ out.old.items ++ text.now) }
 {
@@ -54,7 +54,7 @@ pub(crate) fn say_line<'a>(
 ///
 /// # Errors
 ///
-/// Memory was refused; a part of it may then stand in `out`.
+/// Memory ran out; `out` may then have a part of it.
 pub fn say_place(
     alloc: Global,
     out: &mut Vec<u8>,
@@ -158,7 +158,7 @@ fn say_fault_part(
 ///
 /// # Errors
 ///
-/// Memory was refused; a part of them may then stand in `out`.
+/// Memory ran out; `out` may then have a part of them.
 pub fn fault_lines(
     alloc: Global,
     out: &mut Vec<u8>,

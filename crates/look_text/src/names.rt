@@ -15,7 +15,7 @@ fn is_maybe_label(outline: &Outline<'_>, function: usize, word: &[u8]) -> bool
     word == b"-".as_slice() || outline.has_label(function, word)
 }
 
-/// Does the word name what is wanted there, in this function? Where no name is wanted, any word
+/// Does the word name what is expected there, in this function? If no name is expected, any word
 /// does.
 pub fn names_some(outline: &Outline<'_>, function: usize, wanted: Wanted, word: &[u8]) -> bool
     ensures { result ≡ def.names_some (names_at outline.now function) wanted word.now }
@@ -30,7 +30,7 @@ pub fn names_some(outline: &Outline<'_>, function: usize, wanted: Wanted, word: 
     }
 }
 
-/// What is wanted instead of a name that there isn't.
+/// What is expected instead of a name that isn't in the text.
 pub fn known(wanted: Wanted) -> Wanted
     ensures { result ≡ def.known wanted }
 {

@@ -97,7 +97,7 @@ fn is_one_apart(word: &[u8], known: &[u8]) -> bool
     known.len() == 1
 }
 
-/// Does one of the words begin with the other, and is longer?
+/// Is one of the words longer, and begins with the second one?
 #[tactic(auto, using(crate::proofs::NearLemmas::begins_on))]
 fn begins_other(word: &[u8], known: &[u8]) -> bool
     ensures { result ≡ def.begins_other word.now known.now }

@@ -1,5 +1,5 @@
-//! What each fault of a text says, and what is expected at each place, in a sentence: the one
-//! table of them.
+//! The only table of the sentences about a text: one for each fault, and one for what is expected
+//! at each place.
 
 ghost use Rattle.std.specs.Prelude.{◌≡◌, IfOk};
 ghost use Rattle.std.specs.Option.{option_copied};
@@ -14,7 +14,7 @@ use sts_asm::{AsmKind, Outline, words_at};
 use sts_code::{CodeCause, CodeError};
 use sts_text::Words;
 
-/// Why functions are no program, C1 to C7; of a bad range that of an instruction.
+/// Why functions are no program, C1 to C7. The sentence for a bad range is that of an instruction.
 fn code_sentence(code: CodeCause) -> &'static str
     ensures { result.now ≡ def.code_sentence code }
 {
@@ -48,7 +48,7 @@ fn check_sentence(code: CodeCause, args: Option<u8>, has_instr: bool) -> &'stati
     }
 }
 
-/// By the functions of a text, if they were read.
+/// The sentence of a failed check, which depends on the functions of the text if they were read.
 fn checked_sentence(outline: Option<&Outline<'_>>, error: CodeError) -> &'static str
     ensures { result.now ≡ def.checked_sentence (option_copied outline.entry) error }
 {
@@ -118,7 +118,7 @@ fn of_check(alloc: Global, error: CodeError, text: &[u8]) -> Result<&'static str
 ///
 /// # Errors
 ///
-/// Memory was refused.
+/// Memory ran out.
 pub(crate) fn fault_sentence(
     alloc: Global,
     kind: AsmKind,

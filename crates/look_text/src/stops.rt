@@ -1,18 +1,18 @@
-//! The laws that tie what is wanted to what the assembler reads.
+//! The laws that tie expected words to what the assembler reads.
 
 ghost use Rattle.look_text.specs.Names.{UnknownNamesStop};
 ghost use Rattle.look_text.specs.WrongWord.{OperandsStop};
 
-/// Where a line stops being what is wanted the assembler finds the fault of an operand: with the
-/// words before it the line might go on without this fault, and with the word it can't. Nothing is
-/// done.
+/// A law: the first word of a line that isn't what is expected there is the word where the
+/// assembler finds the fault of an operand. The words before it allow a line without this fault;
+/// with the word no line does. The function itself does nothing.
 pub fn operands_stop()
     ensures { OperandsStop }
 {}
 
-/// The first word of a text that names nothing is the word at which the assembler finds an unknown
-/// name: with the words before it the line might go on without this fault, and with the word it
-/// can't. Nothing is done.
+/// A law: the first word of a text that names nothing is the word where the assembler finds an
+/// unknown name. The words before it allow a line without this fault; with the word no line does.
+/// The function itself does nothing.
 pub fn unknown_names_stop()
     ensures { UnknownNamesStop }
 {}

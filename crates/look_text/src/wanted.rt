@@ -1,4 +1,4 @@
-//! What has to stand at each place of a line.
+//! What is expected at each place of a line.
 
 ghost use Rattle.std.specs.Prelude.{◌≡◌};
 ghost use Rattle.sts_text.specs.Number.{number_up_to};
@@ -9,7 +9,7 @@ use sts_asm::{Mnemonic, first_word, handle, kind_counted, label_of, one_word_joi
 use sts_code::is_name;
 use sts_text::{number, number_up_to};
 
-/// What has to stand at a place of a line.
+/// What is expected at a place of a line.
 #[derive(Clone, Copy, Debug, PartialEq, Eq)]
 pub enum Wanted {
     /// The first word of a line.
@@ -149,7 +149,7 @@ fn after_first(word: &[u8]) -> Wanted
 }
 
 impl Wanted {
-    /// Is the word what is wanted?
+    /// Is the word what is expected?
     pub fn fits(self, word: &[u8]) -> bool
         ensures { result ≡ def.fits self word.now }
     {
@@ -189,7 +189,7 @@ impl Wanted {
         }
     }
 
-    /// What is wanted behind a word that is what was wanted.
+    /// What is expected after a word that is as expected.
     pub fn after(self, word: &[u8]) -> Wanted
         ensures { result ≡ def.after self word.now }
     {
@@ -216,7 +216,7 @@ impl Wanted {
     }
 }
 
-/// What is wanted behind the first word of an instruction.
+/// What is expected after the first word of an instruction.
 pub fn operand(first: &[u8]) -> Wanted
     ensures { result ≡ def.of_mnemonic (mnemonic_of first.now) }
 {

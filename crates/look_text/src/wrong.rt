@@ -75,7 +75,7 @@ fn say_missing(out: &mut Vec<u8>, wanted: Wanted) -> Result<(), AllocError>
     say_wanted(out, wanted)
 }
 
-/// Appends the words up to the first one that isn't what is wanted there, and what is wanted.
+/// Appends the words up to the first one that isn't what is expected there, and what is expected.
 fn say_stop<'a>(out: &mut Vec<u8>, wanted: Wanted, words: Words<'a>) -> Result<(), AllocError>
     ensures { OnOk result (out.new.items ≡ out.old.items
         ++ def.stop_words (stop wanted words.entry)) }
@@ -93,7 +93,7 @@ fn say_stop<'a>(out: &mut Vec<u8>, wanted: Wanted, words: Words<'a>) -> Result<(
     say_missing(out, wanted)
 }
 
-/// Appends the words up to the first one that names nothing, and what is wanted there.
+/// Appends the words up to the first one that names nothing, and what is expected there.
 fn say_name_stop<'a>(
     out: &mut Vec<u8>,
     outline: &Outline<'_>,
@@ -283,7 +283,7 @@ fn say_place_of(out: &mut Vec<u8>, kind: AsmKind, text: &[u8], line: u32) -> Res
 ///
 /// # Errors
 ///
-/// Memory was refused; a part of it may then be in `out`.
+/// Memory ran out; `out` may then have a part of it.
 pub(crate) fn wrong_part(
     alloc: Global,
     out: &mut Vec<u8>,

@@ -10,7 +10,7 @@ use Rattle.sts_args.specs.declared.asked.Line.{Line}
 use Rattle.sts_args.specs.declared.asked.Line.TheVariants as line
 use Rattle.sts_args.specs.Command.{program}
 
--- the command's name and its files in order, but for those of options; none for the joined form
+-- the command's name and its files in order, without those of options; none for the joined form
 abbrev pub asked : Line → Option (Text × List Text)
 asked line.Joined = None
 asked (line.Verify file) = Some (codes "verify", file.now ∷ [])
@@ -84,7 +84,7 @@ pub record IsGiven (c : Text × List Row) (l : Line) : Type 0 where
 abbrev pub IsLineOf : Option (Text × List Row) → Line → Type 0
 IsLineOf found l = IsSomeAnd found (λ c. IsGiven c l)
 
--- of `run` from 1 to 16 workers are asked for
+-- a line that asks for `run` asks for 1 to 16 workers
 abbrev pub HasWorkers : Line → Type 0
 HasWorkers (line.Run file workers outside trace) = (1 ≤ workers) × (workers ≤ 16)
 HasWorkers _ = Unit {0}

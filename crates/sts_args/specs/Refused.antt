@@ -11,7 +11,7 @@ use Rattle.sts_args.specs.declared.asked.LineError.TheVariants as error
 use Rattle.sts_args.specs.Asked.{ids_of, is_run, takes_trace, workers_at}
 use Rattle.sts_args.specs.Command.{program}
 
--- an error of `clap` of this kind, as it is told
+-- the message for an error of `clap` of this kind
 abbrev pub TellsKind : ErrorKind → LineError → Type 0
 TellsKind k error.Memory = Unit {0}
 TellsKind k (error.Help text) = k ≡ kind.DisplayHelp
@@ -46,8 +46,8 @@ HasMistake kinds = (k : ErrorKind) × IsAmong k kinds × (k ≢ kind.DisplayHelp
 abbrev pub AsksForHelp : List Text → Type 0
 AsksForHelp words = (1 < length words) × IsAmong kind.DisplayHelp (fault_of program words)
 
--- `clap` finds no fault, and no command of the program with all its files either, or not from 1 to
--- 16 workers (of which the second alone ever comes)
+-- `clap` finds no fault, but the words name no command of the program with all its files; or the
+-- number of workers isn't from 1 to 16, and only this ever comes
 abbrev pub NamesNothing : List Text → Type 0
 NamesNothing words = (fault_of program words ≡ [])
     × (is_whole (subcommand_of program words) ≡ false)

@@ -2,7 +2,7 @@
 
 use std::alloc::AllocError;
 
-/// What the program is asked to do: the names of the files come as they were written.
+/// The task that a command line gives the program. Names of files are kept as they were written.
 #[derive(Clone, Copy, Debug)]
 pub enum Line<'a> {
     /// No word after the program's name: a text, a line `%` and a trace come on standard input.

@@ -1,4 +1,4 @@
-//! The commands that the program knows, as `clap` is told of them.
+//! The commands that the program knows, in the form that `clap` takes.
 
 ghost use Rattle.std.specs.Prelude.{◌≡◌, IfOk, codes, false};
 ghost use Rattle.clap.specs.Words.{app_of, new_app, rule_of, with_rule, with_subcommand};
@@ -50,7 +50,7 @@ fn workers<'a>(alloc: Global) -> Arg<'a>
 ///
 /// # Errors
 ///
-/// Memory was refused.
+/// Memory ran out.
 pub fn on_file<'a>(alloc: Global, name: &'a str, about: &'a str) -> Result<Command<'a>, AllocError>
     ensures app { IfOk result (λ c. app_of c ≡ with_rule (new_app name.entry.now) def.file_rule) }
     ensures local { IfOk result (λ c. (out-Command c).has_globals ≡ false) }
@@ -62,7 +62,7 @@ pub fn on_file<'a>(alloc: Global, name: &'a str, about: &'a str) -> Result<Comma
 ///
 /// # Errors
 ///
-/// Memory was refused.
+/// Memory ran out.
 pub fn on_trace<'a>(alloc: Global, name: &'a str, about: &'a str) -> Result<Command<'a>, AllocError>
     ensures app { IfOk result (λ c. app_of c
         ≡ with_rule (with_rule (new_app name.entry.now) def.file_rule) def.trace_rule) }
@@ -162,7 +162,7 @@ fn with_trace<'a>(
 ///
 /// # Errors
 ///
-/// Memory was refused.
+/// Memory ran out.
 pub fn program<'a>(alloc: Global) -> Result<Command<'a>, AllocError>
     ensures { IfOk result (λ c. app_of c ≡ def.program) }
 {

@@ -19,7 +19,7 @@ use sts_text::digits_up_to;
 /// As many workers as may be asked for.
 const MOST_WORKERS: u32 = 16;
 
-/// What is told of an error of `clap`.
+/// The message for an error of `clap`.
 pub fn told(error: &Error, alloc: Global) -> LineError
     ensures { TellsKind (kind_of error.now) result }
 {
@@ -43,7 +43,7 @@ pub fn told(error: &Error, alloc: Global) -> LineError
 ///
 /// # Errors
 ///
-/// Memory was refused, help was asked for, or the words are mistaken: then the text says how.
+/// Memory ran out, help was asked for, or the words are mistaken: then the text says how.
 pub fn line<'a>(alloc: Global, words: &'a [&'a str]) -> Result<asked::Line<'a>, LineError>
     ensures joined { (result ≡ Ok Joined) ↔ (length words.entry.now ≤ 1) }
     ensures asked { IfOk result (Asks (map (λ w. w.now) words.entry.now)) }
@@ -72,7 +72,8 @@ fn chosen<'a>(alloc: Global, matches: &ArgMatches<'a>) -> Result<asked::Line<'a>
     }
 }
 
-/// What is told where `clap` found no command of the program with its files, which never comes.
+/// The message for a command line where `clap` found no command of the program with its files. It
+/// never comes.
 pub fn unknown(alloc: Global) -> LineError
     ensures { (whole : Bool) → whole ≡ false → BlamesUnless whole result }
 {
@@ -175,7 +176,7 @@ fn workers_written(text: &str) -> Option<u32>
     }
 }
 
-/// What is told of a text that is no number of workers.
+/// The message for a text that is no number of workers.
 fn no_workers(alloc: Global, text: &str) -> LineError
     ensures { (whole : Bool) → whole ≡ false → BlamesUnless whole result }
 {

@@ -12,11 +12,11 @@ use Rattle.sts_output.specs.Streams.{most_of_a_text, most_of_a_stream}
 use Rattle.sts_cli.specs.Ending.{shown, without_file}
 use Rattle.sts_output.specs.declared.taking.TakeError.TheVariants.{Read}
 
--- an outcome is told whole
+-- a result with all of an outcome
 pub whole_told : (kept : Bool) (P : Outcome → Type 0) (o : Outcome) → P o → Holds kept P o
 whole_told kept P o is = record { outcome = o; is = is; output = refl; journal = λ k. refl }
 
--- an outcome of one kind, told, is one of another
+-- a result with an outcome of one kind, which is also of another kind
 pub told_as : (kept : Bool) (P Q : Outcome → Type 0) (r : Outcome) → ((o : Outcome) → P o → Q o) → Holds kept P r → Holds kept Q r
 told_as kept P Q r more h = record { outcome = h.outcome; is = more h.outcome h.is; output = h.output; journal = h.journal }
 

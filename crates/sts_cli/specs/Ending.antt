@@ -49,14 +49,14 @@ Spares same file outside None = ⊤
 Spares same file outside (Some trace) =
     Differ (same trace.now file) × DifferFrom (same trace.now) outside
 
--- what is printed of a run of a text with an outside text, whose trace spares what is read; or that
--- memory or the trace's file failed
+-- the output for a run of a text with an outside text; it may also say that memory or the trace's
+-- file failed. The trace's file isn't one of those that are read
 pub data IsPrinted (spares : Type 0) (text outside : List ℕ) (o : Output) : Type 0 where
   of_run : spares → (r : Outcome) → IsOutcomeOf text outside r → o ≡ r.output
       → IsPrinted spares text outside o
   without_file : (e : TakeError) → o ≡ failure_output e → IsPrinted spares text outside o
 
--- the same of a file's text and another file's outside events
+-- the output for a run of a file's text with another file's outside events
 pub data IsOfRun (spares : Type 0) (file outside_file : Option (List ℕ)) (o : Output) : Type 0 where
   shown : (text outside : List ℕ) → IsTakenOf file most_of_a_text text
       → IsTakenOf outside_file most_of_a_stream outside → IsPrinted spares text outside o
@@ -75,8 +75,9 @@ IsPlayed (line.Replay file trace) files same input o = IsOfTextAndTrace mode.Rep
 IsPlayed (line.Run file workers outside trace) files same input o =
     IsOfRun (Spares same file.now outside trace) (files file.now) (events_of files outside) o
 
--- what the program writes, and its status: that of the line that the words ask for, 0 after help
--- that they ask for, 2 where they are mistaken, or that memory was refused
+-- The program writes what the line of the words asks for, and has its status. If the words ask for
+-- help, it writes a text with status 0. If they are mistaken, it writes a message with status 2.
+-- Memory may also run out.
 pub data Ends (words : List Text) (files : Files) (same : SameFile) (input : Option (List ℕ))
     (s : Streams) (status : ℕ) : Type 0 where
   played : (l : Line) (o : Output) → Asks words l → IsPlayed l files same input o
@@ -87,7 +88,7 @@ pub data Ends (words : List Text) (files : Files) (same : SameFile) (input : Opt
       → Ends words files same input s status
   failed : Prints s status memory_output → Ends words files same input s status
 
--- the same from the words that were had, or not
+-- like `Ends`, from the words if they could be read
 abbrev pub EndsFrom : Result (Vec (String Global) Global) WordsError → Files → SameFile
     → Option (List ℕ) → Streams → ℕ → Type 0
 EndsFrom (Ok words) files same input s status =

@@ -23,12 +23,12 @@ use Rattle.sts_output.specs.Printed.{end_line, steps_line, threads_line, unfinis
 
 -- ---- events from outside
 
--- the first event, if it is due where the journal has so many entries
+-- the first event, if it is due when the journal has this number of entries
 abbrev pub due_event : List Due → ℕ → Option Event
 due_event [] entries = None
 due_event (d ∷ ds) entries = if nat_le d.at entries then Some d.event else None
 
--- those that are left then: one that isn't due holds back those after it
+-- the events that are left then: one that isn't due holds back those after it
 abbrev pub dues_left : List Due → ℕ → List Due
 dues_left [] entries = []
 dues_left (d ∷ ds) entries = if nat_le d.at entries then ds else d ∷ ds
@@ -66,7 +66,7 @@ pool_output pool.Memory = memory_output
 pool_output pool.SpawnRefused = record { bytes = threads_line; status = 6 }
 pool_output pool.Unfinished = record { bytes = unfinished_line; status = 6 }
 
--- what comes of a program that is accepted, or that is refused
+-- the outcomes of a program, which is accepted or refused
 pub data IsRun (p : Program) (o : Outcome) : Type 0 where
   reported : IsReported p o → IsRun p o
   failed : IsAccepted p → (e : PoolError) → o ≡ alone (pool_output e) → IsRun p o
@@ -85,7 +85,8 @@ TextRuns (Err e) outside o = o ≡ alone (text_fault_output e)
 abbrev pub IsOutcomeOf : List ℕ → List ℕ → Outcome → Type 0
 IsOutcomeOf text outside o = TextRuns (judged text) outside o ⊎ (o ≡ alone memory_output)
 
--- what is told of a run: an outcome of this kind, whose journal is held where it is kept
+-- the result of a run: it has the output of an outcome of this kind, and its journal if `kept` is
+-- true
 pub record Holds (kept : Bool) (P : Outcome → Type 0) (r : Outcome) : Type 0 where
   pub outcome : Outcome
   pub is : P outcome

@@ -1,10 +1,10 @@
-//! Laws of what is printed: each stands on a function that does nothing.
+//! Laws of the output. Each is the contract of a function that does nothing.
 
 ghost use Rattle.sts_output.specs.Output as def;
 
 use sts_verify::{Verified, verdict_is_one};
 
-/// Of an accepted program mode `replay` prints just what mode `plain` prints, for every trace.
+/// Modes `replay` and `plain` print the same for an accepted program, whatever the trace.
 pub fn replay_prints_what_plain_prints(verified: &Verified)
     ensures { def.PrintsAlike verified.now }
 {

@@ -146,7 +146,7 @@ pub(crate) fn play_traced<R: Threads + Wait + Sync, T: Write, W: Write>(
 /// trace first, which gets nothing where there is no report; then all that is printed is written to
 /// `out`. Gives the status.
 ///
-/// A write to the trace that fails is told on `out`, in place of all else.
+/// If writing the trace fails, only `error file` is written to `out`.
 ///
 /// # Errors
 ///

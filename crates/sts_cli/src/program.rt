@@ -1,5 +1,5 @@
-//! The program `sts`, but for its `main`: opens what a command line names, and writes what is
-//! printed.
+//! The program `sts`, without its `main`: opens the files that a command line names, and writes the
+//! output.
 
 ghost use Rattle.std.specs.Prelude.{◌≡◌, ◌≤◌, ◌⊎◌, IfOk, map};
 ghost use Rattle.std.specs.String.{string_bytes};
@@ -223,14 +223,15 @@ fn on_line<R: Threads + Wait + Sync, S: Sources + Sinks, W: Write>(
     }
 }
 
-/// Does what a command line asks for, its first word being the program's name, and gives the
-/// status: 0 accepted, listed, root succeeded or help; 1 root failed; 2 usage; 3 a fault of a text;
-/// 4 refused; 5 a fault of the run, or it runs still; 6 memory, a file, a stream or a thread
+/// Does what a command line asks for, and gives the status. The first word is the program's name.
+///
+/// The status is 0 for accepted, listed, a root that succeeded, and help. It is 1 if the root
+/// failed, 2 for usage, 3 for a fault of a text, and 4 for a refusal. It is 5 for a fault of the
+/// run, or if the program still runs. It is 6 if memory ran out, or a file, a stream or a thread
 /// failed.
 ///
-/// Help and usage faults are told to `err`, all else is written to `out`.
-/// `notes` gets the lines that say why a file, a text or its events failed; none of these is
-/// written.
+/// Help and usage faults are written to `err`, everything else to `out`. `notes` gets the lines
+/// that say why a file, a text or its events failed; the function doesn't write them.
 ///
 /// # Errors
 ///
@@ -294,7 +295,7 @@ pub fn run_words<R: Threads + Wait + Sync, S: Sources + Sinks, W: Write, E: Writ
     }
 }
 
-/// What is told where a person may not know that the program waits.
+/// A message for a person who may not know that the program waits.
 const WAITS: &[u8] =
     b"sts: waits for a text, a line % and a trace on standard input; --help lists the commands\n";
 
@@ -313,7 +314,7 @@ pub fn start<R: Env + Files + Input + Threads + Wait + Sync, W: Write, E: Write>
     let _for_errors = placeholder(rt);
     let words = words(rt, alloc, NAME.as_bytes());
     let mut notes = Notes::new(alloc, NAME);
-    // (the output and the status are the same where nothing can be told)
+    // (if the message can't be written, output and status are the same)
     if at_terminal && words.as_ref().is_ok_and(|words| words.len() == 1) {
         let _told = err.write_all(WAITS);
     }

@@ -1,5 +1,4 @@
--- The facts of a slice that a machine gives out, and of the machine after a slice that fits was put
--- back.
+-- The slice that a machine gives out, and the machine after a fitting slice was put back.
 use Rattle.std.proofs.Common.{◌≡◌, ℕ, ◌+◌, ◌≤◌, List, ◌++◌, Bool, false, true, Option, Some, None, refl, sym, ◌∙◌, ap, subst, get_or-set_other}
 use Rattle.std.specs.Prelude.{option_map, unwrap_or, count_by, is_some, ◌==◌, ◌↔◌, IsTrue}
 use Rattle.sts_code.specs.Program.{Program}

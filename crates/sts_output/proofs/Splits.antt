@@ -39,7 +39,7 @@ before_mark text line after e m =
     go : (parts : List (List ℕ)) (first : List ℕ) (others : List (List ℕ)) → parts ≡ first ∷ others → halves (line ∷ parts) ≡ after_line line (halves parts)
     go parts first others p = rw (p, m) refl
 
--- so many bytes of the input were read, and the rest comes after them
+-- the first n bytes of the input were read, and the rest comes after them
 pub record IsRead (input : List ℕ) (n : ℕ) (rest : List ℕ) : Type 0 where
   pub within : n ≤ length input
   pub whole : input ≡ take n input ++ rest

@@ -25,7 +25,7 @@ first most (Some xs) (Some ys) bs read long = rw (read, ← long) (sym (take-app
 pub Consumes-piece : (a b c : Option (List ℕ)) (taken piece more : List ℕ) → Consumes a b taken → more ≡ taken ++ piece → Consumes b c piece → Consumes a c more
 Consumes-piece a b c taken piece more before e after = rw e (Consumes-trans a b c taken piece before after)
 
--- what was taken is lost, and what a failed piece lost after it
+-- the bytes that were taken are lost, and so are those that a failed piece lost after them
 pub LosesUpTo-piece : {E X : Type 0} (r : Result X E) (most room : ℕ) (a b c : Option (List ℕ)) (taken : List ℕ) → length taken + room ≤ most → Consumes a b taken → LosesUpTo room b c
     → OnErr r (LosesUpTo most a c)
 LosesUpTo-piece (Ok x) most room a b c taken fits before after = tt

@@ -31,7 +31,7 @@ pub record Output : Type 0 where
   pub bytes : List ℕ
   pub status : ℕ
 
--- 0 where the root succeeded, 1 where it failed, 5 where it runs or the machine stands at a fault
+-- 0 if the root succeeded, 1 if it failed, 5 if it runs or the machine has faulted
 abbrev pub end_status : End → ℕ
 end_status (Success v) = 0
 end_status (Failed c) = 1
@@ -47,7 +47,7 @@ state_output p state steps = record {
   status = state_status state;
 }
 
--- how the machine stands after the events, and the steps that it took
+-- the state of the machine after the events, and the steps that it took
 abbrev pub run_output : Program → List Event → Output
 run_output p events = state_output p (shown (after p events)) (taken p events)
 
@@ -89,7 +89,7 @@ list_output (Err e) = text_fault_output e
 abbrev pub refused_output : Program → ℕ → ℕ → Cause → Output
 refused_output p f pc c = record { bytes = refused_line p f pc c; status = 4 }
 
--- what is printed of a program that is refused at its least place with a cause, for the least cause
+-- the output for a refused program: it names the least place with a cause, and the least cause
 -- there
 pub record IsRefused (p : Program) (output : Output) : Type 0 where
   pub function : ℕ
@@ -127,7 +127,7 @@ VerifyShows (Err e) output = output ≡ text_fault_output e
 
 -- ---- mode replay
 
--- what is printed of a program that is accepted, after these events, or that is refused
+-- the output for an accepted program after these events, or for a refused one
 pub data IsReplay (p : Program) (events : List Event) (output : Output) : Type 0 where
   accepted : IsAccepted p → output ≡ run_output p events → IsReplay p events output
   refused : IsRefused p output → IsReplay p events output
@@ -150,7 +150,7 @@ Shows mode.Replay text trace output = ReplayShows (judged text) trace output
 Shows mode.List text trace output = output ≡ list_output (judged text)
 Shows mode.Verify text trace output = VerifyShows (judged text) output
 
--- of this program modes `plain` and `replay` print the same, for every trace
+-- modes `plain` and `replay` print the same for this program, whatever the trace
 abbrev pub PrintsAlike : Program → Type 0
 PrintsAlike p = (text trace : List ℕ) (output : Output) → judged text ≡ Ok p
     → Shows mode.Replay text trace output ↔ Shows mode.Plain text trace output

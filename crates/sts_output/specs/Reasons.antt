@@ -65,7 +65,7 @@ abbrev pub shown_line : Option (List ℕ) → List ℕ
 shown_line None = []
 shown_line (Some line) = map shown_byte (take 100 line)
 
--- `, line 3: "puhs 7"`; there is none of line 0
+-- `, line 3: "puhs 7"`, or nothing for line 0
 abbrev pub place : List ℕ → ℕ → List ℕ
 place text number =
     if number == 0 then []

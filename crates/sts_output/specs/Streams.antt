@@ -17,7 +17,7 @@ most_of_a_stream = 2 ^ 64 - 1
 abbrev pub Files : Type 0
 Files = List ℕ → Option (List ℕ)
 
--- the bytes of a file of events: none where no file is named
+-- the bytes of a file of events, which is empty if no file is named
 abbrev pub events_of : Files → Option (Bor (List ℕ)) → Option (List ℕ)
 events_of files None = Some []
 events_of files (Some path) = files path.now
@@ -30,7 +30,7 @@ SameFile = List ℕ → List ℕ → Option Bool
 abbrev pub Differ : Option Bool → Type 0
 Differ same = IfSome same (λ is. is ≡ false)
 
--- a file isn't known to be the same as the one that is named, if one is
+-- a file isn't known to be the named one, if there is one
 abbrev pub DifferFrom : (List ℕ → Option Bool) → Option (Bor (List ℕ)) → Type 0
 DifferFrom same None = ⊤
 DifferFrom same (Some path) = Differ (same path.now)
@@ -47,7 +47,7 @@ pub record Prints (s : Streams) (status : ℕ) (o : Output) : Type 0 where
   pub written : Writes s.out_old s.out_new status o
   pub kept : Keeps s.err_old s.err_new
 
--- some text is told to the person at the command line, and nothing is printed
+-- some text is written to standard error, and nothing to standard output
 pub record Tells (s : Streams) (status : ℕ) (o : Output) : Type 0 where
   pub told : Writes s.err_old s.err_new status o
   pub kept : Keeps s.out_old s.out_new

@@ -58,7 +58,7 @@ impl<'a> FileError<'a> {
     ///
     /// # Errors
     ///
-    /// Memory was refused.
+    /// Memory ran out.
     pub fn line(self, alloc: Global, program: &str) -> Result<Vec<u8>, AllocError>
         ensures { IfOk result (λ line. line.items ≡ def.file_line program.now self.entry) }
     {

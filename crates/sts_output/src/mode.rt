@@ -1,4 +1,4 @@
-//! What the program is asked to do with a text.
+//! The modes: what the program can do with a text.
 
 /// What is done with a text; `Plain` and `Replay` look at the trace.
 #[derive(Clone, Copy, Debug, PartialEq, Eq)]

@@ -1,4 +1,4 @@
-//! What the person at the command line is told besides the output: a line that says why.
+//! The lines on standard error that tell a person why something failed.
 
 use crate::file_error::FileError;
 use crate::reasons::{Named, outside_reason, text_reason, trace_reason};
@@ -11,7 +11,7 @@ const STATUS_FAULT: u8 = 3;
 /// The status of a program that is refused.
 const STATUS_REFUSED: u8 = 4;
 
-/// What may come to a program: a trace or an outside text.
+/// The events that a program is run with: a trace or an outside text.
 #[derive(Clone, Copy)]
 pub enum Events<'a> {
     None,

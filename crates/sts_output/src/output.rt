@@ -32,11 +32,11 @@ impl Model for Output {
     ghost view = { λ o. record { bytes = string_bytes o.text; status = o.status } };
 }
 
-/// The output for a fault of a text; want of memory is no fault of it.
+/// The output for a fault of a text. Running out of memory is no fault of it.
 ///
 /// # Errors
 ///
-/// Memory was refused.
+/// Memory ran out.
 pub fn text_fault(alloc: Global, error: AsmError) -> Result<Output, AllocError>
     ensures { (read : Result AnyProgram AsmError) → FailsAt error error.kind read
         → IfOk result (λ o. (read ≡ Err error) × (o ≡ def.text_fault_output error)) }
@@ -49,11 +49,11 @@ pub fn text_fault(alloc: Global, error: AsmError) -> Result<Output, AllocError>
     Ok(Output { text, status: 3 })
 }
 
-/// The output for a fault of a trace; want of memory is no fault of it.
+/// The output for a fault of a trace. Running out of memory is no fault of it.
 ///
 /// # Errors
 ///
-/// Memory was refused.
+/// Memory ran out.
 pub fn trace_fault(alloc: Global, error: TraceError) -> Result<Output, AllocError>
     ensures { IfOk result (λ o. (error ≢ Memory) × (o ≡ def.trace_fault_output error)) }
 {
@@ -75,7 +75,7 @@ pub fn end_status(end: End) -> u8
     }
 }
 
-/// The status where a machine stands so.
+/// The status for a state of a machine.
 pub fn state_status(state: PlainState) -> u8
     ensures { result ≡ def.state_status state }
 {
@@ -85,7 +85,7 @@ pub fn state_status(state: PlainState) -> u8
     }
 }
 
-/// The output for how a machine stands, and for the steps that it took.
+/// The output for a state of a machine and the steps that it took.
 pub fn state_output(
     alloc: Global,
     program: &Program,

@@ -30,7 +30,7 @@ fn code_fault_line(out: &mut String, error: CodeError) -> Result<(), AllocError>
 ///
 /// # Errors
 ///
-/// Memory was refused; a part of it may then stand in `out`.
+/// Memory ran out; `out` may then have a part of it.
 pub fn text_fault_line(out: &mut String, error: AsmError) -> Result<(), AllocError>
     ensures { OnOk result (string_bytes out.new
         ≡ string_bytes out.old ++ def.text_fault_line error (code_error error.kind)) }
@@ -49,7 +49,7 @@ pub fn text_fault_line(out: &mut String, error: AsmError) -> Result<(), AllocErr
 ///
 /// # Errors
 ///
-/// Memory was refused; a part of it may then stand in `out`.
+/// Memory ran out; `out` may then have a part of it.
 pub fn trace_fault_line(out: &mut String, error: TraceError) -> Result<(), AllocError>
     ensures { OnOk result (string_bytes out.new
         ≡ string_bytes out.old ++ def.trace_fault_line error) }
@@ -89,7 +89,7 @@ fn name_of(program: &Program, function: u32) -> &str
 ///
 /// # Errors
 ///
-/// Memory was refused; a part of it may then stand in `out`.
+/// Memory ran out; `out` may then have a part of it.
 pub fn end_line(out: &mut String, end: End) -> Result<(), AllocError>
     ensures { OnOk result (string_bytes out.new ≡ string_bytes out.old ++ def.end_line end) }
 {
@@ -115,11 +115,11 @@ fn fault_line(
     writeln!(out, "fault {word} task {task} in {name} at {pc}")
 }
 
-/// The line that says how the plain machine stands.
+/// The line that says the state of the plain machine.
 ///
 /// # Errors
 ///
-/// Memory was refused; a part of it may then stand in `out`.
+/// Memory ran out; `out` may then have a part of it.
 pub fn state_line(out: &mut String, program: &Program, state: PlainState) -> Result<(), AllocError>
     ensures { OnOk result (string_bytes out.new
         ≡ string_bytes out.old ++ def.state_line program.now state) }
@@ -140,7 +140,7 @@ pub fn state_line(out: &mut String, program: &Program, state: PlainState) -> Res
 ///
 /// # Errors
 ///
-/// Memory was refused; a part of it may then stand in `out`.
+/// Memory ran out; `out` may then have a part of it.
 pub fn steps_line(out: &mut String, steps: u64) -> Result<(), AllocError>
     ensures { OnOk result (string_bytes out.new ≡ string_bytes out.old ++ def.steps_line steps) }
 {
@@ -181,7 +181,7 @@ fn instr_at(program: &Program, function: u32, pc: u32) -> Option<Instr>
 ///
 /// # Errors
 ///
-/// Memory was refused; a part of it may then stand in `out`.
+/// Memory ran out; `out` may then have a part of it.
 pub fn refused_line(
     alloc: Global,
     out: &mut String,
@@ -220,7 +220,7 @@ fn budget_lines(out: &mut String, name: &str, budgets: Budgets) -> Result<(), Al
 ///
 /// # Errors
 ///
-/// Memory was refused; a part of it may then stand in `out`.
+/// Memory ran out; `out` may then have a part of it.
 pub fn accepted_lines(
     out: &mut String,
     functions: &[Function],

@@ -9,13 +9,13 @@ use std::rt::Env;
 /// Why the words were not had.
 #[derive(Clone, Copy, Debug, PartialEq, Eq)]
 pub enum WordsError {
-    /// Memory was refused.
+    /// Memory ran out.
     Memory,
     /// A word after the program's name is no UTF-8.
     NotText,
 }
 
-/// An environment but for the program's own name, whatever it was started as.
+/// An environment with a fixed name for the program, whatever it was started as.
 #[derive(Drop)]
 struct Named<'a, R> {
     rt: &'a R,
@@ -47,7 +47,7 @@ impl<R: Env> Env for Named<'_, R> {
 ///
 /// # Errors
 ///
-/// Memory was refused, or a word after the program's name is no UTF-8.
+/// Memory ran out, or a word after the program's name is no UTF-8.
 pub fn words<R: Env>(
     rt: &R,
     alloc: Global,

@@ -181,7 +181,7 @@ fn failed_text(
 ///
 /// # Errors
 ///
-/// Memory was refused.
+/// Memory ran out.
 pub fn text_reason(
     alloc: Global,
     program: &str,
@@ -233,7 +233,7 @@ fn events_line(
 ///
 /// # Errors
 ///
-/// Memory was refused.
+/// Memory ran out.
 pub fn trace_reason(
     alloc: Global,
     program: &str,
@@ -257,7 +257,7 @@ pub fn trace_reason(
 ///
 /// # Errors
 ///
-/// Memory was refused.
+/// Memory ran out.
 pub fn outside_reason(
     alloc: Global,
     program: &str,

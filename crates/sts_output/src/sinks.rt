@@ -68,11 +68,11 @@ fn is_read<S: Sinks>(sinks: &S, path: &str, file: &str, outside: Option<&str>) -
     }
 }
 
-/// Makes a file for many small writes, if it is none of those that a run reads.
+/// Makes a file for many small writes, unless it is a file that a run reads.
 ///
 /// # Errors
 ///
-/// Memory was refused, the file could not be made, or it is `file` or `outside`: then nothing was
+/// Memory ran out, the file could not be made, or it is `file` or `outside`: then nothing was
 /// opened for writing.
 pub fn made<'a, S: Sinks>(
     alloc: Global,

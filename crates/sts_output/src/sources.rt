@@ -55,7 +55,7 @@ impl<R: Files + io::Input> Sources for Host<'_, R> {
 ///
 /// # Errors
 ///
-/// Memory was refused, or the file could not be opened or read.
+/// Memory ran out, or the file could not be opened or read.
 pub fn file<S: Sources>(alloc: Global, sources: &S, path: &str, most: u64) -> io::Result<Vec<u8>>
     ensures { IfOk result (λ taken. IsTakenOf (S.held sources.now path.now) most taken.items) }
 {

@@ -1,4 +1,4 @@
-//! Takes a reader's bytes, up to a most.
+//! Takes a reader's bytes, up to a limit.
 
 ghost use Rattle.std.specs.IoError.{error_kind};
 ghost use Rattle.std.specs.Prelude.{◌≡◌, ◌≢◌, ◌↔◌, ◌≤◌, ◌<◌, ◌++◌, IfSome, IfOk, IfErr, OnErr};
@@ -14,7 +14,7 @@ use std::io::{ErrorKind, Read};
 /// Why a reader's bytes were not had.
 #[derive(Clone, Copy, Debug, PartialEq, Eq)]
 pub enum TakeError {
-    /// Memory was refused.
+    /// Memory ran out.
     Memory,
     /// A read failed.
     Read,
@@ -65,7 +65,7 @@ fn piece(alloc: Global) -> Result<Vec<u8>, AllocError>
     vec![in alloc; 0; PIECE]
 }
 
-/// Takes a piece of at most `room` bytes, as many as one read gives; none is the reader's end.
+/// Takes the piece that one read gives, at most `room` bytes. An empty piece is the reader's end.
 fn take_piece<R: Read>(
     reader: &mut R,
     piece: &mut [u8],
@@ -91,7 +91,7 @@ fn take_piece<R: Read>(
 ///
 /// # Errors
 ///
-/// Memory was refused, which is of the kind `OutOfMemory`, or a read failed; the bytes that were
+/// Memory ran out, which is of the kind `OutOfMemory`, or a read failed; the bytes that were
 /// read before are lost.
 pub fn bytes_of<R: Read>(alloc: Global, reader: &mut R, most: u64) -> io::Result<Vec<u8>>
     ensures known { IfOk result (λ taken. IfSome (R.remaining reader.old)
@@ -117,7 +117,7 @@ pub fn bytes_of<R: Read>(alloc: Global, reader: &mut R, most: u64) -> io::Result
 ///
 /// # Errors
 ///
-/// Memory was refused, or a read failed; the bytes that were read before are lost.
+/// Memory ran out, or a read failed; the bytes that were read before are lost.
 pub fn take<R: Read>(alloc: Global, reader: &mut R, most: u64) -> Result<Vec<u8>, TakeError>
     ensures known { IfOk result (λ taken. IfSome (R.remaining reader.old)
         (λ xs. taken.items ≡ take most xs)) }

@@ -16,7 +16,7 @@ pub const MOST_OF_A_TEXT: u64 = 1_048_577;
 /// All that a trace or the input stream has, which memory ends first.
 pub const MOST_OF_A_STREAM: u64 = u64::MAX;
 
-/// What is told where a word is no text.
+/// The message for a word that is no text.
 pub const NOT_TEXT: &[u8] = b"error: a word of the command line is not UTF-8\n";
 
 /// Returns the first `most` bytes of a file, or which file failed.
@@ -38,7 +38,7 @@ fn named_file<'a, S: Sources>(
 ///
 /// # Errors
 ///
-/// Memory was refused, or the file could not be opened or read.
+/// Memory ran out, or the file could not be opened or read.
 pub fn read_text<'a, S: Sources>(
     alloc: Global,
     sources: &S,
@@ -65,7 +65,7 @@ fn events_text<'a, S: Sources>(
     }
 }
 
-/// A program's text, and the text of the events that come to it: a trace or an outside text.
+/// A program's text, and the text of its events: a trace or an outside text.
 #[derive(Drop)]
 pub struct Texts {
     pub program: Vec<u8>,
@@ -76,7 +76,7 @@ pub struct Texts {
 ///
 /// # Errors
 ///
-/// Memory was refused, or a file could not be opened or read.
+/// Memory ran out, or a file could not be opened or read.
 pub fn read_texts<'a, S: Sources>(
     alloc: Global,
     sources: &S,
@@ -97,7 +97,7 @@ pub fn read_texts<'a, S: Sources>(
 ///
 /// # Errors
 ///
-/// Memory was refused, or a read failed.
+/// Memory ran out, or a read failed.
 pub fn read_input<S: Sources>(alloc: Global, sources: &S) -> Result<Vec<u8>, FileError<'static>>
     ensures { IfOk result (λ taken. IsTakenOf (S.offered sources.now)
         def.most_of_a_stream taken.items) }
@@ -112,7 +112,7 @@ pub fn read_input<S: Sources>(alloc: Global, sources: &S) -> Result<Vec<u8>, Fil
 ///
 /// # Errors
 ///
-/// Memory was refused.
+/// Memory ran out.
 pub fn borrowed(alloc: Global, words: &[String]) -> Result<Vec<&str>, AllocError>
     ensures { IfOk result (λ ws. map (λ w. w.now) ws.items ≡ map string_bytes words.now) }
 {

@@ -24,7 +24,7 @@ use sts_rules::Cause;
 /// Why a function is refused.
 #[derive(Clone, Copy, Debug, PartialEq, Eq)]
 pub enum TypeError {
-    /// Memory was refused.
+    /// Memory ran out.
     Memory,
     /// The least place with a cause, and the least cause there.
     Refused { pc: u32, cause: Cause },

@@ -6,7 +6,7 @@ use sts_rules::Cause;
 /// Why a program is not verified. The program is given back.
 #[derive(Drop)]
 pub enum VerifyError {
-    /// Memory was refused.
+    /// Memory ran out.
     Memory(Program),
     /// The least place with a cause, function by function, and the least cause there.
     Refused {

@@ -1,5 +1,5 @@
-//! Mode `replay`: how the machine that tests nothing stands after the events of a trace, where the
-//! program is accepted.
+//! Mode `replay`: prints the state of the machine that tests nothing, after the events of a trace,
+//! if the program is accepted.
 
 ghost use Rattle.std.specs.Prelude.{◌≡◌, IfOk};
 ghost use Rattle.sts_asm.specs.Text.{judged};
@@ -17,7 +17,7 @@ use sts_plain::PlainState;
 use sts_trace::read_trace;
 use sts_verify::Verified;
 
-/// How a machine stands that comes to no fault.
+/// The state of a machine that doesn't fault.
 fn state_of(root_end: Option<End>) -> PlainState
     ensures { result ≡ ended_or_running root_end }
 {
@@ -59,7 +59,7 @@ fn traced(alloc: Global, program: Program, trace: &[u8]) -> Result<Output, Alloc
 ///
 /// # Errors
 ///
-/// Memory was refused.
+/// Memory ran out.
 pub fn replayed(alloc: Global, text: &[u8], trace: &[u8]) -> Result<Output, AllocError>
     ensures { IfOk result (λ o. def.ReplayShows (judged text.now) trace.now o) }
 {

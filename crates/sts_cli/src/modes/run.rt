@@ -176,7 +176,7 @@ fn with_outside<R: Threads + Wait + Sync>(
 ///
 /// # Errors
 ///
-/// Memory was refused.
+/// Memory ran out.
 pub(crate) fn outcome<R: Threads + Wait + Sync>(
     rt: &R,
     alloc: Global,

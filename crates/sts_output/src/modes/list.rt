@@ -13,7 +13,7 @@ use sts_asm::assemble;
 ///
 /// # Errors
 ///
-/// Memory was refused.
+/// Memory ran out.
 pub fn listed(alloc: Global, text: &[u8]) -> Result<Output, AllocError>
     ensures { IfOk result (λ o. o ≡ def.list_output (judged text.now)) }
 {

@@ -1,4 +1,5 @@
-//! Mode `plain`: how the machine that tests everything stands after the events of a trace.
+//! Mode `plain`: prints the state of the machine that tests everything, after the events of a
+//! trace.
 
 ghost use Rattle.std.specs.Prelude.{◌≡◌, IfOk};
 ghost use Rattle.sts_asm.specs.Text.{judged};
@@ -36,7 +37,7 @@ fn traced(alloc: Global, program: &Program, trace: &[u8]) -> Result<Output, Allo
 ///
 /// # Errors
 ///
-/// Memory was refused.
+/// Memory ran out.
 pub fn after_trace(alloc: Global, text: &[u8], trace: &[u8]) -> Result<Output, AllocError>
     ensures { IfOk result (λ o. o ≡ def.plain_output (judged text.now) trace.now) }
 {

@@ -29,7 +29,7 @@ fn all_budgets(alloc: Global, verified: &Verified) -> Result<Vec<Budgets>, Alloc
 ///
 /// # Errors
 ///
-/// Memory was refused.
+/// Memory ran out.
 pub fn lines(alloc: Global, verified: &Verified) -> Result<String, AllocError>
     ensures { IfOk result (λ text. def.AreLines verified.now (string_bytes text)) }
 {
@@ -64,7 +64,7 @@ fn verdict(alloc: Global, program: Program) -> Result<Output, AllocError>
 ///
 /// # Errors
 ///
-/// Memory was refused.
+/// Memory ran out.
 pub fn verified(alloc: Global, text: &[u8]) -> Result<Output, AllocError>
     ensures { IfOk result (λ o. def.VerifyShows (judged text.now) o) }
 {

@@ -3,7 +3,7 @@ use Rattle.sts_text.specs.Words.{lines}
 use Rattle.look_text.specs.Heads.{heads_from, head_at}
 use Rattle.look_text.proofs.heads.head_line.Given as goal
 
--- what is looked for stands in the rest
+-- the head is in the rest
 abbrev pub invariant-loop-after : goal.invariant-loop-after
 invariant-loop-after l = record {
   found : slice_get (heads_from l.number (lines l.rest)) l.left ≡ head_at l.text l.function;

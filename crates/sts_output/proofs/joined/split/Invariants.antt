@@ -4,7 +4,7 @@ use Rattle.sts_output.specs.Joined.{halves, halves_of}
 use Rattle.sts_output.proofs.Splits.{IsRead}
 use Rattle.sts_output.proofs.joined.split.Given as goal
 
--- what was read so far is text, and the rest is still to be split
+-- the lines so far are text, and the rest is still to be split
 abbrev pub invariant-loop-line : goal.invariant-loop-line
 invariant-loop-line l = record {
   read : IsRead l.input l.before l.rest;
