@@ -12,14 +12,15 @@ Each text and output of docs/LANGUAGE.md, docs/VERIFIER.md, docs/PATTERNS.md and
   block, and what is asked is `verify`, `list` or a trace (`0*5` is five steps of task 0, `i0` an interrupt, `x0` an
   expiry); where nothing is said of `verify` it accepts the text; a block that is no example begins with "```text";
 - a line of its tables of faults whose text is written in full;
-- what VERIFIER.md and PATTERNS.md say that is refused or accepted, also "Without `LINE`: `refused ..`" below a block;
+- a block "```diff" of VERIFIER.md or PATTERNS.md, which has a refused text and the same text mended (checks/causes.py), and
+  what PATTERNS.md says below a block: "Without `LINE`: `refused ..`";
 - a block of PATTERNS.md, which is accepted, with each trace of the table below it, written short (checks/runs.py has what
   comes by workers, and what comes of files whose bytes no row can hold);
 - each command of examples/README.md, with the files that it names.
 
 It also says where a document names a file that isn't there, where PROOFS.md names a function or a clause that its file
 doesn't have, where a document shows a line of a contract that no source has or a part of a program that no example has,
-where an example isn't shown or says that it prints something else, where a Java program is shown otherwise than it is,
+where an example isn't shown or says that it prints something else, where no document names a refused text of `examples`, where a Java program is shown otherwise than it is,
 where the figures of JDK.md aren't those of a run of jdk/check.py, where README.md counts its differences otherwise,
 where a picture isn't what its script draws, where a crate uses proofs of another one from a file that isn't called
 `*Lemmas`, where the floors of ARCHITECTURE.md don't fit crates.txt, and where the README.md of a crate doesn't name its
@@ -31,6 +32,8 @@ import os
 import re
 import subprocess
 import sys
+
+import causes as refused
 
 ROOT = os.path.dirname(os.path.dirname(os.path.realpath(__file__)))
 FOLDER = "crates/tests_rows/data"
@@ -137,26 +140,14 @@ def cells(path, first, second):
     return found
 
 
-def spelled(words):
-    """Returns the lines of a text like "`func main 0` / 33 times `push 1` / `ret / end`"."""
-    lines = []
-    for times, code in re.findall(r"(?:(\d+) times )?`([^`]*)`", words):
-        lines.append(f"{times} * {code.replace(' / ', ', ')}" if times else code)
-    return "\n".join(lines)
-
-
 def causes(path):
-    """Returns the rows of each cause: a text that is refused, and one that is accepted."""
-    found, heading = [], ""
-    for line in read(path).splitlines():
-        refused = re.fullmatch(r"- Refused: (.*) with `([^`]*)`", line)
-        accepted = re.fullmatch(r"- Accepted: (.*)", line)
-        if line.startswith("#"):
-            heading = line.strip("# ")
-        elif refused:
-            found.append(row(f"{heading}, refused", spelled(refused[1]), [("verify", f"4 {refused[2]}")]))
-        elif accepted:
-            found.append(row(f"{heading}, accepted", spelled(accepted[1]), [("verify", "0")]))
+    """Returns the rows of each text that a document mends: it is refused as is shown, and accepted then."""
+    found, titles = [], []
+    for pair in refused.pairs(path):
+        titles.append(pair.heading)
+        name = pair.heading + (f", {titles.count(pair.heading)}" if titles.count(pair.heading) > 1 else "")
+        found.append(row(f"{name}, refused", pair.refused, [("verify", f"4 {refused.verdict(pair)}")]))
+        found.append(row(f"{name}, accepted", pair.accepted, [("verify", "0")]))
     return found
 
 
@@ -355,6 +346,10 @@ def examples(path):
         said = re.search(r"^; Prints: ([^(,.]*\d)[^,]*, (steps \d+)\.", read(text), re.M)
         if text not in shown or not said or f"{said[1]} / {said[2]}" != shown[text]:
             fail(f"{text}: what it says that it prints isn't what a document shows")
+    pages = "".join(map(read, DOCUMENTS))
+    for name in sorted(os.listdir(f"{ROOT}/examples/refused")):
+        if f"examples/refused/{name})" not in pages:
+            fail(f"no document names examples/refused/{name}")
 
 
 def pictures():

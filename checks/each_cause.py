@@ -1,16 +1,17 @@
 #!/usr/bin/env python3
-"""Shows one text for each cause, fault and check to `look`, and each example, and keeps the tables of what it says of them.
+"""Shows one text for each cause, fault and check to `look`, and each example, and keeps what the documents show of them.
 
     checks/each_cause.py [LOOK [STS]]          compares; the last line is `N passed, M failed`
-    checks/each_cause.py write [LOOK [STS]]    writes docs/CAUSES.md
+    checks/each_cause.py write [LOOK [STS]]    writes these parts of the documents
 
 Of each text: `explain` names the code that `sts` prints, with its status; `view` begins with what `sts plain` prints, with
 its status; `draw` is a well-formed picture, or says of the fault what `view` says. Of each cause V1 to V20: `view` and
 `explain` with a trace say what the plain machine comes to, by the rules of docs/BEHAVIOUR.md. Of each example: `view`
 begins with what examples/README.md shows, `explain` says that it is accepted, and with the trace how it ends, with no task
-that lives. And docs/CAUSES.md shows all of it.
-What the sentences should be is compared elsewhere, with rows that were written by hand (crates/tests_look); the page shows
-those that say what to do.
+that lives.
+docs/VERIFIER.md shows below the text of each cause what `explain` prints, what the plain machine comes to, and the
+sentences of the other rows of this cause (crates/tests_look/src/explanations/remedies.rt: they are written by hand, and are
+tests). docs/PATTERNS.md shows what `explain` prints of its refused texts, and docs/LANGUAGE.md the sentence of each code.
 """
 import collections
 import os
@@ -21,50 +22,22 @@ import tempfile
 import xml.dom.minidom
 
 import relied
+from causes import PAGES, pairs
 from documents import STATUS, read, shown_commands
 from looks import LOOK, STS, place_words
 from write_trace import trace
 
-PAGE = "docs/CAUSES.md"
-HEAD = """# Each cause and fault, shown
-
-This page shows one text for each cause of a refusal, each fault of a text or a trace, and each fault of a run. A row has what
-`look explain` prints, and then the status of `look view` and `look draw` with the beginning of what they print. ` / ` separates
-lines. If an explanation has more than seven lines, the row has the first six and `..`. Traces are written short: `0*5` is five
-lines `step 0`, and `1..3*2` is `1*2 2*2 3*2`. `checks/each_cause.py write` writes these tables, and the gate compares them with
-what the program prints. [LOOK.md](LOOK.md) says what the words mean. [VERIFIER.md](VERIFIER.md) has the causes, and
-[LANGUAGE.md](LANGUAGE.md) and [BEHAVIOUR.md](BEHAVIOUR.md#misuse) have the faults.
-
-- For V1 to V20 `explain` takes the text alone. `view` and `draw` take the trace, too, since the plain machine runs refused
-  programs. The trace leads to the fault. If there is none, it leads to the end of the root, or once more round the loop of V4.
-- The runs of V17 to V20 have more columns and lanes than a browser shows, so `draw` has only its beginning here.
-- A10 and T4 have no row: they say that memory ran out, which no text or trace brings about at will. Each command then prints
-  `error memory` alone, with status 6. `checks/memory.py` tries it with each request for memory refused.
-
-| Code | Text | Trace | `look explain` | `look view` | `look draw` |
-|---|---|---|---|---|---|
-"""
-ROWS_HEAD = """
-The sentence that `look explain` prints depends on the instruction and on what is known there. These rows are written by hand,
-and are tests (`crates/tests_look/src/explanations`):
-
-| Text | Trace | `look explain` |
-|---|---|---|
-"""
-EXAMPLES_HEAD = """
-Each of the [examples](../examples/README.md), with its trace:
-
-| Example | `look view` | `look explain FILE` | `look explain FILE TRACE` | `look draw` |
-|---|---|---|---|---|
-"""
+SECONDS = 600
+VERIFIER, LANGUAGE = "docs/VERIFIER.md", "docs/LANGUAGE.md"
+INDEX = re.compile(r"(?<=^\| Code \| `look explain` says \| More \|\n\|---\|---\|---\|\n)(?:\|.*\n)*", re.M)
 SEVEN = "`func main 0 / push 7 / ret / end`"
 KID = "func kid 0 / push 0 / ret / end"
-# Faults of texts for which no document has a text in full: what a line of the table calls it, and its bytes.
+# Texts that are too long to be written in full, or have a byte that isn't allowed.
 IN_WORDS = {
-    "A1": ("a byte 128 in a comment of line 2", b"func main 0\npush 1 ; \x80\nret\nend\n"),
-    "A8": ("1,048,577 newlines", b"\n" * 1_048_577),
-    "A9 C1": ("65 functions", b"".join(b"func f%d 0\npush 0\nret\nend\n" % n for n in range(64)) + b"func main 0\nret\nend\n"),
-    "A9 C2": ("`main` with 4,097 instructions", b"func main 0\n" + b"push 0\npop\n" * 2048 + b"ret\nend\n"),
+    "A1": b"func main 0\npush 1 ; \x80\nret\nend\n",
+    "A8": b"\n" * 1_048_577,
+    "A9 C1": b"".join(b"func f%d 0\npush 0\nret\nend\n" % n for n in range(64)) + b"func main 0\nret\nend\n",
+    "A9 C2": b"func main 0\n" + b"push 0\npop\n" * 2048 + b"ret\nend\n",
 }
 IN_FULL = {
     "A2": "`func main 0 / puhs 7 / ret / end`",
@@ -90,15 +63,15 @@ RUNS = {
     "V6": ("0*18", "fault Operand task 0 in main at 17 / steps 18"),
     "V7": ("0*5", "success 3 / steps 5"),
     "V8": ("0*3", "success 2 / steps 3"),
-    "V9": ("0*1", "fault Operand task 0 in main at 0 / steps 1"),
-    "V10": ("0*2", "fault Operand task 0 in main at 1 / steps 2"),
+    "V9": ("0*2", "fault Operand task 0 in main at 1 / steps 2"),
+    "V10": ("0*3", "fault Operand task 0 in main at 2 / steps 3"),
     "V11": ("0*2 1*1", "fault WrongThread task 1 in kid at 0 / steps 3"),
     "V12": ("0*4", "success 1 / steps 4"),
-    "V13": ("0*3", "fault Structure task 0 in main at 2 / steps 3"),
+    "V13": ("0*4", "fault Structure task 0 in main at 3 / steps 4"),
     "V14": ("0*34", "fault Operand task 0 in main at 33 / steps 34"),
     "V15": ("0*1", "fault Unbound task 0 in main at 0 / steps 1"),
-    "V16": ("0*2", "fault Operand task 0 in main at 1 / steps 2"),
-    # 2 steps, 499 turns of 2,004, and 3 steps
+    "V16": ("0*3", "fault Operand task 0 in main at 2 / steps 3"),
+    # 2 steps, 757 turns of 1,321, and 2 steps
     "V17": ("0*1000001", "success 0 / steps 1000001"),
     # 3 steps, 6 turns of 20,003 with 10,000 forks, 2 steps, 5,535 forks with a next each, and the fork that finds no room
     "V18": ("0*131094", "fault Operand task 0 in main at 5 / steps 131094"),
@@ -120,7 +93,7 @@ FAULTS = {
 }
 
 
-Case = collections.namedtuple("Case", "code text_name text trace_name trace drawn")
+Case = collections.namedtuple("Case", "code text is_of_run trace drawn")
 
 
 def spelled(words):
@@ -137,36 +110,39 @@ def events(short):
 
 def refusals():
     """Yields each cause with the first text that VERIFIER.md says is refused for it."""
-    for code, section in re.findall(r"^### (V\d+) .*\n((?:(?!###).*\n)*)", read("docs/VERIFIER.md"), re.M):
-        yield code, re.search(r"^- Refused: (.*) with `", section, re.M)[1]
+    found = {}
+    for pair in pairs(VERIFIER):
+        found.setdefault(pair.heading.split(" ")[0], pair.refused.encode())
+    yield from found.items()
 
 
 def cases():
-    """Yields each code, what the table calls its text and the text's bytes, the same of its trace, and of the trace that is
-    drawn where this is another one, a beginning."""
+    """Yields each code with its text, whether it is one of a run or a trace, the trace, and the trace that is drawn where this
+    is another one, a beginning."""
     for code, text in refusals():
-        short, drawn = RUNS[code][0], BEGINNINGS.get(code, "")
-        yield Case(code, text, spelled(text), f"`{short}`", events(short), drawn)
+        yield Case(code, text, False, events(RUNS[code][0]), BEGINNINGS.get(code, ""))
     for code in sorted([*IN_WORDS, *IN_FULL], key=lambda it: [int(n) for n in re.findall(r"\d+", it)]):
-        name, text = IN_WORDS.get(code) or (IN_FULL[code], spelled(IN_FULL[code]))
-        yield Case(code, name, text, "", b"", "")
+        yield Case(code, IN_WORDS[code] if code in IN_WORDS else spelled(IN_FULL[code]), False, b"", "")
     for code, lines in TRACES.items():
-        name = f"`{lines.rstrip()}`" + ("" if lines[-1] == "\n" else " without newline")
-        yield Case(code, SEVEN, spelled(SEVEN), name, lines.encode(), "")
+        yield Case(code, spelled(SEVEN), True, lines.encode(), "")
     for code, (text, short) in FAULTS.items():
-        yield Case(code, text, spelled(text), f"`{short}`", events(short), "")
+        yield Case(code, spelled(text), True, events(short), "")
+
+
+def listed_codes():
+    """Returns the codes of a text and a trace that LANGUAGE.md defines, in their order: those of its tables."""
+    return list(dict.fromkeys(re.findall(r"^\| ([ACT]\d+) \|", INDEX.sub("", read(LANGUAGE)), re.M)))
 
 
 def listed():
     """Returns the codes of LANGUAGE.md, and the faults of BEHAVIOUR.md, that a text or a trace can be made for: those of A9
     are C1 to C7, and A10 and T4 are want of memory."""
-    codes = re.findall(r"^\| ([ACT]\d+) \|", read("docs/LANGUAGE.md"), re.M)
     faults = re.findall(r"^\d\. \*(\w+)\*:", read("docs/BEHAVIOUR.md"), re.M)
-    return {*codes, *faults} - {"A9", "A10", "T4"}
+    return {*listed_codes(), *faults} - {"A9", "A10", "T4"}
 
 
 def says(*words):
-    done = subprocess.run(words, stdin=subprocess.DEVNULL, capture_output=True, text=True, timeout=120)
+    done = subprocess.run(words, stdin=subprocess.DEVNULL, capture_output=True, text=True, timeout=SECONDS)
     return done.returncode, done.stdout
 
 
@@ -185,16 +161,6 @@ def kept(folder, name, content):
     return path
 
 
-def code_words(lines, most):
-    """Returns lines as a cell has them: all, or where there are more than so many, all but one of these and `..`."""
-    shown = lines if len(lines) <= most else [*lines[: most - 1], ".."]
-    return " / ".join(f"`{it}`" for it in shown).replace("|", "\\|")
-
-
-def drawn_words(status, printed):
-    return f"{status}: a picture" if is_picture(printed) else f"{status}: the same"
-
-
 def run_right(look, case, file, steps, viewed):
     """Returns of a cause what is compared of its run, and whether it is as it was worked out."""
     ends = RUNS[case.code][1].split(" / ")
@@ -208,15 +174,20 @@ def run_right(look, case, file, steps, viewed):
     ]
 
 
+def explained_at(look, folder, case):
+    """Returns the status of `explain` for a case, and what it prints."""
+    file, steps = kept(folder, "text", case.text), kept(folder, "trace", case.trace)
+    return says(look, "explain", file, *([steps] if case.is_of_run else []))
+
+
 def looked_at(look, sts, folder, case):
-    """Returns the table's line of a case, and what is compared of it."""
+    """Returns what is compared of a case."""
+    explained = explained_at(look, folder, case)
     file, steps = kept(folder, "text", case.text), kept(folder, "trace", case.trace)
     beginning = kept(folder, "beginning", events(case.drawn) if case.drawn else case.trace)
-    is_of_run = case.trace_name != "" and case.code not in RUNS
-    explained = says(look, "explain", file, *([steps] if is_of_run else []))
     viewed, drawn = says(look, "view", file, steps), says(look, "draw", file, beginning)
     plain, begun = says(sts, "plain", file, steps), says(sts, "plain", file, beginning)
-    told = plain if is_of_run else says(sts, "verify", file)
+    told = plain if case.is_of_run else says(sts, "verify", file)
     right = [
         (f"explain {case.code}, its status", explained[0] == told[0]),
         (f"explain {case.code}, its code", case.code.split(" ")[0] in explained[1].split("\n")[0].replace(",", "").split(" ")),
@@ -224,56 +195,104 @@ def looked_at(look, sts, folder, case):
         (f"view {case.code}", viewed[0] == plain[0] and viewed[1].startswith(plain[1])),
         (f"draw {case.code}", drawn[0] == begun[0] and (is_picture(drawn[1]) if begun[0] in (0, 1, 5) else drawn == viewed)),
     ]
-    if case.code in RUNS:
-        right += run_right(look, case, file, steps, viewed)
-    said, seen = code_words(explained[1].rstrip("\n").split("\n"), 7), code_words(plain[1].rstrip("\n").split("\n"), 2)
-    shown = drawn_words(*drawn) + (f", of `{case.drawn}`" if case.drawn else "")
-    return f"| {case.code} | {case.text_name} | {case.trace_name} | {said} | {viewed[0]}: {seen} | {shown} |\n", right
+    return right + (run_right(look, case, file, steps, viewed) if case.code in RUNS else [])
 
 
 def example_at(look, text, steps, printed):
-    """Returns the line of an example, of which this is printed by `plain`, and what is compared of it."""
+    """Returns what is compared of an example, of which this is printed by `plain`."""
     root, name = os.path.dirname(os.path.dirname(os.path.realpath(__file__))), os.path.basename(text)[:-4]
     file, steps = os.path.join(root, text), os.path.join(root, steps)
     viewed, drawn = (says(look, word, file, steps) for word in ("view", "draw"))
     accepted, told = says(look, "explain", file), says(look, "explain", file, steps)
     status, ends = STATUS[printed.split(" ")[0]], printed.split(" / ")
-    right = [
+    return [
         (f"view {name}", viewed[0] == status and viewed[1].split("\n")[:2] == ends),
         (f"explain {name}", accepted == relied.accepted(name)),
         (f"explain {name} with its trace", told == (status, f"{ends[0]}\n")),
         (f"draw {name}", drawn[0] == status and is_picture(drawn[1])),
     ]
-    said = [f"{it[0]}: {code_words(it[1].rstrip(chr(10)).split(chr(10)), 7)}" for it in (accepted, told)]
-    seen = f"{viewed[0]}: {code_words(viewed[1].split(chr(10))[:2], 2)}"
-    return f"| [{name}](../{text}) | {seen} | {said[0]} | {said[1]} | {drawn_words(*drawn)} |\n", right
 
 
-def part_words(parts):
-    """Returns a text or a trace as a cell has it, of the parts of a row: `Part(33, "push 1")` is "33 times `push 1`"."""
-    found = re.findall(r'Part\(\s*(\d+),\s*"([^"]*)",?\s*\)', parts)
-    return " / ".join(f"`{it}`" if times == "1" else f"{times} times `{it}`" for times, it in found)
+def sentences():
+    """Returns for each cause the other sentences that it may have: where each comes, and what it is."""
+    rows, found = read("crates/tests_look/src/explanations/remedies.rt"), {}
+    for name, code, sentence in re.findall(r'name: "([^"]*)",[^"]*"[^}]*?lines: "refused (V\d+) [^/"]* / ([^"]*)",', rows, re.S):
+        found.setdefault(code, []).append((name, sentence))
+    if sum(map(len, found.values())) != rows.count("name: ") or not set(found) <= set(RUNS):
+        sys.exit("each_cause.py: a row of remedies.rt wasn't understood")
+    return found
 
 
-def rows_at(name):
-    """Yields the table's line of each row of a file of tests."""
-    rows = read(f"crates/tests_look/src/explanations/{name}.rt")
-    form = r'text: &\[(.*?)\],\s*(?:trace: &\[(.*?)\],\s*)?lines: "([^"]*)",\s*status: \d+,'
-    for text, steps, lines in re.findall(form, rows, re.S):
-        yield f"| {part_words(text)} | {part_words(steps)} | {code_words(lines.split(' / '), 7)} |\n"
+def below(code, others):
+    """Returns what VERIFIER.md shows of a cause below what `explain` prints: its run, and the other sentences."""
+    short, ends = RUNS[code]
+    words = f"\nAfter `{short}` the plain machine prints {', '.join(f'`{it}`' for it in ends.split(' / '))}.\n"
+    rows = [f"| {where} | `{sentence}` |\n" for where, sentence in others]
+    return words + ("\n| Also | `look explain` says |\n|---|---|\n" + "".join(rows) if rows else "")
 
 
-def page_of(look, sts):
-    """Returns the page, and what was compared for it."""
-    with tempfile.TemporaryDirectory() as folder:
-        seen = [looked_at(look, sts, folder, case) for case in cases()]
-    shown = [it for it in shown_commands("examples/README.md") if it[0] == "plain"]
-    examples = [example_at(look, text, steps, printed) for _, text, steps, printed in shown]
-    rows = [line for name in ("remedies", "near", "run_remedies") for line in rows_at(name)]
-    page = HEAD + "".join(line for line, _ in seen) + ROWS_HEAD + "".join(rows) + EXAMPLES_HEAD + "".join(line for line, _ in examples)
+def renewed(look, folder, path):
+    """Returns a page with what is printed of its refused texts, and what is compared of these."""
+    page, right, seen, moved, others = read(path), [], set(), 0, sentences()
+    for pair in list(pairs(path)):
+        status, printed = says(look, "explain", kept(folder, "text", pair.refused.encode()))
+        right += [
+            (f"explain what {path} mends under {pair.heading}", status == STATUS["refused"]),
+            (f"explain it mended, {pair.heading}", says(look, "explain", kept(folder, "text", pair.accepted.encode()))[1].startswith("accepted\n")),
+        ]
+        code, shown = pair.heading.split(" ")[0], "\n" + re.sub("^(?=.)", "    ", printed, flags=re.M)
+        if path == VERIFIER and code not in seen:
+            seen.add(code)
+            shown += below(code, others.get(code, []))
+        at = pair.after + moved
+        old = re.match(r"(?:\n(?:    .*\n)+)?(?:\nAfter `[^`]*` the plain machine .*\n)?(?:\n\| Also .*\n(?:\|.*\n)*)?", page[at:])[0]
+        page, moved = page[:at] + shown + page[at + len(old):], moved + len(shown) - len(old)
+    return page, right
+
+
+def anchor(code):
+    """Returns the address of the section of VERIFIER.md about a cause."""
+    title = re.search(rf"^### ({code} .*)$", read(VERIFIER), re.M)[1]
+    return f"VERIFIER.md#{title.lower().replace(' ', '-')}"
+
+
+def index(explained):
+    """Returns the lines of the index of codes, from what `explain` prints for each."""
+    said = {code.split(" ")[-1]: printed.split("\n")[1] for code, printed in explained.items()}
+    found = []
+    for kinds, title, address, others in (
+        ("A", "a text", "#faults-of-a-text", {"A9": "a program check failed: C1 to C7", "A10": "memory ran out"}),
+        ("C", "a program check", "#program-checks", {}),
+        ("T", "a trace", "#traces", {"T4": "memory ran out"}),
+    ):
+        codes = [it for it in listed_codes() if it[0] == kinds]
+        found += [f"| {it} | {others[it] if it in others else f'`{said[it]}`'} | [{title}]({address}) |\n" for it in codes]
+    found += [f"| {it} | `{said[it]}` | [the cause]({anchor(it)}) |\n" for it in RUNS]
+    faults = re.findall(r"^\d\. \*(\w+)\*: (.*)\.$", read("docs/BEHAVIOUR.md"), re.M)
+    found += [f"| {it} | {words} | [misuse](BEHAVIOUR.md#misuse) |\n" for it, words in faults]
+    return "".join([*found, "| status 0 to 6 | | [exit status](#exit-status) |\n"])
+
+
+def pages_of(look, folder):
+    """Returns the pages by their paths as they should be, and what was compared for them."""
+    pages = {path: renewed(look, folder, path) for path in PAGES}
+    explained = {case.code: explained_at(look, folder, case)[1] for case in cases()}
+    right = [it for _, answers in pages.values() for it in answers]
+    right.append((f"{LANGUAGE} has an index", len(INDEX.findall(read(LANGUAGE))) == 1))
+    pages = {path: page for path, (page, _) in pages.items()}
+    return {**pages, LANGUAGE: INDEX.sub(lambda _: index(explained), read(LANGUAGE))}, right
+
+
+def compared(look, sts, folder):
+    """Yields what is compared of each code and each example, and whether it is as it should be."""
+    for case in cases():
+        yield from looked_at(look, sts, folder, case)
+    for mode, text, steps, printed in shown_commands("examples/README.md"):
+        if mode == "plain":
+            yield from example_at(look, text, steps, printed)
     codes = {case.code.split(" ")[-1] for case in cases() if case.code not in RUNS}
-    right = [("each code has a row", codes == listed()), ("each cause has a run", [code for code, _ in refusals()] == list(RUNS))]
-    return page, [*right, *(it for _, answers in [*seen, *examples] for it in answers)]
+    yield "each code has a row", codes == listed()
+    yield "each cause has a run", [code for code, _ in refusals()] == list(RUNS)
 
 
 def main():
@@ -284,11 +303,14 @@ def main():
         if not os.access(program, os.X_OK):
             print(f"each_cause.py: no program at {program}: ./sts and ./look build them", file=sys.stderr)
             return 2
-    page, right = page_of(look, sts)
-    if is_writing:
-        with open(os.path.join(os.path.dirname(os.path.dirname(os.path.realpath(__file__))), PAGE), "w") as file:
-            file.write(page)
-    right.append((f"{PAGE} shows it", page == read(PAGE)))
+    with tempfile.TemporaryDirectory() as folder:
+        pages, right = pages_of(look, folder)
+        for path, page in pages.items():
+            if is_writing:
+                with open(os.path.join(os.path.dirname(os.path.dirname(os.path.realpath(__file__))), path), "w") as file:
+                    file.write(page)
+            right.append((f"{path} shows it", page == read(path)))
+        right += [] if is_writing else compared(look, sts, folder)
     for what, holds in right:
         if not holds:
             print(f"{what}: not what is expected", file=sys.stderr)

@@ -68,7 +68,7 @@ WRITTEN = [
     ("step 0\nstep 0", "step 0\nstep 0\n"),
     ("step 0\n ", "step 0\n \n"),
 ]
-# A text whose longest path ends in line 10, as docs/LOOK.md shows it.
+# A text whose longest path ends in line 10.
 TOO_LONG = "func main 0\npush 499\ntimes 499\npush 2001\ntimes 2001\nnext\nnext\npush 0\npush 0\nret\nend\n"
 
 
