@@ -1,9 +1,10 @@
-//! Times the tree of records: nanoseconds an event, by how many subtasks stand at once.
+//! Times the tree of records: nanoseconds an event, by the number of subtasks that a scope has at
+//! once.
 //!
-//! Each line of the input has two numbers: how many tasks may be born, the root among them, and how
-//! many subtasks stand at once. Standard output says what was born, and standard error how long an
-//! event took. The first and the last tenth of the rounds are timed apart: they tell whether what
-//! was born before costs anything.
+//! Each line of the input has two numbers: how many tasks may be born, with the root, and how many
+//! subtasks a scope has at once. Standard output says what was born, and standard error how long an
+//! event took. The first and the last tenth of the rounds are timed apart, to see whether earlier
+//! births cost anything.
 #![tactic(auto)]
 
 mod rounds;

@@ -1,4 +1,4 @@
-//! Rounds of the tree of records: a scope from its opening to its close, with so many subtasks.
+//! Rounds of the tree of records: a scope from its opening to its close, with a number of subtasks.
 //!
 //! Each call is made after a test of what it requires. So the times are above those of a caller
 //! that has it proved.
@@ -30,7 +30,7 @@ fn end(tree: &mut Tree<u32>, t: u32) -> Option<bool> {
     Some(tree.end_task(t, End::Success(1)))
 }
 
-/// The root task stands here, which owns the scope.
+/// Records whether the root task is at this scope, which it owns.
 fn stand(tree: &mut Tree<u32>, s: u32, stand: Stand) -> Option<()> {
     if tree.task(0).is_none() || tree.scope(s).is_none() || tree.owner(s) != 0 {
         return None;
@@ -71,7 +71,7 @@ fn fork_all(tree: &mut Tree<u32>, s: u32, standing: u32) -> Option<()> {
     Some(())
 }
 
-/// Ends `standing` living subtasks of a scope, the first one first.
+/// Ends `standing` living subtasks of a scope, in order.
 fn end_all(tree: &mut Tree<u32>, s: u32, standing: u32) -> Option<()> {
     for _ in 0..standing {
         let t = tree.living_front(s)?;
@@ -80,7 +80,7 @@ fn end_all(tree: &mut Tree<u32>, s: u32, standing: u32) -> Option<()> {
     Some(())
 }
 
-/// A scope with so many subtasks, from its opening to its close.
+/// Runs a scope with `standing` subtasks, from its opening to its close.
 fn round(tree: &mut Tree<u32>, standing: u32) -> Option<()> {
     let s = open(tree)?;
     fork_all(tree, s, standing)?;

@@ -43,7 +43,7 @@ Shows (showing.View wanted) = IsViewOf wanted
 Shows showing.Run = IsRunExplanation
 Shows showing.Picture = IsPictureOf
 
--- what is wrong with a file's text, or where its run stands after the trace that is named
+-- what is wrong with a file's text, or the state of its run after the trace, if one is named
 abbrev pub IsExplained : Files → Option (List ℕ) → Option (Bor Text) → Output → Type 0
 IsExplained files file None o = IsOfText IsExplanation file o
 IsExplained files file (Some trace) o = IsOfTexts IsRunExplanation file (files trace.now) o

@@ -11,7 +11,8 @@ pub enum Asked<'a> {
         trace: &'a str,
         wanted: Wanted,
     },
-    /// What is wrong with a text, if anything is. With a trace: where its tasks are after that.
+    /// Says what is wrong with a text, if anything is. With a trace it says where the tasks are
+    /// after the trace.
     Explain {
         file: &'a str,
         trace: Option<&'a str>,

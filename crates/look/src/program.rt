@@ -109,7 +109,7 @@ fn on_text<S: Sources, W: Write>(
     }
 }
 
-/// What is wrong with a text, or where its run stands after a trace that is named.
+/// What is wrong with a text, or the state of its run after a trace, if one is named.
 fn on_explain<S: Sources, W: Write>(
     alloc: Global,
     sources: &S,
@@ -167,9 +167,8 @@ fn on_line<S: Sources, W: Write>(
 /// the root failed, 2 for usage, 3 for a fault of a text, 4 for a refusal, and 5 if the run faulted
 /// or goes on. It is 6 if memory, a file or a stream failed.
 ///
-/// Usage faults are written to `err`, everything else to `out`.
-/// `notes` gets the lines that say why a file, a text or its events failed; none of these is
-/// written.
+/// Usage faults are written to `err`, everything else to `out`. `notes` gets the lines that say why
+/// a file, a text or its events failed; the function doesn't write them.
 ///
 /// # Errors
 ///

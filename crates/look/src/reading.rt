@@ -82,7 +82,7 @@ fn is_set(inner: &ArgMatches<'_>, id: &str) -> bool
     }
 }
 
-/// What is wanted of a view.
+/// The options of a view.
 fn wanted_of(inner: &ArgMatches<'_>) -> Wanted
     ensures { result ≡ wanted_at (rows_of (found_of inner.now)) }
 {

@@ -19,7 +19,7 @@ pub some_rule : (p : Program) (f pc : ℕ) (i : Instr) (n : Node) (o : Option Re
 some_rule p f pc i n None is comes at rule some = absurd (cc)
 some_rule p f pc i n (Some r) is comes at rule some = relies n comes at (ap (λ (j : Instr). relied_on j n.state n.mark) (sym is) ∙ sym rule)
 
--- none of the first so many nodes is at the place and relies on a rule
+-- none of the first n nodes is at the place and relies on a rule
 abbrev pub NoneAt : List Node → ℕ → Instr → ℕ → Type 0
 NoneAt nodes pc i count = (n : Node) (j : ℕ) → j < count → slice_index_or nodes j n ≡ n → n.pc ≡ pc → relied_on i n.state n.mark ≡ None
 

@@ -69,7 +69,7 @@ pub follower_comes : (p : Program) (f : ℕ) (nodes next : List Node) (at : ℕ)
 follower_comes p f nodes next at x j y found within is made less read =
     then x y (found x (at, within, sym is)) (subst (λ ys. Contains ys y) made (j, less, sym read))
 
--- the first so many of these are there
+-- the first n of these are there
 abbrev pub AreThere : List Node → ℕ → List Node → Type 0
 AreThere next n nodes = (j : ℕ) (d : Node) → j < n → Contains nodes (slice_index_or next j d)
 

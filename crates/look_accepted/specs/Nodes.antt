@@ -31,8 +31,8 @@ abbrev pub first_mark : Instr → ℕ → Option ℕ
 first_mark (Bind k) entries = Some entries
 first_mark _ entries = None
 
--- how many of the open entries were open before the thread's first binding, the outermost ones; none
--- while it has made no binding. An entry that is closed no longer counts.
+-- the mark after an instruction: the number of entries that were open when the thread made its
+-- first binding and still are; none while it has made no binding
 abbrev pub next_mark : Instr → TypeState → TypeState → Option ℕ → Option ℕ
 next_mark i before after None = first_mark i (length before.entries)
 next_mark i before after (Some outer) =

@@ -47,7 +47,7 @@ late_subtask s _ = None
 
 -- ---- a `fork` behind the first binding of a thread
 
--- is the scope in this slot one of so many outermost entries?
+-- is the scope in this slot one of the `outer` outermost entries?
 abbrev pub is_outer : ℕ → ℕ → List TypedEntry → Bool
 is_outer x outer [] = false
 is_outer x outer (Binding k ∷ es) = is_outer x outer es

@@ -1,4 +1,4 @@
--- What is told of a list of events, event by event.
+-- The lines of a list of events, event by event.
 use Rattle.std.proofs.Common.{◌≡◌, ℕ, ◌+◌, ◌-◌, ◌≤◌, ◌<◌, ◌^◌, List, ◌++◌, length, Bool, arith, ap, ap₂, sym, ◌∙◌, take, drop, get_or}
 use Rattle.std.proofs.lemmas.List.{take_more, length-take-le, drop_more}
 use Rattle.sts_code.specs.Program.{Program}
@@ -8,7 +8,7 @@ use Rattle.look_lines.proofs.WatchedLemmas.{watched_one_more}
 use Rattle.look_lines.specs.View.{event_block, event_line, lines_of, views_from}
 use Rattle.look_lines.specs.Watched.{after_event, watched}
 
--- what is told of the rest: of the first event, and of those after it
+-- the lines of the rest begin with those of the first event
 pub views_next : (p : Program) (full : Bool) (es : List Event) (i : ℕ) (d : Event) → i < length es → length es ≤ 2 ^ 64 - 1 → views_from p full (take i es) (drop i es) ≡ (event_line (i + 1) (get_or es i d) (counts p (after p (take i es)) (get_or es i d)) ++ lines_of full (after_event (watched p (take i es)) (get_or es i d))) ++ views_from p full (take (i + 1) es) (drop (i + 1) es)
 views_next p full es i d inside short =
     let n : length (take i es) ≡ i = length-take-le i es (omega (arith, inside)) in

@@ -1,5 +1,5 @@
--- The lines that say what stands: one for each task and each scope that was ever born, and what is
--- told of them on request (this project's own).
+-- The lines of a state: one for each task and each scope that was ever born, and more on request
+-- (this project's own).
 use Rattle.std.specs.Prelude.{ℕ, ℤ, pos, ◌+◌, Bool, true, List, ◌∷◌, [], ◌++◌, reverse, Option}
 use Rattle.std.specs.Prelude.{Some, None, is_some, codes, ◌&&◌, if◌then◌else◌}
 use Rattle.std.specs.List.{flat_map}
@@ -23,7 +23,7 @@ use Rattle.sts_model.specs.World.{World, task_at, scope_at}
 use Rattle.sts_list.specs.Spelling.{after_spaces, joiner_words}
 use Rattle.sts_output.specs.Printed.{ended}
 
--- a word that stands only where it holds
+-- a word, if the condition holds
 abbrev pub only_if : Bool → List ℕ → List ℕ
 only_if b word = if b then word else []
 
@@ -34,7 +34,7 @@ abbrev pub under_words : Option ℕ → List ℕ
 under_words None = codes "-"
 under_words (Some s) = decimal s
 
--- was the end of the task heard: is it the root's, or was its scope told of it?
+-- is the task the root, or was the joiner of its scope told of its end?
 abbrev pub is_heard : World → ℕ → Option ℕ → Bool
 is_heard w t None = true
 is_heard w t (Some s) = is_some (sub_state w t)
@@ -51,7 +51,7 @@ wait_words Free = []
 wait_words (AtJoin s) = codes " waits join " ++ decimal s
 wait_words (AtClose s) = codes " waits close " ++ decimal s
 
--- how a living task stands
+-- the state of a living task
 abbrev pub life_words : Bool → Stand → List ℕ
 life_words can_go stand = if can_go then codes " ready" else wait_words stand
 
@@ -62,7 +62,7 @@ ended_words w t =
     (if is_heard w t (task_at w t).scope then [] else codes " unheard")
     ++ end_words (task_at w t).outcome
 
--- how a task stands that doesn't live: a fork in a cancelled scope makes a task that never starts
+-- the state of a task that doesn't live: a fork in a cancelled scope makes a task that never starts
 abbrev pub rest_words : World → ℕ → List ℕ
 rest_words w t = if (task_at w t).started then ended_words w t else codes " never-started"
 
@@ -77,7 +77,7 @@ task_place p w t =
     ++ (routine p (task_at w t).frame.function).name
     ++ codes " at " ++ decimal (task_at w t).frame.pc
 
--- how the task stands, and whether an interrupt is pending
+-- the state of the task, and whether an interrupt is pending
 abbrev pub task_stand : Program → World → ℕ → List ℕ
 task_stand p w t = stand_words p w t ++ ended (only_if (task_at w t).flag (codes " interrupted"))
 
@@ -131,7 +131,7 @@ abbrev pub task_block : Program → Bool → World → ℕ → List ℕ
 task_block p full w t =
     task_line p w t ++ (if full && lives (task_at w t) then frame_lines w t else [])
 
--- the lines of these tasks, the first of which has this number
+-- the lines of these tasks, numbered from t on
 abbrev pub task_lines : Program → Bool → World → List Task → ℕ → List ℕ
 task_lines p full w [] t = []
 task_lines p full w (x ∷ xs) t = task_block p full w t ++ task_lines p full w xs (t + 1)
@@ -158,7 +158,7 @@ scope_marks scope =
     ++ only_if scope.cancelled (codes " cancelled") ++ only_if scope.expired (codes " expired")
     ++ ended (only_if (can_expire scope) (codes " may-expire"))
 
--- what the joiner was told: `told T success V` or `told T failed C`
+-- an end that the joiner was told of: `told T success V` or `told T failed C`
 abbrev pub told_line : Completion → List ℕ
 told_line c = codes "  told " ++ decimal c.task ++ ended (end_words (Some c.end))
 
@@ -167,7 +167,7 @@ scope_block full s scope =
     scope_place s scope
     ++ (scope_marks scope ++ (if full then flat_map told_line scope.completions else []))
 
--- the lines of these scopes, the first of which has this number
+-- the lines of these scopes, numbered from s on
 abbrev pub scope_lines : Bool → World → List Scope → ℕ → List ℕ
 scope_lines full w [] s = []
 scope_lines full w (x ∷ xs) s = scope_block full s (scope_at w s) ++ scope_lines full w xs (s + 1)

@@ -1,4 +1,4 @@
--- What is told of a machine after a list of events, and after each of them (this project's own).
+-- The lines of a machine after a list of events, and after each of them (this project's own).
 use Rattle.std.specs.Prelude.{◌≡◌, ◌⊎◌, ℕ, ◌+◌, Bool, not, if◌then◌else◌, List, ◌∷◌, [], ◌++◌}
 use Rattle.std.specs.Prelude.{length, codes, Result, Ok, Err}
 use Rattle.std.specs.Fmt.{decimal}
@@ -18,14 +18,14 @@ use Rattle.look_lines.specs.declared.view.Wanted.{Wanted}
 use Rattle.look_lines.specs.Lines.{only_if, scope_lines, task_lines}
 use Rattle.look_lines.specs.Watched.{Watched, watched}
 
--- how the machine stands and the steps that it took; then each task and each scope, at a fault as
--- they stood before it
+-- the state of the machine and the steps that it took, then each task and each scope; after a fault
+-- they are shown as before it
 abbrev pub lines_of : Bool → Watched → List ℕ
 lines_of full m =
     state_line m.program (shown m.state) ++ (steps_line m.steps
     ++ (task_lines m.program full m.last m.last.tasks 0 ++ scope_lines full m.last m.last.scopes 0))
 
--- what stands after these events
+-- the lines of the state after these events
 abbrev pub view_after : Program → Bool → List Event → List ℕ
 view_after p full events = lines_of full (watched p events)
 
@@ -35,7 +35,7 @@ event_line n e is_counted =
     codes "after " ++ decimal n ++ codes " " ++ event_text e
     ++ ended (only_if (not is_counted) (codes " idle"))
 
--- an event and what stands after it, where these came before
+-- an event and the state after it, if these events came before
 abbrev pub event_block : Program → Bool → List Event → Event → List ℕ
 event_block p full done e =
     event_line (length done + 1) e (counts p (after p done) e) ++ view_after p full (done ++ e ∷ [])
@@ -44,7 +44,7 @@ abbrev pub views_from : Program → Bool → List Event → List Event → List 
 views_from p full done [] = []
 views_from p full done (e ∷ es) = event_block p full done e ++ views_from p full (done ++ e ∷ []) es
 
--- what stands before the first event, and after each
+-- the state before the first event, and after each
 abbrev pub view_each : Program → Bool → List Event → List ℕ
 view_each p full events = view_after p full [] ++ views_from p full [] events
 

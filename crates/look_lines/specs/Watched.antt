@@ -1,5 +1,5 @@
--- What is seen of a machine that is watched: how it stands, and the world as it last ran (this
--- project's own).
+-- What contracts see of a watched machine: its state, and the world as it last ran (this project's
+-- own).
 use Rattle.std.specs.Prelude.{ℕ, List, [], ◌∷◌, Option, is_some, ◌&&◌}
 use Rattle.sts_code.specs.Program.{Program}
 use Rattle.sts_model.specs.declared.event.Event.{Event}
@@ -14,7 +14,7 @@ pub record Watched : Type 0 where
   pub last : World
   pub steps : ℕ
 
--- the world as it last ran: of a state that runs its own, at a fault the one before it
+-- the world as it last ran: the world of a state that runs, or the world before a fault
 abbrev pub last_of : World → State → World
 last_of before (Running w) = w
 last_of before (Faulted kind t f pc) = before
@@ -27,7 +27,7 @@ abbrev pub last_from : Program → World → State → List Event → World
 last_from p before state [] = last_of before state
 last_from p before state (e ∷ es) = last_from p (last_of before state) (apply p state e) es
 
--- the world that a list of events leads to; where they lead to a fault, the one before it
+-- the world after a list of events; after a fault, the world before it
 abbrev pub last_world : Program → List Event → World
 last_world p events = last_from p no_world (opening p) events
 
@@ -48,7 +48,7 @@ after_event s e = record s {
   steps = one_more (is_step e && counts s.program s.state e) s.steps;
 }
 
--- what is seen of a plain machine that stands at no fault, and of the misstep that it didn't make
+-- the view of a plain machine that hasn't faulted, with the misstep that it didn't make
 abbrev pub seen_of : Seen → Option Misstep → Watched
 seen_of m misstep = record {
   program = m.program;

@@ -1,4 +1,4 @@
-//! What stands after a trace, line by line.
+//! The state of every task and scope after a trace, in lines.
 #![tactic(auto)]
 
 mod of_text;

@@ -1,4 +1,4 @@
-//! What stands of a text after a trace.
+//! The state of a text's tasks and scopes after a trace.
 
 ghost use Rattle.std.specs.Prelude.{◌≡◌, IfOk};
 ghost use Rattle.sts_asm.specs.Text.{judged};
@@ -28,7 +28,7 @@ fn traced(
     }
 }
 
-/// Assembles the text, reads the trace, and tells what stands after it.
+/// Assembles the text, reads the trace, and gives the lines of the state after it.
 ///
 /// # Errors
 ///
@@ -47,7 +47,7 @@ pub fn viewed(
     }
 }
 
-/// Tells what stands of a text after a trace, writes all of it, and gives the status.
+/// Writes the lines of a text's state after a trace, and gives the status.
 ///
 /// It takes all its memory before the first byte is written.
 ///

@@ -13,7 +13,7 @@ use sts_list::write_joiner;
 use sts_model::{Completion, Phase};
 use sts_world::Records;
 
-/// A word that stands only where it holds.
+/// Writes a word if `holds` is true.
 fn only_if(out: &mut String, holds: bool, word: &str) -> Result<(), AllocError>
     ensures { OnOk result (string_bytes out.new
         ≡ string_bytes out.old ++ def.only_if holds word.now) }
@@ -71,7 +71,7 @@ fn told_line(out: &mut String, told: Completion) -> Result<(), AllocError>
     writeln!(out)
 }
 
-/// What a joiner was told.
+/// The ends that a joiner was told of.
 fn told_lines(out: &mut String, completions: &[Completion]) -> Result<(), AllocError>
     ensures { OnOk result (string_bytes out.new
         ≡ string_bytes out.old ++ flat_map def.told_line completions.now) }
@@ -94,7 +94,8 @@ fn scope_block(out: &mut String, full: bool, records: &Records, s: u32) -> Resul
     Ok(())
 }
 
-/// The lines of all scopes that were ever born; in full with what their joiners were told.
+/// The lines of all scopes that were ever born. In full they show all ends that the joiners
+/// counted.
 ///
 /// # Errors
 ///

@@ -26,7 +26,7 @@ pub fn name_of(program: &Program, function: u32) -> &str
     }
 }
 
-/// A word that stands only where it holds, and the line's end.
+/// Writes a word if `holds` is true, and the line's end.
 pub(crate) fn ended_by(out: &mut String, holds: bool, word: &str) -> Result<(), AllocError>
     ensures { OnOk result (string_bytes out.new
         ≡ string_bytes out.old ++ ended (def.only_if holds word.now)) }
@@ -60,7 +60,7 @@ fn wait_words(out: &mut String, stand: Stand) -> Result<(), AllocError>
     }
 }
 
-/// Is the end of a task the root's, or was its scope told of it?
+/// Is the task the root, or was the joiner of its scope told of its end?
 pub fn is_heard(world: &World, t: u32) -> bool
     ensures { result ≡ def.is_heard world.now t (model.task_at world.now t).scope }
 {
@@ -81,7 +81,7 @@ fn ended_words(out: &mut String, world: &World, t: u32) -> Result<(), AllocError
     end_words(out, world.records().outcome(t))
 }
 
-/// How a task stands that doesn't live.
+/// The state of a task that doesn't live.
 fn rest_words(out: &mut String, world: &World, t: u32) -> Result<(), AllocError>
     ensures { OnOk result (string_bytes out.new
         ≡ string_bytes out.old ++ def.rest_words world.now t) }
@@ -93,7 +93,7 @@ fn rest_words(out: &mut String, world: &World, t: u32) -> Result<(), AllocError>
     }
 }
 
-/// How a task stands: ready, what it waits for, or how it ended.
+/// The state of a task: ready, what it waits for, or how it ended.
 ///
 /// # Errors
 ///
@@ -148,7 +148,7 @@ fn task_place(
     write!(out, " in {name} at {pc}")
 }
 
-/// How a task stands, and whether an interrupt is pending.
+/// The state of a task, and whether an interrupt is pending.
 fn task_stand(out: &mut String, program: &Program, world: &World, t: u32) -> Result<(), AllocError>
     requires { t < length world.now.tasks }
     ensures { OnOk result (string_bytes out.new

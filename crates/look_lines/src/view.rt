@@ -1,4 +1,4 @@
-//! What stands after a list of events, or after each of them.
+//! The state of every task and scope after a list of events, or after each of them.
 
 ghost use Rattle.std.specs.Prelude.{◌≡◌, ◌++◌, [], OnOk, IfOk};
 ghost use Rattle.std.specs.String.{string_bytes};
@@ -16,16 +16,16 @@ use sts_code::Program;
 use sts_model::Event;
 use sts_output::{Output, state_line, state_status, steps_line};
 
-/// What is wanted of a view.
+/// The options of a view.
 #[derive(Clone, Copy, Debug, PartialEq, Eq)]
 pub struct Wanted {
     /// After each event, and not after the last alone.
     pub each: bool,
-    /// With operands, locals and bindings of living tasks, and what joiners were told.
+    /// With operands, locals and bindings of living tasks, and all ends that joiners counted.
     pub full: bool,
 }
 
-/// How the machine stands, the steps that it took, then the tasks and the scopes.
+/// The state of the machine, the steps that it took, then the tasks and the scopes.
 ///
 /// # Errors
 ///
@@ -84,7 +84,7 @@ pub fn after<'p>(
     Ok(watch)
 }
 
-/// What stands after the last event.
+/// The state after the last event.
 fn after_all(
     alloc: Global,
     program: &Program,
@@ -102,7 +102,7 @@ fn after_all(
     })
 }
 
-/// Applies the `n`-th event, and tells it with what stands after it.
+/// Applies the `n`-th event, and writes it with the state after it.
 fn event_block(
     alloc: Global,
     out: &mut String,
@@ -122,7 +122,7 @@ fn event_block(
     lines(out, watch, full)
 }
 
-/// Applies these events, the first of all, and tells each with what stands after it.
+/// Applies the first of these events, in order, and writes each with the state after it.
 fn event_blocks(
     alloc: Global,
     out: &mut String,
@@ -141,7 +141,7 @@ fn event_blocks(
     Ok(())
 }
 
-/// What stands before the first event and after each, in one pass.
+/// The state before the first event and after each, in one pass.
 fn after_each(
     alloc: Global,
     program: &Program,
@@ -160,8 +160,7 @@ fn after_each(
     })
 }
 
-/// What stands after these events, or after each of them, and the status of how the machine stands
-/// in the end.
+/// The state after these events, or after each of them, and the status of the machine's last state.
 ///
 /// # Errors
 ///

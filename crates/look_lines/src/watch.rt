@@ -14,7 +14,7 @@ use sts_model::Event;
 use sts_plain::{Misstep, Plain, PlainState, can_step, misuse};
 use sts_world::World;
 
-/// A plain machine that runs, and the fault that it would have come to.
+/// A plain machine that runs, and the fault that stopped it, if there was one.
 #[derive(Drop)]
 pub struct Watch<'p> {
     plain: Plain<'p>,
@@ -54,7 +54,7 @@ fn misstep_of(world: &World, program: &Program, t: u32) -> Option<Misstep>
     })
 }
 
-/// The fault that an event is where a machine runs, if it is one.
+/// The fault of an event in a machine that runs, if it is a fault.
 fn misstep_at(world: &World, program: &Program, event: Event) -> Option<Misstep>
     ensures some { IfSome result (λ m. run.apply program.now (def.Running world.now) event
         ≡ state_of (Some m) world.now) }
@@ -101,7 +101,7 @@ impl<'p> Watch<'p> {
         }
     }
 
-    /// How it stands.
+    /// The state of the machine.
     pub fn state(&self) -> PlainState
         ensures { result ≡ shown self.now.state }
     {

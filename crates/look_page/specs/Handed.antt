@@ -10,7 +10,7 @@ pub record Received : Type 0 where
   pub after : List ℕ
 
 -- these bytes and this status: the size is that of all bytes; the room has their front, as far as
--- it goes, and behind it what was there
+-- it goes, and is unchanged after that
 abbrev pub IsHanded : List ℕ → ℕ → Received → Type 0
 IsHanded bytes status r =
     (r.status ≡ status) × (r.size ≡ length bytes)

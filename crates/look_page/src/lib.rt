@@ -20,7 +20,7 @@ use sts_output::{Mode, STATUS_OUTSIDE, TextMode};
 /// What is printed where memory was refused.
 const OUT_OF_MEMORY: &[u8] = b"error memory\n";
 
-/// Hands over the front of the bytes, as many as there is room for, with their number.
+/// Hands over the front of the bytes, as far as there is room, and the number of all bytes.
 fn hand(bytes: &[u8], status: u8, out: &mut [u8], size: &mut usize) -> u8
     ensures { IsHanded bytes.now status (record {
       status = result;
@@ -88,7 +88,7 @@ pub extern "C" fn sts_plain(
     shown(alloc, Asked::Mode(TextMode::Plain), text, trace, out, size)
 }
 
-/// What `look view` prints, with `--each` and `--full` as wanted, handed over as by `sts_verify`.
+/// What `look view` prints, with `--each` and `--full` by choice, handed over as by `sts_verify`.
 #[unsafe(no_mangle)]
 pub extern "C" fn sts_view(
     alloc: Global,
@@ -121,7 +121,8 @@ pub extern "C" fn sts_explain(alloc: Global, text: &[u8], out: &mut [u8], size: 
     shown(alloc, Asked::Explanation, text, &[], out, size)
 }
 
-/// How a run stands after a trace, by the lines of the text, handed over as by `sts_verify`.
+/// The state of a run after a trace, with the line numbers of the text, handed over as by
+/// `sts_verify`.
 #[unsafe(no_mangle)]
 pub extern "C" fn sts_explain_run(
     alloc: Global,

@@ -12,7 +12,7 @@ use Rattle.look_picture.specs.declared.marks.Mark.TheVariants as mark
 use Rattle.look_picture.specs.Place.{bracket}
 use Rattle.look_picture.specs.Writing.{mark_at, text_end, text_start}
 
--- a mark of a scope, told by its place and this word
+-- a mark of a scope, described by the scope's place and this word
 abbrev pub scope_mark : Mark → World → ℕ → ℕ → List ℕ → List ℕ
 scope_mark m w x s word =
     mark_at m x (bracket w s) (scope_place s (scope_at w s) ++ (codes " " ++ word))
@@ -61,7 +61,7 @@ scope_cell before w x s =
     if is_closed (scope_at before s).phase && is_closed (scope_at w s).phase then []
     else span before w x s ++ (edge before w x s ++ (expired before w x s ++ cancelled before w x s))
 
--- the cells of these scopes, the first of which has this number
+-- the cells of these scopes, numbered from s on
 abbrev pub scope_cells : World → World → ℕ → List Scope → ℕ → List ℕ
 scope_cells before w x [] s = []
 scope_cells before w x (scope ∷ scopes) s = scope_cell before w x s ++ scope_cells before w x scopes (s + 1)

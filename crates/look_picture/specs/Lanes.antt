@@ -32,11 +32,11 @@ rest_mark false (Some end) = mark.Unheard
 abbrev pub rests : World → ℕ → Bool
 rests w t = nat_lt t (length w.tasks) && not (lives (task_at w t))
 
--- `task T`, and how it stands
+-- `task T`, and its state
 abbrev pub told : Program → World → ℕ → List ℕ
 told p w t = codes "task " ++ decimal t ++ stand_words p w t
 
--- the value or the code that it ended with, beside the mark
+-- the value or the code that it ended with, next to the mark
 abbrev pub value_text : ℕ → ℕ → Option End → List ℕ
 value_text x t None = []
 value_text x t (Some (Success v)) = text_start (codes "value") (x + 22) (lane t + 4) ++ (signed_decimal v ++ text_end)
@@ -53,7 +53,7 @@ rest p w x t =
     rest_line p w x t (is_heard w t (task_at w t).scope) (task_at w t).outcome
     ++ value_text x t (task_at w t).outcome
 
--- a task that lives in this column, or that lived or wasn't born in the one before
+-- a task that lives in this column, or that lived or wasn't born in the column before
 abbrev pub stand : Program → World → World → ℕ → ℕ → List ℕ
 stand p before w x t =
     if lives (task_at w t) then life p w x t else (if rests before t then [] else rest p w x t)
@@ -82,7 +82,7 @@ interrupted before w x t =
 abbrev pub task_cell : Program → World → World → ℕ → ℕ → List ℕ
 task_cell p before w x t = birth before w x t ++ (stand p before w x t ++ interrupted before w x t)
 
--- the cells of these tasks, the first of which has this number
+-- the cells of these tasks, numbered from t on
 abbrev pub task_cells : Program → World → World → ℕ → List Task → ℕ → List ℕ
 task_cells p before w x [] t = []
 task_cells p before w x (task ∷ tasks) t = task_cell p before w x t ++ task_cells p before w x tasks (t + 1)
@@ -103,7 +103,7 @@ abbrev pub lane_name : Program → World → ℕ → List ℕ
 lane_name p w t =
     task_name t (task_at w t).scope ++ function_name t (routine p (task_at w t).frame.function).name
 
--- the names of these tasks' lanes, the first of which has this number
+-- the names of these tasks' lanes, numbered from t on
 abbrev pub lane_names : Program → World → List Task → ℕ → List ℕ
 lane_names p w [] t = []
 lane_names p w (task ∷ tasks) t = lane_name p w t ++ lane_names p w tasks (t + 1)

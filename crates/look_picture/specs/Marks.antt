@@ -1,4 +1,4 @@
--- What stands in a picture: each mark's class and its shape (this project's own).
+-- The marks of a picture: each mark's class and its shape (this project's own).
 use Rattle.std.specs.Prelude.{ℕ, List, codes}
 use Rattle.look_picture.specs.declared.marks.Mark.{Mark}
 use Rattle.look_picture.specs.declared.marks.Mark.TheVariants as mark
@@ -20,7 +20,7 @@ class mark.Expired = codes "expired"
 class mark.Cancelled = codes "cancelled"
 class mark.Fault = codes "fault"
 
--- how a mark is drawn from where it stands, as SVG spells paths
+-- the shape of a mark from its point, as an SVG path
 abbrev pub shape : Mark → List ℕ
 shape mark.Ready = codes "h24"
 shape mark.Waits = codes "h24"

@@ -27,7 +27,7 @@ use Rattle.look_picture.specs.Writing.{mark_at, text_end, text_start}
 
 -- ---- a column
 
--- all that a world shows in a column, with what it became since the one before
+-- all cells of a world in a column, with the changes since the column before
 abbrev pub cells : Program → World → World → ℕ → List ℕ
 cells p before w x = task_cells p before w x w.tasks 0 ++ scope_cells before w x w.scopes 0
 
@@ -35,7 +35,7 @@ cells p before w x = task_cells p before w x w.tasks 0 ++ scope_cells before w x
 abbrev pub fault_mark : Watched → ℕ → ℕ → List ℕ
 fault_mark m x t = mark_at mark.Fault x (lane t) (state_line m.program (shown m.state))
 
--- what stands; a fault stands alone, in its own column, and from there on nothing is drawn
+-- the cells of a column; a fault is drawn alone, in its own column, and nothing is drawn after it
 abbrev pub standing : Watched → Watched → ℕ → Bool → PlainState → List ℕ
 standing before m x is_counted (plain.Fault kind t f pc) = if is_counted then fault_mark m x t else []
 standing before m x is_counted _ = cells m.program before.last m.last x
@@ -51,7 +51,7 @@ idle_word is_counted = if is_counted then [] else codes " idle"
 abbrev pub number_class : Bool → List ℕ
 number_class is_counted = if is_counted then codes "number" else codes "number idle"
 
--- the event's words end, and its number stands behind them
+-- the end of the event's words, followed by its number
 abbrev pub number_end : ℕ → List ℕ → List ℕ
 number_end n idle = idle ++ codes "</title>" ++ decimal n ++ codes "</text>\n"
 
@@ -84,7 +84,7 @@ columns p events = first_column (watched p []) ++ columns_from p [] events
 
 -- ---- what stands round them
 
--- how the run stands, and the steps that it took
+-- the state of the run, and the steps that it took
 abbrev pub heading : Watched → List ℕ
 heading m = state_line m.program (shown m.state) ++ (codes " " ++ steps_line m.steps)
 
@@ -97,7 +97,7 @@ svg_start wide high =
 abbrev pub sized : Watched → ℕ → List ℕ
 sized m events = svg_start (width events) (height (length m.last.tasks))
 
--- the lines of all that stands
+-- the lines of all tasks and scopes
 unfoldable pub standing_lines : Watched → List ℕ
 standing_lines m = lines_of false m
 
@@ -107,11 +107,12 @@ description_start = codes "</title>\n<desc>"
 unfoldable pub description_end : List ℕ
 description_end = codes "</desc>\n"
 
--- the words for those who don't see it, behind how the run stands: all that stands
+-- the description for readers who don't see the picture: after the state of the run, all tasks and
+-- scopes
 abbrev pub description : Watched → List ℕ
 description m = description_start ++ (standing_lines m ++ description_end)
 
--- the size, how the run stands, and all that stands
+-- the size, the state of the run, and all tasks and scopes
 abbrev pub head : Watched → ℕ → List ℕ
 head m events = sized m events ++ (heading m ++ description m)
 
@@ -121,7 +122,7 @@ grid style wide high =
     style ++ (codes "<rect fill='url(#sts-grid)' x='208' y='46' width='" ++ (decimal wide
     ++ (codes "' height='" ++ (decimal high ++ codes "'/>\n"))))
 
--- the grid, and how the run stands above it
+-- the grid, and the state of the run above it
 abbrev pub backdrop : Watched → ℕ → List ℕ
 backdrop m events =
     grid style (24 * events + 24) (52 * length m.last.tasks)
@@ -138,7 +139,7 @@ foot tasks = legend_at (lane tasks) legend
 abbrev pub below : Watched → List ℕ
 below m = lane_names m.program m.last m.last.tasks 0 ++ foot (length m.last.tasks)
 
--- these columns among what stands round them
+-- these columns between the head, the grid and the legend
 abbrev pub framed : Watched → ℕ → List ℕ → List ℕ
 framed m events columns = head m events ++ (backdrop m events ++ (columns ++ below m))
 

@@ -1,4 +1,5 @@
--- What stands in each picture alike: the texts are chosen, and nothing is proved from them (this project's own).
+-- The texts that all pictures share. They are chosen freely, and nothing is proved from them (this
+-- project's own).
 use Rattle.std.specs.Prelude.{ℕ, List}
 use Rattle.look_picture.specs.declared.style.TheConstants.{LEGEND, STYLE}
 

@@ -1,11 +1,11 @@
--- The elements of a picture (this project's own). The words that stand in them are numbers, words of the machine and names
--- of functions, which are letters, digits and underscores: none needs an escape.
+-- The elements of a picture (this project's own). Their words are numbers, words of the machine and
+-- names of functions, which are letters, digits and underscores: none needs an escape.
 use Rattle.std.specs.Prelude.{ℕ, List, ◌++◌, codes}
 use Rattle.std.specs.Fmt.{decimal}
 use Rattle.look_picture.specs.declared.marks.Mark.{Mark}
 use Rattle.look_picture.specs.Marks.{class, shape}
 
--- a mark at a point, up to the words that tell it
+-- a mark at a point, up to the words that describe it
 abbrev pub mark_start : Mark → ℕ → ℕ → List ℕ
 mark_start m x y =
     codes "<path class='" ++ class m ++ codes "' d='M" ++ decimal x ++ codes " " ++ decimal y ++ shape m
@@ -14,7 +14,7 @@ mark_start m x y =
 abbrev pub mark_end : List ℕ
 mark_end = codes "</title></path>\n"
 
--- a mark at a point, and the words that tell it
+-- a mark at a point, and the words that describe it
 abbrev pub mark_at : Mark → ℕ → ℕ → List ℕ → List ℕ
 mark_at m x y words = mark_start m x y ++ (words ++ mark_end)
 

@@ -21,7 +21,7 @@ fn is_closed(phase: Phase) -> bool
     matches!(phase, Phase::Closed)
 }
 
-/// A mark of a scope, told by its place and this word.
+/// A mark of a scope, described by the scope's place and this word.
 fn scope_mark(
     out: &mut String,
     mark: Mark,

@@ -42,7 +42,7 @@ fn rests(records: &Records, t: u32) -> bool
     (t as usize) < records.tasks_born() && !records.lives(t)
 }
 
-/// `task T`, and how it stands.
+/// `task T`, and its state.
 fn told(out: &mut String, program: &Program, world: &World, t: u32) -> Result<(), AllocError>
     requires { t < length world.now.tasks }
     ensures { OnOk result (string_bytes out.new
@@ -52,7 +52,7 @@ fn told(out: &mut String, program: &Program, world: &World, t: u32) -> Result<()
     stand_words(out, program, world, t)
 }
 
-/// The value or the code that a task ended with, beside the mark.
+/// The value or the code that a task ended with, next to the mark.
 fn value_text(out: &mut String, x: u128, t: u32, end: Option<End>) -> Result<(), AllocError>
     requires { x < 2 ^ 127 }
     ensures { OnOk result (string_bytes out.new
@@ -121,7 +121,7 @@ fn rest(
     value_text(out, x, t, end)
 }
 
-/// A task that lives in this column, or that lived or wasn't born in the one before.
+/// A task that lives in this column, or that lived or wasn't born in the column before.
 fn stand(
     out: &mut String,
     program: &Program,

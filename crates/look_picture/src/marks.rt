@@ -1,4 +1,4 @@
-//! What stands in a picture: each mark's class, for the style, and its shape from where it stands.
+//! The marks of a picture: each mark's class, for the style, and its shape from its point.
 
 ghost use Rattle.std.specs.Prelude.{◌≡◌};
 ghost use Rattle.look_picture.specs.Marks as def;
@@ -16,7 +16,7 @@ pub enum Mark {
     Success,
     /// A task failed.
     Failed,
-    /// A task's end that its scope wasn't told.
+    /// A task's end that the joiner of its scope wasn't told of.
     Unheard,
     /// A task that was forked in a cancelled scope.
     NeverStarted,
@@ -24,7 +24,7 @@ pub enum Mark {
     Interrupted,
     /// A scope that is not closed.
     Bracket,
-    /// A scope whose `close` waits.
+    /// A scope that waits at its `close`.
     Closing,
     /// A scope's phase changed.
     Edge,
@@ -59,7 +59,7 @@ impl Mark {
         }
     }
 
-    /// How it is drawn from where it stands, as SVG spells paths.
+    /// The shape of the mark from its point, as an SVG path.
     pub fn shape(self) -> &'static str
         ensures { result.now ≡ def.shape self }
     {

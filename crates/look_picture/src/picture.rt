@@ -23,7 +23,7 @@ use sts_output::{Output, state_line, state_status, steps_line};
 use sts_plain::PlainState;
 use sts_world::World;
 
-/// All that a world shows in a column, with what it became since the one before.
+/// All cells of a world in a column, with the changes since the column before.
 fn cells(
     out: &mut String,
     program: &Program,
@@ -49,7 +49,7 @@ fn fault_mark(out: &mut String, watch: &Watch<'_>, x: u128, t: u32) -> Result<()
     mark_end(out)
 }
 
-/// What stands, and at a fault the fault alone, in its own column.
+/// The cells of a column; after a fault only the fault, in its own column.
 fn standing(
     out: &mut String,
     before: &Watch<'_>,
@@ -98,7 +98,7 @@ fn number_class(is_counted: bool) -> &'static str
     if is_counted { "number" } else { "number idle" }
 }
 
-/// The event's words end, and its number stands behind them.
+/// The end of the event's words, followed by its number.
 fn number_end(out: &mut String, n: usize, idle: &str) -> Result<(), AllocError>
     ensures { OnOk result (string_bytes out.new
         ≡ string_bytes out.old ++ def.number_end n idle.now) }
@@ -134,7 +134,7 @@ fn event_column(
     stepped(out, column(n), event, is_counted)
 }
 
-/// Applies the n-th event to two machines that stand alike, and draws its column.
+/// Applies the n-th event to two machines in the same state, and draws its column.
 fn event_step(
     alloc: Global,
     out: &mut String,
@@ -202,7 +202,7 @@ fn columns<'p>(
     Ok(watch)
 }
 
-/// How the run stands, and the steps that it took.
+/// The state of the run, and the steps that it took.
 fn heading(out: &mut String, watch: &Watch<'_>) -> Result<(), AllocError>
     ensures { OnOk result (string_bytes out.new ≡ string_bytes out.old ++ def.heading watch.now) }
 {
@@ -230,7 +230,7 @@ fn sized(out: &mut String, watch: &Watch<'_>, events: usize) -> Result<(), Alloc
     svg_start(out, width(events), height(tasks))
 }
 
-/// The lines of all that stands.
+/// The lines of all tasks and scopes.
 fn standing_lines(out: &mut String, watch: &Watch<'_>) -> Result<(), AllocError>
     ensures { OnOk result (string_bytes out.new
         ≡ string_bytes out.old ++ def.standing_lines watch.now) }
@@ -250,7 +250,8 @@ fn description_end(out: &mut String) -> Result<(), AllocError>
     writeln!(out, "</desc>")
 }
 
-/// The words for those who don't see it, behind how the run stands: all that stands.
+/// The description for readers who don't see the picture: after the state of the run, all tasks and
+/// scopes.
 fn description(out: &mut String, watch: &Watch<'_>) -> Result<(), AllocError>
     ensures { OnOk result (string_bytes out.new
         ≡ string_bytes out.old ++ def.description watch.now) }
@@ -260,7 +261,7 @@ fn description(out: &mut String, watch: &Watch<'_>) -> Result<(), AllocError>
     description_end(out)
 }
 
-/// The size, how the run stands, and all that stands.
+/// The size, the state of the run, and all tasks and scopes.
 fn head(out: &mut String, watch: &Watch<'_>, events: usize) -> Result<(), AllocError>
     ensures { OnOk result (string_bytes out.new
         ≡ string_bytes out.old ++ def.head watch.now events) }
@@ -281,7 +282,7 @@ fn grid(out: &mut String, style: &str, wide: u128, high: usize) -> Result<(), Al
     )
 }
 
-/// The grid, and how the run stands above it.
+/// The grid, and the state of the run above it.
 fn backdrop(out: &mut String, watch: &Watch<'_>, events: usize) -> Result<(), AllocError>
     ensures { OnOk result (string_bytes out.new
         ≡ string_bytes out.old ++ def.backdrop watch.now events) }
@@ -320,7 +321,7 @@ fn below(out: &mut String, watch: &Watch<'_>) -> Result<(), AllocError>
     foot(out, records.tasks_born())
 }
 
-/// Puts these columns among what stands round them.
+/// Puts these columns between the head, the grid and the legend.
 fn framed(
     out: &mut String,
     watch: &Watch<'_>,
@@ -336,7 +337,7 @@ fn framed(
     below(out, watch)
 }
 
-/// The picture of a run of these events, and the status of how the machine stands in the end.
+/// The picture of a run of these events, and the status of the machine's last state.
 ///
 /// # Errors
 ///

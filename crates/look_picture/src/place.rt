@@ -9,7 +9,7 @@ use std::cmp;
 use sts_model::Phase;
 use sts_world::Records;
 
-/// The middle of the n-th event's column; 0 stands before the first event.
+/// The middle of the n-th event's column. Column 0 is before the first event.
 pub fn column(n: usize) -> u128
     ensures { result ≡ def.column n }
 {
@@ -30,7 +30,7 @@ fn is_open_of(records: &Records, t: u32, s: u32) -> bool
     records.owner(s) == t && !matches!(records.phase(s), Phase::Closed)
 }
 
-/// How many scopes of its owner a scope stands in.
+/// The number of scopes of its owner that a scope is in.
 fn depth(records: &Records, s: u32) -> usize
     requires { s < length records.now.scopes }
     ensures value { result ≡ def.depth records.now s }
@@ -54,14 +54,14 @@ pub fn bracket(records: &Records, s: u32) -> u64
     lane(records.owner(s)) + 14 + 9 * cmp::min(depth(records, s), 2) as u64
 }
 
-/// How wide a picture of so many events is.
+/// The width of a picture of `events` events.
 pub fn width(events: usize) -> u128
     ensures { result ≡ def.width events }
 {
     cmp::max(column(events) + 168, 480)
 }
 
-/// How high a picture of so many tasks is.
+/// The height of a picture of `tasks` tasks.
 pub fn height(tasks: usize) -> u64
     requires { tasks ≤ MAX_BIRTHS }
     ensures { result ≡ def.height tasks }

@@ -1,4 +1,4 @@
-//! What stands in each picture alike.
+//! The texts that all pictures share.
 
 ghost use Rattle.std.specs.Prelude.{◌≡◌};
 ghost use Rattle.look_picture.specs.Style as def;

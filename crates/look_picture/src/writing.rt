@@ -8,7 +8,7 @@ use crate::marks::Mark;
 use std::alloc::AllocError;
 use std::fmt::Write;
 
-/// A mark at a point, up to the words that tell it.
+/// A mark at a point, up to the words that describe it.
 pub(crate) fn mark_start(out: &mut String, mark: Mark, x: u128, y: u64) -> Result<(), AllocError>
     ensures { OnOk result (string_bytes out.new
         ≡ string_bytes out.old ++ def.mark_start mark x y) }

@@ -1,4 +1,4 @@
--- What stands in a list is among it.
+-- An element of a list is among the list.
 use Rattle.std.proofs.Common.{◌≡◌, ℕ, zero, suc, ◌<◌, List, [], ◌∷◌, length, get_or, inl, inr, arith}
 use Rattle.sts_rules.specs.ControlPaths.{Among}
 

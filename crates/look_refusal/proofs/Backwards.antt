@@ -152,7 +152,7 @@ module _ (s : Search) (ready : IsReady s) (t : Trail) (trail : IsTrail s t) wher
         round_behind = ap (around s.code.now) (sym place) ∙ g.6;
       }
 
-  -- so many turns fit, where each adds something
+  -- `n` turns fit, if each adds something
   pub many_fit : (times n g rest : ℕ) → 0 < g → rest + times * n * g ≤ greatest_number → times * n ≤ greatest_number
   many_fit times n g rest pos le =
       let m : times * n * 1 ≤ times * n * g = mul-le-mul_left (times * n) (omega arith) in
@@ -171,7 +171,7 @@ module _ (s : Search) (ready : IsReady s) (t : Trail) (trail : IsTrail s t) wher
       let m : min end.depth ((flow s).depth l.head) ≡ d = omega (arith, depth) in
       b.inside l.head (around s.code.now l.head) inner ∙ ap (λ x. record { place = l.head + 1; depth = x }) m
 
-  -- what the numbers come to on the way over a loop
+  -- the shares and the sum on the way over a loop
   pub loop_step : (times many q : ℕ) (l : Loop) (at to end turn next : Spot) (before now v1 v2 after : Shares) → IsLoop s l → l.end ≡ q → IsUnderWay s t times at to before now → (best_in t at.place at.depth).from ≡ Some q → ends_turn (instr_at s.code.now q) ≡ true → many ≡ times * l.turns → IsStepBack (flow s) q at many now v1 end → IsWalkedBack s t many turn end v1 v2 → IsStepBack (flow s) l.head at times v2 after next → AreParts after → IsUnderWay s t times next to before after
   loop_step times many q l at to end turn next before now v1 v2 after is end_is u e turning many_is last body first parts =
       let f = from_is at q u.spot e in

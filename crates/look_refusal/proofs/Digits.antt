@@ -9,7 +9,7 @@ use Rattle.sts_list.specs.RoundTrip.{IsValue}
 use Rattle.sts_list.proofs.ByteLemmas.{both}
 use Rattle.sts_list.proofs.DecimalLemmas.{digits_of}
 
--- no digit stands first, if anything does
+-- the first byte is no digit, if there is one
 abbrev pub NoDigit : List ℕ → Type 0
 NoDigit xs = is_ascii_digit (get_or xs 0 0) ≡ false
 
@@ -40,7 +40,7 @@ minus_first (d ∷ ds) xs ys f filled e = let p = both (is_ascii_digit d) (list_
 no_minus : (n : ℕ) (xs ys : List ℕ) → n < 2 ^ 64 → decimal n ++ xs ≡ 45 ∷ ys → ⊥
 no_minus n xs ys low e = minus_first (decimal n) xs ys (digits_of n low) (decimal_nonempty n low) e
 
--- the same of numbers with a sign
+-- like `number_read`, for numbers with a sign
 pub value_read : (y z : ℤ) (xs ys : List ℕ) → IsValue y → IsValue z → NoDigit xs → NoDigit ys → signed_decimal y ++ xs ≡ signed_decimal z ++ ys → (y ≡ z) × (xs ≡ ys)
 value_read (pos m) (pos n) xs ys low high f g e = let h = number_read m n xs ys (omega arith) (omega arith) f g e in (ap pos h.0, h.1)
 value_read (pos m) (negsuc n) xs ys low high f g e = absurd (no_minus m xs (decimal (suc n) ++ ys) (omega arith) e)

@@ -1,4 +1,4 @@
--- Each typestate that reaches a place, or arrives there, tells of 16 slots.
+-- Each typestate that reaches a place, or arrives there, has 16 slots.
 use Rattle.std.proofs.Common.{◌≡◌, ℕ, ◌+◌, inl, inr, List, [], ◌∷◌, ◌++◌, Bool, true, false, cond, Option, Some, None, Ok, map, length, option_map, option_to_list, refl, ap, ◌∙◌, subst}
 use Rattle.std.proofs.lemmas.List.{length-set, length-map}
 use Rattle.sts_code.specs.Program.{Program, routine, instr_at}

@@ -1,4 +1,4 @@
--- What stands at a place.
+-- The full sum at a place.
 use Rattle.std.proofs.Common.{◌≡◌, ℕ, ◌+◌, ◌-◌, ◌*◌, ◌<◌, List, [], ◌∷◌, ◌++◌, length, get_or, Option, Some, None, inl, inr, sym, ap, ◌∙◌, arith, length-append}
 use Rattle.std.specs.Prelude.{MatchOption, SomeIff}
 use Rattle.std.proofs.lemmas.Bool.{cases_lt}
@@ -33,7 +33,7 @@ module _ (s : Search) (ready : IsReady s) (t : Trail) (trail : IsTrail s t) wher
   pub full_alone : (pc : ℕ) → around s.code.now pc ≡ [] → full_in s t pc ≡ sum_in t pc ((flow s).depth pc)
   full_alone pc round = full_outside (paths s) (around s.code.now) ready.good (flow s) (fits_here s ready) (sum_in t) (is_table s ready t trail) pc round
 
-  -- it stands there on some path
+  -- some path has this sum there
   pub full_stands : (pc : ℕ) → pc < length s.code.now → Stands (paths s) (flow s) (full_in s t pc)
   full_stands pc within = ((flow s).depth pc, (pc, (_, (full_in s t pc, (omega arith, point_attained (paths s) (around s.code.now) ready.good (flow s) (fits_here s ready) (sum_in t) (is_table s ready t trail) pc within, omega arith)))))
 

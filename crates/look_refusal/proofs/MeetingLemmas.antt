@@ -86,7 +86,7 @@ module _ (out : List (ℕ × TypeState)) (n : ℕ) (e : ℕ × TypeState) (lt : 
         | inr same ↦ subst (λ (k : ℕ). HasWay (kept table e.0 w) k) same.0 (keep_has table e.0 w (subst (λ (k : ℕ). k < length table) (sym same.0) inside))
       ]
 
-  -- it leads there with the typestate told, if it does
+  -- an edge that leads there leads there with the typestate `told`
   pub alike_more : (to : ℕ) (told : TypeState) → (e.0 ≡ to → e.1 ≡ told) → ((x : TypeState) → Leads (take n out) to x → x ≡ told) → (x : TypeState) → Leads (take (n + 1) out) to x → x ≡ told
   alike_more to told here before x l = elim (leads_more to x l) [ inl b ↦ before x b | inr same ↦ sym same.1 ∙ here same.0 ]
 
@@ -155,7 +155,7 @@ alone_first p f to s e first = refl
 alone_first p f to s e (then from before out r g l) = let lt = forward p f from before out to s g l in absurd (omega arith)
 
 module _ (p : Program) (f last : ℕ) (table : List (Option Way)) (ways : AreWays p f table) (all : AreSpread p f last last table) (clear : (earlier : ℕ) → earlier < last → IsClear (typing p f) earlier) where
-  -- the way that is kept for a clear place has the one typestate that reaches it
+  -- the way that is kept for a clear place has the only typestate that reaches it
   way_alone : (at : ℕ) (w : Way) (s : TypeState) → slice_index_or table at None ≡ Some w → at < last → Reaches (typing p f) at s → w.state ≡ s
   way_alone at w s here lt r =
       let c = clear at lt in
@@ -221,7 +221,7 @@ module _ (p : Program) (f last : ℕ) (table : List (Option Way)) (ways : AreWay
 pub not_refused : (p : Program) (f pc : ℕ) (table : List (Option Way)) → AreWays p f table → AreSpread p f pc pc table → NoneMeet p f pc table → TurnsAlike p f pc table → IsTypeRefusal p f pc StatesDiffer → ⊥
 not_refused p f pc table ways all none alike refusal = no_cause p f pc table ways all refusal.2 none alike StatesDiffer refl refusal.1
 
--- so what is found beside it is two ways that meet
+-- so the answer of the search is two ways that meet
 pub finds : (p : Program) (f pc : ℕ) (table : List (Option Way)) (r : Option Meeting) → AreWays p f table → AreSpread p f pc pc table → NoneMeet p f pc table → MatchOption r (TurnsAlike p f pc table) (Meets p f pc) → MatchOption r (IsTypeRefusal p f pc StatesDiffer → ⊥) (Meets p f pc)
 finds p f pc table None ways all none alike = not_refused p f pc table ways all none alike
 finds p f pc table (Some m) ways all none is = is

@@ -33,7 +33,7 @@ use Rattle.sts_budget.proofs.FourKindLemmas.{from_sums, from_steps}
 use Rattle.sts_budget.proofs.PointLemmas.{end_counts_one}
 
 module _ (earlier : List Budgets) (code : List Instr) (round : ℕ → List ℕ) (good : IsStructured (skeleton earlier code) round) (names_at : ℕ → Names) (known : KnowsNames code (skeleton earlier code) round names_at) where
-  -- all that stands at a point is one of the sums
+  -- the count at a point is one of the sums
   all_sums : (m : Measure) (pc : ℕ) (loops : Loops) (before : ℕ) (es : List OpenEntry) → Comes (skeleton earlier code) pc loops before es → Sums (skeleton earlier code) (flows_by m code names_at) (length (names_at pc)) pc loops (entries_sum m es)
   all_sums m pc loops before es r =
       let n = comes_names earlier code round good names_at known pc loops before es r in
@@ -49,7 +49,7 @@ module _ (earlier : List Budgets) (code : List Instr) (round : ℕ → List ℕ)
   none_heavier Scopes most below pc m (loops, (before, (es, (r, is)))) = let le = below pc loops _ refl (all_sums (scopes_measure earlier) pc loops before es r) in omega (arith, is)
   none_heavier Binds most below pc m (loops, (before, (es, (r, is)))) = let le = below pc loops _ refl (all_sums (binds_measure earlier) pc loops before es r) in omega (arith, is)
 
-  -- what stands over some of the entries weighs no more than all of them
+  -- the sum over some of the entries is no more than that over all of them
   entries_weigh : (m : Measure) (v : ℕ) → Stands (skeleton earlier code) (flows_by m code names_at) v → (pc : ℕ) × ((loops : Loops) × ((before : ℕ) × ((es : List OpenEntry) × (Comes (skeleton earlier code) pc loops before es × (v ≤ entries_sum m es)))))
   entries_weigh m v (d, (pc, (loops, (sum, h)))) =
       let w = from_sums earlier code round good names_at known m d pc loops sum h.1 in
@@ -68,7 +68,7 @@ module _ (earlier : List Budgets) (code : List Instr) (round : ℕ → List ℕ)
   too_heavy Scopes lie v h over = let e = entries_weigh (scopes_measure earlier) v h in (e.0, (_, ((e.1.0, (e.1.1.0, (e.1.1.1.0, (e.1.1.1.1.0, refl)))), omega (arith, e.1.1.1.1.1))))
   too_heavy Binds lie v h over = let e = entries_weigh (binds_measure earlier) v h in (e.0, (_, ((e.1.0, (e.1.1.0, (e.1.1.1.0, (e.1.1.1.1.0, refl)))), omega (arith, e.1.1.1.1.1))))
 
--- no path weighs more than the most of what stands by the trail
+-- no path weighs more than the greatest sum by the trail
 pub top_most : (s : Search) (t : Trail) (place most weight : ℕ) → IsTop s t (length s.code.now) place most → IsTrail s t → IsReady s → own_of s.resource + most ≤ weight → NoneHeavier s.resource s.earlier.now s.code.now weight
 top_most s t place most weight top trail ready le = none_heavier s.earlier.now s.code.now (around s.code.now) ready.good (names_in s.layout.now) ready.known s.resource weight below
   where
@@ -85,7 +85,7 @@ own_small Tasks = omega arith
 own_small Scopes = omega arith
 own_small Binds = omega arith
 
--- where the most of what stands is not all but nothing
+-- if the greatest sum isn't 0, some place has it
 pub top_there : (s : Search) (t : Trail) (place most : ℕ) → IsTop s t (length s.code.now) place most → 1 < own_of s.resource + most → (place < length s.code.now) × (may_end s place ≡ true) × (full_in s t place ≡ most)
 top_there s t place most top some = elim top.there [ inl empty ↦ (let own = own_small s.resource in absurd (omega arith)) | inr there ↦ there ]
 

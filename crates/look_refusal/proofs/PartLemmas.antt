@@ -1,4 +1,4 @@
--- The parts in which typestates differ, and their lines.
+-- The parts that differ in two typestates, and their lines.
 use Rattle.std.proofs.Common.{◌≡◌, ◌≢◌, ℕ, zero, suc, ◌+◌, ◌<◌, ◌≤◌, ◌⊎◌, inl, inr, List, [], ◌∷◌, ◌++◌, map, refl, sym, ap, ◌∙◌, append_assoc, arith}
 use Rattle.std.specs.List.{flat_map, range_with_len}
 use Rattle.std.proofs.lemmas.Bool.{cases_eq}
@@ -20,7 +20,7 @@ use Rattle.look_refusal.proofs.Reading.{parts_apart}
 -- ---- what is said
 
 module _ (m : Meeting) (one other : List ℕ) where
-  -- of a part that is the same nothing
+  -- a part that is the same has no line
   pub same_said : (part : Part) (before : List ℕ) → IsSamePart part m.one.state m.other.state → SaysParts m one other (part ∷ []) before before
   same_said part before is = record { found = []; differ = same part is none; said = sym (append-nil before) }
 
@@ -50,7 +50,7 @@ module _ (m : Meeting) (one other : List ℕ) where
             ∙ ap (λ (xs : List ℕ). before ++ xs) (sym (flat_map-append line a.found b.found));
       }
 
-  -- of a slot more
+  -- one slot more
   pub slot_said : (x : ℕ) (before between after : List ℕ) → SaysParts m one other (slots x) before between → SaysParts m one other (Slot x ∷ []) between after → SaysParts m one other (slots (x + 1)) before after
   unfolding slots
   slot_said x before between after a b =
@@ -100,7 +100,7 @@ module _ (a b : TypeState) where
       same_state h.0 h.1.0 h.1.1.0
       (ext_get_or Empty a.slots b.slots (long ∙ sym also) (λ x lt. slot_same 0 16 x h.1.1.1 (omega arith) (omega (arith, long))))
 
--- where two ways meet, the parts in which they differ are some
+-- if two ways meet, at least one part differs
 pub some_differ : (p : Program) (f pc : ℕ) (m : Meeting) (parts : List Part) → Meets p f pc m → Differing m.one.state m.other.state all_parts parts → AreDifferences m.one.state m.other.state parts
 some_differ p f pc m parts meets each =
     let one : IsFull m.one.state = arrived_full p f m.at m.one.origin m.one.state meets.one in

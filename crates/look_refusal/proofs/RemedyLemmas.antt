@@ -38,7 +38,7 @@ no_excess earlier code TooManyTasks x e = absurd (cc)
 no_excess earlier code TooManyScopes x e = absurd (cc)
 no_excess earlier code TooManyBinds x e = absurd (cc)
 
--- no place that nothing reaches, and none where two ways differ
+-- the place is reached, and two ways don't differ there
 reached_by : (p : Program) (f pc : ℕ) (c : Cause) → fixed_remedy c ≡ None → HasCause (typing p f) pc c → IsReached p f pc
 reached_by p f pc c e (dead d) = absurd (cc)
 reached_by p f pc c e (two t) = absurd (cc)
@@ -52,7 +52,7 @@ of_type p f pc c e (too_much earlier typed long right excess) = absurd (no_exces
 pub typed_place : (p : Program) (f pc : ℕ) (c : Cause) → fixed_remedy c ≡ None → IsRefusal p f pc c → (pc < size p f) × IsReached p f pc × AreClear p f pc
 typed_place p f pc c e h = let r = of_type p f pc c e h.1 in (r.0, reached_by p f pc c e r.1, r.2)
 
--- what is done with the parts of the program is what is to do there
+-- the remedy from the parts of the program is the remedy for the place
 pub same_remedy : (p : Program) (f pc : ℕ) (s : TypeState) (c : Cause) (profile : Profile) (code : List Instr) (instr : Instr) (r : Remedy) → profile ≡ p.profile → code ≡ (routine p f).code → instr ≡ instr_at code pc → r ≡ typed_remedy profile code pc instr s c → r ≡ remedy_in p f pc s c
 same_remedy p f pc s c profile code instr r e g h k =
     k ∙ ap (λ (x : Profile). typed_remedy x code pc instr s c) e

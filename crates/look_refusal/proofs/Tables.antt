@@ -89,7 +89,7 @@ module _ (s : Search) (ready : IsReady s) where
           by (straight ps e' among' turn) = handed_straight s ready (sum_in t) pc d turn
           by (looping p n e' mate next turn) = let l = ready.good.loop p n e' in let no : EndsTurn ≡ GoesTo places = sym l.3 ∙ ap (paths s).shape mate ∙ e in absurd (cc)
 
-  -- what is handed on stands at some point
+  -- a sum that is handed on is reached at some point
   pub too_wide : (t : Trail) (k from : ℕ) → k < length s.code.now → IsBegun s k t → from < k → LeadsOn s from k → HandsTooMuch s (sum_in t) from k → IsTooWide s
   too_wide t k from within h lt l (d, (low, over)) = by (way_of s ready from k l)
     where

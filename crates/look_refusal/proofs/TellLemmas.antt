@@ -1,4 +1,4 @@
--- What is told beside a cause.
+-- The detail of a cause.
 use Rattle.std.proofs.Common.{◌≡◌, ◌≢◌, ℕ, ◌<◌, List, [], ◌++◌, Err, inl, inr, refl, sym, ap, ◌∙◌, subst, arith}
 use Rattle.std.proofs.lemmas.List.{append-nil}
 use Rattle.sts_code.specs.Program.{Program, routine}
@@ -33,7 +33,7 @@ use Rattle.look_refusal.proofs.PartLemmas.{some_differ}
 pub nothing_told : (p : Program) (o : Outline) (f pc : ℕ) (c : Cause) (before : List ℕ) → c ≢ StatesDiffer → ((k : Resource) → c ≡ cause_of k → NeedsMoreBits p f k) → Tells p o f pc c before before
 nothing_told p o f pc c before other wide = told [] (none other wide) (sym (append-nil before))
 
--- where none of the causes is why
+-- the cause isn't one of a budget
 pub no_budget : (p : Program) (f : ℕ) (c : Cause) → c ≢ TooManySteps → c ≢ TooManyTasks → c ≢ TooManyScopes → c ≢ TooManyBinds → (k : Resource) → c ≡ cause_of k → NeedsMoreBits p f k
 no_budget p f c steps tasks scopes binds Steps e = absurd (steps e)
 no_budget p f c steps tasks scopes binds Tasks e = absurd (tasks e)
@@ -102,7 +102,7 @@ more_weighs Tasks earlier code (m, (p, over)) = (p.0, (m, ((p.1.0, (p.1.1.0, (p.
 more_weighs Scopes earlier code (m, (p, over)) = (p.0, (m, ((p.1.0, (p.1.1.0, (p.1.1.1.0, p.1.1.1.1))), over)))
 more_weighs Binds earlier code (m, (p, over)) = (p.0, (m, ((p.1.0, (p.1.1.0, (p.1.1.1.0, p.1.1.1.1))), over)))
 
--- nothing is told of a budget that is passed only where more bits are needed
+-- if a budget over its limit has no detail, more bits are needed
 pub untold_wide : (p : Program) (f pc : ℕ) (k : Resource) (c : Cause) → c ≡ cause_of k → IsUnsound p f pc c → IsUntold p f k → NeedsMoreBits p f k
 untold_wide p f pc k c e (ill_typed r) u = absurd (no_cause p f pc k c e r.1)
 untold_wide p f pc k c e (too_much earlier typed long right excess) u = elim u.why [ inl light ↦ absurd (too_light light) | inr wide ↦ record { earlier = u.earlier; long = u.long; right = u.right; more = wide } ]

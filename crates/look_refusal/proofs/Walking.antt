@@ -1,4 +1,4 @@
--- Stretches that were walked back, one after the other.
+-- Stretches that were walked back, in a row.
 use Rattle.std.proofs.Common.{◌≡◌, ◌≢◌, ℕ, zero, suc, ◌+◌, ◌-◌, ◌*◌, ◌<◌, ◌≤◌, List, [], ◌∷◌, length, get_or, set, Bool, true, false, ◌==◌, cond, refl, sym, subst, ap, ◌∙◌, arith, length-set, get_or-set_same, get_or-set_other}
 use Rattle.std.proofs.lemmas.Bool.{eqb-true, eqb-false}
 use Rattle.sts_rules.specs.ControlPaths.{Skeleton, Loops, GoesTo, Repeats, Among, go, skip}
@@ -43,7 +43,7 @@ raised_both times a b s t u h k = record {
     joined : (n times x y : ℕ) → n + times * x + times * y ≡ n + times * (y + x)
     joined n times x y = omega arith
 
--- so many times in each of so many
+-- added `times` times in each of `n` turns
 pub raised_fold : (times n many : ℕ) (a : Amounts) (s t : Shares) → many ≡ times * n → IsRaised many a s t → IsRaised times (fold_of n a) s t
 raised_fold times n many a s t is h = record {
   long = h.long;
@@ -176,7 +176,7 @@ walked_skip c f h n times to at s t shape behind low is =
 
 -- ---- out of all loops
 
--- a walk back from a place, at whose end more loops are open
+-- a walk back from a place, with more loops open at its end
 pub record IsOpenWalk (c : Skeleton) (f : Flows) (at to : Spot) (before after : Shares) : Type 0 where
   pub after_loops : Loops → Loops
   pub amounts : Amounts

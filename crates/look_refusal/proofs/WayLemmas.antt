@@ -15,7 +15,7 @@ use Rattle.look_refusal.specs.Ways.{IsWayTo, AreWays}
 some_is : {X : Type 0} (x y : X) → Some x ≡ Some y → x ≡ y
 some_is x y e = cc
 
--- what stands in a list of edges at some number is one of them
+-- the edge at a number of a list is one of its edges
 pub leads_at : (out : List (ℕ × TypeState)) (n : ℕ) (e : ℕ × TypeState) → slice_get out n ≡ Some e → Leads out e.0 e.1
 leads_at [] n e h = absurd (cc)
 leads_at (x ∷ xs) zero e h = let same : x ≡ e = some_is x e h in inl (ap (λ (y : ℕ × TypeState). y.0) same, ap (λ (y : ℕ × TypeState). y.1) same)

@@ -1,5 +1,5 @@
--- What each step of a control path adds to the sum over the first open entries at its end (this
--- project's own).
+-- The amounts that the steps of a control path add to the sum over the first open entries at its
+-- end (this project's own).
 use Rattle.std.specs.Prelude.{ℕ, ◌+◌, ◌≤◌, ◌==◌, List, [], ◌∷◌, if◌then◌else◌}
 use Rattle.sts_rules.specs.ControlPaths.{Skeleton, Loops, Follows}
 use Rattle.sts_budget.specs.Sums.{Flows}
@@ -8,8 +8,8 @@ use Rattle.sts_budget.specs.Sums.{Flows}
 abbrev pub Steps : Type 0
 Steps = List (ℕ × ℕ)
 
--- some control path comes to the place with these loops open; its steps, the last one first, are at
--- these places and add so much each to the sum over the first d entries
+-- Some control path reaches the place with these loops open. Its steps are listed with the last one
+-- first: each with its place, and with the amount that it adds to the sum over the first d entries.
 pub data Adds (c : Skeleton) (f : Flows) : ℕ → ℕ → Loops → Steps → Type 0 where
   none : Adds c f 0 0 [] []
   more : {d pc : ℕ} {loops : Loops} {steps : Steps} {to : ℕ} {after : Loops} → d ≤ f.depth to

@@ -84,8 +84,7 @@ IsSamePart Loops a b = a.loops ≡ b.loops
 IsSamePart Open a b = a.entries ≡ b.entries
 IsSamePart (Slot x) a b = kind a x ≡ kind b x
 
--- of some parts those in which the two differ, in order: all of these, and no other; so do the
--- words for each of them
+-- the parts that differ among these, in order, and no others; their words differ too
 pub data Differing (a b : TypeState) : List Part → List Part → Type 0 where
   none : Differing a b [] []
   same : (part : Part) {parts found : List Part} → IsSamePart part a b → Differing a b parts found
@@ -94,7 +93,7 @@ pub data Differing (a b : TypeState) : List Part → List Part → Type 0 where
       → part_words part a ≢ part_words part b → Differing a b parts found
       → Differing a b (part ∷ parts) (part ∷ found)
 
--- so many slots
+-- the first `count` slots
 unfoldable pub slots : ℕ → List Part
 slots count = map Slot (range_with_len 0 count)
 
@@ -102,7 +101,7 @@ slots count = map Slot (range_with_len 0 count)
 unfoldable pub all_parts : List Part
 all_parts = Operands ∷ Loops ∷ Open ∷ slots 16
 
--- the parts in which the two differ: there is one at least
+-- the parts that differ; there is at least one
 pub record AreDifferences (a b : TypeState) (parts : List Part) : Type 0 where
   pub each : Differing a b all_parts parts
   pub some : parts ≢ []
@@ -148,7 +147,7 @@ origin_words o p f (Turn pc) =
 
 -- ---- the lines
 
--- what is so on one way
+-- the words for one way's side of a difference
 abbrev pub side : List ℕ → List ℕ → List ℕ
 side words way = words ++ codes " on the way from " ++ way
 
@@ -172,15 +171,15 @@ abbrev pub difference_lines : Outline → Program → ℕ → Meeting → List P
 difference_lines o p f m parts =
     part_lines m (origin_words o p f m.one.origin) (origin_words o p f m.other.origin) parts
 
--- what was said before, and then a line for each of these parts in which the typestates of the two
--- ways differ
+-- the text so far, and then a line for each of these parts that differs in the typestates of the
+-- two ways
 pub record SaysParts (m : Meeting) (one other : List ℕ) (parts : List Part)
     (before after : List ℕ) : Type 0 where
   pub found : List Part
   pub differ : Differing m.one.state m.other.state parts found
   pub said : after ≡ before ++ part_lines m one other found
 
--- what was said before, and then a line for each part in which they differ
+-- the text so far, and then a line for each part that differs
 abbrev pub SaysDifferences : Outline → Program → ℕ → Meeting → List ℕ → List ℕ → Type 0
 SaysDifferences o p f m before after =
     SaysParts m (origin_words o p f m.one.origin) (origin_words o p f m.other.origin) all_parts

@@ -14,7 +14,7 @@ use Rattle.look_refusal.specs.declared.search.Search.{Search}
 use Rattle.look_refusal.specs.Adding.{Adds, Steps, share, total}
 use Rattle.look_refusal.specs.Search.{ends_for}
 
--- some control path comes to the place; its steps add what is told, more than the limit allows
+-- some control path reaches the place, and its steps add the reported amounts, more than the limit
 pub record IsWeighedIn (k : Resource) (earlier : List Budgets) (code : List Instr) (l : Layout)
     (h : Heavy) : Type 0 where
   pub in_code : h.place < length code

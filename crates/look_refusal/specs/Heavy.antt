@@ -16,8 +16,8 @@ use Rattle.look_refusal.specs.declared.heavy.Heavy.{Heavy}
 use Rattle.look_refusal.specs.Adding.{Adds, Steps, share, total}
 use Rattle.look_refusal.specs.Trail.{greatest_number}
 
--- what the budget counts at a point of a control path: of steps those of the whole path that ends
--- there, else what stands there
+-- the count of the budget at a point of a control path: the steps of the whole path that ends
+-- there, or the tasks, scopes or bindings that count there
 abbrev pub Counts : Resource → List Budgets → Skeleton → ℕ → ℕ → List OpenEntry → ℕ → Type 0
 Counts resource.Steps earlier c pc before es m =
     (c.shape pc ≡ EndsPath) × (before + c.weight pc ≡ m)
@@ -25,7 +25,7 @@ Counts resource.Tasks earlier c pc before es m = tasks_sum earlier es ≡ m
 Counts resource.Scopes earlier c pc before es m = scopes_sum earlier es ≡ m
 Counts resource.Binds earlier c pc before es m = binds_sum earlier es ≡ m
 
--- some control path comes to this place, where the budget counts so much
+-- some control path reaches this place, and the budget counts m there
 abbrev pub Weighs : Resource → List Budgets → List Instr → ℕ → ℕ → Type 0
 Weighs k earlier code pc m =
     (loops : Loops)
@@ -34,13 +34,13 @@ Weighs k earlier code pc m =
     × (Comes (skeleton earlier code) pc loops before es
     × Counts k earlier (skeleton earlier code) pc before es m)))
 
--- whatever some control path comes to, the budget counts no more there
+-- at every point of every control path the budget counts at most `most`
 abbrev pub NoneHeavier : Resource → List Budgets → List Instr → ℕ → Type 0
 NoneHeavier k earlier code most = (pc m : ℕ) → Weighs k earlier code pc m → m ≤ most
 
--- A control path of the function comes to the place that is told; the budget counts there what is
--- told, which is more than its limit; and what is told of each place is what the steps of the path
--- at that place add to it, beside what the function counts itself.
+-- Some control path of the function reaches the reported place. The budget counts the reported
+-- weight there, and no other point has a higher count. The share of each place is what the steps of
+-- the path at that place add; the function's own part comes on top.
 pub record IsHeavy (p : Program) (f : ℕ) (k : Resource) (h : Heavy) : Type 0 where
   pub earlier : List Budgets
   pub long : length earlier ≡ f

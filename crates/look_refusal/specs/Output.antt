@@ -1,4 +1,4 @@
--- What is printed of a text and the status that goes with it (this project's own).
+-- The output for a text, and the status that goes with it (this project's own).
 use Rattle.std.specs.Prelude.{◌≡◌, ◌≢◌, ◌⊎◌, ℕ, List, [], ◌++◌, Result, Ok, Err, codes}
 use Rattle.sts_code.specs.Program.{Program}
 use Rattle.sts_output.specs.Output.{Output, memory_output}
@@ -36,9 +36,9 @@ fault_output e text = record { bytes = fault_lines e text; status = 3 }
 
 -- ---- refusals
 
--- what is told beside the cause: the parts in which two ways that meet differ, always if that is
--- why, and then one part at least; or what weighs too much, always if that is why and 128 bits hold
--- what each point weighs
+-- The detail of a cause. If two ways differ, it has the parts that differ, at least one. If a
+-- budget is over its limit, it has the weights of a path, unless 128 bits don't hold the count of
+-- some point. All other causes have no detail.
 pub data IsDetail (p : Program) (o : Outline) (f pc : ℕ) : Cause → List ℕ → Type 0 where
   meets : (m : Meeting) (parts : List Part) → Meets p f pc m
       → AreDifferences m.one.state m.other.state parts
@@ -58,8 +58,8 @@ abbrev pub refused_output : Program → Outline → ℕ → ℕ → Cause → Re
 refused_output p o f pc c remedy detail =
     record { bytes = refused_lines p (sentence_at o f pc) f c remedy ++ detail; status = 4 }
 
--- what is printed of a program that is refused at its least place with a cause, for the least cause
--- there, with what to do about it
+-- the output for a refused program: it names the least place with a cause, the least cause there,
+-- and what to do about it
 pub record IsRefused (p : Program) (o : Outline) (output : Output) : Type 0 where
   pub function : ℕ
   pub place : ℕ
@@ -71,7 +71,7 @@ pub record IsRefused (p : Program) (o : Outline) (output : Output) : Type 0 wher
   pub told : IsDetail p o function place cause detail
   pub printed : output ≡ refused_output p o function place cause remedy detail
 
--- of a program that is accepted, or refused
+-- the output for an accepted program, or for a refused one
 pub data IsVerdict (p : Program) (o : Outline) (output : Output) : Type 0 where
   accepted : (notes : List Note) → IsAccepted p → AreNotes p notes
       → output ≡ accepted_output o p notes → IsVerdict p o output
@@ -79,7 +79,7 @@ pub data IsVerdict (p : Program) (o : Outline) (output : Output) : Type 0 where
 
 -- ---- texts
 
--- of what a text spells, or of its first fault
+-- the output for the program that a text spells, or for its first fault
 abbrev pub Explains : Result Program AsmError → List ℕ → Output → Type 0
 Explains (Ok p) text output = (o : Outline) × ((outlined text ≡ Ok o) × IsVerdict p o output)
 Explains (Err e) text output = output ≡ fault_output e text

@@ -1,4 +1,4 @@
--- That the words for a part tell typestates apart (this project's own).
+-- Different typestates have different words for their parts (this project's own).
 use Rattle.std.specs.Prelude.{◌≢◌, ◌<◌, ◌^◌, ⊤}
 use Rattle.std.specs.List.{AllByRecursion}
 use Rattle.sts_code.specs.declared.instr.Joiner.{Joiner}
@@ -45,8 +45,8 @@ IsHeldIn Loops s = AllByRecursion IsHeldLoop s.loops
 IsHeldIn Open s = AllByRecursion IsHeldEntry s.entries
 IsHeldIn (Slot x) s = IsHeldKind (kind s x)
 
--- Where typestates differ in a part, of such numbers, so do the words for it: of a number with more
--- than 64 digits the last 64 would be written.
+-- If two typestates differ in a part, so do the words for it. Their numbers must have 64 bits: only
+-- the last 64 digits of a number would be written.
 abbrev pub PartsReadApart : Type 0
 PartsReadApart =
     (part : Part) (a b : TypeState) → IsHeldIn part a → IsHeldIn part b → ¬ IsSamePart part a b

@@ -26,7 +26,7 @@ use Rattle.look_refusal.specs.declared.remedy.Remedy.TheVariants as r
 
 -- ---- V5
 
--- a `times` or `next` without the other
+-- a `times` without a `next`, or a `next` without a `times`
 abbrev pub unmatched_remedy : Instr → Remedy
 unmatched_remedy i.Next = r.NextWithoutTimes
 unmatched_remedy instr = r.TimesWithoutNext
@@ -84,7 +84,7 @@ abbrev pub unread : Option TypedScope → Remedy
 unread None = r.ReadBeforeJoin
 unread (Some scope) = unread_in scope.phase
 
--- of a subtask that can be read the state isn't known
+-- the state of a subtask that can be read isn't known
 abbrev pub unknown_of : Profile → Option TypedScope → Remedy → Remedy
 unknown_of profile scope unknown =
     if passes (is_readable profile) scope then unknown else unread scope

@@ -61,14 +61,14 @@ pub record IsLoop (s : Search) (l : Loop) : Type 0 where
 abbrev pub OpensLoop : Search → ℕ → Type 0
 OpensLoop s pc = (n : ℕ) × ((paths s).shape pc ≡ Repeats n)
 
--- the instruction, which opens no loop, leads from one place to the other; at the end of a turn
--- that is on from its loop
+-- the instruction leads from one place to another, and opens no loop; the end of a turn leads on
+-- from its loop
 abbrev pub LeadsOn : Search → ℕ → ℕ → Type 0
 LeadsOn s from to =
     (turns_of (instr_at s.code.now from) ≡ 0)
     × Among (targets (instr_at s.code.now from) ++ next_place from (instr_at s.code.now from)) to
 
--- steps are told of whole paths
+-- a path that is reported for its steps is a whole one
 abbrev pub ends_for : Resource → Instr → Bool
 ends_for Steps i = ends_path i
 ends_for _ i = true

@@ -19,15 +19,15 @@ greatest_number = 340282366920938463463374607431768211455
 abbrev pub no_way : Best
 no_way = record { sum = 0; from = None }
 
--- what the trail has at a place over the first d entries
+-- the entry of the trail for a place and the first d entries
 abbrev pub best_in : Trail → ℕ → ℕ → Best
 best_in t pc d = get_or (get_or t.rows.items pc []) d (record { sum = 0; from = None })
 
 abbrev pub sum_in : Trail → ℕ → ℕ → ℕ
 sum_in t pc d = (get_or (get_or t.rows.items pc []) d (record { sum = 0; from = None })).sum
 
--- the sum over the first d entries after so many turns of the loop between these places, where so
--- much was before its `times`
+-- the sum over the first d entries after `turns` turns of the loop between these places, if it was
+-- `before` at its `times`
 abbrev pub looped : Search → (ℕ → ℕ → ℕ) → (head end turns before d : ℕ) → ℕ
 looped s best head end turns before d =
     before + (flow s).added head d + turns * (best end d + (flow s).added end d)
@@ -46,7 +46,7 @@ handed s best pc d =
 abbrev pub better : Best → Best → Best
 better old new = if is_none old.from || nat_lt old.sum new.sum then new else old
 
--- none of the places below k leads there, or this one does, with this sum
+-- either no place below k leads there, or this place leads there, with this sum
 abbrev pub IsFrom : Search → (ℕ → ℕ → ℕ) → (k pc d sum : ℕ) → Option ℕ → Type 0
 IsFrom s best k pc d sum None = (sum ≡ 0) × ((q : ℕ) → q < k → LeadsOn s q pc → ⊥)
 IsFrom s best k pc d sum (Some q) = (q < k) × LeadsOn s q pc × (sum ≡ handed s best q d)
@@ -78,6 +78,6 @@ IsTrail s t = IsBegun s (length s.code.now) t
 abbrev pub IsTooWide : Search → Type 0
 IsTooWide s = Passes (paths s) (flow s) greatest_number
 
--- all that stands at a place, each open loop being in its last turn
+-- the full sum at a place, with each open loop in its last turn
 abbrev pub full_in : Search → Trail → ℕ → ℕ
 full_in s t pc = full (paths s) (flow s) (around s.code.now) (sum_in t) pc

@@ -12,7 +12,7 @@ use Rattle.look_refusal.specs.Adding.{Adds, Steps, share, total, at_place}
 use Rattle.look_refusal.specs.Search.{paths, flow}
 use Rattle.look_refusal.specs.Trail.{sum_in, looped}
 
--- so much at each place, and all of it in one
+-- the amount at each place, and their sum
 pub record Amounts : Type 0 where
   pub at : ℕ → ℕ
   pub all : ℕ
@@ -22,7 +22,7 @@ pub record Grows (before after : Steps) (a : Amounts) : Type 0 where
   pub at : (x : ℕ) → share after x ≡ share before x + a.at x
   pub all : total after ≡ total before + a.all
 
--- each control path that comes to one place goes on to another, and adds these amounts on the way
+-- each control path that reaches one place goes on to another, and adds these amounts on the way
 abbrev pub Extends : Skeleton → Flows → ℕ → ℕ → Loops → ℕ → ℕ → Loops → Amounts → Type 0
 Extends c f d pc loops e to after a =
     (steps : Steps) → Adds c f d pc loops steps
@@ -33,7 +33,7 @@ abbrev pub IsStretch : Skeleton → Flows → Spot → Spot → Amounts → Type
 IsStretch c f from to a =
     (loops : Loops) → Extends c f from.depth from.place loops to.depth to.place loops a
 
--- these amounts were added, so many times
+-- these amounts were added `times` times
 pub record IsRaised (times : ℕ) (a : Amounts) (before after : Shares) : Type 0 where
   pub long : length after.places.items ≡ length before.places.items
   pub at : (x : ℕ) → get_or after.places.items x 0 ≡ get_or before.places.items x 0 + times * a.at x
@@ -43,14 +43,14 @@ pub record IsRaised (times : ℕ) (a : Amounts) (before after : Shares) : Type 0
 abbrev pub one : ℕ → ℕ → Amounts
 one pc amount = record { at = at_place pc amount; all = amount }
 
--- one step back, whose amount was added so many times
+-- one step back, with its amount added `times` times
 pub record IsStepBack (f : Flows) (from : ℕ) (to : Spot) (times : ℕ) (before after : Shares)
     (at : Spot) : Type 0 where
   pub place : at.place ≡ from
   pub depth : at.depth ≡ f.source from to.depth
   pub raised : IsRaised times (one from (f.added from to.depth)) before after
 
--- a stretch between two places, whose amounts were added so many times
+-- a stretch between two places, with its amounts added `times` times
 abbrev pub IsWalked : Skeleton → Flows → ℕ → Spot → Spot → Shares → Shares → Type 0
 IsWalked c f times at to before after =
     (a : Amounts) × (IsStretch c f at to a × IsRaised times a before after)
@@ -74,7 +74,8 @@ IsWholeWalk c f to before after =
 abbrev pub AreParts : Shares → Type 0
 AreParts s = (x : ℕ) → get_or s.places.items x 0 ≤ s.total
 
--- a spot is at the beginning of the function, or of a turn of the innermost loop around the other
+-- a spot is at the beginning of the function, or of a turn of the innermost loop around a second
+-- spot
 pub record IsBegin (s : Search) (to at : Spot) : Type 0 where
   pub outside : around s.code.now to.place ≡ [] → at ≡ record { place = 0; depth = 0 }
   pub inside : (p : ℕ) (ps : List ℕ) → around s.code.now to.place ≡ p ∷ ps

@@ -11,9 +11,10 @@ use Rattle.look_refusal.specs.declared.ways.Origin.TheVariants.{Beginning, Edge,
 use Rattle.look_refusal.specs.declared.ways.Way.{Way}
 use Rattle.look_refusal.specs.declared.ways.Meeting.{Meeting}
 
--- A typestate arrives at a place: at the first one it is that at the beginning of the function;
--- along an edge of an instruction, by its number, in one of the typestates that reach that
--- instruction; at the beginning of a loop's turn also that in which the turn before ends.
+-- A typestate arrives at a place in one of three ways. At the beginning of the function it is the
+-- first typestate. Along an edge of an instruction, by its number, it follows from a typestate that
+-- reaches that instruction. At the beginning of a loop's turn it may be the typestate in which the
+-- turn before ends.
 abbrev pub Arrives : Program → ℕ → ℕ → Origin → TypeState → Type 0
 Arrives p f to Beginning s = (to ≡ 0) × (s ≡ entry p f)
 Arrives p f to (Edge from number) s =
@@ -27,7 +28,7 @@ Arrives p f to (Turn from) s =
 abbrev pub IsWayTo : Program → ℕ → ℕ → Way → Type 0
 IsWayTo p f to w = Arrives p f to w.origin w.state × Reaches (typing p f) to w.state
 
--- what is kept for each place is such a way to it
+-- each way in the table leads to its place
 abbrev pub AreWays : Program → ℕ → List (Option Way) → Type 0
 AreWays p f table = (to : ℕ) → IfSome (slice_index_or table to None) (IsWayTo p f to)
 
@@ -74,15 +75,15 @@ pub record KeepsMore (pc : ℕ) (before after : List (Option Way)) : Type 0 wher
   pub same : (to : ℕ) → to ≤ pc → slice_index_or after to None ≡ slice_index_or before to None
   pub still : (to : ℕ) → HasWay before to → HasWay after to
 
--- the table has the places up to the last one: the first has a way, and of so many places each has
--- spread its ways
+-- the table has the places up to the last one: the first has a way, and the first `count` places
+-- have spread their ways
 pub record AreSpread (p : Program) (f last count : ℕ) (table : List (Option Way)) : Type 0 where
   pub long : length table ≡ last + 1
   pub first : HasWay table 0
   pub spread : (from : ℕ) → from < count → IsSpreadFrom p f from table
 
--- each edge of the instruction at a place, in this typestate, that leads to the other place leads
--- there with the typestate told
+-- each edge of the instruction at a place, in this typestate, that leads to the second place leads
+-- there with the typestate `told`
 abbrev pub LeadsAlike : Program → ℕ → ℕ → TypeState → ℕ → TypeState → Type 0
 LeadsAlike p f from s to told =
     (out : List (ℕ × TypeState)) (x : TypeState) → edges p f from s ≡ Ok out → Leads out to x

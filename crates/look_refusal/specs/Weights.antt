@@ -16,7 +16,7 @@ count_words Tasks = codes " tasks count here"
 count_words Scopes = codes " scopes are open here"
 count_words Binds = codes " bindings are open here"
 
--- what the function counts beside its instructions
+-- the line of the function's own part, outside its instructions
 abbrev pub own_line : Resource → List ℕ
 own_line Steps = codes "adds 1, its last step\n"
 own_line Tasks = codes "adds 1, the task itself\n"
@@ -25,7 +25,7 @@ own_line Binds = []
 
 -- ---- which lines are shown
 
--- does the place y add more than the place x, or as much and stands before it?
+-- does the place y add more than the place x, or the same and comes before it?
 abbrev pub is_weightier : List ℕ → ℕ → ℕ → Bool
 is_weightier shares x y =
     nat_lt (get_or shares x 0) (get_or shares y 0)

@@ -129,7 +129,7 @@ struct Named<'a> {
     other: &'a str,
 }
 
-/// What is so on one way.
+/// The words for one way's side of a difference.
 fn say_side(out: &mut Vec<u8>, words: &str, way: &str) -> Result<(), AllocError>
     ensures { OnOk result (out.new.items ≡ out.old.items ++ def.side words.now way.now) }
 {
@@ -178,7 +178,7 @@ fn say_part(
     say_part_line(alloc, out, named, part)
 }
 
-/// The lines of the slots in which the two differ.
+/// The lines of the slots that differ.
 fn say_slots(alloc: Global, out: &mut Vec<u8>, named: &Named<'_>) -> Result<(), AllocError>
     ensures { OnOk result (def.SaysParts named.now.meeting.now named.now.one.now
         named.now.other.now (def.slots 16) out.old.items out.new.items) }
@@ -189,7 +189,7 @@ fn say_slots(alloc: Global, out: &mut Vec<u8>, named: &Named<'_>) -> Result<(), 
     Ok(())
 }
 
-/// The lines of the parts in which the two differ.
+/// The lines of the parts that differ.
 fn say_parts(alloc: Global, out: &mut Vec<u8>, named: &Named<'_>) -> Result<(), AllocError>
     ensures { OnOk result (def.SaysParts named.now.meeting.now named.now.one.now
         named.now.other.now def.all_parts out.old.items out.new.items) }
@@ -200,7 +200,7 @@ fn say_parts(alloc: Global, out: &mut Vec<u8>, named: &Named<'_>) -> Result<(), 
     say_slots(alloc, out, named)
 }
 
-/// A line for each part in which the typestates of two ways differ.
+/// A line for each part that differs in the typestates of two ways.
 ///
 /// # Errors
 ///

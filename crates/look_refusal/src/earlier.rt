@@ -13,7 +13,7 @@ use sts_rules::Budgets;
 ///
 /// # Errors
 ///
-/// Want of memory.
+/// Memory ran out.
 pub(crate) fn budgets_before(
     alloc: Global,
     program: &Program,

@@ -44,7 +44,7 @@ impl Model for Output {
     ghost view = { λ o. record { bytes = o.bytes.items; status = o.status } };
 }
 
-/// The output for a fault of a text; want of memory is no fault of it.
+/// The output for a fault of a text. Running out of memory is no fault of it.
 ///
 /// # Errors
 ///
@@ -106,7 +106,8 @@ fn say_heavy(
     }
 }
 
-/// Tells beside the cause where two ways differ, or what weighs too much, if that is why.
+/// Appends the detail of a cause: the difference of two ways, or the weight of a path, if that is
+/// the cause.
 fn say_detail(
     alloc: Global,
     out: &mut Vec<u8>,
@@ -187,7 +188,7 @@ fn verdict(alloc: Global, outline: &Outline<'_>, program: Program) -> Result<Out
     }
 }
 
-/// The explanation of a text whose lines were read.
+/// The explanation of a text, from the outline of its lines.
 fn of_lines(alloc: Global, outline: &Outline<'_>, text: &[u8]) -> Result<Output, AllocError>
     requires { outlined_of text.now ≡ Ok outline.now }
     ensures { IfOk result (λ o. def.Explains (judged text.now) text.now o) }

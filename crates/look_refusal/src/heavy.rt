@@ -105,13 +105,13 @@ fn heaviest_after(
     Ok(Some(weigh(alloc, &search, &trail, top.place, weight)?))
 }
 
-/// A point of a control path of the function that weighs more than the budget of this resource may:
-/// the heaviest. None is told where nothing weighs more, and where 128 bits don't hold what
-/// something weighs.
+/// The heaviest point of a control path of the function, by what the budget of this resource
+/// counts. The answer is `None` if no point is over the limit, or if 128 bits don't hold the count
+/// of some point.
 ///
 /// # Errors
 ///
-/// Want of memory.
+/// Memory ran out.
 pub fn heaviest(
     alloc: Global,
     program: &Program,

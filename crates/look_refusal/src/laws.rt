@@ -1,9 +1,9 @@
-//! The law of what is told by the words for a part.
+//! The law of the words for a part.
 
 ghost use Rattle.look_refusal.specs.Reading.{PartsReadApart};
 
-/// Of a part in which two typestates differ the words for the one differ from those for the other,
-/// where its numbers are of 64 bits, as all are that the code holds. Nothing is done.
+/// A law: if two typestates differ in a part, so do the words for that part. Its numbers must have
+/// 64 bits, as all numbers of the code do. The function itself does nothing.
 pub fn parts_read_apart()
     ensures { PartsReadApart }
 {}

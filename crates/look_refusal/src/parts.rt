@@ -166,7 +166,7 @@ fn write_part(out: &mut String, part: Part, state: &TypeState) -> Result<(), All
 pub(crate) fn part_words(alloc: Global, part: Part, state: &TypeState) -> Result<String, AllocError>
     ensures words { IfOk result (λ s. string_bytes s ≡ def.part_words part state.now) }
 
-    // Its numbers are of 64 bits: of two typestates that differ in it the words differ too.
+    // Its numbers have 64 bits, so different typestates give different words.
     ensures held { OnOk result (IsHeldIn part state.now) }
 {
     let mut out = String::new(alloc);

@@ -53,13 +53,13 @@ pub enum Remedy {
     FillsParentScope,
     /// The slot that it fills holds a subtask.
     FillsSubtask,
-    /// The scope is the one that the task is a subtask of.
+    /// The task is a subtask of this scope.
     ParentScope,
     /// A `fork` after a `join` of the scope was tried.
     ForkAfterJoin,
     /// A `join` of a scope that was joined.
     JoinedAlready,
-    /// A `close` of a scope of which no `join` was tried.
+    /// A `close` of a scope before any `join` of it was tried.
     CloseBeforeJoin,
     /// Subtasks are read before a `join`.
     ReadBeforeJoin,

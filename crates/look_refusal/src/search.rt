@@ -93,7 +93,7 @@ pub(crate) fn turns_of(instr: Instr) -> u16
     }
 }
 
-/// May a path be told up to this place? Steps are told of whole paths.
+/// May the reported path end at this place? A path that is reported for its steps is a whole one.
 pub(crate) fn may_end(search: &Search<'_>, pc: usize) -> bool
     requires { pc < length search.now.code.now }
     ensures { result ≡ def.may_end search.now pc }
@@ -116,8 +116,8 @@ fn is_among(places: &[u32], to: u32) -> bool
     false
 }
 
-/// Does the instruction, which opens no loop, lead from one place to the other? At the end of a
-/// turn that is on from its loop.
+/// Does the instruction lead from one place to another, and open no loop? The end of a turn leads
+/// on from its loop.
 pub(crate) fn leads_on(search: &Search<'_>, from: u32, to: u32) -> bool
     requires ready { def.IsReady search.now }
     requires in_code { from < length search.now.code.now }

@@ -1,4 +1,4 @@
-//! What to do about a refusal or a fault of a run, in a sentence: the one table of them.
+//! The only table of the sentences that say what to do about a refusal or a fault of a run.
 
 ghost use Rattle.std.specs.Prelude.{◌≡◌};
 ghost use Rattle.look_refusal.specs.Sentences as def;

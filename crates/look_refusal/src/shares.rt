@@ -11,7 +11,7 @@ pub struct Shares {
     pub total: u128,
 }
 
-/// Adds so much at a place, so many times.
+/// Adds `amount`, `times` times, at a place.
 pub(crate) fn add(shares: &mut Shares, place: u32, amount: u128, times: u128)
     requires place { place < length shares.old.places.items }
     requires parts { AreParts shares.old }

@@ -1,4 +1,4 @@
-//! Where most stands.
+//! The place with the greatest sum.
 
 ghost use Rattle.std.specs.Prelude.{◌≡◌, ◌<◌, ◌+◌, length, IfOk, MatchOption};
 ghost use Rattle.look_refusal.specs.Search as def;
@@ -9,15 +9,15 @@ use crate::search::{Search, depth_at, loop_from, may_end};
 use crate::trail::{Trail, after_turns, sum_at};
 use std::alloc::{AllocError, Global};
 
-/// A place, and what stands there.
+/// A place, and the sum there.
 #[derive(Clone, Copy)]
 pub(crate) struct Top {
     pub place: u32,
     pub most: u128,
 }
 
-/// All that stands at a place, each open loop being in its last turn, where so much stands at the
-/// places before it; none where 128 bits don't hold it.
+/// The full sum at a place, with each open loop in its last turn. `fulls` has the full sums at the
+/// places before it. The answer is `None` if 128 bits don't hold it.
 fn full_at(search: &Search<'_>, trail: &Trail, fulls: &[u128], pc: u32) -> Option<u128>
     requires ready { def.IsReady search.now }
     requires trail { trails.IsTrail search.now trail.now }
@@ -41,7 +41,7 @@ fn full_at(search: &Search<'_>, trail: &Trail, fulls: &[u128], pc: u32) -> Optio
     }
 }
 
-/// The one of more, or the place where so much stands, if more does there than at the one.
+/// The higher of the top so far and this place with its full sum. The top so far wins a tie.
 fn higher(search: &Search<'_>, trail: &Trail, top: Top, pc: u32, full: u128) -> Top
     requires in_code { pc < length search.now.code.now }
     requires top { tops.IsTop search.now trail.now pc top.place top.most }
@@ -58,8 +58,8 @@ fn higher(search: &Search<'_>, trail: &Trail, top: Top, pc: u32, full: u128) -> 
     }
 }
 
-/// The place of a function where most stands, of steps at the ends of paths; none where 128 bits
-/// don't hold what stands at a place.
+/// The place of a function with the greatest full sum. For steps only the ends of paths are looked
+/// at. The answer is `None` if 128 bits don't hold the sum at some place.
 pub(crate) fn find_top(
     alloc: Global,
     search: &Search<'_>,

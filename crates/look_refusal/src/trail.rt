@@ -1,4 +1,5 @@
-//! A trail: for each place the one before it on the way there that adds most, found by one pass.
+//! A trail. It is found by one pass, and names for each place the place before it on the way that
+//! adds most.
 
 ghost use Rattle.std.specs.Prelude.{◌≡◌, ◌<◌, ◌≤◌, ◌+◌, ℕ, length, get_or, IfOk, IsTrue, IsFalse};
 ghost use Rattle.std.specs.Prelude.{MatchOption, None, []};
@@ -54,7 +55,7 @@ fn best_at(trail: &Trail, place: usize, depth: usize) -> Best
     }
 }
 
-/// The sum that the trail has at a place over so many entries.
+/// The sum that the trail has at a place over the first `depth` entries.
 pub(crate) fn sum_at(trail: &Trail, place: usize, depth: usize) -> u128
     ensures { result ≡ trails.sum_in trail.now place depth }
 {
@@ -68,7 +69,7 @@ pub(crate) fn before(trail: &Trail, at: Spot) -> Option<u32>
     best_at(trail, at.place as usize, at.depth).from
 }
 
-/// What stands after so many turns of a loop, where so much stood at its `times`, if 128 bits hold
+/// The sum after `turns` turns of a loop, if it was `before` at its `times`, and if 128 bits hold
 /// it.
 pub(crate) fn after_turns(
     search: &Search<'_>,
@@ -123,7 +124,7 @@ fn better(old: Best, new: Best) -> Best
     }
 }
 
-/// Keeps the ways from one place to the other: false where 128 bits don't hold a sum.
+/// Keeps the ways from one place to another. The answer is false if 128 bits don't hold a sum.
 fn keep_ways(search: &Search<'_>, trail: &Trail, from: u32, to: u32, row: &mut Row) -> bool
     requires ready { def.IsReady search.now }
     requires from_in_code { from < length search.now.code.now }
@@ -150,8 +151,8 @@ fn keep_ways(search: &Search<'_>, trail: &Trail, from: u32, to: u32, row: &mut R
     true
 }
 
-/// The best ways to a place, where the trail has those to the places before it; none where 128 bits
-/// don't hold a sum.
+/// The best ways to a place, from the trail of the places before it; `None` if 128 bits don't hold
+/// a sum.
 fn row_at(search: &Search<'_>, trail: &Trail, to: u32) -> Option<Row>
     requires ready { def.IsReady search.now }
     requires in_code { to < length search.now.code.now }
@@ -169,7 +170,7 @@ fn row_at(search: &Search<'_>, trail: &Trail, to: u32) -> Option<Row>
     Some(row)
 }
 
-/// The trail of a function, or none where 128 bits don't hold a sum.
+/// The trail of a function, or `None` if 128 bits don't hold a sum.
 pub(crate) fn find_trail(alloc: Global, search: &Search<'_>) -> Result<Option<Trail>, AllocError>
     requires { def.IsReady search.now }
     ensures { IfOk result

@@ -9,7 +9,7 @@ use crate::search::{Loop, Search, Spot, added_at, depth_before, ends_turn, loop_
 use crate::shares::{Shares, add};
 use crate::trail::{Trail, before, sum_at};
 
-/// One step back to a place, whose instruction adds what it adds so many times.
+/// One step back to a place. Its instruction's amount is added `times` times.
 fn back_to(search: &Search<'_>, from: u32, to: Spot, times: u128, shares: &mut Shares) -> Spot
     requires ready { def.IsReady search.now }
     requires in_code { from < length search.now.code.now }
@@ -43,8 +43,8 @@ fn turn_adds(search: &Search<'_>, trail: &Trail, end: u32, depth: usize) -> bool
     sum_at(trail, end as usize, depth) > 0 || added_at(search, end as usize, depth) > 0
 }
 
-/// The walk back to the beginning of a turn, or of the function. A loop whose turns add nothing is
-/// passed over.
+/// The walk back to the beginning of a turn, or of the function. It passes over a loop if its turns
+/// add nothing.
 fn back(search: &Search<'_>, trail: &Trail, to: Spot, times: u128, shares: &mut Shares) -> Spot
     requires ready { def.IsReady search.now }
     requires trail { trails.IsTrail search.now trail.now }

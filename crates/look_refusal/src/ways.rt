@@ -40,7 +40,7 @@ pub struct Meeting {
     pub other: Way,
 }
 
-/// No way for each of so many places.
+/// A table of `count` places without a way.
 fn none(alloc: Global, count: usize) -> Result<Vec<Option<Way>>, AllocError>
     ensures { IfOk result (λ t. t.items ≡ replicate count None) }
 {
@@ -184,7 +184,7 @@ pub(crate) fn state_at(
     }
 }
 
-/// A way along an edge of an instruction to a place, with another typestate than the one told.
+/// A way along an edge of an instruction to a place, with a typestate other than `told`.
 fn other_from(
     program: &Program,
     function: u32,
@@ -281,8 +281,8 @@ fn turn_at(program: &Program, function: u32, pc: u32, table: &[Option<Way>]) -> 
     })
 }
 
-/// Two ways that meet with typestates that differ, at a place or at the beginning of the turn that
-/// ends there: they are found wherever the function is refused for such a meeting.
+/// Two ways that meet with different typestates, at a place or at the beginning of the turn that
+/// ends there. They are found whenever the function is refused for such a meeting.
 ///
 /// # Errors
 ///

@@ -24,7 +24,7 @@ fn count_words(resource: Resource) -> &'static str
     }
 }
 
-/// What the function counts beside its instructions.
+/// The line of the function's own part, outside its instructions.
 fn own_line(resource: Resource) -> &'static str
     ensures { result.now ≡ def.own_line resource }
 {
@@ -36,7 +36,7 @@ fn own_line(resource: Resource) -> &'static str
     }
 }
 
-/// Does one place add more than this one, or as much and stands before it?
+/// Does the place `one` add more than `this`, or the same and comes before it?
 fn is_weightier(shares: &[u128], this: usize, one: usize) -> bool
     requires this { this < length shares.now }
     requires one { one < length shares.now }

@@ -1,4 +1,5 @@
--- The lines that say how a run stands after a trace, by the lines of its text (this project's own).
+-- The lines that say the state of a run after a trace, with the line numbers of its text (this
+-- project's own).
 use Rattle.std.specs.Prelude.{ℕ, ◌+◌, ◌-◌, List, [], ◌∷◌, ◌++◌, Bool, ◌&&◌, nat_le, if◌then◌else◌}
 use Rattle.std.specs.Prelude.{Option, Some, None, codes, length, map, slice_get}
 use Rattle.std.specs.Fmt.{decimal}
@@ -25,7 +26,7 @@ use Rattle.look_run.specs.Sentences.{trace_sentence}
 
 -- ---- a task at a place
 
--- `task 1 in kid, line 3: close s0`, the words as they stand in the text
+-- `task 1 in kid, line 3: close s0`, with the words as they are in the text
 abbrev pub task_place : Program → Outline → ℕ → ℕ → ℕ → List ℕ
 task_place p o t f pc =
     codes "task " ++ decimal t ++ codes " in " ++ (routine p f).name
@@ -55,7 +56,7 @@ state_lines p o w (plain.Fault kind t f pc) = fault_lines p o w kind t f pc
 abbrev pub subtask_word : World → ℕ → ℕ → List ℕ
 subtask_word w s t = if is_living_subtask s (task_at w t) then codes " " ++ decimal t else []
 
--- those of these tasks that are living subtasks of the scope, the first of which has this number
+-- the living subtasks of the scope among these tasks, numbered from t on
 abbrev pub subtask_words : World → ℕ → List Task → ℕ → List ℕ
 subtask_words w s [] t = []
 subtask_words w s (x ∷ xs) t = subtask_word w s t ++ subtask_words w s xs (t + 1)
@@ -72,7 +73,7 @@ wait_words w Free = []
 wait_words w (AtJoin s) = wait_for w (codes "join") s
 wait_words w (AtClose s) = wait_for w (codes "close") s
 
--- how a living task stands
+-- the state of a living task
 abbrev pub life_words : Program → World → ℕ → List ℕ
 life_words p w t = if can_step p w t then codes "ready" else wait_words w (stand_at p w t)
 
@@ -86,7 +87,7 @@ task_line p o w t =
 abbrev pub living_line : Program → Outline → World → ℕ → List ℕ
 living_line p o w t = if lives (task_at w t) then task_line p o w t else []
 
--- the lines of those of these tasks that live, the first of which has this number
+-- the lines of the living tasks among these, numbered from t on
 abbrev pub living_lines : Program → Outline → World → List Task → ℕ → List ℕ
 living_lines p o w [] t = []
 living_lines p o w (x ∷ xs) t = living_line p o w t ++ living_lines p o w xs (t + 1)
@@ -99,7 +100,7 @@ trace_number (trace.BadNumber n) = 2
 trace_number trace.NoNewline = 3
 trace_number trace.Memory = 4
 
--- the number of the line that a fault is of; bytes behind the last newline are the last line
+-- the number of the line of a fault; bytes after the last newline are the last line
 abbrev pub line_number : List ℕ → TraceError → ℕ
 line_number text (trace.BadLine n) = n
 line_number text (trace.BadNumber n) = n

@@ -14,7 +14,7 @@ use Rattle.look_refusal.specs.Output.{fault_output}
 use Rattle.look_lines.specs.Watched.{Watched, watched}
 use Rattle.look_run.specs.Lines.{living_lines, state_lines, trace_fault_lines}
 
--- how the machine stands, then each task that lives; at a fault as they stood before it
+-- the state of the machine, then each task that lives; after a fault they are shown as before it
 abbrev pub run_lines : Outline → Watched → List ℕ
 run_lines o m =
     state_lines m.program o m.last (shown m.state) ++ living_lines m.program o m.last m.last.tasks 0
@@ -26,7 +26,7 @@ watched_output o m = record { bytes = run_lines o m; status = state_status (show
 abbrev pub trace_fault_output : List ℕ → TraceError → Output
 trace_fault_output text e = record { bytes = trace_fault_lines text e; status = 3 }
 
--- of the events that a trace spells, or of its first fault
+-- the output for the events that a trace spells, or for its first fault
 abbrev pub traced_output : Program → Outline → List ℕ → Result (List Event) TraceError → Output
 traced_output p o trace (Ok events) = watched_output o (watched p events)
 traced_output p o trace (Err e) = trace_fault_output trace e

@@ -1,5 +1,5 @@
--- What to do about a fault of a run: by the instruction, and by how the task is there (this
--- project's own).
+-- What to do about a fault of a run. It depends on the instruction, and on the state of the task
+-- there (this project's own).
 use Rattle.std.specs.Prelude.{ℕ, List, [], ◌∷◌, length, Bool, Option, Some, None, is_some, is_none}
 use Rattle.std.specs.Prelude.{if◌then◌else◌, nat_le}
 use Rattle.sts_code.specs.Program.{Program}

@@ -1,4 +1,4 @@
-//! Explains how a run of a text stands after a trace.
+//! Explains the state of a text's run after a trace.
 
 ghost use Rattle.std.specs.Prelude.{◌≡◌, IfOk, Ok};
 ghost use Rattle.sts_asm.specs.Source.{outlined as outlined_of};
@@ -19,7 +19,7 @@ use sts_code::Program;
 use sts_output::{TakeError, WriteFailed, failed, state_status, written};
 use sts_trace::read_trace;
 
-/// How the machine stands that is watched, and each task that lives.
+/// The state of a watched machine, and each task that lives.
 fn of_watch(alloc: Global, outline: &Outline<'_>, watch: &Watch<'_>) -> Result<Output, AllocError>
     ensures { IfOk result (λ o. o ≡ def.watched_output outline.now watch.now) }
 {
@@ -37,7 +37,7 @@ fn of_watch(alloc: Global, outline: &Outline<'_>, watch: &Watch<'_>) -> Result<O
     })
 }
 
-/// The explanation of a run of a program, whose lines these are.
+/// The explanation of a run of a program with these lines.
 fn of_trace(
     alloc: Global,
     outline: &Outline<'_>,
@@ -56,7 +56,7 @@ fn of_trace(
     }
 }
 
-/// The explanation of a run of a text whose lines were read.
+/// The explanation of a run of a text, from the outline of its lines.
 fn of_lines(
     alloc: Global,
     outline: &Outline<'_>,
@@ -81,10 +81,10 @@ fn explanation(alloc: Global, text: &[u8], trace: &[u8]) -> Result<Output, Alloc
     }
 }
 
-/// Writes how a run of a text stands after a trace, by the lines of the text, and gives the status
-/// that `sts plain` gives: at a fault which it is and what is wrong, as a text or a trace that is
-/// faulty is told too, and then where each task that lives is and for whom it waits. No verdict is
-/// asked for: a program that is refused runs as well.
+/// Writes the state of a text's run after a trace, with line numbers, and gives the status that
+/// `sts plain` gives. After a fault it names the fault and says what is wrong. It reports a faulty
+/// text or trace in the same way. Then it says where each living task is, and which tasks it waits
+/// for. It runs refused programs too, since it doesn't verify them.
 ///
 /// It takes all its memory before the first byte is written.
 ///

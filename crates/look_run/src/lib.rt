@@ -1,5 +1,5 @@
-//! How a run stands after a trace, told by the lines of its text: at a fault what is wrong, and of
-//! each task that lives where it is and for whom it waits.
+//! The state of a run after a trace, with the line numbers of its text. After a fault it says what
+//! is wrong. It also says where each living task is, and which tasks it waits for.
 #![tactic(auto)]
 
 mod explaining;

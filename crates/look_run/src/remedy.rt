@@ -1,4 +1,5 @@
-//! What to do about a fault of a run: by the instruction, and by how the task is there.
+//! What to do about a fault of a run. It depends on the instruction, and on the state of the task
+//! there.
 
 ghost use Rattle.std.specs.Prelude.{◌≡◌, ◌<◌, length, true, if◌then◌else◌};
 ghost use Rattle.sts_model.specs.Living as living;

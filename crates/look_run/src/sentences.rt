@@ -1,4 +1,4 @@
-//! What each fault of a trace says, in a sentence: the one table of them.
+//! The only table of the sentences for faults of a trace.
 
 ghost use Rattle.std.specs.Prelude.{◌≡◌};
 ghost use Rattle.look_run.specs.Sentences as def;

@@ -1,4 +1,4 @@
-//! The lines of a run: how it stands, and where each task that lives is and for whom it waits.
+//! The lines of a run: its state, where each living task is, and which tasks it waits for.
 
 ghost use Rattle.std.specs.Prelude.{◌≡◌, ◌++◌, ◌<◌, OnOk, length, true};
 ghost use Rattle.sts_model.specs.Living as living;
@@ -191,7 +191,7 @@ fn say_wait(
     }
 }
 
-/// How a living task stands.
+/// The state of a living task.
 fn say_life(
     alloc: Global,
     out: &mut Vec<u8>,

@@ -13,7 +13,7 @@ use look_text::say;
 use std::alloc::{AllocError, Global};
 use sts_trace::TraceError;
 
-/// How many lines a text has; the last is what stands behind the last newline.
+/// The number of lines of a text. The last line comes after the last newline.
 fn line_count(text: &[u8]) -> usize
     ensures { result ≡ length (lines text.now) }
 {
@@ -76,7 +76,7 @@ fn say_bytes(out: &mut Vec<u8>, line: &[u8]) -> Result<(), AllocError>
     Ok(())
 }
 
-/// The lines of a fault of a trace: where it is, the line as it stands, and what is wrong.
+/// The lines of a fault of a trace: where it is, the line itself, and what is wrong.
 fn say_fault(
     alloc: Global,
     out: &mut Vec<u8>,
@@ -95,7 +95,7 @@ fn say_fault(
     say(out, "\n")
 }
 
-/// The output for a fault of a trace; want of memory is no fault of it.
+/// The output for a fault of a trace. Running out of memory is no fault of it.
 ///
 /// # Errors
 ///

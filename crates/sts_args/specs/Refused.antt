@@ -46,8 +46,8 @@ HasMistake kinds = (k : ErrorKind) × IsAmong k kinds × (k ≢ kind.DisplayHelp
 abbrev pub AsksForHelp : List Text → Type 0
 AsksForHelp words = (1 < length words) × IsAmong kind.DisplayHelp (fault_of program words)
 
--- `clap` finds no fault, but the words name no command of the program with all its files; or the
--- number of workers isn't from 1 to 16, and only this ever comes
+-- `clap` finds no fault, and the words name no command of the program with all its files, or no
+-- number of workers from 1 to 16 (only the second case ever comes)
 abbrev pub NamesNothing : List Text → Type 0
 NamesNothing words = (fault_of program words ≡ [])
     × (is_whole (subcommand_of program words) ≡ false)

@@ -95,6 +95,7 @@ fn read_dues(alloc: Global, text: &[u8]) -> Result<Vec<Due>, TraceError>
 /// # Errors
 ///
 /// Lines are judged in order.
+///
 /// - `BadLine`: the line isn't `at`, a word, `interrupt` or `expire`, and a word, with one space
 ///   between them; or it is line 4,097.
 /// - `BadNumber`: one of those two words isn't `0` or digits without a leading zero, or is over

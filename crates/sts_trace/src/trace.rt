@@ -62,6 +62,7 @@ fn read_events(alloc: Global, text: &[u8]) -> Result<Vec<Event>, TraceError>
 /// # Errors
 ///
 /// Lines are judged in order.
+///
 /// - `BadLine`: the line isn't `step`, `interrupt` or `expire`, one space, and one or more bytes
 ///   without a space.
 /// - `BadNumber`: the last word isn't `0` or digits without a leading zero, or is over 4294967295.

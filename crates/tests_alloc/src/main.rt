@@ -1,5 +1,5 @@
-//! Makes one call after the other on a row and says what each answers, for a script that refuses
-//! memory meanwhile.
+//! Makes one call after another on a row and says what each answers. A script makes allocations
+//! fail meanwhile.
 //!
 //! Standard input has a line of calls, a text, a line `%`, a trace, a line `%` and an outside text.
 //! If a call finds no memory, the program prints `error memory in` and its name, with status 6.

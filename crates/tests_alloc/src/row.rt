@@ -14,7 +14,7 @@ pub struct Row<'a> {
 }
 
 impl<'a> Row<'a> {
-    /// The line of calls that an input begins with, and the row behind it.
+    /// The line of calls at the beginning of an input, and the row after it.
     ///
     /// # Errors
     ///

@@ -1,4 +1,4 @@
-//! Whole runs, none of whose calls is passed an allocator.
+//! Whole runs. None of their calls is passed an allocator.
 
 use sts_machine::{Machine, Turned};
 use sts_model::Event;

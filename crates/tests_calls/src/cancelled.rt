@@ -74,7 +74,7 @@ fn ready_after(rt: &impl Abort, tree: &Tree<u8>, t: u32) -> Option<u32> {
     tree.ready_after(t)
 }
 
-/// How many tasks are in the ready list, each of which can step.
+/// How many tasks are in the ready list. Each of them can step.
 fn ready_count(rt: &impl Abort, tree: &Tree<u8>) -> u32 {
     let mut at = tree.ready_front();
     for count in 0..65537 {

@@ -1,4 +1,4 @@
-//! Interrupts of a task whose record is used again.
+//! Interrupts of a task when its record is used again.
 
 use crate::rows::THOUSAND;
 use std::test::Fail;
@@ -8,7 +8,7 @@ use sts_model::{End, Event};
 use sts_verify::verify;
 
 /// Task 1 lives from the fourth step of `main`, which forks it, to its own second step. The tasks
-/// that are forked after it stand under its key.
+/// that are forked after it get its key.
 #[test]
 fn an_interrupt_counts_while_its_task_lives(rt: HostRuntime) -> Result<(), Fail> {
     let program = assemble(rt.alloc(), THOUSAND.as_bytes())?;

@@ -28,7 +28,7 @@ fn a_layout_tells_loops_and_open_entries(rt: HostRuntime) -> Result<(), Fail> {
             ];
             assert_eq!(rt; layout.heads.as_slice(), heads.as_slice());
             assert_eq!(rt; layout.mates.get(1), Some(&8));
-            // The scope is open behind `open` at 2, up to either `close`, at 5 and at 7.
+            // The scope is open after `open` at 2, up to either `close`, at 5 and at 7.
             let open = [0, 0, 0, 1, 1, 1, 0, 1, 0, 0, 0];
             for pc in 0..open.len() {
                 assert_eq!(rt; open_at(&layout, pc), Some(open[pc]), "at {pc}");

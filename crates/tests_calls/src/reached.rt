@@ -1,5 +1,5 @@
-//! Budgets and runs: a run that reaches all four budgets exactly, and for each budget a text whose
-//! runs never reach it.
+//! Budgets and runs: a run that reaches all four budgets exactly, and for each budget a text with
+//! no run that reaches it.
 
 use std::alloc::Global;
 use std::process::Abort;
@@ -31,7 +31,7 @@ struct Reach {
 }
 
 /// Each `close` is met while a subtask lives, since the `join` before it is interrupted: it takes
-/// both its steps. When the two leaves have bound their key, all tasks, scopes and bindings stand
+/// both its steps. When the two leaves have bound their key, all tasks, scopes and bindings count
 /// at once.
 ///
 /// A leaf has 5 steps. A subtask has 1 for `open`, 1 and 5 for `fork`, 1 for `join`, 1 for `push`,
@@ -47,7 +47,7 @@ const ALL_AT_ONCE: &str = "\
     intr:\npush 1\nclose s0\nret\nend\n\
 ";
 
-/// The way over the two instructions behind `jz` is never taken.
+/// The way over the two instructions after `jz` is never taken.
 const STEPS_NOT_TAKEN: &str = "\
     func main 0\npush 0\njz on\npush 1\npop\n\
     on:\npush 7\nret\nend\n\
@@ -224,7 +224,7 @@ fn turn(world: &mut World, alloc: Global, program: &Program, event: Event) -> Re
     Ok(true)
 }
 
-/// What a run costs whose events all count, up to the root's end.
+/// The cost of a run up to the root's end, if all its events count.
 fn played<R: Abort>(
     rt: &R,
     alloc: Global,

@@ -12,7 +12,7 @@ pub const DOUBLES: &str = "\
     intr:\npush 0\nclose s0\nfail\nend\n\
 ";
 
-/// One subtask fails while the other waits for a leaf of its own.
+/// One subtask fails while a second waits for a leaf of its own.
 pub const BOOM: &str = "\
     func leaf 0\ninterrupted\njz calm\npush 1\npush 1\nret\ncalm:\npush 0\nret\nend\n\
     func boom 0\npush 8\nfail\nend\n\
@@ -24,7 +24,7 @@ pub const BOOM: &str = "\
     intr:\npush 0\nclose s0\nfail\nend\n\
 ";
 
-/// A thousand scopes one after the other, each with one subtask.
+/// A thousand scopes in a row, each with one subtask.
 pub const THOUSAND: &str = "\
     func kid 0\npush 0\nret\nend\n\
     func main 0\npush 1000\ntimes 1000\nopen s0 awaitall\nfork s0 kid _\njoin s0 - - intr\n\

@@ -17,7 +17,7 @@ fn push_escaped(text: &mut Vec<u8>, escaped: &str) -> Result<()> {
 ///
 /// # Errors
 ///
-/// Out of memory, or a `\` that neither ends the line nor has two digits behind it.
+/// Out of memory, or a `\` that doesn't end the line and has no two digits after it.
 pub fn push_line(text: &mut Vec<u8>, line: &str) -> Result<()> {
     let (line, end) = match line.strip_suffix("\\") {
         Some(unended) => (unended, ""),
@@ -44,7 +44,7 @@ pub fn push_lines(text: &mut Vec<u8>, lines: &str, between: &str) -> Result<()> 
     Ok(())
 }
 
-/// Pushes as many lines as the number says, each a step of the task.
+/// Pushes `count` lines, each a step of the task.
 fn push_steps(trace: &mut Vec<u8>, task: u32, count: u32) -> Result<()> {
     for _ in 0..count {
         writeln!(trace, "step {task}")?;

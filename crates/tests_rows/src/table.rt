@@ -14,7 +14,7 @@ const MOST: usize = 1_048_576;
 #[derive(Clone, Copy)]
 enum Asked {
     In(Mode),
-    /// With no words: the text holds the trace too.
+    /// No words: the text holds the trace too.
     Joined,
 }
 

@@ -1,4 +1,4 @@
-//! The whole program over files, an input and two streams, in place of the process's own.
+//! The whole program over files, an input and two streams, instead of the process's own.
 
 use std::alloc::Global;
 use std::env::FillError;

@@ -93,8 +93,8 @@ fn an_expiry_from_outside_is_taken_when_it_is_due(rt: HostRuntime) -> Result<(),
         DEADLINE_BUDGETS,
         expired,
     )?;
-    // At 0 the scope isn't born: the expiry is recorded, and changes nothing. What is due at 99
-    // never comes.
+    // At 0 the scope isn't born: the expiry is recorded, and changes nothing. The event that is due
+    // at 99 never comes.
     let in_time = "success 1\nsteps 8\n";
     comes_to(
         &rt,

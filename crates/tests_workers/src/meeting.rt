@@ -19,7 +19,7 @@ fn zero() -> AtomicU64 {
     AtomicU64::new(0)
 }
 
-/// Holds each worker that enters for a subtask until as many have.
+/// Holds the workers that enter for a subtask until this many have entered.
 #[derive(Drop)]
 struct Meeting {
     workers: u64,
@@ -117,7 +117,7 @@ impl Outside for Herald<'_> {
     }
 }
 
-/// How often an event stands in a journal.
+/// How often a journal has an event.
 fn count(journal: &[Event], event: Event) -> usize {
     journal.iter().filter(|e| **e == event).count()
 }
@@ -211,8 +211,9 @@ fn out_is_out(rt: HostRuntime) -> Result<(), Fail> {
     Ok(())
 }
 
-/// A subtask of fifty thousand steps of its own is worked on once under the lock and once without
-/// it. If slices did nothing, or fewer instructions, the worker would come to the gate again.
+/// A worker works twice on a subtask of fifty thousand steps of its own, once under the lock and
+/// once without it. If slices did nothing, or fewer instructions, the worker would reach the gate
+/// again.
 #[test]
 fn a_long_subtask_is_out_once(rt: HostRuntime) -> Result<(), Fail> {
     let verified = accepted(rt.alloc(), LOOP)?;

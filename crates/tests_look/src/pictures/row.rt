@@ -22,7 +22,7 @@ pub struct Row {
     /// `CLASS X Y WORDS` for a mark, `fork X FROM TO`, `number X N EVENT`, `idle X N EVENT`, and
     /// `value X Y WORDS` or another text's class.
     pub elements: &'static str,
-    /// Where the legend stands.
+    /// Where the legend begins.
     pub foot: u32,
     pub status: u8,
 }

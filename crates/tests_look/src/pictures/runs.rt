@@ -1,4 +1,4 @@
-//! Runs of each kind. Columns stand at 208, 232, 256 ..; lanes at 72, 124, 176 ..; the brackets of
+//! Runs of each kind. Columns are at 208, 232, 256 ..; lanes at 72, 124, 176 ..; the brackets of
 //! task 0 at 86, 95 and 104.
 
 use crate::pictures::row::{FaultRow, Row, all, faults};

@@ -4,7 +4,7 @@ use Rattle.look_lines.specs.View as def
 use Rattle.look_lines.specs.Watched.{watched}
 use Rattle.look_lines.proofs.view.event_blocks.Given as goal
 
--- the machine stands where the first events lead; what is written, and the blocks of the rest
+-- the machine is in the state after the first events; what is written, and the blocks of the rest
 abbrev pub invariant-loop-i : goal.invariant-loop-i
 invariant-loop-i l = record {
   stands : l.watch ≡ watched l.fn.watch.program (take l.i l.events);

@@ -4,7 +4,7 @@ use Rattle.look_picture.specs.Picture as def
 use Rattle.look_lines.specs.Watched.{watched}
 use Rattle.look_picture.proofs.picture.event_columns.Given as goal
 
--- both machines stand where the first events lead; what is drawn, and the columns of the rest
+-- both machines are in the state after the first events; what is drawn, and the columns of the rest
 abbrev pub invariant-loop-i : goal.invariant-loop-i
 invariant-loop-i l = record {
   behind : l.before ≡ watched l.fn.watch.program (take l.i l.events);

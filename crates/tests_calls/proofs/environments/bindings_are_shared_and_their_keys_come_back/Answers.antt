@@ -4,7 +4,7 @@ use Rattle.sts_env.specs.declared.env.Env.{Env}
 use Rattle.sts_env.proofs.ChangeLemmas.{vacant_to}
 use Rattle.tests_calls.proofs.environments.bindings_are_shared_and_their_keys_come_back.Goals as goal
 
--- of two environments with one tail, the second doesn't hold the front record of the first
+-- if two environments share a tail, the second doesn't hold the front record of the first
 apart : (a b c : Records) (kept first second : Env) → IsWhole a kept → (puts : PutsRecord a b kept first) → Stays a b kept → IsWhole b first → PutsRecord b c kept second → NotIn puts.key (keys_of c second)
 apart a b c kept first second whole one stays whole_first two =
     let not_kept : NotIn one.key (keys_of b kept) = subst (NotIn one.key) (sym stays.keys) (vacant_to a kept one.key one.vacant whole) in

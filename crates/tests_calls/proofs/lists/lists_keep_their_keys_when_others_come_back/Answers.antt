@@ -10,7 +10,7 @@ use Rattle.tests_calls.proofs.lists.lists_keep_their_keys_when_others_come_back.
 abbrev link_at : Slab Record → ℕ → Option Link
 link_at records k = option_and_then (λ (r : Record). Some (slice_index_or r.links 0 (record { before = None; after = None }))) (get records k)
 
--- two keys, of which the second was vacant when the first stood
+-- two keys differ if the second was vacant while the first had a record
 differ : (records : Slab Record) (a b : ℕ) (r : Record) → get records a ≡ Some r → get records b ≡ None → b ≢ a
 differ records a b r at_a at_b e = let q : get records b ≡ get records a = ap (get records) e in cc
 
