@@ -1,4 +1,4 @@
--- What is listed of a search: each is an end, and where the search is closed each end is listed.
+-- The ends that a search lists: each is an end, and if the search is closed, each end is listed.
 use Rattle.std.proofs.Common.{◌≡◌, ℕ, zero, suc, ◌+◌, ◌<◌, ◌⊎◌, List, [], ◌∷◌, ◌++◌, length, fold, refl, ap, sym, ◌∙◌, arith, inl, inr, subst, true}
 use Rattle.std.specs.Prelude.{slice_index_or}
 use Rattle.std.specs.List.{Contains}

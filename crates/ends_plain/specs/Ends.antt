@@ -1,5 +1,5 @@
--- What a program can end as, over all schedules: each end that is listed is one, and where the
--- answer says so every one is listed.
+-- The ends of a program over all schedules. Each listed end is one. If the answer says that the
+-- list is whole, every end is listed.
 use Rattle.std.specs.Prelude.{◌≡◌, ℕ, ◌≤◌, List, Bool, true, false, count_by}
 use Rattle.std.specs.List.{Contains}
 use Rattle.sts_code.specs.Program.{Program}

@@ -1,4 +1,4 @@
--- What is listed of a search (this project's own).
+-- The ends that a search lists (this project's own).
 use Rattle.std.specs.Prelude.{◌≡◌, ℕ, ◌<◌, List, Bool, true, map, slice_index_or}
 use Rattle.std.specs.List.{Contains}
 use Rattle.sts_code.specs.Program.{Program}

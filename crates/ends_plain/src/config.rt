@@ -1,4 +1,4 @@
-//! What is searched, and what is found.
+//! The input of a search, and its answers.
 
 ghost use Rattle.std.specs.Prelude.{◌≡◌, OnOk, IfOk};
 

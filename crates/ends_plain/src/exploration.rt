@@ -58,7 +58,7 @@ impl Exploration {
         Ok(Exploration { setting, space })
     }
 
-    /// What is searched.
+    /// The input of the search.
     pub fn setting(&self) -> &Setting
         ensures { result.now ≡ self.now }
     {

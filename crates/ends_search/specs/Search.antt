@@ -1,5 +1,5 @@
--- What a search over the states of a machine finds. `next` is what an event does to a state, `can`
--- whether it can come there.
+-- The states that a search of a machine finds. `next` is the effect of an event on a state, `can`
+-- says whether the event can come there.
 use Rattle.std.specs.Prelude.{◌≡◌, ℕ, ◌<◌, ◌≤◌, List, [], ◌∷◌, ◌++◌, fold, length, slice_index_or}
 use Rattle.std.specs.Prelude.{Bool, true}
 use Rattle.std.specs.List.{Contains}

@@ -1,4 +1,4 @@
-//! What a search asks of the states that it goes over.
+//! The calls that a search needs on the states that it goes over.
 
 ghost use Rattle.std.specs.Prelude.{◌≡◌, Bool, true, IfOk};
 ghost use Rattle.std.specs.List.{Contains};
@@ -9,7 +9,7 @@ use sts_model::Event;
 
 /// A state of a machine that events lead on.
 pub trait Machine: Drop {
-    /// What all its states share.
+    /// The part that all its states share.
     type Setting;
 
     ghost next: { Self.Setting → Self → Event → Self };

@@ -11,14 +11,15 @@ use crate::origin::Origin;
 use std::alloc::{AllocError, Global};
 use sts_model::Event;
 
-/// What a search found so far.
+/// A search so far.
 #[derive(Drop)]
 pub struct Space<S> {
     /// The states, in the order of their discovery.
     pub states: Vec<S>,
     /// How each of them was found.
     pub origins: Vec<Origin>,
-    /// So many of the first states were expanded: what any event leads to from them is a state.
+    /// The number of states that were expanded, the first ones: any event leads from them to one of
+    /// the states.
     pub closed: usize,
     /// No more states are kept.
     pub most: usize,
@@ -80,8 +81,8 @@ fn add<S: Machine>(
     Ok(true)
 }
 
-/// Adds all states that one event leads to from the state at this place. It returns `false` where
-/// there is no room for one of them.
+/// Adds all states that an event leads to from the state at this place. Returns `false` if there is
+/// no room for one of them.
 fn expand<S: Machine>(
     alloc: Global,
     setting: &S::Setting,

@@ -1,4 +1,4 @@
--- What the program checks say of the instructions and of `main`.
+-- The facts of the instructions and of `main` that follow from the program checks.
 use Rattle.std.proofs.Common.{◌≡◌, ℕ, zero, suc, ◌+◌, ◌-◌, ◌<◌, List, [], ◌∷◌, length, take, Bool}
 use Rattle.std.proofs.Common.{true, false, Option, Some, None, not, cond, refl, arith, slice_get}
 use Rattle.std.proofs.Common.{slice_index_or, length-take}

@@ -1,5 +1,5 @@
--- What an instruction makes of the task that does it: it goes on along a control path, with the
--- entries of the next point.
+-- The effect of an instruction on its own task: it goes on along a control path, with the entries
+-- of the next point.
 use Rattle.std.proofs.Common.{◌≡◌, ℕ, zero, suc, ◌+◌, ◌<◌, ◌≤◌, ◌⊎◌, inl, inr, List, [], ◌∷◌, ◌++◌}
 use Rattle.std.proofs.Common.{Bool, true, false, Option, Some, None, refl, sym, ◌∙◌, ap, subst}
 use Rattle.std.proofs.Common.{length, arith, cond, get_or, set, drop, take, not, ◌||◌}

@@ -1,5 +1,5 @@
--- What a step of one task, or an event from outside, leaves alone: the frames of the others, and
--- the phases of their scopes.
+-- A step of one task, or an event from outside, leaves the frames of the others and the phases of
+-- their scopes alone.
 use Rattle.std.proofs.Common.{◌≡◌, ℕ, ◌<◌, ◌≤◌, [], ◌∷◌, Bool, true, false, Option, Some, None}
 use Rattle.std.proofs.Common.{refl, sym, ◌∙◌, ap, length, arith, ◌||◌, ◌&&◌, not, unwrap_or}
 use Rattle.std.proofs.Common.{length-set, length-append}

@@ -1,4 +1,4 @@
--- What the program checks say of the slot of an `open`.
+-- The program checks bound the slot of an `open`.
 use Rattle.std.proofs.Common.{◌≡◌, ℕ, zero, suc, ◌+◌, ◌<◌, List, [], ◌∷◌, length, take, Bool, true}
 use Rattle.std.proofs.Common.{false, Option, Some, None, cond, ◌||◌, refl, sym, ap, ◌∙◌, arith}
 use Rattle.std.specs.Option.{option_or}

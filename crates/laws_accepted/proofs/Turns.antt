@@ -152,7 +152,7 @@ few_waits p w t earlier _ = omega arith
 pub waits-few : (p : Program) (w : World) (t : ℕ) (earlier : List Budgets) (i : Instr) → instr_at p (task_at w t).frame ≡ Some i → steps_begun (stand_at p w t) + 1 ≤ steps_of earlier i
 waits-few p w t earlier i at = rw at (few_waits p w t earlier i)
 
--- nobody waits at a fork
+-- no task waits at a fork
 pub waits-fork : (p : Program) (w : World) (t x g : ℕ) (h : Option ℕ) → instr_at p (task_at w t).frame ≡ Some (Fork x g h) → steps_begun (stand_at p w t) ≡ 0
 waits-fork p w t x g h at = rw at refl
 

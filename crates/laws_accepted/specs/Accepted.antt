@@ -1,5 +1,5 @@
--- What holds in every state of every run of an accepted program, with the budgets that are printed
--- of it (this project's own).
+-- Facts of every state of every run of an accepted program, with the budgets that are printed for
+-- it (this project's own).
 use Rattle.std.specs.Prelude.{◌≡◌, ℕ, ◌-◌, ◌<◌, List, length, true}
 use Rattle.sts_code.specs.Program.{Program}
 use Rattle.sts_rules.specs.declared.budget.Budgets.{Budgets}

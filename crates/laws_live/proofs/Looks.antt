@@ -1,4 +1,5 @@
--- What a task looks at to see whether it can step: itself, its own scopes and who lives in them.
+-- The parts of a state that decide whether a task can step: the task itself, its own scopes and who
+-- lives in them.
 use Rattle.std.proofs.Common.{◌≡◌, ℕ, ◌<◌, ◌≤◌, [], ◌∷◌, ◌++◌, Bool, true, false, Option, Some}
 use Rattle.std.proofs.Common.{refl, sym, ◌∙◌, ap, length, arith, set, cond, ◌&&◌, ◌||◌, not, nat_lt}
 use Rattle.std.proofs.Common.{length-set, length-append, get_or-set_other}

@@ -1,4 +1,4 @@
--- Who can step still can after any event but its own step.
+-- A task that can step still can after any event but its own step.
 use Rattle.std.proofs.Common.{◌≡◌, ℕ, ◌<◌, ◌≤◌, List, [], ◌∷◌, Bool, true, false, Option, Some}
 use Rattle.std.proofs.Common.{None, refl, sym, ◌∙◌, ap, subst, length, get_or, set, drop, cond}
 use Rattle.std.proofs.Common.{◌&&◌, ◌||◌, not, suc, arith, length-set, get_or-set_other}

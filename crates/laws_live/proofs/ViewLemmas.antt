@@ -1,4 +1,4 @@
--- What is seen of one task and one scope, and what is read of the view.
+-- The view of one task and of one scope, and readings of the view.
 use Rattle.std.proofs.Common.{◌≡◌, ℕ, ◌<◌, ◌≤◌, ◌+◌, List, [], ◌∷◌, ◌++◌, Bool, true, false, Option}
 use Rattle.std.proofs.Common.{Some, None, refl, sym, ◌∙◌, ap, subst, length, arith, cond, ◌&&◌, not}
 use Rattle.std.proofs.Common.{nat_lt}

@@ -41,7 +41,7 @@ abbrev pub live_at_sub : Live → Slot → (ℕ → LiveScope → Bool) → Bool
 live_at_sub v (Sub t) test = test t (live_parent v (live_task_at v t).scope)
 live_at_sub v _ test = false
 
--- a `join` with no room for the answer, or whose targets don't fit the scope
+-- a `join` with no room for the answer, or with targets that don't fit the scope
 abbrev pub live_joins_wrongly : Frame → Option ℕ → Option ℕ → LiveScope → Bool
 live_joins_wrongly f failed timeout scope =
     (nat_le 32 (length f.operands) && not (is_await_all scope.joiner))

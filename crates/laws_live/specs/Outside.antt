@@ -1,4 +1,4 @@
--- What comes from outside, in a live view (this project's own).
+-- Interrupts and expiries from outside, in a live view (this project's own).
 use Rattle.std.specs.Prelude.{ℕ, Bool, true, ◌&&◌, not, if◌then◌else◌}
 use Rattle.sts_model.specs.Misuse.{can_join}
 use Rattle.sts_model.specs.Live.{Live, LiveScope}

@@ -1,4 +1,4 @@
--- What is read and changed of a live view (this project's own).
+-- Readings and changes of a live view (this project's own).
 use Rattle.std.specs.Prelude.{ℕ, [], Bool, false, Option, Some, None, option_map, is_some}
 use Rattle.std.specs.Prelude.{unwrap_or, ◌&&◌, slice_index_or, slice_set, length}
 use Rattle.std.specs.List.{list_any}

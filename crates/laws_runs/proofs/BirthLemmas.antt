@@ -1,4 +1,4 @@
--- What `open` and `fork` keep: a scope more, a task more.
+-- The facts that `open` and `fork` keep: one scope more, one task more.
 use Rattle.std.proofs.Common.{◌≡◌, ◌≢◌, ℕ, zero, suc, ◌<◌, List, [], ◌∷◌, ◌++◌, Bool, true, false}
 use Rattle.std.proofs.Common.{Option, Some, None, refl, sym, ◌∙◌, ap, length, arith, get_or, set}
 use Rattle.std.proofs.Common.{◌||◌, not, nat_eq, replicate, take, length-append, get_or-set_same}

@@ -235,7 +235,7 @@ told-scope w t s f end alive born mine still h r =
     (λ e. rw e (told-told w t s f end (scope_at w s) alive still mine (h s)))
     (λ other. told-ended w t r f end (scope_at w r) alive (λ uncancelled inside. let same : r ≡ s = cc in other same) (h r))
 
--- no scope to tell
+-- there is no scope with a joiner to tell
 told-tell : (w : World) (t : ℕ) (f : Frame) (end : End) (o : Option ℕ) → (task_at w t).scope ≡ o → lives (task_at w t) ≡ true → Sound w → AllTold w → AllTold (tell (ended w t f end) t o end)
 told-tell w t f end None mine alive sound h = told-untold w t f end alive (λ s still inside. cc) h
 told-tell w t f end (Some s) mine alive sound h = by (scope_at w s).cancelled refl

@@ -1,4 +1,4 @@
--- What each effect keeps, but those of `open` and `fork`.
+-- The facts that each effect keeps, except those of `open` and `fork`.
 use Rattle.std.proofs.Common.{◌&&◌, ◌≡◌, ℕ, ◌<◌, ◌≤◌, subst, List, [], ◌∷◌, Bool, true, false}
 use Rattle.std.proofs.Common.{Option, Some, None, refl, sym, ◌∙◌, ap, length, cond, ◌||◌, not}
 use Rattle.std.proofs.Common.{unwrap_or, arith, get_or-set_same}

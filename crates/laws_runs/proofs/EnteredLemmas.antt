@@ -1,4 +1,4 @@
--- What `open`, `fork` and `close` make of structure lists.
+-- The effect of `open`, `fork` and `close` on structure lists.
 use Rattle.std.proofs.Common.{◌≡◌, ℕ, ◌+◌, ◌<◌, ◌≤◌, List, [], ◌∷◌, ◌++◌, Bool, true, false, Option}
 use Rattle.std.proofs.Common.{refl, sym, ◌∙◌, ap, length, arith, get_or, set, cond, drop, ◌||◌, not}
 use Rattle.std.proofs.Common.{length-set, get_or-set_other}

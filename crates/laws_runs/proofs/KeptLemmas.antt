@@ -1,4 +1,4 @@
--- What every effect but those of `open` and `fork` keeps, and its building blocks.
+-- The facts that every effect except those of `open` and `fork` keeps, and the building blocks.
 use Rattle.std.proofs.Common.{◌≡◌, ℕ, zero, suc, List, [], ◌∷◌, Bool, true, false, Option, Some}
 use Rattle.std.proofs.Common.{None, refl, ◌∙◌, length, arith, get_or, cond, ◌&&◌, length-set}
 use Rattle.std.proofs.lemmas.List.{length-map}

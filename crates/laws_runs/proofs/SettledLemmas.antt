@@ -1,4 +1,4 @@
--- What is settled: where `join` had an outcome, and which subtasks were started.
+-- After a `join` had an outcome, which subtasks live, and which were started.
 use Rattle.std.proofs.Common.{◌⊎◌, inl, inr, ◌≡◌, ℕ, Bool, true, false, Option, Some, refl, sym}
 use Rattle.std.proofs.Common.{◌∙◌, arith, not}
 use Rattle.sts_code.specs.Program.{Program}

@@ -1,4 +1,4 @@
--- What holds of every state of every run: completions, closed scopes, owners.
+-- Facts of every state of every run: completions, closed scopes, owners.
 use Rattle.std.proofs.Common.{ℕ}
 use Rattle.sts_model.specs.World.{World, scope_at}
 use Rattle.laws_runs.specs.States.{IsTold, CompletionsAreEnds, ClosedIsEmpty, OwnersHold}

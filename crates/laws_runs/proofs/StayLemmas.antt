@@ -1,4 +1,4 @@
--- What no event undoes.
+-- Facts that no event undoes.
 use Rattle.std.proofs.Common.{◌≡◌, ℕ, ◌+◌, ◌<◌, ◌≤◌, [], ◌∷◌, ◌++◌, Bool, true, false, Some, refl}
 use Rattle.std.proofs.Common.{◌∙◌, ap, length, arith, cond, fold, ◌&&◌}
 use Rattle.std.specs.Prelude.{is_some}

@@ -1,4 +1,4 @@
--- What a later state of a run keeps of an earlier one (this project's own).
+-- The parts of an earlier state of a run that a later one keeps (this project's own).
 use Rattle.std.specs.Prelude.{◌≡◌, ℕ, ◌<◌, ◌≤◌, List, ◌++◌, length, true, false, Some}
 use Rattle.sts_model.specs.declared.event.End.{End}
 use Rattle.sts_model.specs.declared.event.Phase.{Phase}
@@ -46,8 +46,8 @@ stage Joined = 2
 stage Closing = 3
 stage Closed = 4
 
--- it never goes back to an earlier phase, and where `join` had an outcome or the close has begun it
--- doesn't expire any more
+-- it never goes back to an earlier phase; once `join` had an outcome or the close has begun, it
+-- can't expire any more
 pub record MovesOn (x y : Scope) : Type 0 where
   pub forward : stage x.phase ≤ stage y.phase
   pub timely : can_join x.phase ≡ false → y.expired ≡ x.expired

@@ -41,7 +41,7 @@ LeftOutIsCancelled =
     Ever (λ p w. (s u : ℕ) → (task_at w u).scope ≡ Some s → lives (task_at w u) ≡ false
     → sub_state w u ≡ None → (scope_at w s).cancelled ≡ true)
 
--- where `join` had an outcome, the scope is cancelled or no subtask of it lives
+-- if `join` had an outcome, the scope is cancelled or no subtask of it lives
 abbrev pub JoinedIsSettled : Type 0
 JoinedIsSettled =
     Ever (λ p w. (s u : ℕ) → is_joined (scope_at w s).phase ≡ true

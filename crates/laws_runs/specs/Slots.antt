@@ -1,4 +1,4 @@
--- What slots name, in every state of every run (this project's own).
+-- The scopes and subtasks that slots name, in every state of every run (this project's own).
 use Rattle.std.specs.Prelude.{◌≡◌, ℕ, true, Some}
 use Rattle.sts_model.specs.declared.record.Slot.TheVariants.{Own, Lent, Sub}
 use Rattle.sts_model.specs.World.{World, task_at}

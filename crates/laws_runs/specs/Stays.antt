@@ -48,8 +48,8 @@ abbrev pub ClosedStays : Type 0
 ClosedStays =
     Always (λ p w v. (s : ℕ) → s < length w.scopes → KeepsMarks (scope_at w s) (scope_at v s))
 
--- a scope that was born never goes back to an earlier phase, and where `join` had an outcome or the
--- close has begun it doesn't expire any more
+-- a scope that was born never goes back to an earlier phase; once `join` had an outcome or the
+-- close has begun, it can't expire any more
 abbrev pub PhasesGoForward : Type 0
 PhasesGoForward =
     Always (λ p w v. (s : ℕ) → s < length w.scopes → MovesOn (scope_at w s) (scope_at v s))

@@ -1,6 +1,7 @@
--- What `tally` answers, in every state of every run: the numbers of subtasks that are a success,
--- failed and unavailable. Restates `StructuredTaskScope.Subtask.State` (a subtask is a success,
--- failed or unavailable); `tally` is this project's own.
+-- The answers of `tally` in every state of every run: the numbers of subtasks that are a success,
+-- failed and unavailable.
+-- Restates `StructuredTaskScope.Subtask.State` (a subtask is a success, failed or unavailable);
+-- `tally` is this project's own.
 use Rattle.std.specs.Prelude.{◌≡◌, ℕ, ◌+◌, List, length, Bool, Option, is_none, count_by, ◌&&◌}
 use Rattle.std.specs.List.{range_with_len}
 use Rattle.sts_code.specs.declared.instr.Kind.{Kind}

@@ -17,7 +17,7 @@ pub fn left_out_is_cancelled()
     ensures { LeftOutIsCancelled }
 {}
 
-/// Where `join` had an outcome, the scope is cancelled or no subtask of it lives.
+/// If `join` had an outcome, the scope is cancelled or no subtask of it lives.
 pub fn joined_is_settled()
     ensures { JoinedIsSettled }
 {}

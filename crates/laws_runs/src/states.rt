@@ -32,8 +32,8 @@ pub fn closed_stays()
     ensures { ClosedStays }
 {}
 
-/// A scope never goes back to an earlier phase, and where `join` had an outcome or the close has
-/// begun it doesn't expire any more.
+/// A scope never goes back to an earlier phase. Once `join` had an outcome or the close has begun,
+/// it can't expire any more.
 #[tactic(auto, using(crate::proofs::StayLemmas::phases_go_forward))]
 pub fn phases_go_forward()
     ensures { PhasesGoForward }

@@ -1,5 +1,5 @@
--- What a command line asks for, or why it asks for nothing, read off the words by `clap`'s own
--- definitions (this project's own).
+-- The request of a command line, or why it has none, read by `clap`'s own definitions (this
+-- project's own).
 use Rattle.std.specs.Prelude.{◌≡◌, ◌⊎◌, ◌&&◌, ◌||◌, Bool, false, if◌then◌else◌, List, [], ◌∷◌}
 use Rattle.std.specs.Prelude.{filter_map, Option, Some, None, IsSomeAnd, is_some, codes}
 use Rattle.std.specs.Borrow.{Bor}

@@ -1,4 +1,4 @@
--- What `look` writes, and the status that it ends with (this project's own).
+-- The output of `look`, and its status (this project's own).
 use Rattle.std.specs.Prelude.{◌≡◌, ℕ, List, Option, Some, None, Result, Ok, Err, map}
 use Rattle.std.specs.Prelude.{String, Vec}
 use Rattle.std.specs.Borrow.{Bor}
@@ -67,7 +67,7 @@ pub data Ends (words : List Text) (files : Files) (s : Streams) (status : ℕ) :
       → Ends words files s status
   failed : Prints s status memory_output → Ends words files s status
 
--- the same from the words that were had, or not
+-- like `Ends`, from the words if they could be read
 abbrev pub EndsFrom : Result (Vec (String Global) Global) WordsError → Files → Streams → ℕ → Type 0
 EndsFrom (Ok words) files s status = Ends (map string_bytes words.items) files s status
 EndsFrom (Err words_error.Memory) files s status = Prints s status memory_output

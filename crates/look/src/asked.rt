@@ -1,8 +1,8 @@
-//! What a command line asks for.
+//! The request of a command line.
 
 use look_lines::Wanted;
 
-/// What is to be shown: the names of the files come as they were written.
+/// The request. Names of files are kept as they were written.
 #[derive(Clone, Copy, Debug)]
 pub enum Asked<'a> {
     /// The tasks and scopes after a trace.

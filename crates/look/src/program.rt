@@ -25,7 +25,7 @@ use sts_output::{
 /// The name that the program goes by.
 const NAME: &str = "look";
 
-/// What is shown of a text and a trace.
+/// The output for a text and a trace.
 #[derive(Clone, Copy)]
 enum Showing {
     View(Wanted),
@@ -91,7 +91,7 @@ fn on_texts<S: Sources, W: Write>(
     }
 }
 
-/// What is wrong with a text.
+/// Explains what is wrong with a text.
 fn on_text<S: Sources, W: Write>(
     alloc: Global,
     sources: &S,
@@ -197,7 +197,7 @@ pub fn run<S: Sources, W: Write, E: Write>(
     }
 }
 
-/// Does what the words that were had ask for; a word that is no text is a usage fault.
+/// Does what the words ask for, if they could be read. A word that is no text is a usage fault.
 ///
 /// # Errors
 ///

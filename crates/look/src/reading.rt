@@ -12,7 +12,7 @@ use look_lines::Wanted;
 use std::alloc::Global;
 use sts_args::{LineError, text_of, told, trace_of, unknown};
 
-/// What the words of a command line ask for, the program's own name being the first.
+/// The request of the words of a command line. The first word is the program's own name.
 ///
 /// # Errors
 ///
@@ -28,7 +28,7 @@ pub fn line<'a>(alloc: Global, words: &'a [&'a str]) -> Result<Asked<'a>, LineEr
     }
 }
 
-/// What the command that `clap` found asks for.
+/// The request of the command that `clap` found.
 fn chosen<'a>(alloc: Global, matches: &ArgMatches<'a>) -> Result<Asked<'a>, LineError>
     ensures asked { IfOk result (IsLineOf (subcommand_rows_of matches.now)) }
     ensures lacks { IfErr result (BlamesUnless (is_whole (subcommand_rows_of matches.now))) }

@@ -1,4 +1,4 @@
--- The notes of a function, one place after the other.
+-- The notes of a function, place by place.
 use Rattle.std.proofs.Common.{◌≡◌, ℕ, ◌+◌, ◌<◌, ◌⊎◌, inl, inr, List, [], ◌∷◌, ◌++◌, length, ap, sym, ◌∙◌, arith, subst, append_assoc, true, Option, Some, None}
 use Rattle.std.specs.Prelude.{slice_index_or, MatchOption, is_some}
 use Rattle.std.proofs.lemmas.List.{append-nil, get_or_default}

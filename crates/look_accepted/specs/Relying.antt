@@ -71,7 +71,7 @@ relied_on (Get h) s mark = late_subtask s (kind s h)
 relied_on (Except h) s mark = late_subtask s (kind s h)
 relied_on _ s mark = None
 
--- the instruction at a place relies on the rule, in some node that a control path comes to
+-- the instruction at a place relies on the rule, in some node that a control path reaches
 pub data Relies (p : Program) (f pc : ℕ) (r : Reliance) : Type 0 where
   relies : (n : Node) → Comes p f n → n.pc ≡ pc
       → relied_on (instr_at (routine p f).code pc) n.state n.mark ≡ Some r → Relies p f pc r

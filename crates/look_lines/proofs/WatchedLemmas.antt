@@ -1,4 +1,4 @@
--- What is seen of a machine that is watched, event by event.
+-- The view of a watched machine, event by event.
 use Rattle.std.proofs.Common.{◌≡◌, ℕ, ◌+◌, ◌-◌, ◌≤◌, ◌<◌, ◌^◌, List, [], ◌∷◌, ◌++◌, length, fold, Bool, true, false, cond, ◌&&◌, refl, arith, ap, ap₂, sym, ◌∙◌, take, get_or}
 use Rattle.std.proofs.lemmas.List.{take_more, length-take-le}
 use Rattle.sts_code.specs.Program.{Program}

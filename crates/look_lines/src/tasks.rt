@@ -49,7 +49,7 @@ pub(crate) fn end_words(out: &mut String, end: Option<End>) -> Result<(), AllocE
     }
 }
 
-/// What a task waits for that can't step.
+/// What a task that can't step waits for.
 fn wait_words(out: &mut String, stand: Stand) -> Result<(), AllocError>
     ensures { OnOk result (string_bytes out.new ≡ string_bytes out.old ++ def.wait_words stand) }
 {
@@ -227,7 +227,7 @@ fn bound_line(out: &mut String, records: &Records, t: u32) -> Result<(), AllocEr
     writeln!(out)
 }
 
-/// What a living task has.
+/// The own state of a living task.
 fn frame_lines(out: &mut String, records: &Records, t: u32) -> Result<(), AllocError>
     requires born { t < length records.now.tasks }
     requires lives { living.lives (model.task_at records.now t) ≡ true }

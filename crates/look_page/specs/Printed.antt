@@ -1,4 +1,4 @@
--- What is printed of a text and a trace (this project's own).
+-- The output for a text and a trace (this project's own).
 use Rattle.std.specs.Prelude.{ℕ, List}
 use Rattle.sts_output.specs.Output.{IsOutputOf, Output}
 use Rattle.sts_output.specs.TextMode.{mode_of}

@@ -1,4 +1,5 @@
-//! What a web page calls: what `sts` and `look` print of bytes that the page has put into memory.
+//! The calls of a web page: they give what `sts` and `look` print for bytes that the page has put
+//! into memory.
 #![tactic(auto)]
 
 ghost use Rattle.std.specs.Prelude.{[]};
@@ -17,7 +18,7 @@ use look_lines::Wanted;
 use std::alloc::Global;
 use sts_output::{Mode, STATUS_OUTSIDE, TextMode};
 
-/// What is printed where memory was refused.
+/// The output if memory ran out.
 const OUT_OF_MEMORY: &[u8] = b"error memory\n";
 
 /// Hands over the front of the bytes, as far as there is room, and the number of all bytes.
@@ -54,8 +55,8 @@ fn shown(
     }
 }
 
-/// What `sts verify` prints: its front as far as `out` has room, in `size` how many bytes it has in
-/// all; and the status.
+/// What `sts verify` prints, and its status. `out` gets the front as far as it has room, and `size`
+/// the number of all bytes.
 #[unsafe(no_mangle)]
 pub extern "C" fn sts_verify(alloc: Global, text: &[u8], out: &mut [u8], size: &mut usize) -> u8
     ensures { Hands (IsOutputOf Mode.Verify text.now [])

@@ -1,4 +1,4 @@
-//! What is printed of a text and a trace.
+//! The output for a text and a trace.
 
 ghost use Rattle.std.specs.Prelude.{IfOk, Some};
 ghost use Rattle.sts_output.specs.Output.{Output, Writes};
@@ -11,7 +11,7 @@ use look_run::explain_run;
 use std::alloc::Global;
 use sts_output::{TextMode, WriteFailed, play_text};
 
-/// What a caller asks for.
+/// The request of a caller.
 #[derive(Clone, Copy)]
 pub(crate) enum Asked {
     Mode(TextMode),

@@ -1,4 +1,4 @@
--- What a column shows of the scopes (this project's own).
+-- The scopes in a column (this project's own).
 use Rattle.std.specs.Prelude.{ℕ, ◌+◌, not, ◌&&◌, ◌==◌, if◌then◌else◌, List, ◌∷◌, [], ◌++◌, codes}
 use Rattle.std.specs.Fmt.{decimal}
 use Rattle.sts_model.specs.declared.event.Phase.{Phase}

@@ -1,4 +1,4 @@
--- What a column shows of the tasks, and the names of the lanes (this project's own).
+-- The tasks in a column, and the names of the lanes (this project's own).
 use Rattle.std.specs.Prelude.{ℕ, ◌+◌, Bool, true, false, not, ◌&&◌, if◌then◌else◌, List, ◌∷◌, [], ◌++◌, Option, Some, None, codes, length, nat_lt}
 use Rattle.std.specs.Fmt.{decimal, signed_decimal}
 use Rattle.sts_code.specs.Program.{Program, routine}
@@ -21,7 +21,7 @@ abbrev pub life_mark : Bool → Mark
 life_mark true = mark.Ready
 life_mark false = mark.Waits
 
--- a mark where it doesn't, by whether its end was heard and what that is
+-- a mark if it doesn't live any more, by its end and by whether the joiner was told of it
 abbrev pub rest_mark : Bool → Option End → Mark
 rest_mark is_heard None = mark.NeverStarted
 rest_mark true (Some (Success v)) = mark.Success

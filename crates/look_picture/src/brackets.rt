@@ -1,4 +1,4 @@
-//! What a column shows of the scopes.
+//! The scopes in a column.
 
 ghost use Rattle.std.specs.Prelude.{◌≡◌, ◌++◌, ◌<◌, ◌^◌, OnOk, length};
 ghost use Rattle.std.specs.String.{string_bytes};
@@ -172,7 +172,7 @@ fn scope_cell(
     cancelled(out, before, records, x, s)
 }
 
-/// What a column at `x` shows of all scopes that were ever born, after the column of `before`.
+/// The cells at `x` of all scopes that were ever born, after the column of `before`.
 ///
 /// # Errors
 ///

@@ -1,4 +1,4 @@
-//! What a column shows of the tasks, and the names of the lanes.
+//! The tasks in a column, and the names of the lanes.
 
 ghost use Rattle.std.specs.Prelude.{◌≡◌, ◌++◌, ◌<◌, ◌^◌, OnOk, length};
 ghost use Rattle.std.specs.String.{string_bytes};
@@ -217,7 +217,7 @@ fn task_cell(
     interrupted(out, before, world, x, t)
 }
 
-/// What a column at `x` shows of all tasks that were ever born, after the column of `before`.
+/// The cells at `x` of all tasks that were ever born, after the column of `before`.
 ///
 /// # Errors
 ///

@@ -294,7 +294,7 @@ fn backdrop(out: &mut String, watch: &Watch<'_>, events: usize) -> Result<(), Al
     text_end(out)
 }
 
-/// What the marks mean, from this height on.
+/// The legend, from this height on.
 fn legend_at(out: &mut String, y: u64, legend: &str) -> Result<(), AllocError>
     ensures { OnOk result (string_bytes out.new
         ≡ string_bytes out.old ++ def.legend_at y legend.now) }

@@ -53,7 +53,7 @@ pub const STYLE: &str = "\
     \x20height='52'><path class='grid' d='M.5 0v52M0 26.5h24'/></pattern></defs>\n\
     <rect class='back' width='100%' height='100%'/>\n";
 
-/// What each mark means, 460 wide and 80 high.
+/// The legend of the marks, 460 wide and 80 high.
 pub const LEGEND: &str = "\
     <path class='step' d='M16 0m-4 0a4 4 0 1 0 8 0a4 4 0 1 0-8 0'/><text class='key'\
     \x20x='36' y='4'>step</text>\n\
@@ -91,7 +91,7 @@ pub(crate) fn style() -> &'static str
     STYLE
 }
 
-/// What each mark means.
+/// The legend of the marks.
 pub(crate) fn legend() -> &'static str
     ensures { result.now ≡ def.legend }
 {

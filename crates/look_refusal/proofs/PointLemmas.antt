@@ -1,4 +1,4 @@
--- What a path weighs at its end, by the words of the budget.
+-- The weight of a path at its end, in the words of the budget.
 use Rattle.std.proofs.Common.{◌≡◌, ℕ, ◌+◌, ◌≤◌, ◌<◌, ◌⊎◌, List, length, true, None, inl, inr, sym, ap, subst, arith}
 use Rattle.sts_code.specs.Checks.{program_fault}
 use Rattle.sts_code.specs.Program.{Program, routine, instr_at}

@@ -1,4 +1,4 @@
--- What is kept for each place is a way to it.
+-- Each way in the table leads to its place.
 use Rattle.std.proofs.Common.{◌≡◌, ◌≢◌, ℕ, ◌<◌, ◌≤◌, ◌⊎◌, inl, inr, List, [], ◌∷◌, zero, suc, Option, Some, None, Bool, true, false, get_or, length, slice_get, refl, sym, ap, ◌∙◌, subst, cond, arith, get_or-set_same, get_or-set_other, replicate}
 use Rattle.std.specs.Prelude.{Ok, IfSome, is_some, slice_index_or, slice_set, if◌then◌else◌}
 use Rattle.std.proofs.lemmas.Bool.{cases_eq, cases_lt}

@@ -1,4 +1,4 @@
--- What a walk back from a place finds (this project's own).
+-- The result of a walk back from a place (this project's own).
 use Rattle.std.specs.Prelude.{◌≡◌, ℕ, ◌+◌, ◌<◌, List, length, get_or, true}
 use Rattle.sts_code.specs.declared.instr.Instr.{Instr}
 use Rattle.sts_code.specs.Program.{instr_at}

@@ -1,5 +1,5 @@
--- What to do about each cause of a refusal: by the instruction, and by what is known there of the
--- task (this project's own).
+-- What to do about each cause of a refusal. It depends on the instruction, and on what is known of
+-- the task there (this project's own).
 use Rattle.std.specs.Prelude.{◌≡◌, ℕ, List, [], ◌∷◌, Bool, Option, Some, None, is_some, is_none, not}
 use Rattle.std.specs.Prelude.{if◌then◌else◌}
 use Rattle.sts_code.specs.Program.{Program, routine, instr_at}

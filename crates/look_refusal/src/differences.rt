@@ -1,4 +1,4 @@
-//! What differs between two ways that meet, part by part.
+//! The differences between two ways that meet, part by part.
 
 ghost use Rattle.std.specs.Prelude.{◌≡◌, [], ◌∷◌, ◌++◌, OnOk, IfOk};
 ghost use Rattle.std.specs.Option.{option_copied};

@@ -29,7 +29,7 @@ use sts_output::{TakeError, WriteFailed, failed, written};
 use sts_rules::Cause;
 use sts_verify::{VerifyError, verify};
 
-/// What is printed, and the status.
+/// The output, and the status.
 #[derive(Drop)]
 pub struct Output {
     pub bytes: Vec<u8>,

@@ -29,7 +29,7 @@ pub struct Heavy {
     pub shares: Vec<u128>,
 }
 
-/// What the trail weighs up to a place.
+/// The weight of the trail up to a place.
 fn weigh(
     alloc: Global,
     search: &Search<'_>,
@@ -64,7 +64,7 @@ fn weigh(
     })
 }
 
-/// What weighs most in the function, where these are the budgets of those before it.
+/// The heaviest point of the function, by the budgets of the functions before it.
 fn heaviest_after(
     alloc: Global,
     program: &Program,

@@ -1,5 +1,5 @@
-//! What to do about each cause of a refusal: by the instruction, and by what is known there of the
-//! task.
+//! What to do about each cause of a refusal. It depends on the instruction, and on what is known of
+//! the task there.
 
 ghost use Rattle.std.specs.Prelude.{◌≡◌, ◌<◌, ◌≤◌, length, IfOk, None, slice_get};
 ghost use Rattle.std.specs.Prelude.{if◌then◌else◌};
@@ -375,7 +375,7 @@ fn edges_remedy(instr: Instr, state: &TypeState) -> Remedy
 
 // ---- all causes
 
-/// What to do about a cause that asks for the same everywhere.
+/// What to do about a cause with the same remedy everywhere.
 fn fixed_remedy(cause: Cause) -> Option<Remedy>
     ensures { result ≡ def.fixed_remedy cause }
 {
@@ -397,7 +397,7 @@ fn fixed_remedy(cause: Cause) -> Option<Remedy>
     }
 }
 
-/// What to do about another one, at the instruction at `pc` in a typestate.
+/// What to do about any other cause, at the instruction at `pc` in a typestate.
 fn typed_remedy(
     profile: Profile,
     code: &[Instr],

@@ -1,4 +1,4 @@
-//! What is searched: the sums of one resource in one function.
+//! The input of a search: the sums of one resource in one function.
 
 ghost use Rattle.std.specs.Prelude.{◌≡◌, ◌<◌, ◌≤◌, length, IsTrue, true, ◌↔◌};
 ghost use Rattle.sts_budget.specs.Ready.{IsLaidFor, head_in};
@@ -58,7 +58,7 @@ pub(crate) fn depth_before(search: &Search<'_>, pc: usize, depth: usize) -> usiz
     source_of(change, depth_of(search.resource, names), depth)
 }
 
-/// What the instruction adds to the sum.
+/// The amount that the instruction adds to the sum.
 pub(crate) fn added_at(search: &Search<'_>, pc: usize, depth: usize) -> u128
     requires ready { def.IsReady search.now }
     requires in_code { pc < length search.now.code.now }

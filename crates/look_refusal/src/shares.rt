@@ -1,4 +1,4 @@
-//! What each place adds.
+//! The amount that each place adds.
 
 ghost use Rattle.std.specs.Prelude.{◌≡◌, ◌+◌, ◌*◌, ◌<◌, ◌≤◌, length, slice_set, get_or};
 ghost use Rattle.look_refusal.specs.Trail.{greatest_number};

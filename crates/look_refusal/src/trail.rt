@@ -96,7 +96,7 @@ pub(crate) fn after_turns(
     opened.checked_add(turns.checked_mul(turn)?)
 }
 
-/// What an instruction hands on, if 128 bits hold it.
+/// The sum that an instruction hands on, if 128 bits hold it.
 fn handed(search: &Search<'_>, trail: &Trail, pc: u32, depth: usize) -> Option<u128>
     requires ready { def.IsReady search.now }
     requires in_code { pc < length search.now.code.now }

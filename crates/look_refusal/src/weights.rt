@@ -143,7 +143,7 @@ fn say_others(alloc: Global, out: &mut Vec<u8>, count: usize) -> Result<(), Allo
     say(out, line.as_str())
 }
 
-/// What weighs too much, and where.
+/// The line that says what is over the limit, and where.
 fn say_weight(
     alloc: Global,
     out: &mut Vec<u8>,
@@ -163,7 +163,8 @@ fn say_weight(
     say(out, "\n")
 }
 
-/// What weighs too much, and a line for each of the instructions that add most to it.
+/// A line that says what is over the limit, and a line for each of the instructions that add most
+/// to it.
 ///
 /// # Errors
 ///

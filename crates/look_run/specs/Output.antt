@@ -1,4 +1,4 @@
--- What is printed of a text and a trace, and the status that goes with it (this project's own).
+-- The output for a text and a trace, and the status that goes with it (this project's own).
 use Rattle.std.specs.Prelude.{◌≡◌, ◌⊎◌, ℕ, List, ◌++◌, Result, Ok, Err}
 use Rattle.sts_code.specs.Program.{Program}
 use Rattle.sts_model.specs.declared.event.Event.{Event}

@@ -42,7 +42,7 @@ fn say_task(
     say_place(alloc, out, told.outline.sentence(function, pc))
 }
 
-/// What to do about a fault of a task, which lives.
+/// What to do about a fault of a living task.
 fn say_remedy(
     out: &mut Vec<u8>,
     program: &Program,
@@ -175,7 +175,7 @@ fn say_wait_for(
     say_subtasks(alloc, out, records, s)
 }
 
-/// What a task waits for that can't step.
+/// What a task that can't step waits for.
 fn say_wait(
     alloc: Global,
     out: &mut Vec<u8>,

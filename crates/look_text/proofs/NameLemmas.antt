@@ -39,8 +39,8 @@ pub is_some_mapped : {A B : Type 0} (f : A → B) (o : Option A) → is_some o �
 is_some_mapped f None = refl
 is_some_mapped f (Some x) = refl
 
--- What reading by names says of words: an unknown name is the first word that names nothing, and
--- where all is well there is none.
+-- Reading by names finds the first word that names nothing, and finds no fault if each word names
+-- something.
 pub record Named {X : Type 0} (names : Names) (s : Wanted) (read : List (List ℕ) → Result X AsmKind) (words : List (List ℕ)) : Type 0 where
   pub unknown : read words ≡ Err UnknownLabel → (t : Stop) × ((def.name_stop names s words ≡ Some t) × Stops read UnknownLabel words t)
   pub well : (x : X) → read words ≡ Ok x → def.name_stop names s words ≡ None

@@ -21,8 +21,8 @@ LinesSayInstructions =
     → outlined text ≡ Ok o → slice_get (routine p f).code pc ≡ Some i
     → (s : Sentence) × ((sentence_at o f pc ≡ Some s) × Says o f s i)
 
--- So has each instruction of the functions that a text spells, also where they fail a check and are
--- no program.
+-- Each instruction of the functions that a text spells has such a line too, even if they fail a
+-- check and are no program.
 abbrev pub FunctionsSayInstructions : Type 0
 FunctionsSayInstructions =
     (o : Outline) (rs : List Routine) (f pc : ℕ) (i : Instr)

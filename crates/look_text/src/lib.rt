@@ -1,9 +1,9 @@
 //! Why a text is no program, by its lines.
 //!
 //! `lines` says where a fault of the text is and what is wrong, with the wrong word or byte in its
-//! place. `wanted` has what is expected at each place of a line, and `names` finds a name that the
-//! text hasn't. The laws in `stops` say that the word which is reported is the one at which the
-//! assembler's reading fails. Those in `laws` tie the lines to their instructions.
+//! place. `wanted` has what is expected at each place of a line. `names` finds a name that isn't in
+//! the text. The laws in `stops` say that the reported word is the one where the assembler's
+//! reading fails. Those in `laws` tie the lines to their instructions.
 #![tactic(auto)]
 
 mod checks;

@@ -114,7 +114,7 @@ fn of_check(alloc: Global, error: CodeError, text: &[u8]) -> Result<&'static str
     Ok(checked_sentence(outline.as_ref(), error))
 }
 
-/// What is wrong with a text, by the text and the line of the fault.
+/// What is wrong with a text, from the text and the line of the fault.
 ///
 /// # Errors
 ///

@@ -223,7 +223,8 @@ pub fn operand(first: &[u8]) -> Wanted
     of_mnemonic(first_word(first))
 }
 
-/// What is expected instead of a first word that may not be there: by whether a function is open.
+/// What is expected instead of a first word that isn't allowed there. It depends on whether a
+/// function is open.
 pub fn in_place_of(inside: bool) -> Wanted
     ensures { result ≡ def.in_place_of inside }
 {

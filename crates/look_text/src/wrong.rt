@@ -279,7 +279,7 @@ fn say_place_of(out: &mut Vec<u8>, kind: AsmKind, text: &[u8], line: u32) -> Res
     form_part(out, kind, words_at(text, line))
 }
 
-/// What is wrong in the line of a fault, where it is a word or a byte.
+/// What is wrong in the line of a fault, if it is a word or a byte.
 ///
 /// # Errors
 ///

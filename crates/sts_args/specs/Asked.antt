@@ -1,5 +1,4 @@
--- What a command line asks for, read off the words by `clap`'s own definitions (this project's
--- own).
+-- The request of a command line, read by `clap`'s own definitions (this project's own).
 use Rattle.std.specs.Prelude.{◌≡◌, ◌==◌, ◌<◌, ◌≤◌, ℕ, List, [], ◌∷◌, length, filter_map, Option}
 use Rattle.std.specs.Prelude.{Some, None, IsSomeAnd, option_map, option_and_then}
 use Rattle.std.specs.Prelude.{Bool, if◌then◌else◌, ◌||◌, codes}

@@ -1,4 +1,4 @@
-//! What a command line asks for, or why it asks for nothing.
+//! The request of a command line, or why it has none.
 
 use std::alloc::AllocError;
 

@@ -39,7 +39,7 @@ pub fn told(error: &Error, alloc: Global) -> LineError
     }
 }
 
-/// What the words of a command line ask for, the program's own name being the first.
+/// The request of the words of a command line. The first word is the program's own name.
 ///
 /// # Errors
 ///
@@ -60,7 +60,7 @@ pub fn line<'a>(alloc: Global, words: &'a [&'a str]) -> Result<asked::Line<'a>, 
     }
 }
 
-/// What the command that `clap` found asks for.
+/// The request of the command that `clap` found.
 fn chosen<'a>(alloc: Global, matches: &ArgMatches<'a>) -> Result<asked::Line<'a>, LineError>
     ensures asked { IfOk result (IsLineOf (subcommand_rows_of matches.now)) }
     ensures workers { IfOk result HasWorkers }

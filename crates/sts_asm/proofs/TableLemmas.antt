@@ -484,7 +484,7 @@ other_all = (
   ),
 )
 
--- the word of an instruction without operands is none of the others
+-- the word of an instruction without operands is no other instruction's word
 no_other : (word : List ℕ) (m : Mnemonic) → looked_up plain_words word ≡ Some m → looked_up other_words word ≡ None
 no_other word m e = looked_ok (λ w n. looked_up other_words w ≡ None) plain_words word m (refl, (refl, (refl, (refl, (refl, (refl, (refl, (refl, (refl, (refl, (refl, (refl, (refl, tt))))))))))))) e
 

@@ -1,5 +1,5 @@
--- What is wrong with a text, and how the answers of the assembler's parts are tied to their
--- definitions (this project's own).
+-- The faults of a text, and how the answers of the assembler's parts are tied to their definitions
+-- (this project's own).
 use Rattle.std.specs.Prelude.{◌≡◌, ℕ, List, Option, Some, None, Result, Ok, Err}
 use Rattle.sts_code.specs.declared.checking.CodeError.{CodeError}
 use Rattle.sts_asm.specs.declared.fault.AsmKind.{AsmKind}

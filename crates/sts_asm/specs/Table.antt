@@ -126,7 +126,7 @@ Spells names i.Interrupted words = words ≡ codes "interrupted" ∷ []
 Spells names i.Ret words = words ≡ codes "ret" ∷ []
 Spells names i.Fail words = words ≡ codes "fail" ∷ []
 
--- What is read is what the table says.
+-- An instruction that is read is one that the table has for its words.
 abbrev pub ReadByTable : Type 0
 ReadByTable =
     (names : Option Names) (words : List (List ℕ)) (instr : Instr)

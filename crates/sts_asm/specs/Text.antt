@@ -1,4 +1,4 @@
--- What a text spells, or its first fault (this project's own).
+-- The program that a text spells, or its first fault (this project's own).
 use Rattle.std.specs.Prelude.{ℕ, List, [], ◌∷◌, length, nat_lt, Option, Some, None, Result, Ok, Err}
 use Rattle.std.specs.Prelude.{if◌then◌else◌}
 use Rattle.sts_code.specs.Checks.{program_fault}

@@ -1,4 +1,4 @@
-//! What is wrong with a text.
+//! The faults of a text.
 
 ghost use Rattle.std.specs.Prelude.{◌≡◌};
 ghost use Rattle.sts_asm.specs.declared.fault.AsmKind.TheVariants.{Memory};
@@ -8,7 +8,7 @@ use std::alloc::{AllocError, AllocFailed};
 use sts_code::CodeError;
 use thiserror::Error;
 
-/// What is wrong, or that memory ran out.
+/// What is wrong with a text, or that memory ran out.
 #[derive(Clone, Copy, Debug, PartialEq, Eq)]
 pub enum AsmKind {
     /// A1: a byte that isn't allowed.
@@ -52,7 +52,7 @@ impl AsmKind {
         }
     }
 
-    /// What the program checks refuse, for A9.
+    /// The cause that the program checks refuse, for A9.
     pub fn code_error(self) -> Option<CodeError>
         ensures { result ≡ code_error self }
     {

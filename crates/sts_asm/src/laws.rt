@@ -1,4 +1,4 @@
-//! What the definitions of the assembler amount to, in the words of the instruction table.
+//! Laws of the assembler's definitions, in the words of the instruction table.
 
 ghost use Rattle.sts_asm.specs.Table.{ReadByTable};
 

@@ -96,7 +96,7 @@ impl<'a> Marks<'a> {
         }
     }
 
-    /// What this name names.
+    /// The place or function that this name names.
     pub fn find(&self, name: &[u8]) -> Option<u32>
         ensures { result ≡ marked self.now name.now }
     {

@@ -83,7 +83,7 @@ impl Targeted {
     }
 }
 
-/// What the first word of an instruction says of its operands.
+/// The operands that follow the first word of an instruction.
 #[derive(Clone, Copy)]
 pub enum Mnemonic {
     /// No operands follow.
@@ -230,8 +230,7 @@ fn other_word(word: &[u8]) -> Option<Mnemonic>
     None
 }
 
-/// What this first word says, if it is an instruction's; one without operands was looked for
-/// before.
+/// The operands that follow this first word, if it is an instruction's with operands.
 pub fn mnemonic_of(word: &[u8]) -> Option<Mnemonic>
     requires { looked_up plain_words word.now ≡ None }
     ensures { result ≡ mnemonic_of word.now }
@@ -245,7 +244,7 @@ pub fn mnemonic_of(word: &[u8]) -> Option<Mnemonic>
     slotted_word(word)
 }
 
-/// What this first word says, if it is an instruction's.
+/// The operands that follow this first word, if it is an instruction's.
 pub fn first_word(word: &[u8]) -> Option<Mnemonic>
     ensures { result ≡ mnemonic_of word.now }
 {

@@ -310,7 +310,7 @@ pub(crate) fn uncommented(line: &[u8]) -> &[u8]
 }
 
 impl<'a> Outline<'a> {
-    /// What is known before the first line.
+    /// The outline before the first line.
     pub fn new(alloc: Global) -> Outline<'a>
         ensures { result ≡ def.empty }
     {

@@ -1,4 +1,4 @@
--- What it says of an instruction that no cause holds at it.
+-- The facts of an instruction that follow if no cause holds at it.
 use Rattle.std.proofs.Common.{◌≡◌, ℕ, ◌<◌, ◌⊎◌, inl, inr, List, [], ◌∷◌, ◌++◌, length, Bool, true}
 use Rattle.std.proofs.Common.{false, cond, not, ◌||◌, Option, Some, None, Ok, find, refl, sym, ap}
 use Rattle.std.proofs.Common.{◌∙◌}

@@ -1,4 +1,4 @@
--- What the program checks say of the code of a function.
+-- The facts of a function's code that follow from the program checks.
 use Rattle.std.proofs.Common.{◌≡◌, ℕ, zero, suc, ◌+◌, ◌<◌, ◌≤◌, List, [], ◌∷◌, length, take, Bool}
 use Rattle.std.proofs.Common.{true, false, Option, Some, None, cond, ◌||◌, not, nat_lt, ◌==◌, refl}
 use Rattle.std.proofs.Common.{sym, ap, ◌∙◌, arith, length-take-le}

@@ -1,4 +1,5 @@
--- What the typing of each instruction says of the control flow and of the open entries.
+-- The facts of the control flow and of the open entries that follow from the typing of each
+-- instruction.
 use Rattle.std.proofs.Common.{◌≡◌, ℕ, ◌+◌, ◌-◌, ◌⊎◌, inl, inr, List, [], ◌∷◌, ◌++◌, drop, map, true}
 use Rattle.std.proofs.Common.{false, cond, ◌==◌, Option, Some, None, refl, sym, ap, ◌∙◌, subst}
 use Rattle.std.proofs.Common.{slice_set}

@@ -1,4 +1,4 @@
--- What a place hands on to those to which its instruction leads (this project's own).
+-- The sums that a place hands on to the places after its instruction (this project's own).
 use Rattle.std.specs.Prelude.{ℕ, ◌+◌, ◌-◌, ◌*◌, List, get_or, slice_set, Option, Some, None, Bool}
 use Rattle.std.specs.Prelude.{true, false}
 use Rattle.sts_code.specs.declared.instr.Instr.{Instr}

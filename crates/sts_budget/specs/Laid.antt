@@ -1,4 +1,4 @@
--- What is known to be open at each place of a function (this project's own).
+-- The entries that are known to be open at each place of a function (this project's own).
 use Rattle.std.proofs.Common.{◌≡◌, ℕ, ◌<◌, ◌≤◌, ◌⊎◌, List, [], ◌∷◌, ◌++◌, length, map, get_or}
 use Rattle.std.proofs.Common.{Option, Some, None, unwrap_or, slice_set}
 use Rattle.sts_code.specs.Program.{Program, routine, instr_at}

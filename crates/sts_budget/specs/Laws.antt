@@ -1,4 +1,4 @@
--- What the budgets say of every point of every control path (this project's own).
+-- Laws of the budgets for every point of every control path (this project's own).
 use Rattle.std.specs.Prelude.{◌≡◌, ℕ, ◌+◌, ◌≤◌, List, Option}
 use Rattle.sts_code.specs.declared.instr.Instr.{Instr}
 use Rattle.sts_code.specs.declared.instr.Instr.TheVariants.{Fork}

@@ -1,4 +1,4 @@
--- What one pass over a function sums, and what it is to answer (this project's own).
+-- The sums of one pass over a function, and its answer (this project's own).
 use Rattle.std.specs.Prelude.{ℕ, ◌≤◌, ◌++◌, List, Option, MatchOption}
 use Rattle.sts_code.specs.declared.instr.Instr.{Instr}
 use Rattle.sts_code.specs.Facts.{targets}

@@ -1,4 +1,4 @@
--- What the passes know of a function (this project's own).
+-- The facts of a function that the passes use (this project's own).
 use Rattle.std.specs.Prelude.{◌≡◌, ℕ, ◌<◌, ◌≤◌, List, [], length, get_or, unwrap_or, None}
 use Rattle.sts_code.specs.declared.instr.Instr.{Instr}
 use Rattle.sts_code.specs.declared.limits.TheConstants.{MAX_ENTRIES, MAX_INSTRUCTIONS}

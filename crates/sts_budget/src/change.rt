@@ -1,4 +1,4 @@
-//! What an instruction does to the sums over the open entries.
+//! How an instruction changes the sums over the open entries.
 
 ghost use Rattle.std.specs.Prelude.{◌≡◌, ◌<◌, ◌≤◌, ◌+◌, length};
 ghost use Rattle.sts_rules.specs.Budget as budget;
@@ -8,7 +8,7 @@ use crate::layout::Names;
 use sts_code::{Instr, MAX_ENTRIES};
 use sts_rules::Budgets;
 
-/// What is budgeted.
+/// The resources with a budget.
 #[derive(Clone, Copy, Debug, PartialEq, Eq)]
 pub enum Resource {
     Steps,
@@ -17,7 +17,7 @@ pub enum Resource {
     Binds,
 }
 
-/// What an instruction does to the sums over the first open entries, the outermost first.
+/// How an instruction changes the sums over the first open entries, the outermost first.
 #[derive(Clone, Copy, Debug, PartialEq, Eq)]
 pub enum SumChange {
     /// Each sum rises by this amount.
@@ -75,7 +75,7 @@ fn steps_of(earlier: &[Budgets], instr: Instr) -> u64
     }
 }
 
-/// What a subtask of this function counts.
+/// The amount that a subtask of this function counts.
 fn subtask_of(resource: Resource, earlier: &[Budgets], function: u32) -> u64
     requires { function < length earlier.now }
     ensures { result ≡ (def.measure_of resource earlier.now).subtask function }
@@ -89,7 +89,7 @@ fn subtask_of(resource: Resource, earlier: &[Budgets], function: u32) -> u64
     }
 }
 
-/// What a scope that opens counts itself.
+/// The amount that a scope counts itself when it opens.
 fn scope_of(resource: Resource, earlier: &[Budgets]) -> u64
     ensures { result ≡ (def.measure_of resource earlier.now).scope }
 {
@@ -99,7 +99,7 @@ fn scope_of(resource: Resource, earlier: &[Budgets]) -> u64
     }
 }
 
-/// What a binding that opens counts itself.
+/// The amount that a binding counts itself when it opens.
 fn binding_of(resource: Resource, earlier: &[Budgets]) -> u64
     ensures { result ≡ (def.measure_of resource earlier.now).binding }
 {
@@ -124,7 +124,7 @@ fn measured(resource: Resource, earlier: &[Budgets], instr: Instr, names: &Names
     }
 }
 
-/// What the instruction does to the sums of this resource, where the open entries have these names.
+/// How the instruction changes the sums of this resource, if the open entries have these names.
 pub fn change_of(resource: Resource, earlier: &[Budgets], instr: Instr, names: &Names) -> SumChange
     requires { def.ForksEarlier (length earlier.now) instr }
     ensures { result ≡ def.change_of resource earlier.now instr names.now }

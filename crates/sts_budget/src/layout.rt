@@ -1,4 +1,4 @@
-//! What is open at each place of a function's code.
+//! The open entries at each place of a function's code.
 
 ghost use Rattle.std.specs.Prelude.{ℕ, List, [], All, IfOk, IfSome, Some, None, get_or, replicate};
 ghost use Rattle.std.specs.Prelude.{unwrap_or, vec_len, ◌≡◌, ◌<◌, ◌≤◌, ◌+◌, ◌++◌, length};
@@ -21,7 +21,7 @@ use sts_rules::filled;
 /// binding has none.
 pub type Names = Stack<Option<u8>, 16>;
 
-/// What is open at each place of a function.
+/// The open entries at each place of a function.
 #[derive(Drop)]
 pub struct Layout {
     /// The `times` of the innermost loop around a place.
@@ -220,7 +220,7 @@ fn write_mate(mates: &mut Vec<u32>, instr: Instr, pc: u32, head: Option<u32>)
     }
 }
 
-/// What is open at each place of a well-typed function.
+/// The open entries at each place of a well-typed function.
 ///
 /// # Errors
 ///

@@ -121,7 +121,7 @@ fn turns_of(instr: Instr) -> u16
     }
 }
 
-/// What a `times` or a `next` counts itself.
+/// The amount that a `times` or a `next` counts itself.
 pub(crate) fn own_step(resource: Resource) -> u32
     ensures { result ≡ own_step resource }
 {
@@ -176,7 +176,7 @@ fn values_of<const N: usize>(pass: &Pass<'_>, best: &[Row<N>], pc: usize) -> Val
     }
 }
 
-/// The place hands on its sums: false where one of them passes the limit.
+/// Hands on the sums of a place. The answer is false if a sum is over the limit.
 fn hand_on<const N: usize>(pass: &Pass<'_>, best: &mut Vec<Row<N>>, pc: usize) -> bool
     requires ready { IsSet pass.now }
     requires most { pass.now.most ≡ limit_of pass.now.resource - own_of pass.now.resource }

@@ -1,4 +1,4 @@
--- What modes `plain` and `replay` print of an accepted program.
+-- Modes `plain` and `replay` print the same for an accepted program.
 use Rattle.std.proofs.Common.{◌≡◌, ◌↔◌, List, Result, Ok, Err, sym, subst}
 use Rattle.sts_code.specs.Program.{Program}
 use Rattle.sts_model.specs.declared.event.Event.{Event}

@@ -1,4 +1,4 @@
--- What is printed of what was read.
+-- The output for the bytes that were read.
 use Rattle.std.proofs.Common.{◌≡◌, List, [], ℕ, Option, inl, inr}
 use Rattle.sts_output.specs.Joined.{halves_of}
 use Rattle.sts_output.specs.Output.{Output, IsOutputOf}

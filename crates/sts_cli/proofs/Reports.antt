@@ -1,4 +1,4 @@
--- What comes of a run, and what is printed of it.
+-- The outcome of a run, and its output.
 use Rattle.std.proofs.Common.{◌≡◌, ℕ, List, Bool, Option, Result, Err, MatchResult, ap, subst, sym, ◌∙◌, refl}
 use Rattle.sts_code.specs.Program.{Program}
 use Rattle.sts_pool.specs.declared.report.Report.{Report}

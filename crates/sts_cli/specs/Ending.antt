@@ -1,4 +1,4 @@
--- What the whole program writes, and the status that it ends with (this project's own).
+-- The output of the whole program, and its status (this project's own).
 use Rattle.std.specs.Prelude.{◌≡◌, ℕ, List, [], Option, Some, None, Result, Ok, Err, ⊤}
 use Rattle.std.specs.Prelude.{map}
 use Rattle.std.specs.Prelude.{String, Vec}

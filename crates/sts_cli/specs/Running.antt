@@ -1,4 +1,4 @@
--- What comes of `run`: what is printed, and the journal that its trace spells (this project's own).
+-- The outcome of `run`: its output, and the journal that its trace spells (this project's own).
 use Rattle.std.specs.Prelude.{◌≡◌, ◌⊎◌, ℕ, List, [], ◌∷◌, ◌++◌, Option, Some, None, Result, Ok, Err}
 use Rattle.std.specs.Prelude.{nat_le, if◌then◌else◌, Bool, true, count_by}
 use Rattle.std.specs.Io.KnownBytes.{Appends}

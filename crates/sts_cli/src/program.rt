@@ -96,7 +96,7 @@ fn on_input<S: Sources, W: Write>(
     }
 }
 
-/// What `run` was asked for.
+/// The request of `run`.
 #[derive(Clone, Copy)]
 struct Wanted<'a> {
     file: &'a str,
@@ -262,7 +262,7 @@ pub fn run<R: Threads + Wait + Sync, S: Sources + Sinks, W: Write, E: Write>(
     }
 }
 
-/// Does what the words that were had ask for; a word that is no text is a usage fault.
+/// Does what the words ask for, if they could be read. A word that is no text is a usage fault.
 ///
 /// # Errors
 ///

@@ -1,4 +1,4 @@
--- What holds of functions that passed the program checks.
+-- The facts of functions that passed the program checks.
 use Rattle.std.proofs.Common.{◌≡◌, ℕ, zero, suc, ◌<◌, ◌≤◌, List, [], ◌∷◌, ◌++◌, length, take, Bool}
 use Rattle.std.proofs.Common.{true, false, Option, Some, None, ◌||◌, ◌==◌, not, nat_lt, cond, refl}
 use Rattle.std.proofs.Common.{arith, append_assoc, slice_index_or}

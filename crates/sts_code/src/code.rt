@@ -1,4 +1,4 @@
-//! What a program says of its functions.
+//! The functions of a program.
 
 ghost use Rattle.std.specs.Prelude.{◌≡◌, ◌≤◌, ◌<◌, length, None};
 ghost use Rattle.std.specs.List.{list_any};

@@ -1,5 +1,5 @@
-//! Facts of one instruction: what it pops and pushes, the places and slots that it names, and what
-//! its joiner tells.
+//! Facts of one instruction: what it pops and pushes, the places and slots that it names, and the
+//! answer of its joiner.
 
 ghost use Rattle.std.specs.Prelude.{◌≡◌, ◌≤◌, length};
 ghost use Rattle.sts_code.specs.Facts as def;
@@ -154,7 +154,7 @@ pub fn can_fail(joiner: Joiner) -> bool
     )
 }
 
-/// Is the joiner `awaitall`, whose `join` pushes nothing?
+/// Is the joiner `awaitall`? Its `join` pushes nothing.
 pub fn is_await_all(joiner: Joiner) -> bool
     ensures { result ≡ def.is_await_all joiner }
 {

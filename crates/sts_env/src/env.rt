@@ -1,4 +1,4 @@
-//! What an environment is made of.
+//! The parts of an environment.
 
 use sts_model::Bound;
 

@@ -1,4 +1,4 @@
-//! What a program says at a frame.
+//! The code of a frame's function, and the instruction that is next.
 
 ghost use Rattle.std.specs.Prelude.{◌≡◌, ◌<◌, length, ◌≤◌, IfSome};
 ghost use Rattle.sts_code.specs.declared.limits.TheConstants.{MAX_INSTRUCTIONS};

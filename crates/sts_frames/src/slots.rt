@@ -7,7 +7,7 @@ ghost use Rattle.sts_model.specs.Misuse as misuse;
 use sts_code::LAST_SLOT;
 use sts_model::{Frame, Slot};
 
-/// What a slot holds; nothing above the last.
+/// The content of a slot. There is nothing above the last slot.
 pub fn slot(frame: &Frame, x: u8) -> Slot
     ensures { result ≡ misuse.slot frame.now x }
 {

@@ -1,4 +1,4 @@
--- What is kept of the ends is enough.
+-- A joiner's counters are enough.
 use Rattle.std.proofs.Common.{◌≡◌, ℕ, ◌+◌, List, [], ◌∷◌, ◌++◌, length, Bool, true, false, refl}
 use Rattle.std.proofs.Common.{sym, ◌∙◌, ap, cond, pos, arith}
 use Rattle.std.proofs.lemmas.List.Folds.{find-append, list_any-append}

@@ -11,7 +11,7 @@ pub record Tallied : Type 0 where
   pub joiner : Joiner
   pub told : Told
 
--- the tally stands for these ends, in order of completion: it keeps what is kept of them
+-- the tally represents these ends, in order of completion: it has their counters
 abbrev pub StandsFor : Tallied → List End → Type 0
 StandsFor tally ends = tally.told ≡ kept.told tally.joiner ends
 

@@ -1,4 +1,4 @@
-//! What is kept of the ends of a scope's subtasks.
+//! The counters of the ends of a scope's subtasks.
 
 ghost use Rattle.std.specs.Prelude.{◌≡◌, ◌<◌, [], ◌∷◌, ◌++◌, List, count_by, option_map};
 ghost use Rattle.sts_code.specs.declared.limits.TheConstants.{MAX_STANDING};

@@ -1,4 +1,4 @@
--- What a step of a close changes of what the view doesn't show.
+-- The changes that a step of a close makes to the parts that the view doesn't show.
 use Rattle.std.proofs.Common.{◌≡◌, ℕ, zero, suc, ◌+◌, List, [], ◌∷◌, length, map, drop, Bool, true, false, ◌&&◌, Option, Some, None, refl, sym, ◌∙◌, ap, subst, get_or, cond, is_some, arith}
 use Rattle.std.proofs.lemmas.Bool.{or_parts}
 use Rattle.std.proofs.lemmas.List.Sums.{sum_by-cons, sum_by-set}

@@ -1,4 +1,4 @@
--- What a slice keeps makes its next local instruction safe, and is kept by it.
+-- The invariant of a slice makes its next local instruction safe, and that instruction keeps it.
 use Rattle.std.proofs.Common.{◌≡◌, ℕ, zero, suc, ◌+◌, ◌<◌, ◌≤◌, List, [], ◌∷◌, ◌++◌, Bool, true, false, Option, Some, None, refl, sym, ◌∙◌, ap, subst, length, arith, slice_get, cond}
 use Rattle.std.specs.Prelude.{option_map}
 use Rattle.sts_code.specs.Program.{Program, routine}

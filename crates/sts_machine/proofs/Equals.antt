@@ -1,4 +1,4 @@
--- What `==` says of the parts of two frames.
+-- `==` on the parts of two frames.
 use Rattle.std.proofs.Common.{◌≡◌, List, Bool, true, refl, sym, ap, ◌∙◌, subst, reverse, arith}
 use Rattle.std.specs.Bool.{Decides}
 use Rattle.std.specs.Cmp.Lexicographic.{pointwise}

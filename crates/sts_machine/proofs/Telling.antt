@@ -1,4 +1,4 @@
--- What a machine tells, in words of the plain state.
+-- The answers of a machine, in words of the plain state.
 use Rattle.std.proofs.Common.{◌≡◌, ℕ, ◌-◌, List, Option, Some, None, refl, sym, ◌∙◌, ap, subst, cond, arith}
 use Rattle.std.specs.Prelude.{is_some}
 use Rattle.sts_code.specs.Program.{Program}

@@ -1,4 +1,5 @@
--- What an instruction of one task may change of what the view doesn't show (this project's own).
+-- The changes that an instruction of one task may make to the parts that the view doesn't show
+-- (this project's own).
 use Rattle.std.specs.Prelude.{◌≡◌, ℕ, ◌+◌, Bool, true, false, ◌==◌, if◌then◌else◌}
 use Rattle.sts_code.specs.declared.instr.Instr.{Instr}
 use Rattle.sts_code.specs.declared.instr.Instr.TheVariants.{Open, Fork, Join, Close, Bind, Unbind}

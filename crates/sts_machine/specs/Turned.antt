@@ -1,4 +1,4 @@
--- What is answered to an event (this project's own).
+-- The answer to an event (this project's own).
 use Rattle.std.specs.Prelude.{◌≡◌, ℕ, Bool, true, false, Option, Some, None, if◌then◌else◌}
 use Rattle.sts_machine.specs.declared.turned.Turned.{Turned}
 use Rattle.sts_machine.specs.declared.turned.Turned.TheVariants.{Stepped, Idle}

@@ -108,7 +108,7 @@ fn quiet(store: &mut Store, program: &Program, code: &[Instr], t: u32, instr: &I
         Instr::Bound(k) => store.push_is_bound(t, k),
         Instr::OrElse(k) => store.or_else(t, k),
         Instr::Interrupted => store.take_flag(t),
-        // What isn't quiet is done by `effect`.
+        // `effect` does the instructions that aren't quiet.
         _ => {}
     }
 }

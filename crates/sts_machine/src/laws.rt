@@ -1,4 +1,4 @@
-//! What a machine relies on.
+//! The laws that a machine relies on.
 
 ghost use Rattle.std.specs.Prelude.{◌<◌, ◌≤◌};
 ghost use Rattle.laws_accepted.specs.Accepted.{main_of};

@@ -82,7 +82,7 @@ impl<'p> Machine<'p> {
         })
     }
 
-    /// What the machine's type keeps: the laws of its program.
+    /// The invariant of the machine's type: the laws of its program.
     pub(crate) fn laws(&self)
         ensures { HasLaws self.now.program }
     {

@@ -1,4 +1,4 @@
-//! What comes from outside, done to a store.
+//! Interrupts and expiries from outside, applied to a store.
 
 ghost use Rattle.std.specs.Prelude.{◌≡◌, true};
 ghost use Rattle.sts_machine.specs.Room.{HasRoomOf};

@@ -1,4 +1,4 @@
-//! What the slots of a frame hold.
+//! The content of the slots of a frame.
 
 ghost use Rattle.std.specs.Prelude.{◌≡◌, slice_index_or};
 ghost use Rattle.sts_model.specs.Effect as effect;
@@ -14,7 +14,7 @@ fn slot_at(slots: &[Slot; 16], x: u8) -> Slot
     if x < 16 { slots[x] } else { Slot::Empty }
 }
 
-/// What a slot holds.
+/// The content of a slot.
 pub(crate) fn slot(frame: &Frame, x: u8) -> Slot
     ensures { result ≡ misuse.slot frame.now x }
 {

@@ -17,7 +17,7 @@ use crate::machine::Machine;
 use laws_accepted::bindings_are_seen;
 use laws_live::standing_is_seen;
 
-/// So many tasks, scopes and bindings.
+/// A number of tasks, of scopes and of bindings.
 #[derive(Clone, Copy, Debug, PartialEq, Eq)]
 pub struct Standing {
     pub tasks: u32,

@@ -17,7 +17,7 @@ use sts_frames::code;
 use sts_model::{Slot, Stand};
 use sts_store::Store;
 
-/// At the `join` of a scope that the slot owns?
+/// The `join` of a scope, if the slot owns one.
 fn stands_at_join(slot: Slot) -> Stand
     ensures { result ≡ live_stands_at_join slot }
 {
@@ -27,7 +27,7 @@ fn stands_at_join(slot: Slot) -> Stand
     }
 }
 
-/// At the `close` of a scope that the slot owns, after the close began?
+/// The `close` of a scope, if the slot owns one and its close has begun.
 fn stands_at_close(store: &Store, slot: Slot) -> Stand
     ensures { result ≡ live_stands_at_close (live_of store.now) slot }
 {

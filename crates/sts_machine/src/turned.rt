@@ -1,6 +1,6 @@
-//! What an event did.
+//! The effect of an event.
 
-/// What an event did.
+/// The effect of an event.
 #[derive(Clone, Copy, Debug, PartialEq, Eq)]
 pub enum Turned {
     /// A step of a task that could step, an interrupt of a living task, or an expiry that marked a

@@ -1,4 +1,4 @@
--- What it means that no fault applies.
+-- No fault applies: each test of a fault says no.
 use Rattle.std.proofs.Common.{◌≡◌, ℕ, Bool, true, false, Option, Some, None, ◌||◌, cond, refl}
 use Rattle.sts_code.specs.Program.{Program}
 use Rattle.sts_code.specs.declared.instr.Instr.{Instr}

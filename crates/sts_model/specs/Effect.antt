@@ -1,8 +1,8 @@
--- What an instruction that is no misuse does.
+-- The effect of an instruction that is no misuse.
 -- Restates `open`, `fork`, `join`, `close` and `Subtask` of `StructuredTaskScope`, and
--- `ScopedValue.where(..).run` as `bind` and `unbind`. The order in which `join` looks (expired,
--- then cancelled or all ended, then the flag), the operands pushed and the slots are this project's
--- own.
+-- `ScopedValue.where(..).run` as `bind` and `unbind`. This project's own are the order in which
+-- `join` looks (expired, then cancelled or all ended, then the flag), the operands pushed, and the
+-- slots.
 use Rattle.std.specs.Prelude.{ℕ, ◌+◌, ◌-◌, ℤ, pos, List, [], ◌∷◌, ◌++◌, length, take, drop, reverse}
 use Rattle.std.specs.Prelude.{map, count_by, Bool, true, false, Option, Some, None, is_some}
 use Rattle.std.specs.Prelude.{unwrap_or, ◌==◌, ◌||◌, not, if◌then◌else◌, slice_set}

@@ -118,14 +118,14 @@ abbrev pub at_sub : World → Slot → (ℕ → Scope → Bool) → Bool
 at_sub w (Sub t) test = test t (scope_of w t)
 at_sub w _ test = false
 
--- a `join` with no room for the answer, or whose targets don't fit the scope
+-- a `join` with no room for the answer, or with targets that don't fit the scope
 abbrev pub joins_wrongly : Frame → Option ℕ → Option ℕ → Scope → Bool
 joins_wrongly f failed timeout scope =
     (nat_le MAX_OPERANDS (length f.operands) && not (is_await_all scope.joiner))
     || not (same (is_some failed) (can_fail scope.joiner))
     || not (same (is_some timeout) scope.timed)
 
--- a `join` whose form does not fit its scope
+-- a `join` in a form that does not fit its scope
 abbrev pub misjoins : World → Frame → Instr → Bool
 misjoins w f (Join s failed timeout interrupted) =
     at_own w (slot f s) (λ _ scope. joins_wrongly f failed timeout scope)

@@ -1,7 +1,7 @@
 //! Events, ends, faults, phases, results of joiners, and whether a task is at a `join` or a
 //! `close`.
 
-/// What happens next.
+/// An event of a run.
 #[derive(Clone, Copy, Debug, PartialEq, Eq)]
 pub enum Event {
     Step(u32),

@@ -1,4 +1,4 @@
--- What is seen of the plain machine after a list of events.
+-- The view of the plain machine after a list of events.
 use Rattle.std.proofs.Common.{◌≡◌, ℕ, ◌+◌, ◌-◌, ◌≤◌, ◌^◌, List, [], ◌∷◌, length, fold, min, Bool}
 use Rattle.std.proofs.Common.{true, false, cond, ◌&&◌, arith, ap, ◌∙◌}
 use Rattle.sts_code.specs.Program.{Program}

@@ -7,7 +7,7 @@ use Rattle.std.specs.Io.KnownBytes.{Consumes, IsAtEnd}
 use Rattle.sts_output.specs.Taking.{Gives, IsTakenOf, LosesUpTo}
 use Rattle.std.proofs.KnownBytes.{Consumes-trans}
 
--- a reader at its end gave all that it had, which is at most `most`
+-- a reader at its end gave all its bytes, at most `most`
 pub whole : (most : ℕ) (a b : Option (List ℕ)) (bs : List ℕ) → Consumes a b bs → IsAtEnd b → length bs ≤ most → IfSome a (λ xs. bs ≡ take most xs)
 whole most None b bs read end short = tt
 whole most (Some xs) None bs read end short = absurd read

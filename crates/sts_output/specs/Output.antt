@@ -1,4 +1,4 @@
--- What the program prints and the status that it ends with, for each mode (this project's own).
+-- The output of the program and its status, for each mode (this project's own).
 use Rattle.std.specs.Prelude.{◌≡◌, ◌⊎◌, ◌↔◌, ℕ, List, ◌++◌, ◌<◌, length, Option, Result, Ok, Err}
 use Rattle.std.specs.Io.KnownBytes.{Appends}
 use Rattle.sts_code.specs.Program.{Program}
@@ -63,7 +63,7 @@ memory_output = record { bytes = memory_line; status = 6 }
 abbrev pub file_output : Output
 file_output = record { bytes = file_line; status = 6 }
 
--- what is printed where the bytes of a file or a stream were not had
+-- the output if the bytes of a file or a stream could not be read
 abbrev pub failure_output : TakeError → Output
 failure_output take_error.Memory = memory_output
 failure_output take_error.Read = file_output

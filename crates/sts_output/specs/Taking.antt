@@ -1,4 +1,4 @@
--- What is taken of a reader's bytes (this project's own).
+-- The bytes that are taken from a reader (this project's own).
 use Rattle.std.specs.Prelude.{◌≡◌, ℕ, ◌≤◌, List, Option, Some, IfSome, length, take}
 use Rattle.std.specs.Io.KnownBytes.{Consumes}
 

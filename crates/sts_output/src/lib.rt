@@ -1,5 +1,5 @@
-//! What the programs print, where their bytes come from, and what is written: all that needs no
-//! machine that workers share.
+//! The output of the programs, and where their bytes come from. Here is all that needs no machine
+//! that workers share.
 #![tactic(auto)]
 
 mod file_error;

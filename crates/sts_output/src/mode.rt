@@ -1,6 +1,6 @@
 //! The modes: what the program can do with a text.
 
-/// What is done with a text; `Plain` and `Replay` look at the trace.
+/// The modes for a text. `Plain` and `Replay` also read the trace.
 #[derive(Clone, Copy, Debug, PartialEq, Eq)]
 pub enum Mode {
     Verify,

@@ -1,4 +1,4 @@
-//! What is printed in each mode that the plain machine and the verifier answer, one file a mode.
+//! The output of each mode that needs only the plain machine or the verifier, one file a mode.
 
 pub mod list;
 pub mod plain;

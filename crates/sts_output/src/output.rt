@@ -1,4 +1,4 @@
-//! What is printed, and the status that the program ends with.
+//! The output of the program, and its status.
 
 ghost use Rattle.std.specs.Prelude.{◌≡◌, ◌≢◌, IfOk, Result, Err};
 ghost use Rattle.sts_code.specs.Program.{Program as AnyProgram};
@@ -16,7 +16,7 @@ use sts_model::End;
 use sts_plain::PlainState;
 use sts_trace::TraceError;
 
-/// What is printed, and the status.
+/// The output, and the status.
 #[derive(Drop)]
 pub struct Output {
     pub text: String,

@@ -6,7 +6,7 @@ use std::env::FillError;
 use std::io::ErrorKind;
 use std::rt::Env;
 
-/// Why the words were not had.
+/// Why the words could not be read.
 #[derive(Clone, Copy, Debug, PartialEq, Eq)]
 pub enum WordsError {
     /// Memory ran out.

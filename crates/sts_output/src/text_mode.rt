@@ -11,7 +11,7 @@ use crate::writing::{WriteFailed, failed, written};
 use std::alloc::{AllocError, Global};
 use std::io::Write;
 
-/// What is done with a text; `Plain` looks at the trace.
+/// The modes for a text. `Plain` also reads the trace.
 #[derive(Clone, Copy, Debug, PartialEq, Eq)]
 pub enum TextMode {
     Verify,

@@ -193,7 +193,7 @@ fn change(world: &mut World, program: &Program, t: u32, instr: Instr)
             push_value(world, t, 1, value);
         }
         Instr::Interrupted => world.take_flag(t),
-        // What takes memory is done by `perform`.
+        // `perform` does the instructions that take memory.
         _ => {}
     }
 }

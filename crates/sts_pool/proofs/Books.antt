@@ -1,4 +1,4 @@
--- What keeps the facts of a book.
+-- Each call keeps the facts of a book.
 use Rattle.std.proofs.Common.{◌≡◌, ℕ, ◌+◌, ◌≤◌, List, [], ◌∷◌, ◌++◌, length, Bool, true, false, not, Option, Some, None, inl, inr, refl, sym, ◌∙◌, subst, cond, is_some, ◌==◌, ◌&&◌, arith, length-append, count_by, filter}
 use Rattle.std.proofs.lemmas.Bool.{and_parts, and_from, and_left, and_right, cond-true, not-true, not_from_false, not_from_true}
 use Rattle.std.proofs.lemmas.Bool.Decides.{nat_tests}
@@ -66,7 +66,7 @@ pub still_entries_one : (journal : List Event) (t : ℕ) → outside_entries (jo
 still_entries_one journal t = let more = entries_more journal (event.Step t ∷ []) in omega (arith, more)
 
 module _ (m x : Seen) (journal : List Event) (out : List ℕ) (e : Event) (is : IsBook m journal out) (stay : StandsStay m.program) (stands : (events : List Event) → Stands m events → Stands x (events ++ e ∷ [])) (live : x.live ≡ live_apply m.program m.live e) (steps : x.steps ≡ m.steps + live_steps_in m.program m.live e) where
-  -- an event that is recorded moves nobody who is out
+  -- an event that is recorded moves no task that is out
   moved : live_steps_in m.program m.live e + outside_entries (e ∷ []) ≡ 1 → outside_entries journal + outside_entries (e ∷ []) ≤ 4096 → ((t : ℕ) → among out t ≡ true → is_step_of t e ≡ false) → IsBook x (journal ++ e ∷ []) out
   moved one few others =
       let more = entries_more journal (e ∷ []) in
@@ -198,7 +198,7 @@ room_kept p q j k l n same more most room =
     subst (λ z. HasBookRoom z l n) (sym same)
     (record { main = room.main; stay = room.stay; turns = room.turns; within = room.within; journal_room = omega (arith, journal, more); out_room = omega (arith, out, most) })
 
--- entries with which it is a book still had room in the journal
+-- if it is still a book with these entries, the journal had room for them
 pub entries_fit : (m x : Seen) (journal events : List Event) (out : List ℕ) (j k : ℕ) → x.program ≡ m.program → HasBookRoom m.program j k → IsBook x (journal ++ events) out → length journal + length events ≤ j
 entries_fit m x journal events out j k same room is =
     let there = room_kept m.program x.program j k j k same (omega arith) (omega arith) room in
@@ -207,7 +207,7 @@ entries_fit m x journal events out j k same room is =
     let enough = there.journal_room in
     omega (arith, few, long, enough)
 
--- a task with which it is a book still had room in the list of those that are out
+-- if it is still a book with this task, the list of those that are out had room for it
 pub out_fits : (m : Seen) (journal : List Event) (out : List ℕ) (t j k : ℕ) → HasBookRoom m.program j k → IsBook m journal (out ++ t ∷ []) → length out + 1 ≤ k
 out_fits m journal out t j k room is =
     let few = out_few m journal (out ++ t ∷ []) is room.main.budget room.main.printed room.within in

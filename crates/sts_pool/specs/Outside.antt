@@ -1,4 +1,4 @@
--- What comes from outside of the tasks (this project's own).
+-- Events from outside of the tasks (this project's own).
 use Rattle.std.specs.Prelude.{◌≡◌, false}
 use Rattle.sts_model.specs.declared.event.Event.{Event}
 use Rattle.sts_model.specs.Run.{is_step}

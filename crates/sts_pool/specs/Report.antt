@@ -1,4 +1,4 @@
--- What is reported of a run (this project's own).
+-- The report of a run (this project's own).
 use Rattle.std.specs.Prelude.{◌≡◌, ◌+◌, ◌≤◌, ℕ, List, length, count_by, Some}
 use Rattle.sts_code.specs.Program.{Program}
 use Rattle.sts_code.specs.declared.limits.TheConstants.{MAX_OUTSIDE}

@@ -1,4 +1,5 @@
-//! What a run asks of its caller: a gate before each piece of work, and the events from outside.
+//! The calls that a run makes to its caller: a gate before each piece of work, and the events from
+//! outside.
 
 ghost use Rattle.std.specs.Prelude.{IfSome};
 ghost use Rattle.sts_pool.specs.Outside.{IsOutside};

@@ -1,4 +1,4 @@
-//! The journal of a run: its entries, or nothing where nobody asks for them.
+//! The journal of a run: its entries, or only their number if they aren't asked for.
 
 ghost use Rattle.std.specs.Prelude.{◌≡◌, ◌∷◌, [], IfOk, IfSome};
 ghost use Rattle.sts_machine.specs.Slice.{steps_of};

@@ -1,4 +1,4 @@
-//! What is reported of a run, or why nothing is.
+//! The report of a run, or why there is none.
 
 use sts_model::{End, Event};
 use thiserror::Error;

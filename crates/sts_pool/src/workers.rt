@@ -18,7 +18,7 @@ use sts_code::MAX_OUTSIDE;
 use sts_machine::{Slice, Turned};
 use sts_verify::Verified;
 
-/// So often a worker looks again, for a task or the lock, before it sleeps: a wake-up costs more.
+/// A worker looks this often for a task or the lock before it sleeps, as a wake-up costs more.
 const LOOKS: u32 = 64;
 
 /// How long it pauses between two looks.
@@ -61,7 +61,7 @@ struct Pool<'p, O, B: Runs> {
     woken: Condvar,
 }
 
-/// What a worker that looks for a task does.
+/// The next action of a worker that looks for a task.
 enum Found {
     /// It works on this task.
     Task(u32),
@@ -249,8 +249,8 @@ impl<'p, O: Outside, B: Runs> Pool<'p, O, B> {
         self.woken.notify_all();
     }
 
-    /// What one worker does: it claims a task, passes the gate and does the task's steps, and so on
-    /// until the root has ended.
+    /// The work of one worker. It claims a task, passes the gate and does the task's steps. It
+    /// repeats this until the root has ended.
     fn work<R: Wait, G: Gate>(&self, rt: &R, gate: &G, worker: u32) {
         let mut guard = self.locked(rt);
         guard.came = guard.came.saturating_add(1);
@@ -318,7 +318,7 @@ pub fn run_unwritten<R: Threads + Wait + Sync, G: Gate + Sync, O: Outside + Send
     left.book.ending(left.workers)
 }
 
-/// What the workers leave: the book, and how many of them came to the lock.
+/// The result of all workers: the book, and how many of them reached the lock.
 #[derive(Drop)]
 pub(crate) struct Left<'p> {
     book: Book<'p>,

@@ -162,7 +162,7 @@ module _ {T : Type 0} where
           let k : get_or keys birth 0 ≡ key = cc in
           (s.entry, rw k at s.is, s.own, s.less)
 
-  -- and the other way round
+  -- a birth without a record has no key
   pub key_none : (keys : List ℕ) (entries : List (Option (Entry T))) (birth : ℕ) → None ≡ get_or (slots 0 keys entries) birth None → None ≡ key_at (slots 0 keys entries) keys birth
   key_none keys entries birth h = rw (← h) refl
 

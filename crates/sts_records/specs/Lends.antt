@@ -1,4 +1,5 @@
--- What records by birth end as, where a `&mut` to one of them is returned (this project's own).
+-- The records by birth after a `&mut` to one of them was returned and has ended (this project's
+-- own).
 use Rattle.std.specs.Prelude.{ℕ, Some, slice_set}
 use Rattle.std.specs.Borrow.{Lends, Fml, RattleType, MutBor}
 use Rattle.sts_records.specs.Holes.{Holes}

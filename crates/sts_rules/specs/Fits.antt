@@ -1,4 +1,4 @@
--- What it means that no cause holds at an instruction (this project's own).
+-- No cause holds at an instruction: each test of a cause says no (this project's own).
 use Rattle.std.specs.Prelude.{◌≡◌, ℕ, false}
 use Rattle.sts_code.specs.Program.{Program, routine}
 use Rattle.sts_code.specs.declared.instr.Instr.{Instr}

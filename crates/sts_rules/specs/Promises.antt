@@ -1,4 +1,4 @@
--- What typing promises the machine of each typestate that is reached (this project's own).
+-- The promises of typing to the machine, for each typestate that is reached (this project's own).
 use Rattle.std.specs.Prelude.{◌≡◌, ℕ, ◌<◌, length}
 use Rattle.sts_code.specs.Program.{Program, routine, instr_at}
 use Rattle.sts_rules.specs.TypeState.{TypeState, heads}

@@ -1,4 +1,4 @@
-//! What a function can cost at most.
+//! The most that a function can cost.
 
 /// The budgets of a function: the most steps of a path through it, and the most tasks, scopes and
 /// bindings that count at one point of a path. Each includes those of its subtasks.

@@ -4,7 +4,7 @@ ghost use Rattle.std.specs.Prelude.{◌≡◌, IfOk, replicate};
 
 use std::alloc::{AllocError, Global};
 
-/// So many copies of a value.
+/// `count` copies of a value.
 ///
 /// # Errors
 ///

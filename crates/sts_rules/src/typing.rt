@@ -1,11 +1,11 @@
-//! What the verifier knows of a task at an instruction, and why it refuses a program.
+//! The verifier's knowledge of a task at an instruction, and why it refuses a program.
 
 ghost use Rattle.std.specs.Prelude.{◌≡◌};
 ghost use Rattle.sts_rules.specs.Causes as def;
 
 use sts_code::Joiner;
 
-/// What is known of the state of a subtask.
+/// The knowledge of the state of a subtask.
 #[derive(Clone, Copy, Debug, PartialEq, Eq)]
 pub enum Known {
     Unknown,
@@ -13,8 +13,8 @@ pub enum Known {
     Failed,
 }
 
-/// What a slot holds: nothing, a scope of the task's own, the scope that the task is a subtask of,
-/// or a subtask.
+/// The content of a slot: nothing, a scope of the task's own, the scope that the task is a subtask
+/// of, or a subtask.
 #[derive(Clone, Copy, Debug, PartialEq, Eq)]
 pub enum SlotKind {
     Empty,
@@ -24,7 +24,7 @@ pub enum SlotKind {
     Sub(u8, Known),
 }
 
-/// How far a scope is, as far as the verifier can tell: a scope is late once a timeout has joined
+/// The phase of a scope, as far as the verifier knows it. A scope is late once a timeout has joined
 /// it.
 #[derive(Clone, Copy, Debug, PartialEq, Eq)]
 pub enum TypedPhase {

@@ -1,4 +1,4 @@
--- What is read of the records of an environment.
+-- Readings of the records of an environment.
 use Rattle.std.proofs.Common.{◌≡◌, ◌≢◌, ℕ, zero, suc, List, [], ◌∷◌, Option, Some, None, sym, ◌∙◌}
 use Rattle.sts_env.specs.Environments.{Records, AreWhole, keys, bindings, keys_of, list_of, IsWhole, record_at}
 use Rattle.sts_env.specs.declared.env.Env.{Env}

@@ -54,7 +54,7 @@ module _ {E : Type 0} (f : Forest E) (t : ℕ) (x : Task) (end : End) where
                 ∙ ap (λ b. cond b (cancel (ended f t x end) s (told_scope c end)) (ended f t x end)) asks_now;
           }
 
-  -- nobody asks, and no scope is cancelled
+  -- no joiner asks, and no scope is cancelled
   pub not_asking : asks_ended f x end ≡ false → finished f t x end ≡ ended f t x end
   not_asking quiet = by x.scope
     where

@@ -1,4 +1,4 @@
--- What keeps the parts in order.
+-- Changes that keep the parts in order.
 use Rattle.std.proofs.Common.{◌≡◌, ℕ, zero, suc, List, [], ◌∷◌, map, length, Option, Some, None, refl, sym, ◌∙◌, ap, get_or, set}
 use Rattle.std.proofs.lemmas.List.{length-set}
 use Rattle.std.specs.Prelude.{option_map, is_some}

@@ -1,4 +1,4 @@
--- What is read of tasks and scopes, in the tree and in the view.
+-- Readings of tasks and scopes, in the tree and in the view.
 use Rattle.std.proofs.Common.{◌≡◌, ℕ, ◌+◌, ◌-◌, length, true, false, ◌&&◌, Option, Some, None, refl, sym, ◌∙◌, ap, get_or, List, [], ◌∷◌, cond, nat_eq, arith}
 use Rattle.std.proofs.lemmas.Bool.Decides.{nat_tests}
 use Rattle.sts_tree.specs.Births.{has}

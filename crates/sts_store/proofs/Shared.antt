@@ -46,7 +46,7 @@ by_place P xs t x y at one others u z e = by (nat_eq u t) refl
     by false q = let ne : u ≢ t = grind (arith, nat_tests) in others u z ne (sym (there xs t u (Some y) ne) ∙ e)
 
 module _ {c : Records} {hs : List (Option Holder)} {ks : List (Option Keeper)} {os : List (Option (Option ℕ))} {own outside : ℕ → List ℕ} where
-  -- a vacant key is nobody's own
+  -- a vacant key is no task's own
   nobodys : Shares c hs ks os own outside → (u k : ℕ) (h : Holder) → get_or hs u None ≡ Some h → record_at c k ≡ None → NotIn k (own u)
   nobodys s u k h at none =
       not_front k (own u) (inherited c ks (home_at os u)) (subst (NotIn k) (s.tasks u h at) (vacant_to c h.env k none (s.whole u h at)))

@@ -1,4 +1,4 @@
--- What is seen of a forest, word by word.
+-- The view of a forest after each change.
 use Rattle.std.proofs.Common.{◌≡◌, ℕ, zero, suc, ◌+◌, List, [], ◌∷◌, ◌++◌, length, map, Bool, true}
 use Rattle.std.proofs.Common.{false, Option, Some, None, refl, sym, ◌∙◌, ap, arith, get_or, set}
 use Rattle.std.proofs.Common.{cond, is_some, add-one, get_or-set_same, not, subst, ◌&&◌, ◌<◌, ◌||◌}

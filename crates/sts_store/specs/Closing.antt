@@ -1,5 +1,5 @@
--- What becomes of what the view doesn't show, when a scope is closed, and which slots are emptied
--- (this project's own).
+-- The parts that the view doesn't show, after a scope is closed, and which slots are emptied (this
+-- project's own).
 use Rattle.std.specs.Prelude.{ℕ, ◌+◌, ◌==◌, List, [], ◌∷◌, map, Bool, false, Option, Some, None}
 use Rattle.std.specs.Prelude.{if◌then◌else◌, slice_index_or}
 use Rattle.sts_env.specs.declared.env.Env.{Env}

@@ -1,4 +1,4 @@
--- What holds of the parts of a store at all times (this project's own).
+-- The invariant of the parts of a store (this project's own).
 use Rattle.std.specs.Prelude.{◌≡◌, ℕ, length, None, is_some, slice_index_or}
 use Rattle.sts_tree.specs.Reading.{lives_at}
 use Rattle.sts_store.specs.Parts.{Parts}

@@ -1,8 +1,8 @@
-//! What is seen of a forest after each of its words is the plain machine's word on what was seen.
+//! A law: each change of a forest is the same change of its live view.
 
 ghost use Rattle.sts_store.specs.Agreeing.{WordsAgree};
 
-/// Each word of a forest is a word of the live view.
+/// Each change of a forest is the change of its live view with the same name.
 pub fn words_agree<E>()
     ensures { WordsAgree E }
 {}

@@ -1,4 +1,4 @@
-//! What is written into the frame of a task, and its flag.
+//! Changes of a task's frame and of its flag.
 
 ghost use Rattle.std.specs.Prelude.{◌≡◌, ◌<◌, ◌+◌, ◌-◌, ◌^◌, [], ◌∷◌, length};
 ghost use Rattle.std.specs.Prelude.{true, false};

@@ -1,4 +1,4 @@
-//! What is read of a store.
+//! Readings of a store.
 
 ghost use Rattle.std.specs.Prelude.{◌≡◌, true, is_some};
 ghost use Rattle.sts_model.specs.Misuse.{is_closing};

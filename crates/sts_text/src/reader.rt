@@ -1,4 +1,4 @@
-//! The words of a line, one after the other.
+//! The words of a line, in order.
 
 ghost use Rattle.std.specs.Prelude.{◌≡◌, MatchOption, [], ◌∷◌};
 ghost use Rattle.sts_text.specs.Words.{words};

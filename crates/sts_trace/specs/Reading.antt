@@ -24,7 +24,7 @@ abbrev pub Fails : {Y : Type 0} → TraceError → Result Y TraceError → Type 
 Fails Memory read = ⊤
 Fails e read = read ≡ Err e
 
--- What a call gave, seen by `view`, is what reading gives, unless memory ran out.
+-- The result of a call, seen by `view`, is what reading gives, unless memory ran out.
 abbrev pub Gives : {X Y : Type 0} → (X → Y) → Result X TraceError → Result Y TraceError → Type 0
 Gives view (Ok x) read = read ≡ Ok (view x)
 Gives view (Err e) read = Fails e read

@@ -1,4 +1,4 @@
-//! What is wrong with a trace text or an outside text.
+//! The faults of a trace text or an outside text.
 
 ghost use Rattle.std.specs.Prelude.{◌≡◌};
 ghost use Rattle.sts_trace.specs.declared.error.TraceError.TheVariants.{Memory};

@@ -1,4 +1,4 @@
-//! What the fields of a line say.
+//! The fields of a line.
 
 ghost use Rattle.std.specs.Prelude.{◌≡◌};
 ghost use Rattle.sts_trace.specs.Reading.{Gives, numeral_at, event_of};

@@ -27,7 +27,7 @@ fn is_outside_word(word: &[u8]) -> bool
     word == b"interrupt".as_slice() || word == b"expire".as_slice()
 }
 
-// What line `at` says.
+// Reads line `at`.
 #[tactic(auto, using(crate::proofs::TooMany::too_many))]
 fn due_line(at: u64, line: &[u8]) -> Result<Due, TraceError>
     ensures { Gives (λ due. due) result (due_line at line.now) }
@@ -50,7 +50,7 @@ fn due_line(at: u64, line: &[u8]) -> Result<Due, TraceError>
     due_said(at, first, time, word, number)
 }
 
-// What a line of four fields says.
+// Reads a line of four fields.
 fn due_said(
     at: u64,
     first: &[u8],
@@ -69,7 +69,7 @@ fn due_said(
     Ok(Due { at: time, event })
 }
 
-// Apart from `read_outside`, whose further clauses are laws about what this one gives.
+// A function of its own, since the further clauses of `read_outside` are laws about its result.
 #[tactic(auto, using(crate::proofs::Lines::reads))]
 fn read_dues(alloc: Global, text: &[u8]) -> Result<Vec<Due>, TraceError>
     ensures { Gives (λ dues. dues.items) result (outside_read text.now) }
@@ -104,7 +104,7 @@ fn read_dues(alloc: Global, text: &[u8]) -> Result<Vec<Due>, TraceError>
 /// - `Memory`: memory ran out. This may be the answer for any text.
 #[tactic(auto, using(crate::proofs::Found::dues_found, crate::proofs::Only::outside_only))]
 pub fn read_outside(alloc: Global, text: &[u8]) -> Result<Vec<Due>, TraceError>
-    // What is read is what the text spells.
+    // If events are read, the text spells them.
     ensures found { IfOk result (λ dues. AreDues dues.items ×
         (text.now ≡ outside_text dues.items)) }
     // Whatever the text spells is read.

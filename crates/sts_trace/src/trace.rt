@@ -12,7 +12,7 @@ use std::alloc::Global;
 use sts_model::Event;
 use sts_text::{cut_at_newline, cut_at_space};
 
-// What a line of two fields says.
+// Reads a line of two fields.
 fn event_said(at: u64, word: &[u8], number: &[u8]) -> Result<Event, TraceError>
     ensures { Gives (λ e. e) result (event_said at (word.now ∷ number.now ∷ [])) }
 {
@@ -22,7 +22,7 @@ fn event_said(at: u64, word: &[u8], number: &[u8]) -> Result<Event, TraceError>
     event_of(at, word, number)
 }
 
-// What line `at` says.
+// Reads line `at`.
 #[tactic(auto, using(crate::proofs::TooMany::too_many))]
 fn event_line(at: u64, line: &[u8]) -> Result<Event, TraceError>
     ensures { Gives (λ e. e) result (event_line at line.now) }
@@ -36,7 +36,7 @@ fn event_line(at: u64, line: &[u8]) -> Result<Event, TraceError>
     event_said(at, word, number)
 }
 
-// Apart from `read_trace`, whose further clauses are laws about what this one gives.
+// A function of its own, since the further clauses of `read_trace` are laws about its result.
 #[tactic(auto, using(crate::proofs::Lines::reads))]
 fn read_events(alloc: Global, text: &[u8]) -> Result<Vec<Event>, TraceError>
     ensures { Gives (λ events. events.items) result (trace_read text.now) }

@@ -23,7 +23,7 @@ fn write_event<W: Write>(event: Event, writer: &mut W) -> io::Result<()>
 ///
 /// # Errors
 ///
-/// What the writer answers where a write fails; some of the text may then have been written.
+/// The writer's error if a write fails. Some of the text may then have been written.
 pub fn write_trace<W: Write>(events: &[Event], writer: &mut W) -> io::Result<()>
     ensures { OnOk result (Appends (W.contents writer.old)
         (W.contents writer.new) (trace_text events.now)) }

@@ -1,4 +1,4 @@
--- What one change leaves of who can step, and of who owns what.
+-- After one change, which tasks can step, and which own which scopes.
 use Rattle.std.proofs.Common.{◌≡◌, ◌≢◌, ℕ, zero, suc, ◌<◌, List, [], ◌∷◌, ◌++◌, map, Bool, true, false, ◌&&◌, ◌||◌, not, Option, Some, None, refl, sym, ◌∙◌, ap, arith, get_or, set, get_or-set_same, get_or-set_other, is_some, nat_eq, nat_lt, length}
 use Rattle.std.proofs.lemmas.Bool.Decides.{nat_tests}
 use Rattle.std.proofs.lemmas.List.{get_or_append_left, get_or_past}
@@ -106,7 +106,7 @@ module _ {E : Type 0} where
           (d, rw k (get_or-set_same f.scopes s (Some d) None inside), same ∙ ap (λ (v : Scope E). v.owner) e ∙ o.2)
       by false q o = (o.0, get_or-set_other f.scopes s r (Some d) None (grind (arith, nat_tests)) ∙ o.1, o.2)
 
-  -- a scope is written that has ended as far as it had: nobody's step depends on the rest of it
+  -- a scope is written with the same marks of its end: no task's step depends on the rest of it
   abbrev over_of : Option (Scope E) → Bool
   over_of o = elim o [ None ↦ false | Some c ↦ c.expired || c.cancelled ]
 
@@ -173,7 +173,7 @@ module _ {E : Type 0} where
         owned = owned_seen one two seen2 (owned_seen mid one seen1 owned);
       }
 
-  -- a new scope changes nobody's step
+  -- a new scope changes no task's step
   over_more : (f : Forest E) (c : Scope E) (keys : List ℕ) (r s : ℕ) → get_or f.scopes s None ≢ None → is_over (record f { scopes = f.scopes ++ Some c ∷ []; scope_keys = keys; scope_room = r }) s ≡ is_over f s
   over_more f c keys r s there =
       ap (λ o. elim o [ None ↦ false | Some d ↦ d.expired || d.cancelled ]) (get_or_append_left f.scopes (Some c ∷ []) None s (inside_of f.scopes s there))

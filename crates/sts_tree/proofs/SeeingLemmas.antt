@@ -1,4 +1,4 @@
--- What the ready list doesn't change.
+-- The parts that don't depend on the ready list.
 use Rattle.std.proofs.Common.{◌≡◌, ◌≢◌, ℕ, suc, List, [], ◌∷◌, ◌++◌, arith, map, Bool, true, false, ◌&&◌, Option, Some, None, refl, sym, ◌∙◌, ap, get_or, set, nat_eq}
 use Rattle.std.proofs.lemmas.Bool.Decides.{nat_tests}
 use Rattle.std.specs.Prelude.{option_map, option_copied}

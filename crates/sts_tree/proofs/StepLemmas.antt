@@ -1,4 +1,4 @@
--- What one change leaves of the lists.
+-- The lists after one change.
 use Rattle.std.proofs.Common.{◌≡◌, ◌≢◌, ℕ, ◌+◌, ◌<◌, ◌≤◌, List, [], ◌∷◌, ◌++◌, length, Option, Some, None, refl, sym, ◌∙◌, ap, arith, get_or, set, Bool, true, false, nat_eq, get_or-set_same, get_or-set_other, length-set, length-append, nat_lt, cond, append-nil}
 use Rattle.std.proofs.lemmas.Bool.Decides.{nat_tests}
 use Rattle.std.proofs.lemmas.List.{get_or_past, get_or_append_left, get_or_at}

@@ -114,7 +114,7 @@ own_task slots t r x is e = some_same r.task x (sym (task_at slots t r is) ∙ e
 pub seen_is : {E : Type 0} → (f : Forest E) (tasks : List (Option Task)) (ready : List ℕ) → f.tasks ≡ tasks → f.ready ≡ ready → f ≡ record f { tasks = tasks; ready = ready }
 seen_is f tasks ready e h = rw (← e, ← h) refl
 
--- a record of the next birth: nobody has its links
+-- a record of the next birth: no record has its links
 pub record Fresh (slots new : List (Option TaskRecord)) (n : ℕ) : Type 0 where
   pub vacant : (m : ℕ) → link_at slots m n ≡ None
   pub others : (m k : ℕ) → k ≢ n → link_at new m k ≡ link_at slots m k

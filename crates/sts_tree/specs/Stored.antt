@@ -1,4 +1,4 @@
--- What the records of tasks hold: links, and tasks (this project's own).
+-- The content of the records of tasks: links, and tasks (this project's own).
 use Rattle.std.specs.Prelude.{◌≡◌, ℕ, zero, suc, List, [], ◌∷◌, map, Option, Some, None, option_map}
 use Rattle.std.specs.Prelude.{refl, nat_lt, if◌then◌else◌, slice_index_or}
 use Rattle.std.proofs.Common.{◌∙◌}

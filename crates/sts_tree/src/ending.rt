@@ -7,7 +7,8 @@ ghost use Rattle.sts_tree.specs.Ending as ending;
 use crate::forest::Forest;
 use sts_model::End;
 
-/// Who may wait for the end of a task: the owner of its scope, or for the root itself.
+/// The task that may wait for the end of a task: the owner of its scope. For the root it is the
+/// root itself.
 pub(crate) fn waiter<E: Drop>(forest: &Forest<E>, t: u32) -> u32
     requires { (x : AnyTask)
         × (slice_index_or forest.now.tasks t None ≡ Some x) × (x.lives ≡ true) }

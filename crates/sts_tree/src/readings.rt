@@ -90,7 +90,7 @@ impl<E: Drop> Tree<E> {
         self.forest.scope(s).unwrap().expired
     }
 
-    /// What is kept for the scope.
+    /// The value that is kept for the scope.
     pub fn env(&self, s: u32) -> &E
         requires { slice_index_or self.now.scopes s None ≢ None }
         ensures { (c : AnyScope E) → slice_index_or self.now.scopes s None ≡ Some c →

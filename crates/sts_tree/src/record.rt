@@ -1,4 +1,4 @@
-//! What is kept of a task and of a scope.
+//! The records of tasks and of scopes.
 
 use sts_joiners::Tally;
 use sts_links::{Ends, Link};

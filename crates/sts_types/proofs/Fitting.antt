@@ -1,4 +1,4 @@
--- What it means that no cause is found.
+-- No cause is found: each test of a cause says no.
 use Rattle.std.proofs.Common.{◌≡◌, ℕ, Bool, true, false, Option, Some, None, cond, refl, ap, ◌∙◌}
 use Rattle.std.proofs.Common.{is_some, List}
 use Rattle.sts_code.specs.Program.{Program, routine}

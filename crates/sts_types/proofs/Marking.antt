@@ -1,4 +1,4 @@
--- Marks, and the typestates that they stand for.
+-- Marks, and the typestates that they refer to.
 use Rattle.std.proofs.Common.{◌≡◌, ◌≢◌, ℕ, zero, suc, ◌<◌, ◌≤◌, ◌⊎◌, inl, inr, List, [], ◌∷◌, ◌++◌}
 use Rattle.std.proofs.Common.{Option, Some, None, length, map, get_or, set, replicate, refl, sym}
 use Rattle.std.proofs.Common.{ap, ◌∙◌, subst, arith, get_or-set_same, get_or-set_other, length-set}
@@ -43,7 +43,7 @@ set_marked n marks place after all h k d lt = by (cases_eq place k)
 longer_kept : (kept added now : List TypeState) → now ≡ kept ++ added → length kept ≤ length now
 longer_kept kept added now is = omega (arith, ap length is ∙ length-append kept added)
 
--- where more is kept, a mark stands for one of these
+-- if more is kept, a mark refers to one of these
 pub mark_holds : (kept added now : List TypeState) (m : Arrival Mark) → now ≡ kept ++ added → IsMarked (length kept) m → IsMarked (length now) m
 mark_holds kept added now m is held = longer (length kept) (length now) m (longer_kept kept added now is) held
 
@@ -80,7 +80,7 @@ first_arrived kept marks places m first empty is =
 long : (marks : List (Arrival Mark)) (places : ℕ) → marks ≡ replicate places Nothing → length marks ≡ places
 long marks places empty = ap length empty ∙ length-replicate places Nothing
 
--- the first mark alone stands for one of these
+-- the first mark alone refers to one of these
 pub first_marked : (n : ℕ) (marks : List (Arrival Mark)) (places : ℕ) (after : Arrival Mark) → marks ≡ replicate places Nothing → IsMarked n after → All (IsMarked n) (set marks 0 after)
 first_marked n marks places after empty h = set_marked n marks 0 after (λ k d lt. subst (λ l. IsMarked n (get_or l k d)) (sym empty) (at k d lt)) h
   where

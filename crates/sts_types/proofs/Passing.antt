@@ -9,7 +9,7 @@ use Rattle.sts_types.specs.Arrivals.{Merged, Arrive}
 use Rattle.sts_rules.specs.Flow.{Flow, Leads, Reaches, first, then, IsAlone, TurnDiffers, TurnKeeps}
 use Rattle.sts_rules.specs.Flow.{IsClear, HasCause, dead, two, edge, turn}
 
--- what stands for the states P
+-- the arrival that represents the states P
 abbrev pub Stands : {S : Type 0} → (S → Type 0) → Arrival S → Type 0
 Stands {S} P Nothing = (s : S) → P s → ⊥
 Stands {S} P (One s) = P s × ((other : S) → P other → other ≡ s)
@@ -27,7 +27,7 @@ module _ {S : Type 0} where
   stands_same P Q (One s) to from h = (to s h.0, λ x q. h.1 x (from x q))
   stands_same P Q Several to from h = (h.0, (h.1.0, (to _ h.1.1.0, to _ h.1.1.1, h.1.1.2)))
 
-  -- the table stands for the states P of each place below n
+  -- the table represents the states P of each place below n
   abbrev pub Describes : (ℕ → S → Type 0) → List (Arrival S) → ℕ → Type 0
   Describes P table n = (length table ≡ n) × ((pc : ℕ) → pc < n → Stands (P pc) (get_or table pc Nothing))
 
@@ -52,7 +52,7 @@ module _ {S : Type 0} where
   describes_same : (P Q : ℕ → S → Type 0) (table : List (Arrival S)) (n : ℕ) → ((pc : ℕ) (x : S) → P pc x → Q pc x) → ((pc : ℕ) (x : S) → Q pc x → P pc x) → Describes P table n → Describes Q table n
   describes_same P Q table n to from h = (h.0, λ pc within. stands_same (P pc) (Q pc) _ (to pc) (from pc) (h.1 pc within))
 
-  -- after an edge list has arrived, the table stands for what it stood for and the list
+  -- after an edge list has arrived, the table represents what it did before, and the list
   pub arrive_describes : (es : List (ℕ × S)) (P : ℕ → S → Type 0) (table after : List (Arrival S)) (n : ℕ) → Describes P table n → Arrive table es after → Describes (λ pc x. P pc x ⊎ Leads es pc x) after n
   arrive_describes [] P table after n h is = subst (λ t. Describes (λ pc x. P pc x ⊎ Leads [] pc x) t n) (sym is) (describes_same P _ table n (λ pc x p. inl p) (λ pc x. elim [ inl p ↦ p | inr r ↦ absurd r ]) h)
   arrive_describes (e ∷ es) P table after n h is =
@@ -74,8 +74,8 @@ pub data Below {S C : Type 0} (f : Flow S C) (k : ℕ) : ℕ → S → Type 0 wh
   at_entry : Below f k 0 f.entry
   out_of : (from : ℕ) (before : S) (out : List (ℕ × S)) {pc : ℕ} {s : S} → from < k → Reaches f from before → f.edges from before ≡ Ok out → Leads out pc s → Below f k pc s
 
--- how far the pass has come: the table stands for all that arrives from the places below k, and no
--- cause holds at these
+-- the pass up to k: the table represents all that arrives from the places below k, and no cause
+-- holds at these
 pub record Passed {S C : Type 0} (f : Flow S C) (n : ℕ) (table : List (Arrival S)) (k : ℕ) : Type 0 where
   pub holds : (length table ≡ n) × ((pc : ℕ) → pc < n → Stands (Below f k pc) (get_or table pc Nothing))
   pub clear : (pc : ℕ) → pc < k → IsClear f pc

@@ -1,4 +1,4 @@
--- What a table keeps of the states that arrive at its places: at most one state a place (this
+-- The states that a table keeps of those that arrive at its places: at most one state a place (this
 -- project's own).
 use Rattle.std.specs.Prelude.{◌≡◌, ◌≢◌, ◌<◌, ◌≤◌, ℕ, ◌⊎◌, List, [], ◌∷◌, Option, Some, None}
 use Rattle.std.specs.Prelude.{slice_index_or, slice_set}
@@ -42,11 +42,11 @@ at_height h s = record s { height = h }
 abbrev pub none : TypeState
 none = record { height = 0; loops = []; entries = []; slots = [] }
 
--- the typestate that a mark stands for
+-- the typestate that a mark refers to
 abbrev pub state_of : List TypeState → Mark → TypeState
 state_of kept m = at_height m.height (slice_index_or kept m.like none)
 
--- what the marks at a place stand for
+-- the typestates that the marks at a place refer to
 abbrev pub arrival_of : List TypeState → Arrival Mark → Arrival TypeState
 arrival_of kept Nothing = Nothing
 arrival_of kept (One m) = One (state_of kept m)

@@ -1,4 +1,4 @@
--- What the causes leave room for (this project's own).
+-- The room that is left if no cause holds (this project's own).
 use Rattle.std.specs.Prelude.{◌≡◌, ◌+◌, ◌-◌, ◌<◌, ◌≤◌, false, IfSome}
 use Rattle.sts_code.specs.Program.{Program}
 use Rattle.sts_code.specs.declared.limits.TheConstants.{MAX_OPERANDS}

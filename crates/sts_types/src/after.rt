@@ -1,4 +1,4 @@
-//! What an instruction makes of a typestate, where no cause holds.
+//! The effect of an instruction on a typestate, if no cause holds.
 
 ghost use Rattle.std.specs.Prelude.{◌≡◌, ◌<◌, ◌≤◌, ◌-◌, ◌+◌, ◌∷◌, length, drop, map, true};
 ghost use Rattle.std.specs.Prelude.{slice_set, slice_get, if◌then◌else◌, List, [], Some, IfSome};
@@ -125,7 +125,7 @@ impl TypeState {
         self.height = self.height.saturating_sub(pops(program, instr)) + pushes(instr);
     }
 
-    /// So many operands less.
+    /// Takes off `count` operands.
     pub fn pop(&mut self, count: u8)
         ensures { self.new ≡ record self.old { height = self.old.height - count } }
     {

@@ -1,4 +1,4 @@
-//! What has arrived at a place.
+//! The typestates that have arrived at a place.
 
 /// No state, one, or two that differ.
 #[derive(Clone, Copy)]

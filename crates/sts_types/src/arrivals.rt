@@ -1,4 +1,4 @@
-//! What has arrived at each place of a function, kept in little memory.
+//! The typestates that have arrived at each place of a function, kept in little memory.
 
 ghost use Rattle.std.specs.Prelude.{◌≡◌, ◌<◌, ◌≤◌, ◌↔◌, ◌++◌, List, length, replicate, slice_get};
 ghost use Rattle.std.specs.Prelude.{slice_index_or, slice_set, option_to_list, All, IfOk, OnOk};
@@ -62,7 +62,7 @@ impl Model for Arrivals {
         × IsMarked (length a.kept.items) (Arrival.One a.start) };
 }
 
-/// Is it the same typestate that these stand for?
+/// Do these two refer to the same typestate?
 fn are_same(kept: &[TypeState], a: Mark, b: Mark) -> bool
     requires a { a.like < length kept.now }
     requires b { b.like < length kept.now }
@@ -71,7 +71,7 @@ fn are_same(kept: &[TypeState], a: Mark, b: Mark) -> bool
     a.height == b.height && (a.like == b.like || kept[a.like].is_like(&kept[b.like]))
 }
 
-/// What has arrived after one more.
+/// The typestates at a place after one more has arrived.
 fn merged(kept: &[TypeState], before: Arrival<Mark>, mark: Mark) -> Arrival<Mark>
     requires before { IsMarked (length kept.now) before }
     requires mark { IsMarked (length kept.now) (Arrival.One mark) }

@@ -40,7 +40,7 @@ pub fn is_sub(kind: SlotKind) -> bool
 }
 
 impl TypeState {
-    /// What a slot holds.
+    /// The content of a slot.
     pub fn kind(&self, slot: u8) -> SlotKind
         ensures { result ≡ typed.kind self.now slot }
     {

@@ -1,4 +1,4 @@
--- What is kept, after each change of the lines.
+-- The counters after each change of the lines.
 use Rattle.std.proofs.Common.{◌≡◌, ℕ, zero, suc, ◌+◌, ◌-◌, ◌<◌, ◌≤◌, List, [], ◌∷◌, ◌++◌, length}
 use Rattle.std.proofs.Common.{count_by, Bool, true, false, cond, not, Option, Some, None, inl, inr}
 use Rattle.std.proofs.Common.{◌⊎◌, eqb, refl, ap, sym, ◌∙◌, arith, get_or, set, ◌&&◌}

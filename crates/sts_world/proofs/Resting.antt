@@ -1,4 +1,4 @@
--- What is used of a frame, and the frame in full.
+-- The used parts of a frame, and the whole frame.
 use Rattle.std.proofs.Common.{◌≡◌, ℕ, suc, ◌-◌, ◌≤◌, List, [], ◌∷◌, length, take, drop, reverse}
 use Rattle.std.proofs.Common.{replicate, get_or, Bool, true, false, refl, ap, arith, ◌∙◌, ◌&&◌, sym}
 use Rattle.std.specs.List.{list_all}

@@ -1,4 +1,4 @@
--- What is kept, after each change of the tasks and scopes.
+-- The counters after each change of the tasks and scopes.
 use Rattle.std.proofs.Common.{◌≡◌, pos, subst, count_by, take, ℕ, zero, suc, ◌+◌, ◌-◌, ◌<◌, ◌≤◌}
 use Rattle.std.proofs.Common.{nat_lt, List, [], ◌∷◌, ◌++◌, length, map, Bool, true, false, cond}
 use Rattle.std.proofs.Common.{not, Option, Some, None, inl, inr, ◌⊎◌, ◌&&◌, refl, ap, sym, ◌∙◌}

@@ -1,4 +1,4 @@
--- What the records end as, where a `&mut` to one of their tasks is returned (this project's own).
+-- The records after a `&mut` to one of their tasks was returned and has ended (this project's own).
 use Rattle.std.specs.Prelude.{ℕ}
 use Rattle.std.specs.Borrow.{Lends, Fml, MutBor}
 use Rattle.sts_model.specs.declared.record.Task.{Task}

@@ -1,4 +1,4 @@
-//! What is written into the tasks and scopes.
+//! Changes of the tasks and scopes.
 
 ghost use Rattle.std.specs.Prelude.{◌≡◌, ◌<◌, ◌≤◌, ◌+◌, ◌^◌};
 ghost use Rattle.std.specs.Prelude.{length, map, OnOk, OnErr, IfOk, Some, true, false};

@@ -15,12 +15,12 @@ use sts_frames::{copy_frame, is_empty};
 use sts_model::{Frame, Slot};
 use sts_same::same::{Same, same_slices};
 
-/// What is used of a frame at which no loop and no entry is open.
+/// The used parts of a frame without open loops and entries.
 #[derive(Drop)]
 pub struct RestingFrame {
     pub function: u32,
     pub pc: u32,
-    /// The scope in the first slot; the other slots are empty.
+    /// The scope in the first slot. All other slots are empty.
     pub scope: Option<u32>,
     /// The operands, the top last.
     pub operands: Vec<i64>,
@@ -67,7 +67,7 @@ fn sole_scope(slots: &[Slot; 16]) -> Option<Option<u32>>
     }
 }
 
-/// What is used of a frame, if it can be at rest and there is memory for it.
+/// The used parts of a frame, if it can be at rest and there is memory for them.
 pub fn resting(alloc: Global, frame: &Frame) -> Option<RestingFrame>
     ensures { IfSome result (λ r. whole r ≡ frame.now) }
 {

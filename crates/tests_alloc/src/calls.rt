@@ -1,4 +1,4 @@
-//! What each call answers on a row.
+//! The answers of each call on a row.
 
 use crate::failure::{Failure, in_assembling, in_reading, in_taking, within};
 use crate::row::Row;

@@ -35,7 +35,7 @@ pub fn within<T>(call: &'static str, answer: Result<T, AllocError>) -> Result<T,
     }
 }
 
-/// What `assemble` answered.
+/// The answer of `assemble`.
 ///
 /// # Errors
 ///
@@ -48,7 +48,7 @@ pub fn in_assembling<T>(answer: Result<T, AsmError>) -> Result<T, Failure> {
     }
 }
 
-/// What a reader of events answered.
+/// The answer of a reader of events.
 ///
 /// # Errors
 ///
@@ -61,7 +61,7 @@ pub fn in_reading<T>(call: &'static str, answer: Result<T, TraceError>) -> Resul
     }
 }
 
-/// What `take` answered.
+/// The answer of `take`.
 ///
 /// # Errors
 ///

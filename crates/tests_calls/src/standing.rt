@@ -1,4 +1,4 @@
-//! How much counts after some steps, and what room is left.
+//! The numbers that count after some steps, and the room that is left.
 
 use crate::rows::{BOUND, DOUBLES, THOUSAND};
 use std::alloc::{AllocError, Global};
@@ -9,10 +9,11 @@ use sts_machine::{Machine, Standing, Turned, replay};
 use sts_model::{End, Event};
 use sts_verify::verify;
 
-/// So many steps of a task.
+/// A task, and a number of its steps.
 struct Steps(u32, u16);
 
-/// A text, steps of its tasks in order, and afterwards what counts and the room that is left.
+/// A text, steps of its tasks in order, and the numbers that count afterwards, with the room that
+/// is left.
 struct Point {
     text: &'static str,
     steps: &'static [Steps],

@@ -3,7 +3,7 @@
 use std::alloc::Global;
 use sts_args::{LineError, asked, line};
 
-/// What the words ask for: the command's name and its files, or why they ask for nothing.
+/// The request of the words: the command's name and its files, or why there is none.
 fn shown<'a>(alloc: Global, words: &'a [&'a str]) -> (&'static str, &'a str, &'a str) {
     match line(alloc, words) {
         Ok(asked::Line::Joined) => ("joined", "", ""),

@@ -61,8 +61,8 @@ const ANY: &str = "func kid 0\npush 5\nret\nend\nfunc main 0\nopen s0 any\nfork 
 
 #[test]
 fn never_started_is_not_unheard(rt: HostRuntime) {
-    // Task 1 ends first and cancels the scope: task 2 is interrupted, ends and isn't heard, and
-    // task 3 never starts.
+    // Task 1 ends first and cancels the scope. Task 2 is interrupted and ends, and the joiner isn't
+    // told of it. Task 3 never starts.
     let trace = "step 0\nstep 0\nstep 0\nstep 1\nstep 1\nstep 0\nstep 2\nstep 2\n";
     let lines = "running\nsteps 8\n\
         task 0 under - in main at 4 ready\n\

@@ -1,4 +1,4 @@
-//! What is printed, and the line that says why, where a file or a text fails.
+//! The output, and the line that says why, if a file or a text fails.
 
 use crate::program::{FOLDER, Folder, broken, runs};
 use std::alloc::Global;

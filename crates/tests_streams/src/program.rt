@@ -28,7 +28,7 @@ const TIMED: &[u8] = b"func kid 0\npush 0\nret\nend\n\
     close s0\npush 1\nret\nlate:\nclose s0\npush 2\nret\n\
     intr:\npush 0\nclose s0\nfail\nend\n";
 
-/// What a file gives: its bytes, then its end or a read that fails.
+/// The content of a file: its bytes, then its end or a read that fails.
 #[derive(Clone, Copy)]
 pub(crate) struct Held {
     bytes: &'static [u8],
@@ -402,7 +402,7 @@ impl Sinks for Made<'_> {
     }
 }
 
-/// What mode `plain` prints of these files, and the status.
+/// What mode `plain` prints for these files, and the status.
 fn printed_of<R: Threads + Wait + Sync>(
     rt: &R,
     alloc: Global,

@@ -109,7 +109,7 @@ fn an_expiry_from_outside_is_taken_when_it_is_due(rt: HostRuntime) -> Result<(),
     comes_to(&rt, alloc, DEADLINE, 1, late, DEADLINE_BUDGETS, in_time)
 }
 
-/// What is printed alone, with nothing in the trace.
+/// The output only, with nothing in the trace.
 fn prints_alone<R: Abort + Threads + Wait + Sync>(
     rt: &R,
     alloc: Global,

@@ -1,4 +1,4 @@
-//! What is taken of readers: whole, cut off, byte by byte, and from one that fails.
+//! Bytes taken from readers: whole, cut off, byte by byte, and from a reader that fails.
 
 use std::io;
 use std::io::{ErrorKind, Read};
@@ -63,7 +63,7 @@ impl Read for Bytewise {
     }
 }
 
-/// A reader of three bytes, so that its fourth read tells the end.
+/// A reader of three bytes: its fourth read reports the end.
 fn three_bytes(failing: u32, kind: ErrorKind) -> Bytewise {
     Bytewise {
         bytes: b"abc",

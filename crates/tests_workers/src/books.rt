@@ -24,7 +24,7 @@ enum Whose {
     Others,
 }
 
-/// What is done with a book, and what is answered.
+/// A call on a book, and its answer.
 #[derive(Clone, Copy, Debug)]
 enum Act {
     Turn(u32, Turned),

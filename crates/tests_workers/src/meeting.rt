@@ -75,7 +75,8 @@ impl Gate for Meeting {
     }
 }
 
-/// Tells once that it was asked before the workers had met, and once that they have.
+/// Interrupts the task `before` if it is asked before the workers had met, and the task `after`
+/// once they have.
 #[derive(Drop)]
 struct Herald<'g> {
     meeting: &'g Meeting,
@@ -86,7 +87,7 @@ struct Herald<'g> {
 }
 
 impl<'g> Herald<'g> {
-    /// One that interrupts these two tasks.
+    /// A herald that interrupts these two tasks.
     fn of(meeting: &'g Meeting, before: u32, after: u32) -> Herald<'g> {
         Herald {
             meeting,

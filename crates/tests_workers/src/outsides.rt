@@ -14,7 +14,7 @@ impl Gate for Open {
     fn enter(&self, _worker: u32, _task: u32) {}
 }
 
-/// What comes from outside of a run.
+/// The events from outside of a run.
 #[derive(Clone, Copy, Debug, Drop)]
 pub enum Weather {
     Calm,
@@ -77,7 +77,7 @@ impl Outside for Weather {
     }
 }
 
-/// What comes of a weather, and how many events came.
+/// Hands on the events of a weather, and counts them.
 #[derive(Drop)]
 pub struct Counted<'g> {
     pub weather: Weather,

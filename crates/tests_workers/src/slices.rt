@@ -50,7 +50,7 @@ fn steps_of_a_slice_come_at_once(rt: HostRuntime) -> Result<(), Fail> {
     Ok(())
 }
 
-/// Holds the second entry for each of two subtasks until the other one has had its second.
+/// Holds the second entry for each of two subtasks until both have had a second entry.
 #[derive(Drop)]
 struct Both {
     entries: [AtomicU64; 2],
@@ -83,7 +83,7 @@ impl Gate for Both {
     }
 }
 
-/// A worker comes to a subtask a second time when it has taken its slice: both slices are out at
+/// A worker enters for a subtask a second time when it has taken its slice: both slices are out at
 /// once.
 #[test]
 fn two_slices_are_out_at_once(rt: HostRuntime) -> Result<(), Fail> {
@@ -101,8 +101,8 @@ fn two_slices_are_out_at_once(rt: HostRuntime) -> Result<(), Fail> {
     Ok(())
 }
 
-/// Holds the third entry for the two long subtasks, and each after it, until another worker than the
-/// first has entered for one of them.
+/// Holds the third entry for the two long subtasks, and each entry after it, until a second worker
+/// has entered for one of them.
 #[derive(Drop)]
 struct Return {
     first: AtomicU64,

@@ -26,7 +26,7 @@ pub const TIMED: &str = "\
     intr:\npush 0\nclose s0\nfail\nend\n\
 ";
 
-/// A thousand scopes one after the other, each with one subtask.
+/// A thousand scopes in a row, each with one subtask.
 pub const THOUSAND: &str = "\
     func kid 0\npush 0\nret\nend\n\
     func main 0\npush 1000\ntimes 1000\nopen s0 awaitall\nfork s0 kid _\njoin s0 - - intr\n\
@@ -52,7 +52,7 @@ pub const LOOPED: &str = "\
     intr:\npush 0\nclose s0\nfail\nend\n\
 ";
 
-/// A hundred thousand scopes one after the other, each without a subtask.
+/// A hundred thousand scopes in a row, each without a subtask.
 pub const TURNS: &str = "\
     func main 0\npush 10\ntimes 10\npush 10000\ntimes 10000\nopen s0 awaitall\n\
     join s0 - - intr\nclose s0\njmp go\n\
@@ -105,8 +105,8 @@ pub const WIDE: &str = "\
     intr:\npush 0\nclose s0\nfail\nend\n\
 ";
 
-/// A hundred scopes one after the other, each with one short subtask (1 to 100), and then two
-/// subtasks with two hundred thousand steps each (101 and 102).
+/// A hundred scopes in a row, each with one short subtask (1 to 100), and then two subtasks with
+/// two hundred thousand steps each (101 and 102).
 pub const SHORT_THEN_LONG: &str = "\
     func kid 0\npush 0\nret\nend\n\
     func work 0\npush 4\ntimes 4\npush 10000\ntimes 10000\nload 0\npush 1\nadd\nstore 0\nnext\nnext\n\

@@ -26,8 +26,8 @@ pub(crate) struct Manner {
     pub(crate) kept: bool,
 }
 
-/// What comes of a run: what is printed, and the journal, which is empty where there is no report,
-/// or it isn't kept.
+/// The outcome of a run: its output, and the journal. The journal is empty if there is no report or
+/// it isn't kept.
 #[derive(Drop)]
 pub(crate) struct Ran {
     pub(crate) output: Output,
@@ -87,7 +87,7 @@ fn report<R: Threads + Wait + Sync>(
     })
 }
 
-/// What comes of a report: how the root ended and the steps, after the lines of the budgets.
+/// The outcome of a report: the lines of the budgets, then how the root ended and the steps.
 fn reported(budgets: String, report: Report) -> Result<Ran, AllocError>
     ensures { IfOk result (λ r. r ≡ record {
       output = def.report_output (string_bytes budgets) report.end report.steps;
@@ -106,7 +106,7 @@ fn reported(budgets: String, report: Report) -> Result<Ran, AllocError>
     })
 }
 
-/// What comes of a run without a report.
+/// The outcome of a run without a report.
 fn unreported(alloc: Global, error: PoolError) -> Result<Ran, AllocError>
     ensures { IfOk result (λ r. r ≡ def.alone (def.pool_output error)) }
 {

@@ -1,4 +1,5 @@
-//! What to do about each cause of a refusal, by the instruction and what is known there.
+//! What to do about each cause of a refusal. It depends on the instruction, and on what is known
+//! there.
 
 use crate::explanations::row::{Part, Row, all};
 use std::test::Fail;

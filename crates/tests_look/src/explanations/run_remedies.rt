@@ -1,4 +1,5 @@
-//! What to do about each fault of a run, by the instruction and by how the task is there.
+//! What to do about each fault of a run. It depends on the instruction, and on the state of the
+//! task there.
 
 use crate::explanations::row::{Part, RunRow, all_runs};
 use std::test::Fail;
