@@ -1,5 +1,5 @@
--- Ways of a search's states are lists of events that are allowed, and each of these is such a way, without the
--- events that change nothing.
+-- Each way to a search's state is a list of allowed events. Each list of allowed events is such a
+-- way, once the events that change nothing are left out.
 use Rattle.std.proofs.Common.{◌≡◌, ℕ, ◌+◌, ◌<◌, List, [], ◌∷◌, ◌++◌, fold, refl, ap, sym, ◌∙◌, arith, subst, count_by, cond}
 use Rattle.std.proofs.Common.{Bool, true, false}
 use Rattle.std.specs.Prelude.{◌&&◌}
@@ -72,7 +72,7 @@ other_false : (a b : Bool) → (a && b) ≡ false → a ≡ true → b ≡ false
 other_false true b e f = e
 other_false false b e f = cc
 
--- one event is allowed: an expiry where these may come, an interrupt while one is left
+-- one event is allowed: an expiry if these may come, an interrupt while one is left
 IsFirst : Setting → ℕ → Event → Type 0
 IsFirst g left (event.Step t) = Unit {0}
 IsFirst g left (event.Interrupt t) = 0 < left

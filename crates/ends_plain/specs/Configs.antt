@@ -30,7 +30,7 @@ abbrev pub interrupts_now : ℕ → World → Event → Bool
 interrupts_now left w (event.Interrupt t) = nat_lt 0 left && lives (task_at w t)
 interrupts_now left w _ = false
 
--- an expiry that marks a scope, where expiries may come?
+-- an expiry that marks a scope, if expiries may come?
 abbrev pub expires_now : Bool → World → Event → Bool
 expires_now expiries w (event.Expire s) = expiries && can_expire (scope_at w s)
 expires_now expiries w _ = false

@@ -26,7 +26,7 @@ pub struct Config {
 impl Config {
     ghost use Rattle.ends_plain.specs.Configs.{next, start};
 
-    /// Where a search begins.
+    /// The first state of a search.
     ///
     /// # Errors
     ///
@@ -40,7 +40,7 @@ impl Config {
         })
     }
 
-    /// One event. After an `Err` it is not said where it is.
+    /// Applies one event. After an `Err` the state isn't known.
     ///
     /// # Errors
     ///

@@ -45,7 +45,7 @@ pub fn interrupts(alloc: Global, left: u32, world: &World) -> Result<Vec<Event>,
     Ok(events)
 }
 
-/// The expiries that mark a scope, where expiries may come.
+/// The expiries that mark a scope, if expiries may come.
 pub fn expiries(alloc: Global, may: bool, world: &World) -> Result<Vec<Event>, AllocError>
     ensures { IfOk result (λ es. AreThose (expires_now may world.now) es.items) }
 {

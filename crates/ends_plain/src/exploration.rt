@@ -45,7 +45,7 @@ impl Exploration {
         Ok(Exploration { setting, space })
     }
 
-    /// The search after `count` more states were expanded, or fewer where it is over.
+    /// The search after `count` more states were expanded, or fewer if it is over.
     ///
     /// # Errors
     ///
@@ -75,8 +75,8 @@ impl Exploration {
         self.space.is_full || self.space.closed >= self.space.states.len()
     }
 
-    /// The ends that were found so far; where the answer's `whole` is true, each end that any list
-    /// of allowed events leads to is among them.
+    /// The ends that were found so far; if the answer's `whole` is true, each end that any list of
+    /// allowed events leads to is among them.
     ///
     /// # Errors
     ///

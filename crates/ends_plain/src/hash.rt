@@ -1,4 +1,4 @@
-//! A number that the same states share, and others mostly do not: a hint alone, with no contract.
+//! A number that the same states share, and most others don't: only a hint, with no contract.
 
 ghost use Rattle.std.specs.Prelude.{◌≡◌, ◌<◌, length, true};
 ghost use Rattle.sts_model.specs.Living as living;

@@ -40,7 +40,7 @@ fn chosen(rng: &mut Xoshiro256PlusPlus, events: &[Event]) -> Option<Event>
 }
 
 /// A schedule up to its end: at each place any event that can come is as likely as the others. It
-/// returns nothing where there is no end before `longest` events.
+/// returns nothing if there is no end before `longest` events.
 fn walk(
     alloc: Global,
     setting: &Setting,

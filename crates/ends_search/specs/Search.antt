@@ -9,7 +9,7 @@ use Rattle.ends_search.specs.declared.origin.Origin.{Origin}
 
 -- ---- ways
 
--- each event can come where the ones before it lead
+-- each event can come after the ones before it
 abbrev pub CanAll : {S : Type 0} → (S → Event → S) → (S → Event → Bool) → S → List Event → Type 0
 CanAll next can s [] = Unit {0}
 CanAll next can s (e ∷ es) = (can s e ≡ true) × CanAll next can (next s e) es

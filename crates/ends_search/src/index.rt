@@ -1,4 +1,4 @@
-//! Which places may hold a state, by its hash: hints alone, with no contract.
+//! Which places may hold a state, by its hash: only hints, with no contract.
 
 use std::alloc::{AllocError, Global};
 

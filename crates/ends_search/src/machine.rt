@@ -30,7 +30,7 @@ pub trait Machine: Drop {
     ) -> Result<Self, AllocError>
         ensures { IfOk result (λ s. s ≡ next setting.now self.now event) };
 
-    /// Where it answers true the two are the same state. It may answer false of the same state.
+    /// If the answer is true, the two are the same state. It may be false for the same state.
     fn same(&self, other: &Self) -> bool
         ensures { result ≡ true → self.now ≡ other.now };
 

@@ -1,4 +1,4 @@
--- Where `open` and `fork` land, and how a task begins.
+-- The places after `open` and `fork`, and how a task begins.
 use Rattle.std.proofs.Common.{◌≡◌, ℕ, zero, suc, ◌+◌, ◌<◌, ◌⊎◌, inl, inr, List, [], ◌∷◌, length}
 use Rattle.std.proofs.Common.{replicate, Bool, true, false, Option, Some, None, refl, sym, ◌∙◌, not}
 use Rattle.std.proofs.Common.{arith, get_or, set, length-set, get_or-set_same, subst, ◌||◌}

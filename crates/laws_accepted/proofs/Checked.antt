@@ -37,7 +37,7 @@ no_tests false true c x y z e = cc
 no_tests false false true x y z e = cc
 no_tests false false false x y z e = (refl, refl)
 
--- it forks earlier functions alone, and all its numbers are in their ranges
+-- it forks only earlier functions, and all its numbers are in their ranges
 pub instr_checked : (p : Program) (f : Frame) (i : Instr) → def.program_fault p.routines ≡ None → f.function < length p.routines → instr_at p f ≡ Some i → (def.forks_later f.function i ≡ false) × (def.has_bad_range i ≡ false)
 instr_checked p f i checked inside at =
     let fine = routine_is_fine [] p.routines f.function (routines_are_fine p.routines checked).1 inside in

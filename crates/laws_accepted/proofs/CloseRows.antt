@@ -1,4 +1,4 @@
--- Where `close` lands, at its first step and at its last.
+-- The place after `close`, at its first step and at its last.
 use Rattle.std.proofs.Common.{◌≡◌, ℕ, ◌+◌, ◌<◌, inl, List, [], ◌∷◌, length, map, drop, Bool, true}
 use Rattle.std.proofs.Common.{false, Some, refl, sym, ◌∙◌, ap, subst, cond, get_or, arith, not}
 use Rattle.std.proofs.Common.{◌||◌, ◌&&◌, length-set, get_or-set_same, get_or-set_other}

@@ -53,8 +53,7 @@ PeaksAreWithin earlier code b =
 pub record IsPeaked (p : Program) (budgets : List Budgets) : Type 0 where
   pub peaks : (f : ℕ) → f < length p.routines → PeaksAreWithin (take f budgets) (routine p f).code (budget_at budgets f)
 
--- the budgets of a program bound all points of its paths, and the steps of those where it is well
--- typed
+-- the budgets of a program bound all points of its paths; they bound the steps if it is well typed
 pub costed : (p : Program) (budgets : List Budgets) → HasBudgets p budgets → IsCosted (AreTyped p) p budgets
 costed p budgets h =
     record {

@@ -1,4 +1,4 @@
--- A typed task misuses nothing, where there is room.
+-- A typed task misuses nothing, if there is room.
 use Rattle.std.proofs.Common.{◌≡◌, ℕ, ◌+◌, ◌-◌, List, [], ◌∷◌, length, map, Bool, true, false}
 use Rattle.std.proofs.Common.{Option, Some, None, refl, sym, ◌∙◌, ap, subst, cond, arith, not, ◌||◌}
 use Rattle.std.proofs.Common.{◌&&◌}
@@ -156,7 +156,7 @@ fine-loops p w f i s st = refl
 
 -- ---- scopes
 
--- a test of an own scope fails where it fails of each scope that is owned
+-- a test of an own scope fails if it fails of each scope that is owned
 at_own-fails : (w : World) (q : Slot) (test : ℕ → Scope → Bool) → ((n : ℕ) → q ≡ Own n → test n (scope_at w n) ≡ false) → misuse.at_own w q test ≡ false
 at_own-fails w (Own n) test h = h n refl
 at_own-fails w Empty test h = refl

@@ -7,7 +7,7 @@ use Rattle.sts_model.specs.World.{World, task_at}
 use Rattle.sts_model.specs.Misuse.{misuse, fault_at, fault_of, IsFine}
 use Rattle.laws_accepted.specs.Typed.{IsFineAt}
 
--- where no row applies there is no fault
+-- if no row applies, there is no fault
 no-fault : (p : Program) (w : World) (t : ℕ) (f : Frame) (i : Instr) → IsFine p w t f i → fault_of p w t f i ≡ None
 no-fault p w t f i h = rw (h.operands, h.room, h.loops, h.slots, h.joins, h.births, h.own, h.legal, h.structure, h.bound) refl
 

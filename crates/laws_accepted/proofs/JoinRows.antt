@@ -1,4 +1,4 @@
--- Where `join` lands.
+-- The place after `join`.
 use Rattle.std.proofs.Common.{◌≡◌, ℕ, ◌+◌, ◌<◌, inl, inr, List, [], ◌∷◌, ◌++◌, length, Bool, true}
 use Rattle.std.proofs.Common.{false, Option, Some, None, refl, sym, ◌∙◌, ap, subst, cond, get_or}
 use Rattle.std.proofs.Common.{arith, not, ◌||◌, ◌&&◌, unwrap_or, length-append, get_or-set_same}
@@ -208,7 +208,7 @@ asks_of_all AnySucceeds es e = cc
 asks_of_all AwaitAll es e = cc
 asks_of_all (Until q) es e = cc
 
--- where the joiner awaits all successes and none failed
+-- the joiner awaits all successes, and none failed
 pub all_succeeded : (w : World) (n : ℕ) → Also Orderly w → n < length w.scopes → can_join (scope_at w n).phase ≡ true → (scope_at w n).expired ≡ false → ((scope_at w n).cancelled || not (any_lives w n)) ≡ true → is_all_success (scope_at w n).joiner ≡ true → list_any joining.is_failure (ends (scope_at w n)) ≡ false → (u : ℕ) → (task_at w u).scope ≡ Some n → has_succeeded (sub_state w u) ≡ true
 all_succeeded w n h born opened timely done all none u inside = by (scope_at w n).cancelled refl done
   where
@@ -246,7 +246,7 @@ slot-succeeded w f x n q k own all h = h
 
 -- ---- the outcomes
 
--- what is known where a task joins the scope n of slot x
+-- the facts when a task joins the scope n of slot x
 pub record AtJoin (p : Program) (w : World) (t x n : ℕ) (failed timeout : Option ℕ) (interrupted : ℕ) (s : TypeState) : Type 0 where
   pub stands : Stands p w (task_at w t).frame (Join x failed timeout interrupted) s
   pub own : slot (task_at w t).frame x ≡ Own n
@@ -316,7 +316,7 @@ passed : (test : TypedScope → Bool) (o : Option TypedScope) → not (cause.pas
 passed test None e = cc
 passed test (Some r) e = (r, (refl, holds-not (test r) e))
 
--- the scope of a slot that is owned, where the typestate has one that passes a test
+-- the scope of a slot that is owned, if the typestate has one that passes a test
 pub own-scope : (p : Program) (w : World) (f : Frame) (s : TypeState) (x n : ℕ) (test : TypedScope → Bool) → Fits p w f s → slot f x ≡ Own n → cause.at_own s x (λ scope. not (cause.passes test scope)) ≡ false → (r : TypedScope) × ((scope_in s.entries x ≡ Some r) × (test r ≡ true) × InSlot p w f x n r)
 own-scope p w f s x n test h own e =
     let k : cause.is_own (kind s x) ≡ true = kind-own w f (slot f x) (kind s x) n (h.slots x) own in

@@ -70,7 +70,7 @@ any-phase x k test (typed.Scope r ∷ rs) same = by (r.slot == x) (any-phase x k
     by true e = rw (same r, e) refl
     by false e = rw e refl
 
--- the entries where scope n of slot x is in another phase, that fits the typed one
+-- the entries after scope n of slot x went to another phase, which fits the typed one
 pub entry-phase : (p : Program) (w v : World) (f g : Frame) (x n : ℕ) (phase : Phase) (k : TypedPhase) → Onward p f g → ((y z m : ℕ) → slot f y ≡ Own m → slot f z ≡ Own m → y ≡ z) → slot f x ≡ Own n → Moved (scope_at w n) (scope_at v n) phase → ((closing : Bool) → fits_phase closing k phase (scope_at v n).expired ≡ true) → ((m : ℕ) → (m ≡ n → ⊥) → SameScope (scope_at w m) (scope_at v m)) → (e : Entry) (r : TypedEntry) (behind : List TypedEntry) → FitsEntry p w f e r behind → FitsEntry p v g e (phase_set x k r) (map (phase_set x k) behind)
 entry-phase p w v f g x n phase k on apart own moved now others (entry.Binding j q) (typed.Binding i) behind h = h
 entry-phase p w v f g x n phase k on apart own moved now others (entry.Binding j q) (typed.Scope r) behind h = absurd h

@@ -1,4 +1,4 @@
--- A typed task in front of an instruction, and where its step lands.
+-- A typed task in front of an instruction, and the place after its step.
 use Rattle.std.proofs.Common.{◌≡◌, ℕ, zero, suc, ◌<◌, List, [], ◌∷◌, length, map, false, Option}
 use Rattle.std.proofs.Common.{Some, refl, sym, subst, slice_get, slice_index_or}
 use Rattle.sts_code.specs.Program.{Program, routine}
@@ -84,7 +84,7 @@ keeps-refl f = record { function = refl; loops = refl; entries = refl; slots = r
 pub onward-slots : (p : Program) (f g : Frame) → g.function ≡ f.function → g.slots ≡ f.slots → ((x : ℕ) → closes (instr_at p f) x ≡ false) → Onward p f g
 onward-slots p f g function slots still = record { function = function; own = λ x n e. rw slots e; still = still }
 
--- operands and loops alone, of frame and typestate
+-- only operands and loops of frame and typestate changed
 pub fits-onward : (p : Program) (w : World) (f g : Frame) (s x : TypeState) → Fits p w f s → ((y : ℕ) → closes (instr_at p f) y ≡ false) → g.function ≡ f.function → g.entries ≡ f.entries → g.slots ≡ f.slots → x.entries ≡ s.entries → x.slots ≡ s.slots → length g.operands ≡ x.height → map (λ (l : Loop). l.at) g.loops ≡ map (λ l. l.at) x.loops → Fits p w g x
 fits-onward p w f g s x h still function entries slots typed_entries typed_slots height loops =
     let on = onward-slots p f g function slots still in
@@ -102,7 +102,7 @@ fits-onward p w f g s x h still function entries slots typed_entries typed_slots
       typed_wide = rw typed_slots h.typed_wide;
     }
 
--- operands alone
+-- only operands changed
 pub lands-operands : (p : Program) (w : World) (f g : Frame) (i : Instr) (s : TypeState) (height : ℕ) → Stands p w f i s → ((x : ℕ) → closes (Some i) x ≡ false) → Keeps f g → length g.operands ≡ height → Leads (follows p (routine p f.function).code f.pc i s) g.pc (record s { height = height }) → Lands p w f g
 lands-operands p w f g i s height h none k long leads =
     record {

@@ -1,4 +1,4 @@
--- Where each step lands, and that every task stays typed.
+-- The place after each step, and that every task stays typed.
 use Rattle.std.proofs.Common.{◌≡◌, ℕ, ◌<◌, inl, List, [], ◌∷◌, length, Bool, true, false, Option}
 use Rattle.std.proofs.Common.{Some, None, refl, sym, ◌∙◌, ap, subst, get_or, arith, not}
 use Rattle.std.proofs.Common.{length-append, get_or-set_same}

@@ -156,7 +156,7 @@ waits-few p w t earlier i at = rw at (few_waits p w t earlier i)
 pub waits-fork : (p : Program) (w : World) (t x g : ℕ) (h : Option ℕ) → instr_at p (task_at w t).frame ≡ Some (Fork x g h) → steps_begun (stand_at p w t) ≡ 0
 waits-fork p w t x g h at = rw at refl
 
--- a close that has begun is the same in a later state, where its owner is where it was
+-- a close that has begun is the same in a later state, if its owner hasn't moved
 phase_stays : (a b : Phase) → is_closing a ≡ true → stage a ≤ stage b → is_closed b ≡ false → is_closing b ≡ true
 phase_stays Closing Closing e le still = refl
 phase_stays Closing Closed e le still = cc

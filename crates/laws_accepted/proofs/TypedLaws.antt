@@ -1,4 +1,4 @@
--- The laws: living tasks are typed, and misuse nothing where there is room.
+-- The laws: living tasks are typed, and misuse nothing if there is room.
 use Rattle.std.proofs.Common.{◌≡◌, ℕ, zero, suc, ◌<◌, List, [], ◌∷◌, length, true, false, Some}
 use Rattle.std.proofs.Common.{refl, arith, slice_get}
 use Rattle.sts_code.specs.Program.{Program, routine}
@@ -30,7 +30,7 @@ there [] n less = absurd (omega arith)
 there (x ∷ xs) zero less = (x, refl)
 there (x ∷ xs) (suc n) less = there xs n (omega (arith, less))
 
--- a typed task is at an instruction, at which nothing is misused where there is room
+-- a typed task is at an instruction, at which nothing is misused if there is room
 fine-at : (p : Program) (w : World) (t : ℕ) → Accepted p → Also (Sure p) w → lives (task_at w t) ≡ true → is_crowding p w t ≡ false → IsFineAt p w t
 fine-at p w t ok h alive room =
     let f : Frame = (task_at w t).frame in

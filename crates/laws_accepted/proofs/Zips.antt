@@ -19,14 +19,14 @@ zips-map R Q (e ∷ es) (r ∷ rs) h z = (h e r rs z.0, zips-map R Q es rs h z.1
 zips-map R Q [] (r ∷ rs) h z = z
 zips-map R Q (e ∷ es) [] h z = z
 
--- where no entry of the typestate passes a test
+-- no entry of the typestate passes a test
 pub zips-without : (test : TypedEntry → Bool) (R Q : Entry → TypedEntry → List TypedEntry → Type 0) (es : List Entry) (rs : List TypedEntry) → list_any test rs ≡ false → ((e : Entry) (r : TypedEntry) (behind : List TypedEntry) → test r ≡ false → R e r behind → Q e r behind) → Zips R es rs → Zips Q es rs
 zips-without test R Q [] [] none h z = tt
 zips-without test R Q (e ∷ es) (r ∷ rs) none h z = let n = or_parts (test r) _ none in (h e r rs n.0 z.0, zips-without test R Q es rs n.1 h z.1)
 zips-without test R Q [] (r ∷ rs) none h z = absurd z
 zips-without test R Q (e ∷ es) [] none h z = absurd z
 
--- where each entry of the typestate is changed
+-- each entry of the typestate is changed
 pub zips-mapped : (g : TypedEntry → TypedEntry) (R Q : Entry → TypedEntry → List TypedEntry → Type 0) (es : List Entry) (rs : List TypedEntry) → ((e : Entry) (r : TypedEntry) (behind : List TypedEntry) → R e r behind → Q e (g r) (map g behind)) → Zips R es rs → Zips Q es (map g rs)
 zips-mapped g R Q [] [] h z = tt
 zips-mapped g R Q (e ∷ es) (r ∷ rs) h z = (h e r rs z.0, zips-mapped g R Q es rs h z.1)

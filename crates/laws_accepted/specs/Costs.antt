@@ -40,8 +40,8 @@ Costs P =
     (p : Program) (budgets : List Budgets) → HasBudgets p budgets
     → (events : List Event) → In (P p budgets events) (after p events)
 
--- all functions are well typed; where one isn't, a path may end without a `ret` or `fail`, and then
--- no budget counts its steps
+-- all functions are well typed; if one isn't, a path may end without a `ret` or `fail`, and then no
+-- budget counts its steps
 abbrev pub AreTyped : Program → Type 0
 AreTyped p = (f : ℕ) → f < length p.routines → IsWellTyped p f
 
@@ -61,8 +61,8 @@ main_budget p budgets = budget_at budgets (length p.routines - 1)
 abbrev pub StepsAreWithin : Type 0
 StepsAreWithin = TypedCosts (λ p budgets events w. taken p events ≤ (main_budget p budgets).steps)
 
--- the steps that were taken already of those that the next instruction counts: a close that waits
--- has taken one of its two
+-- the number of steps that a task has taken of its next instruction: a close that waits has taken
+-- one of its two
 abbrev pub steps_begun : Stand → ℕ
 steps_begun (AtClose s) = 1
 steps_begun _ = 0

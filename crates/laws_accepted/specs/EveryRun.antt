@@ -19,7 +19,7 @@ ClosedAreEmpty w =
     (s u : ℕ) → is_closed (scope_at w s).phase ≡ true → (task_at w u).scope ≡ Some s
     → lives (task_at w u) ≡ false
 
--- where the root has ended no task lives
+-- if the root has ended, no task lives
 abbrev pub RootIsLast : World → Type 0
 RootIsLast w =
     (end : End) (u : ℕ) → (task_at w 0).outcome ≡ Some end → lives (task_at w u) ≡ false

@@ -130,8 +130,8 @@ pub record Fits (p : Program) (w : World) (f : Frame) (s : TypeState) : Type 0 w
   pub wide : length f.slots ≡ 16
   pub typed_wide : length s.slots ≡ 16
 
--- the frame of a task of the scope o fits a typestate that is reached at its pc, and what its
--- function needs is bound
+-- the frame of a subtask of the scope o fits a typestate that is reached at its pc, and the needs
+-- of its function are bound
 pub record IsTyped (p : Program) (w : World) (f : Frame) (o : Option ℕ) : Type 0 where
   pub function : f.function < length p.routines
   pub state : TypeState

@@ -1,5 +1,5 @@
 //! Laws over all event lists of every accepted program: each living task is typed, and misuses
-//! nothing where there is room.
+//! nothing if there is room.
 
 ghost use Rattle.laws_accepted.specs.Typed.{LivingTasksAreTyped, OnlyRoomIsWanted, ExpiredIsTimed};
 

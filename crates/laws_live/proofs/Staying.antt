@@ -58,7 +58,7 @@ use Rattle.laws_live.proofs.Looks as looks
 
 -- ---- what wakes
 
--- a scope that lets its owner go on where it did
+-- a scope that still lets its owner go on
 record Wakens (x y : Scope) : Type 0 where
   pub owner : y.owner ≡ x.owner
   pub phase : y.phase ≡ x.phase
@@ -68,7 +68,7 @@ record Wakens (x y : Scope) : Type 0 where
 wakens-refl : (x : Scope) → Wakens x x
 wakens-refl x = record { owner = refl; phase = refl; cancelled = λ e. e; expired = λ e. e }
 
--- what u looks at lets it go on where it did
+-- the parts that u depends on still let it go on
 record Wakes (w v : World) (u : ℕ) : Type 0 where
   pub scopes : length w.scopes ≤ length v.scopes
   pub frame : (task_at v u).frame ≡ (task_at w u).frame

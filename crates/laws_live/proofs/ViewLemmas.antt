@@ -181,7 +181,7 @@ pub stands_some : (w : World) (s : ℕ) (q : Option ℕ) → is_closed (scope_at
 stands_some w s None still e = cc
 stands_some w s (Some r) still e = let same : r ≡ s = grind (arith, nat_tests) in rw (same, still) refl
 
--- a test that holds of subtasks of s alone
+-- a test that only subtasks of s pass
 pub subtask_is : (w : World) (s u : ℕ) → is_closed (scope_at w s).phase ≡ false → is_live_subtask s (seen w u (task_at w u)) ≡ is_subtask s (task_at w u)
 subtask_is w s u still = by (is_in s (task_at w u).scope) refl (stands_in w (task_at w u).scope) refl
   where

@@ -48,7 +48,7 @@ goes_at_close w t x o alive = by (slot (task_at w t).frame x) refl
     by (Lent s) e = refl
     by (Sub u) e = refl
 
--- two answers: the same where nothing is misused, and no where the first is no
+-- two answers: they are the same if nothing is misused, and the second is no if the first is
 pub record Agrees (p : Program) (w : World) (t : ℕ) (a b : Bool) : Type 0 where
   pub proper : misuse p w t ≡ None → a ≡ b
   pub still : a ≡ false → b ≡ false

@@ -1,5 +1,5 @@
--- No instruction that a task is at is misused: in words of the view alone, what a machine may take
--- untested (this project's own).
+-- No instruction that a task is at is misused: in words of the view alone, the instructions that a
+-- machine may take without a test (this project's own).
 use Rattle.std.specs.Prelude.{◌≡◌, ℕ, List, length, Bool, true, false, Option, Some, None, is_some}
 use Rattle.std.specs.Prelude.{is_none, nat_lt, nat_le, count_by, ◌&&◌, ◌||◌, not}
 use Rattle.sts_code.specs.Program.{Program}

@@ -1,5 +1,5 @@
--- One step, one event, lists of events, and the steps taken, in a live view where nothing is
--- misused (this project's own).
+-- One step, one event, lists of events, and the steps taken, in a live view without misuse (this
+-- project's own).
 use Rattle.std.specs.Prelude.{ℕ, ◌+◌, ◌-◌, List, [], ◌∷◌, length, Bool, false, Option, Some, None}
 use Rattle.std.specs.Prelude.{◌&&◌, if◌then◌else◌, fold}
 use Rattle.sts_code.specs.Program.{Program}

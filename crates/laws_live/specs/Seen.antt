@@ -1,5 +1,5 @@
--- A step of what is seen is what is seen of the step: laws of every state of every run of every
--- program (this project's own).
+-- A step of the view is the view of the step: laws for every state of every run of every program
+-- (this project's own).
 use Rattle.std.specs.Prelude.{◌≡◌, ℕ, ◌+◌, List, [], ◌∷◌, ◌++◌, true, Some, None, is_some, count_by}
 use Rattle.sts_code.specs.Program.{Program}
 use Rattle.sts_code.specs.declared.instr.Instr.{Instr}
@@ -37,7 +37,7 @@ InterruptIsSeen = Ever (λ p w. (t : ℕ) → live (interrupt w t) ≡ live_inte
 abbrev pub ExpireIsSeen : Type 0
 ExpireIsSeen = Ever (λ p w. (s : ℕ) → live (expire w s) ≡ live_expire (live w) s)
 
--- which tasks can step, where the next step is no misuse
+-- the view says of a task whether it can step, if its next step is no misuse
 abbrev pub CanStepIsSeen : Type 0
 CanStepIsSeen =
     Ever (λ p w. (t : ℕ) → misuse p w t ≡ None → can_step p w t ≡ live_can_step p (live w) t)

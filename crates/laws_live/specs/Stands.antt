@@ -24,7 +24,7 @@ pub record IsUnmoved (p : Program) (v x : Live) (u : ℕ) : Type 0 where
 
 -- ---- in a view in order
 
--- an instruction that is no misuse moves its own task alone
+-- an instruction that is no misuse moves only its own task
 abbrev pub EffectsMoveOne : Type 0
 EffectsMoveOne =
     (p : Program) (v : Live) → InOrder v

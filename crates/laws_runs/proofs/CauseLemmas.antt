@@ -38,7 +38,8 @@ use Rattle.laws_runs.proofs.BirthLemmas.{new_scope}
 abbrev pub AllCaused : World → Type 0
 AllCaused w = (s : ℕ) → s < length w.scopes → HasCause (scope_at w s)
 
--- a scope s after an effect in w: cancelled for a cause, and joined before, or where nothing lived
+-- a scope s after an effect in w: cancelled for a cause, and joined before, or when no subtask
+-- lived
 pub record Follows (w : World) (s : ℕ) (y : Scope) : Type 0 where
   pub cause : HasCause y
   pub joined : is_joined y.phase ≡ true → y.cancelled ≡ false → (is_joined (scope_at w s).phase ≡ true) ⊎ (any_lives w s ≡ false)

@@ -135,7 +135,7 @@ dead_in w s u none inside = by (lives (task_at w u)) refl
         let is = both_true (is_in-some s (task_at w u).scope inside) e in
         cc
 
--- where some subtask lives, here is one
+-- if some subtask lives, here is one
 pub alive_in : (w : World) (s : ℕ) → any_lives w s ≡ true → (u : ℕ) × ((task_at w u).scope ≡ Some s) × (lives (task_at w u) ≡ true)
 alive_in w s e =
     let h = found (is_living_subtask s) w.tasks no_task e in

@@ -1,4 +1,4 @@
--- Every event leads from a state where all facts hold to one where they hold, and undoes nothing.
+-- Every event keeps all facts, and undoes nothing.
 use Rattle.std.proofs.Common.{◌≡◌, ℕ, zero, suc, List, [], ◌∷◌, Bool, true, false, Option, Some}
 use Rattle.std.proofs.Common.{None, refl, sym, ◌∙◌, length, arith, get_or, cond, not, fold, subst}
 use Rattle.std.proofs.Common.{◌-◌, length-set}
@@ -50,7 +50,7 @@ pub record Right (w : World) : Type 0 where
   pub sound : Sound w
   pub told : AllTold w
 
--- a state where they hold, later than w
+-- the facts hold, in a state later than w
 pub record Next (w v : World) : Type 0 where
   pub right : Right v
   pub later : Later w v
@@ -144,7 +144,7 @@ module _ (p : Program) (P : World → Type 0) (R : World → Event → World →
   lead-by w (event.Interrupt t) h = l.interrupt w t h
   lead-by w (event.Expire s) h = l.expire w s h
 
--- the same, where nothing is said of the event
+-- like the lemma before, if nothing is said of the event
 pub lead : (p : Program) (P : World → Type 0) (R : World → World → Type 0) → Leads p P R → (w : World) (e : Event) → P w → In (R w) (apply p (Running w) e)
 lead p P R l =
     lead-by p P (λ w e v. R w v)

@@ -86,7 +86,7 @@ later_scope-trans x y z h k =
       completions = completes-trans x y z h.completions h.marks k.completions;
     }
 
--- where no task was born, none was started
+-- if no task was born, none was started
 pub none_fresh : (w v : World) → length v.tasks ≤ length w.tasks → NothingStarts w v
 none_fresh w v few u s late cancelled inside = ap (λ (task : Task). task.started) (past v.tasks u no_task (omega (arith, few, late)))
 

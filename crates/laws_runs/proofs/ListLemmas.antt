@@ -12,7 +12,7 @@ at_set P (x ∷ xs) zero (suc j) y d new old = old
 at_set P (x ∷ xs) (suc i) zero y d new old = old
 at_set P (x ∷ xs) (suc i) (suc j) y d new old = at_set P xs i j y d (λ e. new (ap suc e)) old
 
--- the same, where the old ones are those at other places
+-- like the lemma before, if the old elements are those at other places
 pub at_put : {X : Type 0} (P : X → Type 0) (xs : List X) (i j : ℕ) (y d : X) → i < length xs → (j ≡ i → P y) → ((j ≡ i → ⊥) → P (get_or xs j d)) → P (get_or (set xs i y) j d)
 at_put P [] i j y d less new old = absurd (omega arith)
 at_put P (x ∷ xs) zero zero y d less new old = new refl
@@ -27,7 +27,7 @@ at_more P [] y (suc j) d new old = old
 at_more P (x ∷ xs) y zero d new old = old
 at_more P (x ∷ xs) y (suc j) d new old = at_more P xs y j d (λ e. new (ap suc e)) old
 
--- the same, where the old ones are those that were there
+-- like the lemma before, if the old elements are those that were there
 pub at_one_more : {X : Type 0} (P : X → Type 0) (xs : List X) (y : X) (j : ℕ) (d : X) → j < length (xs ++ y ∷ []) → P y → (j < length xs → P (get_or xs j d)) → P (get_or (xs ++ y ∷ []) j d)
 at_one_more P [] y zero d less new old = new
 at_one_more P [] y (suc j) d less new old = absurd (omega (arith, less))
@@ -40,7 +40,7 @@ past [] i d h = refl
 past (x ∷ xs) zero d h = absurd (omega arith)
 past (x ∷ xs) (suc i) d h = past xs i d (omega arith)
 
--- where the default doesn't pass a test, only what is in the list does
+-- if the default doesn't pass a test, only elements of the list do
 pub within : {X : Type 0} (test : X → Bool) (xs : List X) (i : ℕ) (d : X) → test d ≡ false → test (get_or xs i d) ≡ true → i < length xs
 within test [] i d none e = cc
 within test (x ∷ xs) zero d none e = omega arith

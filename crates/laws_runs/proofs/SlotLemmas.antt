@@ -285,7 +285,7 @@ avoids_others w t u i s (Own r) o mine other is h = λ same. let owner = (o.own 
 avoids_others w t u i s (Lent r) o mine other is h = tt
 avoids_others w t u i s (Sub q) o mine other is h = λ inside. let a = h.inside in let b = h.owner in let same : h.scope ≡ s = cc in other (cc)
 
--- where no slot names the scope, it can be closed
+-- if no slot names the scope, it can be closed
 is_named-shut : (w : World) (t s : ℕ) (y : Slot) → Avoids w s y → IsNamed w t y → IsNamed (with_phase w s Closed) t y
 is_named-shut w t s Empty avoids h = tt
 is_named-shut w t s (Own r) avoids h = rw (get_or-set_other w.scopes s r (record (scope_at w s) { phase = Closed }) no_scope avoids) h

@@ -16,11 +16,11 @@ pub record Owner (scopes : List Scope) (s t : ℕ) : Type 0 where
   pub owner : (get_or scopes s no_scope).owner ≡ t
 
 pub record Sound (w : World) : Type 0 where
-  -- a slot owns scopes of its task alone
+  -- a slot only owns scopes of its task
   pub own : (t i s : ℕ) → slot (task_at w t).frame i ≡ Own s → Owner w.scopes s t
   -- the owner of a scope was born before its subtasks
   pub born : (u s : ℕ) → (task_at w u).scope ≡ Some s → (s < length w.scopes) × ((scope_at w s).owner < u)
-  -- the root alone is no subtask
+  -- only the root is no subtask
   pub root : (u : ℕ) → lives (task_at w u) ≡ true → (task_at w u).scope ≡ None → u ≡ 0
   -- a scope that isn't closed is held by its owner
   pub held : (s : ℕ) → s < length w.scopes → is_closed (scope_at w s).phase ≡ false → Holds (task_at w (scope_at w s).owner) s

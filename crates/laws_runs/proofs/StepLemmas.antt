@@ -43,7 +43,7 @@ upto : (w : World) → Sound w → (n u : ℕ) → lives (task_at w u) ≡ true 
 upto w o zero u alive less = absurd (omega arith)
 upto w o (suc n) u alive less = by_scope w n u o alive less (upto w o n) (task_at w u).scope refl
 
--- where any task lives, the root lives
+-- if any task lives, the root lives
 pub root_lives : (w : World) (u : ℕ) → Sound w → lives (task_at w u) ≡ true → lives (task_at w 0) ≡ true
 root_lives w u o alive = upto w o (suc u) u alive (omega arith)
 

@@ -52,8 +52,8 @@ pub record MovesOn (x y : Scope) : Type 0 where
   pub forward : stage x.phase ≤ stage y.phase
   pub timely : can_join x.phase ≡ false → y.expired ≡ x.expired
 
--- completions only grow: the earlier ones are a front of the later; those of a cancelled scope
--- don't change any more
+-- completions only grow: the earlier ones are the first of the later ones; a cancelled scope gets
+-- no more
 pub record Completes (x y : Scope) : Type 0 where
   pub grow : (more : List Completion) × (y.completions ≡ x.completions ++ more)
   pub stop : x.cancelled ≡ true → y.completions ≡ x.completions

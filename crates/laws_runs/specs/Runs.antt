@@ -54,7 +54,7 @@ pub record Does (p : Program) (w : World) (t : ℕ) (i : Instr) : Type 0 where
   pub at : instr_at p (task_at w t).frame ≡ Some i
   pub fine : IsFine p w t (task_at w t).frame i
 
--- where P holds, each effect leads to a state that R says
+-- if P holds, each effect leads to a state in the relation R
 pub record Leads (p : Program) (P : World → Type 0) (R : World → World → Type 0) : Type 0 where
   pub nothing : (w : World) → P w → R w w
   pub effect : (w : World) (t : ℕ) (i : Instr) → P w → Does p w t i
@@ -62,7 +62,7 @@ pub record Leads (p : Program) (P : World → Type 0) (R : World → World → T
   pub interrupt : (w : World) (t : ℕ) → P w → R w (interrupt w t)
   pub expire : (w : World) (s : ℕ) → P w → R w (expire w s)
 
--- the same, where R speaks of the event too
+-- like `Leads`, if R speaks of the event too
 pub record LeadsBy (p : Program) (P : World → Type 0) (R : World → Event → World → Type 0)
     : Type 0 where
   pub nothing : (w : World) (t : ℕ) → P w → can_step p w t ≡ false → R w (event.Step t) w

@@ -13,8 +13,8 @@ use Rattle.sts_model.specs.Living.{lives, is_closed, completion_of}
 use Rattle.sts_model.specs.Misuse.{is_entry_of}
 use Rattle.sts_model.specs.Waiting.{can_step}
 
--- the completions of a scope are of subtasks of it, each once with its end; while the scope isn't
--- cancelled, of all that have ended
+-- the completions of a scope are ends of its subtasks, each at most once; while the scope isn't
+-- cancelled, they are those of all that have ended
 pub record IsTold (w : World) (s : ℕ) : Type 0 where
   pub ended : (u : ℕ) (end : End) → completion_of (scope_at w s).completions u ≡ Some end
       → (task_at w u).outcome ≡ Some end
@@ -34,7 +34,7 @@ ClosedIsEmpty =
     Ever (λ p w. (s u : ℕ) → is_closed (scope_at w s).phase ≡ true → (task_at w u).scope ≡ Some s
     → lives (task_at w u) ≡ false)
 
--- where the root has ended no task lives
+-- if the root has ended, no task lives
 abbrev pub RootEndsLast : Type 0
 RootEndsLast =
     Ever (λ p w. (end : End) (u : ℕ) → (task_at w 0).outcome ≡ Some end

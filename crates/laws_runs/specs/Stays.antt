@@ -42,8 +42,8 @@ abbrev pub EndsStay : Type 0
 EndsStay =
     Always (λ p w v. (t : ℕ) (end : End) → (task_at w t).outcome ≡ Some end → KeepsEnd p w v t end)
 
--- a scope that was born (a closed one is read until then): once closed it stays closed, once
--- cancelled cancelled, once expired expired
+-- a scope that was born keeps its marks: once it is closed, cancelled or expired, it remains so
+-- (before its birth it reads as closed)
 abbrev pub ClosedStays : Type 0
 ClosedStays =
     Always (λ p w v. (s : ℕ) → s < length w.scopes → KeepsMarks (scope_at w s) (scope_at v s))

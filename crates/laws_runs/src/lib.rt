@@ -2,8 +2,8 @@
 //!
 //! A law is a public function with an empty body: its contract is the theorem. `states` has the
 //! laws of tasks and scopes, from one state of a run to a later one. `scopes` says why scopes are
-//! cancelled, when they are settled, where they are entered, what slots name and what `tally`
-//! answers.
+//! cancelled, which tasks of them have ended, and which task has entered them. It also says what
+//! slots name and what `tally` answers.
 //!
 //! Every law of runs is proved by one induction over events (`proofs/EventLemmas.antt`).
 #![tactic(auto)]

@@ -1,13 +1,13 @@
-//! Laws over all event lists of every program: why scopes are cancelled, what is settled in them,
-//! where they are entered, what slots name, what `tally` answers.
+//! Laws over all event lists of every program: why scopes are cancelled, which tasks of them have
+//! ended, which task has entered them, what slots name, what `tally` answers.
 
 ghost use Rattle.laws_runs.specs.Scopes.{CancelledHasCause, LeftOutIsCancelled};
 ghost use Rattle.laws_runs.specs.Scopes.{JoinedIsSettled, EntriesAreOpen};
 ghost use Rattle.laws_runs.specs.Slots.{SlotsStand};
 ghost use Rattle.laws_runs.specs.Tallies.{TalliesAreCounts};
 
-/// A scope is cancelled by an end after which its joiner asks for it, by its expiry or by its
-/// close, and by nothing else.
+/// A scope is cancelled only by one of three causes: an end after which its joiner asks for it, its
+/// expiry, or its close.
 pub fn cancelled_has_cause()
     ensures { CancelledHasCause }
 {}

@@ -45,8 +45,8 @@ pub fn completions_grow()
     ensures { CompletionsGrow }
 {}
 
-/// The completions of a scope are those of subtasks that have ended, each once with its end; while
-/// the scope isn't cancelled, of all of them.
+/// The completions of a scope are ends of its subtasks, each at most once. While the scope isn't
+/// cancelled, they are the ends of all subtasks that have ended.
 pub fn completions_are_ends()
     ensures { CompletionsAreEnds }
 {}
@@ -57,7 +57,7 @@ pub fn states_stay()
     ensures { StatesStay }
 {}
 
-/// An event takes at most one step, and exactly one where it is a step that counts.
+/// An event takes one step if it is a step that counts, and otherwise none.
 #[tactic(auto, using(crate::proofs::StayLemmas::steps_are_counted))]
 pub fn steps_are_counted()
     ensures { StepsAreCounted }
@@ -68,7 +68,7 @@ pub fn closed_is_empty()
     ensures { ClosedIsEmpty }
 {}
 
-/// Where the root has ended no task lives.
+/// If the root has ended, no task lives.
 pub fn root_ends_last()
     ensures { RootEndsLast }
 {}
@@ -104,7 +104,7 @@ pub fn flags_have_cause()
     ensures { FlagsHaveCause }
 {}
 
-/// A flag is cleared by a step of the task itself alone: by `interrupted`, or by a `join` that ends
+/// A flag is cleared only by a step of the task itself: by `interrupted`, or by a `join` that ends
 /// as interrupted.
 pub fn flags_are_taken()
     ensures { FlagsAreTaken }

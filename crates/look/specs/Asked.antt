@@ -80,7 +80,7 @@ IsGiven c a = said a ≡ given c
 abbrev pub IsLineOf : Option (Text × List Row) → Asked → Type 0
 IsLineOf found a = IsSomeAnd found (λ c. IsGiven c a)
 
--- what the words ask for: where `clap` finds no fault, the command that it finds
+-- the request of the words: if `clap` finds no fault, the command that it finds
 pub record Asks (words : List Text) (a : Asked) : Type 0 where
   pub faultless : fault_of program words ≡ []
   pub line : IsLineOf (subcommand_of program words) a

@@ -56,8 +56,8 @@ IsShown (asked.Explain file trace) files o = IsExplained files (files file.now) 
 IsShown (asked.Draw file trace) files o =
     IsOfTexts IsPictureOf (files file.now) (files trace.now) o
 
--- what the program writes, and its status: that of the line that the words ask for, 0 after help
--- that they ask for, or 2 if they are mistaken. It may also be that memory was refused.
+-- The program writes what the line of the words asks for, and has its status. If the words ask for
+-- help, the status is 0. If they are mistaken, it is 2. Memory may also run out.
 pub data Ends (words : List Text) (files : Files) (s : Streams) (status : ℕ) : Type 0 where
   shown : (a : Asked) (o : Output) → Asks words a → IsShown a files o → Prints s status o
       → Ends words files s status

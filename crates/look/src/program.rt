@@ -239,7 +239,7 @@ pub fn start<R: Env + Files + Input, W: Write, E: Write>(
     let mut notes = Notes::new(alloc, NAME);
     match run_words(alloc, &Dashed { rt }, &words, out, err, &mut notes) {
         Ok(status) => {
-            // (the output and the status are the same where no line can be written)
+            // (the output and the status are the same if no line can be written)
             let _told = err.write_all(notes.lines());
             status
         }

@@ -122,7 +122,7 @@ searched_more p f at old new h less found grows spread =
         let same : slice_index_or new k d ≡ slice_index_or old at d = ap (λ (j : ℕ). slice_index_or new j d) e ∙ same_older old new grows at less d in
         spread d m (subst (λ n. Contains (followers p f n) m) same c)
 
--- where what follows each node is there, all nodes are
+-- if the nodes after each node are there, all nodes are
 stays : (p : Program) (f at : ℕ) (nodes : List Node) → IsSearched p f at nodes → length nodes ≤ at → (n : Node) → Comes p f n → Contains nodes n
 stays p f at nodes h long n first = h.begins
 stays p f at nodes h long n (then from to comes c) =

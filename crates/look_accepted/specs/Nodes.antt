@@ -1,4 +1,4 @@
--- Where the control paths of a function can be, with the typestate there and what is known of the
+-- The places of a function's control paths, with the typestate there and what is known of the
 -- thread's first binding (this project's own).
 --
 -- JDK 25 keeps with a scope the bindings of the thread that opened it. Before its first binding a
@@ -22,7 +22,8 @@ use Rattle.look_accepted.specs.declared.node.Node.{Node}
 abbrev pub needs_key : Program → ℕ → Bool
 needs_key p f = list_any (λ (needed : Bool). needed) (routine p f).needs
 
--- a thread that needs a key was forked where one was bound, so no binding of its own is the first
+-- if a thread needs a key, a binding was in force where it was forked, so none of its own is the
+-- first
 abbrev pub start_mark : Program → ℕ → Option ℕ
 start_mark p f = if needs_key p f then Some 0 else None
 
@@ -40,7 +41,7 @@ next_mark i before after (Some outer) =
 
 -- ---- nodes
 
--- where a function begins
+-- the first node of a function
 abbrev pub first_node : Program → ℕ → Node
 first_node p f = record { pc = 0; state = entry p f; mark = start_mark p f }
 

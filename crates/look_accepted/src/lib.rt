@@ -1,4 +1,5 @@
-//! Where an accepted program relies on a rule that JDK 25 doesn't share, by the lines of its text.
+//! The places where an accepted program relies on a rule that JDK 25 doesn't share, with the line
+//! numbers of its text.
 //!
 //! `node` says where a control path can be, `search` finds all such nodes of a function, and `notes`
 //! lists the instructions that rely on such a rule.

@@ -1,4 +1,4 @@
-//! Where a control path can be, with what is known there of its thread.
+//! The places of control paths, with what is known there of the thread.
 
 ghost use Rattle.std.specs.Prelude.{◌≡◌, ◌<◌, ◌++◌, true, length, IfOk, OnOk};
 ghost use Rattle.std.specs.List.{list_any};
@@ -35,7 +35,8 @@ fn needs_key(program: &Program, function: usize) -> bool
     needs_any(&routine.needs)
 }
 
-/// Where a function begins. A thread that needs a key was forked where one was bound.
+/// The first node of a function. If its thread needs a key, a binding was in force where it was
+/// forked.
 pub fn first(program: &Program, function: u32) -> Node
     requires { function < length program.now.routines }
     ensures { result ≡ def.first_node program.now function }
@@ -102,7 +103,7 @@ fn next_mark(
     }
 }
 
-/// Where the next turn begins, at the end of a loop.
+/// The place of the next turn's beginning, at the end of a loop.
 fn turn(instr: Instr, state: &TypeState) -> Option<usize>
     ensures { result ≡ rules.back_of instr state.now }
 {

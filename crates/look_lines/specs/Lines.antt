@@ -45,7 +45,7 @@ end_words None = []
 end_words (Some (Success v)) = codes " success " ++ signed_decimal v
 end_words (Some (Failed c)) = codes " failed " ++ signed_decimal c
 
--- what a task waits for that can't step; where it is free it can
+-- what a task that can't step waits for; a task at no scope can step
 abbrev pub wait_words : Stand → List ℕ
 wait_words Free = []
 wait_words (AtJoin s) = codes " waits join " ++ decimal s
@@ -55,8 +55,7 @@ wait_words (AtClose s) = codes " waits close " ++ decimal s
 abbrev pub life_words : Bool → Stand → List ℕ
 life_words can_go stand = if can_go then codes " ready" else wait_words stand
 
--- how a task that was started, and doesn't live, ended; `unheard` where its scope was cancelled
--- before
+-- how a task ended that was started and doesn't live; `unheard` if its scope was cancelled before
 abbrev pub ended_words : World → ℕ → List ℕ
 ended_words w t =
     (if is_heard w t (task_at w t).scope then [] else codes " unheard")
@@ -107,7 +106,7 @@ local_words (v ∷ vs) x = local_word x v ++ local_words vs (x + 1)
 abbrev pub locals_line : List ℤ → List ℕ
 locals_line locals = codes "  locals" ++ ended (local_words locals 0)
 
--- the value of a key, where it is bound
+-- the value of a key, if it is bound
 abbrev pub bound_words : ℕ → Option ℤ → List ℕ
 bound_words k None = []
 bound_words k (Some v) = pair_words k v

@@ -29,7 +29,7 @@ lines_of full m =
 abbrev pub view_after : Program → Bool → List Event → List ℕ
 view_after p full events = lines_of full (watched p events)
 
--- `after N EVENT`, the event being the N-th; `idle` where it doesn't count
+-- `after N EVENT` for the N-th event; `idle` if it doesn't count
 abbrev pub event_line : ℕ → Event → Bool → List ℕ
 event_line n e is_counted =
     codes "after " ++ decimal n ++ codes " " ++ event_text e
@@ -48,7 +48,7 @@ views_from p full done (e ∷ es) = event_block p full done e ++ views_from p fu
 abbrev pub view_each : Program → Bool → List Event → List ℕ
 view_each p full events = view_after p full [] ++ views_from p full [] events
 
--- the status is that of the state in the end: 0 where the root succeeded, 1 where it failed, else 5
+-- the status is that of the last state: 0 if the root succeeded, 1 if it failed, otherwise 5
 abbrev pub after_output : Program → Bool → List Event → Output
 after_output p full events =
     record { bytes = view_after p full events; status = state_status (shown (after p events)) }

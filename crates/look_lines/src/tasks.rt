@@ -16,7 +16,7 @@ use sts_model::{End, Stand};
 use sts_plain::{can_step, stand_at};
 use sts_world::{Records, World};
 
-/// The name of a function of the program; nothing where it has none.
+/// The name of a function of the program; nothing if it has none.
 pub fn name_of(program: &Program, function: u32) -> &str
     ensures { result.now ≡ (routine program.now function).name }
 {

@@ -19,7 +19,7 @@ use sts_output::{Output, state_line, state_status, steps_line};
 /// The options of a view.
 #[derive(Clone, Copy, Debug, PartialEq, Eq)]
 pub struct Wanted {
-    /// After each event, and not after the last alone.
+    /// After each event, not only after the last.
     pub each: bool,
     /// With operands, locals and bindings of living tasks, and all ends that joiners counted.
     pub full: bool,
@@ -55,7 +55,7 @@ pub fn event_words(out: &mut String, event: Event) -> Result<(), AllocError>
     }
 }
 
-/// `after N EVENT`, and `idle` where the event doesn't count.
+/// `after N EVENT`, and `idle` if the event doesn't count.
 fn event_line(out: &mut String, n: usize, event: Event, is_counted: bool) -> Result<(), AllocError>
     ensures { OnOk result (string_bytes out.new
         ≡ string_bytes out.old ++ def.event_line n event is_counted) }

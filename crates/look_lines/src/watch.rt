@@ -1,5 +1,5 @@
-//! The plain machine, watched: it makes no step that would be a fault, so that the world before the
-//! fault is kept.
+//! The watched plain machine. It makes no step that would be a fault, so it keeps the world before
+//! the fault.
 
 ghost use Rattle.std.specs.Prelude.{◌≡◌, ◌&&◌, [], IfOk, IfSome, IsNone, OnOk, OnErr, Some, true, false};
 ghost use Rattle.sts_model.specs.Run as run;

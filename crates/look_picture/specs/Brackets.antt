@@ -17,7 +17,7 @@ abbrev pub scope_mark : Mark → World → ℕ → ℕ → List ℕ → List ℕ
 scope_mark m w x s word =
     mark_at m x (bracket w s) (scope_place s (scope_at w s) ++ (codes " " ++ word))
 
--- the scope's number, where it is opened
+-- the scope's number, at the place of its opening
 abbrev pub scope_number : World → ℕ → ℕ → List ℕ
 scope_number w x s = text_start (codes "label") (x + 4) (bracket w s + 3) ++ (decimal s ++ text_end)
 
@@ -39,7 +39,7 @@ phase_number phase.Joined = 2
 phase_number phase.Closing = 3
 phase_number phase.Closed = 4
 
--- where its phase changed
+-- the mark for a change of its phase
 abbrev pub edge : World → World → ℕ → ℕ → List ℕ
 edge before w x s =
     if phase_number (scope_at before s).phase == phase_number (scope_at w s).phase then []

@@ -55,7 +55,7 @@ number_class is_counted = if is_counted then codes "number" else codes "number i
 abbrev pub number_end : ℕ → List ℕ → List ℕ
 number_end n idle = idle ++ codes "</title>" ++ decimal n ++ codes "</text>\n"
 
--- the event's number above the lanes, struck where it doesn't count
+-- the event's number above the lanes, struck if it doesn't count
 abbrev pub number : ℕ → Event → Bool → List ℕ
 number n e is_counted =
     text_start (number_class is_counted) (column n) 44
@@ -67,7 +67,7 @@ event_column before m n e is_counted =
     number n e is_counted ++ (standing before m (column n) is_counted (shown m.state)
     ++ stepped (column n) e is_counted)
 
--- the columns of these events, where those came before
+-- the columns of these events, if those came before
 abbrev pub columns_from : Program → List Event → List Event → List ℕ
 columns_from p done [] = []
 columns_from p done (e ∷ es) =
@@ -146,7 +146,7 @@ framed m events columns = head m events ++ (backdrop m events ++ (columns ++ bel
 unfoldable pub picture : Program → List Event → List ℕ
 picture p events = framed (watched p events) (length events) (columns p events)
 
--- the status is that of the state in the end: 0 where the root succeeded, 1 where it failed, else 5
+-- the status is that of the last state: 0 if the root succeeded, 1 if it failed, otherwise 5
 abbrev pub picture_output : Program → List Event → Output
 picture_output p events = record { bytes = picture p events; status = state_status (shown (after p events)) }
 

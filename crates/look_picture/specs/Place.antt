@@ -1,4 +1,4 @@
--- Where a picture has its columns, lanes and brackets, in pixels (this project's own).
+-- The positions of a picture's columns, lanes and brackets, in pixels (this project's own).
 use Rattle.std.specs.Prelude.{ℕ, ◌+◌, ◌*◌, Bool, not, ◌&&◌, ◌==◌, min, max, take, count_by}
 use Rattle.sts_model.specs.declared.record.Scope.{Scope}
 use Rattle.sts_model.specs.Living.{is_closed}

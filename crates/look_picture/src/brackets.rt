@@ -40,7 +40,7 @@ fn scope_mark(
     mark_end(out)
 }
 
-/// The scope's number, where it is opened.
+/// The scope's number, at the place of its opening.
 fn scope_number(out: &mut String, records: &Records, x: u128, s: u32) -> Result<(), AllocError>
     requires born { s < length records.now.scopes }
     requires near { x < 2 ^ 127 }
@@ -96,7 +96,7 @@ fn phase_number(phase: Phase) -> u8
     }
 }
 
-/// Where its phase changed.
+/// The mark for a change of its phase.
 fn edge(
     out: &mut String,
     before: &Records,

@@ -85,7 +85,7 @@ fn stepped(out: &mut String, x: u128, event: Event, is_counted: bool) -> Result<
     }
 }
 
-/// ` idle` where an event doesn't count.
+/// ` idle` if an event doesn't count.
 fn idle_word(is_counted: bool) -> &'static str
     ensures { result.now ≡ def.idle_word is_counted }
 {

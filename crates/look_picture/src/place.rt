@@ -1,4 +1,4 @@
-//! Where a picture has its columns, lanes and brackets, in pixels.
+//! The positions of a picture's columns, lanes and brackets, in pixels.
 
 ghost use Rattle.std.specs.Prelude.{◌≡◌, ◌<◌, ◌≤◌, ◌^◌, length};
 ghost use Rattle.sts_code.specs.declared.limits.TheConstants.{MAX_BIRTHS};

@@ -206,7 +206,7 @@ module _ (s : Search) (ready : IsReady s) (t : Trail) (trail : IsTrail s t) wher
         total = omega arith;
       }
 
-  -- where its turns add nothing
+  -- its turns add nothing
   pub skip_step : (times q : ℕ) (l : Loop) (at to next : Spot) (before now after : Shares) → IsLoop s l → l.end ≡ q → IsUnderWay s t times at to before now → (best_in t at.place at.depth).from ≡ Some q → ends_turn (instr_at s.code.now q) ≡ true → sum_in t q at.depth ≡ 0 → (flow s).added q at.depth ≡ 0 → IsStepBack (flow s) l.head at times now after next → AreParts after → IsUnderWay s t times next to before after
   skip_step times q l at to next before now after is end_is u e turning none_before none_added first parts =
       let f = from_is at q u.spot e in

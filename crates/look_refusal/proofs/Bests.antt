@@ -71,7 +71,7 @@ module _ (s : Search) (best : ℕ → ℕ → ℕ) where
       over : (d : ℕ) → depth + 1 ≤ d → d ≤ (flow s).depth pc → IsBest s best k pc d (get_or (set row depth v) d no_way)
       over d le deep = subst (IsBest s best k pc d) (sym (get_or-set_other row depth d v no_way (omega arith))) (above d (omega arith) deep)
 
--- it reads the places before alone
+-- it only reads the places before
 pub best_same : (s : Search) → IsReady s → (best other : ℕ → ℕ → ℕ) (k pc d : ℕ) (b : Best) → ((x : ℕ) → x < k → (e : ℕ) → best x e ≡ other x e) → IsBest s best k pc d b → IsBest s other k pc d b
 best_same s ready best other k pc d b same h = record {
   most = λ q lt l. subst (λ x. x ≤ b.sum) (handed_same s ready best other k q d lt same) (h.most q lt l);

@@ -16,7 +16,7 @@ NoDigit xs = is_ascii_digit (get_or xs 0 0) ≡ false
 no_digit : (d : ℕ) (xs ys : List ℕ) → is_ascii_digit d ≡ true → NoDigit xs → xs ≡ d ∷ ys → ⊥
 no_digit d xs ys f n e = let k = rw e at n in cc
 
--- so digits end where the rest begins
+-- so the digits end where the rest begins
 fronts : (us vs xs ys : List ℕ) → list_all is_ascii_digit us ≡ true → list_all is_ascii_digit vs ≡ true → NoDigit xs → NoDigit ys → us ++ xs ≡ vs ++ ys → (us ≡ vs) × (xs ≡ ys)
 fronts [] [] xs ys f g m n e = (refl, e)
 fronts [] (v ∷ vs) xs ys f g m n e = absurd (no_digit v xs (vs ++ ys) (both (is_ascii_digit v) (list_all is_ascii_digit vs) g).0 m e)

@@ -82,7 +82,7 @@ found t (x ∷ xs) c e = by (t x) refl e (λ h. found t xs c h)
     by true is e more = let same : x ≡ c = cc in subst (λ y. t y ≡ true) same is
     by false is e more = more e
 
--- where the first is not found, the rest is looked through
+-- if the first is not found, the rest is searched
 missed : (b : Bool) (c : Cause) (rest : Option Cause) → cond b (Some c) rest ≡ None → (b ≡ false) × (rest ≡ None)
 missed true c rest e = cc
 missed false c rest e = (refl, e)

@@ -1,4 +1,4 @@
--- Where instructions lead, and what they hand on.
+-- The places that instructions lead to, and the sums that they hand on.
 use Rattle.std.proofs.Common.{◌≡◌, ℕ, ◌+◌, ◌*◌, ◌<◌, List, [], ◌∷◌, ◌++◌, length, get_or, Bool, true, false, cond, Some, None, unwrap_or, inl, inr, refl, sym, ap, ◌∙◌, subst, arith}
 use Rattle.sts_code.specs.Facts.{targets}
 use Rattle.sts_code.specs.Program.{instr_at}
@@ -127,7 +127,7 @@ module _ (s : Search) (ready : IsReady s) where
       ∙ ap (λ h. looped s best h q (turns_of (instr_at s.code.now h)) (best h d) d) head
       ∙ ap (λ m. looped s best p q m (best p d) d) turns_is
 
-  -- it reads the places up to its own alone
+  -- it only reads the places up to its own
   pub handed_same : (best other : ℕ → ℕ → ℕ) (k q d : ℕ) → q < k → ((x : ℕ) → x < k → (e : ℕ) → best x e ≡ other x e) → handed s best q d ≡ handed s other q d
   handed_same best other k q d lt same = by (ends_turn (instr_at s.code.now q)) refl
     where

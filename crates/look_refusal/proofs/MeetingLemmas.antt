@@ -1,4 +1,4 @@
--- Where two ways meet with typestates that differ, two that do are found.
+-- If two ways meet with different typestates, two such ways are found.
 use Rattle.std.proofs.Common.{◌≡◌, ◌≢◌, ℕ, ◌+◌, ◌<◌, ◌≤◌, ◌⊎◌, inl, inr, List, [], ◌∷◌, ◌++◌, length, take, get_or, Bool, true, false, cond, Option, Some, None, Ok, Err, refl, sym, ap, ◌∙◌, subst, arith, get_or-set_same, get_or-set_other, length-set, slice_get, replicate}
 use Rattle.std.specs.Prelude.{IfSome, is_some, slice_index_or, slice_set, MatchOption}
 use Rattle.std.proofs.lemmas.Bool.{cases_lt}
@@ -149,7 +149,7 @@ module _ (p : Program) (f : ℕ) where
 
 -- ---- no way is left out
 
--- one typestate alone arrives at the first place
+-- only one typestate arrives at the first place
 alone_first : (p : Program) (f to : ℕ) (s : TypeState) → to ≡ 0 → Reaches (typing p f) to s → s ≡ entry p f
 alone_first p f to s e first = refl
 alone_first p f to s e (then from before out r g l) = let lt = forward p f from before out to s g l in absurd (omega arith)
@@ -178,7 +178,7 @@ module _ (p : Program) (f last : ℕ) (table : List (Option Way)) (ways : AreWay
   pub kept_for : (to : ℕ) (s : TypeState) → Reaches (typing p f) to s → to ≤ last → (w : Way) × (slice_index_or table to None ≡ Some w)
   kept_for to s r le = way_of (slice_index_or table to None) (has_way to s r le)
 
-  -- where no two ways meet at the last place, one typestate alone reaches it
+  -- if no two ways meet at the last place, only one typestate reaches it
   alone_last : (w : Way) → slice_index_or table last None ≡ Some w → NoneMeet p f last table → (to : ℕ) (s : TypeState) → to ≡ last → Reaches (typing p f) to s → s ≡ w.state
   alone_last w here none to s e first =
       let way : IsWayTo p f last w = subst (λ o. IfSome o (IsWayTo p f last)) here (ways last) in
@@ -217,7 +217,7 @@ module _ (p : Program) (f last : ℕ) (table : List (Option Way)) (ways : AreWay
         let back' = subst (λ y. back_of (instr_at (routine p f).code last) y ≡ Some t.0) same back in
         t.1.1.2 (same_turn w.0 w.1 t.0 t.1.0 le back' t.1.1.1 (cases_lt t.0 last) ∙ sym same)
 
--- where no two ways meet, and a turn begins as it ends, that isn't why the function is refused
+-- if no two ways meet, and each turn ends as it began, the function isn't refused for that
 pub not_refused : (p : Program) (f pc : ℕ) (table : List (Option Way)) → AreWays p f table → AreSpread p f pc pc table → NoneMeet p f pc table → TurnsAlike p f pc table → IsTypeRefusal p f pc StatesDiffer → ⊥
 not_refused p f pc table ways all none alike refusal = no_cause p f pc table ways all refusal.2 none alike StatesDiffer refl refusal.1
 

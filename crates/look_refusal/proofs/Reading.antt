@@ -172,7 +172,7 @@ loop_read k l xs ys f g e =
 
 -- ---- lists
 
--- the words of each value end where they say so themselves, and they begin with a parenthesis
+-- the words of each value mark their own end, and begin with a parenthesis
 record Reads {A : Type 0} (Held : A → Type 0) (words : A → List ℕ) : Type 0 where
   opened : (x : A) → (more : List ℕ) × (words x ≡ codes " (" ++ more)
   read : (x y : A) (xs ys : List ℕ) → Held x → Held y → words x ++ xs ≡ words y ++ ys → (x ≡ y) × (xs ≡ ys)

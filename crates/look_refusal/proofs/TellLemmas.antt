@@ -65,7 +65,7 @@ one_resource Binds Steps e = absurd (cc)
 one_resource Binds Tasks e = absurd (cc)
 one_resource Binds Scopes e = absurd (cc)
 
--- nor is there a budget that is passed where ways differ
+-- if ways differ, no budget is over its limit
 pub type_refusal : (p : Program) (f pc : ℕ) (c : Cause) → c ≡ StatesDiffer → IsUnsound p f pc c → IsTypeRefusal p f pc StatesDiffer
 type_refusal p f pc c e (ill_typed r) = subst (λ (x : Cause). IsTypeRefusal p f pc x) e r
 type_refusal p f pc c e (too_much earlier typed long right excess) = absurd (subst (λ (x : Cause). Exceeds earlier (routine p f).code x) e excess.0)

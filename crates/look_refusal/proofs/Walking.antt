@@ -205,7 +205,7 @@ open_out c f at turn to s t u o (b, (k, q)) = record {
 pub whole_walk : (c : Skeleton) (f : Flows) (start to : Spot) (s t : Shares) → IsOpenWalk c f start to s t → start ≡ record { place = 0; depth = 0 } → IsWholeWalk c f to s t
 whole_walk c f start to s t o is = (o.after_loops [], (o.amounts, (subst (λ x. Extends c f x.depth x.place [] to.depth to.place (o.after_loops []) o.amounts) is (o.way []), o.raised)))
 
--- where nothing was added before, the amounts are those of the path
+-- if nothing was added before, the amounts are those of the path
 pub record IsPath (c : Skeleton) (f : Flows) (to : Spot) (after : Shares) : Type 0 where
   pub loops : Loops
   pub steps : Steps

@@ -122,7 +122,7 @@ case_words number =
     if number == 0 then codes " (unavailable)"
     else (if number == 1 then codes " (success)" else codes " (failed)")
 
--- which edge of an instruction this is, where there are several
+-- which edge of an instruction this is, if there are several
 abbrev pub edge_words : Instr → ℕ → List ℕ
 edge_words (Join x failed timeout interrupted) number =
     outcome_words (is_some failed) (is_some timeout) number
@@ -137,7 +137,7 @@ abbrev pub place_name : Option Sentence → ℕ → List ℕ
 place_name None pc = codes "place " ++ decimal pc
 place_name (Some s) pc = codes "line " ++ decimal s.line
 
--- where a way comes from, by its line
+-- the line that a way comes from
 abbrev pub origin_words : Outline → Program → ℕ → Origin → List ℕ
 origin_words o p f Beginning = codes "the beginning"
 origin_words o p f (Edge pc number) =

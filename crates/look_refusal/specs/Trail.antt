@@ -15,7 +15,7 @@ use Rattle.look_refusal.specs.Search.{paths, flow, ends_turn, turns_of, LeadsOn}
 abbrev pub greatest_number : ℕ
 greatest_number = 340282366920938463463374607431768211455
 
--- where no way was found
+-- the entry if no way was found
 abbrev pub no_way : Best
 no_way = record { sum = 0; from = None }
 
@@ -32,8 +32,8 @@ abbrev pub looped : Search → (ℕ → ℕ → ℕ) → (head end turns before 
 looped s best head end turns before d =
     before + (flow s).added head d + turns * (best end d + (flow s).added end d)
 
--- what the instruction at a place hands on over the first d entries; that at the end of a turn
--- hands on what its loop does
+-- the sum that the instruction at a place hands on over the first d entries; the end of a turn
+-- hands on the sum of its loop
 abbrev pub handed : Search → (ℕ → ℕ → ℕ) → ℕ → ℕ → ℕ
 handed s best pc d =
     if ends_turn (instr_at s.code.now pc)

@@ -32,7 +32,8 @@ IsWayTo p f to w = Arrives p f to w.origin w.state × Reaches (typing p f) to w.
 abbrev pub AreWays : Program → ℕ → List (Option Way) → Type 0
 AreWays p f table = (to : ℕ) → IfSome (slice_index_or table to None) (IsWayTo p f to)
 
--- two ways meet with typestates that differ: at this place, or where the turn begins that ends here
+-- two ways meet with different typestates: at this place, or at the beginning of the turn that ends
+-- here
 pub record Meets (p : Program) (f pc : ℕ) (m : Meeting) : Type 0 where
   pub one : Arrives p f m.at m.one.origin m.one.state
   pub other : Arrives p f m.at m.other.origin m.other.state
@@ -69,7 +70,7 @@ abbrev pub IsSpreadFrom : Program → ℕ → ℕ → List (Option Way) → Type
 IsSpreadFrom p f from table =
     IfSome (slice_index_or table from None) (λ w. IsSpread p f from w.state table)
 
--- more ways are kept, for later places alone
+-- more ways are kept, only for later places
 pub record KeepsMore (pc : ℕ) (before after : List (Option Way)) : Type 0 where
   pub long : length after ≡ length before
   pub same : (to : ℕ) → to ≤ pc → slice_index_or after to None ≡ slice_index_or before to None

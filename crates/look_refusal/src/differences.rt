@@ -41,7 +41,7 @@ fn case_words(number: usize) -> &'static str
     }
 }
 
-/// Which edge of an instruction this is, where there are several.
+/// Which edge of an instruction this is, if there are several.
 fn edge_words(instr: Instr, number: usize) -> &'static str
     ensures { result.now ≡ def.edge_words instr number }
 {
@@ -82,7 +82,7 @@ fn write_place(out: &mut String, sentence: Option<&Sentence<'_>>, pc: u32) -> Re
     }
 }
 
-/// Where a way comes from, by its line.
+/// The line that a way comes from.
 fn write_origin(
     out: &mut String,
     outline: &Outline<'_>,
@@ -162,7 +162,7 @@ fn say_part_line(
     say(out, "\n")
 }
 
-/// The line of a part, where the two differ in it.
+/// The line of a part, if the two differ in it.
 fn say_part(
     alloc: Global,
     out: &mut Vec<u8>,

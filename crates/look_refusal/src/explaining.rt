@@ -61,7 +61,7 @@ pub fn text_fault(alloc: Global, error: AsmError, text: &[u8]) -> Result<Output,
     Ok(Output { bytes, status: 3 })
 }
 
-/// Tells where two ways that meet differ.
+/// Appends the differences of two ways that meet.
 fn say_meeting(
     alloc: Global,
     out: &mut Vec<u8>,
@@ -209,8 +209,8 @@ fn explanation(alloc: Global, text: &[u8]) -> Result<Output, AllocError>
     }
 }
 
-/// Writes what is wrong with a text, if anything is, by the lines of the text, and gives the status
-/// that `sts verify` gives.
+/// Says what is wrong with a text, if anything is, with line numbers, and gives the status that
+/// `sts verify` gives.
 ///
 /// It takes all its memory before the first byte is written.
 ///

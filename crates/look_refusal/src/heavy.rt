@@ -20,8 +20,9 @@ use sts_budget::{Resource, lay_out, limit_of, own_of};
 use sts_code::{Program, code_of};
 use sts_rules::{Budgets, filled};
 
-/// A point of a control path: its place, what it weighs (of steps the whole path that ends there),
-/// and for each place of the function what the steps of the path there add to that.
+/// A point of a control path: its place, its weight, and the share of each place of the function.
+/// The weight of steps is that of the whole path that ends there. A share is what the steps of the
+/// path at a place add.
 #[derive(Drop)]
 pub struct Heavy {
     pub place: u32,

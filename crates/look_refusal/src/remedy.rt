@@ -79,7 +79,7 @@ pub enum Remedy {
     BoundLater,
     /// A `close` in a loop of a scope that was opened before it.
     OpenedBeforeLoop,
-    /// An `unbind` where the task has nothing open.
+    /// An `unbind`, though the task has nothing open.
     NothingBound,
     /// An `unbind` while a scope is open that was opened later.
     OpenedInBinding,
@@ -93,13 +93,13 @@ pub enum Remedy {
     KeyUnbound,
     /// A key that the subtask needs may be unbound.
     SubtaskKeyUnbound,
-    /// A `join` without a label for failed, where it can fail.
+    /// A `join` without a label for failed, though it can fail.
     FailedLabelMissing,
-    /// A `join` with a label for failed, where it can't fail.
+    /// A `join` with a label for failed, though it can't fail.
     NoFailureHere,
-    /// A `join` without a label for timeout, where the scope has a timeout.
+    /// A `join` without a label for timeout, though the scope has a timeout.
     TimeoutLabelMissing,
-    /// A `join` with a label for timeout, where the scope has none.
+    /// A `join` with a label for timeout, though the scope has none.
     NoTimeoutHere,
     /// A path takes too many steps.
     TooManySteps,

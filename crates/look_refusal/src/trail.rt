@@ -11,8 +11,8 @@ use crate::search::{
 };
 use std::alloc::{AllocError, Global};
 
-/// The greatest sum over the first entries at a place, since the turn of the innermost loop began,
-/// and the place before it on that way.
+/// The greatest sum over the first entries at a place, counted from the start of the innermost
+/// loop's turn, and the place before it on that way.
 #[derive(Clone, Copy)]
 pub(crate) struct Best {
     sum: u128,
@@ -28,7 +28,7 @@ pub(crate) struct Trail {
     rows: Vec<Row>,
 }
 
-/// Where no way was found.
+/// The entry if no way was found.
 fn no_way() -> Best
     ensures { result ≡ trails.no_way }
 {

@@ -14,7 +14,7 @@ use std::alloc::{AllocError, Global};
 use sts_code::{Instr, Program, code_of};
 use sts_types::{TypeState, edges, entry};
 
-/// Where a way comes from.
+/// The place or edge that a way comes from.
 #[derive(Clone, Copy, Debug, PartialEq, Eq)]
 pub enum Origin {
     /// The beginning of the function.
@@ -160,7 +160,7 @@ fn first_ways(
     Ok(table)
 }
 
-/// The typestate that reaches a place, where no place before it has a cause.
+/// The typestate that reaches a place, if no place before it has a cause.
 ///
 /// # Errors
 ///
@@ -239,7 +239,7 @@ fn meeting_at(program: &Program, function: u32, pc: u32, table: &[Option<Way>]) 
     None
 }
 
-/// The place where the turn began that ends here.
+/// The place of the beginning of the turn that ends here.
 fn back_to(instr: Instr, state: &TypeState) -> Option<u32>
     requires { IfSome (rules.back_of instr state.now) (λ q. q < 2 ^ 32) }
     ensures { result ≡ rules.back_of instr state.now }
@@ -253,7 +253,7 @@ fn back_to(instr: Instr, state: &TypeState) -> Option<u32>
     }
 }
 
-/// The way to the beginning of a turn, and the turn that ends here, where their typestates differ.
+/// The way to the beginning of a turn, and the turn that ends here, if their typestates differ.
 fn turn_at(program: &Program, function: u32, pc: u32, table: &[Option<Way>]) -> Option<Meeting>
     requires function { function < length program.now.routines }
     requires pc { pc < size program.now function }

@@ -43,8 +43,8 @@ fault_lines p o w kind t f pc =
     codes "fault " ++ fault_word kind ++ codes ", " ++ task_place p o t f pc ++ codes "\n"
     ++ remedy_line p w kind t
 
--- how the run is: `running`, `success V`, `failed C`, or its fault, where this is the world before
--- it
+-- the state of the run: `running`, `success V`, `failed C`, or its fault, if this is the world
+-- before it
 abbrev pub state_lines : Program → Outline → World → PlainState → List ℕ
 state_lines p o w plain.Running = codes "running\n"
 state_lines p o w (plain.Ended end) = end_line end
@@ -52,7 +52,7 @@ state_lines p o w (plain.Fault kind t f pc) = fault_lines p o w kind t f pc
 
 -- ---- who waits where
 
--- the task's number, where it is a subtask of the scope that lives
+-- the task's number, if it is a living subtask of the scope
 abbrev pub subtask_word : World → ℕ → ℕ → List ℕ
 subtask_word w s t = if is_living_subtask s (task_at w t) then codes " " ++ decimal t else []
 
@@ -67,7 +67,7 @@ wait_for w word s =
     codes "waits at " ++ word ++ codes " of scope " ++ decimal s ++ codes " for"
     ++ subtask_words w s w.tasks 0
 
--- what a task waits for that can't step; where it is free it can
+-- what a task that can't step waits for; a task at no scope can step
 abbrev pub wait_words : World → Stand → List ℕ
 wait_words w Free = []
 wait_words w (AtJoin s) = wait_for w (codes "join") s

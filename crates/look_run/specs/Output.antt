@@ -19,7 +19,7 @@ abbrev pub run_lines : Outline → Watched → List ℕ
 run_lines o m =
     state_lines m.program o m.last (shown m.state) ++ living_lines m.program o m.last m.last.tasks 0
 
--- the status is that of the state: 0 where the root succeeded, 1 where it failed, else 5
+-- the status is that of the state: 0 if the root succeeded, 1 if it failed, otherwise 5
 abbrev pub watched_output : Outline → Watched → Output
 watched_output o m = record { bytes = run_lines o m; status = state_status (shown m.state) }
 

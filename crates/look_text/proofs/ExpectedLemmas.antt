@@ -1,4 +1,4 @@
--- The lines of a text stop where they are read no further.
+-- The lines of a text stop being as expected where reading fails.
 use Rattle.std.proofs.Common.{◌≡◌, ℕ, Bool, true, false, cond, List, [], ◌∷◌, ◌++◌, refl, sym, ap, ◌∙◌, inl, inr}
 use Rattle.std.specs.Prelude.{Option, Some, None, Result, Ok, Err, is_some, codes, ◌&&◌, ◌||◌, ◌==◌, slice_set}
 use Rattle.std.specs.Str.{bytes_eq}

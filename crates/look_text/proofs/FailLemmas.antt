@@ -14,7 +14,7 @@ use Rattle.look_text.proofs.LineLemmas.{behind_words}
 
 -- ---- the words up to it
 
--- what is said, where a word fails
+-- the words so far, if a word fails
 abbrev pub said_if : List ℕ → Option Stop → List ℕ
 said_if before None = []
 said_if before (Some s) = before ++ stop_words s

@@ -93,7 +93,7 @@ inside_same at o (Some d) word rest p is h =
 
 -- ---- lines
 
--- a line adds its first words, where it begins a function
+-- a line that begins a function adds its first words
 said_opens : (at : ℕ) (o : Outline) (ws : List (List ℕ)) (p : Outline) → said at o ws ≡ Ok p → openings p ≡ openings o ++ begun_by (is_head ws) ws
 said_opens at o [] p h = let same : o ≡ p = cc in ap openings (sym same) ∙ sym (append-nil (openings o))
 said_opens at o (word ∷ rest) p h =

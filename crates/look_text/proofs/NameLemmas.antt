@@ -329,7 +329,7 @@ line_named names (word ∷ rest) = first_named names word rest (mnemonic_of word
 
 -- ---- the lines of a function
 
--- where the lines of a function have the first unknown name
+-- the lines of a function have the first unknown name
 record InLines (names : Names) (code : List Sentence) (e : AsmError) : Type 0 where
   pc : ℕ
   line : Sentence
@@ -385,7 +385,7 @@ lines_well names (s ∷ rest) is h = lines_well_on names s rest is (instr_of (So
 abbrev pub names_of : List Mark → Draft → Names
 names_of functions d = record { labels = d.labels; functions = functions }
 
--- where functions have the first unknown name
+-- functions have the first unknown name
 record InFunctions (functions : List Mark) (ds : List Draft) (e : AsmError) : Type 0 where
   at : ℕ
   draft : Draft

@@ -15,7 +15,7 @@ use Rattle.look_text.specs.Wanted.{Stop, behind, after, first_wrong, of_mnemonic
 use Rattle.look_text.specs.Wrong.{stop_words, named_line, wrong_line, StopsAt}
 use Rattle.look_text.proofs.LineLemmas.{behind_words}
 
--- what is said, where a line stops
+-- the words so far, if a line stops
 abbrev pub said : List ℕ → Option Stop → Option (List ℕ)
 said before o = option_map (λ s. before ++ stop_words s) o
 

@@ -1,4 +1,4 @@
--- The operands of each instruction stop where they are read no further.
+-- The operands of each instruction stop being as expected where reading fails.
 use Rattle.std.proofs.Common.{◌≡◌, ℕ, ◌^◌, ◌-◌, Bool, true, false, cond, List, [], ◌∷◌, refl, sym, ap, ◌∙◌}
 use Rattle.std.specs.Prelude.{Option, Some, None, Result, Ok, Err, is_some, codes, ◌||◌}
 use Rattle.std.specs.Str.{bytes_eq}

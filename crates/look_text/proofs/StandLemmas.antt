@@ -23,7 +23,7 @@ AllStand text o = All (λ (d : Draft). All (Stands text) d.code) o.done × All (
 
 -- ---- what was Ok on the way
 
--- where what follows was Ok, so was what came before
+-- if the whole is Ok, its first part is
 pub after : {A B E S : Type 0} (r : Result A E) (f : A → Result B E) (y : B) → (r >>= f) ≡ Ok y → ((x : A) → r ≡ Ok x → f x ≡ Ok y → S) → S
 after (Ok x) f y e k = k x refl e
 after (Err z) f y e k = absurd (cc)

@@ -15,7 +15,7 @@ use Rattle.look_text.specs.Wanted.{stop}
 use Rattle.look_text.specs.WrongWord.{Stops, IsOfOperand, OperandsStop}
 use Rattle.look_text.proofs.ExpectedLemmas.{words_operands}
 
--- where the first fault of lines is found
+-- the first fault of lines is in this line
 record Found (at : ℕ) (o : Outline) (ls : List (List ℕ)) (e : AsmError) : Type 0 where
   done : List (List ℕ)
   line : List ℕ

@@ -1,4 +1,4 @@
--- Where a program check fails (this project's own).
+-- The place where a program check fails (this project's own).
 use Rattle.std.specs.Prelude.{ℕ, ◌-◌, List, [], ◌++◌, length, Bool, true, false, not, ◌||◌, nat_lt}
 use Rattle.std.specs.Prelude.{Option, Some, None, is_some, slice_get}
 use Rattle.std.specs.Prelude.{if◌then◌else◌, codes}
@@ -44,8 +44,8 @@ abbrev pub takes_too_many : Option ℕ → Bool
 takes_too_many None = false
 takes_too_many (Some args) = nat_lt MAX_ARGS args
 
--- is it about a function as a whole, and not about an instruction? A bad range is, where there are
--- too many arguments or no instruction.
+-- is the check about a whole function, and not about an instruction? A bad range is if there are
+-- too many arguments or no instruction
 abbrev pub is_of_head : Outline → ℕ → ℕ → CodeCause → Bool
 is_of_head o f pc code.BadTarget = false
 is_of_head o f pc code.LaterFunction = false
@@ -53,7 +53,7 @@ is_of_head o f pc code.BadRange =
     takes_too_many (args_at o f) || not (is_some (sentence_at o f pc))
 is_of_head o f pc cause = true
 
--- where a check fails
+-- the place where a check fails
 abbrev pub check_place : List ℕ → Outline → CodeError → List ℕ
 check_place text o e =
     if is_of_head o e.function e.pc e.cause

@@ -11,15 +11,14 @@ abbrev pub is_head : List (List ℕ) → Bool
 is_head [] = false
 is_head (word ∷ rest) = bytes_eq word (codes "func")
 
--- the numbers of those of these lines that begin a function, where the first has this number
+-- the numbers of the lines that begin a function; the first of these lines has this number
 abbrev pub heads_from : ℕ → List (List ℕ) → List ℕ
 heads_from number [] = []
 heads_from number (line ∷ more) =
     if is_head (words_of (Some line)) then number ∷ heads_from (number + 1) more
     else heads_from (number + 1) more
 
--- the number of the line of a text that begins this function, where the functions are counted from
--- 0
+-- the number of the line that begins this function; functions are counted from 0
 abbrev pub head_at : List ℕ → ℕ → Option ℕ
 head_at text f = slice_get (heads_from 1 (lines text)) f
 

@@ -5,7 +5,7 @@ use Rattle.std.specs.Str.{bytes_eq}
 use Rattle.sts_text.specs.Words.{lines}
 use Rattle.sts_asm.specs.Source.{words_of}
 
--- is a function open after these words, where one was open before them or not?
+-- is a function open after these words? `inside` says whether one was open before them
 abbrev pub is_open_after : Bool → List (List ℕ) → Bool
 is_open_after inside [] = inside
 is_open_after inside (word ∷ rest) =

@@ -29,7 +29,7 @@ abbrev pub fault_words : AsmKind → List ℕ → ℕ → List (List ℕ)
 fault_words NotAscii text line = []
 fault_words kind text line = words_at text line
 
--- the line of a fault; none is meant where its number is 0
+-- the line of a fault; a number 0 means none
 abbrev pub line_place : AsmKind → ℕ → List ℕ → List ℕ
 line_place kind line text = if line == 0 then [] else line_words line (fault_words kind text line)
 
@@ -43,12 +43,12 @@ fault_head e text =
     codes "error A" ++ decimal (kind_number e.kind) ++ check_words e.kind
     ++ fault_place e.kind e.line text
 
--- the wrong word or byte in its place, where the fault is of one
+-- the wrong word or byte in its place, if the fault is about one
 abbrev pub fault_part : AsmKind → List ℕ → ℕ → List ℕ
 fault_part (Code c) text line = check_line text (functions_of text) c
 fault_part kind text line = wrong_part kind text line
 
--- where it is; what is wrong; and the wrong word or byte in its place, where the fault is of one
+-- where it is; what is wrong; and the wrong word or byte in its place, if the fault is about one
 abbrev pub fault_lines : AsmError → List ℕ → List ℕ
 fault_lines e text =
     fault_head e text ++ codes "\n" ++ fault_sentence e.kind text e.line ++ codes "\n"

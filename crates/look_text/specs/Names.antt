@@ -1,5 +1,5 @@
--- The word of a line that names nothing: a label that its function hasn't, or a function that the
--- text hasn't (this project's own).
+-- The word of a line that names nothing: a label that isn't in its function, or a function that
+-- isn't in the text (this project's own).
 use Rattle.std.specs.Prelude.{◌≡◌, ℕ, Bool, true, ◌||◌, List, [], ◌∷◌, Option, Some, None, is_some}
 use Rattle.std.specs.Prelude.{Ok, Err, option_map, if◌then◌else◌, codes}
 use Rattle.std.specs.Option.{option_or}

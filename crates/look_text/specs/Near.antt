@@ -67,9 +67,9 @@ known_words wanted = []
 
 -- ---- the near one
 
--- The first of these words that is one letter apart; else the first that begins the word or that
--- it begins. So `jnz`, `gt` and `puhs` are near jz, lt and push, and `return` is near ret. There is
--- no table of words from other languages: most have no single counterpart here.
+-- The first of these words that is one letter apart. If there is none, the first one that begins
+-- the word, or begins with it. So `jnz`, `gt` and `puhs` are near jz, lt and push, and `return` is
+-- near ret. There is no table of words from other languages: most have no single counterpart here.
 abbrev pub near_of : List (List ℕ) → List ℕ → Option (List ℕ)
 near_of words word = option_or (find (is_one_apart word) words) (find (begins_other word) words)
 

@@ -8,8 +8,8 @@ use Rattle.sts_asm.specs.Outline.{Sentence, Outline}
 use Rattle.sts_asm.specs.Source.{outlined, sentence_at, names_at, words_at}
 use Rattle.sts_asm.specs.Text.{each, routine_of, judged}
 
--- the words of a line of a function spell the instruction, where the names mean what they name in
--- the text
+-- the words of a line of a function spell the instruction, if the names have their meaning in the
+-- text
 abbrev pub Says : Outline → ℕ → Sentence → Instr → Type 0
 Says o f s i = instr_of (Some (names_at o f)) s.words ≡ Ok i
 

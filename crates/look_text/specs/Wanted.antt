@@ -161,8 +161,8 @@ in_place_of inside = if inside then w.Inner else w.Outer
 abbrev pub first_wrong : Wanted → List ℕ → Stop
 first_wrong wanted word = record { before = []; word = Some word; wanted = wanted }
 
--- where the words of a line, before which a function is open or not, are wrong, for the faults that
--- are of one word
+-- the place where the words of a line are wrong, for the faults that are about one word; a function
+-- is open before the line or not
 abbrev pub wrong_place : AsmKind → Bool → List (List ℕ) → Option Stop
 wrong_place BadNumber inside words = Some (stop w.First words)
 wrong_place BadOperands inside words = Some (stop w.First words)

@@ -17,7 +17,7 @@ use Rattle.look_text.specs.declared.wanted.Wanted.{Wanted}
 use Rattle.look_text.specs.Functions.{functions_of}
 use Rattle.look_text.specs.Sentences.{wanted_sentence, join_form}
 
--- ` [seven]`, or ` []` where a word is missing
+-- ` [seven]`, or ` []` if a word is missing
 abbrev pub bracketed : Option (List ℕ) → List ℕ
 bracketed None = codes " []"
 bracketed (Some word) = codes " [" ++ word ++ codes "]"
@@ -90,7 +90,7 @@ abbrev pub form_part : AsmKind → List (List ℕ) → List ℕ
 form_part BadOperands words = form_line words
 form_part kind words = []
 
--- what is wrong in the line of a fault, where it is a word or a byte
+-- what is wrong in the line of a fault, if it is a word or a byte
 abbrev pub wrong_part : AsmKind → List ℕ → ℕ → List ℕ
 wrong_part UnknownLabel text line = unknown_line (functions_of text)
 wrong_part NotAscii text line = byte_line_of (line_at text line)

@@ -1,5 +1,5 @@
--- Which word makes a line wrong, by what reading says of the line and of all others that begin as
--- it does (this project's own).
+-- The word that makes a line wrong, by the reading of the line and of all other lines that begin
+-- like it (this project's own).
 use Rattle.std.specs.Prelude.{◌≡◌, ◌≢◌, ◌⊎◌, ℕ, ◌-◌, List, [], ◌∷◌, ◌++◌, take, Option, Some, None}
 use Rattle.std.specs.Prelude.{Result, Ok, Err}
 use Rattle.sts_text.specs.Words.{lines}

@@ -1,4 +1,4 @@
-//! Where a text's functions fail a program check.
+//! The place where a text's functions fail a program check.
 
 ghost use Rattle.std.specs.Prelude.{◌≡◌, ◌++◌, ◌≤◌, Ok, OnOk, length, option_map, slice_get};
 ghost use Rattle.std.specs.Option.{option_copied};

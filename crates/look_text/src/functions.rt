@@ -1,4 +1,4 @@
-//! The functions of a text, where they can be read.
+//! The functions of a text, if they can be read.
 
 ghost use Rattle.std.specs.Prelude.{◌≡◌, IfOk, Ok, None, Some};
 ghost use Rattle.look_text.specs.Functions as def;
@@ -6,7 +6,7 @@ ghost use Rattle.look_text.specs.Functions as def;
 use std::alloc::{AllocError, Global};
 use sts_asm::{AsmError, AsmKind, Outline, outlined};
 
-/// The functions of a text; none, where a fault is found before any name is looked up.
+/// The functions of a text, or none if a fault is found before any name is looked up.
 ///
 /// # Errors
 ///

@@ -50,7 +50,7 @@ pub(crate) fn say_line<'a>(
     say_words(out, words)
 }
 
-/// Where an instruction is: its line and its words, or that there is none.
+/// The line of an instruction and its words, or that there is none.
 ///
 /// # Errors
 ///

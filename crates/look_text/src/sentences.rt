@@ -29,8 +29,8 @@ fn code_sentence(code: CodeCause) -> &'static str
     }
 }
 
-/// The same by the function that the check is of: its arguments, if there is one, and whether it
-/// has the instruction.
+/// The sentence of a check, by its function: its arguments, if there is one, and whether it has the
+/// instruction.
 fn check_sentence(code: CodeCause, args: Option<u8>, has_instr: bool) -> &'static str
     ensures { result.now ≡ def.check_sentence code args has_instr }
 {

@@ -206,7 +206,7 @@ fn byte_line_of(alloc: Global, out: &mut Vec<u8>, line: Option<&[u8]>) -> Result
     }
 }
 
-/// The line of the wrong or missing word, where a fault is of one.
+/// The line of the wrong or missing word, if the fault is about a word.
 fn wrong_line(out: &mut Vec<u8>, kind: AsmKind, text: &[u8], line: u32) -> Result<(), AllocError>
     ensures { OnOk result (out.new.items ≡ out.old.items
         ++ def.wrong_line (wrong_place kind (is_inside text.now line) (words_at text.now line))) }

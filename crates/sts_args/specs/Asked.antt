@@ -88,8 +88,8 @@ abbrev pub HasWorkers : Line → Type 0
 HasWorkers (line.Run file workers outside trace) = (1 ≤ workers) × (workers ≤ 16)
 HasWorkers _ = Unit {0}
 
--- what the words ask for, the program's name being the first: with no word after it the joined
--- form, else, where `clap` finds no fault, the command that it finds
+-- the request of the words: the joined form if only the program's name is there; otherwise, if
+-- `clap` finds no fault, the command that it finds
 pub data Asks (words : List Text) (l : Line) : Type 0 where
   joined : length words ≤ 1 → l ≡ line.Joined → Asks words l
   commanded : 1 < length words → fault_of program words ≡ []

@@ -25,14 +25,14 @@ is_command name = bytes_eq name (codes "verify")
 abbrev pub has_workers : Text → List Row → Bool
 has_workers name rows = if is_run name then is_some (workers_at rows) else true
 
--- the words name a command of the program, all files that it takes, and a number of workers where
--- it takes one
+-- the words name a command of the program, all files that it takes, and a number of workers if it
+-- takes one
 abbrev pub is_whole : Option (Text × List Row) → Bool
 is_whole None = false
 is_whole (Some (name, rows)) = is_command name
     && (list_all (λ id. is_some (first_of id rows)) (ids_of name) && has_workers name rows)
 
--- a usage fault comes only where this doesn't hold
+-- a usage fault comes only if this doesn't hold
 abbrev pub BlamesUnless : Bool → LineError → Type 0
 BlamesUnless whole error.Memory = Unit {0}
 BlamesUnless whole (error.Help text) = ⊥

@@ -18,7 +18,7 @@ or_if : (b : Bool) (x : ℕ) (r s t : Option ℕ) → t ≡ option_or r s → co
 or_if true x r s t e = refl
 or_if false x r s t e = e
 
--- a name that is added at the end counts where no earlier one does
+-- a name that is added at the end counts if no earlier one does
 pub marked_append : (ms : List Mark) (new : Mark) (q : List ℕ) → marked (ms ++ new ∷ []) q ≡ option_or (marked ms q) (cond (bytes_eq new.name q) (Some new.at) None)
 marked_append [] new q = marked_cons new [] q
 marked_append (m ∷ ms) new q =

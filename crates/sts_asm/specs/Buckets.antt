@@ -16,7 +16,7 @@ mixed name = fold with_byte 0 name
 abbrev pub bucket_of : List ℕ → ℕ
 bucket_of name = mixed name % 1024
 
--- what a bucket says of a name; nothing where there is no such bucket
+-- the place of a name in a bucket, or none if there is no such bucket
 abbrev pub found_at : Option (BTreeMap (Bor (List ℕ)) ℕ) → List ℕ → Option ℕ
 found_at None name = None
 found_at (Some bucket) name = get_by (λ k. slice_cmp nat_cmp name k.now) bucket

@@ -1,5 +1,5 @@
--- A text line by line: its functions with their labels and their lines of instructions, while no
--- name is looked up (this project's own).
+-- A text line by line: its functions with their labels and their lines of instructions, before
+-- names are looked up (this project's own).
 use Rattle.std.specs.Prelude.{◌≡◌, map, ℕ, ◌+◌, ◌++◌, ◌==◌, ◌-◌, Bool, true, false, not, ◌&&◌, ◌||◌}
 use Rattle.std.specs.Prelude.{List, [], ◌∷◌, length, take, replicate, slice_index, slice_set}
 use Rattle.std.specs.Prelude.{nat_le, Option, Some, None, is_some, Result, Ok, Err, if◌then◌else◌}
@@ -61,7 +61,7 @@ abbrev pub profile_at : List (List ℕ) → Result Profile AsmKind
 profile_at [] = Err BadOperands
 profile_at (word ∷ rest) = profile_of (number_up_to 2 word) >>= λ p. finished p rest
 
--- the line `profile`, which may be line 1 alone
+-- the line `profile`, which may only be line 1
 abbrev pub profiled : Outline → List (List ℕ) → Result Outline AsmKind
 profiled o words = profile_at words >>= λ p. Ok (record o { profile = p })
 
@@ -91,7 +91,7 @@ header_at words =
     name_at words >>= λ name. number_at 255 name.1 >>= λ args. needs_at args.1
     >>= λ needs. Ok (record { name = name.0; args = args.0; needs = needs; labels = []; code = [] })
 
--- a function is opened; where a name is given twice, the first counts
+-- a function is opened; if two functions have one name, the first counts
 abbrev pub with_function : Outline → Draft → Outline
 with_function o d =
     record o {
@@ -111,7 +111,7 @@ abbrev pub ended : Outline → Option Draft → List (List ℕ) → Result Outli
 ended o None rest = Err UnknownWord
 ended o (Some d) rest = finished (record o { done = o.done ++ d ∷ []; current = None }) rest
 
--- the name of a label, where the word is a name and a colon
+-- the name of a label, if the word is a name and a colon
 abbrev pub label_of : List ℕ → Option (List ℕ)
 label_of word =
     if slice_index word (length word - 1) == 58 && is_name (take (length word - 1) word)

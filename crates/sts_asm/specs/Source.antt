@@ -1,5 +1,4 @@
--- Where a text says what: the line of each instruction, and the words of a line (this project's
--- own).
+-- The line of each instruction of a text, and the words of a line (this project's own).
 use Rattle.std.specs.Prelude.{ℕ, ◌-◌, List, [], Option, Some, None, option_map, Result, Err, length}
 use Rattle.std.specs.Prelude.{nat_lt, slice_get, if◌then◌else◌}
 use Rattle.std.specs.List.{before_first}
@@ -15,7 +14,7 @@ outlined text =
     if nat_lt 1048576 (length text) then Err (record { line = 0; kind = TextTooLong })
     else outline_of text
 
--- the lines of instructions of a function, where there is one
+-- the lines of instructions of a function, if there is one
 abbrev pub sentences_of : Option Draft → List Sentence
 sentences_of None = []
 sentences_of (Some d) = d.code
@@ -32,7 +31,7 @@ name_at o f = option_map (λ (d : Draft). d.name) (slice_get o.done f)
 abbrev pub args_at : Outline → ℕ → Option ℕ
 args_at o f = option_map (λ (d : Draft). d.args) (slice_get o.done f)
 
--- the labels of a function, where there is one
+-- the labels of a function, if there is one
 abbrev pub labels_of : Option Draft → List Mark
 labels_of None = []
 labels_of (Some d) = d.labels

@@ -39,9 +39,9 @@ abbrev pub program_of : Outline → Result Program AsmError
 program_of o =
     each (routine_of o.functions) o.done >>= λ rs. checked o.profile rs (program_fault rs)
 
--- The program that a text spells, or its first fault. First counts its length, then its lines in
--- order, then a function that is left open, then, again line by line, a name that there isn't, then
--- the program checks.
+-- The program that a text spells, or its first fault. The faults come in this order: the length of
+-- the text, its lines one by one, a function that is left open, an unknown name (again line by
+-- line), and the program checks.
 abbrev pub judged : List ℕ → Result Program AsmError
 judged text =
     if nat_lt 1048576 (length text) then Err (record { line = 0; kind = TextTooLong })

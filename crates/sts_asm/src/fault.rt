@@ -63,7 +63,7 @@ impl AsmKind {
     }
 }
 
-/// The first fault of a text and its line; the line is 0 where no line is meant (A8, A9 and A10).
+/// The first fault of a text and its line; the line is 0 if no line is meant (A8, A9 and A10).
 #[derive(Clone, Copy, Debug, PartialEq, Eq, Error)]
 #[error("line {line}: {kind:?}")]
 pub struct AsmError {

@@ -63,8 +63,8 @@ fn fill<'a>(buckets: &mut Vec<BTreeMap<&'a [u8], u32>>, alloc: Global) -> Result
     Ok(())
 }
 
-/// Names in the order of the text. Each is found among the few of its bucket, and where all are of
-/// one bucket among n by some log n comparisons.
+/// Names in the order of the text. A name is looked for only among those of its bucket. If all n
+/// names are in one bucket, this takes about log n comparisons.
 #[derive(Drop)]
 pub struct Marks<'a> {
     list: Vec<Mark<'a>>,

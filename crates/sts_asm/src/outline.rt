@@ -191,7 +191,7 @@ fn header_at<'a>(alloc: Global, rest: &mut Words<'a>) -> Result<Draft<'a>, AsmKi
     })
 }
 
-/// The name of a label, where the word is a name and a colon.
+/// The name of a label, if the word is a name and a colon.
 pub fn label_of(word: &[u8]) -> Option<&[u8]>
     ensures { option_map (λ name. name.now) result ≡ label_of word.now }
 {
@@ -285,7 +285,7 @@ fn all_allowed(line: &[u8]) -> bool
     line.iter().all(|b| is_allowed(*b))
 }
 
-/// Is each byte from the space to `~`, and none the beginning of a comment? Most lines are so, and
+/// Is each byte from the space to `~`, and does none begin a comment? Most lines are like this, and
 /// are judged in one pass.
 fn all_plain(line: &[u8]) -> bool
     ensures { result ≡ list_all is_plain line.now }

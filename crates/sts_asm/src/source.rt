@@ -1,4 +1,4 @@
-//! Where a text says what: the line of each instruction, and the words of a line.
+//! The line of each instruction of a text, and the words of a line.
 
 ghost use Rattle.std.specs.Prelude.{◌≡◌, ◌<◌, slice_get, option_map, is_some, length};
 ghost use Rattle.std.specs.Option.{option_copied};

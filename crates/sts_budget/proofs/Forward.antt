@@ -89,7 +89,7 @@ module _ (c : Skeleton) (around : ℕ → List ℕ) (good : IsStructured c aroun
       subst (λ q. Handed c f a (k + 1) q d m) place (subst (Handed c f a (k + 1) (c.mate (head k) + 1) d) value v)
   together a k EndsPath e pc d m low (inr w) = absurd w
 
-  -- a place hands on to later places alone
+  -- a place hands on only to later places
   new_later : (a : ℕ → ℕ → ℕ) (k : ℕ) (s : Shape) → c.shape k ≡ s → (pc d m : ℕ) → New c f head a k s pc d m → k < pc
   new_later a k (GoesTo places) e pc d m w = (good.forward k pc places e w.0).0
   new_later a k (Repeats n) e pc d m w = absurd w

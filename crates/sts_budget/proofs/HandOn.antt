@@ -35,7 +35,7 @@ use Rattle.sts_budget.proofs.SumsLemmas.{IsSourced, go_stands, loop_stands}
 use Rattle.sts_budget.proofs.Forward.{among_cases, partial_more, sourced}
 use Rattle.sts_budget.proofs.FourKindLemmas.{fits}
 
--- a program is asked for where none matters
+-- any program, for definitions that don't depend on it
 abbrev any_program : Program
 any_program = record { profile = One; routines = [] }
 
@@ -238,7 +238,7 @@ module _ (k : Resource) (earlier : List Budgets) (code : List Instr) (l : Layout
           omega (arith, lp.2, h.1, w.0)
       inside pc EndsPath e q d m best w = absurd w
 
-  -- where the instruction leads to lies in the code
+  -- the places after an instruction are in the code
   pub leads_in : (pc q : ℕ) → is_quiet (instr_at code pc) ≡ false → Among (targets (instr_at code pc) ++ next_place pc (instr_at code pc)) q → q < length code
   leads_in pc q quiet among = by (c.shape pc) refl (new_of (λ x y. 0) pc (instr_at code pc) refl (sort any_program code pc (instr_at code pc)) quiet q 0 among)
     where

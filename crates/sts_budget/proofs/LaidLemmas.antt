@@ -60,7 +60,7 @@ writes_more places i to value d old mid lt is w = record {
       | inr ne ↦ (get_or-set_other mid to pc value d ne ∙ elim a [ inl b ↦ w.at pc b within | inr b ↦ elim b [ inl e ↦ absurd (ne (sym e)) | inr out_of ↦ absurd out_of ] ])
     ]
 
--- one place alone
+-- only one place
 pub writes_one : {A : Type 0} (to : ℕ) (value d : A) (old : List A) → Writes (to ∷ []) value d old (set old to value)
 writes_one to value d old = writes_more (to ∷ []) 0 to value d old old (omega arith) refl (writes_none (to ∷ []) value d old)
 
@@ -305,7 +305,7 @@ module _ (p : Program) (f : ℕ) (accepted : IsWellTyped p f) (some_code : 0 < l
       long [] = refl
       long (e ∷ es) = ap suc (long es)
 
-  -- where an instruction leads to lies in the code
+  -- the places after an instruction are in the code
   pub leads_inside : (k to : ℕ) → k < length (routine p f).code → Among (targets (instr_at (routine p f).code k) ++ next_place k (instr_at (routine p f).code k)) to → (k < to) × (to < length (routine p f).code)
   leads_inside k to lt a =
       let h = here p f accepted some_code bounds [] k lt in (

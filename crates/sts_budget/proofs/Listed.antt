@@ -56,7 +56,7 @@ same_names Interrupted ns e = refl
 same_names Ret ns e = refl
 same_names Fail ns e = refl
 
--- an instruction that goes straight on leads to the next place alone
+-- an instruction that goes straight on leads only to the next place
 pub straight : (i : Instr) (pc : ℕ) → goes_straight_on i ≡ true → (pc + 1) ∷ [] ≡ targets i ++ next_place pc i
 straight (Push k) pc e = refl
 straight Pop pc e = refl

@@ -111,7 +111,7 @@ counted_more t code p j le lt =
     let g : get_or (drop p code) (j + 1 - p) Ret ≡ instr_at code (j + 1) = get_or-drop p code (j + 1 - p) Ret ∙ ap (λ q. get_or code q Ret) place in
     ap (λ n. count_by t (take n (drop p code))) k ∙ one_more t (drop p code) (j + 1 - p) within ∙ ap (λ i. counted t code p j + cond (t i) 1 0) g
 
--- while more loops open than end, the first place where they balance is a `next`
+-- if more loops open than end, the first place that balances them is a `next`
 scan : (code : List Instr) (p m j q : ℕ) → p ≤ j → j + 1 + m ≤ length code → counted is_next code p j < counted is_times code p j → find (λ k. is_balanced (slice_range code p (k + 1))) (range_with_len (j + 1) m) ≡ Some q → (is_next (instr_at code q) ≡ true) × (j < q) × (q < length code)
 scan code p zero j q le far lt e = absurd (cc)
 scan code p (suc m) j q le far lt e = by (λ lt' rest. scan code p m (j + 1) q (omega arith) (omega arith) lt' rest) (is_balanced (slice_range code p (j + 1 + 1))) refl (is_next (instr_at code (j + 1))) refl

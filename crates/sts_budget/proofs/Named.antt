@@ -50,7 +50,7 @@ own_of slot.Own a b = refl
 own_of slot.Lent a b = absurd (cc)
 own_of (slot.Sub x s) a b = absurd (cc)
 
--- where the slot holds the task's own scope, the test of that scope fails
+-- the slot holds the task's own scope, and the test of that scope fails
 own_passes : (a b : Bool) → a ≡ true → a && b ≡ false → b ≡ false
 own_passes true b e h = h
 own_passes false b e h = absurd (cc)
@@ -85,7 +85,7 @@ closes s x a b e =
 unbinds : (s : TypeState) → breaks_structure Unbind s ≡ false → (innermost is_binding s.entries ≡ true) × (is_held s ≡ false)
 unbinds s e = let n = neither (not (innermost is_binding s.entries)) (is_held s) e in (not_false _ n.0, n.1)
 
--- where no cause holds, the names fit the instruction
+-- if no cause holds, the names fit the instruction
 fits_names : (p : Program) (i : Instr) (s : TypeState) → breaks_structure i s ≡ false → is_illegal p.profile i s ≡ false → has_wrong_slot i s ≡ false → is_strangers i s ≡ false → FitsNames i (names s.entries)
 fits_names p (Push k) s ordered legal right own = tt
 fits_names p Pop s ordered legal right own = tt

@@ -58,7 +58,7 @@ sent_more values low most places i to before mid row lt is within h r = record {
 pub stopped_at : (values : List ℕ) (low : ℕ → ℕ) (most : ℕ) (places : List ℕ) (i to : ℕ) → i < length places → get_or places i 0 ≡ to → IsOver values (low to) most → IsStopped values low most places
 stopped_at values low most places i to lt is over = (to, (over.0, (subst (Among places) is (among_at places i 0 lt), over.1.0, over.1.1)))
 
--- one place alone
+-- only one place
 pub sent_one : (values : List ℕ) (low : ℕ → ℕ) (most to : ℕ) (before after : List (List ℕ)) → to < length before → IsRaisedAt values (low to) most to before after → IsSent values low most (to ∷ []) before after
 sent_one values low most to before after within (row, h) = subst (IsSent values low most (to ∷ []) before) (sym h.0) (sent_more values low most (to ∷ []) 0 to before before row (omega arith) refl within (sent_none values low most (to ∷ []) before) h.1)
 

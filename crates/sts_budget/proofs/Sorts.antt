@@ -56,7 +56,7 @@ pub data Sort (p : Program) (code : List Instr) (pc : ℕ) : Instr → Type 0 wh
   is_end : {i : Instr} → shape_of pc i ≡ EndsPath → ((s : TypeState) → follows p code pc i s ≡ []) → (targets i ++ next_place pc i ≡ []) → Sort p code pc i
   goes_on : {i : Instr} → GoesOn p code pc i → Sort p code pc i
 
--- an instruction that goes on at the next place alone
+-- an instruction that only goes on to the next place
 single : (p : Program) (code : List Instr) (pc : ℕ) (i : Instr) (out : TypeState → TypeState) → shape_of pc i ≡ GoesTo (targets i ++ next_place pc i) → (targets i ++ next_place pc i ≡ (pc + 1) ∷ []) → skipped_to code pc i ≡ [] → ((hs : List ℕ) → open_after pc i hs ≡ hs)
     → ((s : TypeState) → follows p code pc i s ≡ (pc + 1, out s) ∷ []) → ((s : TypeState) → (out s).loops ≡ s.loops) → ((s : TypeState) → names (out s).entries ≡ names_after i (names s.entries)) → GoesOn p code pc i
 single p code pc i out shape places no_skip keeps is loops entries = record {

@@ -1,5 +1,5 @@
--- Structured code: its paths go forward, and enter and leave a loop by its head and its end alone.
--- Every point of a path lies on a whole path.
+-- Structured code: its paths go forward. They enter a loop only by its head, and leave it only by
+-- its end. Every point of a path is on a whole path.
 use Rattle.std.proofs.Common.{◌≡◌, ℕ, zero, suc, ◌+◌, ◌-◌, ◌<◌, ◌≤◌, List, [], ◌∷◌, refl, sym, ap}
 use Rattle.std.proofs.Common.{◌∙◌, subst, arith}
 use Rattle.sts_rules.specs.ControlPaths.{Shape, GoesTo, Repeats, EndsTurn, EndsPath, OpenEntry}

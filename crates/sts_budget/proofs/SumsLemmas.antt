@@ -206,7 +206,7 @@ module _ (c : Skeleton) (around : ℕ → List ℕ) (good : IsStructured c aroun
       let k = fits.kept pc to d places l.0 (heads ls) e among low (sym inside) in
       ap (λ x. base c f best ls x + best l.0 x + f.added l.0 x + (bound_of (c.shape l.0) - l.1) * gain c f best l.0 x) k
 
-  -- one loop more, where d is at most the depth at its head
+  -- one loop more, if d is at most the depth at its head
   base_more : (p t d : ℕ) (ls : Loops) → d ≤ f.depth p → base c f best ((p, t) ∷ ls) d ≡ base c f best ls d + best p d + f.added p d + (bound_of (c.shape p) - t) * gain c f best p d
   base_more p t d ls low = ap (λ x. base c f best ls x + best p x + f.added p x + (bound_of (c.shape p) - t) * gain c f best p x) (min_low d (f.depth p) low)
 

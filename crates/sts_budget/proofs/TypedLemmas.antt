@@ -1,5 +1,5 @@
--- The code of a well-typed function is structured, and its open entries are known by their place:
--- where the typing enters the budgets.
+-- The code of a well-typed function is structured, and the place gives its open entries. Here the
+-- typing enters the budgets.
 use Rattle.std.proofs.Common.{◌≡◌, ℕ, zero, suc, ◌+◌, ◌<◌, ◌≤◌, inl, inr, List, [], ◌∷◌, ◌++◌}
 use Rattle.std.proofs.Common.{length, drop, map, reverse, Bool, true, false, cond, ◌&&◌, Option}
 use Rattle.std.proofs.Common.{Some, None, Ok, refl, sym, ap, ◌∙◌, subst, arith, is_none, option_map}
@@ -188,7 +188,7 @@ module _ (p : Program) (f : ℕ) (accepted : IsWellTyped p f) (some_code : 0 < l
       let a = allowed p f pc (instr_at (routine p f).code pc) s out e in
       edge_of p (routine p f).code pc (instr_at (routine p f).code pc) (sort p (routine p f).code pc (instr_at (routine p f).code pc)) s to x (subst (λ o. Leads o to x) a.is l)
 
-  -- the open loops are stacked: each was opened at a `times`, where those below it were open
+  -- the open loops are stacked: when each was opened at a `times`, those below it were open
   abbrev Stacked : List ℕ → ℕ → Type 0
   Stacked [] pc = Unit {0}
   Stacked (h ∷ hs) pc = (is_times (instr_at (routine p f).code h) ≡ true) × (around (routine p f).code h ≡ hs) × (h < pc) × Stacked hs h
@@ -205,7 +205,7 @@ module _ (p : Program) (f : ℕ) (accepted : IsWellTyped p f) (some_code : 0 < l
     pub loops : heads s.loops ≡ around (routine p f).code pc
     pub stack : Stacked (around (routine p f).code pc) pc
 
-  -- where an edge leads to
+  -- the place that an edge leads to
   pub record Leading (pc : ℕ) (s : TypeState) (to : ℕ) (x : TypeState) : Type 0 where
     pub later : pc < to
     pub within : to < length (routine p f).code

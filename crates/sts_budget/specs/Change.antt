@@ -18,7 +18,7 @@ use Rattle.sts_budget.specs.declared.change.SumChange.{SumChange}
 use Rattle.sts_budget.specs.declared.change.SumChange.TheVariants.{Rises, Opens, Adds}
 use Rattle.sts_budget.specs.Layout.{Names}
 
--- the number of entries that the sum over the first d looks back on, where n are open before the
+-- the number of entries that the sum over the first d depends on; n entries are open before the
 -- instruction
 abbrev pub source_of : SumChange → ℕ → ℕ → ℕ
 source_of (Opens own) n d = min d n

@@ -9,7 +9,7 @@ use Rattle.sts_budget.specs.declared.change.Resource.{Resource}
 use Rattle.sts_budget.specs.Change.{source_of, added_of, measured, change_of, depth_of}
 use Rattle.sts_budget.specs.Sums.{Flows}
 
--- how the sums of a resource flow, where the open entries at each place have these names
+-- how the sums of a resource flow, given the names of the open entries at each place
 abbrev pub flows : Resource → List Budgets → List Instr → (ℕ → Names) → Flows
 flows k earlier code names_at = record {
   depth = λ pc. depth_of k (names_at pc);

@@ -62,7 +62,7 @@ abbrev pub mates_after : Instr → ℕ → Option ℕ → List ℕ → List ℕ
 mates_after Next pc (Some h) mates = slice_set mates h pc
 mates_after _ pc head mates = mates
 
--- the names at each place, where these lists are at the places
+-- the names at each place, by the lists of the places
 abbrev pub listed : List Names → List ℕ → List Names
 listed lists which = map (λ i. get_or lists i []) which
 
@@ -70,7 +70,7 @@ listed lists which = map (λ i. get_or lists i []) which
 abbrev pub AreListed : List Names → List ℕ → Type 0
 AreListed lists which = (pc : ℕ) → get_or which pc 0 < length lists
 
--- the list i is that after the instruction, where this list is before it; the lists so far are kept
+-- the list i is that after the instruction, and `list` is that before it; the lists so far are kept
 pub record IsListAfter (instr : Instr) (list i : ℕ) (old new : List Names) : Type 0 where
   pub kept : (k : ℕ) → k < length old → get_or new k [] ≡ get_or old k []
   pub more : length old ≤ length new

@@ -1,4 +1,4 @@
--- The open entries by their names alone (this project's own).
+-- The open entries by their names only (this project's own).
 use Rattle.std.specs.Prelude.{◌≡◌, ℕ, ◌<◌, ◌⊎◌, List, [], ◌∷◌, length, drop, Option, Some, None}
 use Rattle.std.specs.Prelude.{Bool, true, false}
 use Rattle.sts_code.specs.declared.instr.Instr.{Instr}
@@ -27,7 +27,7 @@ keeps_names (Close slot) = false
 keeps_names Unbind = false
 keeps_names _ = true
 
--- does the instruction go on to the next place alone?
+-- does the instruction only go on to the next place?
 abbrev pub goes_straight_on : Instr → Bool
 goes_straight_on (Div to) = false
 goes_straight_on (Jmp to) = false

@@ -2,7 +2,7 @@
 use Rattle.std.proofs.Common.{◌≡◌, ℕ, ◌+◌, ◌<◌, List, [], ◌∷◌}
 use Rattle.sts_rules.specs.ControlPaths.{Shape, GoesTo, Repeats, EndsTurn, Skeleton, Among, Loops}
 
--- the places where the open loops opened
+-- the places of the `times` of the open loops
 abbrev pub heads : Loops → List ℕ
 heads [] = []
 heads (l ∷ ls) = l.0 ∷ heads ls

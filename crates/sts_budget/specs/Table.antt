@@ -6,7 +6,7 @@ use Rattle.sts_budget.specs.Row.{IsRaised}
 use Rattle.sts_budget.specs.Structured.{bound_of}
 use Rattle.sts_budget.specs.Sums.{Flows, gain, Stands}
 
--- x is the greatest of the numbers P, or 0 where there is none
+-- x is the greatest of the numbers P, or 0 if there is none
 abbrev pub MaxOf : (ℕ → Type 0) → ℕ → Type 0
 MaxOf P x = ((m : ℕ) → P m → m ≤ x) × (P x ⊎ ((x ≡ 0) × ((m : ℕ) → P m → ⊥)))
 
@@ -22,7 +22,7 @@ pub data Handed (c : Skeleton) (f : Flows) (best : ℕ → ℕ → ℕ) (k : ℕ
   over_loop : (p n d : ℕ) → c.mate p < k → c.shape p ≡ Repeats n → d ≤ f.depth p
       → Handed c f best k (c.mate p + 1) d (best p d + f.added p d + n * gain c f best p d)
 
--- what the place k hands on, where head is the `times` that a `next` ends
+-- the sum that the place k hands on; head is the `times` of the turn that a `next` ends
 abbrev pub New : Skeleton → Flows → (ℕ → ℕ) → (ℕ → ℕ → ℕ) → ℕ → Shape → ℕ → ℕ → ℕ → Type 0
 New c f head a k (GoesTo places) pc d m = Among places pc × (a k (f.source k d) + f.added k d ≡ m)
 New c f head a k EndsTurn pc d m =

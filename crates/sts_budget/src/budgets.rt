@@ -36,7 +36,7 @@ impl From<AllocError> for BudgetError {
     }
 }
 
-/// The budgets of a well-typed function, where the functions before it have these budgets.
+/// The budgets of a well-typed function, given those of the functions before it.
 ///
 /// # Errors
 ///

@@ -28,7 +28,7 @@ pub enum SumChange {
     Adds { position: usize, amount: u64 },
 }
 
-/// The number of entries that the sum over the first `d` looks back on, where `depth` are open
+/// The number of entries that the sum over the first `d` depends on; `depth` entries are open
 /// before the instruction.
 pub fn source_of(change: SumChange, depth: usize, d: usize) -> usize
     ensures { result ≡ def.source_of change depth d }

@@ -65,8 +65,8 @@ fn sum_at<const N: usize>(best: &[Row<N>], pc: usize, depth: usize) -> u32
     best[pc][depth]
 }
 
-/// A `times` at `pc` opens a loop, where the greatest sum before it is `full`, and one turn's is
-/// `end`.
+/// Opens a loop if the instruction at `pc` is a `times`. The greatest sum before it is `full`, and
+/// that of one turn is `end`.
 fn open_loop(bases: &mut Vec<u64>, instr: Instr, pc: usize, own: u32, full: u64, end: u32)
     requires in_code { pc < length bases.old.items }
     requires small { full < 2 ^ 32 }

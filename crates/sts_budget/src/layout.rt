@@ -108,7 +108,7 @@ pub fn names_at(layout: &Layout, pc: usize) -> &Names
     &layout.lists[layout.which[pc]]
 }
 
-/// The places where an instruction that is no loop's goes on.
+/// The places after an instruction that isn't part of a loop.
 pub fn next_places(instr: Instr, pc: u32) -> ArrayVec<u32, 4>
     requires { pc < MAX_INSTRUCTIONS }
     ensures { result.items ≡ facts.targets instr ++ around.next_place pc instr }
@@ -120,7 +120,7 @@ pub fn next_places(instr: Instr, pc: u32) -> ArrayVec<u32, 4>
     places
 }
 
-/// Does the instruction go on to the next place alone?
+/// Does the instruction only go on to the next place?
 pub(crate) fn goes_straight_on(instr: Instr) -> bool
     ensures { result ≡ def.goes_straight_on instr }
 {

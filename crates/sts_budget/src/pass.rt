@@ -33,8 +33,8 @@ pub(crate) struct Pass<'p> {
     pub(crate) most: u32,
 }
 
-/// Raises the row at a place to the values, as far as entries are open there: false where one of
-/// these values passes the limit.
+/// Raises the row at a place to the values, as far as entries are open there. The answer is false
+/// if a value is over the limit.
 fn raise_at<const N: usize>(
     best: &mut Vec<Row<N>>,
     to: usize,
@@ -53,7 +53,7 @@ fn raise_at<const N: usize>(
     raise(&mut best[to], values, low, pass.most)
 }
 
-/// Raises the rows at these places to the values: false where one of these values passes the limit.
+/// Raises the rows at these places to the values. The answer is false if a value is over the limit.
 fn send<const N: usize>(
     best: &mut Vec<Row<N>>,
     places: &[u32],

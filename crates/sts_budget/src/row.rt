@@ -68,8 +68,8 @@ pub(crate) fn values_of_loop<const N: usize>(
     values
 }
 
-/// Raises the sums over the first `low` entries to the values: false where one of these passes the
-/// limit.
+/// Raises the sums over the first `low` entries to the values. The answer is false if one of these
+/// is over the limit.
 pub(crate) fn raise<const N: usize>(
     row: &mut Row<N>,
     values: &Values<N>,

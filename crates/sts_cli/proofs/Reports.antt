@@ -58,7 +58,7 @@ pub printed_of : (P : Type 0) (text outside given given_outside : List ℕ) (w :
 printed_of P text outside given given_outside w s r spares e f is =
     written_of P text outside w s r spares (handed_on text outside given given_outside r e f is)
 
--- where there is no trace
+-- there is no trace
 pub printed_alone : (P : Type 0) (text outside given given_outside : List ℕ) (old new : Option (List ℕ)) (s : ℕ) (r : Outcome) → P → given ≡ text → given_outside ≡ outside → IsOutcomeOf given given_outside r
     → Writes old new s r.output → (o : Output) × IsPrinted P text outside o × Writes old new s o
 printed_alone P text outside given given_outside old new s r spares e f is out =

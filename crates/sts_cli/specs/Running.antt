@@ -93,7 +93,7 @@ pub record Holds (kept : Bool) (P : Outcome → Type 0) (r : Outcome) : Type 0 w
   pub output : r.output ≡ outcome.output
   pub journal : kept ≡ true → r.journal ≡ outcome.journal
 
--- the report of a run by some journal, which it holds where that is kept
+-- the report of a run by some journal; it holds the journal if `kept` is true
 pub record IsReportOf (kept : Bool) (p : Program) (r : Report) : Type 0 where
   pub journal : List Event
   pub report : IsReport p journal r.end
@@ -102,15 +102,15 @@ pub record IsReportOf (kept : Bool) (p : Program) (r : Report) : Type 0 where
 
 -- ---- what is written
 
--- the bytes that the trace and the stream hold before and after, where they are known
+-- the bytes that the trace and the stream hold before and after, if they are known
 pub record Written : Type 0 where
   pub trace_old : Option (List ℕ)
   pub trace_new : Option (List ℕ)
   pub out_old : Option (List ℕ)
   pub out_new : Option (List ℕ)
 
--- the journal is written to the trace, and the output to the stream; where the trace failed, only
--- that a file failed is written to the stream
+-- the journal is written to the trace, and the output to the stream; if the trace failed, the
+-- stream gets only `error file`
 pub data RunWrites (w : Written) (status : ℕ) (o : Outcome) : Type 0 where
   whole : Appends w.trace_old w.trace_new (trace_text o.journal)
       → Writes w.out_old w.out_new status o.output → RunWrites w status o

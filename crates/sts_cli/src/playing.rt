@@ -79,7 +79,7 @@ fn traced<T: Write>(journal: &[Event], trace: &mut T) -> io::Result<()>
     trace.flush()
 }
 
-/// `play_run` where no trace is asked for: no journal is kept.
+/// Does what `play_run` does if no trace is asked for. No journal is kept.
 ///
 /// # Errors
 ///
@@ -142,9 +142,9 @@ pub(crate) fn play_traced<R: Threads + Wait + Sync, T: Write, W: Write>(
     }
 }
 
-/// Runs a program with 1 to 16 workers and the events of an outside text. The journal goes to the
-/// trace first, which gets nothing where there is no report; then all that is printed is written to
-/// `out`. Gives the status.
+/// Runs a program with 1 to 16 workers and the events of an outside text. First the trace gets the
+/// journal, or nothing if there is no report. Then the whole output is written to `out`. Gives the
+/// status.
 ///
 /// If writing the trace fails, only `error file` is written to `out`.
 ///

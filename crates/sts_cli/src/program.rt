@@ -24,7 +24,7 @@ use sts_output::{
 /// The name that the program goes by.
 const NAME: &str = "sts";
 
-/// A mode that looks at a text alone.
+/// A mode that only reads a text.
 fn on_text<S: Sources, W: Write>(
     alloc: Global,
     sources: &S,

@@ -13,7 +13,7 @@ use Rattle.sts_code.specs.declared.limits.TheConstants.{MAX_FUNCTIONS, MAX_INSTR
 use Rattle.sts_code.specs.Program.{Program, Routine, no_routine, routine}
 use borrow.Author.Tests.{ltb-false}
 
--- where neither of two is there
+-- neither of two faults is there
 neither : {A : Type 0} (a b : Option A) → option_or a b ≡ None → (a ≡ None) × (b ≡ None)
 neither None b e = (refl, e)
 neither (Some x) b e = cc
@@ -31,7 +31,7 @@ routine_is_fine earlier (r ∷ rest) (suc i) e h =
     let later : def.routine_fault ((earlier ++ r ∷ []) ++ take i rest) (slice_index_or rest i no_routine) ≡ None = routine_is_fine (earlier ++ r ∷ []) rest i (neither (def.routine_fault earlier r) _ e).1 (omega arith) in
     rw append_assoc at later
 
--- where neither of two tests holds
+-- neither of two tests holds
 neither_holds : (a b : Bool) (x : CodeCause) (rest : Option CodeCause) → cond (a || b) (Some x) rest ≡ None → (a ≡ false) × (b ≡ false)
 neither_holds true b x rest e = cc
 neither_holds false true x rest e = cc

@@ -1,4 +1,4 @@
--- Where loops end, and how one pass finds it.
+-- The ends of loops, and how one pass finds them.
 use Rattle.std.proofs.Common.{◌≡◌, ℕ, suc, zero, ◌+◌, ◌-◌, ◌<◌, ◌≤◌, List, length, drop}
 use Rattle.std.proofs.Common.{count_by, cond, ap, sym, ◌∙◌, Bool, true, false, Some}
 use Rattle.std.proofs.Common.{find, arith, refl, slice_range, slice_index_or}

@@ -1,4 +1,4 @@
--- Where the loops of a function's code end (this project's own).
+-- The ends of the loops of a function's code (this project's own).
 use Rattle.std.specs.Prelude.{ℕ, ◌+◌, ◌-◌, List, length, Bool, true, false, Option, Some, None}
 use Rattle.std.specs.Prelude.{◌==◌, slice_range, count_by, find}
 use Rattle.std.specs.List.{range_with_len}

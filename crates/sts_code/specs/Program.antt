@@ -16,7 +16,7 @@ pub record Program : Type 0 where
   pub profile : Profile
   pub routines : List Routine
 
--- what is read where there is no such function
+-- the routine that is read if there is no such function
 abbrev pub no_routine : Routine
 no_routine = record { name = []; args = 0; needs = []; code = [] }
 

@@ -48,8 +48,8 @@ impl CodeCause {
     }
 }
 
-/// The first check that fails: the cause, and the index of the function and of the instruction (0
-/// where the whole program or the whole function is meant).
+/// The first check that fails: the cause, and the indices of the function and of the instruction.
+/// An index is 0 if the check is about the whole program or the whole function.
 #[derive(Clone, Copy, Debug, PartialEq, Eq, Error)]
 #[error("function {function} at {pc}: {cause:?}")]
 pub struct CodeError {

@@ -47,10 +47,10 @@ pub enum Instr {
     Mul,
     Lt,
     Eq,
-    /// Where it goes if the divisor is 0.
+    /// The place to go to if the divisor is 0.
     Div(u32),
     Jmp(u32),
-    /// Where it goes if the popped operand is 0.
+    /// The place to go to if the popped operand is 0.
     Jz(u32),
     /// The bound on the number of turns.
     Times(u16),

@@ -1,4 +1,4 @@
-//! Where the loops of a function's code end.
+//! The ends of the loops of a function's code.
 
 ghost use Rattle.std.specs.Prelude.{◌≡◌, ◌<◌, ◌^◌, length, IfSome};
 ghost use Rattle.sts_code.specs.Loops as def;

@@ -15,7 +15,7 @@ pub struct Function {
     pub name: String,
     /// How many operands a `fork` of it pops.
     pub args: u8,
-    /// Which keys have to be bound where it is forked.
+    /// The keys that must be bound when it is forked.
     pub needs: [bool; 16],
     pub code: Vec<Instr>,
 }

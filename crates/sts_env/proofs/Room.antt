@@ -7,7 +7,7 @@ use Rattle.sts_env.specs.Environments.{AreWhole}
 use Rattle.sts_env.specs.declared.env.Record.{Record}
 use Rattle.sts_env.proofs.WalkLemmas.{longer, same}
 
--- where one slot is emptied
+-- one slot is emptied
 emptied : (slots : List (Option Record)) (k : ℕ) (r : Record) → get_or slots k None ≡ Some r → count_by is_some (set slots k None) + 1 ≡ count_by is_some slots
 emptied slots k r is =
     let inside : k < length slots = grind (arith, get_or_past) in

@@ -72,7 +72,7 @@ pub record IsUnshared (records : Records) (h : Sharing) (t k : ℕ) : Type 0 whe
   pub scopes : (s : ℕ) → IsOpen h s → NotIn k (keys_of records (h.kept s))
   pub tasks : (u : ℕ) → Lives h u → u ≢ t → NotIn k (keys_of records (h.env u))
 
--- where a task's last entry is a binding, no other environment in use holds its record
+-- if a task's last entry is a binding, no other environment in use holds its record
 abbrev pub FrontIsUnshared : Type 0
 FrontIsUnshared =
     (records : Records) (h : Sharing) (t k : ℕ) → IsSharing records h → IsLastBinding h t k

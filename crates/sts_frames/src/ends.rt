@@ -5,7 +5,7 @@ ghost use Rattle.sts_model.specs.Effect as effect;
 
 use sts_model::End;
 
-/// Where `case` goes for a subtask in this state; none is unavailable.
+/// The place that `case` goes to for a subtask in this state; none means unavailable.
 pub fn case_target(state: Option<End>, success: u32, failed: u32, otherwise: u32) -> u32
     ensures { result ≡ effect.case_target state success failed otherwise }
 {
@@ -16,7 +16,7 @@ pub fn case_target(state: Option<End>, success: u32, failed: u32, otherwise: u32
     }
 }
 
-/// The value of a success or the code of a failure; 0 where there is none.
+/// The value of a success or the code of a failure, or 0 if there is neither.
 pub fn value_or_zero(state: Option<End>) -> i64
     ensures { result ≡ effect.value_or_zero state }
 {

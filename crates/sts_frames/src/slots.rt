@@ -21,7 +21,7 @@ pub fn is_empty(slot: Slot) -> bool
     matches!(slot, Slot::Empty)
 }
 
-/// The birth of the scope or subtask that a slot names; 0 where it is empty.
+/// The birth of the scope or subtask that a slot names, or 0 if the slot is empty.
 pub fn named(frame: &Frame, x: u8) -> u32
     ensures { result ≡ effect.named (misuse.slot frame.now x) }
 {

@@ -67,6 +67,6 @@ is_enough j ends e n = record { more = more j ends e; count = count ends; result
 pub stands_with : (tally : Tallied) (e : End) (ends : List End) → StandsFor tally ends → StandsFor (with_end tally e) (ends ++ e ∷ [])
 stands_with tally e ends h = ap (λ t. tell tally.joiner t e) h ∙ sym (more tally.joiner ends e)
 
--- what is then kept cancels where the longer list does
+-- the counters with one more end cancel if the longer list does
 pub asks_with : (tally : Tallied) (e : End) (ends : List End) → StandsFor tally ends → cancels_told tally.joiner (with_end tally e).told ≡ cancels tally.joiner (ends ++ e ∷ [])
 asks_with tally e ends h = ap (cancels_told tally.joiner) (stands_with tally e ends h) ∙ sym (cancel tally.joiner (ends ++ e ∷ []))

@@ -40,7 +40,7 @@ pub trait Links {
     ghost use Rattle.std.specs.Prelude.{◌≡◌, ◌≢◌, ℕ, Option, Some, None};
     ghost use Rattle.sts_links.specs.declared.links.Link.{Link};
 
-    /// The link of a key in a layer, where the store has that key and that layer.
+    /// The link of a key in a layer, if the store has that key and that layer.
     ghost at: { Self → ℕ → ℕ → Option Link };
 
     /// Two stores differ at most in their links.

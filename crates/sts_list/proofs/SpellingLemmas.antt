@@ -304,7 +304,7 @@ same_option : (o : Option ℕ) → option_map (λ (x : ℕ). x) o ≡ o
 same_option None = refl
 same_option (Some x) = refl
 
--- where all names are found in their own places, nothing is moved
+-- if all names are found in their own places, nothing is moved
 pub moved_nowhere : (instr : Instr) → moved (λ to. to) (λ f. f) instr ≡ instr
 moved_nowhere (i.Push k) = refl
 moved_nowhere (i.Load x) = refl

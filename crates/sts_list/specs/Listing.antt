@@ -32,7 +32,7 @@ keys_from k (needed ∷ rest) = if needed then k ∷ keys_from (k + 1) rest else
 abbrev pub keys_text : List ℕ → List ℕ
 keys_text keys = flat_map (λ key. 32 ∷ decimal key) keys
 
--- `needs` and the keys rising, where there are any
+-- `needs` and the keys rising, if there are any
 abbrev pub needs_text : List Bool → List ℕ
 needs_text needs =
     if list_any (λ needed. needed) needs then codes " needs" ++ keys_text (keys_from 0 needs)
@@ -43,7 +43,7 @@ abbrev pub header : Routine → List ℕ
 header r =
     codes "func " ++ r.name ++ codes " " ++ decimal r.args ++ needs_text r.needs ++ codes "\n"
 
--- the line of a label, where an instruction is named by another
+-- the line of a label, if an instruction is named by another
 abbrev pub label_line : Bool → ℕ → List ℕ
 label_line true pc = label pc ++ codes ":\n"
 label_line false pc = []

@@ -1,4 +1,4 @@
--- Where a machine begins.
+-- A machine at its beginning.
 use Rattle.std.proofs.Common.{◌≡◌, ℕ, zero, suc, ◌-◌, ◌<◌, [], ◌∷◌, true, Some, refl, sym, ◌∙◌, ap, subst, arith}
 use Rattle.std.proofs.lemmas.Bool.Decides.{nat_tests}
 use Rattle.sts_code.specs.Program.{Program}
@@ -74,7 +74,7 @@ has_room p b key some =
       binds = omega (arith, binds);
     }
 
--- a store with the root alone, and room for the rest, is that of a machine
+-- a store with only the root, and room for the rest, is that of a machine
 pub begins : (p : Program) (m : Parts) (b : Budgets) (key : ℕ) → HasLaws p → IsBudgetOf p (main_of p) b → RunIsSeen → StandsAreOwned → live_of m ≡ live_opening p → unseen_of m ≡ begun b key → IsMachine p m 0
 begins p m b key laws printed seen owned view unseen =
     let order = laws.order [] (live_opening p) 0 (stands_first p seen) in

@@ -23,7 +23,7 @@ pub picks_alike : (test other : ℕ → Bool) (o : Option ℕ) → ((t : ℕ) �
 picks_alike test other (Some t) same h = sym (same t) ∙ h
 picks_alike test other None same h = λ t. sym (same t) ∙ h t
 
--- where nothing was picked no test is passed
+-- if nothing was picked, no test is passed
 pub none_picked : (test : ℕ → Bool) (o : Option ℕ) → Picks test o → ((t : ℕ) → o ≡ Some t → ⊥) → (t : ℕ) → test t ≡ false
 none_picked test (Some t) h never = absurd (never t refl)
 none_picked test None h never = h

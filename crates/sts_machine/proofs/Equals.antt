@@ -13,7 +13,7 @@ use Rattle.sts_model.specs.contracts.record.LoopPartialEq.TheImpl as loop_eq
 use Rattle.sts_model.specs.contracts.record.EntryPartialEq.TheImpl as entry_eq
 use Rattle.sts_model.specs.contracts.record.SlotPartialEq.TheImpl as slot_eq
 
--- a test that holds of equals alone, and of all equals
+-- a test that equals pass, and no others
 decided : {X : Type 0} (E : X → X → Bool) → ((a b : X) → E a b ≡ true → a ≡ b) → ((a : X) → E a a ≡ true) → (a b : X) → Decides (E a b) (a ≡ b)
 decided E to from a b = (to a b, λ e. subst (λ x. E a x ≡ true) e (from a))
 

@@ -1,4 +1,5 @@
--- A local instruction is a step of its task that changes its frame alone; so is a slice, step by step.
+-- A local instruction is a step of its task that only changes its frame. A slice is such a step,
+-- instruction by instruction.
 use Rattle.std.proofs.Common.{◌≡◌, ℕ, zero, suc, ◌+◌, ◌<◌, ◌≤◌, List, [], ◌∷◌, ◌++◌, Bool, true, false, Option, Some, None, refl, sym, ◌∙◌, ap, subst, length, arith, get_or, set, cond, nat_eq, nat_le, pos, slice_get, append_assoc, append-nil, get_or-set_same}
 use Rattle.std.specs.Prelude.{option_map, unwrap_or, is_some}
 use Rattle.std.specs.Ordering.{int_eq}

@@ -162,7 +162,7 @@ puts {p} {m} {n} {t} {count} {f} {u} {s} is view fits task frame counted done =
     (subst (λ k. Puts p m n s.task s.frame k) (sym counted)
     (put_on p m n is s.task here.lives s.frame s.count own)))
 
--- the parts x where the frame is written
+-- the parts x after the frame is written
 module _ {p : Program} {m : Parts} {n t count : ℕ} {f : Frame} (x : Parts) (g : Puts p m n t f count) (live : live_of x ≡ with_live_frame (live_of m) t f) where
   pub in_order : InOrder (live_of x)
   in_order = subst InOrder (sym live) g.order

@@ -1,4 +1,4 @@
--- Runs of steps alone, and that the root has ended where no task can step.
+-- Runs of steps alone; if no task can step, the root has ended.
 use Rattle.std.proofs.Common.{◌≡◌, ℕ, ◌+◌, ◌-◌, ◌<◌, List, [], ◌∷◌, ◌++◌, Bool, true, false, Some, refl, sym, ◌∙◌, ap, subst, fold, arith}
 use Rattle.sts_code.specs.Program.{Program}
 use Rattle.sts_model.specs.declared.event.End.{End}
@@ -53,7 +53,7 @@ root_started p lost events w runs =
 same_world : (state : State) (w x : World) → state ≡ Running w → state ≡ Running x → w ≡ x
 same_world state w x e f = cc
 
--- where no task can step the root has ended
+-- if no task can step, the root has ended
 pub root_has_ended : (p : Program) → HasLaws p → NothingIsLost → (events : List Event) (v : Live) (n : ℕ) → StandsAt p events v n → ((t : ℕ) → live_can_step p v t ≡ false) → (end : End) × (v.root_end ≡ Some end)
 root_has_ended p laws lost events v n h none =
     let r = laws.main.runs_well events in

@@ -74,8 +74,8 @@ pub record IsSlice (p : Program) (t : ℕ) (start frame : Frame) (count : ℕ) :
   pub reached : IsReached p t frame
   pub taken : count ≤ reached.steps
 
--- the slice was taken from a task that lives in the machine, from the frame at which it is, and is
--- of the code of its function there
+-- the slice was taken from a task that lives in the machine and is still at the same frame; its
+-- code is the code of the task's function
 pub record Fits (m : Seen) (s : Cut) : Type 0 where
   pub lives : lives_in m.live s.task ≡ true
   pub start : s.start ≡ (alive_at m.live s.task).frame

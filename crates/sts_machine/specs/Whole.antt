@@ -6,7 +6,7 @@ use Rattle.sts_model.specs.declared.event.Event.{Event}
 use Rattle.sts_model.specs.World.{World, State, Running, opening, task_at}
 use Rattle.sts_model.specs.Run.{apply, after, counts, is_step}
 
--- from this state on, each of these events is a step, and counts where it comes
+-- from this state on, each of these events is a step, and counts when it comes
 abbrev pub AreSteps : Program → State → List Event → Type 0
 AreSteps p state [] = Unit {0}
 AreSteps p state (e ∷ es) =

@@ -10,8 +10,8 @@ use laws_live::seen_in_order;
 use sts_rules::Budgets;
 use sts_verify::Verified;
 
-/// The budgets that are printed of `main`, and the laws of a verified program: a machine keeps them,
-/// so that no turn asks for them again.
+/// The budgets that are printed for `main`, and the laws of a verified program. A machine keeps
+/// them, so that no turn asks for them again.
 pub(crate) fn laws(verified: &Verified) -> Budgets
     ensures printed { IsBudgetOf verified.now (main_of verified.now) result }
     ensures some { 0 < result.tasks }

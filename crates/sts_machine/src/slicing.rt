@@ -33,8 +33,8 @@ impl<'p> Machine<'p> {
         Slice::cut(self.verified, task, self.store.frame(task))
     }
 
-    /// Was the slice taken from a task that lives here, from the frame at which it is, and is the code
-    /// of its function this program's?
+    /// Was the slice taken from a task that lives here and is still at the same frame, and is its
+    /// code this program's?
     pub fn fits(&self, slice: &Slice<'p>) -> bool
         ensures { IsTrue result ↔ Fits self.now slice.now }
     {

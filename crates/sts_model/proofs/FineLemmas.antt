@@ -42,6 +42,6 @@ IsFine-from_fault p w t f i e =
       bound = five.0;
     }
 
--- the instruction that a task is at is fine where nothing is misused
+-- if nothing is misused, the instruction that a task is at is fine
 pub fine : (p : Program) (w : World) (t : ℕ) (i : Instr) → misuse p w t ≡ None → instr_at p (task_at w t).frame ≡ Some i → IsFine p w t (task_at w t).frame i
 fine p w t i e at = IsFine-from_fault p w t (task_at w t).frame i (rw at at e)

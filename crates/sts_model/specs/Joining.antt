@@ -1,8 +1,9 @@
--- The joiners: when the ends of its subtasks cancel a scope, and what `join` answers, read off the
--- whole list of ends in order of completion. Restates `StructuredTaskScope.Joiner`
--- (`allSuccessfulOrThrow`, `anySuccessfulResultOrThrow`, `awaitAllSuccessfulOrThrow`, `awaitAll`,
--- `allUntil`). Which failure `any` reports, its code -1 where no subtask ended, the numbers pushed
--- and the three predicates of `until` are this project's own.
+-- The joiners: which ends of its subtasks cancel a scope, and what `join` answers. Both are read
+-- off the whole list of ends in order of completion.
+-- Restates `StructuredTaskScope.Joiner` (`allSuccessfulOrThrow`, `anySuccessfulResultOrThrow`,
+-- `awaitAllSuccessfulOrThrow`, `awaitAll`, `allUntil`). This project's own are which failure `any`
+-- reports, its code -1 if no subtask ended, the numbers pushed, and the three predicates of
+-- `until`.
 use Rattle.std.specs.Prelude.{ℕ, ℤ, pos, negsuc, int_le, ◌+ℤ◌, List, Bool, true, false, Option}
 use Rattle.std.specs.Prelude.{Some, None, nat_le, find, count_by, fold}
 use Rattle.std.specs.List.{list_any}

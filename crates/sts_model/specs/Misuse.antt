@@ -94,7 +94,8 @@ abbrev pub at_slot : Frame → Option ℕ → (Slot → Bool) → Bool
 at_slot f None test = false
 at_slot f (Some x) test = test (slot f x)
 
--- a slot that does not hold what the instruction is about, or is not empty where it fills one
+-- a slot that does not hold the scope or subtask that the instruction needs, or is not empty
+-- although the instruction fills it
 abbrev pub has_wrong_slot : Frame → Instr → Bool
 has_wrong_slot f (Cancelled s) = not (is_scope (slot f s))
 has_wrong_slot f i =
@@ -171,7 +172,7 @@ has_failed None = false
 has_failed (Some (Success v)) = false
 has_failed (Some (Failed c)) = true
 
--- may the scope's subtasks be read? After a timeout in profile two alone
+-- may the scope's subtasks be read? After a timeout only in profile two
 abbrev pub is_readable : Profile → Scope → Bool
 is_readable profile scope = is_joined scope.phase && (is_two profile || not scope.expired)
 
@@ -243,7 +244,7 @@ fault_of p w t f i =
     else (if breaks_structure w f i then Some Structure
     else (if is_unbound w t i then Some Unbound else None))))
 
--- the same at the end of the function, where there is no instruction
+-- like `fault_at_instr`, at the end of the function, where there is no instruction
 abbrev pub fault_at : Program → World → ℕ → Frame → Option Instr → Option Fault
 fault_at p w t f None = Some Operand
 fault_at p w t f (Some i) = fault_of p w t f i

@@ -20,7 +20,7 @@ abbrev pub perform : Program → World → ℕ → Frame → Option Instr → Wo
 perform p w t f None = w
 perform p w t f (Some i) = effect p w t f i
 
--- a fault, or the effect where there is none
+-- a fault, or the effect if there is none
 abbrev pub stepped : Option Fault → Program → World → ℕ → Frame → State
 stepped None p w t f = Running (perform p w t f (instr_at p f))
 stepped (Some kind) p w t f = Faulted kind t f.function f.pc

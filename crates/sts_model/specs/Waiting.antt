@@ -17,8 +17,8 @@ use Rattle.sts_model.specs.World.{World, task_at, scope_at, instr_at}
 use Rattle.sts_model.specs.Living.{lives, any_lives}
 use Rattle.sts_model.specs.Misuse.{slot, is_closing, misuse}
 
--- at the `join` of a scope that the slot owns, where nothing is misused; a misused `join` steps
--- into its fault
+-- at the `join` of a scope that the slot owns, if nothing is misused; the next step of a misused
+-- `join` is its fault
 abbrev pub stands_at_join : Option Fault → Slot → Stand
 stands_at_join None (Own s) = AtJoin s
 stands_at_join _ _ = Free

@@ -1,6 +1,6 @@
 -- The state of the plain machine: all tasks and all scopes that were ever born, by birth number.
--- Restates "Description" of JEP 505 (a scope, its owner and its subtasks); that nothing is ever
--- forgotten is this project's own.
+-- Restates "Description" of JEP 505 (a scope, its owner and its subtasks). It is this project's own
+-- that nothing is ever forgotten.
 use Rattle.std.specs.Prelude.{ℕ, ◌-◌, ℤ, pos, List, [], ◌∷◌, ◌++◌, length, true, false, Option}
 use Rattle.std.specs.Prelude.{None, replicate, slice_get, slice_set, slice_index_or}
 use Rattle.sts_code.specs.Program.{Program, routine}
@@ -52,7 +52,7 @@ entry_frame function args slot =
       slots = slot ∷ replicate 15 Empty;
     }
 
--- what is read where no task was born
+-- the task that is read if no task has this birth number
 abbrev pub no_task : Task
 no_task =
     record {

@@ -31,7 +31,7 @@ pub LosesUpTo-piece : {E X : Type 0} (r : Result X E) (most room : ℕ) (a b c :
 LosesUpTo-piece (Ok x) most room a b c taken fits before after = tt
 LosesUpTo-piece (Err e) most room a b c taken fits before (bs, short, read) = (taken ++ bs, omega (arith, length-append taken bs), Consumes-trans a b c taken bs before read)
 
--- a piece of at most `room` bytes fits where there is room for it
+-- a piece of at most `room` bytes fits if there is room for it
 pub piece_fits : (taken more : List ℕ) (n room most : ℕ) (piece : List ℕ) → more ≡ taken ++ take n piece → n ≤ room → length taken + room ≤ most → length more ≤ most
 piece_fits taken more n room most piece e short fits = rw e (omega (arith, length-append taken (take n piece), length-take n piece))
 

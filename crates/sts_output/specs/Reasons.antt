@@ -91,7 +91,7 @@ abbrev pub kind_line : List ℕ → AsmKind → ℕ → ℕ
 kind_line text (Code c) line = code_line (outlined text) c
 kind_line text kind line = line
 
--- the line of a fault, or 0 where no line is meant
+-- the line of a fault, or 0 if no line is meant
 abbrev pub fault_line : List ℕ → AsmError → ℕ
 fault_line text e = kind_line text e.kind e.line
 

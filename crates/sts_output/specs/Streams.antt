@@ -1,4 +1,4 @@
--- Where bytes come from, and what is written to the two streams (this project's own).
+-- The sources of bytes, and what is written to the two streams (this project's own).
 use Rattle.std.specs.Prelude.{◌≡◌, ◌-◌, ◌^◌, ℕ, List, [], Option, Some, None, codes}
 use Rattle.std.specs.Prelude.{Bool, false, ⊤, IfSome}
 use Rattle.std.specs.Borrow.{Bor}
@@ -13,7 +13,7 @@ most_of_a_text = 1048577
 abbrev pub most_of_a_stream : ℕ
 most_of_a_stream = 2 ^ 64 - 1
 
--- the bytes of a file by its name, where they are known
+-- the bytes of a file by its name, if they are known
 abbrev pub Files : Type 0
 Files = List ℕ → Option (List ℕ)
 
@@ -22,7 +22,7 @@ abbrev pub events_of : Files → Option (Bor (List ℕ)) → Option (List ℕ)
 events_of files None = Some []
 events_of files (Some path) = files path.now
 
--- whether two names are of the same file, where that is known
+-- whether two names are of the same file, if that is known
 abbrev pub SameFile : Type 0
 SameFile = List ℕ → List ℕ → Option Bool
 
@@ -35,14 +35,14 @@ abbrev pub DifferFrom : (List ℕ → Option Bool) → Option (Bor (List ℕ)) �
 DifferFrom same None = ⊤
 DifferFrom same (Some path) = Differ (same path.now)
 
--- the bytes that the two streams hold before and after, where they are known
+-- the bytes that the two streams hold before and after, if they are known
 pub record Streams : Type 0 where
   pub out_old : Option (List ℕ)
   pub out_new : Option (List ℕ)
   pub err_old : Option (List ℕ)
   pub err_new : Option (List ℕ)
 
--- this output alone is written
+-- only this output is written
 pub record Prints (s : Streams) (status : ℕ) (o : Output) : Type 0 where
   pub written : Writes s.out_old s.out_new status o
   pub kept : Keeps s.err_old s.err_new

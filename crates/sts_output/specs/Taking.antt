@@ -6,7 +6,7 @@ use Rattle.std.specs.Io.KnownBytes.{Consumes}
 abbrev pub LosesUpTo : ℕ → Option (List ℕ) → Option (List ℕ) → Type 0
 LosesUpTo most old new = (bs : List ℕ) × (length bs ≤ most) × Consumes old new bs
 
--- where a source's bytes are known, its reader gives them
+-- if a source's bytes are known, its reader gives them
 abbrev pub Gives : Option (List ℕ) → Option (List ℕ) → Type 0
 Gives known remaining = IfSome known (λ xs. remaining ≡ Some xs)
 

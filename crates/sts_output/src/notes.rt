@@ -63,7 +63,8 @@ impl Notes {
         }
     }
 
-    /// Adds where a text or its events have a fault, or where the reason of a refusal is.
+    /// Adds a line that says where a text or its events have a fault, or where the reason of a
+    /// refusal is.
     pub fn status(&mut self, status: u8, text: Named<'_>, events: Events<'_>) {
         if status == STATUS_FAULT {
             if let Ok(Some(line)) = fault_line(self.alloc, self.program, text, events) {

@@ -65,7 +65,7 @@ pub fn trace_fault(alloc: Global, error: TraceError) -> Result<Output, AllocErro
     Ok(Output { text, status: 3 })
 }
 
-/// The status where the root ended so.
+/// The status for an end of the root.
 pub fn end_status(end: End) -> u8
     ensures { result ≡ def.end_status end }
 {

@@ -1,4 +1,4 @@
-//! Where the bytes of a trace go: a file by its name.
+//! The places that the bytes of a trace go to: files by name.
 
 ghost use Rattle.std.specs.Prelude.{◌≡◌, false, IfOk};
 ghost use Rattle.sts_output.specs.Streams.{Differ, DifferFrom};
@@ -17,7 +17,7 @@ pub trait Sinks {
 
     type Sink: Write + Drop;
 
-    /// Whether two names are of the same file, where that is known.
+    /// Whether two names are of the same file, if that is known.
     ghost same: { Self → List ℕ → List ℕ → Option Bool } = { λ _ _ _. None };
 
     /// Makes a file of this name, with no byte in it. A file that is there loses its bytes.

@@ -1,4 +1,4 @@
-//! Where the program's bytes come from: files by their names, and the input stream.
+//! The sources of the program's bytes: files by their names, and the input stream.
 
 ghost use Rattle.std.specs.Prelude.{IfOk};
 ghost use Rattle.sts_output.specs.Taking.{Gives, IsTakenOf};
@@ -17,10 +17,10 @@ pub trait Sources {
 
     type Input: Read + Drop;
 
-    /// The bytes of the file of a name, where they are known.
+    /// The bytes of the file of a name, if they are known.
     ghost held: { Self → List ℕ → Option (List ℕ) } = { λ _ _. None };
 
-    /// The bytes of the input stream, where they are known.
+    /// The bytes of the input stream, if they are known.
     ghost offered: { Self → Option (List ℕ) } = { λ _. None };
 
     fn open(&self, path: &str) -> io::Result<Self::Source>

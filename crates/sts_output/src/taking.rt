@@ -35,7 +35,7 @@ impl TakeError {
 /// The bytes that one read asks for at most.
 const PIECE: usize = 64 * 1024;
 
-/// One read, tried again where a signal interrupts it.
+/// One read, tried again if a signal interrupts it.
 fn read_once<R: Read>(reader: &mut R, piece: &mut [u8]) -> io::Result<usize>
     ensures bound { ReadsAtMost result piece.new }
     ensures bytes { IfOk result (λ n. Consumes (R.remaining reader.old) (R.remaining reader.new)

@@ -13,7 +13,7 @@ use std::io::Write;
 #[derive(Clone, Copy, Debug, PartialEq, Eq)]
 pub struct WriteFailed;
 
-/// The status where memory, a file or a stream failed.
+/// The status if memory, a file or a stream failed.
 pub const STATUS_OUTSIDE: u8 = 6;
 
 /// Writes all of these bytes, and gives the status.
@@ -32,7 +32,7 @@ pub fn written<W: Write>(out: &mut W, bytes: &[u8], status: u8) -> Result<u8, Wr
     }
 }
 
-/// Writes what is printed where memory, a file or a stream failed, and gives the status.
+/// Writes the output for a failure of memory, a file or a stream, and gives the status.
 ///
 /// # Errors
 ///
@@ -47,7 +47,7 @@ pub fn failed<W: Write>(error: TakeError, out: &mut W) -> Result<u8, WriteFailed
     }
 }
 
-/// Writes what is printed where a file was not read or written, notes which file, and returns the
+/// Writes the output for a file that was not read or written, notes which file, and returns the
 /// status.
 ///
 /// # Errors

@@ -1,4 +1,4 @@
-//! Tests for misuse that read the frame alone.
+//! Tests for misuse that read only the frame.
 
 ghost use Rattle.std.specs.Prelude.{◌≡◌, ◌≤◌, length};
 ghost use Rattle.sts_code.specs.Loops as matching;

@@ -1,4 +1,4 @@
-//! A state of the plain machine: where it is, and not how many steps it took.
+//! A state of the plain machine, without the number of its steps.
 
 ghost use Rattle.std.specs.Prelude.{◌≡◌, ◌&&◌, true, OnOk, OnErr, IfOk, IfSome, IsNone};
 ghost use Rattle.sts_model.specs.World as def;
@@ -148,7 +148,7 @@ impl Position {
         }
     }
 
-    /// Where it answers true the two are the same state.
+    /// If the answer is true, the two are the same state.
     pub fn same(&self, other: &Position) -> bool
         ensures { result ≡ true → self.now ≡ other.now }
     {

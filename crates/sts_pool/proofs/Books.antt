@@ -97,7 +97,7 @@ stepped_book m x journal out t is stay stands live steps can absent =
         other false e = e
         other true e = let here : among out u ≡ false = rw (same u t e) absent in absurd (cc)
 
--- an interrupt or an expiry, where there is room for one more
+-- an interrupt or an expiry, if there is room for one more
 pub outside_book : (m x : Seen) (journal : List Event) (out : List ℕ) (e : Event) → IsBook m journal out → StandsStay m.program → ((events : List Event) → Stands m events → Stands x (events ++ e ∷ [])) → x.live ≡ live_apply m.program m.live e → x.steps ≡ m.steps + live_steps_in m.program m.live e → is_step e ≡ false → outside_entries journal + 1 ≤ 4096 → IsBook x (journal ++ e ∷ []) out
 outside_book m x journal out (event.Step t) is stay stands live steps from few = absurd (cc)
 outside_book m x journal out (event.Interrupt t) is stay stands live steps from few =
@@ -130,7 +130,7 @@ released_book m journal out t is =
       living = λ q h. is.living q (was_among t q out h);
     }
 
--- a task that was picked is free, and where none was, none is
+-- a task that was picked is free; if none was picked, none is free
 pub picked : (b : BookSeen) (o : Option ℕ) → Picks (is_free b) o → MatchBool (is_some o) ((t : ℕ) × (is_free b t ≡ true)) ((t : ℕ) → is_free b t ≡ false)
 picked b (Some t) h = (t, h)
 picked b None h = h

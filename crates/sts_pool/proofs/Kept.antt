@@ -23,7 +23,7 @@ use Rattle.sts_pool.proofs.Outs.{among, without}
 
 -- ---- a journal of either kind
 
--- where it holds events with room for more, there is room for more
+-- if it holds events with room for more, there is room for more
 fits : (j : Journal) (events : List Event) (room more : ℕ) → Holds j events room → length events + more ≤ room → HasRoomFor j more
 fits (Written v) events room more holds few =
     let same : length v.items ≡ length events = ap length holds.0 in
@@ -42,7 +42,7 @@ held Counted Counted events more room recorded holds = tt
 held (Written v) Counted events more room recorded holds = absurd recorded
 held Counted (Written w) events more room recorded holds = absurd recorded
 
--- and written, where the journal is
+-- and written, if the journal is
 pub written_more : (j l : Journal) (more : List Event) → IsRecorded j l more → written l ≡ option_map (λ journal. journal ++ more) (written j)
 written_more (Written v) (Written w) more recorded = ap Some recorded.0
 written_more Counted Counted more recorded = refl
@@ -62,7 +62,7 @@ may_be m j n out k is =
     let entries : outside_entries is.events ≡ n = is.entries in
     record { stands = is.book.stands; outside = entries; counted = omega (arith, counted, entries) }
 
--- where not all outside events came, one more may
+-- if fewer outside events came than may, one more may come
 pub few_entries : (m : Seen) (j : Journal) (n : ℕ) (out : List ℕ) (k : ℕ) → IsKept m j n out k → (n ≡ 4096 → ⊥) → n + 1 ≤ 4096
 few_entries m j n out k is other =
     let most = is.book.most in
@@ -113,7 +113,7 @@ same_room m x j k same room = room_kept m.program x.program j k j k same (omega 
 pub opening_kept : (m : Seen) (j : Journal) (room k : ℕ) → Stands m [] → m.steps ≡ 0 → Holds j [] room → HasBookRoom m.program room k → IsKept m j 0 [] k
 opening_kept m j room k stands none holds has = record { events = []; book = opening_book m stands none; entries = refl; journal_room = room; holds = holds; room = has }
 
--- where more events lead to a book, there is room for them
+-- if more events lead to a book, there is room for them
 more_fits : (m x : Seen) (j : Journal) (n : ℕ) (out left : List ℕ) (k c : ℕ) (more : List Event) (is : IsKept m j n out k) → x.program ≡ m.program → length more ≡ c → IsBook x (is.events ++ more) left → HasRoomFor j c
 more_fits m x j n out left k c more is same long book =
     let few = entries_fit m x is.events more left is.journal_room k same is.room book in
@@ -208,7 +208,7 @@ ends m j n out k end o is ended some =
       counted = steps_counted m is.events out is.book;
     }
 
--- and the journal that led there, where it is written
+-- and the journal that led there, if it is written
 pub reported : (m : Seen) (j : Journal) (n : ℕ) (out : List ℕ) (k : ℕ) (end : Option End) (o : End) (entries : List Event) → IsKept m j n out k → ((events : List Event) → Stands m events → In (λ w. end ≡ (task_at w 0).outcome) (after m.program events)) → end ≡ Some o → written j ≡ Some entries
     → IsReport m.program entries o × (m.steps ≡ count_by is_step entries)
 reported m j n out k end o entries is ended some e =

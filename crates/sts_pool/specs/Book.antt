@@ -26,8 +26,8 @@ use Rattle.sts_pool.specs.declared.journal.Journal.{Journal}
 abbrev pub no_program : Program
 no_program = record { profile = One; routines = [] }
 
--- its program, its machine, the journal of the machine's events, where it is written, how many of
--- the entries came from outside, and the tasks that are out
+-- its program, its machine, the journal of the machine's events (if it is written), the number of
+-- entries from outside, and the tasks that are out
 pub record BookSeen : Type 0 where
   pub program : Program
   pub machine : Seen
@@ -55,7 +55,7 @@ pub record MayBe (b : BookSeen) (events : List Event) : Type 0 where
   pub outside : outside_entries events ≡ b.outside
   pub counted : length events ≡ b.machine.steps + b.outside
 
--- a fact holds of the journal: of its entries where they are written, else of all events that may
+-- a fact holds of the journal: of its entries if they are written, otherwise of all events that may
 -- be its entries
 abbrev pub OfJournal : BookSeen → (List Event → Type 0) → Type 0
 OfJournal b P = MatchOption b.journal ((events : List Event) → MayBe b events → P events) P
@@ -72,7 +72,7 @@ pub record Records (old new : BookSeen) (events : List Event) : Type 0 where
 abbrev pub is_out : BookSeen → ℕ → Bool
 is_out b t = list_any (λ o. o == t) b.out
 
--- would a step of the task count where these events lead, and is the task not out?
+-- would a step of the task count after these events, and is the task not out?
 abbrev pub may_turn : BookSeen → List Event → ℕ → Bool
 may_turn b events t = counts b.program (after b.program events) (Step t) && not (is_out b t)
 

@@ -5,7 +5,7 @@ use Rattle.sts_model.specs.declared.event.Event.{Event}
 use Rattle.sts_pool.specs.declared.journal.Journal.{Journal}
 use Rattle.sts_pool.specs.declared.journal.Journal.TheVariants.{Written, Counted}
 
--- its entries, where they are written
+-- its entries, if they are written
 abbrev pub written : Journal → Option (List Event)
 written (Written entries) = Some entries.items
 written Counted = None

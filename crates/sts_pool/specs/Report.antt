@@ -16,8 +16,8 @@ pub record IsBounded (p : Program) (journal : List Event) (budget : Budgets) : T
   pub steps : taken p journal ≤ budget.steps
   pub entries : length journal ≤ budget.steps + MAX_OUTSIDE
 
--- the journal leads to no fault and to this end of the root, within the budget that is printed, and
--- each step in it counted
+-- the journal leads to this end of the root without a fault, within the printed budget, and each
+-- step in it counted
 pub record IsReport (p : Program) (journal : List Event) (end : End) : Type 0 where
   pub world : World
   pub runs : after p journal ≡ Running world

@@ -77,8 +77,8 @@ impl<'p> Book<'p> {
         Book::with_journal(alloc, verified, true)
     }
 
-    /// A book before the first event. The entries of its journal are written, or only counted: then
-    /// it has no room for them.
+    /// A book before the first event. The entries of its journal are written, or only counted. If
+    /// they are only counted, it has no room for them.
     ///
     /// # Errors
     ///
@@ -160,7 +160,7 @@ impl<'p> Book<'p> {
         }
     }
 
-    /// An interrupt or an expiry, recorded also where it is idle.
+    /// Applies an interrupt or an expiry, and records it even if it is idle.
     ///
     /// # Errors
     ///

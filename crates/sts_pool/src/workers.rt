@@ -201,8 +201,8 @@ impl<'p, O: Outside, B: Runs> Pool<'p, O, B> {
         unreachable!()
     }
 
-    /// Does a task's steps under the lock, or by slices where it makes many in a row, until it can't
-    /// step; then another task to work on is found.
+    /// Does a task's steps under the lock, or by slices if the task makes many in a row. Once the
+    /// task can't step, another task to work on is found.
     fn exchange<R: Wait, G: Gate>(&self, rt: &R, gate: &G, worker: u32, task: u32) -> Option<u32> {
         let mut guard = self.locked(rt);
         guard.book.release(task);
@@ -376,8 +376,8 @@ pub(crate) fn run_on<
     })
 }
 
-/// Starts a worker with a stack of each of these sizes, and waits for all of them to end: false where
-/// one could not be started.
+/// Starts a worker with a stack of each of these sizes, and waits for all of them to end. The
+/// answer is false if one could not be started.
 fn work_all<'p, B: Runs + Send + Sync, R: Threads + Wait + Sync, G: Gate + Sync, O: Outside + Send>(
     rt: &R,
     pool: &Pool<'p, O, B>,

@@ -1,4 +1,4 @@
--- Where an instruction may lead, and which loops are around a place (this project's own).
+-- The places that an instruction may lead to, and the loops around a place (this project's own).
 use Rattle.std.specs.Prelude.{ℕ, ◌+◌, List, [], ◌∷◌, ◌++◌, Bool, true, false, ◌&&◌, Option, Some}
 use Rattle.std.specs.Prelude.{None, nat_le, reverse, filter, drop, option_map, option_to_list}
 use Rattle.std.specs.Prelude.{slice_index_or, if◌then◌else◌}
@@ -13,7 +13,7 @@ use Rattle.sts_code.specs.Loops.{match_of, is_times}
 abbrev pub next_place : ℕ → Instr → List ℕ
 next_place pc i = if falls_through i then (pc + 1) ∷ [] else []
 
--- where a `times` goes that makes no turn
+-- the place after a `times` that makes no turn
 abbrev pub skipped_to : List Instr → ℕ → Instr → List ℕ
 skipped_to code pc (Times n) = option_to_list (option_map (λ q. q + 1) (match_of code pc))
 skipped_to code pc _ = []

@@ -19,7 +19,7 @@ use Rattle.sts_rules.specs.ControlPaths.{Shape, GoesTo, Repeats, EndsTurn, EndsP
 use Rattle.sts_rules.specs.ControlPaths.{OpenScope, OpenBinding, Skeleton, IsGreatest, IsPeak}
 use Rattle.sts_rules.specs.ControlPaths.{PathCounts, PointHolds}
 
--- what is read where there is no such function
+-- the budgets that are read if there is no such function
 abbrev pub no_budget : Budgets
 no_budget = record { steps = 0; tasks = 0; scopes = 0; binds = 0 }
 
@@ -61,7 +61,7 @@ entries_of Unbind es = drop 1 es
 entries_of (Fork slot function handle) es = forked slot function es
 entries_of _ es = es
 
--- what control paths see of this code, where the earlier functions have these budgets
+-- what control paths see of this code, given the budgets of the earlier functions
 abbrev pub skeleton : List Budgets → List Instr → Skeleton
 skeleton earlier code = record {
   size = length code;
@@ -112,7 +112,7 @@ binds_sum earlier es = entries_sum (binds_measure earlier) es
 
 -- ---- the budgets
 
--- these are the budgets of this code, where the earlier functions have those
+-- these are the budgets of this code, given those of the earlier functions
 pub record IsBudget (earlier : List Budgets) (code : List Instr) (b : Budgets) : Type 0 where
   pub steps : IsGreatest (skeleton earlier code) b.steps
   pub tasks : IsPeak (skeleton earlier code) (tasks_sum earlier) b.tasks

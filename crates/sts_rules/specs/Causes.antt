@@ -121,7 +121,7 @@ is_too_deep _ s = false
 
 -- ---- V9 to V11
 
--- V9: a slot that holds no scope, or no subtask, where the instruction is about one
+-- V9: a slot that doesn't hold the scope or the subtask that the instruction needs
 abbrev pub has_wrong_slot : Instr → TypeState → Bool
 has_wrong_slot (Cancelled x) s = not (is_own (kind s x) || is_lent (kind s x))
 has_wrong_slot i s =
@@ -132,7 +132,7 @@ has_wrong_slot i s =
 abbrev pub has_busy_slot : Instr → TypeState → Bool
 has_busy_slot i s = at_slot s (filled_slot i) (λ k. not (is_empty k))
 
--- V11: the scope is lent, where only its owner may do this
+-- V11: the scope is lent, but only its owner may do this
 abbrev pub is_strangers : Instr → TypeState → Bool
 is_strangers i s = at_slot s (owners_slot i) is_lent
 
@@ -154,7 +154,7 @@ can_join_phase _ = false
 abbrev pub can_join : TypedScope → Bool
 can_join scope = can_join_phase scope.phase
 
--- may the subtasks be read in this phase? After a timeout in profile two alone
+-- may the subtasks be read in this phase? After a timeout only in profile two
 abbrev pub is_readable_phase : Profile → TypedPhase → Bool
 is_readable_phase profile Joined = true
 is_readable_phase profile Late = is_two profile

@@ -1,5 +1,5 @@
--- Where an instruction leads to, and with which typestates, or the least cause that holds there
--- (this project's own).
+-- The places that an instruction leads to, with the typestates there, or the least cause that holds
+-- at it (this project's own).
 use Rattle.std.specs.Prelude.{ℕ, ◌+◌, ◌-◌, List, [], ◌∷◌, ◌++◌, length, drop, map, Bool, true}
 use Rattle.std.specs.Prelude.{false, Option, Some, None, Result, Ok, Err, ◌==◌, if◌then◌else◌}
 use Rattle.std.specs.Prelude.{option_map, slice_set, slice_get}
@@ -110,7 +110,7 @@ join_follows pc x failed timeout interrupted s =
 abbrev pub moved : Program → Instr → TypeState → TypeState
 moved p i s = record s { height = s.height - pops p i + pushes i }
 
--- the following places and typestates, where no cause holds
+-- the following places and typestates, if no cause holds
 abbrev pub follows : Program → List Instr → ℕ → Instr → TypeState → List (ℕ × TypeState)
 follows p code pc (Div to) s =
     (pc + 1, record s { height = s.height - 1 }) ∷ (to, record s { height = s.height - 2 }) ∷ []

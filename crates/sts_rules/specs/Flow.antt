@@ -9,7 +9,7 @@ pub record Flow (S C : Type 0) : Type 0 where
   -- at the end of a loop: the place where the state must be the same as here
   pub back : ℕ → S → Option ℕ
   pub entry : S
-  -- the cause where no state arrives, and where two differ
+  -- the cause if no state arrives, and the cause if two states differ
   pub dead : C
   pub differ : C
 

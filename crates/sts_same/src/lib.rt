@@ -1,4 +1,4 @@
-//! Records of the machine compared: where the answer is true, they are the same.
+//! Comparisons of the machine's records: if the answer is true, they are the same.
 #![tactic(auto)]
 
 pub mod copied;

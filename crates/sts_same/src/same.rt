@@ -6,7 +6,7 @@ use sts_model::{Items, Stack};
 
 /// Values that can be compared.
 pub trait Same {
-    /// Where it answers true the two are the same.
+    /// If the answer is true, the two are the same.
     fn same(&self, other: &Self) -> bool
         ensures { result ≡ true → self.now ≡ other.now };
 }

@@ -76,7 +76,7 @@ empty_slot zero x = refl
 empty_slot (suc n) zero = refl
 empty_slot (suc n) (suc x) = empty_slot n x
 
--- it is in order where its slots are empty and its entries are those bindings
+-- it is in order, since its slots are empty and its entries are those bindings
 pub root_in_order : (f : Frame) (env : List Bound) (n : ℕ) → f.slots ≡ replicate n Empty → ((s : ℕ) → list_any (is_entry_of s) f.entries ≡ false) → env ≡ filter_map bound_of f.entries ++ [] → InOrder (root_bound f env)
 root_in_order f env n slots entries bound =
     record {

@@ -1,4 +1,4 @@
--- A step of a close, in a view: a cancel changes nothing of what is left once the scope and its
+-- A step of a close, in a view. A cancel changes nothing of what is left after the scope and its
 -- subtasks are taken out.
 use Rattle.std.proofs.Common.{◌≡◌, ℕ, List, [], ◌∷◌, drop, map, Bool, true, false, ◌&&◌, ◌||◌, Option, Some, None, refl, ◌∙◌, ap, get_or, set, cond}
 use Rattle.std.specs.Prelude.{option_map, is_some, unwrap_or}

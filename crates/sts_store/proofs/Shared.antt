@@ -51,7 +51,7 @@ module _ {c : Records} {hs : List (Option Holder)} {ks : List (Option Keeper)} {
   nobodys s u k h at none =
       not_front k (own u) (inherited c ks (home_at os u)) (subst (NotIn k) (s.tasks u h at) (vacant_to c h.env k none (s.whole u h at)))
 
--- what is inherited stays, where each kept environment stays
+-- if each kept environment stays, what is inherited stays
 inherited_stays : (c d : Records) (ks : List (Option Keeper)) → ((s : ℕ) (k : Keeper) → get_or ks s None ≡ Some k → Stays c d k.kept) → (o : Option ℕ) → inherited d ks o ≡ inherited c ks o
 inherited_stays c d ks stays None = refl
 inherited_stays c d ks stays (Some s) = by (get_or ks s None) refl

@@ -1,4 +1,4 @@
--- Where a task's last entry is a binding, no other environment in use holds its record.
+-- If a task's last entry is a binding, no other environment in use holds its record.
 use Rattle.std.proofs.Common.{◌≡◌, ℕ, ◌<◌, ◌≤◌, List, [], ◌∷◌, ◌++◌, length, true, Option, Some, None, refl, sym, ◌∙◌, ap, subst, get_or, arith}
 use Rattle.std.specs.Prelude.{is_some, unwrap_or, count_by}
 use Rattle.sts_env.specs.Environments.{Records, IsWhole, keys_of}

@@ -37,7 +37,7 @@ TaskAt f t x = slice_index_or f.tasks t None ≡ Some x
 abbrev pub ScopeAt : {E : Type 0} → Forest E → ℕ → Scope E → Type 0
 ScopeAt f s c = slice_index_or f.scopes s None ≡ Some c
 
--- a task of s has ended, and the scope is cancelled where its joiner asks for it
+-- a task of s has ended, and the scope is cancelled if its joiner asks for it
 abbrev pub decided : {E : Type 0} → Forest E → ℕ → Task → End → ℕ → Scope E → Forest E
 decided f t x end s c =
     if asks_ended f x end

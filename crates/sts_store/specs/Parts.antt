@@ -26,7 +26,7 @@ pub record Parts : Type 0 where
 
 -- ---- the live view
 
--- what is read where no living task has a frame
+-- the frame that is read if no living task has one
 abbrev pub no_running : Running
 no_running = record { frame = no_alive.frame; env = record { front = None; length = 0 } }
 

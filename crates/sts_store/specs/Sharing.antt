@@ -69,8 +69,8 @@ Holds hs t h = slice_index_or hs t None ≡ Some h
 abbrev pub Keeps : List (Option Keeper) → ℕ → Keeper → Type 0
 Keeps ks s k = slice_index_or ks s None ≡ Some k
 
--- each environment in use is made of own records in front of what the scope keeps, and no record is
--- two tasks' own
+-- each environment in use has own records in front of those that the scope keeps, and no record
+-- belongs to two tasks
 pub record Shares (c : Records) (hs : List (Option Holder)) (ks : List (Option Keeper))
     (os : List (Option (Option ℕ))) (own outside : ℕ → List ℕ) : Type 0 where
   -- each record of a living task's environment exists

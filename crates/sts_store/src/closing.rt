@@ -112,9 +112,9 @@ impl Store {
         self.take_out(t, s);
     }
 
-    /// A step of the close of a scope, the innermost entry of its owner. While a subtask lives, the
-    /// scope is cancelled and the owner waits; else the scope and its subtasks are taken out, and
-    /// the owner goes on. A cancel would change nothing of what is left then.
+    /// Does a step of the close of a scope, the innermost entry of its owner. While a subtask
+    /// lives, the scope is cancelled and the owner waits. Otherwise the scope and its subtasks are
+    /// taken out, and the owner goes on; a cancel would change nothing of what is left then.
     pub fn close(&mut self, t: u32, s: u32)
         requires lives { lives_in (live_of self.old) t ≡ true }
         requires more { (frame_of self.old t).pc + 1 < 2 ^ 32 }

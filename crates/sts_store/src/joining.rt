@@ -113,7 +113,7 @@ impl Store {
         self.leave_join(t, to);
     }
 
-    /// The answer of `join`, once there is one: where the task goes, and what it pushes.
+    /// Takes the answer of `join`, once there is one: the place to go to, and the operands to push.
     pub fn join(&mut self, t: u32, s: u32, failed: u32, timeout: u32, interrupted: u32)
         requires lives { lives_in (live_of self.old) t ≡ true }
         requires stands { is_some (scope_in (live_of self.old) s) ≡ true }

@@ -14,7 +14,7 @@ use sts_code::Kind;
 use sts_frames::{case_target, named, value_or_zero};
 
 impl Store {
-    /// Goes to where the state of the subtask in a slot leads.
+    /// Goes to the place that the state of the subtask in a slot leads to.
     pub fn case(&mut self, t: u32, handle: u8, success: u32, failed: u32)
         requires lives { lives_in (live_of self.old) t ≡ true }
         requires more { (frame_of self.old t).pc + 1 < 2 ^ 32 }
@@ -95,7 +95,7 @@ impl Store {
         self.goes_with(t, next, 0, total);
     }
 
-    /// Pushes what a key is bound to, 0 where it is not bound.
+    /// Pushes the value of a key, or 0 if it is not bound.
     pub fn push_bound(&mut self, t: u32, key: u8)
         requires lives { lives_in (live_of self.old) t ≡ true }
         requires more { (frame_of self.old t).pc + 1 < 2 ^ 32 }
@@ -123,8 +123,7 @@ impl Store {
         self.goes_with(t, next, 0, i64::from(is_bound));
     }
 
-    /// Puts what a key is bound to in the place of the top operand, which stays where the key is
-    /// not bound.
+    /// Replaces the top operand by the value of a key. If the key is not bound, the operand stays.
     pub fn or_else(&mut self, t: u32, key: u8)
         requires lives { lives_in (live_of self.old) t ≡ true }
         requires more { (frame_of self.old t).pc + 1 < 2 ^ 32 }

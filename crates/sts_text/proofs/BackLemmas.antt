@@ -22,7 +22,7 @@ cond_false true x y e = cc
 both_true : (a b : Bool) → a ≡ true → b ≡ true → (a && b) ≡ true
 both_true a b p q = rw (p, q) refl
 
--- where digits are tested with a bound, a number's decimal spelling gives the number
+-- if digits are tested with a bound, a number's decimal spelling gives the number
 spelled_value : {A : Type 0} (n : ℕ) (within : ℕ → Bool) (value : ℕ → A) → n < 2 ^ 64 → within n ≡ true → cond (is_digits (decimal n) && within (digits_value 10 (decimal n))) (Some (value (digits_value 10 (decimal n)))) None ≡ Some (value n)
 spelled_value {A} n within value h w =
     let v = digits_value-decimal own n h in

@@ -7,7 +7,7 @@ use Rattle.std.proofs.lemmas.Int.Digits.{digits_value_more}
 use Rattle.std.proofs.lemmas.Str.Parse.{digits_value-take-le}
 use Rattle.std.proofs.lemmas.Bool.Decides.{nat_tests}
 
--- a number, where it is below 2^64
+-- a number, if it is below 2^64
 abbrev pub if_fits : ℕ → Option ℕ
 if_fits n = cond (nat_lt n (2 ^ 64)) (Some n) None
 
@@ -38,7 +38,7 @@ more_digits word i value next so_far small e =
     let is : next ≡ digits_value 10 (take (i + 1) word) = h.0 ∙ ap (λ (v : ℕ). v * 10 + digit_value (get_or word i 0)) so_far ∙ sym (digits_value_more 10 word i small) in
     (is, omega (arith, h.0, h.1))
 
--- where one more digit is too many, the whole is
+-- if one more digit is too many, the whole is
 pub too_many : (word : List ℕ) (i value : ℕ) → value ≡ digits_value 10 (take i word) → i < length word → if_fits (value * 10 + digit_value (get_or word i 0)) ≡ None → if_fits (digits_value 10 word) ≡ None
 too_many word i value so_far small e =
     let n : ℕ = value * 10 + digit_value (get_or word i 0) in

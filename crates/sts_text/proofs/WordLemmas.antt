@@ -36,7 +36,7 @@ step : (b : Bool) (x : ℕ) (xs : List ℕ) (n : ℕ) (rest : List (List ℕ)) �
 step true x xs n rest h r = absurd (omega arith)
 step false x xs n rest h r = rw (r (omega arith)) refl
 
--- where no element passes, there is one part
+-- if no element passes, there is one part
 pub whole : (p : ℕ → Bool) (xs : List ℕ) → length xs ≤ position_or_len p xs → slice_split p xs ≡ xs ∷ []
 whole p [] h = refl
 whole p (x ∷ xs) h = step (p x) x xs (position_or_len p xs) (slice_split p xs) h (whole p xs)
@@ -58,7 +58,7 @@ words_cut line = elim (order (position_or_len is_blank line) (length line)) [
       rw (take_all (position_or_len is_blank line) line h, drop_all (position_or_len is_blank line + 1) line k) (ap (filter is_filled) (whole is_blank line h) ∙ filled line [])
 ]
 
--- the first word is before the first blank, where that is not empty
+-- the first word is before the first blank, if that is not empty
 pub word_first : (line : List ℕ) → 0 < length (before_first is_blank line) → words line ≡ before_first is_blank line ∷ words (after_first is_blank line)
 word_first line h = let z : (length (before_first is_blank line) == 0) ≡ false = grind (arith, nat_tests) in rw z at (words_cut line)
 

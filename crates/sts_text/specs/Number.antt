@@ -10,7 +10,7 @@ use Rattle.std.specs.Str.Parse.{digits_value}
 abbrev pub is_digits : List ℕ → Bool
 is_digits word = not (length word == 0) && list_all is_ascii_digit word
 
--- the number that digits write, where it is at most `most`
+-- the number that digits write, if it is at most `most`
 abbrev pub digits_up_to : ℕ → List ℕ → Option ℕ
 digits_up_to most word =
     if is_digits word && nat_le (digits_value 10 word) most then Some (digits_value 10 word)

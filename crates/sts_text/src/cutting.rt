@@ -28,7 +28,7 @@ fn blank_in(line: &[u8]) -> Option<usize>
     line.iter().position(|b| is_blank(*b))
 }
 
-/// The first line and the text after its newline, or None where the text has no newline.
+/// The first line and the text after its newline, or `None` if the text has no newline.
 #[tactic(auto, using(crate::proofs::WordLemmas::cuts))]
 pub fn cut_at_newline(text: &[u8]) -> Option<(&[u8], &[u8])>
     ensures lines { MatchOption result (lines text.now ≡ text.now ∷ [])
@@ -41,7 +41,7 @@ pub fn cut_at_newline(text: &[u8]) -> Option<(&[u8], &[u8])>
     }
 }
 
-/// The first field and the line after its space, or None where the line has no space.
+/// The first field and the line after its space, or `None` if the line has no space.
 #[tactic(auto, using(crate::proofs::WordLemmas::cuts))]
 pub fn cut_at_space(line: &[u8]) -> Option<(&[u8], &[u8])>
     ensures fields { MatchOption result (fields line.now ≡ line.now ∷ [])
@@ -67,7 +67,7 @@ fn cut_at_blank(line: &[u8]) -> (&[u8], &[u8])
     }
 }
 
-/// The first word of a line and the line after it, or None where the line has no words.
+/// The first word of a line and the line after it, or `None` if the line has no words.
 #[tactic(auto, using(crate::proofs::WordLemmas::words_first))]
 pub(crate) fn next_word(line: &[u8]) -> Option<(&[u8], &[u8])>
     ensures { MatchOption result (words line.now ≡ [])

@@ -34,7 +34,7 @@ fn text_of(word: &[u8]) -> &str
     }
 }
 
-/// The number that one more digit makes of the number before it, where that is below 2^64.
+/// The number that one more digit makes of the number before it, if that is below 2^64.
 fn with_digit(value: u64, digit: u8) -> Option<u64>
     requires { is_ascii_digit digit ≡ true }
     ensures { result ≡
@@ -44,7 +44,7 @@ fn with_digit(value: u64, digit: u8) -> Option<u64>
     value.checked_mul(10)?.checked_add(u64::from(digit - b'0'))
 }
 
-/// The number that digits write, where it is below 2^64.
+/// The number that digits write, if it is below 2^64.
 fn value_of(word: &[u8]) -> Option<u64>
     requires { list_all is_ascii_digit word.now ≡ true }
     ensures { result ≡
@@ -70,7 +70,7 @@ fn digits(word: &[u8]) -> Option<u32>
     }
 }
 
-/// The number that digits write, where it is at most `most`. Leading zeros are allowed.
+/// The number that digits write, if it is at most `most`. Leading zeros are allowed.
 pub fn digits_up_to(word: &[u8], most: u32) -> Option<u32>
     ensures number { result ≡ digits_up_to most word.now }
     ensures at_most { IfSome result (λ n. n ≤ most) }

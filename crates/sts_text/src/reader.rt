@@ -29,7 +29,7 @@ impl<'a> Words<'a> {
         Words { line }
     }
 
-    /// Takes the next word, or answers None where none is left.
+    /// Takes the next word, or answers `None` if none is left.
     pub fn word(&mut self) -> Option<&'a [u8]>
         ensures { MatchOption result ((self.old ≡ []) × (self.new ≡ []))
             (λ word. self.old ≡ word.now ∷ self.new) }

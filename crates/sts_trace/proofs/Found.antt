@@ -128,7 +128,7 @@ nothing : (xs : List ℕ) → is_filled xs ≡ false → xs ≡ []
 nothing [] e = refl
 nothing (x ∷ xs) e = grind (arith, nat_tests)
 
--- where each line is one spelling, so is the text
+-- if each line is one spelling, so is the text
 lines_found : {A : Type 0} (said : ℕ → List ℕ → Result A TraceError) (spelling : A → List ℕ) (Is : A → Type 0) → ((at : ℕ) (line : List ℕ) (x : A) → said at line ≡ Ok x → (line ≡ spelling x) × Is x) → (at : ℕ) (ps : List (List ℕ)) (xs : List A) → lines_read said at ps ≡ Ok xs → (join_with_byte 10 ps ≡ flat_map (λ x. spelling x ++ codes "\n") xs) × All Is xs
 unfolding lines_read
 lines_found {A} said spelling Is one at [] xs h = rw (← ok_same {A = List A} [] xs (Ok []) refl h) (refl, All-nil Is)

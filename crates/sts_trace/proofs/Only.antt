@@ -92,7 +92,7 @@ due_one_line due h =
     let time = All-append (λ b. is_newline b ≡ false) (decimal due.at) (codes " " ++ event_text due.event) (number_no_newline due.at h.0) event in
     All-same (λ b. is_newline b ≡ false) (due_text due) (codes "at " ++ (decimal due.at ++ 32 ∷ event_text due.event)) (due_parts due) (All-append (λ b. is_newline b ≡ false) (codes "at ") (decimal due.at ++ 32 ∷ event_text due.event) (free (codes "at ") refl) time)
 
--- where each line is read back, so is the text
+-- if each line is read back, so is the text
 lines_only : {A : Type 0} (said : ℕ → List ℕ → Result A TraceError) (spelling : A → List ℕ) (Is : A → Type 0) (most : ℕ) → ((at : ℕ) (x : A) → at ≤ most → Is x → said at (spelling x) ≡ Ok x) → ((x : A) → Is x → All (λ b. is_newline b ≡ false) (spelling x)) → (at : ℕ) (xs : List A) → at + length xs ≤ most + 1 → All Is xs → lines_read said at (lines (flat_map (λ x. spelling x ++ codes "\n") xs)) ≡ Ok xs
 unfolding lines_read
 lines_only said spelling Is most one one_line at [] k h = refl

@@ -13,7 +13,7 @@ map_at f [] k = refl
 map_at f (x ∷ xs) zero = refl
 map_at f (x ∷ xs) (suc k) = map_at f xs k
 
--- a record is changed where it isn't seen
+-- a part of a record is changed that isn't seen
 pub unseen : {A B : Type 0} → (f : A → B) (xs : List (Option A)) (k : ℕ) (x y : A) → get_or xs k None ≡ Some x → f y ≡ f x → map (option_map f) (set xs k (Some y)) ≡ map (option_map f) xs
 unseen f xs k x y at same =
     let e : get_or (map (option_map f) xs) k None ≡ Some (f y) = map_at f xs k ∙ ap (option_map f) at ∙ ap (λ z. Some z) (sym same) in
@@ -32,7 +32,7 @@ inside_of [] k h = absurd (h refl)
 inside_of (x ∷ xs) zero h = omega arith
 inside_of (x ∷ xs) (suc k) h = let i = inside_of xs k h in omega (arith, i)
 
--- a link is there where a record is, in the three layers
+-- a record has a link in each of the three layers
 link_some : (l : ℕ) (o : Option TaskRecord) → l < 3 → o ≢ None → link_of l o ≢ None
 link_some l None less h = absurd (h refl)
 link_some l (Some r) less h = let q : nat_lt l 3 ≡ true = grind (arith, nat_tests) in rw q (λ e. cc)

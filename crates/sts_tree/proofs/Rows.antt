@@ -52,6 +52,6 @@ module _ {E : Type 0} where
   pub more_scopes : (rows : List (Option (ScopeRecord E))) (q : ScopeRecord E) → scopes_of (rows ++ Some q ∷ []) ≡ scopes_of rows ++ Some q.scope ∷ []
   more_scopes rows q = map-append (option_map scope_of) rows (Some q ∷ [])
 
-  -- the whole value, where its scopes are known
+  -- the whole value, if its scopes are known
   pub scopes_are : (f : Forest E) (scopes : List (Option (Scope E))) → f.scopes ≡ scopes → f ≡ record f { scopes = scopes }
   scopes_are f scopes e = rw (← e) refl

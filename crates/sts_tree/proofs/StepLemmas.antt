@@ -53,7 +53,8 @@ at_set {T} xs t x y P is here others u z e = by (nat_eq u t) refl
         let s : u ≢ t = grind (arith, nat_tests) in
         others u z s (sym (get_or-set_other xs t u (Some y) None s) ∙ e)
 
--- a task is written that keeps its scope and whether it lives; the ready list may change, and the links of its layer
+-- a task is written that keeps its scope and whether it lives; only the ready list and the links of
+-- its layer may change
 pub changed : (at new : ℕ → ℕ → Option Link) (tasks : List (Option Task)) (families : List (Option Family)) (ready ready2 : Ends) (keys keys2 : List ℕ) (room t : ℕ) (x y : Task) → IsForest at tasks families ready keys room → ((m : ℕ) (list : Ends) (ks : List ℕ) → m < 2 → IsList (at m) list ks → IsList (new m) list ks) → get_or tasks t None ≡ Some x → y.scope ≡ x.scope → ((s : ℕ) → lives_in s y ≡ lives_in s x) → IsList (new 2) ready2 keys2 → y.ready ≡ has t keys2 → ((k : ℕ) → k ≢ t → has k keys2 ≡ has k keys) → IsForest new (set tasks t (Some y)) families ready2 keys2 room
 changed at new tasks families ready ready2 keys keys2 room t x y i lists is scope lives list flag others =
     let of : (s : ℕ) → births (is_of s) 0 (set tasks t (Some y)) ≡ births (is_of s) 0 tasks = λ s. births_kept (is_of s) 0 tasks t x y is (same_of s x y scope) in
@@ -166,7 +167,8 @@ apart_one false t xs h = tt
 pub no_more : (xs : List ℕ) (b : Bool) (t : ℕ) → b ≡ false → xs ++ one_if b t ≡ xs
 no_more xs b t e = rw (e, append-nil xs) refl
 
--- a new subtask of s: links of its own first, then it is appended to the list of subtasks, and if it lives to the living ones
+-- A new subtask of s first gets links of its own. Then it is appended to the list of subtasks, and,
+-- if it lives, to the list of living ones.
 pub record Adds (at one two new : ℕ → ℕ → Option Link) (tasks : List (Option Task)) (s n : ℕ) (lives : Bool) (forks living : Ends) : Type 0 where
   pub vacant : (m : ℕ) → at m n ≡ None
   pub others : (m k : ℕ) → k ≢ n → one m k ≡ at m k

@@ -110,7 +110,7 @@ drops slots new families ready ready2 room t r q i is same tasks list =
 pub own_task : (slots : List (Option TaskRecord)) (t : ℕ) (r : TaskRecord) (x : Task) → get_or slots t None ≡ Some r → get_or (tasks_of slots) t None ≡ Some x → r.task ≡ x
 own_task slots t r x is e = some_same r.task x (sym (task_at slots t r is) ∙ e)
 
--- the whole value, where tasks and ready list are known
+-- the whole value, if tasks and ready list are known
 pub seen_is : {E : Type 0} → (f : Forest E) (tasks : List (Option Task)) (ready : List ℕ) → f.tasks ≡ tasks → f.ready ≡ ready → f ≡ record f { tasks = tasks; ready = ready }
 seen_is f tasks ready e h = rw (← e, ← h) refl
 

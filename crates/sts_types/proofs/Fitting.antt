@@ -14,7 +14,7 @@ use Rattle.sts_rules.specs.Causes.{holds, least_cause}
 use Rattle.sts_rules.specs.Causes as test
 use Rattle.sts_rules.specs.Fits.{Fits}
 
--- where the first is not found, the rest is looked through
+-- if the first is not found, the rest is searched
 none_here : (b : Bool) (c : Cause) (rest : Option Cause) → cond b (Some c) rest ≡ None → (b ≡ false) × (rest ≡ None)
 none_here true c rest e = cc
 none_here false c rest e = (refl, e)
@@ -59,7 +59,7 @@ fits p f pc i s e =
 abbrev pub one_of : (x y z : Bool) (a b c : Cause) → Option Cause → Option Cause
 one_of x y z a b c rest = cond x (Some a) (cond y (Some b) (cond z (Some c) rest))
 
--- it is the answer where it is found
+-- it is the answer if it is found
 pub found : (x y z : Bool) (a b c : Cause) (o rest : Option Cause) → o ≡ one_of x y z a b c None → is_some o ≡ true → o ≡ one_of x y z a b c rest
 found true y z a b c o rest e t = e
 found false true z a b c o rest e t = e

@@ -22,7 +22,7 @@ none_past {X} xs n e = by (slice_get_cases xs n).1
     by (inl h) = let no : None ≡ Some h.0 = sym e ∙ h.2 in cc
     by (inr h) = h.0
 
--- where there is none, all come before
+-- if there is none, all come before
 pub take_none : {X : Type 0} (xs : List X) (n : ℕ) → slice_get xs n ≡ None → take n xs ≡ xs
 take_none xs n e = take_all n xs (none_past xs n e)
 

@@ -52,7 +52,7 @@ none_passes test [] to e m = elim m [ ]
 none_passes test (x ∷ xs) to e (inl same) = first_passes test x to (list_any test xs) (test x) refl e same
 none_passes test (x ∷ xs) to e (inr m) = none_passes test xs to (rest_passes (test x) (list_any test xs) e) m
 
--- where an instruction leads: to a place that it names, to the next, or past its loop
+-- an instruction leads to a place that it names, to the next, or past its loop
 abbrev pub LeadsTo : List Instr → ℕ → Instr → ℕ → Type 0
 LeadsTo code pc i to = Among (targets i) to ⊎ (((pc + 1 ≡ to) × (falls_through i ≡ true)) ⊎ Among (skipped_to code pc i) to)
 

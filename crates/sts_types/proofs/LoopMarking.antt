@@ -100,7 +100,7 @@ end_within code k m e = by (is_times (instr_at code k)) e
     by true h = let t = ends code k m h in (t.after, t.within)
     by false h = cc
 
--- one place further, where a loop begins and its inside was marked, and where none does
+-- one place further, if a loop begins there and its inside was marked, and if none does
 pub heads_marked : (code : List Instr) (heads now : List (Option ℕ)) (k end : ℕ) → AreHeads code heads k → length now ≡ length heads → end_at code k ≡ Some end → ((q : ℕ) → get_or now q None ≡ cond (ltb k q && leb q end) (Some k) (get_or heads q None)) → AreHeads code now (k + 1)
 heads_marked code heads now k end at long is marks =
     heads_more code heads now k at long (λ q. marks q ∙ ap (λ o. cond (ltb k q && reaches_to q o) (Some k) (get_or heads q None)) (sym is))

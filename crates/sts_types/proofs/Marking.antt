@@ -87,7 +87,7 @@ first_marked n marks places after empty h = set_marked n marks 0 after (λ k d l
     at : (k : ℕ) (d : Arrival Mark) → k < length marks → IsMarked n (get_or (replicate places Nothing) k d)
     at k d lt = let within : k < places = omega (arith, lt, long marks places empty) in subst (IsMarked n) (sym (get_or-replicate places k Nothing d within)) tt
 
--- where an edge led to a place, it is the edge to that place
+-- if an edge led to a place, it is the edge to that place
 pub goes_there : (o : Option (ℕ × TypeState)) (before : TypeState) (r : Option ℕ) (after : TypeState) (to : ℕ) → Goes o before r after → r ≡ Some to → o ≡ Some (to, after)
 goes_there None before r after to goes is = cc
 goes_there (Some (place, s)) before r after to goes is = cc

@@ -1,4 +1,4 @@
--- The match of a `times`: where it lies, and how loops nest.
+-- The match of a `times`: its place, and how loops nest.
 use Rattle.std.proofs.Common.{◌≡◌, ℕ, zero, suc, ◌+◌, ◌-◌, ◌<◌, ◌≤◌, ◌⊎◌, inl, inr, List, length}
 use Rattle.std.proofs.Common.{take, drop, Bool, true, false, Some, find, count_by, if◌then◌else◌}
 use Rattle.std.proofs.Common.{cond, refl, sym, ap, ◌∙◌, subst, arith, slice_range, eqb-true, eq-eqb}

@@ -30,7 +30,7 @@ below_more code pc k =
     let z : 0 + k ≡ k = omega arith in
     ap (filter (is_inside code pc)) (ap reverse (range_more 0 k ∙ ap (λ x. range_with_len 0 k ++ x ∷ []) z) ∙ reverse-append (range_with_len 0 k) (k ∷ []))
 
--- where it lies inside, its match isn't before
+-- if it is inside, its match isn't before
 pub record IsWithin (code : List Instr) (pc p : ℕ) : Type 0 where
   pub times : is_times (instr_at code p) ≡ true
   pub end : ℕ

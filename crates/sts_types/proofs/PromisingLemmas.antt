@@ -85,7 +85,7 @@ not_other code loops to e = (bytes_decides (around code to) loops).0 (by (bytes_
     by true e = refl
     by false e = cc
 
--- where no cause holds, the loops that an edge leaves open are those around its place
+-- if no cause holds, the loops that an edge leaves open are those around its place
 opened : (p : Program) (f pc : ℕ) (i : Instr) (s : TypeState) (to : ℕ) (after : List ℕ) → Fits p f pc i s → OpensAt (routine p f).code pc i (heads s.loops) to after → after ≡ around (routine p f).code to
 opened p f pc i s to after fit o = by (neither _ _ fit.loops) o
   where

@@ -1,4 +1,4 @@
--- Where no cause holds, there is room for what the instruction adds.
+-- If no cause holds, there is room for what the instruction adds.
 use Rattle.std.proofs.Common.{◌≡◌, ℕ, ◌+◌, ◌-◌, ◌<◌, ◌≤◌, Bool, true, false, ◌&&◌, ◌||◌, not}
 use Rattle.std.proofs.Common.{Option, Some, None, IfSome, is_some, leb, ltb, refl, arith, leb-false}
 use Rattle.std.proofs.Common.{ltb-false}
@@ -50,7 +50,7 @@ room_for h AllSucceed le e = let lt = less h (leb 32 h) refl e in omega arith
 room_for h AnySucceeds le e = let lt = less h (leb 32 h) refl e in omega arith
 room_for h (Until p) le e = let lt = less h (leb 32 h) refl e in omega arith
 
--- the failed outcome finds room where there is one
+-- the failed outcome has room, if there is one
 room_failed : (h : ℕ) (failed : Option ℕ) (j : Joiner) → leb 32 h && not (is_await_all j) ≡ false → same (is_some failed) (can_fail j) ≡ true → IfSome failed (λ _. h < 32)
 room_failed h None j e f = tt
 room_failed h (Some to) AllSucceed e f = less h (leb 32 h) refl e

@@ -63,8 +63,8 @@ filled s Nothing = Nothing
 filled s (One x) = One s
 filled s Several = Several
 
--- an edge, if there is one, leads from a typestate to this place and typestate; with none there is
--- no place, and the typestate is the same
+-- an edge, if there is one, leads from a typestate to this place and typestate; if there is none,
+-- there is no place, and the typestate is unchanged
 abbrev pub Goes : Option (ℕ × TypeState) → TypeState → Option ℕ → TypeState → Type 0
 Goes None before to after = (to ≡ None) × (after ≡ before)
 Goes (Some e) before to after = (to ≡ Some e.0) × (after ≡ e.1)

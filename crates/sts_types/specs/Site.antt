@@ -15,7 +15,7 @@ pub record IsSite (s : Site) : Type 0 where
   pub inside : s.pc < length s.loops.now
   pub skip : option_to_list s.skip ≡ skipped_to s.loops.now s.pc s.instr
 
--- the edges of the instruction there, where no cause holds
+-- the edges of the instruction there, if no cause holds
 abbrev pub follows_at : Site → TypeState → List (ℕ × TypeState)
 follows_at s state = follows s.program.now s.loops.now s.pc s.instr state
 

@@ -255,7 +255,7 @@ impl TypeState {
         self.entries.push(TypedEntry::Binding(key));
     }
 
-    /// To the next instruction, where that may follow.
+    /// To the next instruction, if that may follow.
     pub fn step(&mut self, program: &Program, pc: u32, instr: Instr)
         requires falls { facts.falls_through instr ≡ true }
         requires room { HasRoom program.now instr self.old }
@@ -282,8 +282,8 @@ impl TypeState {
         }
     }
 
-    /// Where an instruction leads that has one edge and changes no more than the number of
-    /// operands: the place, and the number there.
+    /// The place that an instruction leads to, and the number of operands there. The instruction
+    /// must have one edge and change only the number of operands.
     pub fn moves_to(&self, program: &Program, pc: u32, instr: Instr) -> Option<(u32, u8)>
         requires pc { pc < MAX_INSTRUCTIONS }
         requires room { HasRoom program.now instr self.now }

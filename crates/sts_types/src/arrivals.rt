@@ -28,8 +28,8 @@ pub(crate) struct Mark {
 
 /// The typestates that have arrived at each place, and the current typestate.
 ///
-/// Most instructions change no more than the number of operands: whole typestates are kept for the
-/// others alone.
+/// Most instructions only change the number of operands. Whole typestates are kept only for the
+/// others.
 #[derive(Drop)]
 pub(crate) struct Arrivals {
     marks: Vec<Arrival<Mark>>,

@@ -14,7 +14,7 @@ use sts_code::{Program, code_of};
 use sts_rules::Cause;
 
 /// The edges of the instruction at a place of one of the program's functions, or the least cause
-/// that holds there.
+/// that holds at it.
 ///
 /// Causes that compare typestates or look for dead code aren't tested: they speak of a whole
 /// function.

@@ -1,4 +1,4 @@
-//! The places and typestates that follow an instruction, where no cause holds.
+//! The places and typestates that follow an instruction, if no cause holds.
 
 ghost use Rattle.std.specs.Prelude.{ℕ, List, ◌≡◌, ◌<◌, ◌≤◌, ◌-◌, ◌+◌, ◌++◌, ◌∷◌, [], length};
 ghost use Rattle.std.specs.Prelude.{slice_get, option_to_list, IfSome};

@@ -15,7 +15,7 @@ use sts_code::{Instr, falls_through};
 use sts_model::Stack;
 use sts_rules::TypedLoop;
 
-/// Where a `times` goes that makes no turn.
+/// The place after a `times` that makes no turn.
 pub(crate) fn skip(loops: &CodeLoops<'_>, pc: u32, instr: Instr) -> Option<u32>
     ensures { option_to_list result ≡ around.skipped_to loops.now pc instr }
 {

@@ -1,6 +1,6 @@
 //! The typing of a function: the typestate at each place, or the least place with a cause.
 //!
-//! A typestate is what the verifier knows of a task at a place: the number of operands, the open
+//! A typestate is the verifier's knowledge of a task at a place: the number of operands, the open
 //! loops, the structure list and the slots. `edge` finds what follows an instruction, or the least
 //! cause from V1 to V16 that holds there. `pass` goes over the places of a function once, in order.
 //! `loops` finds the end of a loop and the loops around a place.

@@ -1,4 +1,4 @@
-//! Which loops are around a place: looked up in tables where there are any.
+//! The loops around a place, looked up in tables if there are any.
 
 ghost use Rattle.std.specs.Prelude.{◌≡◌, ◌≤◌, ◌<◌, ◌+◌, ◌∷◌, length, drop, bytes_eq, ◌↔◌, IsTrue};
 ghost use Rattle.std.specs.Prelude.{Some};
@@ -52,7 +52,7 @@ impl<'c> Model for CodeLoops<'c> {
 }
 
 impl<'c> CodeLoops<'c> {
-    /// The loops of this code, each found where it is asked for.
+    /// The loops of this code, each looked up when it is asked for.
     pub fn new(code: &'c [Instr]) -> CodeLoops<'c>
         requires { length code.now ≤ MAX_INSTRUCTIONS }
         ensures { result ≡ code.now }

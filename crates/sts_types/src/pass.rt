@@ -71,8 +71,8 @@ fn spread(site: &Site<'_>, arrivals: &mut Arrivals) -> Result<(), AllocError>
     Ok(())
 }
 
-/// The typestates after an instruction arrive at their places: a short way for those that change no
-/// more than the number of operands.
+/// The typestates after an instruction arrive at their places. Instructions that only change the
+/// number of operands take a short way.
 fn follow(site: &Site<'_>, arrivals: &mut Arrivals) -> Result<(), AllocError>
     requires site { IsSite site.now }
     requires small { site.now.pc < MAX_INSTRUCTIONS }

@@ -11,6 +11,6 @@ pub(crate) struct Site<'c> {
     pub(crate) loops: &'c CodeLoops<'c>,
     pub(crate) pc: u32,
     pub(crate) instr: Instr,
-    /// Where a `times` goes that makes no turn.
+    /// The place after a `times` that makes no turn.
     pub(crate) skip: Option<u32>,
 }

@@ -15,9 +15,9 @@ pub fn typing_promises(program: &Program)
     let _ = program.functions();
 }
 
-/// Acceptance and refusal exclude each other, and a program has one refusal at most: the least
-/// place, and the least cause there. So, where memory suffices, `verify` accepts exactly the
-/// programs that are accepted, and names of each other one the only refusal.
+/// Acceptance and refusal exclude each other. A program has at most one refusal: the least place
+/// with a cause, and the least cause there. So, if memory suffices, `verify` accepts exactly the
+/// accepted programs, and names the only refusal of each other one.
 pub fn verdict_is_one(program: &Program)
     ensures { IsOneVerdict program.now }
 {

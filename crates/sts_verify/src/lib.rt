@@ -1,4 +1,4 @@
-//! The verifier: which programs are accepted, and where and why the others are refused.
+//! The verifier. It says which programs are accepted, and where and why it refuses the others.
 #![tactic(auto)]
 
 mod error;

@@ -91,7 +91,7 @@ fn at_end(count: usize, error: BudgetError) -> TypeError
     }
 }
 
-/// Verifies a function, where these are the budgets of those before it: its own are added.
+/// Verifies a function, given the budgets of the functions before it, and adds its own.
 fn verify_function(
     alloc: Global,
     program: &Program,

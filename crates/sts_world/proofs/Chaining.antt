@@ -1,4 +1,4 @@
--- Environments that share their bindings, where there are more links.
+-- Environments that share their bindings, after more links are added.
 use Rattle.std.proofs.Common.{◌≡◌, ◌≢◌, take, reverse, get_or, ℕ, zero, suc, ◌+◌, ◌<◌, ◌≤◌, List}
 use Rattle.std.proofs.Common.{[], ◌∷◌, ◌++◌, length, Bool, true, false, Option, Some, None, eqb}
 use Rattle.std.proofs.Common.{refl, ap, sym, ◌∙◌, arith, append_assoc}

@@ -66,7 +66,7 @@ apart s r closed b h false e =
     none false true n = refl
     none false false n = refl
 
--- of one line, where a scope is closed or opened again
+-- the count of one line, when a scope is closed or opened again
 one_stands : (s : ℕ) (closed : List Bool) (b : Bool) (o : Option ℕ) → s < length closed → cond (stands (set closed s b) o) 1 0 + cond (get_or closed s true) 0 (cond (is_in s o) 1 0) ≡ cond (stands closed o) 1 0 + cond b 0 (cond (is_in s o) 1 0)
 one_stands s closed b None h = none (get_or closed s true) b
   where

@@ -1,4 +1,4 @@
--- A task changed in its frame and its flag alone: all that is kept stays.
+-- Only the frame and the flag of a task change: all counters stay.
 use Rattle.std.proofs.Common.{◌≡◌, ℕ, List, Bool, refl, ap, ◌∙◌}
 use Rattle.sts_joiners.specs.Tallied.{Tallied}
 use Rattle.sts_model.specs.declared.record.Frame.{Frame}

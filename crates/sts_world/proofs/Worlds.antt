@@ -106,7 +106,7 @@ kept_scope_born w v fs ts n m t f x joiner timed e k =
     let after : lines v ≡ record (lines w) { closed = map is_shut w.scopes ++ false ∷ []; tallies = map tally_of w.scopes ++ tallied joiner [] ∷ [] } = ap lines e ∙ same_task _ t _ refl ∙ rw (map-append is_shut, map-append tally_of) refl in
     rw after (kept_open (lines w) fs ts n m joiner k)
 
--- the line of a living task, and where it has ended
+-- the line of a living task, and after it has ended
 alive : (w : World) (t : ℕ) → t < length w.tasks → lives (task_at w t) ≡ true → get_or (map line w.tasks) t (line no_task) ≡ record { scope = (task_at w t).scope; lives = true }
 alive w t h e = get_or-map line w.tasks t no_task (line no_task) h ∙ rw e refl
 

@@ -6,7 +6,7 @@ use Rattle.sts_model.specs.declared.record.Bound.{Bound}
 use Rattle.sts_model.specs.Living.{is_in}
 use Rattle.sts_world.specs.declared.chains.Link.{Link}
 
--- what is read where no link is
+-- the link that is read if there is none
 abbrev pub no_link : Link
 no_link = record { bound = record { key = 0; value = pos 0 }; behind = None }
 

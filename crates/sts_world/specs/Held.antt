@@ -1,5 +1,5 @@
--- A task's frame as it is held: in full while the task lives, and at rest in what is used of it
--- (this project's own).
+-- A task's frame as it is held: in full while the task lives, and later only its used parts (this
+-- project's own).
 use Rattle.std.specs.Prelude.{ℕ, [], ◌∷◌, reverse, replicate, Bool, true, false, Option, Some, None}
 use Rattle.sts_code.specs.declared.limits.TheConstants.{LAST_SLOT}
 use Rattle.sts_model.specs.declared.record.Frame.{Frame}

@@ -54,7 +54,7 @@ standing_tasks l = count_by (λ (x : Line). stands l.closed x.scope) l.tasks
 abbrev pub standing_scopes : Lines → ℕ
 standing_scopes l = count_by not l.closed
 
--- what is read where no task, no scope was born
+-- the values that are read if no such task or scope was born
 abbrev pub no_line : Line
 no_line = record { scope = None; lives = false }
 

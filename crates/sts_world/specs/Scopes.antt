@@ -22,7 +22,7 @@ shown links s =
       environment = bindings_of links s.front;
     }
 
--- what is read where no scope was born
+-- the scope that is read if none was born
 abbrev pub no_record : ScopeRecord
 no_record =
     record {

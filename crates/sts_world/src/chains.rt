@@ -87,8 +87,8 @@ impl Chains {
         }
     }
 
-    /// The place of a link with this binding in front of that one. It may be at the place that is
-    /// given as a hint already.
+    /// The place of a link with this binding in front of that link. The hint may lead to such a
+    /// link already.
     fn put(&mut self, bound: Bound, behind: Option<usize>, hint: usize) -> Result<usize, AllocError>
         requires { is_within (length self.old) behind ≡ true }
         ensures list { IfOk result (λ place. bindings_of self.new (Some place) ≡
@@ -112,8 +112,8 @@ impl Chains {
         }
     }
 
-    /// The places of the links from one on up to an environment, innermost first, and how many they
-    /// are: no more than a task may have entries. They are hints alone.
+    /// The places of the links from one on up to an environment, innermost first, and their number,
+    /// at most the limit of a task's entries. They are only hints.
     fn places(&self, front: usize, rest: Option<usize>) -> ([usize; MAX_ENTRIES], usize)
         ensures { result.1 ≤ MAX_ENTRIES }
     {
@@ -163,7 +163,7 @@ impl Chains {
 }
 
 impl Chains {
-    /// Where it answers true the two environments have the same bindings.
+    /// If the answer is true, the two environments have the same bindings.
     pub fn same_bindings(
         &self,
         front: Option<usize>,

@@ -125,7 +125,7 @@ fn raise_at(tasks: &mut [TaskRecord], s: u32, t: u32)
     }
 }
 
-/// Sets the flags of the living subtasks of a scope, where these are all its subtasks.
+/// Sets the flags of the living subtasks of a scope, given all its subtasks.
 #[tactic(auto, using(crate::proofs::Raising::raises_all))]
 fn raise(tasks: &mut [TaskRecord], s: u32, births: &[u32])
     requires { births.now ≡ births_of s (map line tasks.old) }

@@ -295,7 +295,7 @@ fn same_scopes(a: &[ScopeRecord], here: &Chains, b: &[ScopeRecord], there: &Chai
 }
 
 impl Records {
-    /// Where it answers true the two have the same tasks and scopes.
+    /// If the answer is true, the two have the same tasks and scopes.
     pub fn same(&self, other: &Records) -> bool
         ensures { result ≡ true → self.now ≡ other.now }
     {

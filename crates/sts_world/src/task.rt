@@ -31,8 +31,8 @@ use sts_same::same::Same;
 
 /// A task: contracts see its record with the frame in full.
 ///
-/// The frame is held in full while the task lives. One that never runs, and one that has ended, is
-/// held at rest, in what is used of it.
+/// The frame is held in full while the task lives. A task that never runs, or has ended, keeps only
+/// the used parts of its frame.
 #[derive(Drop)]
 pub struct TaskRecord {
     frame: HeldFrame,
@@ -445,8 +445,7 @@ impl TaskRecord {
         self.rest(alloc);
     }
 
-    /// Holds the frame of a task that doesn't live in what is used of it, where there is memory for
-    /// that.
+    /// Holds the frame of a task that doesn't live by its used parts, if there is memory for that.
     fn rest(&mut self, alloc: Global)
         requires { living.lives self.old ≡ false }
         ensures { self.new ≡ self.old }

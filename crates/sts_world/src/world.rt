@@ -60,7 +60,7 @@ impl Model for World {
         × KnowsEnds w.records w.was_told.items };
 }
 
-/// The number, or 0 where the scope is closed.
+/// The number, or 0 if the scope is closed.
 fn unless(closed: bool, n: usize) -> usize
     ensures { result ≡ (if closed then 0 else n) }
 {
@@ -649,7 +649,7 @@ fn copy_tallies(alloc: Global, tallies: &[Tally]) -> Result<Vec<Tally>, AllocErr
 }
 
 impl World {
-    /// Where it answers true the two are the same.
+    /// If the answer is true, the two are the same.
     pub fn same(&self, other: &World) -> bool
         ensures { result ≡ true → self.now ≡ other.now }
     {

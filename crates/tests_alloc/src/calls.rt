@@ -150,7 +150,7 @@ fn started(rt: &HostRuntime, alloc: Global, row: &Row<'_>) -> Result<(), Failure
     Ok(())
 }
 
-/// Applies an event, and once more where there was no memory.
+/// Applies an event, and once more if there was no memory.
 fn applied_again(
     rt: &HostRuntime,
     alloc: Global,

@@ -25,8 +25,8 @@ pub fn of_machine(machine: &mut Machine<'_>) {
     }
 }
 
-/// A task that can step is taken out, does what it can, is given back and steps once; meanwhile an
-/// event comes from outside. None where no task can, or the book doesn't go on.
+/// Takes out a task that can step, does what it can, gives it back and steps once; meanwhile an
+/// event comes from outside. `None` if no task can step, or the book doesn't go on.
 fn round(book: &mut Book<'_>) -> Option<Turned> {
     let mut slice = book.check_out()?;
     let task = slice.task();

@@ -22,7 +22,7 @@ const REFUSED: &str = "sts: ./look explain FILE says why\n";
 
 const FAILS: &[u8] = b"func main 0\npush 7\nfail\nend\n";
 
-/// It gives 2 where its scope expires, else 1.
+/// It gives 2 if its scope expires, else 1.
 const TIMED: &[u8] = b"func kid 0\npush 0\nret\nend\n\
     func main 0\nopen s0 awaitall timed\nfork s0 kid _\njoin s0 - late intr\n\
     close s0\npush 1\nret\nlate:\nclose s0\npush 2\nret\n\
@@ -283,7 +283,7 @@ fn run_prints_the_budgets_and_the_end(rt: HostRuntime) -> Result<(), Fail> {
     runs(&rt, alloc, &none, 2, "", "from 1 to 16")
 }
 
-/// The end is another one where the outside text isn't used, with a trace and with none.
+/// The end differs if the outside text isn't used, with a trace and with none.
 #[test]
 fn run_takes_its_outside_events(rt: HostRuntime) -> Result<(), Fail> {
     let alloc = rt.alloc();

@@ -221,7 +221,7 @@ static ROWS: [Row; 6] = [
     },
 ];
 
-/// Gives a slice back: the slice, where the book doesn't take it.
+/// Gives a slice back. Answers the slice, if the book doesn't take it.
 fn give_back<'p, R: Abort>(
     rt: &R,
     book: &mut Book<'p>,

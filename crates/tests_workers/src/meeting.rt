@@ -123,8 +123,8 @@ fn count(journal: &[Event], event: Event) -> usize {
     journal.iter().filter(|e| **e == event).count()
 }
 
-/// One worker that does all waits in vain, and a book that was made or run before or after the
-/// workers lacks one of the two events.
+/// One worker that does all waits in vain. A book that was made or run before or after the workers
+/// lacks one of the two events.
 #[test]
 fn two_workers_meet(rt: HostRuntime) -> Result<(), Fail> {
     let verified = accepted(rt.alloc(), DOUBLES)?;

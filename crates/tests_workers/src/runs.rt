@@ -14,8 +14,8 @@ use sts_pool::run;
 /// The numbers of workers with which each text runs.
 static WORKERS: [u32; 4] = [1, 2, 8, 16];
 
-/// A text, what comes from outside, the ends that it may have, and the steps that it takes, where
-/// each run takes as many.
+/// A text, the events from outside, the ends that it may have, and the number of its steps, if that
+/// is the same in each run.
 struct Run {
     text: &'static str,
     weather: Weather,

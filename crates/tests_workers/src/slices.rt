@@ -31,8 +31,8 @@ impl Outside for Leaps<'_> {
     }
 }
 
-/// A worker that does every step by a turn is asked before each, so the journal grows by one entry;
-/// the steps of a slice come all at once.
+/// A worker that does every step by a turn is asked before each, so the journal grows by one entry.
+/// The steps of a slice come all at once.
 #[test]
 fn steps_of_a_slice_come_at_once(rt: HostRuntime) -> Result<(), Fail> {
     let verified = accepted(rt.alloc(), LOOPS)?;
@@ -135,7 +135,7 @@ impl Gate for Return {
     }
 }
 
-/// After a row of short scopes one worker is enough, and the others sleep. A slice that is worth it
+/// After a row of short scopes one worker is enough, and the others sleep. A long enough slice
 /// brings another one back.
 #[test]
 fn workers_come_back_to_long_subtasks(rt: HostRuntime) -> Result<(), Fail> {

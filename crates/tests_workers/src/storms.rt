@@ -1,4 +1,4 @@
-//! A storm of interrupts, counted in the journal and where it comes from.
+//! A storm of interrupts, counted in the journal and at its source.
 
 use crate::outsides::{Counted, Open, Weather};
 use crate::paths::{PATHS, ending};

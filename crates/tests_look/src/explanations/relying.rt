@@ -1,4 +1,4 @@
-//! Accepted programs, and where they rely on a rule that JDK 25 doesn't share.
+//! Accepted programs, and the places where they rely on a rule that JDK 25 doesn't share.
 
 use crate::explanations::row::{Part, Row, all};
 use std::test::Fail;

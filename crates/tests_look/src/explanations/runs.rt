@@ -1,4 +1,4 @@
-//! Where runs are after traces, by the lines of their texts: each fault of a run and of a trace,
+//! The explanations of runs after traces, with line numbers: each fault of a run and of a trace,
 //! and which task waits for which.
 
 use crate::explanations::row::{Part, RunRow, all_runs};

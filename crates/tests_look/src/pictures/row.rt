@@ -180,7 +180,7 @@ pub fn all<R: Abort>(rt: &R, alloc: Global, rows: &[Row]) -> Result<(), Fail> {
     Ok(())
 }
 
-/// Draws nothing where a text or a trace has a fault.
+/// Draws nothing if a text or a trace has a fault.
 pub fn faults<R: Abort>(rt: &R, alloc: Global, rows: &[FaultRow]) -> Result<(), Fail> {
     for row in rows {
         prints(rt, alloc, row.text, row.trace, row.line, 3)?;

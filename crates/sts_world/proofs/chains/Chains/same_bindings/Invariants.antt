@@ -2,7 +2,7 @@ use Rattle.std.proofs.Common.{◌≡◌, ◌≤◌, length}
 use Rattle.sts_world.specs.Chains.{chain, bindings_of}
 use Rattle.sts_world.proofs.chains.Chains.same_bindings.Given as goal
 
--- where the rests are the same, so are the whole ones
+-- if the rests are the same, so are the whole ones
 abbrev pub invariant-loop-at : goal.invariant-loop-at
 invariant-loop-at l = record {
   within : l.younger ≤ length l.self-inside.links.items;
