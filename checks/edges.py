@@ -1,7 +1,8 @@
 #!/usr/bin/env python3
-"""Gives the programs words and files at their edges.  usage: edges.py [PROGRAM [LOOK]]
+"""Gives the programs words and files at their edges.  usage: edges.py [PROGRAM [LOOK [PART ..]]]
 
-PROGRAM is `sts`, LOOK is `look`; each of their commands is tried where it applies.
+PROGRAM is `sts`, LOOK is `look`; each of their commands is tried where it applies. A PART is a function below, such as
+`dues_of_sts`; all are tried if none is named.
 - Words: all of them count, even if there are 300, and ten may be right. Words that are mistaken, are no text or ask for
   help are answered on standard error alone, with status 2 or 0.
 - Files: a name is taken as it is, with the blanks around it. FILE is read before the other file, up to a byte more than a
@@ -72,7 +73,7 @@ class Folder:
 
     def is_reason(self, status, told):
         """Returns whether one line of the program's own says why it failed. Which line, `streams.py` compares."""
-        name = os.path.basename(self.program)
+        name = os.path.basename(self.program).split(".")[0]  # (`sts.unproved` is `sts`)
         return status in (3, 4, 6) and told.startswith(f"{name}: ") and told.find("\n") == len(told) - 1
 
     def tells(self, *words):
@@ -283,7 +284,7 @@ def dues_of_sts(sts):
         yield f"the journal of {short!r}", sts.read("journal"), events
 
 
-def large_runs(sts):
+def large_runs_of_sts(sts):
     """Yields the same of as many subtasks as a scope may have, in a text that is as long as one may be."""
     sts.has(text=WIDE + ";" * (MOST - len(WIDE) - 1) + "\n")
     for more in ([], ["--trace", "journal"]):
@@ -305,31 +306,43 @@ def dashed_names(sts, look):
     yield "look and a file that is called -", look.says("explain", "--", "-", given=SEVEN), (0, "accepted\n", "")
 
 
-def tried(sts, look):
-    yield from words_of_sts(sts)
-    yield from words_of_look(look)
-    yield from names_of_sts(sts)
-    yield from names_of_look(look)
-    yield from outputs_of_sts(sts)
-    yield from outputs_of_look(look)
-    yield from dues_of_sts(sts)
-    yield from large_runs(sts)
-    yield from dashed_names(sts, look)
+def files_of_sts(sts):
     run = ["run", "text", "--workers", "2"]
     both = [["plain", "text", "trace"], ["replay", "text", "trace"], [*run, "--outside", "trace"]]
     yield from files(sts, "sts", [["verify", "text"], ["list", "text"], run], both)
+
+
+def files_of_look(look):
     yield from files(look, "look", [["explain", "text"]], [[it, "text", "trace"] for it in ("view", "explain", "draw")])
 
 
+OF_STS = [words_of_sts, names_of_sts, outputs_of_sts, dues_of_sts, large_runs_of_sts, files_of_sts]
+OF_LOOK = [words_of_look, names_of_look, outputs_of_look, files_of_look]
+OF_BOTH = [dashed_names]
+PARTS = [it.__name__ for it in (*OF_STS, *OF_LOOK, *OF_BOTH)]
+
+
+def tried(sts, look, parts):
+    for programs, tries in ([sts], OF_STS), ([look], OF_LOOK), ([sts, look], OF_BOTH):
+        for it in tries:
+            if it.__name__ in parts:
+                yield from it(*programs)
+
+
 def main():
-    programs = [os.path.realpath(it) for it in [*sys.argv[1:], *(PROGRAM, LOOK)[len(sys.argv) - 1 :]]]
+    programs = [os.path.realpath(it) for it in [*sys.argv[1:3], *(PROGRAM, LOOK)[len(sys.argv[:3]) - 1 :]]]
+    parts = sys.argv[3:] or PARTS
+    unknown = [it for it in parts if it not in PARTS]
+    if unknown:
+        print(f"edges.py: no part {unknown[0]}: there are {', '.join(PARTS)}", file=sys.stderr)
+        return 2
     for program in programs:
         if not os.access(program, os.X_OK):
             print(f"edges.py: no program at {program}: ./sts and ./look build them", file=sys.stderr)
             return 2
     passed = failed = 0
     with tempfile.TemporaryDirectory() as folder:
-        for what, said, right in tried(*(Folder(it, folder) for it in programs)):
+        for what, said, right in tried(*(Folder(it, folder) for it in programs), parts):
             passed, failed = passed + (said == right), failed + (said != right)
             if said != right:
                 print(f"{what}: {said}, and not {right}", file=sys.stderr)

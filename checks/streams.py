@@ -1,10 +1,12 @@
 #!/usr/bin/env python3
-"""Gives the programs readers that never end and writers that fail.  usage: streams.py [PROGRAM [LOOK]]
+"""Gives the programs readers that never end and writers that fail.  usage: streams.py [PROGRAM [LOOK [PART ..]]]
 
-PROGRAM is `sts`, LOOK is `look`; each of their commands is tried. Each run has 64 MiB of addresses and a minute. A text
+PROGRAM is `sts`, LOOK is `look`; each of their commands is tried. A PART is a function below, such as `unwritten`; all are
+tried if none is named. Each run has 64 MiB of addresses and a minute. A text
 without end is too long (`error A8`, status 3): the program reads one byte more than a text may have. It reads a trace, an
 outside text or an input without end until memory runs out (`error memory`, status 6). The status is 6, and the journal of
 a run is whole, if standard output is full, closed or read by nobody; for help and mistakes that is standard error.
+A program that was built without proofs needs more addresses: there each allocation has a bound instead.
 
 A journal that can't be made or written is `error file`, status 6. If a run never begins, its journal is made and stays
 empty, except if a file that is read first can't be read. A journal that is a file that the run reads, also by another path
@@ -27,7 +29,7 @@ PROGRAM, LOOK = (os.path.join(ROOT, "crates", name, "out", name) for name in ("s
 SUM, TRACE, DEADLINE, DUE = (
     os.path.join(ROOT, "examples", name) for name in ("sum.sts", "sum.trace", "deadline.sts", "deadline.outside")
 )
-ADDRESSES, SECONDS = 64 << 20, 60
+ADDRESSES, ALLOCATED, SECONDS = 64 << 20, 16, 60  # bytes, MiB, seconds
 TOO_LONG, NO_MEMORY, NO_FILE = ("error A8 line 0\n", 3), ("error memory\n", 6), ("error file\n", 6)
 EXPLAINED_TOO_LONG = ("error A8\nthe text has more than 1048576 bytes\n", 3)
 FAILED = ("", 6)
@@ -40,11 +42,20 @@ def limited(closed=()):
     """What is done in a new process before it is the program: addresses are few, and these files are closed."""
 
     def prepare():
-        resource.setrlimit(resource.RLIMIT_AS, (ADDRESSES, ADDRESSES))
+        if "ASAN_OPTIONS" not in os.environ:
+            resource.setrlimit(resource.RLIMIT_AS, (ADDRESSES, ADDRESSES))
         for file in closed:
             os.close(file)
 
     return prepare
+
+
+def bound_allocations(programs):
+    """Bounds each allocation if a program can't begin with few addresses, since it was built with AddressSanitizer."""
+    for it in programs:
+        ran = subprocess.run([it, "--help"], stdin=subprocess.DEVNULL, capture_output=True, preexec_fn=limited())
+        if b"AddressSanitizer" in ran.stderr:
+            os.environ["ASAN_OPTIONS"] = f"allocator_may_return_null=1:max_allocation_size_mb={ALLOCATED}"
 
 
 def answer(program, words, given=subprocess.DEVNULL, **around):
@@ -210,7 +221,13 @@ def reasons(program, look, folder):
     ]
     for words, line in rows:
         yield f"why {words}", told(program, words), f"sts: {line}\n"
-    yield "why by look", told(look, ["view", missing, TRACE]), f"look: cannot read {missing}: there is no such file\n"
+    for words, line in (
+        (["view", missing, TRACE], f"cannot read {missing}: there is no such file"),
+        (["view", SUM, bad], f'{bad}, line 2: " step"; ./look explain FILE TRACE says more'),
+        (["draw", SUM, bad], f'{bad}, line 2: " step"; ./look explain FILE TRACE says more'),
+        (["view", text, TRACE], f'{text}, line 2: "puhs 7"; ./look explain FILE says more'),
+    ):
+        yield f"why by look {words}", told(look, words), f"look: {line}\n"
     for words in (["verify", SUM], ["plain", SUM, TRACE]):
         yield f"nothing of {words}", told(program, words), ""
     for words in (["explain", "-"], ["view", "-", TRACE], ["draw", "-", TRACE], ["explain", "-", TRACE]):
@@ -246,21 +263,36 @@ def contents(folder):
     return found
 
 
+# What the programs are tried for: each function yields what was tried, what came of it, and what is right.
+PARTS = {
+    "unended": lambda program, look, folder: unended(program, look),
+    "unwritten": unwritten,
+    "journals": lambda program, look, folder: journals(program, folder),
+    "overwriting": lambda program, look, folder: overwriting(program, folder),
+    "reasons": reasons,
+}
+
+
 def main():
-    program, look = map(os.path.realpath, [*sys.argv[1:], *(PROGRAM, LOOK)[len(sys.argv) - 1 :]])
+    program, look = map(os.path.realpath, [*sys.argv[1:3], *(PROGRAM, LOOK)[len(sys.argv[:3]) - 1 :]])
+    parts = sys.argv[3:] or PARTS
     for it in (program, look):
         if not os.access(it, os.X_OK):
             print(f"streams.py: no program at {it}: ./sts and ./look build them", file=sys.stderr)
             return 2
+    for it in parts:
+        if it not in PARTS:
+            print(f"streams.py: no part {it}: there are {', '.join(PARTS)}", file=sys.stderr)
+            return 2
+    bound_allocations([program, look])
     passed = failed = 0
     with tempfile.TemporaryDirectory() as folder:
-        tried = itertools.chain(unended(program, look), unwritten(program, look, folder), journals(program, folder), overwriting(program, folder), reasons(program, look, folder))
-        for what, said, right in tried:
+        for what, said, right in itertools.chain.from_iterable(PARTS[it](program, look, folder) for it in parts):
             passed, failed = passed + (said == right), failed + (said != right)
             if said != right:
                 print(f"{what}: {said}, and not {right}", file=sys.stderr)
     print(f"{passed} passed, {failed} failed")
-    return 1 if failed else 0
+    return 1 if failed or not passed else 0
 
 
 if __name__ == "__main__":
