@@ -1,7 +1,7 @@
 //! Rounds of the tree of records: a scope from its opening to its close, with a number of subtasks.
 //!
-//! Each call is made after a test of what it requires. So the times are above those of a caller
-//! that has it proved.
+//! Each call comes after a test of what it requires. So the times are above those of a caller that
+//! has proved it.
 
 ghost use Rattle.std.specs.Prelude.{◌≡◌, ◌≢◌, ◌<◌, ◌≤◌, Some, None, slice_index_or};
 

@@ -36,14 +36,14 @@ is_end _ = true
 abbrev pub shown_after : Program → List Event → PlainState
 shown_after p events = shown (after p events)
 
--- the events are allowed, and the program ends so after them
+-- the events are allowed, and the program ends like this after them
 pub record IsEnd (p : Program) (may_expire : Bool) (most : ℕ) (events : List Event)
     (end : PlainState) : Type 0 where
   pub allowed : IsAllowed may_expire most events
   pub comes : shown_after p events ≡ end
   pub ends : is_end end ≡ true
 
--- whatever events are allowed, the end that they lead to is among these
+-- the end after any allowed events is among these
 abbrev pub AreAll : Program → Bool → ℕ → List PlainState → Type 0
 AreAll p may_expire most ends =
     (events : List Event) (end : PlainState) → IsEnd p may_expire most events end

@@ -1,4 +1,4 @@
--- A search that has gone so far (this project's own).
+-- A search so far (this project's own).
 use Rattle.std.specs.Prelude.{ℕ, List}
 use Rattle.ends_search.specs.Search.{Begins, IsSearched}
 use Rattle.ends_search.specs.declared.origin.Origin.{Origin}

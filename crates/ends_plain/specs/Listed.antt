@@ -14,7 +14,7 @@ use Rattle.ends_plain.specs.Ends.{is_end, IsEnd}
 abbrev pub ends_of : List Found → List PlainState
 ends_of found = map (λ (f : Found). f.end) found
 
--- it is an end of the program, which comes by its trace
+-- it is an end of the program, and its trace leads to it
 abbrev pub IsEndOf : Setting → Found → Type 0
 IsEndOf g f = IsEnd g.program g.expiries g.interrupts f.trace.items f.end
 

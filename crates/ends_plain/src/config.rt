@@ -8,7 +8,7 @@ use sts_model::Event;
 use sts_plain::{PlainState, Position};
 
 /// A program, and the outside events that may come: whether timed scopes may expire, and how many
-/// interrupts of tasks that live.
+/// interrupts of living tasks may come.
 #[derive(Drop)]
 pub struct Setting {
     pub program: Program,

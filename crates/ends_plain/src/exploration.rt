@@ -10,7 +10,7 @@ use ends_search::search::{Space, advance, begin};
 use std::alloc::{AllocError, Global};
 use std::marker::Model;
 
-/// A search that has gone so far: contracts see what is searched.
+/// A search so far. Contracts see its input.
 #[derive(Drop)]
 pub struct Exploration {
     setting: Setting,
@@ -31,8 +31,7 @@ impl Model for Exploration {
 }
 
 impl Exploration {
-    /// A search that has found the first state. It keeps no more than `most` states, and one at
-    /// least.
+    /// A search that has found the first state. It keeps at most `most` states, and at least one.
     ///
     /// # Errors
     ///
@@ -70,7 +69,7 @@ impl Exploration {
         self.space.states.len()
     }
 
-    /// Is no state left to expand, or no room for what one leads to?
+    /// Is no state left to expand, or no room for a further state?
     pub fn is_over(&self) -> bool {
         self.space.is_full || self.space.closed >= self.space.states.len()
     }

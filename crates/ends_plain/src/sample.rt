@@ -14,13 +14,13 @@ use std::alloc::{AllocError, Global};
 use sts_model::Event;
 use sts_plain::PlainState;
 
-/// The ends that came, each once with the trace of the first schedule that came to it.
+/// The ends that came, each once, with the trace of the first schedule that reached it.
 #[derive(Drop)]
 pub struct Sample {
     pub found: Vec<Found>,
     /// How many schedules came to each of them.
     pub times: Vec<u64>,
-    /// How many schedules came to no end in the events that they were given.
+    /// The number of schedules that reached no end within their events.
     pub unfinished: u64,
 }
 

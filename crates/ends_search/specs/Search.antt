@@ -38,7 +38,8 @@ origin_at origins k = slice_index_or origins k no_origin
 abbrev pub CanAt : {S : Type 0} → (S → Event → Bool) → List S → ℕ → Event → Type 0
 CanAt {S} can states k e = (d : S) → can (slice_index_or states k d) e ≡ true
 
--- the state at k comes by its event from the state at its parent, which was found before
+-- the state at k comes from the state at its parent by its event, and the parent was found before
+-- it
 pub record ComesFrom {S : Type 0} (next : S → Event → S) (can : S → Event → Bool) (states : List S)
     (origin : Origin) (k : ℕ) : Type 0 where
   pub before : origin.parent < k
@@ -46,7 +47,7 @@ pub record ComesFrom {S : Type 0} (next : S → Event → S) (can : S → Event 
   pub state : (d : S) → slice_index_or states k d
       ≡ next (slice_index_or states origin.parent d) origin.event
 
--- each state but the first comes from one that was found before
+-- each state except the first comes from one that was found before
 pub record IsTraced {S : Type 0} (next : S → Event → S) (can : S → Event → Bool) (states : List S)
     (origins : List Origin) : Type 0 where
   pub as_many : length origins ≡ length states

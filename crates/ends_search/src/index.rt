@@ -35,7 +35,7 @@ impl Index {
         })
     }
 
-    /// The first place on a chain, from this one on, that has the hash.
+    /// The first place from this one on, on its chain, that has the hash.
     fn next_of(&self, from: usize, hash: u64) -> usize {
         let mut at = from;
         for _ in 0..self.hashes.len() {

@@ -23,7 +23,7 @@ pub struct Space<S> {
     pub closed: usize,
     /// No more states are kept.
     pub most: usize,
-    /// A state was found for which there was no room.
+    /// Was a state found for which there was no room?
     pub is_full: bool,
     index: Index,
 }
@@ -114,8 +114,7 @@ fn expand<S: Machine>(
     Ok(true)
 }
 
-/// A search that has found its first state. It keeps at least this one, and else no more than
-/// `most` of them.
+/// A search that has found its first state. It keeps at most `most` states, and at least this one.
 ///
 /// # Errors
 ///

@@ -57,7 +57,7 @@ main_budget p budgets = budget_at budgets (length p.routines - 1)
 
 -- ---- steps
 
--- no more steps are taken than the budget of `main`
+-- the steps taken are never more than the budget of `main`
 abbrev pub StepsAreWithin : Type 0
 StepsAreWithin = TypedCosts (λ p budgets events w. taken p events ≤ (main_budget p budgets).steps)
 
@@ -128,7 +128,7 @@ share_in k budgets s task = if is_subtask s task then share k budgets task else 
 abbrev pub subtask_shares : Peak → List Budgets → List Task → ℕ → ℕ
 subtask_shares k budgets tasks s = sum_by (share_in k budgets s) tasks
 
--- what an entry of a structure list uses of its task's share
+-- the part of its task's share that an entry of a structure list uses
 abbrev pub entry_use : Peak → List Budgets → List Task → Entry → ℕ
 entry_use k budgets tasks (entry.Scope s) = k.scope + subtask_shares k budgets tasks s
 entry_use k budgets tasks (entry.Binding key value) = k.binding
@@ -218,6 +218,6 @@ AcceptedHasPlace = Accepted (λ p events w. HasPlace p w)
 
 -- ---- programs that are not well typed
 
--- the steps of a program that isn't well typed may pass its budget
+-- the steps of a program that isn't well typed may be more than its budget
 abbrev pub StepsNeedTypes : Type 0
 StepsNeedTypes = ¬ Costs (λ p budgets events w. taken p events ≤ (main_budget p budgets).steps)

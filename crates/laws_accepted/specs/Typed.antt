@@ -97,7 +97,7 @@ Zips R _ _ = ⊥
 
 -- ---- slots
 
--- is the state of a subtask what is known of it?
+-- does the state of a subtask fit what is known of it?
 abbrev pub is_known : Known → Option End → Bool
 is_known known.Unknown state = true
 is_known known.Success state = has_succeeded state

@@ -37,7 +37,7 @@ abbrev pub bindings_in : Option LiveTask → ℕ
 bindings_in None = 0
 bindings_in (Some task) = open_bindings task.alive
 
--- the open bindings of all living tasks: a record for each is all that is kept of bindings
+-- the open bindings of all living tasks: one record for each is all that is kept of bindings
 abbrev pub live_bindings : Live → ℕ
 live_bindings v = sum_by bindings_in v.tasks
 

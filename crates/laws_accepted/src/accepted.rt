@@ -43,7 +43,7 @@ pub fn every_run(verified: &Verified) -> Budgets
     main_budgets(verified)
 }
 
-/// The budgets of `main`, the last function; and what the type of a verified program keeps.
+/// The budgets of `main`, the last function, and the invariant of a verified program's type.
 fn main_budgets(verified: &Verified) -> Budgets
     ensures printed { IsBudgetOf verified.now (main_of verified.now) result }
     ensures checked { program_fault verified.now.routines ≡ None }
@@ -70,14 +70,14 @@ pub fn living_tasks_are_fine(verified: &Verified)
     accepted_has_place();
 }
 
-/// The functions have budgets, and these are the only ones: those that are printed.
+/// Each function has budgets, and only one set of them: those that are printed.
 pub fn budgets_are_printed(verified: &Verified)
     ensures { BudgetsArePrinted verified.now }
 {
     main_budgets(verified);
 }
 
-/// While a task lives, a step of the budget of `main` is left.
+/// While a task lives, the budget of `main` has a step left.
 pub fn a_step_is_left(verified: &Verified)
     ensures { AStepIsLeft verified.now }
 {
@@ -113,7 +113,7 @@ pub fn turns_are_seen(verified: &Verified)
     laws_live::turns_are_seen();
 }
 
-/// Each task that can step is at an instruction that is no misuse, as the view shows it.
+/// Each task that can step is at an instruction that is no misuse, as the view shows.
 pub fn turns_are_safe(verified: &Verified)
     ensures { TurnsAreSafe verified.now }
 {

@@ -1,9 +1,10 @@
 //! Laws of accepted programs over all lists of events: `every_run` has the main ones in one
 //! contract.
 //!
-//! `accepted` has the laws that follow from a value of `Verified` alone. They rest on two others.
+//! `accepted` has the laws that need only a value of `Verified`. They follow from two others.
 //! `typed` says that each living task fits a typestate that is reached at its place. `costs` says
-//! that the budgets of `main` bound what a run takes, and what counts in it.
+//! that the budgets of `main` bound the steps of a run, and the tasks, scopes and bindings that
+//! count in it.
 #![tactic(auto)]
 
 pub mod accepted;

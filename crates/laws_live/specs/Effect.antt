@@ -169,7 +169,7 @@ live_end v t end = live_tell (live_ended v t end) t (live_task_at v t).scope end
 
 -- ---- readings
 
--- the number of subtasks in a state; unavailable are those that did not complete
+-- the number of subtasks in a state; those that did not complete are unavailable
 abbrev pub live_tally : Live → ℕ → Kind → ℕ
 live_tally v s S = (live_scope_at v s).told.successes
 live_tally v s F = (live_scope_at v s).told.failures

@@ -36,7 +36,7 @@ abbrev pub live_parent : Live → Option ℕ → LiveScope
 live_parent v None = no_live_scope
 live_parent v (Some s) = live_scope_at v s
 
--- a test of the subtask that a slot names, with the scope it is of
+-- a test of the subtask that a slot names, and of its scope
 abbrev pub live_at_sub : Live → Slot → (ℕ → LiveScope → Bool) → Bool
 live_at_sub v (Sub t) test = test t (live_parent v (live_task_at v t).scope)
 live_at_sub v _ test = false
@@ -65,7 +65,7 @@ live_has_no_room v f _ = false
 abbrev pub live_is_readable : Profile → LiveScope → Bool
 live_is_readable profile scope = is_joined scope.phase && (is_two profile || not scope.expired)
 
--- is the scope or subtask not in the state for it?
+-- is the scope or subtask not in the state for the instruction?
 abbrev pub live_is_illegal : Program → Live → Frame → Instr → Bool
 live_is_illegal p v f (Fork s g h) =
     live_at_own v (slot f s) (λ _ scope. not (is_opened scope.phase))

@@ -26,7 +26,7 @@ pub record IsOwnSub (v : Live) (t u : ℕ) : Type 0 where
   pub inside : (live_task_at v u).scope ≡ Some scope
   pub owned : IsOwned v t scope
 
--- the environment outside of all bindings of a task of this scope
+-- the environment of a task of this scope, without its own bindings
 abbrev pub outer_in : Live → Option ℕ → List Bound
 outer_in v None = []
 outer_in v (Some s) = (live_scope_at v s).environment

@@ -27,7 +27,7 @@ no_live_scope = shown_scope no_scope
 abbrev pub no_alive : Alive
 no_alive = record { frame = no_task.frame; flag = false; environment = [] }
 
--- the task, the scope of this birth number, and what the task has if it lives
+-- the task or the scope of this birth number, and the task's own state if it lives
 abbrev pub live_task_at : Live → ℕ → LiveTask
 live_task_at v t = unwrap_or (task_in v t) no_live_task
 
@@ -42,7 +42,7 @@ lives_in v t = is_some (live_task_at v t).alive
 
 -- ---- changes
 
--- the view with one task, what one living task has, one frame, one scope changed
+-- the view with a change of one task, of one living task's own state, of one frame, of one scope
 abbrev pub with_live_task : Live → ℕ → (LiveTask → LiveTask) → Live
 with_live_task v t change =
     record v { tasks = slice_set v.tasks t (option_map change (task_in v t)) }
@@ -63,7 +63,7 @@ with_live_phase v s phase = with_live_scope v s (λ scope. record scope { phase 
 
 -- ---- subtasks
 
--- the number of subtasks of s, those counted too that never ran
+-- the number of subtasks of s, with those that never ran
 abbrev pub live_count : Live → ℕ → ℕ
 live_count v s = length (subtasks_in v s)
 

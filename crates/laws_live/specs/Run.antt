@@ -16,7 +16,7 @@ use Rattle.laws_live.specs.Waiting.{live_can_step}
 use Rattle.laws_live.specs.Effect.{live_effect}
 use Rattle.laws_live.specs.Outside.{live_interrupt, live_can_expire, live_expire}
 
--- what the root task begins with: the frame of the last function, `main`
+-- the root task's own state at the beginning: the frame of the last function, `main`
 abbrev pub live_root : Program → Alive
 live_root p =
     record { frame = entry_frame (length p.routines - 1) [] Empty; flag = false; environment = [] }

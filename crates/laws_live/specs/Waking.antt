@@ -48,7 +48,7 @@ abbrev pub is_step_of : ℕ → Event → Bool
 is_step_of u (event.Step t) = u == t
 is_step_of u _ = false
 
--- who can step still can after any event but its own step
+-- a task that can step still can after any event but its own step
 abbrev pub ReadyStays : Program → Type 0
 ReadyStays p =
     (events : List Event) (v : Live) (n : ℕ) → StandsAt p events v n

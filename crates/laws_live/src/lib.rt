@@ -1,8 +1,8 @@
-//! Laws of the live view, for a machine that forgets what was closed and is seen as such a view.
+//! Laws of the live view, for a machine that forgets closed scopes and is seen as such a view.
 //!
-//! `steps` says that the view follows the machine: the view after an event is the event done to the
-//! view before. `moves` says which tasks an event leaves alone. For programs that never fault it
-//! also says that a task that can step misuses nothing.
+//! `steps` says that the view follows the machine: the view after an event is the view's own event.
+//! `moves` says which tasks an event leaves alone. For programs that never fault it also says that
+//! a task that can step misuses nothing.
 #![tactic(auto)]
 
 pub mod moves;

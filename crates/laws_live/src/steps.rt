@@ -1,4 +1,4 @@
-//! A step of what is seen is what is seen of the step.
+//! A step of the view is the view of the step.
 
 ghost use Rattle.sts_code.specs.Program.{Program};
 ghost use Rattle.laws_runs.specs.Runs.{NeverFaults};

@@ -49,8 +49,8 @@ FlagsHaveCause =
 abbrev pub is_unfinished : World → ℕ → Bool
 is_unfinished w s = not (scope_at w s).expired && (not (scope_at w s).cancelled && any_lives w s)
 
--- does the instruction take the flag of the task that does it? `interrupted` does, and a `join`
--- that ends as interrupted
+-- does the instruction take the flag of its task? `interrupted` does, and so does a `join` that
+-- ends as interrupted
 abbrev pub takes_flag : World → Frame → Option Instr → Bool
 takes_flag w f (Some Interrupted) = true
 takes_flag w f (Some (Join s failed timeout interrupted)) = is_unfinished w (named (slot f s))
@@ -62,7 +62,7 @@ is_taken p w (event.Step u) t =
     u == t && (can_step p w t && takes_flag w (task_at w t).frame (instr_at p (task_at w t).frame))
 is_taken p w _ t = false
 
--- a task that takes its flag has it no more, and a flag that is set is cleared in no other way
+-- a task that takes its flag no longer has it, and a flag is cleared in no other way
 pub record Takes (p : Program) (w : World) (e : Event) (v : World) (t : ℕ) : Type 0 where
   pub taken : is_taken p w e t ≡ true → (task_at v t).flag ≡ false
   pub cleared : (task_at w t).flag ≡ true → (task_at v t).flag ≡ false → is_taken p w e t ≡ true

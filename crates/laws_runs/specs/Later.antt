@@ -32,7 +32,7 @@ pub record IsSameScope (x y : Scope) : Type 0 where
   pub timed : y.timed ≡ x.timed
   pub environment : y.environment ≡ x.environment
 
--- once closed it stays closed, once cancelled cancelled, once expired expired
+-- once it is closed, cancelled or expired, it remains so
 pub record KeepsMarks (x y : Scope) : Type 0 where
   pub closed : is_closed x.phase ≡ true → is_closed y.phase ≡ true
   pub cancelled : x.cancelled ≡ true → y.cancelled ≡ true

@@ -47,7 +47,7 @@ Each R =
 
 -- ---- what leads to them
 
--- the instruction that a task does, which is no misuse
+-- the next instruction of a task, which is no misuse
 pub record Does (p : Program) (w : World) (t : ℕ) (i : Instr) : Type 0 where
   pub alive : lives (task_at w t) ≡ true
   pub can : can_step p w t ≡ true

@@ -35,7 +35,7 @@ pub record HasCause (scope : Scope) : Type 0 where
 abbrev pub CancelledHasCause : Type 0
 CancelledHasCause = Ever (λ p w. (s : ℕ) → s < length w.scopes → HasCause (scope_at w s))
 
--- a subtask that doesn't live and is unavailable is of a cancelled scope
+-- if a subtask doesn't live and is unavailable, its scope is cancelled
 abbrev pub LeftOutIsCancelled : Type 0
 LeftOutIsCancelled =
     Ever (λ p w. (s u : ℕ) → (task_at w u).scope ≡ Some s → lives (task_at w u) ≡ false

@@ -44,7 +44,8 @@ RootEndsLast =
 abbrev pub IsLast : World → ℕ → Type 0
 IsLast w t = (u : ℕ) → t < u → lives (task_at w u) ≡ false
 
--- a living task that no living one was born after can step; while the root lives there is one
+-- a living task can step if no living task was born after it; while the root lives there is such a
+-- task
 pub record GoesOn (p : Program) (w : World) : Type 0 where
   pub last : (t : ℕ) → lives (task_at w t) ≡ true → IsLast w t → can_step p w t ≡ true
   pub some : lives (task_at w 0) ≡ true → (t : ℕ) × (can_step p w t ≡ true)

@@ -1,4 +1,4 @@
-//! Laws of every program over all lists of events, and the words in which laws of runs are stated.
+//! Laws of every program over all lists of events, and the words for laws of runs.
 //!
 //! A law is a public function with an empty body: its contract is the theorem. `states` has the
 //! laws of tasks and scopes, from one state of a run to a later one. `scopes` says why scopes are

@@ -12,7 +12,7 @@ pub fn cancelled_has_cause()
     ensures { CancelledHasCause }
 {}
 
-/// A subtask that doesn't live and is unavailable is of a cancelled scope.
+/// If a subtask doesn't live and is unavailable, its scope is cancelled.
 pub fn left_out_is_cancelled()
     ensures { LeftOutIsCancelled }
 {}

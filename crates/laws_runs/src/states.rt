@@ -14,7 +14,7 @@ pub fn faults_stay()
     ensures { FaultsStay }
 {}
 
-/// Tasks and scopes are never lost: they are never fewer, and each keeps what it was born with.
+/// Tasks and scopes are never lost: their numbers never fall, and each keeps what it was born with.
 #[tactic(auto, using(crate::proofs::StayLemmas::nothing_is_lost))]
 pub fn nothing_is_lost()
     ensures { NothingIsLost }
@@ -26,7 +26,7 @@ pub fn ends_stay()
     ensures { EndsStay }
 {}
 
-/// A closed scope stays closed, a cancelled one cancelled, an expired one expired.
+/// Once a scope is closed, cancelled or expired, it remains so.
 #[tactic(auto, using(crate::proofs::StayLemmas::closed_stays))]
 pub fn closed_stays()
     ensures { ClosedStays }
@@ -39,7 +39,7 @@ pub fn phases_go_forward()
     ensures { PhasesGoForward }
 {}
 
-/// Completions only grow, and no more once their scope is cancelled.
+/// Completions only grow, until their scope is cancelled.
 #[tactic(auto, using(crate::proofs::StayLemmas::completions_grow))]
 pub fn completions_grow()
     ensures { CompletionsGrow }
@@ -99,7 +99,7 @@ pub fn interrupt_sets_flag()
     ensures { InterruptSetsFlag }
 {}
 
-/// Nothing but an interrupt of the task or the cancel of its scope sets a flag.
+/// A flag is set only by an interrupt of the task or by the cancel of its scope.
 pub fn flags_have_cause()
     ensures { FlagsHaveCause }
 {}

@@ -103,12 +103,12 @@ is_whole (Some (name, rows)) = is_command name
 abbrev pub AsksForHelp : List Text → Type 0
 AsksForHelp words = IsAmong kind.DisplayHelp (fault_of program words)
 
--- `clap` finds no fault, and no command of the program with its files either
+-- `clap` finds no fault, yet the words name no command of the program with its files
 abbrev pub NamesNothing : List Text → Type 0
 NamesNothing words = (fault_of program words ≡ [])
     × (is_whole (subcommand_of program words) ≡ false)
 
--- `clap` finds another fault than that the words ask for help
+-- `clap` finds a fault, other than that the words ask for help
 abbrev pub IsMistaken : List Text → Type 0
 IsMistaken words = HasMistake (fault_of program words) ⊎ NamesNothing words
 

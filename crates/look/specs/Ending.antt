@@ -22,14 +22,14 @@ use Rattle.look.specs.declared.asked.Asked.TheVariants as asked
 use Rattle.look.specs.declared.program.Showing.{Showing}
 use Rattle.look.specs.declared.program.Showing.TheVariants as showing
 
--- what is shown of a file's text, or that memory or the file failed
+-- the output for a file's text, or that memory or the file failed
 pub data IsOfText (Shows : List ℕ → Output → Type 0) (file : Option (List ℕ)) (o : Output) : Type 0
   where
     shown : (text : List ℕ) → IsTakenOf file most_of_a_text text → Shows text o
         → IsOfText Shows file o
     failed : (e : TakeError) → o ≡ failure_output e → IsOfText Shows file o
 
--- what is shown of a file's text and another file's trace, or that memory or a file failed
+-- the output for a file's text and another file's trace, or that memory or a file failed
 pub data IsOfTexts (Shows : List ℕ → List ℕ → Output → Type 0) (file trace_file : Option (List ℕ))
     (o : Output) : Type 0 where
   shown : (text trace : List ℕ) → IsTakenOf file most_of_a_text text

@@ -20,7 +20,7 @@ pub record Adds (old : List Node) (n : Node) (new : List Node) : Type 0 where
   pub there : Contains new n
   pub only : (m : Node) → Contains new m → Contains old m ⊎ (m ≡ n)
 
--- what follows the node at a place of the old list is in the new one
+-- the nodes after the node at a place of the old list are in the new list
 abbrev pub IsSpread : Program → ℕ → List Node → ℕ → List Node → Type 0
 IsSpread p f old at new =
     (d m : Node) → Contains (followers p f (slice_index_or old at d)) m → Contains new m

@@ -111,7 +111,7 @@ abbrev pub bound_words : ℕ → Option ℤ → List ℕ
 bound_words k None = []
 bound_words k (Some v) = pair_words k v
 
--- the keys that `read` finds a value for, of these, and the innermost values
+-- the keys among these that `read` finds a value for, with the innermost values
 abbrev pub key_words : World → ℕ → List ℕ → List ℕ
 key_words w t keys = flat_map (λ k. bound_words k (read (environment_of (task_at w t) w) k)) keys
 

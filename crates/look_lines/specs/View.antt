@@ -72,7 +72,7 @@ abbrev pub text_output : Result Program AsmError → Wanted → List ℕ → Out
 text_output (Ok p) wanted trace = traced_output p wanted (trace_read trace)
 text_output (Err e) wanted trace = text_fault_output e
 
--- what `look view` prints of a text and a trace, or that memory was refused
+-- what `look view` prints for a text and a trace, or that memory ran out
 abbrev pub IsViewOf : Wanted → List ℕ → List ℕ → Output → Type 0
 IsViewOf wanted text trace output =
     (output ≡ text_output (judged text) wanted trace) ⊎ (output ≡ memory_output)

@@ -48,7 +48,7 @@ pub fn scope_place(out: &mut String, records: &Records, s: u32) -> Result<(), Al
     write_joiner(out, records.joiner(s))
 }
 
-/// How far a scope is, and what else holds of it.
+/// The phase of a scope, and its marks.
 fn scope_marks(out: &mut String, records: &Records, s: u32) -> Result<(), AllocError>
     ensures { OnOk result (string_bytes out.new
         ≡ string_bytes out.old ++ def.scope_marks (model.scope_at records.now s)) }

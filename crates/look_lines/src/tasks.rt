@@ -203,7 +203,7 @@ fn locals_line(out: &mut String, locals: &[i64]) -> Result<(), AllocError>
     writeln!(out)
 }
 
-/// The values of those of these keys that are bound.
+/// The bound keys among these, with their values.
 fn key_words(out: &mut String, records: &Records, t: u32, keys: &[u8]) -> Result<(), AllocError>
     ensures { OnOk result (string_bytes out.new
         ≡ string_bytes out.old ++ def.key_words records.now t keys.now) }
@@ -258,7 +258,7 @@ fn task_block(
     Ok(())
 }
 
-/// The lines of all tasks that were ever born; in full with what those that live have.
+/// The lines of all tasks that were ever born. In full they show the own state of living tasks.
 ///
 /// # Errors
 ///

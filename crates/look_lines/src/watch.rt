@@ -33,7 +33,7 @@ impl<'p> Model for Watch<'p> {
     ghost invariant = { λ w. is_fault w.plain.state ≡ false };
 }
 
-/// The fault that a step of this task is, if it can step and that is one.
+/// The fault of a step of this task, if it can step and the step is a fault.
 fn misstep_of(world: &World, program: &Program, t: u32) -> Option<Misstep>
     ensures some { IfSome result (λ m. run.step program.now world.now t
         ≡ state_of (Some m) world.now) }

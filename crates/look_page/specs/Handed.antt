@@ -1,4 +1,4 @@
--- How bytes are handed to a caller that gave room for some of them (this project's own).
+-- How bytes are handed to a caller that gave limited room (this project's own).
 use Rattle.std.specs.Prelude.{◌≡◌, ℕ, List, ◌++◌, length, take, drop}
 use Rattle.sts_output.specs.Output.{Output}
 

@@ -135,7 +135,7 @@ legend_at y legend = codes "<g transform='translate(12 " ++ decimal y ++ codes "
 abbrev pub foot : ℕ → List ℕ
 foot tasks = legend_at (lane tasks) legend
 
--- the names of the lanes, and what the marks mean
+-- the names of the lanes, and the legend
 abbrev pub below : Watched → List ℕ
 below m = lane_names m.program m.last m.last.tasks 0 ++ foot (length m.last.tasks)
 
@@ -161,7 +161,7 @@ abbrev pub text_output : Result Program AsmError → List ℕ → Output
 text_output (Ok p) trace = traced_output p (trace_read trace)
 text_output (Err e) trace = text_fault_output e
 
--- what `look draw` prints of a text and a trace, or that memory was refused
+-- what `look draw` prints for a text and a trace, or that memory ran out
 abbrev pub IsPictureOf : List ℕ → List ℕ → Output → Type 0
 IsPictureOf text trace output =
     (output ≡ text_output (judged text) trace) ⊎ (output ≡ memory_output)

@@ -155,7 +155,7 @@ fn event_step(
     before.apply(alloc, event)
 }
 
-/// Applies these events to two machines, the first of all, and draws the column of each.
+/// Applies the first of these events, in order, to two machines, and draws the column of each.
 fn event_columns(
     alloc: Global,
     out: &mut String,
@@ -184,7 +184,7 @@ fn first_column(out: &mut String, watch: &Watch<'_>) -> Result<(), AllocError>
     cells(out, watch.program(), world, world, column(0))
 }
 
-/// Draws the column before the first event and one after each; the machine that ran them.
+/// Draws the column before the first event and one after each. Answers the machine that ran them.
 fn columns<'p>(
     alloc: Global,
     out: &mut String,
@@ -312,7 +312,7 @@ fn foot(out: &mut String, tasks: usize) -> Result<(), AllocError>
     legend_at(out, lane(tasks as u32), legend())
 }
 
-/// The names of the lanes, and what the marks mean.
+/// The names of the lanes, and the legend.
 fn below(out: &mut String, watch: &Watch<'_>) -> Result<(), AllocError>
     ensures { OnOk result (string_bytes out.new ≡ string_bytes out.old ++ def.below watch.now) }
 {

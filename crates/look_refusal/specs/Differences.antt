@@ -156,7 +156,7 @@ abbrev pub difference : List ℕ → List ℕ → List ℕ → List ℕ → List
 difference name a one b other =
     name ++ codes ":" ++ side a one ++ codes ";" ++ side b other ++ codes "\n"
 
--- the line of a part; the two ways go by these names
+-- the line of a part, with these names for the two ways
 unfoldable pub part_line : Meeting → List ℕ → List ℕ → Part → List ℕ
 part_line m one other part =
     difference (part_name part) (part_words part m.one.state) one (part_words part m.other.state)

@@ -1,4 +1,4 @@
--- A path, or a point of one, that weighs more than its budget may (this project's own).
+-- A path, or a point of one, that is over its budget (this project's own).
 use Rattle.std.specs.Prelude.{◌≡◌, ℕ, ◌+◌, ◌<◌, ◌≤◌, ◌⊎◌, List, length, get_or}
 use Rattle.sts_code.specs.declared.instr.Instr.{Instr}
 use Rattle.sts_code.specs.declared.limits.TheConstants.{MAX_INSTRUCTIONS}
@@ -60,12 +60,12 @@ pub record IsHeavy (p : Program) (f : ℕ) (k : Resource) (h : Heavy) : Type 0 w
   pub most : NoneHeavier k earlier (routine p f).code h.weight
   pub over : limit_of k < h.weight
 
--- some point of a path weighs more than 128 bits hold
+-- the count at some point of a path needs more than 128 bits
 abbrev pub IsTooHeavy : Resource → List Budgets → List Instr → Type 0
 IsTooHeavy k earlier code =
     (pc : ℕ) × ((m : ℕ) × (Weighs k earlier code pc m × (greatest_number < m)))
 
--- nothing weighs more than the limit, or something weighs more than 128 bits hold
+-- no count is over the limit, or some count needs more than 128 bits
 pub record IsUntold (p : Program) (f : ℕ) (k : Resource) : Type 0 where
   pub earlier : List Budgets
   pub long : length earlier ≡ f

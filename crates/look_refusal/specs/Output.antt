@@ -84,6 +84,6 @@ abbrev pub Explains : Result Program AsmError → List ℕ → Output → Type 0
 Explains (Ok p) text output = (o : Outline) × ((outlined text ≡ Ok o) × IsVerdict p o output)
 Explains (Err e) text output = output ≡ fault_output e text
 
--- the explanation of a text, or that memory was refused
+-- the explanation of a text, or that memory ran out
 abbrev pub IsExplanation : List ℕ → Output → Type 0
 IsExplanation text output = Explains (judged text) text output ⊎ (output ≡ memory_output)

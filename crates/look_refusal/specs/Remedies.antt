@@ -147,7 +147,7 @@ edges_remedy _ s = r.FailedLabelMissing
 
 -- ---- all causes
 
--- those about which the same is to do everywhere
+-- the remedy of a cause with the same remedy everywhere
 abbrev pub fixed_remedy : Cause → Option Remedy
 fixed_remedy cause.StackUnder = Some r.TooFewOperands
 fixed_remedy cause.StackOver = Some r.TooManyOperands

@@ -42,7 +42,7 @@ handed s best pc d =
     (best (head_in s.layout.now pc) d) d
     else best pc ((flow s).source pc d) + (flow s).added pc d
 
--- the old one of two, unless the new one adds more
+-- the new one of two if it adds more, otherwise the old one
 abbrev pub better : Best → Best → Best
 better old new = if is_none old.from || nat_lt old.sum new.sum then new else old
 
@@ -51,7 +51,7 @@ abbrev pub IsFrom : Search → (ℕ → ℕ → ℕ) → (k pc d sum : ℕ) → 
 IsFrom s best k pc d sum None = (sum ≡ 0) × ((q : ℕ) → q < k → LeadsOn s q pc → ⊥)
 IsFrom s best k pc d sum (Some q) = (q < k) × LeadsOn s q pc × (sum ≡ handed s best q d)
 
--- the greatest of what the places below k hand on to a place over the first d entries
+-- the greatest sum that the places below k hand on to a place over the first d entries
 pub record IsBest (s : Search) (best : ℕ → ℕ → ℕ) (k pc d : ℕ) (b : Best) : Type 0 where
   pub most : (q : ℕ) → q < k → LeadsOn s q pc → handed s best q d ≤ b.sum
   pub from : IsFrom s best k pc d b.sum b.from

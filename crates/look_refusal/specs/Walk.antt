@@ -1,4 +1,4 @@
--- A stretch of a control path, and what it adds (this project's own).
+-- A stretch of a control path, and the amounts that it adds (this project's own).
 use Rattle.std.specs.Prelude.{◌≡◌, ℕ, ◌+◌, ◌-◌, ◌*◌, ◌≤◌, min, List, [], ◌∷◌, length, get_or}
 use Rattle.sts_rules.specs.Around.{around}
 use Rattle.sts_rules.specs.ControlPaths.{Skeleton, Loops}
@@ -55,7 +55,7 @@ abbrev pub IsWalked : Skeleton → Flows → ℕ → Spot → Spot → Shares �
 IsWalked c f times at to before after =
     (a : Amounts) × (IsStretch c f at to a × IsRaised times a before after)
 
--- the same from a `times` to the beginning of the last turn of its loop
+-- the stretch from a `times` to the beginning of the last turn of its loop
 abbrev pub IsWalkedOut : Skeleton → Flows → Spot → Spot → Shares → Shares → Type 0
 IsWalkedOut c f at turn before after =
     (a : Amounts)
@@ -63,7 +63,7 @@ IsWalkedOut c f at turn before after =
     → Extends c f at.depth at.place loops turn.depth turn.place ((at.place, 1) ∷ loops) a)
     × IsRaised 1 a before after)
 
--- the same from the beginning of the function, with some loops open at the end
+-- the stretch from the beginning of the function, with some loops open at the end
 abbrev pub IsWholeWalk : Skeleton → Flows → Spot → Shares → Shares → Type 0
 IsWholeWalk c f to before after =
     (after_loops : Loops)
@@ -81,7 +81,7 @@ pub record IsBegin (s : Search) (to at : Spot) : Type 0 where
   pub inside : (p : ℕ) (ps : List ℕ) → around s.code.now to.place ≡ p ∷ ps
       → at ≡ record { place = p + 1; depth = min to.depth ((flow s).depth p) }
 
--- a stretch that was walked back to its beginning, and adds what the trail has
+-- a stretch that was walked back to its beginning, and adds the amount of the trail
 pub record IsWalkedBack (s : Search) (t : Trail) (times : ℕ) (at to : Spot) (before after : Shares)
     : Type 0 where
   pub begin : IsBegin s to at
@@ -98,7 +98,7 @@ pub record IsWalkedBackOut (s : Search) (t : Trail) (l : Loop) (turn at : Spot)
   pub total : after.total ≡ looped s (sum_in t) l.head l.end (l.turns - 1) before.total turn.depth
   pub parts : AreParts after
 
--- the sum at a spot, each open loop being in its last turn
+-- the sum at a spot, with each open loop in its last turn
 abbrev pub rest_in : Search → Trail → Spot → ℕ
 rest_in s t at =
     base (paths s) (flow s) (sum_in t) (last_turns (around s.code.now at.place)) at.depth

@@ -54,17 +54,17 @@ AreClear p f pc = (earlier : ℕ) → earlier < pc → IsClear (typing p f) earl
 abbrev pub HasWay : List (Option Way) → ℕ → Type 0
 HasWay table to = is_some (slice_index_or table to None) ≡ true
 
--- so is one for each place of the table to which one of these edges leads
+-- a way is kept for each place of the table that one of these edges leads to
 abbrev pub HaveWays : List (ℕ × TypeState) → List (Option Way) → Type 0
 HaveWays out table =
     (to : ℕ) (s : TypeState) → Leads out to s → to < length table → HasWay table to
 
--- so are those along the edges of the instruction at a place, in this typestate
+-- ways are kept along the edges of the instruction at a place, in this typestate
 abbrev pub IsSpread : Program → ℕ → ℕ → TypeState → List (Option Way) → Type 0
 IsSpread p f from s table =
     (out : List (ℕ × TypeState)) → edges p f from s ≡ Ok out → HaveWays out table
 
--- so are those along the edges of the instruction at a place, in the typestate of the way that is
+-- ways are kept along the edges of the instruction at a place, in the typestate of the way that is
 -- kept for it
 abbrev pub IsSpreadFrom : Program → ℕ → ℕ → List (Option Way) → Type 0
 IsSpreadFrom p f from table =
@@ -90,7 +90,7 @@ LeadsAlike p f from s to told =
     (out : List (ℕ × TypeState)) (x : TypeState) → edges p f from s ≡ Ok out → Leads out to x
     → x ≡ told
 
--- no way from a place before leads here with another typestate than the way that is kept
+-- each way from a place before leads here with the typestate of the way that is kept
 abbrev pub NoneMeet : Program → ℕ → ℕ → List (Option Way) → Type 0
 NoneMeet p f pc table =
     IfSome (slice_index_or table pc None) (λ one. (from : ℕ) → from < pc

@@ -1,4 +1,4 @@
--- The lines of a path, or a point of one, that weighs too much (this project's own).
+-- The lines of a path, or of a point of one, that is over a budget (this project's own).
 use Rattle.std.specs.Prelude.{ℕ, List, [], ◌++◌, Bool, ◌&&◌, ◌||◌, ◌==◌, nat_lt, not, length}
 use Rattle.std.specs.Prelude.{get_or, if◌then◌else◌, sum_by, codes}
 use Rattle.std.specs.List.{flat_map, range_with_len}

@@ -83,7 +83,7 @@ fn say_meeting(
     }
 }
 
-/// Tells what weighs more than the budget of a resource may.
+/// Appends the weights of a path that is over the budget of a resource.
 fn say_heavy(
     alloc: Global,
     out: &mut Vec<u8>,

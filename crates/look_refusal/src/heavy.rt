@@ -1,4 +1,4 @@
-//! A path, or a point of one, that weighs more than its budget may.
+//! A path, or a point of one, that is over its budget.
 
 ghost use Rattle.std.specs.Prelude.{◌≡◌, ◌<◌, ◌≤◌, ◌+◌, ℕ, length, true, IfOk, MatchOption};
 ghost use Rattle.sts_budget.specs.Change as change;

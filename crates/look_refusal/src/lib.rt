@@ -1,4 +1,4 @@
-//! Why a text is no program or its program is refused, by the lines of the text.
+//! Why a text is no program or its program is refused, with the line numbers of the text.
 //!
 //! `ways` finds two ways that meet with different typestates (V7), and `differences` the parts that
 //! differ. For a budget over its limit (V17 to V20) `heavy` finds the path, or the point of one,

@@ -21,7 +21,7 @@ pub struct Search<'s> {
     pub layout: &'s Layout,
 }
 
-/// A place of the code, and over how many of the entries that are open there the sum goes, from the
+/// A place of the code, and the number of its open entries that the sum goes over, from the
 /// outermost.
 #[derive(Clone, Copy)]
 pub struct Spot {
@@ -29,7 +29,7 @@ pub struct Spot {
     pub depth: usize,
 }
 
-/// A loop: the places of its `times` and its `next`, and its most turns.
+/// A loop: the places of its `times` and its `next`, and the limit for its turns.
 #[derive(Clone, Copy)]
 pub struct Loop {
     pub head: u32,
@@ -47,7 +47,7 @@ pub(crate) fn depth_at(search: &Search<'_>, pc: usize) -> usize
     depth_of(search.resource, names_at(search.layout, pc))
 }
 
-/// Over how many entries the sum goes before the instruction.
+/// The number of entries that the sum goes over before the instruction.
 pub(crate) fn depth_before(search: &Search<'_>, pc: usize, depth: usize) -> usize
     requires ready { def.IsReady search.now }
     requires in_code { pc < length search.now.code.now }
@@ -83,7 +83,7 @@ pub(crate) fn ends_path(instr: Instr) -> bool
     matches!(instr, Instr::Ret | Instr::Fail)
 }
 
-/// The most turns of the loop that the instruction opens.
+/// The limit for the turns of the loop that the instruction opens.
 pub(crate) fn turns_of(instr: Instr) -> u16
     ensures { result ≡ def.turns_of instr }
 {

@@ -4,7 +4,7 @@ ghost use Rattle.std.specs.Prelude.{◌≡◌, ◌+◌, ◌*◌, ◌<◌, ◌≤
 ghost use Rattle.look_refusal.specs.Trail.{greatest_number};
 ghost use Rattle.look_refusal.specs.Walk.{AreParts};
 
-/// For each place what its instruction adds, and all of it in one.
+/// The amount that the instruction of each place adds, and their sum.
 #[derive(Drop)]
 pub struct Shares {
     pub places: Vec<u128>,

@@ -1,4 +1,4 @@
-//! The walk back along a trail, and what each step of it adds.
+//! The walk back along a trail, and the amount that each of its steps adds.
 
 ghost use Rattle.std.specs.Prelude.{◌≡◌, ◌<◌, ◌≤◌, ◌+◌, ◌*◌, ◌-◌, ◌↔◌, length, IsTrue};
 ghost use Rattle.look_refusal.specs.Search as def;
@@ -100,7 +100,7 @@ fn back_out(
     back_to(search, around.head, turn, 1, shares)
 }
 
-/// The walk back to the beginning of the function, out of each loop that is open.
+/// The walk back to the beginning of the function, out of each open loop.
 pub(crate) fn back_to_beginning(search: &Search<'_>, trail: &Trail, to: Spot, shares: &mut Shares)
     requires ready { def.IsReady search.now }
     requires trail { trails.IsTrail search.now trail.now }

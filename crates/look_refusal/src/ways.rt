@@ -25,7 +25,7 @@ pub enum Origin {
     Turn(u32),
 }
 
-/// A way that arrives somewhere, with the typestate there.
+/// A way that arrives at a place, with the typestate there.
 #[derive(Drop)]
 pub struct Way {
     pub origin: Origin,
@@ -136,7 +136,7 @@ fn spread_from(program: &Program, function: u32, pc: u32, table: &mut Vec<Option
     spread(program, function, pc, &way.state, table);
 }
 
-/// For each place up to the last one the first way that arrives there.
+/// The first way that arrives at each place, up to the last place.
 fn first_ways(
     alloc: Global,
     program: &Program,
@@ -216,7 +216,7 @@ fn other_from(
     None
 }
 
-/// Two ways that arrive at a place with typestates that differ.
+/// Two ways that arrive at a place with different typestates.
 fn meeting_at(program: &Program, function: u32, pc: u32, table: &[Option<Way>]) -> Option<Meeting>
     requires function { function < length program.now.routines }
     requires pc { pc < size program.now function }

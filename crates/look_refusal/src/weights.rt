@@ -1,4 +1,4 @@
-//! The lines of a path, or a point of one, that weighs too much.
+//! The lines of a path, or of a point of one, that is over a budget.
 
 ghost use Rattle.std.specs.Prelude.{◌≡◌, ◌<◌, ◌≤◌, ◌++◌, OnOk, length};
 ghost use Rattle.look_refusal.specs.Weights as def;
@@ -65,7 +65,7 @@ fn rank(shares: &[u128], this: usize) -> usize
     rank
 }
 
-/// Is the place one of the weightiest, and adds anything?
+/// Is the place one of those that add most, and does it add anything?
 fn is_shown(shares: &[u128], this: usize) -> bool
     requires { this < length shares.now }
     ensures { result ≡ def.is_shown shares.now this }
@@ -73,7 +73,7 @@ fn is_shown(shares: &[u128], this: usize) -> bool
     0 < shares[this] && rank(shares, this) < SHOWN
 }
 
-/// Does the place add something, and is not shown?
+/// Does the place add something, without being shown?
 fn is_other(shares: &[u128], this: usize) -> bool
     requires { this < length shares.now }
     ensures { result ≡ def.is_other shares.now this }

@@ -32,7 +32,7 @@ task_place p o t f pc =
     codes "task " ++ decimal t ++ codes " in " ++ (routine p f).name
     ++ place_words (sentence_at o f pc)
 
--- what to do about a fault of a task, which lives
+-- what to do about a fault of a living task
 abbrev pub remedy_line : Program → World → Fault → ℕ → List ℕ
 remedy_line p w kind t =
     if lives (task_at w t) then remedy_sentence (remedy p w t kind) ++ codes "\n" else []

@@ -37,7 +37,7 @@ Explains (Ok p) text trace output =
     (o : Outline) × ((outlined text ≡ Ok o) × (output ≡ traced_output p o trace (trace_read trace)))
 Explains (Err e) text trace output = output ≡ fault_output e text
 
--- the explanation of a run of a text, or that memory was refused
+-- the explanation of a run of a text, or that memory ran out
 abbrev pub IsRunExplanation : List ℕ → List ℕ → Output → Type 0
 IsRunExplanation text trace output =
     Explains (judged text) text trace output ⊎ (output ≡ memory_output)

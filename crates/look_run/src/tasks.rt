@@ -91,7 +91,7 @@ fn say_end(alloc: Global, out: &mut Vec<u8>, end: End) -> Result<(), AllocError>
     say(out, line.as_str())
 }
 
-/// How the run is; the records are those before a fault.
+/// The state of the run. After a fault, the records are those before it.
 ///
 /// # Errors
 ///

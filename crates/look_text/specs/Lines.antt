@@ -24,7 +24,7 @@ abbrev pub check_words : AsmKind → List ℕ
 check_words (Code c) = codes " C" ++ decimal (check_number c.cause)
 check_words kind = []
 
--- the words of the line of a fault; not those of a line with a byte that isn't allowed
+-- the words of the line of a fault, unless the line has a byte that isn't allowed
 abbrev pub fault_words : AsmKind → List ℕ → ℕ → List (List ℕ)
 fault_words NotAscii text line = []
 fault_words kind text line = words_at text line

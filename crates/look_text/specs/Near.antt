@@ -73,6 +73,6 @@ known_words wanted = []
 abbrev pub near_of : List (List ℕ) → List ℕ → Option (List ℕ)
 near_of words word = option_or (find (is_one_apart word) words) (find (begins_other word) words)
 
--- the word that may be meant by one that isn't what is expected there
+-- the word that a person may have meant by one that isn't what is expected there
 abbrev pub meant : Wanted → List ℕ → Option (List ℕ)
 meant wanted word = near_of (known_words wanted) word

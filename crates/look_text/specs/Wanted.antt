@@ -153,7 +153,8 @@ stop wanted (word ∷ rest) =
 
 -- ---- the place of a fault
 
--- instead of a first word that may not be there: by whether a function is open
+-- what is expected instead of a first word that isn't allowed there; it depends on whether a
+-- function is open
 abbrev pub in_place_of : Bool → Wanted
 in_place_of inside = if inside then w.Inner else w.Outer
 

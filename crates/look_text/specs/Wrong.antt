@@ -59,7 +59,7 @@ pub record StopsAt (names : Names) (lines : List Sentence) (s : Sentence) : Type
   pub here : line_stop names s.words ≡ Some stop
   pub first : lines_stop names lines ≡ Some stop
 
--- the line of a name that there isn't, by the functions of a text, if they were read
+-- the line of an unknown name, from the functions of a text, if they were read
 abbrev pub unknown_line : Option Outline → List ℕ
 unknown_line None = []
 unknown_line (Some o) = wrong_line (unknown_name o)

@@ -69,7 +69,7 @@ pub fn say_place(
     }
 }
 
-/// The words of the line of a fault; not those of a line with a byte that isn't allowed.
+/// The words of the line of a fault, unless the line has a byte that isn't allowed.
 fn fault_words(kind: AsmKind, text: &[u8], line: u32) -> Words<'_>
     ensures { result ≡ def.fault_words kind text.now line }
 {

@@ -1,5 +1,5 @@
-//! The word of a line that names nothing: a label that its function hasn't, or a function that the
-//! text hasn't.
+//! The word of a line that names nothing: a label that isn't in its function, or a function that
+//! isn't in the text.
 
 ghost use Rattle.std.specs.Prelude.{◌≡◌, is_some};
 ghost use Rattle.sts_asm.specs.Source.{names_at};

@@ -77,7 +77,7 @@ fn is_one_off(word: &[u8], known: &[u8]) -> bool
         || is_swapped(word, known)
 }
 
-/// Are the words one letter apart, after what both begin with?
+/// Are the words one letter apart, after their common beginning?
 #[tactic(auto, using(crate::proofs::NearLemmas::one_apart_on))]
 fn is_one_apart(word: &[u8], known: &[u8]) -> bool
     ensures { result ≡ def.is_one_apart word.now known.now }
@@ -156,7 +156,7 @@ fn begun_among(word: &[u8], words: &[&'static str]) -> Option<&'static str>
     None
 }
 
-/// The word that may be meant by one that isn't what is expected there.
+/// The word that a person may have meant by one that isn't what is expected there.
 pub(crate) fn meant(wanted: Wanted, word: &[u8]) -> Option<&'static str>
     ensures { option_map (λ w. w.now) result ≡ def.meant wanted word.now }
 {

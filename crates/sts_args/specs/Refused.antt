@@ -38,7 +38,7 @@ BlamesUnless whole error.Memory = Unit {0}
 BlamesUnless whole (error.Help text) = ⊥
 BlamesUnless whole (error.Usage text) = whole ≡ false
 
--- one of the kinds is not that help was asked for
+-- one of the kinds is a mistake, and not a call for help
 abbrev pub HasMistake : Kinds → Type 0
 HasMistake kinds = (k : ErrorKind) × IsAmong k kinds × (k ≢ kind.DisplayHelp)
 
@@ -52,7 +52,7 @@ abbrev pub NamesNothing : List Text → Type 0
 NamesNothing words = (fault_of program words ≡ [])
     × (is_whole (subcommand_of program words) ≡ false)
 
--- words follow the program's name, and `clap` finds another fault than that they ask for help
+-- words follow the program's name, and `clap` finds a fault other than that they ask for help
 abbrev pub IsMistaken : List Text → Type 0
 IsMistaken words = (1 < length words) × (HasMistake (fault_of program words) ⊎ NamesNothing words)
 

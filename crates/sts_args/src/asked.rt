@@ -21,8 +21,8 @@ pub enum Line<'a> {
         file: &'a str,
         trace: &'a str,
     },
-    /// From 1 to 16 workers; the outside events come from a file, if one is named, and the journal
-    /// goes to one.
+    /// From 1 to 16 workers. The outside events come from a file, if one is named. The journal goes
+    /// to a file, if one is named.
     Run {
         file: &'a str,
         workers: u32,
@@ -31,7 +31,7 @@ pub enum Line<'a> {
     },
 }
 
-/// Why a command line asks for nothing: the text is for the person who wrote it.
+/// Why a command line has no request. The text is for the person who wrote it.
 #[derive(Debug, Drop)]
 pub enum LineError {
     Memory,

@@ -38,7 +38,7 @@ fn option<'a>(alloc: Global, name: &'a str, value: &'a str, help: &'a str) -> Ar
         .help(help)
 }
 
-/// The number of workers, which `run` has to be given.
+/// The number of workers, which `run` needs.
 fn workers<'a>(alloc: Global) -> Arg<'a>
     ensures rule { rule_of result ≡ def.workers_rule }
     ensures local { result.global ≡ false }

@@ -9,7 +9,7 @@ pub record Mark : Type 0 where
   pub name : List ℕ
   pub at : ℕ
 
--- what a name names: the first that was given it
+-- the meaning of a name: the first that it was given
 abbrev pub marked : List Mark → List ℕ → Option ℕ
 marked marks name =
     option_map (λ (m : Mark). m.at) (find (λ (m : Mark). bytes_eq m.name name) marks)
@@ -19,12 +19,12 @@ pub record Names : Type 0 where
   pub labels : List Mark
   pub functions : List Mark
 
--- the instruction that a label names; while no names are known, each is taken to be one
+-- the instruction that a label names; before names are known, every label counts as known
 abbrev pub label_in : Option Names → List ℕ → Option ℕ
 label_in None name = Some 0
 label_in (Some names) name = marked names.labels name
 
--- the function that a name names; while no names are known, each is taken to be one
+-- the function that a name names; before names are known, every name counts as known
 abbrev pub function_in : Option Names → List ℕ → Option ℕ
 function_in None name = Some 0
 function_in (Some names) name = marked names.functions name

@@ -41,7 +41,7 @@ pub record Outline : Type 0 where
   pub done : List Draft
   pub current : Option Draft
 
--- Each instruction is what its line says while no name is known.
+-- Each instruction is what its line says before names are known.
 abbrev pub AreUnnamed : List Sentence → List Instr → Type 0
 AreUnnamed lines code = map (λ (s : Sentence). instr_of None s.words) lines ≡ map (λ i. Ok i) code
 

@@ -13,7 +13,7 @@ use Rattle.sts_asm.specs.Marks.{Mark, Names}
 use Rattle.sts_asm.specs.Line.{instr_of}
 use Rattle.sts_asm.specs.Outline.{Sentence, Draft, Outline, outline_of}
 
--- what reading gives for each in turn, up to the first fault
+-- the result of reading each, in order, up to the first fault
 abbrev pub each : {A B : Type 0} → (A → Result B AsmError) → List A → Result (List B) AsmError
 each read [] = Ok []
 each read (x ∷ rest) = read x >>= λ y. each read rest >>= λ ys. Ok (y ∷ ys)
@@ -33,8 +33,7 @@ abbrev pub checked : Profile → List Routine → Option CodeError → Result Pr
 checked profile routines None = Ok (record { profile = profile; routines = routines })
 checked profile routines (Some e) = Err (record { line = 0; kind = Code e })
 
--- the program of the functions that were read, or the first name that there isn't, or the check
--- that fails
+-- the program of the functions that were read, or its first unknown name, or the check that fails
 abbrev pub program_of : Outline → Result Program AsmError
 program_of o =
     each (routine_of o.functions) o.done >>= λ rs. checked o.profile rs (program_fault rs)

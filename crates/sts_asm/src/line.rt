@@ -161,7 +161,7 @@ fn operated(
     }
 }
 
-/// Kept out of line, so that an instruction without operands passes it by.
+/// Kept out of line, so that the path of an instruction without operands is short.
 #[inline(never)]
 fn with_operands(
     word: &[u8],

@@ -27,14 +27,14 @@ impl<'a> Model for Mark<'a> {
 /// How many buckets the names are spread over.
 const BUCKETS: usize = 1024;
 
-/// The number that a name's bytes are mixed into, with one byte more.
+/// Mixes one byte more into the number of a name.
 fn with_byte(mixed: u16, byte: u8) -> u16
     ensures { result ≡ with_byte mixed byte }
 {
     mixed.wrapping_mul(31).wrapping_add(u16::from(byte))
 }
 
-/// The number that a name's bytes are mixed into.
+/// A number that all bytes of a name are mixed into.
 fn mixed(name: &[u8]) -> u16
     ensures { result ≡ mixed name.now }
 {
@@ -189,7 +189,7 @@ impl<'t, 'a> Names<'t, 'a> {
     }
 }
 
-/// The instruction that a label names; while no names are known, each is taken to be one.
+/// The instruction that a label names. Before names are known, every label counts as known.
 pub fn label_in(names: Option<&Names<'_, '_>>, name: &[u8]) -> Option<u32>
     ensures { result ≡ label_in (option_copied names.entry) name.now }
 {
@@ -199,7 +199,7 @@ pub fn label_in(names: Option<&Names<'_, '_>>, name: &[u8]) -> Option<u32>
     }
 }
 
-/// The function that a name names; while no names are known, each is taken to be one.
+/// The function that a name names. Before names are known, every name counts as known.
 pub fn function_in(names: Option<&Names<'_, '_>>, name: &[u8]) -> Option<u32>
     ensures { result ≡ function_in (option_copied names.entry) name.now }
 {

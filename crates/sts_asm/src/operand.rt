@@ -88,7 +88,7 @@ pub fn slot_at(words: &mut Words<'_>) -> Result<u8, AsmKind>
     slot(word).ok_or(AsmKind::BadOperands)
 }
 
-/// The slot of a subtask that a word spells, or that it is `_` for none.
+/// The slot of a subtask that a word spells; `_` spells none.
 pub fn handle(word: &[u8]) -> Option<Option<u8>>
     ensures { result ≡ handle word.now }
 {

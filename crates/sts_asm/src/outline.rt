@@ -1,4 +1,4 @@
-//! The functions of a text with their labels and lines, while no name is looked up.
+//! The functions of a text with their labels and lines, before names are looked up.
 
 ghost use Rattle.std.specs.Prelude.{◌≡◌, ◌∷◌, ◌++◌, ◌+◌, ◌<◌, ◌≤◌, ◌^◌, [], length, option_map};
 ghost use Rattle.std.specs.Prelude.{is_some, None, OnOk, Ok};
@@ -37,7 +37,7 @@ impl<'a> Model for Sentence<'a> {
     ghost view = { λ s. record { line = s.line; words = words s.text.now } };
 }
 
-/// The lines of a function's instructions, and what each says while no name is known.
+/// The lines of a function's instructions, and the instruction of each, as read without names.
 #[derive(Drop)]
 pub struct Lines<'a> {
     pub(crate) sentences: Vec<Sentence<'a>>,

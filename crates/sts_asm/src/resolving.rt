@@ -1,4 +1,4 @@
-//! The names in a text are looked up, and its functions become a program.
+//! Looks up the names of a text, and makes its functions a program.
 
 ghost use Rattle.std.specs.Prelude.{◌≡◌, Some};
 ghost use Rattle.sts_text.specs.Words.{words as words_in};
@@ -55,8 +55,7 @@ fn instr_at(names: &Names<'_, '_>, sentence: &Sentence<'_>) -> Result<Instr, Asm
     }
 }
 
-/// The instructions of the lines. One that names nothing is what was read before the names were
-/// known.
+/// The instructions of the lines. An instruction without names was read before.
 fn code_of(names: &Names<'_, '_>, lines: Lines<'_>) -> Result<Vec<Instr>, AsmError>
     ensures { Judges (λ code. code.items) result (each (instr_at names.now) lines.entry) }
 {
@@ -110,8 +109,7 @@ fn routines_of<'a>(
     Ok(routines)
 }
 
-/// The program of these functions, or the first name that there isn't, or the program check that
-/// they fail.
+/// The program of these functions, or its first unknown name, or the program check that fails.
 ///
 /// # Errors
 ///

@@ -14,7 +14,7 @@ use crate::text::outline_of;
 use std::alloc::Global;
 use sts_text::{Words, cut_at_newline};
 
-/// The functions of a text with the lines of their instructions, while no name is looked up.
+/// The functions of a text with the lines of their instructions, before names are looked up.
 ///
 /// # Errors
 ///
@@ -135,7 +135,7 @@ pub fn line_at(text: &[u8], number: u32) -> Option<&[u8]>
     line_in(text, number.saturating_sub(1))
 }
 
-/// The words of the line of this number, counted from 1, its comment left out.
+/// The words of the line of this number, without its comment. Lines count from 1.
 pub fn words_at(text: &[u8], number: u32) -> Words<'_>
     ensures { result ≡ words_at text.now number }
 {

@@ -27,7 +27,7 @@ fn line_at<'a>(outline: &mut Outline<'a>, at: u32, line: &'a [u8]) -> Result<(),
     }
 }
 
-/// The functions of the text, while no name is looked up.
+/// The functions of the text, before names are looked up.
 #[tactic(auto, using(crate::proofs::TextLemmas::reads))]
 pub(crate) fn outline_of<'a>(alloc: Global, text: &'a [u8]) -> Result<Outline<'a>, AsmError>
     requires { length text.now ≤ 1048576 }

@@ -26,7 +26,7 @@ abbrev pub first_of : List ℕ → Option ℕ
 first_of [] = None
 first_of (x ∷ xs) = Some x
 
--- the `times` of the innermost loop at the places to which an instruction leads
+-- the `times` of the innermost loop at the places that an instruction leads to
 abbrev pub head_after : Instr → ℕ → List (Option ℕ) → Option ℕ
 head_after (Times n) pc heads = Some pc
 head_after Next pc heads = get_or heads (unwrap_or (get_or heads pc None) 0) None
@@ -77,7 +77,7 @@ pub record IsListAfter (instr : Instr) (list i : ℕ) (old new : List Names) : T
   pub inside : i < length new
   pub after : get_or new i [] ≡ names_after instr (get_or old list [])
 
--- no list is longer than this, which is no more than can be open
+-- no list is longer than this limit, which is the most that can be open
 abbrev pub IsDeepest : List Names → ℕ → Type 0
 IsDeepest lists deepest = ((k : ℕ) → length (get_or lists k []) ≤ deepest) × (deepest ≤ MAX_ENTRIES)
 

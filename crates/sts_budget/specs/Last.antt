@@ -1,4 +1,4 @@
--- The greatest sums of the places so far, each loop being in its last turn (this project's own).
+-- The greatest sums of the places so far, with each loop in its last turn (this project's own).
 use Rattle.std.specs.Prelude.{◌≡◌, ℕ, ◌<◌, ◌≤◌, ◌⊎◌, List, length, get_or}
 use Rattle.sts_code.specs.declared.instr.Instr.{Instr}
 use Rattle.sts_code.specs.declared.instr.Instr.TheVariants.{Times}

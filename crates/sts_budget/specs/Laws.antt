@@ -7,8 +7,8 @@ use Rattle.sts_rules.specs.declared.budget.Budgets.{Budgets}
 use Rattle.sts_rules.specs.ControlPaths.{OpenEntry, Loops, Comes, PathCounts}
 use Rattle.sts_rules.specs.Budget.{skeleton, steps_of, budget_at, tasks_sum, scopes_sum, binds_sum}
 
--- each point of a control path lies on a whole one: with its own steps it counts no more than some
--- whole path
+-- each point of a control path is on a whole path: with its own steps it counts at most what some
+-- whole path counts
 abbrev pub PointsLieOnPaths : List Budgets → List Instr → Type 0
 PointsLieOnPaths earlier code =
     (pc : ℕ) (loops : Loops) (before : ℕ) (es : List OpenEntry)

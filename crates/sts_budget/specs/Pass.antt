@@ -10,7 +10,7 @@ use Rattle.sts_budget.specs.Change.{cause_of, limit_of, depth_of, IsMost}
 use Rattle.sts_budget.specs.Ready.{IsLaidFor, flows_in, names_in}
 use Rattle.sts_budget.specs.Sums.{Flows}
 
--- the layout is right of the code, with these budgets of the functions before
+-- the layout fits the code, given the budgets of the functions before
 abbrev pub IsSet : Pass → Type 0
 IsSet p = IsLaidFor p.earlier.now p.code.now p.layout.now
 

@@ -29,7 +29,7 @@ head_in l pc = unwrap_or (get_or l.heads.items pc None) 0
 abbrev pub flows_in : Resource → List Budgets → List Instr → Layout → Flows
 flows_in k earlier code l = flows k earlier code (names_in l)
 
--- the code is structured, and the layout is right of it
+-- the code is structured, and the layout fits it
 pub record IsLaidFor (earlier : List Budgets) (code : List Instr) (l : Layout) : Type 0 where
   pub good : IsStructured (skeleton earlier code) (around code)
   pub known : KnowsNames code (skeleton earlier code) (around code) (names_in l)

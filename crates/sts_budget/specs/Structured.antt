@@ -1,4 +1,5 @@
--- Structured code: what the conditions on jumps and loops give (this project's own).
+-- Structured code: the facts that follow from the conditions on jumps and loops (this project's
+-- own).
 use Rattle.std.proofs.Common.{◌≡◌, ℕ, ◌+◌, ◌<◌, List, [], ◌∷◌}
 use Rattle.sts_rules.specs.ControlPaths.{Shape, GoesTo, Repeats, EndsTurn, Skeleton, Among, Loops}
 
@@ -12,7 +13,8 @@ abbrev pub bound_of : Shape → ℕ
 bound_of (Repeats n) = n
 bound_of _ = 0
 
--- what the conditions on jumps give; around: the heads of the loops round a place
+-- the facts that follow from the conditions on jumps; `around` has the heads of the loops around a
+-- place
 pub record IsStructured (c : Skeleton) (around : ℕ → List ℕ) : Type 0 where
   pub outside : around 0 ≡ []
   pub some : (pc : ℕ) (places : List ℕ) → c.shape pc ≡ GoesTo places → (to : ℕ) × Among places to
@@ -28,7 +30,7 @@ pub record IsStructured (c : Skeleton) (around : ℕ → List ℕ) : Type 0 wher
   pub end : (pc : ℕ) → c.shape pc ≡ EndsTurn
       → (p : ℕ) × ((n : ℕ) × ((c.shape p ≡ Repeats n) × (c.mate p ≡ pc)))
 
--- each place but the first is led to by one before it
+-- each place except the first comes after a place before it
 pub data Led (c : Skeleton) : ℕ → Type 0 where
   from_go : (from pc : ℕ) (places : List ℕ) → c.shape from ≡ GoesTo places → Among places pc
       → Led c pc

@@ -9,7 +9,7 @@ use Rattle.sts_budget.specs.Structured.{bound_of}
 pub record Flows : Type 0 where
   -- how many entries are open at a place
   pub depth : ℕ → ℕ
-  -- the number of entries before the instruction at the place, and what it adds
+  -- the number of entries before the instruction at the place, and the amount that it adds
   pub source : ℕ → ℕ → ℕ
   pub added : ℕ → ℕ → ℕ
 
@@ -65,7 +65,7 @@ base c f best (l ∷ ls) d =
 abbrev pub full : Skeleton → Flows → (ℕ → List ℕ) → (ℕ → ℕ → ℕ) → ℕ → ℕ
 full c f around best pc = base c f best (last_turns (around pc)) (f.depth pc) + best pc (f.depth pc)
 
--- what the last turn of the loop at p starts from
+-- the sum that the last turn of the loop at p starts from
 abbrev pub turn_base : Skeleton → Flows → (ℕ → List ℕ) → (ℕ → ℕ → ℕ) → ℕ → ℕ
 turn_base c f around best p =
     full c f around best p + f.added p (f.depth p) + (bound_of (c.shape p) - 1) * gain c f best p

@@ -22,7 +22,7 @@ use sts_rules::{Budgets, Cause};
 pub enum BudgetError {
     /// Memory ran out.
     Memory,
-    /// A budget passes its limit, V17 to V20; of several the least.
+    /// A budget is over its limit, V17 to V20; the least cause of several.
     TooMuch(Cause),
 }
 

@@ -135,7 +135,7 @@ pub fn change_of(resource: Resource, earlier: &[Budgets], instr: Instr, names: &
     }
 }
 
-/// How many entries the sums of this resource go over.
+/// The number of entries that the sums of this resource go over.
 pub fn depth_of(resource: Resource, names: &Names) -> usize
     ensures value { result ≡ def.depth_of resource names.now }
     ensures bound { result ≤ MAX_ENTRIES }

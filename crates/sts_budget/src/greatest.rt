@@ -1,4 +1,4 @@
-//! The budget of one resource: the greatest sum of all places, each loop being in its last turn.
+//! The budget of one resource: the greatest sum of all places, with each loop in its last turn.
 
 ghost use Rattle.std.specs.Prelude.{◌≡◌, ◌<◌, ◌≤◌, ◌+◌, ◌-◌, ◌*◌, ◌^◌, ℕ, IfOk, IfSome};
 ghost use Rattle.std.specs.Prelude.{MatchOption, length, replicate, get_or};

@@ -9,7 +9,7 @@ ghost use Rattle.sts_budget.specs.Laws.{PointsLieOnPaths, PointsAreWithin, Child
 use sts_code::{Program, code_of};
 use sts_rules::Budgets;
 
-/// Law: each point of a control path of a well-typed function lies on a whole path.
+/// Law: each point of a control path of a well-typed function is on a whole path.
 pub fn points_lie_on_paths(program: &Program, function: usize, earlier: &[Budgets])
     requires in_program { function < length program.now.routines }
     requires typed { IsWellTyped program.now function }
@@ -18,7 +18,7 @@ pub fn points_lie_on_paths(program: &Program, function: usize, earlier: &[Budget
     code_of(program, function);
 }
 
-/// Law: no point of a control path of a well-typed function passes its budgets.
+/// Law: no point of a control path of a well-typed function is over its budgets.
 pub fn points_are_within(program: &Program, function: usize, earlier: &[Budgets], budgets: Budgets)
     requires in_program { function < length program.now.routines }
     requires typed { IsWellTyped program.now function }

@@ -185,7 +185,7 @@ fn write_on(
     write_which(which, places.as_slice(), list);
 }
 
-/// The `times` of the innermost loop at the places to which the instruction at `pc` leads.
+/// The `times` of the innermost loop at the places that the instruction at `pc` leads to.
 fn head_after(instr: Instr, pc: u32, heads: &[Option<u32>]) -> Option<u32>
     requires in_code { pc < length heads.now }
     requires head { (h : ℕ) → get_or heads.now pc None ≡ Some h → h < length heads.now }

@@ -22,14 +22,13 @@ use Rattle.sts_output.specs.declared.taking.TakeError.{TakeError}
 use Rattle.sts_output.specs.declared.process_words.WordsError.{WordsError}
 use Rattle.sts_output.specs.declared.process_words.WordsError.TheVariants as words_error
 
--- what is printed of a file's text in a mode, or that memory or the file failed
+-- the output for a file's text in a mode, or that memory or the file failed
 pub data IsOfText (m : Mode) (file : Option (List ℕ)) (o : Output) : Type 0 where
   shown : (text : List ℕ) → IsTakenOf file most_of_a_text text → Shows m text [] o
       → IsOfText m file o
   failed : (e : TakeError) → o ≡ failure_output e → IsOfText m file o
 
--- what is printed of a file's text and another file's trace in a mode, or that memory or a file
--- failed
+-- the output for a file's text and another file's trace in a mode, or that memory or a file failed
 pub data IsOfTextAndTrace (m : Mode) (file trace_file : Option (List ℕ)) (o : Output) : Type 0
   where
     shown : (text trace : List ℕ) → IsTakenOf file most_of_a_text text

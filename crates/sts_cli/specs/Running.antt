@@ -51,7 +51,7 @@ report_output budgets end steps = record {
   status = end_status end;
 }
 
--- a program that is accepted came to this end by this journal
+-- an accepted program reached this end with this journal
 pub record IsReported (p : Program) (o : Outcome) : Type 0 where
   pub accepted : IsAccepted p
   pub budgets : List ℕ
@@ -81,7 +81,7 @@ abbrev pub TextRuns : Result Program AsmError → List ℕ → Outcome → Type 
 TextRuns (Ok p) outside o = OutsideRuns p (outside_read outside) o
 TextRuns (Err e) outside o = o ≡ alone (text_fault_output e)
 
--- what comes of a text and an outside text, or that memory was refused
+-- the outcome of a text and an outside text, or that memory ran out
 abbrev pub IsOutcomeOf : List ℕ → List ℕ → Outcome → Type 0
 IsOutcomeOf text outside o = TextRuns (judged text) outside o ⊎ (o ≡ alone memory_output)
 

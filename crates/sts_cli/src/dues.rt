@@ -43,7 +43,7 @@ impl Dues {
 }
 
 impl Outside for Dues {
-    /// The first event that is left, if it is due: one that isn't holds back those after it.
+    /// The first event that is left, if it is due. One that isn't due holds back those after it.
     fn next(&mut self, journal_length: u64) -> Option<Event>
         ensures outside { IfSome result IsOutside }
         ensures due { result ≡ due_event self.old journal_length }

@@ -1,4 +1,4 @@
-//! Does what a mode asks for, and writes what is to be printed.
+//! Does what a mode asks for, and writes the output.
 
 ghost use Rattle.std.specs.Prelude.{◌≡◌, ◌≤◌, IfOk, OnOk};
 ghost use Rattle.std.specs.Io.KnownBytes.{Appends};
@@ -31,8 +31,7 @@ fn output(alloc: Global, mode: Mode, text: &[u8], trace: &[u8]) -> Result<Output
     }
 }
 
-/// Does what the mode asks for with a text and a trace, writes all that is printed, and gives the
-/// status.
+/// Does what the mode asks for with a text and a trace, writes the output, and gives the status.
 ///
 /// It takes all its memory before the first byte is written.
 ///
@@ -55,8 +54,8 @@ pub fn play<W: Write>(
     }
 }
 
-/// `play` in mode `Plain`, with the text up to the first line that is exactly `%`, and the trace
-/// after it.
+/// Does what `play` does in mode `Plain`. The text goes up to the first line that is exactly `%`,
+/// and the trace comes after it.
 ///
 /// # Errors
 ///
@@ -106,7 +105,7 @@ pub(crate) fn play_untraced<R: Threads + Wait + Sync, W: Write>(
     }
 }
 
-/// `play_run`, which also leaves in `unwritten` why the trace was not written.
+/// Does what `play_run` does, and leaves in `unwritten` why the trace was not written.
 pub(crate) fn play_traced<R: Threads + Wait + Sync, T: Write, W: Write>(
     rt: &R,
     alloc: Global,

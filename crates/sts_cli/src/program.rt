@@ -113,7 +113,7 @@ fn outside_of<'a>(wanted: Wanted<'a>, texts: &'a Texts) -> Events<'a> {
     }
 }
 
-/// A run of texts that were read; the file of the trace is made first, if one is named.
+/// Runs texts that were read. The file of the trace is made first, if one is named.
 fn on_texts<R: Threads + Wait + Sync, S: Sinks, W: Write>(
     rt: &R,
     alloc: Global,
@@ -154,7 +154,8 @@ fn on_texts<R: Threads + Wait + Sync, S: Sinks, W: Write>(
     }
 }
 
-/// A run: the text is read before the outside text, and both before the file of the trace is made.
+/// Does a run. The text is read before the outside text, and both before the file of the trace is
+/// made.
 fn on_run<R: Threads + Wait + Sync, S: Sources + Sinks, W: Write>(
     rt: &R,
     alloc: Global,
@@ -301,7 +302,7 @@ const WAITS: &[u8] =
 
 /// Does what the process was asked for, and gives the status; a stream that fails is status 6.
 ///
-/// `at_terminal` says whether a person types what is read from the input stream.
+/// `at_terminal` says whether a person types the input.
 pub fn start<R: Env + Files + Input + Threads + Wait + Sync, W: Write, E: Write>(
     rt: &R,
     alloc: Global,

@@ -75,7 +75,7 @@ has_bad_range (Bound k) = is_past k
 has_bad_range (OrElse k) = is_past k
 has_bad_range _ = false
 
--- what is wrong with an instruction, in the function at this index, which has n instructions
+-- the fault of an instruction, in the function at this index, which has n instructions
 abbrev pub instr_cause : ℕ → ℕ → Instr → Option CodeCause
 instr_cause at n i =
     if has_bad_target n i then Some BadTarget
@@ -97,7 +97,7 @@ code_fault at n pc (i ∷ rest) =
 abbrev pub is_named : List ℕ → Routine → Bool
 is_named name r = bytes_eq r.name name
 
--- what is wrong with a function as a whole, after these
+-- the fault of a function as a whole, after these functions
 abbrev pub routine_cause : List Routine → Routine → Option CodeCause
 routine_cause earlier r =
     if nat_lt MAX_INSTRUCTIONS (length r.code) then Some TooLong

@@ -83,7 +83,7 @@ falls_through _ = true
 
 -- ---- slots
 
--- the slot of an instruction that only the owner of a scope may do
+-- the slot of an instruction that only the owner of a scope may use
 abbrev pub owners_slot : Instr → Option ℕ
 owners_slot (Fork s f h) = Some s
 owners_slot (Join s f t i) = Some s

@@ -64,7 +64,7 @@ pub fn pushes(instr: Instr) -> u8
     }
 }
 
-/// The places that an instruction names; there is room for one more.
+/// The places that an instruction names. There is room for one more.
 pub fn targets(instr: Instr) -> ArrayVec<u32, 4>
     ensures value { result.items ≡ def.targets instr }
     ensures few { length result.items ≤ 3 }
@@ -106,7 +106,7 @@ pub fn falls_through(instr: Instr) -> bool
     !matches!(instr, Instr::Jmp(_) | Instr::Ret | Instr::Fail)
 }
 
-/// The slot of an instruction that only the owner of a scope may do.
+/// The slot of an instruction that only the owner of a scope may use.
 pub fn owners_slot(instr: Instr) -> Option<u8>
     ensures { result ≡ def.owners_slot instr }
 {

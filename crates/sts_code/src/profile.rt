@@ -1,7 +1,7 @@
 //! The two profiles.
 
-/// Which rules a program is held to: in profile two the subtasks of a scope may also be read after
-/// a timeout.
+/// The rules for a program: in profile two the subtasks of a scope may also be read after a
+/// timeout.
 #[derive(Clone, Copy, Debug, PartialEq, Eq)]
 pub enum Profile {
     One,

@@ -19,7 +19,7 @@ pub record Sharing : Type 0 where
   pub kept : ℕ → Env
   -- the records of a task's own open bindings, innermost first
   pub own : ℕ → List ℕ
-  -- those of its owner's that were bound when a scope was opened
+  -- the records of its owner that were bound when a scope was opened
   pub outside : ℕ → List ℕ
 
 -- the task lives
@@ -35,8 +35,8 @@ abbrev pub inherited : Records → Sharing → Option ℕ → List ℕ
 inherited records h None = []
 inherited records h (Some s) = keys_of records (h.kept s)
 
--- environments are built of own bindings in front of what the scope keeps, and no binding is two
--- tasks' own
+-- environments have own bindings in front of those that the scope keeps, and no binding belongs to
+-- two tasks
 pub record IsSharing (records : Records) (h : Sharing) : Type 0 where
   -- the owner of an open scope lives
   pub owners : (s : ℕ) → IsOpen h s → Lives h (h.owner s)
@@ -44,7 +44,7 @@ pub record IsSharing (records : Records) (h : Sharing) : Type 0 where
   pub homes : (t s : ℕ) → Lives h t → h.home t ≡ Some s → IsOpen h s × (h.owner s < t)
   -- each record of a living task's environment exists
   pub whole : (t : ℕ) → Lives h t → IsWhole records (h.env t)
-  -- a task's environment is made of its own bindings and of what its scope keeps
+  -- a task's environment has its own bindings, and then those that its scope keeps
   pub tasks : (t : ℕ) → Lives h t
       → keys_of records (h.env t) ≡ h.own t ++ inherited records h (h.home t)
   -- a scope keeps its owner's environment as it was when the scope was opened

@@ -13,8 +13,8 @@ use std::alloc::{AllocError, Global};
 use std::marker::Model;
 use sts_model::Bound;
 
-/// The records of all environments. Records are made in room that was reserved at the start, and a
-/// record that was taken out leaves its key to a later one.
+/// The records of all environments. Records are made in room that was reserved at the start. When a
+/// record is taken out, a later one may get its key.
 #[derive(Drop)]
 pub struct Chains {
     slab: Slab<Record>,

@@ -6,7 +6,7 @@ ghost use Rattle.sts_env.specs.Sharing.{FrontIsUnshared};
 /// those that its scope keeps. If the last entry of a task is a binding, only that task's
 /// environment holds its record.
 ///
-/// So the task may take that record out: no other environment in use changes.
+/// So the task may take that record out, and no other environment in use changes.
 pub fn front_is_unshared()
     ensures { FrontIsUnshared }
 {}

@@ -23,7 +23,7 @@ pub fn entry_frame(function: u32, args: u8, forker: &Frame, slot: Slot) -> Frame
     at_beginning(function, entry_locals(args as usize, forker), slot)
 }
 
-/// A frame at place 0, with these locals, and this in slot 0.
+/// A frame at place 0, with these locals, and this slot 0.
 fn at_beginning(function: u32, locals: [i64; 16], slot: Slot) -> Frame
     ensures { result ≡ record (def.entry_frame function [] slot) { locals = locals } }
 {

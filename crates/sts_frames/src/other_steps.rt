@@ -33,7 +33,7 @@ pub fn enter_scope(frame: &mut Frame, slot: u8, s: u32)
     set_slot(&mut frame.slots, slot, Slot::Own(s));
 }
 
-/// Pops the arguments of a subtask, which the handle names from now on.
+/// Pops the arguments of a subtask. From now on the handle names it.
 pub fn leave_fork(frame: &mut Frame, args: usize, handle: Option<u8>, child: u32)
     requires { frame.old.pc + 1 < 2 ^ 32 }
     ensures { frame.new ≡ forked frame.old args handle child }
@@ -78,7 +78,7 @@ pub fn forget(frame: &mut Frame, slot: u8)
     set_slot(&mut frame.slots, slot, Slot::Empty);
 }
 
-/// Pops the top operand, which a key is bound to from now on.
+/// Pops the top operand. From now on a key is bound to it.
 pub fn enter_binding(frame: &mut Frame, key: u8)
     requires more { frame.old.pc + 1 < 2 ^ 32 }
     requires room { length frame.old.entries < MAX_ENTRIES }

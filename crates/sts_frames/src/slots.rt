@@ -32,7 +32,7 @@ pub fn named(frame: &Frame, x: u8) -> u32
     }
 }
 
-/// Fills a slot; one above the last changes nothing.
+/// Fills a slot. A slot above the last changes nothing.
 pub fn set_slot(slots: &mut [Slot; 16], x: u8, slot: Slot)
     ensures { slots.new ≡ slice_set slots.old x slot }
 {

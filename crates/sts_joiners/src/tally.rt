@@ -81,7 +81,7 @@ impl Tally {
         }
     }
 
-    /// Tells of an end, and answers whether the joiner now asks to cancel the scope.
+    /// Counts an end, and answers whether the joiner now asks to cancel the scope.
     pub fn on_complete(&mut self, end: End) -> bool
         requires { ends_told self.old < MAX_STANDING }
         ensures kept { self.new ≡ with_end self.old end }

@@ -47,7 +47,7 @@ with_after key link = record link { after = key }
 abbrev pub with_before : Option ℕ → Link → Link
 with_before key link = record link { before = key }
 
--- the link of this key, if there is one, is changed so, and no other
+-- the link of this key, if there is one, is changed in this way, and no other link is
 pub record Relinks (old new : ℕ → ℕ → Option Link) (change : Link → Link) (layer : ℕ)
     (key : Option ℕ) : Type 0 where
   pub changed : (k : ℕ) (link : Link) → key ≡ Some k → old layer k ≡ Some link

@@ -3,9 +3,9 @@
 /// The neighbours of a key in a list.
 #[derive(Clone, Copy, Debug, PartialEq, Eq)]
 pub struct Link {
-    /// The key before this one; none at the front of the list.
+    /// The key before this one, or `None` at the front of the list.
     pub before: Option<usize>,
-    /// The key after this one; none at the back of the list.
+    /// The key after this one, or `None` at the back of the list.
     pub after: Option<usize>,
 }
 
@@ -61,6 +61,6 @@ pub trait Links {
     /// Each store is alike to itself.
     ghost same: { (a : Self) → alike a a };
 
-    /// A store is alike to one that a third is alike to.
+    /// Being alike is transitive.
     ghost chained: { (a b c : Self) → alike a b → alike b c → alike a c };
 }

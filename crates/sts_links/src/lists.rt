@@ -33,7 +33,7 @@ fn set_before<S: Links>(store: &mut S, layer: u8, key: Option<usize>, before: Op
     }
 }
 
-/// One of two ends, by whether there is a neighbour on that side.
+/// One of two ends. It depends on whether there is a neighbour on that side.
 fn if_none(neighbour: Option<usize>, none: Option<usize>, some: Option<usize>) -> Option<usize>
     ensures { result ≡ chain.if_none neighbour none some }
 {

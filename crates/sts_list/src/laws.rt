@@ -2,8 +2,8 @@
 
 ghost use Rattle.sts_list.specs.RoundTrip.{AssembledAgain};
 
-/// A listing that is no longer than a text may be is assembled to the program that it lists.
-/// Nothing is done.
+/// A law: a listing within the limit for a text is assembled to the program that it lists. The
+/// function itself does nothing.
 pub fn listings_are_assembled_again()
     ensures { AssembledAgain }
 {}

@@ -127,7 +127,7 @@ fn write_profile(out: &mut String, profile: Profile) -> Result<(), AllocError>
 pub fn list(alloc: Global, program: &Program) -> Result<String, AllocError>
     ensures listing { IfOk result (λ text. string_bytes text ≡ listing program.now) }
 
-    // A listing that is no longer than a text may be is assembled to the same program.
+    // A listing within the limit for a text is assembled to the same program.
     ensures again { IfOk result (λ text. length (string_bytes text) ≤ 1048576 →
         judged (string_bytes text) ≡ Ok program.now) }
 {

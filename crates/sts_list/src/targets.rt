@@ -58,7 +58,7 @@ fn mark_targets(marks: &mut Vec<bool>, instr: Instr)
     }
 }
 
-/// For each instruction, is it named by one of these?
+/// Says for each instruction whether another one names it.
 ///
 /// # Errors
 ///

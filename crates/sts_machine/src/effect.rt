@@ -18,7 +18,7 @@ use sts_frames::is_local;
 use sts_model::End;
 use sts_store::Store;
 
-/// Does the instruction that a living task is at, which is no misuse and for which there is room.
+/// Does the next instruction of a living task. It must be no misuse, and there must be room for it.
 pub(crate) fn effect(store: &mut Store, program: &Program, code: &[Instr], t: u32, instr: &Instr)
     requires lives { lives_in (live_of store.old) t ≡ true }
     requires own_code { code.now ≡ world.code program.now (frame_of store.old t) }

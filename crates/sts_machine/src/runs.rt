@@ -39,7 +39,7 @@ pub fn replay<'p>(
     Ok(machine)
 }
 
-/// Steps whichever task can step until the root has ended: how it ended.
+/// Steps tasks that can step until the root has ended. Answers how it ended.
 ///
 /// # Errors
 ///

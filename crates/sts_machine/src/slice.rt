@@ -1,4 +1,5 @@
-//! Slices: a task's frame taken out, on which its local instructions are done without the machine.
+//! Slices: a task's frame is taken out, and its local instructions are done on it without the
+//! machine.
 
 ghost use Rattle.std.specs.Prelude.{◌≡◌, ◌+◌, ◌<◌, ◌≤◌, Some, None, true, false, is_some, length};
 ghost use Rattle.std.specs.Prelude.{if◌then◌else◌};
@@ -52,7 +53,7 @@ fn next_local(code: &[Instr], frame: &Frame) -> Option<Instr>
 
 impl<'p> Slice<'p> {
     /// The slice of a task that lives at this frame, with nothing done yet. The laws of its program
-    /// are handed over, so that no instruction asks for them.
+    /// are handed over, so that no instruction asks for them again.
     pub(crate) fn cut(verified: &'p Verified, task: u32, frame: &Frame) -> Slice<'p>
         requires reached { IsReached verified.now task frame.now }
         requires lawful { IsLawful verified.now }

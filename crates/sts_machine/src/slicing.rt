@@ -19,7 +19,7 @@ use crate::stands::say_stand;
 use sts_frames::code;
 
 impl<'p> Machine<'p> {
-    /// A task that can step, taken out: the machine keeps its frame as it is.
+    /// The slice of a task that can step. The machine keeps its frame as it is.
     pub fn slice(&self, task: u32) -> Slice<'p>
         requires { live_can_step self.now.program self.now.live task ≡ true }
         ensures { result ≡ record {

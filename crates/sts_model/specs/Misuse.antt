@@ -244,7 +244,7 @@ fault_of p w t f i =
     else (if breaks_structure w f i then Some Structure
     else (if is_unbound w t i then Some Unbound else None))))
 
--- like `fault_at_instr`, at the end of the function, where there is no instruction
+-- like `fault_of`; at the end of the function, where there is no instruction, it is Operand
 abbrev pub fault_at : Program → World → ℕ → Frame → Option Instr → Option Fault
 fault_at p w t f None = Some Operand
 fault_at p w t f (Some i) = fault_of p w t f i

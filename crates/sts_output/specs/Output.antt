@@ -115,7 +115,7 @@ pub record AreLines (p : Program) (bytes : List ℕ) : Type 0 where
   pub told : AreTold p budgets
   pub printed : bytes ≡ accepted_lines p.routines budgets
 
--- what is printed of a program that is accepted, or refused
+-- the output for an accepted program, or for a refused one
 pub data IsVerdict (p : Program) (output : Output) : Type 0 where
   accepted : IsAccepted p → (budgets : List Budgets) → AreTold p budgets
       → output ≡ accepted_output p budgets → IsVerdict p output
@@ -155,7 +155,7 @@ abbrev pub PrintsAlike : Program → Type 0
 PrintsAlike p = (text trace : List ℕ) (output : Output) → judged text ≡ Ok p
     → Shows mode.Replay text trace output ↔ Shows mode.Plain text trace output
 
--- the output of the mode, or that memory was refused
+-- the output of the mode, or that memory ran out
 abbrev pub IsOutputOf : Mode → List ℕ → List ℕ → Output → Type 0
 IsOutputOf mode text trace output = Shows mode text trace output ⊎ (output ≡ memory_output)
 

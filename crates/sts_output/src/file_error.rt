@@ -18,7 +18,7 @@ pub enum FileError<'a> {
     Unread { path: &'a str, kind: ErrorKind },
     /// The file could not be made or written.
     Unwritten { path: &'a str, kind: ErrorKind },
-    /// The file is to be written, and is one of those that are read.
+    /// The file is to be written, but it is one of those that are read.
     Overwrites { path: &'a str },
 }
 
@@ -128,7 +128,7 @@ fn kind_words(kind: ErrorKind) -> &'static str
     }
 }
 
-/// Returns what a person may have meant who names a file `-`.
+/// Returns a hint for a person who names a file `-`.
 fn input_words(path: &str) -> &'static str
     ensures { result.now ≡ def.input_words path.now }
 {

@@ -43,7 +43,7 @@ impl<R: Env> Env for Named<'_, R> {
     }
 }
 
-/// The words of the command line, the first being the name that the program goes by.
+/// The words of the command line. The first is the name that the program goes by.
 ///
 /// # Errors
 ///

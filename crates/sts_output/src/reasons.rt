@@ -158,7 +158,8 @@ fn fault_reason(
     line_of(alloc, program, named.name, place.as_slice(), hint)
 }
 
-/// Returns the line about a fault of the text of a program; lack of memory is no fault of it.
+/// Returns the line about a fault of the text of a program. Running out of memory is no fault of
+/// it.
 fn failed_text(
     alloc: Global,
     program: &str,

@@ -11,7 +11,7 @@ use std::os::unix::fs::MetadataExt;
 use std::rt::Files;
 use std::{fs, io};
 
-/// Makes what a command line names. A test may implement its own.
+/// Makes the files that a command line names. A test may implement its own.
 pub trait Sinks {
     ghost use Rattle.std.specs.Prelude.{◌≡◌, List, ℕ, Bool, Option, None, IfOk, IfSome};
 
@@ -20,14 +20,14 @@ pub trait Sinks {
     /// Whether two names are of the same file, if that is known.
     ghost same: { Self → List ℕ → List ℕ → Option Bool } = { λ _ _ _. None };
 
-    /// Makes a file of this name, with no byte in it. A file that is there loses its bytes.
+    /// Makes a file of this name without a byte. A file that exists loses its bytes.
     fn create(&self, path: &str) -> io::Result<Self::Sink>;
 
     /// Returns whether both names are of the same file. Then making the first empties the second.
     ///
     /// # Errors
     ///
-    /// The system doesn't say of a name which file it is of.
+    /// The system doesn't say which file a name is of.
     fn is_same(&self, path: &str, other: &str) -> io::Result<bool>
         ensures known { IfOk result (λ answer.
             IfSome (same self.now path.now other.now) (λ known. answer ≡ known)) };

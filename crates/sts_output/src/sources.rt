@@ -9,7 +9,7 @@ use std::io::Read;
 use std::rt::Files;
 use std::{fs, io};
 
-/// Opens what a command line names. A test may implement its own.
+/// Opens the files that a command line names. A test may implement its own.
 pub trait Sources {
     ghost use Rattle.std.specs.Prelude.{List, ℕ, Option, None};
 

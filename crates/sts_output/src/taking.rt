@@ -21,7 +21,7 @@ pub enum TakeError {
 }
 
 impl TakeError {
-    /// Returns what a failure of this kind is reported as.
+    /// Returns the error that a failure of this kind is reported as.
     pub fn of(kind: ErrorKind) -> TakeError
         ensures { (result ≡ TakeError.Memory) ↔ (kind ≡ ErrorKind.OutOfMemory) }
     {
@@ -86,7 +86,7 @@ fn take_piece<R: Read>(
     Ok(n)
 }
 
-/// Returns the reader's bytes up to its end, or the first `most` of them, and reads none after
+/// Returns the reader's bytes up to its end, or the first `most` of them. It reads none after
 /// these.
 ///
 /// # Errors
@@ -113,7 +113,7 @@ pub fn bytes_of<R: Read>(alloc: Global, reader: &mut R, most: u64) -> io::Result
     Ok(taken)
 }
 
-/// Does what `bytes_of` does, with an error that says only whether memory was refused.
+/// Does what `bytes_of` does, with an error that only says whether memory ran out.
 ///
 /// # Errors
 ///

@@ -1,4 +1,4 @@
-//! Does what a mode asks for that needs no machine that tests nothing.
+//! The modes that don't need the machine that tests nothing.
 
 ghost use Rattle.std.specs.Prelude.{IfOk};
 ghost use Rattle.sts_output.specs.Output as def;
@@ -29,8 +29,7 @@ fn output(alloc: Global, mode: TextMode, text: &[u8], trace: &[u8]) -> Result<Ou
     }
 }
 
-/// Does what the mode asks for with a text and a trace, writes all that is printed, and returns the
-/// status.
+/// Does what the mode asks for with a text and a trace, writes the output, and returns the status.
 ///
 /// # Errors
 ///

@@ -13,7 +13,7 @@ use std::alloc::{AllocError, Global};
 /// One byte more than a text may have, so that an endless file is a text too long.
 pub const MOST_OF_A_TEXT: u64 = 1_048_577;
 
-/// All that a trace or the input stream has, which memory ends first.
+/// The limit for a trace or the input stream: memory ends first.
 pub const MOST_OF_A_STREAM: u64 = u64::MAX;
 
 /// The message for a word that is no text.
@@ -50,7 +50,7 @@ pub fn read_text<'a, S: Sources>(
     named_file(alloc, sources, path, MOST_OF_A_TEXT)
 }
 
-/// Returns the bytes of a file of events: none if no file is named.
+/// Returns the bytes of a file of events, which are empty if no file is named.
 fn events_text<'a, S: Sources>(
     alloc: Global,
     sources: &S,

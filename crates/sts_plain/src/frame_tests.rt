@@ -70,7 +70,7 @@ fn is_sub(slot: Slot) -> bool
     matches!(slot, Slot::Sub(_))
 }
 
-/// Does a slot that the instruction names not hold what it is about?
+/// Does a slot not hold the scope or subtask that the instruction needs?
 pub fn has_wrong_slot(frame: &Frame, instr: Instr) -> bool
     ensures { result ≡ misuse.has_wrong_slot frame.now instr }
 {
@@ -92,7 +92,7 @@ pub fn has_wrong_slot(frame: &Frame, instr: Instr) -> bool
     owners || subtasks || filled
 }
 
-/// Does the instruction do what only the owner of a scope may do, to the parent scope?
+/// Is the instruction only for the owner of a scope, but about the parent scope?
 pub fn is_strangers(frame: &Frame, instr: Instr) -> bool
     ensures { result ≡ misuse.is_strangers frame.now instr }
 {

@@ -48,7 +48,7 @@ fn push_value(world: &mut World, t: u32, n: usize, value: i64)
     world.goes_with(t, next, n, value);
 }
 
-/// Does the instruction that a task is at, which is no misuse.
+/// Does the next instruction of a task. It must be no misuse.
 ///
 /// # Errors
 ///

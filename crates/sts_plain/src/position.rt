@@ -98,7 +98,7 @@ impl Position {
         }
     }
 
-    /// One event; returns whether it was a step of a task that could step. An `Err` changes
+    /// Applies one event. Returns whether it was a step of a task that could step. An `Err` changes
     /// nothing.
     ///
     /// # Errors

@@ -80,7 +80,7 @@ may_turn b events t = counts b.program (after b.program events) (Step t) && not 
 abbrev pub is_free : BookSeen → ℕ → Bool
 is_free b t = live_can_step b.machine.program b.machine.live t && not (is_out b t)
 
--- the slice was taken out of this book, and its task is as it was
+-- the slice was taken out of this book, and its task hasn't changed since
 abbrev pub IsOurs : BookSeen → Cut → Type 0
 IsOurs b s = (is_out b s.task ≡ true) × Fits b.machine s
 

@@ -24,7 +24,7 @@ abbrev pub HasRoomFor : Journal → ℕ → Type 0
 HasRoomFor (Written entries) more = vec_len entries + more ≤ vec_capacity entries
 HasRoomFor Counted more = Unit {0}
 
--- these entries came at the end of those that are written, and no room was lost
+-- these entries came at the end of the written ones, and no room was lost
 abbrev pub IsRecorded : Journal → Journal → List Event → Type 0
 IsRecorded (Written old) (Written new) events = (new.items ≡ old.items ++ events)
     × (vec_capacity old ≤ vec_capacity new)

@@ -25,7 +25,7 @@ pub record IsReport (p : Program) (journal : List Event) (end : End) : Type 0 wh
   pub steps : taken p journal ≡ count_by is_step journal
   pub bounded : (b : Budgets) → IsBudgetOf p (main_of p) b → IsBounded p journal b
 
--- some journal leads to no fault and to this end of the root, with this many steps
+-- some journal leads to this end of the root without a fault, with this many steps
 pub record IsEnding (p : Program) (end : End) (steps : ℕ) : Type 0 where
   pub journal : List Event
   pub report : IsReport p journal end

@@ -139,7 +139,7 @@ impl<'p> Book<'p> {
         self.machine.root_end()
     }
 
-    /// A step of a task that can step and isn't out, recorded; else nothing.
+    /// Takes a step of a task that can step and isn't out, and records it. Otherwise does nothing.
     #[inline(always)]
     pub fn turn(&mut self, task: u32) -> Turned
         ensures turned { OfJournal self.old (λ events. result ≡ turned (may_turn self.old events task)) }
@@ -164,7 +164,7 @@ impl<'p> Book<'p> {
     ///
     /// # Errors
     ///
-    /// The journal has 4,096 of them: nothing changed.
+    /// The journal has 4,096 outside events: nothing changed.
     #[inline(never)]
     pub fn outside(&mut self, event: Event) -> Result<Turned, OutsideFull>
         requires { IsOutside event }
@@ -201,7 +201,8 @@ impl<'p> Book<'p> {
         Some(task)
     }
 
-    /// Ends a claim: the task isn't out any more, and a slice of it, if one was taken, is a stranger.
+    /// Ends a claim: the task isn't out any more. If a slice of it was taken, the book no longer
+    /// takes it back.
     pub(crate) fn release(&mut self, task: u32)
         ensures { self.new
             ≡ record self.old { out = filter (λ o. not (o == task)) self.old.out } }
@@ -234,8 +235,8 @@ impl<'p> Book<'p> {
     ///
     /// # Errors
     ///
-    /// Its task isn't out here, is out from another frame, or the code of its function isn't this
-    /// book's: the slice is given back, and nothing changed.
+    /// The slice isn't this book's: its task isn't out here, is out from another frame, or the code
+    /// of its function is another. The slice is given back, and nothing changed.
     pub fn check_in(&mut self, slice: Slice<'p>) -> Result<(), Stranger<'p>>
         ensures ours { IsOk result ↔ IsOurs self.old slice.entry }
         ensures journal { OnOk result
@@ -331,7 +332,7 @@ impl<'p> Book<'p> {
     }
 }
 
-/// Is the task in the list? Most often nothing is.
+/// Is the task in the list? Usually the list is empty.
 #[inline(always)]
 fn is_among(out: &[u32], task: u32) -> bool
     ensures { result ≡ list_any (λ o. o == task) out.now }

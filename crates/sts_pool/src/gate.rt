@@ -6,7 +6,7 @@ ghost use Rattle.sts_pool.specs.Outside.{IsOutside};
 
 use sts_model::Event;
 
-/// Is called with no lock held before a worker works on a task.
+/// A worker calls this before it works on a task. It holds no lock then.
 pub trait Gate {
     fn enter(&self, worker: u32, task: u32);
 }

@@ -3,8 +3,8 @@
 use sts_model::{End, Event};
 use thiserror::Error;
 
-/// How the root ended, the journal that led there, how many steps it has, and how many workers came
-/// to the run.
+/// How the root ended, the journal that led there, how many steps it has, and how many workers
+/// joined the run.
 #[derive(Debug, Drop)]
 pub struct Report {
     pub end: End,
@@ -13,7 +13,7 @@ pub struct Report {
     pub workers: u32,
 }
 
-/// How the root ended, how many steps were taken, and how many workers came to the run.
+/// How the root ended, how many steps were taken, and how many workers joined the run.
 #[derive(Clone, Copy, Debug, PartialEq, Eq)]
 pub struct Ending {
     pub end: End,

@@ -27,7 +27,7 @@ impl Gate for Slow {
     }
 }
 
-/// Nothing comes from outside; it counts how often it is asked.
+/// No event comes from outside. It counts how often it is asked.
 #[derive(Drop)]
 struct Silent<'g> {
     asked: &'g AtomicU64,

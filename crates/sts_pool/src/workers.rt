@@ -1,4 +1,4 @@
-//! The workers, which share one book under one lock.
+//! The workers. They share one book under one lock.
 
 ghost use Rattle.std.specs.Prelude.{◌≡◌, ◌≤◌, IfOk, count_by, length};
 ghost use Rattle.sts_model.specs.Run.{is_step};
@@ -54,7 +54,7 @@ struct Shared<'p, O, B: Runs> {
     ghost ours: { book.program ≡ B.program },
 }
 
-/// One lock over it, and what wakes those that sleep.
+/// The state under one lock, and the condition that sleeping workers wait for.
 #[derive(Drop)]
 struct Pool<'p, O, B: Runs> {
     shared: Mutex<Shared<'p, O, B>>,
@@ -65,7 +65,7 @@ struct Pool<'p, O, B: Runs> {
 enum Found {
     /// It works on this task.
     Task(u32),
-    /// It looks again, or sleeps once it looked often enough.
+    /// The worker looks again, or sleeps once it has looked often enough.
     Nothing,
     /// It sleeps.
     Left,
@@ -293,7 +293,7 @@ pub fn run<R: Threads + Wait + Sync, G: Gate + Sync, O: Outside + Send + Drop>(
     left.book.report(left.workers)
 }
 
-/// The same with no journal written: how its root ended, and the steps taken.
+/// Does what `run` does, but writes no journal: how the root ended, and the steps taken.
 ///
 /// # Errors
 ///

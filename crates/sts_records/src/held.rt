@@ -135,7 +135,7 @@ impl<T: Drop> Held<T> {
         self.entries.get(key).unwrap().birth
     }
 
-    /// A record of the next birth, which is answered.
+    /// Makes a record of the next birth, and answers that birth.
     pub fn push(&mut self, body: T) -> usize
         requires room { 0 < self.old.room }
         requires births { length self.old.slots < 1000000 }

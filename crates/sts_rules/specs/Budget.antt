@@ -37,7 +37,7 @@ shape_of pc Ret = EndsPath
 shape_of pc Fail = EndsPath
 shape_of pc i = GoesTo (targets i ++ next_place pc i)
 
--- how many steps it counts: a close has two, a fork also those of its child
+-- the steps that an instruction counts: two for a close, and for a fork also those of its child
 abbrev pub steps_of : List Budgets → Instr → ℕ
 steps_of earlier (Close slot) = 2
 steps_of earlier (Fork slot function handle) = 1 + (budget_at earlier function).steps
@@ -52,7 +52,7 @@ forked slot function (OpenScope s subtasks ∷ es) =
     then OpenScope s (function ∷ subtasks) ∷ es
     else OpenScope s subtasks ∷ forked slot function es
 
--- what it makes of the open entries, the innermost first
+-- the open entries after an instruction, the innermost first
 abbrev pub entries_of : Instr → List OpenEntry → List OpenEntry
 entries_of (Open slot joiner timed) es = OpenScope slot [] ∷ es
 entries_of (Bind key) es = OpenBinding ∷ es
@@ -73,7 +73,7 @@ skeleton earlier code = record {
 
 -- ---- what stands at a point
 
--- what is summed: what an open scope, an open binding and a subtask count
+-- the parts of a sum: the amounts of an open scope, an open binding and a subtask
 pub record Measure : Type 0 where
   pub scope : ℕ
   pub binding : ℕ
@@ -132,7 +132,7 @@ PathExceeds c limit = (m : ℕ) × (PathCounts c m × (limit < m))
 abbrev pub PointExceeds : Skeleton → (List OpenEntry → ℕ) → ℕ → Type 0
 PointExceeds c sum limit = (m : ℕ) × (PointHolds c sum m × (limit < m))
 
--- the cause of a budget that passes its limit, V17 to V20
+-- the cause of a budget that is over its limit, V17 to V20
 abbrev pub Exceeds : List Budgets → List Instr → Cause → Type 0
 Exceeds earlier code TooManySteps = PathExceeds (skeleton earlier code) MAX_STEPS
 Exceeds earlier code TooManyTasks =

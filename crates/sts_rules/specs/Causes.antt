@@ -1,4 +1,4 @@
--- The causes of a refusal that are read off one instruction and one typestate, each a test (this
+-- The causes of a refusal that one instruction and one typestate decide, each a test (this
 -- project's own).
 use Rattle.std.specs.Prelude.{ℕ, ◌+◌, ◌-◌, List, [], ◌∷◌, ◌++◌, length, Bool, true, false, Option}
 use Rattle.std.specs.Prelude.{Some, None, is_some, is_none, nat_lt, nat_le, ◌==◌, ◌&&◌, ◌||◌, not}
@@ -102,12 +102,12 @@ is_unmatched code pc (Times n) s = is_none (match_of code pc)
 is_unmatched code pc Next s = not (closes_loop code pc s.loops)
 is_unmatched code pc _ s = false
 
--- are the loops around the place other ones than these?
+-- are loops other than these around the place?
 abbrev pub is_other_loop : List Instr → List ℕ → ℕ → Bool
 is_other_loop code heads to = not (bytes_eq (around code to) heads)
 
--- V5: such a `times` or `next`, or a place to which it leads with other loops open than those
--- around it
+-- V5: such a `times` or `next`, or an instruction that leads to a place with other open loops than
+-- those around it
 abbrev pub mismatches : List Instr → ℕ → Instr → TypeState → Bool
 mismatches code pc i s =
     is_unmatched code pc i s
@@ -171,7 +171,7 @@ abbrev pub is_known_failed : Known → Bool
 is_known_failed known.Failed = true
 is_known_failed _ = false
 
--- V12: a scope or subtask that isn't known to be in the state for it
+-- V12: a scope or subtask that isn't known to be in the state for the instruction
 abbrev pub is_illegal : Profile → Instr → TypeState → Bool
 is_illegal profile (Fork x g h) s = at_own s x (λ scope. not (passes is_opened scope))
 is_illegal profile (Join x failed timeout i) s = at_own s x (λ scope. not (passes can_join scope))

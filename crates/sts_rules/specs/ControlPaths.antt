@@ -28,7 +28,7 @@ pub record Skeleton : Type 0 where
   pub mate : ℕ → ℕ
   -- how many steps the instruction at a place counts
   pub weight : ℕ → ℕ
-  -- what the instruction at a place makes of the open entries, the innermost first
+  -- the open entries after the instruction at a place, the innermost first
   pub entries : ℕ → List OpenEntry → List OpenEntry
 
 abbrev pub Among : List ℕ → ℕ → Type 0

@@ -34,12 +34,12 @@ IsDead {S} f pc = (s : S) → Reaches f pc s → ⊥
 abbrev pub HasTwo : {S C : Type 0} → Flow S C → ℕ → Type 0
 HasTwo {S} f pc = (a : S) × ((b : S) × (Reaches f pc a × Reaches f pc b × (a ≢ b)))
 
--- another state than s reaches the place to which a loop goes back from here
+-- a state other than s reaches the place that a loop goes back to from here
 abbrev pub TurnDiffers : {S C : Type 0} → Flow S C → ℕ → S → Type 0
 TurnDiffers {S} f pc s =
     (q : ℕ) × ((other : S) × ((f.back pc s ≡ Some q) × Reaches f q other × (other ≢ s)))
 
--- every state that reaches the place to which a loop goes back from here is s
+-- only s reaches the place that a loop goes back to from here
 abbrev pub TurnKeeps : {S C : Type 0} → Flow S C → ℕ → S → Type 0
 TurnKeeps {S} f pc s = (q : ℕ) (other : S) → f.back pc s ≡ Some q → Reaches f q other → other ≡ s
 

@@ -22,7 +22,7 @@ IsTypeRefusal p f pc c = flow.IsRefusal (typing p f) (size p f) pc c
 -- no place of the function has a cause
 pub record IsSound (p : Program) (f : ℕ) : Type 0 where
   pub typed : IsWellTyped p f
-  -- the budgets of the functions before it; its own pass no limit
+  -- the budgets of the functions before it; its own are within the limits
   pub earlier : List Budgets
   pub long : length earlier ≡ f
   pub right : AreBudgets p earlier
@@ -46,7 +46,7 @@ IsRefusal p f pc c =
 pub record IsAccepted (p : Program) : Type 0 where
   pub sound : (f : ℕ) → f < length p.routines → IsSound p f
 
--- acceptance and refusal exclude each other, and there is one refusal at most
+-- acceptance and refusal exclude each other, and a program has at most one refusal
 pub record IsOneVerdict (p : Program) : Type 0 where
   pub apart : (f pc : ℕ) (c : Cause) → IsAccepted p → ¬ IsRefusal p f pc c
   pub alone : (f g pc qc : ℕ) (c d : Cause) → IsRefusal p f pc c → IsRefusal p g qc d

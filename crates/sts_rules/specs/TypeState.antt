@@ -1,4 +1,4 @@
--- Typestates: what the verifier knows of a task at an instruction (this project's own).
+-- Typestates: the verifier's knowledge of a task at an instruction (this project's own).
 use Rattle.std.specs.Prelude.{ℕ, ◌+◌, List, [], ◌∷◌, length, Option, Some, None, ◌==◌}
 use Rattle.std.specs.Prelude.{if◌then◌else◌, replicate, map, slice_index_or}
 use Rattle.sts_code.specs.Program.{Program}
@@ -9,16 +9,16 @@ use Rattle.sts_rules.specs.declared.typing.TypedEntry.{TypedEntry}
 use Rattle.sts_rules.specs.declared.typing.TypedEntry.TheVariants.{Scope, Binding}
 use Rattle.sts_rules.specs.declared.typing.TypedLoop.{TypedLoop}
 
--- the number of operands; the open loops and the structure list, the innermost first; what each
--- slot holds
+-- the number of operands; the open loops and the structure list, the innermost first; the content
+-- of each slot
 pub record TypeState : Type 0 where
   pub height : ℕ
   pub loops : List TypedLoop
   pub entries : List TypedEntry
   pub slots : List SlotKind
 
--- what slot 0 holds at the beginning of a function: the scope that it was forked in, but in `main`,
--- the last
+-- the content of slot 0 at the beginning of a function: the scope that it was forked in; `main`,
+-- the last function, has none
 abbrev pub first_slot : Program → ℕ → SlotKind
 first_slot p f = if f + 1 == length p.routines then Empty else Lent
 

@@ -74,7 +74,7 @@ pub enum Cause {
     FallsOff,
     /// V4: a target that is no later instruction.
     BackJump,
-    /// V5: a loop without its end, an end without its loop, or a way into or out of a loop.
+    /// V5: a `times` or a `next` without its partner, or a way into or out of a loop.
     LoopMismatch,
     /// V6: more than 8 open loops.
     LoopDepth,
@@ -82,13 +82,13 @@ pub enum Cause {
     StatesDiffer,
     /// V8: no typestate arrives.
     DeadCode,
-    /// V9: a slot that does not hold what the instruction is about.
+    /// V9: a slot that doesn't hold the scope or subtask that the instruction needs.
     SlotKind,
     /// V10: a slot to be filled that isn't empty.
     SlotBusy,
     /// V11: a scope that the task does not own.
     WrongThread,
-    /// V12: a scope or subtask that isn't in the state for it.
+    /// V12: a scope or subtask that isn't in the state for the instruction.
     IllegalState,
     /// V13: against the order of the structure list.
     Structure,

@@ -1,4 +1,4 @@
-//! A test of sameness that is needed in one direction, and lists of what has it.
+//! A comparison that is proved in one direction, and comparisons of lists.
 
 ghost use Rattle.std.specs.Prelude.{◌≡◌, true};
 

@@ -1,4 +1,4 @@
--- Each word of a forest, and the plain machine's word on its view (this project's own).
+-- The changes of a forest, and those of its live view (this project's own).
 use Rattle.std.specs.Prelude.{◌≡◌, ℕ, List, [], ◌∷◌, ◌++◌, length, Bool, true, false, Some}
 use Rattle.std.specs.Prelude.{None, ◌==◌, if◌then◌else◌, slice_index_or, ◌&&◌}
 use Rattle.laws_live.specs.Waiting.{live_can_go}

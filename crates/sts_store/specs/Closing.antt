@@ -33,7 +33,7 @@ gone_unseen v u s =
       scope_room = u.scope_room + 1;
     }
 
--- a step of a close: the owner waits while a subtask lives, and else goes on
+-- a step of a close: the owner waits while a subtask lives, and otherwise goes on
 abbrev pub close_unseen : Live → Unseen → ℕ → ℕ → Unseen
 close_unseen v u t s =
     if live_any_lives v s

@@ -1,4 +1,4 @@
--- The end of a task in a tree, and what comes of it (this project's own).
+-- The end of a task in a tree, and its consequences (this project's own).
 use Rattle.std.specs.Prelude.{ℕ, Option, Some, None, slice_index_or}
 use Rattle.sts_model.specs.declared.event.End.{End}
 use Rattle.sts_tree.specs.Forest.{Forest}

@@ -61,7 +61,7 @@ behind s [] = []
 behind s (entry.Scope r ∷ es) = if r == s then es else behind s es
 behind s (entry.Binding key value ∷ es) = behind s es
 
--- the task of this birth lives, and has this of it
+-- the task of this birth lives, and this is its part
 abbrev pub Holds : List (Option Holder) → ℕ → Holder → Type 0
 Holds hs t h = slice_index_or hs t None ≡ Some h
 

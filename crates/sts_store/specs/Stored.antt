@@ -4,7 +4,7 @@ use Rattle.sts_tree.specs.Reading.{lives_at}
 use Rattle.sts_store.specs.Parts.{Parts}
 use Rattle.sts_store.specs.Sharing.{AreShared, holders, keepers, homes}
 
--- a frame for each task that lives, and for no other; bindings are shared as they are to be
+-- there is a frame for each living task, and for no other; bindings are shared as the laws say
 pub record IsStore (m : Parts) : Type 0 where
   pub born : length m.frames.slots ≡ length m.tree.tasks
   pub alive : (t : ℕ) →

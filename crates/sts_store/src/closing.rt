@@ -63,7 +63,7 @@ impl Store {
         cancel(&mut self.tree, s);
     }
 
-    /// Cancels a scope, at which its owner waits from now on.
+    /// Cancels a scope. From now on its owner waits at it.
     fn begin_close(&mut self, t: u32, s: u32)
         requires lives { lives_in (live_of self.old) t ≡ true }
         requires owned { IsOwned (live_of self.old) t s }

@@ -16,7 +16,7 @@ use sts_frames::{entry_frame, leave_fork};
 use sts_model::Slot;
 use sts_records::Held;
 
-/// A place for the next birth: with what it has if it lives.
+/// A place for the next birth, with its own state if it lives.
 fn place(frames: &mut Held<Running>, running: Running, lives: bool)
     requires room { 0 < frames.old.room }
     requires births { length frames.old.slots < 1000000 }

@@ -1,12 +1,13 @@
 //! The store of the machine that tests nothing: the tree, the frames of living tasks, and all
 //! bindings.
 //!
-//! Contracts see the parts, and speak of the live view that these make up. Each call does to that
-//! view what an instruction, an interrupt or an expiry does to it. It also says what becomes of the
-//! rest, which the view doesn't show. Only `Store::with_room` takes memory, and no other call can
-//! fail.
+//! Contracts see the parts, and speak of the live view that they form. Each call has the same
+//! effect on that view as an instruction, an interrupt or an expiry. Its contract also says how the
+//! parts change that the view doesn't show. Only `Store::with_room` takes memory, and no other call
+//! can fail.
 //!
-//! The law in `agreement` says that each word of the tree is the live view's word of that name.
+//! The law in `agreement` says that each change of the tree is the change of the live view with the
+//! same name.
 #![tactic(auto)]
 
 pub mod agreement;

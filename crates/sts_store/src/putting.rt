@@ -9,7 +9,7 @@ use sts_frames::write_frame;
 use sts_model::Frame;
 
 impl Store {
-    /// Puts a frame in the place of a living task's. It has the same structure list: local
+    /// Replaces the frame of a living task. The new frame has the same structure list: local
     /// instructions keep that.
     pub fn put_frame(&mut self, t: u32, frame: &Frame)
         requires lives { lives_in (live_of self.old) t ≡ true }

@@ -13,7 +13,7 @@ use sts_code::Joiner;
 use sts_frames::enter_scope;
 
 impl Store {
-    /// Opens a scope, which the slot owns from now on, and goes on.
+    /// Opens a scope, and goes on. From now on the slot owns the scope.
     pub fn open(&mut self, t: u32, slot: u8, joiner: Joiner, timed: bool)
         requires lives { lives_in (live_of self.old) t ≡ true }
         requires more { (frame_of self.old t).pc + 1 < 2 ^ 32 }

@@ -12,7 +12,7 @@ use sts_model::{End, Frame};
 use sts_records::Held;
 use sts_tree::Tree;
 
-/// How many tasks, scopes and bindings there is room for at once.
+/// The room for tasks, scopes and bindings at once.
 #[derive(Clone, Copy, Debug, PartialEq, Eq)]
 pub struct Room {
     pub tasks: u32,

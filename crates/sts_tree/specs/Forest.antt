@@ -71,7 +71,7 @@ abbrev pub ready_of : List (Option TaskRecord) → Ends → List ℕ
 ready_of slots ready = walk (link_at slots 2) (length slots) ready.first
 
 -- the lists by index are those of the tasks, in order of birth; the ready list has the tasks that
--- are marked so
+-- are marked as ready
 pub record IsForest (at : ℕ → ℕ → Option Link)
     (tasks : List (Option Task)) (families : List (Option Family))
     (ready : Ends) (keys : List ℕ) (room : ℕ) : Type 0 where

@@ -359,7 +359,7 @@ impl<E: Drop> Forest<E> {
         row.living = unlink(&mut self.tasks, 1, row.living, t as usize);
     }
 
-    /// Tells a scope's joiner of an end, and answers whether it now asks to cancel.
+    /// Tells a scope's joiner of an end. Answers whether it now asks to cancel.
     pub fn tell(&mut self, s: u32, end: End) -> bool
         requires stands { slice_index_or self.old.scopes s None ≢ None }
         requires spare { HasSpare self.old s }

@@ -165,7 +165,7 @@ impl<E: Drop> Tree<E> {
         self.forest.task(t).unwrap().flag
     }
 
-    /// The scope that a task is a subtask of; none for the root.
+    /// The scope that a task is a subtask of; the root has none.
     pub fn scope_of(&self, t: u32) -> Option<u32>
         requires { slice_index_or self.now.tasks t None ≢ None }
         ensures { (x : AnyTask) → slice_index_or self.now.tasks t None ≡ Some x → result ≡ x.scope }

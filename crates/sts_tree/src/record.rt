@@ -7,7 +7,7 @@ use sts_model::{End, Phase, Stand};
 /// A task that still counts. It names others by birth number.
 #[derive(Clone, Copy, Debug)]
 pub struct Task {
-    /// The scope that it is a subtask of; none for the root.
+    /// The scope that it is a subtask of; the root has none.
     pub scope: Option<u32>,
     pub flag: bool,
     pub lives: bool,

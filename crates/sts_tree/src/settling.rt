@@ -36,7 +36,7 @@ fn can_step<E: Drop>(forest: &Forest<E>, t: u32) -> bool
     }
 }
 
-/// Puts a task into the ready list or takes it out, as it can step or not.
+/// Puts a task into the ready list if it can step, and takes it out if it can't.
 pub(crate) fn settle<E: Drop>(forest: &mut Forest<E>, t: u32)
     ensures seen { seen forest.new ≡ seen forest.old }
     ensures ready { (u : ℕ) →

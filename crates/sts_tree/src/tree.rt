@@ -1,4 +1,4 @@
-//! The tree: every call leaves the ready list with the tasks that can step.
+//! The tree: after every call the ready list has the tasks that can step.
 
 ghost use Rattle.std.specs.Prelude.{◌≡◌, ◌≢◌, ℕ, ◌∷◌, ◌++◌, length, ◌<◌, ◌≤◌, ◌-◌, [], IfOk};
 ghost use Rattle.std.specs.Prelude.{Some, None, true, false, not, slice_index_or};
@@ -217,7 +217,7 @@ impl<E: Drop> Tree<E> {
         settle(&mut self.forest, owner);
     }
 
-    /// Sets a scope's phase, on which no step depends.
+    /// Sets a scope's phase. No step depends on it.
     pub fn set_phase(&mut self, s: u32, phase: Phase)
         requires { slice_index_or self.old.scopes s None ≢ None }
         ensures { (c : AnyScope E) → slice_index_or self.old.scopes s None ≡ Some c →

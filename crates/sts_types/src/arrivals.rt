@@ -131,7 +131,7 @@ impl Arrivals {
             (λ a. (a.table ≡ slice_set (replicate places Arrival.Nothing) 0 (Arrival.One first)) ×
             (a.state ≡ first)) }
     {
-        // Room for one a place, so that what is kept need not move.
+        // Room for one typestate a place, so that the kept ones needn't move.
         let mut kept = Vec::with_capacity(alloc, places)?;
         kept.push(first.copy())?;
         let start = Mark {

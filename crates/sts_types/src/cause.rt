@@ -1,4 +1,4 @@
-//! The causes of a refusal that are read off one instruction and one typestate, each a test.
+//! The causes of a refusal that one instruction and one typestate decide, each a test.
 
 ghost use Rattle.std.specs.Prelude.{◌≡◌, not, ◌&&◌, ◌||◌, is_some};
 ghost use Rattle.std.specs.List.{list_any, range_with_len};
@@ -62,7 +62,7 @@ pub(crate) fn is_too_deep(instr: Instr, state: &TypeState) -> bool
 
 // ---- V9 to V11
 
-/// Does the slot that only an owner may use hold no scope?
+/// Does the slot hold no scope, though only an owner may use it?
 fn has_no_scope(instr: Instr, state: &TypeState) -> bool
     ensures { result ≡ def.at_slot state.now (facts.owners_slot instr)
         (λ k. not (def.is_own k || def.is_lent k)) }

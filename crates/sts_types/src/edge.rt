@@ -16,7 +16,7 @@ use sts_rules::Cause;
 /// The edges of the instruction at a place of one of the program's functions, or the least cause
 /// that holds at it.
 ///
-/// Causes that compare typestates or look for dead code aren't tested: they speak of a whole
+/// Causes that compare typestates or look for dead code aren't tested here: they are about a whole
 /// function.
 ///
 /// # Errors

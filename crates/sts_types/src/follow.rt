@@ -41,7 +41,8 @@ impl Edges {
     }
 }
 
-/// Along the first edge of an instruction: the typestate becomes that at the place it leads to.
+/// Follows the first edge of an instruction: the typestate becomes that at the place where the edge
+/// ends.
 fn first_edge(site: &Site<'_>, state: &mut TypeState) -> Option<u32>
     requires site { IsSite site.now }
     requires room { HasRoomAt site.now state.old }

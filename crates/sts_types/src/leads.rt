@@ -1,4 +1,4 @@
-//! The causes that are read off the places to which an instruction leads.
+//! The causes that depend on the places after an instruction.
 
 ghost use Rattle.std.specs.Prelude.{◌≡◌, ◌<◌, length, nat_le, option_to_list};
 ghost use Rattle.std.specs.List.{list_any};
@@ -72,7 +72,7 @@ fn is_unmatched(site: &Site<'_>, state: &TypeState) -> bool
     }
 }
 
-/// Are other loops than these around one of the places?
+/// Are loops other than these around one of the places?
 fn any_other(loops: &CodeLoops<'_>, now: &Stack<TypedLoop, 8>, places: &[u32]) -> bool
     ensures { result ≡ list_any (def.is_other_loop loops.now (heads now.now)) places.now }
 {
@@ -89,7 +89,7 @@ fn is_other(loops: &CodeLoops<'_>, now: &Stack<TypedLoop, 8>, place: Option<u32>
     }
 }
 
-/// Are other loops around the next place than those that are then open?
+/// Are loops around the next place other than those that are open then?
 fn next_differs(site: &Site<'_>, state: &TypeState) -> bool
     requires { IsSite site.now }
     ensures { result ≡

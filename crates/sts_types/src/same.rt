@@ -5,7 +5,7 @@ ghost use Rattle.std.specs.Prelude.{◌≡◌, ◌↔◌, IsTrue, length, drop, 
 use sts_model::Stack;
 use sts_rules::{SlotKind, TypedEntry, TypedLoop};
 
-/// The loops are those of another stack from now on.
+/// Takes over the loops of another stack.
 pub(crate) fn copy_loops(copy: &mut Stack<TypedLoop, 8>, stack: &Stack<TypedLoop, 8>)
     ensures { copy.new ≡ stack.now }
 {
@@ -16,7 +16,7 @@ pub(crate) fn copy_loops(copy: &mut Stack<TypedLoop, 8>, stack: &Stack<TypedLoop
     }
 }
 
-/// The entries are those of another stack from now on.
+/// Takes over the entries of another stack.
 pub(crate) fn copy_entries(copy: &mut Stack<TypedEntry, 16>, stack: &Stack<TypedEntry, 16>)
     ensures { copy.new ≡ stack.now }
 {

@@ -116,7 +116,7 @@ impl TypeState {
     }
 }
 
-/// The typestate at the beginning of a function, which has to be one of the program's.
+/// The typestate at the beginning of one of the program's functions.
 pub fn entry(program: &Program, function: u32) -> TypeState
     requires { function < length program.now.routines }
     ensures { result ≡ def.entry program.now function }

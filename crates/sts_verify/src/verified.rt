@@ -118,7 +118,7 @@ fn verify_function(
     }
 }
 
-/// Verifies a program: it is accepted, or refused at its least place with a cause, by the least
+/// Verifies a program. It is accepted, or refused at its least place with a cause, for the least
 /// cause there.
 ///
 /// # Errors

@@ -9,7 +9,7 @@ use Rattle.sts_joiners.specs.Tallied.{Tallied, tallied, ends_told}
 use Rattle.sts_model.specs.Living.{is_in}
 use Rattle.sts_world.specs.Lines.{Line, Lines}
 
--- of one scope: the birth numbers of its subtasks in fork order, and how many of them live
+-- for one scope: the birth numbers of its subtasks in fork order, and how many of them live
 pub record Family : Type 0 where
   pub births : List ℕ
   pub living : ℕ

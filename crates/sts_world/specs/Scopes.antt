@@ -41,12 +41,12 @@ abbrev pub front_of : List ScopeRecord → Option ℕ → Option ℕ
 front_of scopes None = None
 front_of scopes (Some s) = (slice_index_or scopes s no_record).front
 
--- each scope's environment is made of links that there are
+-- each scope's environment has only links that exist
 abbrev pub AreWithin : List Link → List ScopeRecord → Type 0
 AreWithin links scopes =
     (s : ℕ) → is_within (length links) (slice_index_or scopes s no_record).front ≡ true
 
--- the scope has all that the record says but its environment
+-- the scope has all that the record says, except its environment
 pub record IsShown (s : ScopeRecord) (scope : Scope) : Type 0 where
   pub owner : scope.owner ≡ s.owner
   pub joiner : scope.joiner ≡ s.joiner

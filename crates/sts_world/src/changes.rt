@@ -36,7 +36,7 @@ impl Records {
         }
     }
 
-    /// The slots of a task, those emptied that name the scope or one of its subtasks.
+    /// The slots of a task, with those emptied that name the scope or one of its subtasks.
     pub(crate) fn cleared(&self, t: u32, s: u32) -> [Slot; 16]
         requires born { t < length self.now.tasks }
         requires lives { living.lives (def.task_at self.now t) ≡ true }

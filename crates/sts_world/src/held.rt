@@ -1,4 +1,4 @@
-//! A frame as it is held: in full while its task lives, and at rest in what is used of it.
+//! A frame as it is held: in full while its task lives, and later only its used parts.
 
 ghost use Rattle.std.specs.Prelude.{◌≡◌, ◌≤◌, ◌<◌, ◌∷◌};
 ghost use Rattle.std.specs.Prelude.{length, reverse, take, replicate, IfSome, IfOk};

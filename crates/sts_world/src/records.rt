@@ -71,7 +71,7 @@ impl Records {
         self.scopes.len()
     }
 
-    /// Does the task live? No task lives that was never born.
+    /// Does the task live? A task that was never born doesn't.
     pub fn lives(&self, t: u32) -> bool
         ensures value { result ≡ living.lives (def.task_at self.now t) }
         ensures born { result ≡ true → t < length self.now.tasks }
@@ -130,7 +130,7 @@ impl Records {
         }
     }
 
-    /// Was the task started? One that was forked in a cancelled scope never is.
+    /// Was the task started? A task that was forked in a cancelled scope never is.
     pub fn has_started(&self, t: u32) -> bool
         ensures { result ≡ (def.task_at self.now t).started }
     {
@@ -140,7 +140,7 @@ impl Records {
         }
     }
 
-    /// The function that a task is in, also of one that has ended.
+    /// The function that a task is in, even if it has ended.
     pub fn function(&self, t: u32) -> u32
         ensures { result ≡ (def.task_at self.now t).frame.function }
     {
@@ -150,7 +150,7 @@ impl Records {
         }
     }
 
-    /// The place of a task's next instruction, also of one that has ended.
+    /// The place of a task's next instruction, even if it has ended.
     pub fn pc(&self, t: u32) -> u32
         ensures { result ≡ (def.task_at self.now t).frame.pc }
     {

@@ -1,4 +1,4 @@
-//! The tasks and scopes with what is kept of them.
+//! The tasks and scopes, with their counters.
 
 ghost use Rattle.std.specs.Prelude.{◌≡◌, ◌<◌, ◌≤◌, ◌+◌, ◌-◌, ◌^◌, ◌&&◌, [], ◌∷◌};
 ghost use Rattle.std.specs.Prelude.{if◌then◌else◌, OnOk, OnErr, IfOk, Some, None, true, false};
@@ -116,7 +116,7 @@ impl World {
         ensures value { result ≡ standing.standing_tasks self.now }
         ensures few { result ≤ MAX_BIRTHS }
     {
-        // For the proof alone: the records, seen from inside, show that few tasks are ever born.
+        // Only for the proof: the records, seen from inside, show that few tasks are ever born.
         let records = &self.records;
         let _ = &records.tasks;
         self.standing_tasks
@@ -128,7 +128,7 @@ impl World {
         ensures value { result ≡ standing.standing_scopes self.now }
         ensures few { result ≤ MAX_BIRTHS }
     {
-        // For the proof alone: the records, seen from inside, show that few scopes are ever born.
+        // Only for the proof: the records, seen from inside, show that few scopes are ever born.
         let records = &self.records;
         let _ = &records.scopes;
         self.standing_scopes
@@ -139,7 +139,7 @@ impl World {
         ensures value { result ≡ living.subtask_count self.now s }
         ensures few { result ≤ MAX_BIRTHS }
     {
-        // For the proof alone: the records, seen from inside, show that few tasks are ever born.
+        // Only for the proof: the records, seen from inside, show that few tasks are ever born.
         let records = &self.records;
         let _ = &records.tasks;
         births(&self.families, s).len()

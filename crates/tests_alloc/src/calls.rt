@@ -107,7 +107,7 @@ fn are_same(one: &Program, other: &Program) -> bool {
             .all(|(one, other)| are_same_functions(one, other))
 }
 
-/// Says whether a value is as it was before a call that found no memory.
+/// Says whether a call that found no memory left a value unchanged.
 fn tell_refused(rt: &HostRuntime, is_same: bool) -> io::Result<()> {
     let after = if is_same { "unchanged" } else { "changed" };
     println!(rt; "refused, {after}")
@@ -219,7 +219,7 @@ fn booked(rt: &HostRuntime, alloc: Global, row: &Row<'_>) -> Result<(), Failure>
 ///
 /// # Errors
 ///
-/// There was no memory, a write failed, or the row is none for the call.
+/// Memory ran out, a write failed, or the row doesn't fit the call.
 pub fn answer(rt: &HostRuntime, alloc: Global, call: &str, row: &Row<'_>) -> Result<(), Failure> {
     match call {
         "take" => taken(rt, alloc, row),

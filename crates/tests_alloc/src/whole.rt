@@ -7,7 +7,7 @@ use sts_pool::Book;
 /// As many rounds as no run of a row takes.
 const MOST_ROUNDS: u32 = 100_000;
 
-/// As many local instructions as a slice does at most.
+/// The limit for the local instructions of a slice.
 const LOCALS: u32 = 64;
 
 /// A task that is never born.

@@ -4,7 +4,7 @@ use slab::Slab;
 use std::test::Fail;
 use sts_links::{Ends, Link, Links, after, front, push_back, unlink};
 
-/// A record: what it is about, and its link in each of three layers.
+/// A record: its content, and its link in each of three layers.
 #[derive(Clone, Copy, Debug)]
 struct Record {
     body: u32,

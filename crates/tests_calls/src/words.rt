@@ -178,7 +178,7 @@ fn what_asks_for_nothing_is_a_usage_fault(rt: HostRuntime) {
     assert!(rt; shown(alloc, NO_TRACE_FILE.as_slice()).0 == "usage");
 }
 
-/// The text for the person who wrote the words, if they ask for nothing.
+/// The text for the person who wrote the words, if they have no request.
 fn text_of<'a>(alloc: Global, words: &'a [&'a str]) -> String {
     match line(alloc, words) {
         Err(LineError::Help(text) | LineError::Usage(text)) => text,

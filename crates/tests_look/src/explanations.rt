@@ -1,4 +1,4 @@
-//! Rows of explanations: what is printed of a text, and of a run.
+//! Rows of explanations: the output for a text, and for a run.
 
 mod faults;
 mod near;

@@ -1,4 +1,4 @@
-//! Rows of pictures: runs, and what is drawn of them.
+//! Rows of pictures: runs, and the drawings of them.
 
 mod row;
 mod runs;

@@ -1,4 +1,4 @@
-//! Runs by workers: what is printed, and what goes to the trace.
+//! Runs by workers: the output, and the content of the trace.
 
 use std::alloc::Global;
 use std::io::{ErrorKind, Write};

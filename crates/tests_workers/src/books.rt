@@ -52,7 +52,7 @@ struct Record {
     journal: &'static [Event],
 }
 
-/// The texts of two books, what is done with them in turn, and what they have recorded then.
+/// The texts of two books, the calls on them in turn, and what they have recorded then.
 struct Row {
     name: &'static str,
     first: &'static str,

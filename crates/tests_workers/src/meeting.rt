@@ -12,7 +12,7 @@ use std::thread;
 use sts_model::{End, Event};
 use sts_pool::{Gate, Outside, run};
 
-/// How often a worker that is held looks whether it may go on.
+/// How often a held worker looks whether it may go on.
 const LOOKS: u32 = 10_000_000;
 
 fn zero() -> AtomicU64 {

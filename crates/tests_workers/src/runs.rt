@@ -123,7 +123,7 @@ static RUNS: [Run; 13] = [
     },
 ];
 
-/// Runs a text with so many workers, its journal written.
+/// Runs a text with this number of workers, and writes its journal.
 fn ends<R: Abort + Threads + Wait + Sync>(
     rt: &R,
     alloc: Global,

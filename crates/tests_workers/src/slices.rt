@@ -13,7 +13,7 @@ use sts_pool::{Gate, Outside};
 /// How often a worker that is held looks whether it may go on.
 const LOOKS: u32 = 1_000_000_000;
 
-/// Gives nothing, and notes by how much the journal has grown at most between two questions.
+/// Gives no event, and notes the most that the journal has grown between two questions.
 #[derive(Drop)]
 struct Leaps<'g> {
     greatest: &'g AtomicU64,

@@ -19,7 +19,7 @@ use sts_pool::{Ending, Gate, PoolError, Report, run, run_unwritten};
 use sts_trace::read_outside;
 use sts_verify::Verified;
 
-/// How a program is run: by 1 to 16 workers, and with its journal kept or not.
+/// How a program is run: with 1 to 16 workers, and with its journal kept or not.
 #[derive(Clone, Copy)]
 pub(crate) struct Manner {
     pub(crate) workers: u32,

@@ -1,4 +1,4 @@
-//! Each cause of a refusal, by the lines of its text.
+//! Each cause of a refusal, with line numbers.
 
 use crate::explanations::row::{Part, Row, all};
 use std::test::Fail;
