@@ -10,7 +10,7 @@ its status; `draw` is a well-formed picture, or says of the fault what `view` sa
 begins with what examples/README.md shows, `explain` says that it is accepted, and with the trace how it ends, with no task
 that lives.
 docs/VERIFIER.md shows below the text of each cause what `explain` prints, what the plain machine comes to, and the
-sentences of the other rows of this cause (crates/tests_look/src/explanations/remedies.rt: they are written by hand, and are
+sentences of the other rows of this cause (the remedies in crates/tests_look/src/explanations/verdicts.rt: they are written by hand, and are
 tests). docs/PATTERNS.md shows what `explain` prints of its refused texts, and docs/LANGUAGE.md the sentence of each code.
 """
 import collections
@@ -215,11 +215,12 @@ def example_at(look, text, steps, printed):
 
 def sentences():
     """Returns for each cause the other sentences that it may have: where each comes, and what it is."""
-    rows, found = read("crates/tests_look/src/explanations/remedies.rt"), {}
+    groups = re.split(r"^ +// ---- ", read("crates/tests_look/src/explanations/verdicts.rt"), flags=re.M)
+    rows, found = "".join(it for it in groups if it.startswith("remedies: ")), {}
     for name, code, sentence in re.findall(r'name: "([^"]*)",[^"]*"[^}]*?lines: "refused (V\d+) [^/"]* / ([^"]*)",', rows, re.S):
         found.setdefault(code, []).append((name, sentence))
     if sum(map(len, found.values())) != rows.count("name: ") or not set(found) <= set(RUNS):
-        sys.exit("each_cause.py: a row of remedies.rt wasn't understood")
+        sys.exit("each_cause.py: a row of the remedies in verdicts.rt wasn't understood")
     return found
 
 

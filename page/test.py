@@ -34,9 +34,9 @@ EXAMPLES = sorted(glob.glob(os.path.join(ROOT, "examples", "*.sts")))
 NAMES = [os.path.basename(it) for it in EXAMPLES]
 LOOK_PAGE = os.path.join(ROOT, "docs", "LOOK.md")
 # The rows of texts; those of runs.rt have a trace as well.
-ROWS = [os.path.join(ROOT, "crates", "tests_look", "src", "explanations", name) for name in ("faults.rt", "refusals.rt", "words.rt")]
-ROW = re.compile(r'text: &\[(.*?)\],\s+lines: (".*?[^\\]"),\s+status: (\d)', re.S)
-PART = re.compile(r'Part\(\s*(\d+),\s*(".*?[^\\]"),?\s*\)', re.S)
+ROWS = [os.path.join(ROOT, "crates", "tests_look", "src", "explanations", name) for name in ("texts.rt", "verdicts.rt")]
+ROW = re.compile(r'text: "(.*?)",\s+lines: (".*?[^\\]"),\s+status: (\d)', re.S)
+PART = re.compile(r"(?:(\d+)x )?(.*)", re.S)
 # Lines of `view`.
 BORN = re.compile(r"^(task|scope) (\d+) ", re.M)
 LIVING = re.compile(r"^task (\d+) under \S+ in (\S+) at (\d+) (ready|waits)\b", re.M)
@@ -239,8 +239,8 @@ def rows():
     """Yields the text, the explanation and the status of each row of explanations."""
     for path in ROWS:
         for parts, lines, status in ROW.findall(read(path)):
-            short = [(int(times), spelled(part)) for times, part in PART.findall(parts)]
-            text = "".join(times * (part.replace(" / ", "\n") + "\n") for times, part in short)
+            short = [PART.fullmatch(it) for it in spelled(f'"{parts}"').split(" // ")]
+            text = "".join(int(it[1] or 1) * (it[2].replace(" / ", "\n") + "\n") for it in short)
             yield text, spelled(lines).replace(" / ", "\n") + "\n", int(status)
 
 

@@ -1,11 +1,24 @@
 //! Rows of explanations: the output for a text, and for a run.
 
-mod faults;
-mod near;
-mod refusals;
-mod relying;
-mod remedies;
 mod row;
-mod run_remedies;
 mod runs;
-mod words;
+mod texts;
+mod verdicts;
+
+use crate::explanations::row::{all, all_runs};
+use std::test::Fail;
+
+#[test]
+fn faults_of_texts(rt: HostRuntime) -> Result<(), Fail> {
+    all(&rt, rt.alloc(), &texts::ROWS)
+}
+
+#[test]
+fn verdicts_on_programs(rt: HostRuntime) -> Result<(), Fail> {
+    all(&rt, rt.alloc(), &verdicts::ROWS)
+}
+
+#[test]
+fn runs_after_traces(rt: HostRuntime) -> Result<(), Fail> {
+    all_runs(&rt, rt.alloc(), &runs::ROWS)
+}

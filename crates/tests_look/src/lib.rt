@@ -6,4 +6,6 @@ mod explanations;
 #[cfg(test)]
 mod pictures;
 #[cfg(test)]
+mod shorthand;
+#[cfg(test)]
 mod views;

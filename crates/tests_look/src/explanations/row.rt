@@ -1,5 +1,6 @@
 //! A row, its short notation, and how a table of rows is walked.
 
+use crate::shorthand::lines;
 use look_refusal::explain;
 use look_run::explain_run;
 use std::alloc::{AllocError, Global};
@@ -7,14 +8,13 @@ use std::process::Abort;
 use std::str;
 use std::test::Fail;
 
-/// How many times lines are repeated, and the lines, with ` / ` between two of them.
-#[derive(Clone, Copy)]
-pub struct Part(pub u16, pub &'static str);
-
 /// A text, the lines that explain it, and the status.
+///
+/// There is ` / ` between two lines and ` // ` between two parts of a text or a trace. A part that begins
+/// with `9x ` is repeated nine times.
 pub struct Row {
     pub name: &'static str,
-    pub text: &'static [Part],
+    pub text: &'static str,
     pub lines: &'static str,
     pub status: u8,
 }
@@ -22,71 +22,81 @@ pub struct Row {
 /// A text and a trace, the lines that explain the run, and the status.
 pub struct RunRow {
     pub name: &'static str,
-    pub text: &'static [Part],
-    pub trace: &'static [Part],
+    pub text: &'static str,
+    pub trace: &'static str,
     pub lines: &'static str,
     pub status: u8,
 }
 
-/// Each line ended by a newline.
-fn lines(alloc: Global, short: &str) -> Result<String, AllocError> {
+/// How many times a part is repeated, and its lines.
+fn repeated(part: &str) -> (u16, &str) {
+    match part.split_once("x ") {
+        Some((times, lines)) => match times.parse() {
+            Ok(times) => (times, lines),
+            Err(_) => (1, part),
+        },
+        None => (1, part),
+    }
+}
+
+fn assembled(alloc: Global, parts: &str) -> Result<String, AllocError> {
     let mut text = String::new(alloc);
-    for line in short.split(" / ") {
-        text.push_str(line)?;
-        text.push('\n')?;
+    for part in parts.split(" // ") {
+        let (times, short) = repeated(part);
+        let once = lines(alloc, short)?;
+        for _ in 0..times {
+            text.push_str(once.as_str())?;
+        }
     }
     Ok(text)
 }
 
-fn push_part(text: &mut String, alloc: Global, part: &Part) -> Result<(), AllocError> {
-    let once = lines(alloc, part.1)?;
-    for _ in 0..part.0 {
-        text.push_str(once.as_str())?;
-    }
+/// Compares what is printed and the status.
+fn compare<R: Abort>(
+    rt: &R,
+    alloc: Global,
+    name: &str,
+    printed: (&[u8], u8),
+    expected: (&str, u8),
+) -> Result<(), Fail> {
+    let expected_lines = lines(alloc, expected.0)?;
+    assert_eq!(rt;
+        str::from_utf8(printed.0)?,
+        expected_lines.as_str(),
+        "at {name:?}"
+    );
+    assert_eq!(rt; printed.1, expected.1, "the status at {name:?}");
     Ok(())
 }
 
-fn assembled(alloc: Global, parts: &[Part]) -> Result<String, AllocError> {
-    let mut text = String::new(alloc);
-    for part in parts {
-        push_part(&mut text, alloc, part)?;
-    }
-    Ok(text)
-}
-
-/// Explains the text of a row, and compares what is printed and the status.
+/// Explains the text of a row.
 fn explains<R: Abort>(rt: &R, alloc: Global, row: &Row) -> Result<(), Fail> {
     let text = assembled(alloc, row.text)?;
     let mut printed = Vec::new(alloc);
     let status = explain(alloc, text.as_bytes(), &mut printed).map_err(|_| "not written")?;
-    let want = lines(alloc, row.lines)?;
-    assert_eq!(rt;
-        str::from_utf8(printed.as_slice())?,
-        want.as_str(),
-        "at {:?}",
-        row.name
-    );
-    assert_eq!(rt; status, row.status, "the status at {:?}", row.name);
-    Ok(())
+    compare(
+        rt,
+        alloc,
+        row.name,
+        (printed.as_slice(), status),
+        (row.lines, row.status),
+    )
 }
 
-/// Explains the run of a row, and compares what is printed and the status.
+/// Explains the run of a row.
 fn explains_run<R: Abort>(rt: &R, alloc: Global, row: &RunRow) -> Result<(), Fail> {
-    let text = assembled(alloc, row.text)?;
-    let trace = assembled(alloc, row.trace)?;
+    let (text, trace) = (assembled(alloc, row.text)?, assembled(alloc, row.trace)?);
     let mut printed = Vec::new(alloc);
     let status = explain_run(alloc, text.as_bytes(), trace.as_bytes(), &mut printed).map_err(
         |_| "not written",
     )?;
-    let want = lines(alloc, row.lines)?;
-    assert_eq!(rt;
-        str::from_utf8(printed.as_slice())?,
-        want.as_str(),
-        "at {:?}",
-        row.name
-    );
-    assert_eq!(rt; status, row.status, "the status at {:?}", row.name);
-    Ok(())
+    compare(
+        rt,
+        alloc,
+        row.name,
+        (printed.as_slice(), status),
+        (row.lines, row.status),
+    )
 }
 
 /// Explains the text of each row.

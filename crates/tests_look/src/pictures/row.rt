@@ -1,5 +1,6 @@
 //! A row, its short notation, and how a table of rows is walked.
 
+use crate::shorthand::lines;
 use look_picture::{LEGEND, STYLE, write_picture};
 use std::alloc::{AllocError, Global};
 use std::fmt::Write;
@@ -32,16 +33,6 @@ pub struct FaultRow {
     pub text: &'static str,
     pub trace: &'static str,
     pub line: &'static str,
-}
-
-/// Each line ended by a newline.
-fn lines(alloc: Global, short: &str) -> Result<String, AllocError> {
-    let mut text = String::new(alloc);
-    for line in short.split(" / ") {
-        text.push_str(line)?;
-        text.push('\n')?;
-    }
-    Ok(text)
 }
 
 /// The shapes of the marks, by their classes.
