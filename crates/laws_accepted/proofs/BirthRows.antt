@@ -45,7 +45,7 @@ free-owns_nothing w f s x slots free n e = empty-owns_nothing (kind s x) free (k
 
 -- ---- open
 
--- a scope of a slot that owns nothing is no entry
+-- if a slot owns nothing, no entry is a scope of that slot
 not-entered : (p : Program) (w : World) (f : Frame) (es : List Entry) (rs : List TypedEntry) (x : ℕ) → Zips (FitsEntry p w f) es rs → ((n : ℕ) → slot f x ≡ Own n → ⊥) → list_any (cause.is_scope_in x) rs ≡ false
 not-entered p w f [] [] x z never = refl
 not-entered p w f (entry.Binding j v ∷ es) (typed.Binding i ∷ rs) x z never = not-entered p w f es rs x z.1 never

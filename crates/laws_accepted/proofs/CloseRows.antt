@@ -136,7 +136,7 @@ lands-closing p w t x n s h later =
 
 -- ---- the last step
 
--- a slot that is cleared of the scope and of its subtasks
+-- the slot after the scope and its subtasks were cleared from it
 abbrev pub clear_slot : World → ℕ → Slot → Slot
 clear_slot m n q = cond (is_of m n q) Empty q
 

@@ -49,7 +49,7 @@ abbrev pub PeaksAreWithin : List Budgets → List Instr → Budgets → Type 0
 PeaksAreWithin earlier code b =
     (pc : ℕ) (loops : Loops) (before : ℕ) (es : List OpenEntry) → Comes (skeleton earlier code) pc loops before es → (tasks_sum earlier es ≤ b.tasks) × (scopes_sum earlier es ≤ b.scopes) × (binds_sum earlier es ≤ b.binds)
 
--- no point of a control path of the program's functions has a peak that passes its budget
+-- at no point of a control path of the program's functions a peak is over its budget
 pub record IsPeaked (p : Program) (budgets : List Budgets) : Type 0 where
   pub peaks : (f : ℕ) → f < length p.routines → PeaksAreWithin (take f budgets) (routine p f).code (budget_at budgets f)
 

@@ -57,7 +57,7 @@ alike-expire w s =
 
 -- ---- events that are counted
 
--- what holds of a state and of the steps taken so far, and what each event has to keep
+-- E relates a state and the steps taken so far, and each event has to keep it
 pub record Keeps (p : Program) (E : World → ℕ → Type 0) : Type 0 where
   pub effect : (w : World) (t n : ℕ) (i : Instr) → Also Timely w → Also Timely (effect p w t (task_at w t).frame i) → Later w (effect p w t (task_at w t).frame i) → Does p w t i → E w n → E (effect p w t (task_at w t).frame i) (n + 1)
   pub interrupt : (w : World) (t n : ℕ) → Also Timely w → Also Timely (interrupt w t) → Later w (interrupt w t) → E w n → E (interrupt w t) n

@@ -1,4 +1,4 @@
--- Every instruction that is no misuse keeps what holds of costs, with one step more.
+-- Every instruction that is no misuse keeps the facts about costs, with one step more.
 use Rattle.std.proofs.Common.{◌≡◌, ℕ, ◌+◌, ◌<◌, ◌≤◌, inl, List, [], ◌∷◌, ◌++◌, Bool, true, false}
 use Rattle.std.proofs.Common.{Option, Some, None, refl, sym, ◌∙◌, ap, subst, length, arith, cond}
 use Rattle.std.proofs.Common.{set, take, not, ◌||◌, ◌&&◌, drop, get_or-set_same, get_or-set_other}
@@ -67,7 +67,7 @@ use Rattle.laws_accepted.proofs.Moves.{entering_open, entering_close}
 use Rattle.laws_accepted.proofs.Forks.{good_fork}
 use Rattle.laws_accepted.proofs.RangeLemmas.{opens_in_range}
 
--- the instruction of the plain machine is that of control paths
+-- the plain machine and control paths see the same instruction
 pub same_instr : (p : Program) (f : Frame) (i : Instr) → instr_at p f ≡ Some i → program.instr_at (code p f) f.pc ≡ i
 same_instr p f i e = get_or_from_slice_get (code p f) f.pc i Ret e
 
@@ -166,7 +166,7 @@ module _ (Typed : Type 0) (p : Program) (budgets : List Budgets) (w : World) (n 
       let stand : stand_at p v t ≡ stands_at_close v (slots.Own s) = ap (stand_at_instr p v t) at ∙ ap (stands_at_close v) own in
       ap steps_begun stand ∙ ap (λ c. steps_begun (cond c (AtClose s) Free)) closing
 
-  -- a scope of an alike world has the living subtasks that it had
+  -- a scope of an alike world has the same living subtasks
   lives_before : (v : World) (s : ℕ) → Alike w v → any_lives v s ≡ true → any_lives w s ≡ true
   lives_before v s a some = by (any_lives w s) refl
     where

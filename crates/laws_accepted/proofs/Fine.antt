@@ -228,7 +228,7 @@ fine-readable p w f i x n s st none legal own =
     let r = own-scope p w f s x n (cause.is_readable p.profile) st.fits own legal in
     readable-phase p.profile r.0.phase (scope_at w n).phase (scope_at w n).expired r.1.1 (not-at-close p w f i x n r.0 st.at none r.1.2)
 
--- what the typestate says of a subtask in a slot
+-- what the typestate knows of a subtask in a slot
 sub-known : (p : Program) (w : World) (f : Frame) (i : Instr) (s : TypeState) (q : Slot) (k : SlotKind) (u : ℕ) (test : Known → Bool) → Stands p w f i s → ((y : ℕ) → closes (Some i) y ≡ false) → FitsSlot w f q k → cause.at_sub s.entries k (λ scope state. not (cause.passes (cause.is_readable p.profile) scope && test state)) ≡ false → q ≡ Sub u → (state : Known) × ((test state ≡ true) × (is_known state (sub_state w u) ≡ true) × (misuse.is_readable p.profile (scope_of w u) ≡ true))
 sub-known p w f i s (Sub v) (kind_of.Sub y state) u test st none h legal e =
     let same : v ≡ u = cc in
@@ -257,7 +257,7 @@ failed-known known.Failed o a b = b
 failed-known known.Unknown o a b = cc
 failed-known known.Success o a b = cc
 
--- a scope that the typestate doesn't have as opened isn't
+-- if the typestate doesn't have a scope as opened, it isn't opened
 unopened-phase : (b : Bool) (k : TypedPhase) (ph : Phase) (e : Bool) → cause.is_opened_phase k ≡ false → fits_phase b k ph e ≡ true → misuse.is_opened ph ≡ false
 unopened-phase b Opened ph e a h = cc
 unopened-phase b Attempted phase.Opened e a h = cc

@@ -156,8 +156,8 @@ module _ (Typed : Type 0) (p : Program) (budgets : List Budgets) (w : World) (n 
 
   -- ---- steps
 
-  -- the steps left to each task: the subtask's are its function's, and the forker's fewer by those
-  -- and one
+  -- the steps left to each task: the subtask has those of its function; the forker loses these and
+  -- one more
   abbrev left_v : List ℕ
   left_v = set o.left t (get_or o.left t 0 - (1 + (budget_at budgets g).steps)) ++ (budget_at budgets g).steps ∷ []
 

@@ -75,7 +75,7 @@ placed_map Typed p budgets tasks later f g a b left sums same le o =
 same_skeleton : (p : Program) (budgets : List Budgets) (f g : Frame) → g.function ≡ f.function → skeleton_of p budgets f ≡ skeleton_of p budgets g
 same_skeleton p budgets f g e = ap (λ n. skeleton (take n budgets) (routine p n).code) (sym e)
 
--- what the instruction makes of the entries and of the slots that own a scope
+-- the entries, and the slots that own a scope, after the instruction
 abbrev pub Entering : List Budgets → List Task → Frame → Instr → Frame → Type 0
 Entering budgets tasks f i g =
     (os : List OpenEntry) → Zips budgets (take f.function budgets) tasks (slot f) f.entries os → ((x s : ℕ) → slot f x ≡ Own s → Opens x os)
@@ -110,7 +110,7 @@ steps_left Typed p budgets tasks f i waiting left is within at o y =
     omega (arith, first, e, s)
 
 module _ (Typed : Type 0) (p : Program) (budgets : List Budgets) (w v : World) (n t : ℕ) (x : Task) where
-  -- the scopes and the functions of all tasks are as they were
+  -- the scopes and the functions of all tasks haven't changed
   turned_scope : Turned w v t x → x.scope ≡ (task_at w t).scope → (u : ℕ) → (task_at v u).scope ≡ (task_at w u).scope
   turned_scope h scope = each-task (λ u. (task_at v u).scope ≡ (task_at w u).scope) t (h.here.scope ∙ scope) (λ u other. (h.there u other).scope)
 

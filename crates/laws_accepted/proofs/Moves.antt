@@ -179,7 +179,7 @@ entering_unbind budgets tasks f first os z sl = unbind_zips budgets (take f.func
 
 -- ---- slots that are written
 
--- a slot that owned nothing gets something that owns nothing
+-- a slot that owned nothing gets a content that owns nothing
 pub entering_write : (budgets : List Budgets) (tasks : List Task) (f g : Frame) (i : Instr) (h : ℕ) (y : Slot) → g.entries ≡ f.entries → g.slots ≡ set f.slots h y → ((s : ℕ) → y ≡ slots.Own s → ⊥) → ((s : ℕ) → slot f h ≡ slots.Own s → ⊥) → ((os : List OpenEntry) → entries_of i os ≡ os) → Entering budgets tasks f i g
 entering_write budgets tasks f g i h y entries written never before keeps os z sl =
     let old : (x s : ℕ) → get_or (set f.slots h y) x slots.Empty ≡ slots.Own s → slot f x ≡ slots.Own s =
@@ -235,7 +235,7 @@ cleared_at w s [] x = refl
 cleared_at w s (y ∷ ys) zero = refl
 cleared_at w s (y ∷ ys) (suc x) = cleared_at w s ys x
 
--- what owns a scope afterwards, owned it before, and it is another one
+-- a slot that owns a scope afterwards owned it before, and it is another scope
 cleared_old : (w : World) (s : ℕ) (xs : List Slot) (x r : ℕ) → get_or (cleared w s xs) x slots.Empty ≡ slots.Own r → (get_or xs x slots.Empty ≡ slots.Own r) × (r ≡ s → ⊥)
 cleared_old w s xs x r e = by (get_or xs x slots.Empty) (sym (cleared_at w s xs x) ∙ e)
   where

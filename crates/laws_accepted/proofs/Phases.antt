@@ -26,7 +26,7 @@ use Rattle.laws_accepted.proofs.Same.{SameScope, Onward, scope-same, scope-on}
 
 -- ---- the entry of a slot
 
--- the scope that a typestate has in a slot is that which the slot owns
+-- the typestate's scope in a slot is the scope that the slot owns
 pub record InSlot (p : Program) (w : World) (f : Frame) (x n : ℕ) (r : TypedScope) : Type 0 where
   pub behind : List TypedEntry
   pub slot : r.slot ≡ x

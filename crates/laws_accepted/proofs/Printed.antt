@@ -41,7 +41,7 @@ budgets_are_printed p b checked some is =
       },
     )
 
--- a law of costs, of the printed budgets of `main`
+-- a law of costs, for the printed budgets of `main`
 pub with_main : (p : Program) → program_fault p.routines ≡ None → 0 < length p.routines → (P : Budgets → List Event → World → Type 0)
     → ((budgets : List Budgets) → HasBudgets p budgets → (events : List Event) → In (P (main_budget p budgets) events) (after p events))
     → WithMain p P

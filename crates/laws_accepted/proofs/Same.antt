@@ -1,4 +1,4 @@
--- A frame that fits in one world fits in another that is the same to it.
+-- A frame that fits in one world fits in another world that looks the same to it.
 use Rattle.std.proofs.Common.{◌≡◌, ℕ, List, Bool, true, false, Option, Some, None, refl, ◌∙◌}
 use Rattle.sts_code.specs.Program.{Program}
 use Rattle.sts_model.specs.declared.event.End.{End}

@@ -61,7 +61,7 @@ parent-same : (w v : World) (o : Option ℕ) → v.scopes ≡ w.scopes → paren
 parent-same w v None e = refl
 parent-same w v (Some s) e = ap (λ (scopes : List Scope). get_or scopes s no_scope) e
 
--- of subtasks the same is known once a task is written that keeps its scope
+-- if a task is written that keeps its scope, the same is known of subtasks
 knows-task : (w : World) (t : ℕ) (x : Task) → x.scope ≡ (task_at w t).scope → Knows w (with_task w t x)
 knows-task w t x same =
     record {
@@ -83,7 +83,7 @@ framed p w m t g flag alive h =
 
 -- ---- open and fork
 
--- what is due of the task is bound in its environment
+-- the keys that are due are bound in the task's environment
 pub covers-environment : (p : Program) (w : World) (t : ℕ) (s : TypeState) (i : Instr) → Stands p w (task_at w t).frame i s → Covers p (task_at w t).frame.function [] (parent w (task_at w t).scope).environment → Covers p (task_at w t).frame.function s.entries (environment_of (task_at w t) w)
 covers-environment p w t s i st bound = covers-own p w (task_at w t).frame (task_at w t).frame.function (task_at w t).frame.entries s.entries (parent w (task_at w t).scope).environment st.fits.entries bound
 

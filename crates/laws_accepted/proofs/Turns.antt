@@ -1,4 +1,4 @@
--- One task's turn, and all other tasks as they were.
+-- One task's turn, with all other tasks unchanged.
 use Rattle.std.proofs.Common.{◌≡◌, ℕ, suc, ◌+◌, ◌<◌, ◌≤◌, List, [], ◌∷◌, Bool, true, false, Option}
 use Rattle.std.proofs.Common.{Some, None, refl, ◌∙◌, ap, length, arith, cond, nat_eq, is_none, ◌&&◌}
 use Rattle.std.proofs.Common.{length-set, get_or-set_same, get_or-set_other}
@@ -112,12 +112,12 @@ given_in-same : (k : Peak) (budgets : List Budgets) (s : ℕ) (x y : Task) → y
 given_in-same k budgets s x y scope function =
     ap (λ q. cond (is_in s q) (k.part (budget_at budgets y.frame.function)) 0) scope ∙ ap (λ n. cond (is_in s x.scope) (k.part (budget_at budgets n)) 0) function
 
--- what doesn't change of any task, doesn't change of all
+-- a value that changes for no task doesn't change for all
 pub lent-same : (k : Peak) (budgets : List Budgets) (w v : World) (s : ℕ) → length v.tasks ≡ length w.tasks → ((u : ℕ) → (task_at v u).scope ≡ (task_at w u).scope) → ((u : ℕ) → (task_at v u).frame.function ≡ (task_at w u).frame.function) → subtask_shares k budgets v.tasks s ≡ subtask_shares k budgets w.tasks s
 lent-same k budgets w v s count scope function =
     sum-alike (share_in k budgets s) (share_in k budgets s) w.tasks v.tasks no_task count (λ u less. given_in-same k budgets s (task_at w u) (task_at v u) (scope u) (function u))
 
--- a property of every task, from that of t and that of the others
+-- a property of every task, from the property of t and those of the others
 pub each-task : (P : ℕ → Type 0) (t : ℕ) → P t → ((u : ℕ) → (u ≡ t → ⊥) → P u) → (u : ℕ) → P u
 each-task P t here there u = by (nat_eq u t) refl
   where
@@ -148,7 +148,7 @@ few_waits p w t earlier (Join x failed timeout interrupted) = let h = no_wait_at
 few_waits p w t earlier (Close x) = let h = wait_at_close w (slot (task_at w t).frame x) in omega (arith, h)
 few_waits p w t earlier _ = omega arith
 
--- at an instruction fewer steps were taken than it counts
+-- at an instruction, fewer steps were taken of it than it counts
 pub waits-few : (p : Program) (w : World) (t : ℕ) (earlier : List Budgets) (i : Instr) → instr_at p (task_at w t).frame ≡ Some i → steps_begun (stand_at p w t) + 1 ≤ steps_of earlier i
 waits-few p w t earlier i at = rw at (few_waits p w t earlier i)
 

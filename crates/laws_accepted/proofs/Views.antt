@@ -89,7 +89,7 @@ of_views p P Q law step b is events v n h = subst (Q b) h.view (step b events h.
 
 -- ---- room
 
--- what is seen of a state that events lead to
+-- the view of a state that events lead to
 record Stood (w : World) : Type 0 where
   pub facts : Facts w
   pub tasks : live_tasks (live w) ≡ standing_tasks w

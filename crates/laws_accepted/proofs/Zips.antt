@@ -41,7 +41,7 @@ zips-drop R (e ∷ es) [] z = absurd z
 
 -- ---- two lists by index
 
--- what holds of the elements at each place, holds after a write to both
+-- a relation of the elements at each place holds after a write to both lists
 pub both-set : {X Y : Type 0} (P : X → Y → Type 0) (xs : List X) (ys : List Y) (h i : ℕ) (a d : X) (b e : Y) → length xs ≡ length ys → P a b → ((j : ℕ) → P (get_or xs j d) (get_or ys j e)) → P (get_or (set xs h a) i d) (get_or (set ys h b) i e)
 both-set P [] [] h i a d b e same new old = old i
 both-set P (x ∷ xs) (y ∷ ys) zero zero a d b e same new old = new

@@ -57,7 +57,7 @@ seen-task w t f flag change born same =
 
 -- ---- one scope
 
--- what is seen of the tasks of two scopes is the same
+-- the views of the tasks of two scopes are the same
 pub record ShowsAlike (x y : Scope) : Type 0 where
   pub stands : is_standing_scope y ≡ is_standing_scope x
   pub completions : y.completions ≡ x.completions

@@ -96,7 +96,7 @@ result_is_seen = ever _ (λ p w o s stands. result_is w s (open_some w s stands)
 pub standing_is_seen : StandingIsSeen
 standing_is_seen w = record { tasks = tasks_stand w; scopes = scopes_stand w }
 
--- what is seen of an event, and whether it counts
+-- the view after an event, and whether the event counts
 record Follows (p : Program) (w : World) (e : Event) (v : World) : Type 0 where
   pub view : live v ≡ live_apply p (live w) e
   pub counts : counts p (Running w) e ≡ live_counts p (live w) e

@@ -20,7 +20,7 @@ pub record IsAsWas (o : Option LiveScope) (c : LiveScope) : Type 0 where
   pub owner : now.owner ≡ c.owner
   pub phase : now.phase ≡ c.phase
 
--- u lives if it did, its frame is the same, and so are its own scopes
+-- u lives if it did before, and its frame and its own scopes are the same
 pub record Rests (v x : Live) (u : ℕ) : Type 0 where
   pub alive : lives_in v u ≡ true → lives_in x u ≡ true
   pub frame : (alive_at x u).frame ≡ (alive_at v u).frame
@@ -58,7 +58,7 @@ life o = is_some (unwrap_or o no_live_task).alive
 abbrev pub frame_of : Option LiveTask → Frame
 frame_of o = (unwrap_or (unwrap_or o no_live_task).alive no_alive).frame
 
--- a task that lives if it did, with the same frame
+-- a task that lives if it did before, with the same frame
 pub record IsSame (o q : Option LiveTask) : Type 0 where
   pub alive : life q ≡ true → life o ≡ true
   pub frame : frame_of o ≡ frame_of q
@@ -103,7 +103,7 @@ rests-flag v t u b =
     by None = same-refl None
     by (Some task) = flag-same b task
 
--- what a function makes of a list, at one place
+-- a list after a function, at one place
 mapped : {X : Type 0} (f : Option X → Option X) (xs : List (Option X)) (u : ℕ) → f None ≡ None → get_or (map f xs) u None ≡ f (get_or xs u None)
 mapped f [] u none = sym none
 mapped f (x ∷ xs) zero none = refl

@@ -235,7 +235,7 @@ rests-end v t u end other =
 
 -- ---- every instruction
 
--- a scope that the instruction may only be done to by its owner is the task's
+-- if only the owner of a scope may do the instruction, the scope is the task's
 owner_at : (v : Live) (t x : ℕ) → InOrder v → slot (alive_at v t).frame x ≡ Own (named (slot (alive_at v t).frame x)) → (live_scope_at v (named (slot (alive_at v t).frame x))).owner ≡ t
 owner_at v t x o e = (owned v t x (named (slot (alive_at v t).frame x)) o e).owner
 

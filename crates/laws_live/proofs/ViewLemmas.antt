@@ -27,11 +27,11 @@ use Rattle.laws_live.proofs.ListLemmas.{alike, any_alike, count_alike, and_false
 
 -- ---- one task, one scope
 
--- what a task has, in the scope of this birth number
+-- a task's own state, in the scope of this birth number
 abbrev pub had : World → Option ℕ → Task → Alive
 had w o task = record { frame = task.frame; flag = task.flag; environment = own_bindings task ++ (parent w o).environment }
 
--- what is shown of the task u, in the scope of this birth number
+-- the view of the task u, in the scope of this birth number
 abbrev pub shown : World → Option ℕ → ℕ → Task → LiveTask
 shown w o u task = record { scope = o; state = completion_of (parent w o).completions u; alive = cond (lives task) (Some (had w o task)) None }
 

@@ -245,7 +245,7 @@ event_looks p w (event.Expire s) u o h =
     v : World
     v = with_scope w s y
 
--- what holds of the views before and after an event holds of v and the view after it
+-- a relation of the views before and after an event is one of v and the view after it
 pub between : (p : Program) (events : List Event) (v : Live) (n : ℕ) (e : Event) → NeverFaults p → StandsAt p events v n → (R : Live → Live → Type 0) → ((w x : World) → Facts w → Facts x → apply p (Running w) e ≡ Running x → R (live w) (live x)) → R v (live_apply p v e)
 between p events v n e never h R law =
     let k = (turns_are_seen p never events v n e h).stands in

@@ -161,7 +161,7 @@ later-more_scopes w x =
       fresh = none_fresh w (more_scopes w x) (omega arith);
     }
 
--- the owner of an earlier scope owns it still
+-- the owner of an earlier scope still owns it
 pub owner-more : (xs : List Scope) (x : Scope) (s t : ℕ) → Owner xs s t → Owner (xs ++ x ∷ []) s t
 owner-more xs x s t h =
     let n = length-append xs (x ∷ []) in

@@ -1,4 +1,4 @@
--- Why scopes are cancelled: what each effect makes of the list of scopes.
+-- Why scopes are cancelled: the list of scopes after each effect.
 use Rattle.std.proofs.Common.{◌⊎◌, inl, inr, ◌≡◌, ℕ, ◌<◌, List, [], Bool, true, false, Option, Some}
 use Rattle.std.proofs.Common.{None, refl, sym, ◌∙◌, ap, length, arith, get_or, set, ◌||◌, not}
 use Rattle.std.proofs.Common.{unwrap_or, length-set, get_or-set_same, get_or-set_other}
@@ -65,7 +65,7 @@ caused w s y e cause =
       joined = λ h still. cc;
     }
 
--- an uncancelled one is not expired nor leaving
+-- a scope that isn't cancelled is neither expired nor leaving
 uncaused : (w : World) (s : ℕ) (y : Scope) → y.cancelled ≡ false → y.expired ≡ false → is_leaving y.phase ≡ false → (is_asked y ≡ true → y.completions ≡ []) → (is_joined y.phase ≡ true → (is_joined (scope_at w s).phase ≡ true) ⊎ (any_lives w s ≡ false)) → Follows w s y
 uncaused w s y still timely staying asked joined =
     record {
@@ -73,7 +73,7 @@ uncaused w s y still timely staying asked joined =
       joined = λ h e. joined h;
     }
 
--- what isn't cancelled is neither expired nor leaving
+-- a scope that isn't cancelled is neither expired nor leaving
 not_expired : (x : Scope) → HasCause x → x.cancelled ≡ false → x.expired ≡ false
 not_expired x h still = by x.expired refl
   where

@@ -1,5 +1,5 @@
--- Completions: of subtasks that ended so, each once, and of all of them while the scope isn't
--- cancelled.
+-- Completions: each is of a subtask that ended like that, once. While the scope isn't cancelled,
+-- all ended subtasks have one.
 use Rattle.std.proofs.Common.{◌⊎◌, inl, inr, ◌≡◌, ℕ, ◌+◌, ◌<◌, ◌≤◌, List, [], ◌∷◌, ◌++◌, Bool, true}
 use Rattle.std.proofs.Common.{false, Option, Some, None, refl, sym, ◌∙◌, length, arith, get_or, set}
 use Rattle.std.proofs.Common.{cond, get_or-set_same, nat_lt}
@@ -42,7 +42,7 @@ completion-front (c ∷ cs) more u end e = by (c.task == u) e (completion-front 
     by true e next = e
     by false e next = next e
 
--- one more completion, of a task that had none
+-- one more completion, of a task without one
 pub completion-new : (cs : List Completion) (c : Completion) → completion_of cs c.task ≡ None → completion_of (cs ++ c ∷ []) c.task ≡ Some c.end
 completion-new [] c e = by (c.task == c.task) (grind (arith, nat_tests))
   where

@@ -265,7 +265,7 @@ changes_tree Ret = true
 changes_tree Fail = true
 changes_tree _ = false
 
--- what an instruction on a scope of its own knows
+-- the facts of an instruction on a scope of its own
 pub owned_slot : (p : Program) (w : World) (t : ℕ) (i : Instr) (x : ℕ) → Sound w → slot (task_at w t).frame x ≡ slots.Own (named (slot (task_at w t).frame x)) → named (slot (task_at w t).frame x) < length w.scopes
 owned_slot p w t i x o e = (o.own t x (named (slot (task_at w t).frame x)) e).born
 

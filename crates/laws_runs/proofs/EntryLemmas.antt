@@ -1,4 +1,4 @@
--- The scopes in structure lists: their owners' own, not closed, each once.
+-- The scopes in structure lists: each belongs to the task, isn't closed, and occurs once.
 use Rattle.std.proofs.Common.{◌≡◌, ℕ, ◌+◌, ◌≤◌, List, [], ◌∷◌, Bool, true, false, Option, Some}
 use Rattle.std.proofs.Common.{None, refl, arith, cond, drop, ◌||◌, not, unwrap_or}
 use Rattle.std.specs.Prelude.{nat_le, count_by}

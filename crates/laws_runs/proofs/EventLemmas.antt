@@ -138,7 +138,7 @@ module _ (p : Program) (P : World → Type 0) (R : World → Event → World →
   lead-step w t h false e = l.nothing w t h e
   lead-step w t h true e = lead-stepped w t h e (misuse p w t) refl
 
-  -- what the effects lead to, an event leads to
+  -- an event leads to the states that its effects lead to
   pub lead-by : (w : World) (e : Event) → P w → In (R w e) (apply p (Running w) e)
   lead-by w (event.Step t) h = lead-step w t h (can_step p w t) refl
   lead-by w (event.Interrupt t) h = l.interrupt w t h
@@ -246,7 +246,7 @@ also-after p E start l events = fold_also events (opening p) (record { right = r
     fold_also [] state h = h
     fold_also (e ∷ es) state h = fold_also es (apply p state e) (one_event state e h)
 
--- the same, of a fact that asks nothing of what is later
+-- like the lemma before, for a fact that says nothing of later states
 pub also-kept : (p : Program) (E : World → Type 0) → In E (opening p) → Leads p (Also E) (λ w v. E v) → (events : List Event) → In (Also E) (after p events)
 also-kept p E start l =
     also-after p E start

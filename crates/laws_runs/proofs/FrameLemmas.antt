@@ -1,4 +1,4 @@
--- Frames that a step leaves: they own no more, and have the entries of what is open.
+-- The frames after a step: they own no more, and have the entries of open scopes and bindings.
 use Rattle.std.proofs.Common.{◌≡◌, ℕ, zero, suc, ◌+◌, List, [], ◌∷◌, Bool, true, false, Option}
 use Rattle.std.proofs.Common.{Some, None, refl, get_or, set, drop, cond, ◌||◌, not, arith}
 use Rattle.std.proofs.lemmas.Bool.Decides.{nat_tests}
@@ -76,7 +76,7 @@ pub owns-with_slot : (xs : List Slot) (h : Option ℕ) (u i r : ℕ) → get_or 
 owns-with_slot xs None u i r e = e
 owns-with_slot xs (Some h) u i r e = owns-set xs h (slots.Sub u) (λ r e. cc) i r e
 
--- a slot that speaks of a scope and isn't lent owns it
+-- a slot with a scope that isn't lent owns it
 pub own_slot : (x : Slot) → not (is_scope x) ≡ false → is_lent x ≡ false → x ≡ slots.Own (named x)
 own_slot slots.Empty a b = cc
 own_slot (slots.Own s) a b = refl

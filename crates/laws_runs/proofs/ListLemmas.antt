@@ -1,10 +1,10 @@
--- Lists of tasks and scopes: what holds of each element after a write or with one more.
+-- Lists of tasks and scopes: a property of each element, after a write or with one element more.
 use Rattle.std.proofs.Common.{◌≡◌, ℕ, zero, suc, ◌<◌, ◌≤◌, List, [], ◌∷◌, ◌++◌, Bool, true, false}
 use Rattle.std.proofs.Common.{refl, ap, length, arith, get_or, set, ◌||◌}
 use Rattle.std.specs.List.{list_any}
 use Rattle.std.proofs.lemmas.Bool.{or_parts}
 
--- what holds of the new element and of the old ones
+-- a property of the new element and of the old ones
 pub at_set : {X : Type 0} (P : X → Type 0) (xs : List X) (i j : ℕ) (y d : X) → (j ≡ i → P y) → P (get_or xs j d) → P (get_or (set xs i y) j d)
 at_set P [] i j y d new old = old
 at_set P (x ∷ xs) zero zero y d new old = new refl
@@ -20,7 +20,7 @@ at_put P (x ∷ xs) zero (suc j) y d less new old = old (λ e. absurd (omega (ar
 at_put P (x ∷ xs) (suc i) zero y d less new old = old (λ e. absurd (omega (arith, e)))
 at_put P (x ∷ xs) (suc i) (suc j) y d less new old = at_put P xs i j y d (omega (arith, less)) (λ e. new (ap suc e)) (λ never. old (λ e. never (omega (arith, e))))
 
--- what holds of one more element and of the old ones
+-- a property of one element more and of the old ones
 pub at_more : {X : Type 0} (P : X → Type 0) (xs : List X) (y : X) (j : ℕ) (d : X) → (j ≡ length xs → P y) → P (get_or xs j d) → P (get_or (xs ++ y ∷ []) j d)
 at_more P [] y zero d new old = new refl
 at_more P [] y (suc j) d new old = old

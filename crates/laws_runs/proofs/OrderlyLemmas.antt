@@ -29,7 +29,7 @@ use Rattle.laws_runs.proofs.EntryLemmas.{enters-interrupt, enters-expire}
 use Rattle.laws_runs.proofs.EnteredLemmas.{Entered, entered-enters, entered-open}
 use Rattle.laws_runs.proofs.EnteredLemmas.{entered-fork, entered-close}
 
--- what these files add to the facts about a state
+-- the facts about a state that these files add
 pub record Orderly (w : World) : Type 0 where
   pub settled : Settled w
   pub entered : Entered w

@@ -74,7 +74,7 @@ IsNamed w t (Sub u) = IsSubOf w t u
 abbrev pub Named : World → Type 0
 Named w = (t x : ℕ) → lives (task_at w t) ≡ true → IsNamed w t (slot (task_at w t).frame x)
 
--- the scopes of tasks, the owners, and what isn't closed stay
+-- the scopes of tasks, the owners, and the open scopes stay
 record Stays (w v : World) : Type 0 where
   pub scope : (u s : ℕ) → (task_at w u).scope ≡ Some s → (task_at v u).scope ≡ Some s
   pub owner : (s : ℕ) → is_closed (scope_at w s).phase ≡ false → (scope_at v s).owner ≡ (scope_at w s).owner
@@ -268,7 +268,7 @@ avoids_of w s (Own r) e = λ same. grind (arith, nat_tests)
 avoids_of w s (Lent r) e = tt
 avoids_of w s (Sub u) e = λ inside. let there : is_in s (task_at w u).scope ≡ true = rw inside (grind (arith, nat_tests)) in cc
 
--- what is cleared names neither, and what else there is was there
+-- a cleared slot names neither, and every other content was there before
 cleared-avoids : (w : World) (t s : ℕ) (xs : List Slot) (i : ℕ) → IsNamed w t (get_or xs i Empty) → IsNamed w t (get_or (cleared w s xs) i Empty) × Avoids w s (get_or (cleared w s xs) i Empty)
 cleared-avoids w t s [] i h = (h, tt)
 cleared-avoids w t s (y ∷ ys) zero h = by (is_of w s y) refl

@@ -64,7 +64,7 @@ found_more p f old new n h a comes m c = by (a.only m c)
     by (inl o) = h m o
     by (inr e) = subst (Comes p f) (sym e) comes
 
--- a node that follows one that was found comes
+-- a control path reaches each node that follows a found one
 pub follower_comes : (p : Program) (f : ℕ) (nodes next : List Node) (at : ℕ) (x : Node) (j : ℕ) (y : Node) → AreFound p f nodes → at < length nodes → x ≡ slice_index_or nodes at x → next ≡ followers p f x → j < length next → y ≡ slice_index_or next j y → Comes p f y
 follower_comes p f nodes next at x j y found within is made less read =
     then x y (found x (at, within, sym is)) (subst (λ ys. Contains ys y) made (j, less, sym read))
@@ -82,7 +82,7 @@ there_more next old new n y less read h a j d lj = by (split j n lj)
         let is : slice_index_or next j d ≡ y = ap (λ (k : ℕ). slice_index_or next k d) e ∙ get_or_default next n d y less ∙ sym read in
         subst (Contains new) (sym is) a.there
 
--- all of them: what follows the node is there
+-- all nodes after the node are there
 pub all_there : (p : Program) (f : ℕ) (old new next : List Node) (at : ℕ) (x : Node) (n : ℕ) → at < length old → x ≡ slice_index_or old at x → next ≡ followers p f x → length next ≤ n → AreThere next n new → IsSpread p f old at new
 all_there p f old new next at x n within is made long h d m c =
     let same : slice_index_or old at d ≡ x = get_or_default old at d x within ∙ sym is in

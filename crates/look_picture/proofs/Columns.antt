@@ -7,7 +7,7 @@ use Rattle.sts_model.specs.Run.{after, counts}
 use Rattle.look_lines.specs.Watched.{watched}
 use Rattle.look_picture.specs.Picture.{columns_from, event_column}
 
--- the columns of the rest: that of the first event, and of those after it
+-- the columns of the rest begin with that of the first event
 pub columns_next : (p : Program) (es : List Event) (i : ℕ) (d : Event) → i < length es → columns_from p (take i es) (drop i es) ≡ event_column (watched p (take i es)) (watched p (take (i + 1) es)) (i + 1) (get_or es i d) (counts p (after p (take i es)) (get_or es i d)) ++ columns_from p (take (i + 1) es) (drop (i + 1) es)
 columns_next p es i d inside =
     let n : length (take i es) ≡ i = length-take-le i es (omega (arith, inside)) in

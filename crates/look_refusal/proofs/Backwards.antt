@@ -1,4 +1,4 @@
--- The walk back along a trail: what each step of it adds, and that its numbers fit.
+-- The walk back along a trail: the amount of each step, and that the numbers fit.
 use Rattle.std.proofs.Common.{◌≡◌, ℕ, ◌+◌, ◌-◌, ◌*◌, ◌<◌, ◌≤◌, ◌⊎◌, min, List, [], ◌∷◌, length, Some, None, true, false, inl, inr, refl, sym, ap, ◌∙◌, subst, arith, mul-le-mul_left}
 use Rattle.std.proofs.lemmas.Bool.{cases_eq}
 use Rattle.sts_code.specs.Program.{instr_at}
@@ -18,7 +18,7 @@ use Rattle.look_refusal.proofs.Leading.{Way, straight, looping, way_of, leads_st
 use Rattle.look_refusal.proofs.Tables.{fits_here}
 use Rattle.look_refusal.proofs.Walking.{walked_none, walked_both, walked_straight, walked_skip, walked_loop, walked_out}
 
--- a walk back from one spot, which came to another
+-- a walk back from one spot that reached another
 pub record IsUnderWay (s : Search) (t : Trail) (times : ℕ) (at to : Spot) (before now : Shares) : Type 0 where
   pub low : at.place ≤ to.place
   pub spot : IsSpot s at
@@ -164,7 +164,7 @@ module _ (s : Search) (ready : IsReady s) (t : Trail) (trail : IsTrail s t) wher
       let w = u.total in
       omega arith
 
-  -- the beginning of the turn to which the end of a loop leads back
+  -- the beginning of the turn that the end of a loop leads back to
   turn_is : (l : Loop) (d : ℕ) (end turn : Spot) → around s.code.now l.end ≡ l.head ∷ around s.code.now l.head → d ≤ (flow s).depth l.head → end.place ≡ l.end → end.depth ≡ d → IsBegin s end turn → turn ≡ record { place = l.head + 1; depth = d }
   turn_is l d end turn round low place depth b =
       let inner : around s.code.now end.place ≡ l.head ∷ around s.code.now l.head = ap (around s.code.now) place ∙ round in
@@ -329,7 +329,7 @@ module _ (s : Search) (ready : IsReady s) (t : Trail) (trail : IsTrail s t) wher
   pub rest_outside : (at : Spot) → around s.code.now at.place ≡ [] → rest_in s t at ≡ sum_in t at.place at.depth
   rest_outside at round = ap (λ hs. base (paths s) (flow s) (sum_in t) (last_turns hs) at.depth + sum_in t at.place at.depth) round ∙ omega arith
 
-  -- the innermost loop of a turn is that around the spot from which it was walked back
+  -- the innermost loop of a turn is the one around the spot of the walk back
   pub turn_inside : (at turn : Spot) (head : ℕ) (ps : List ℕ) → IsBegin s at turn → around s.code.now turn.place ≡ head ∷ ps → (turn ≡ record { place = head + 1; depth = min at.depth ((flow s).depth head) }) × (around s.code.now at.place ≡ head ∷ around s.code.now head)
   turn_inside at turn head ps b round = by (around s.code.now at.place) refl
     where

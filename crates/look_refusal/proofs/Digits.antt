@@ -1,4 +1,4 @@
--- Numbers are read back from the front of a text, up to what is no digit.
+-- Numbers are read back from the front of a text, up to the first byte that is no digit.
 use Rattle.std.proofs.Common.{◌≡◌, ℕ, suc, ◌<◌, ◌^◌, true, false, List, [], ◌∷◌, ◌++◌, length, get_or, refl, sym, ap, arith}
 use Rattle.std.specs.Prelude.{ℤ, pos, negsuc}
 use Rattle.std.specs.List.{list_all}

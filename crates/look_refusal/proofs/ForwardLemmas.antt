@@ -99,7 +99,7 @@ fine : (o : Option Cause) (es out : List (ℕ × TypeState)) → or_cause o es �
 fine None es out e = (refl, cc)
 fine (Some c) es out e = cc
 
--- the edges of an instruction at which no cause holds lead to later places
+-- if no cause holds at an instruction, its edges lead to later places
 pub forward : (p : Program) (f pc : ℕ) (s : TypeState) (out : List (ℕ × TypeState)) (to : ℕ) (x : TypeState) → edges p f pc s ≡ Ok out → Leads out to x → pc < to
 forward p f pc s out to x e l =
     let i : Instr = instr_at (routine p f).code pc in
@@ -111,7 +111,7 @@ differs : (o : Option Cause) (es : List (ℕ × TypeState)) (c : Cause) → or_c
 differs None es c e = absurd (cc)
 differs (Some d) es c e = let same : d ≡ c = cc in ap (λ (y : Cause). Some y) same
 
--- that ways differ is no cause of an instruction by itself
+-- unequal ways are no cause of an instruction by itself
 pub never_differs : (p : Program) (f pc : ℕ) (s : TypeState) → edges p f pc s ≡ Err cause.StatesDiffer → ⊥
 never_differs p f pc s e =
     let i : Instr = instr_at (routine p f).code pc in

@@ -62,7 +62,7 @@ module _ (s : Search) (ready : IsReady s) where
       by [] is = is
       by (x ∷ xs) is = let no : None ≡ Some x = sym e ∙ ready.heads pc within ∙ ap first_of is in absurd (cc)
 
-  -- the way from a place to one to which its instruction leads
+  -- the way from a place to a place after it
   pub data Way (from to : ℕ) : Type 0 where
     straight : (places : List ℕ) → (paths s).shape from ≡ GoesTo places → Among places to → ends_turn (instr_at s.code.now from) ≡ false → Way from to
     looping : (p n : ℕ) → (paths s).shape p ≡ Repeats n → (paths s).mate p ≡ from → from + 1 ≡ to → ends_turn (instr_at s.code.now from) ≡ true → Way from to

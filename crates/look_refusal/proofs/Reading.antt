@@ -178,7 +178,7 @@ record Reads {A : Type 0} (Held : A → Type 0) (words : A → List ℕ) : Type 
   read : (x y : A) (xs ys : List ℕ) → Held x → Held y → words x ++ xs ≡ words y ++ ys → (x ≡ y) × (xs ≡ ys)
 
 module _ {A : Type 0} (Held : A → Type 0) (words : A → List ℕ) (h : Reads Held words) where
-  -- a value has some words, and others than no value
+  -- a value has words that differ from those of no value
   some_words : (x : A) (xs : List ℕ) → words x ++ xs ≡ [] → ⊥
   some_words x xs e = let k = rw (h.opened x).1 at e in cc
 

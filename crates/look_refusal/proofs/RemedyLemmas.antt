@@ -1,4 +1,4 @@
--- A cause about which the same isn't to do everywhere is one of an instruction in a typestate.
+-- A cause without the same remedy everywhere is a cause of an instruction in a typestate.
 use Rattle.std.proofs.Common.{◌≡◌, ℕ, ◌<◌, List, None, ap, ◌∙◌}
 use Rattle.sts_code.specs.Program.{Program, routine, instr_at}
 use Rattle.sts_code.specs.declared.instr.Instr.{Instr}

@@ -21,7 +21,7 @@ behind_words word s =
 stop_behind : (wanted : Wanted) (word : List ℕ) (left : List (List ℕ)) → fits wanted word ≡ true → stop wanted (word ∷ left) ≡ behind word (stop (after wanted word) left)
 stop_behind wanted word left e = ap (λ b. if b then behind word (stop (after wanted word) left) else record { before = []; word = Some word; wanted = wanted }) e
 
--- no word may be meant by one that is missing
+-- nothing can be meant by a missing word
 pub missing_words : (wanted : Wanted) → stop_words (stop wanted []) ≡ codes " []" ++ expected_words wanted
 missing_words wanted = ap (λ (x : List ℕ). codes " []" ++ x) (append-nil (expected_words wanted))
 

@@ -39,7 +39,7 @@ each_read read (x ∷ xs) ys e = first_read read x xs (read x) ys refl (λ zs q.
 
 -- ---- a function
 
--- what was read with the number of its line was read
+-- a result with the number of its line is a result of reading
 pub line_says : {A : Type 0} (at : ℕ) (r : Result A AsmKind) (x : A) → at_line at r ≡ Ok x → r ≡ Ok x
 line_says at (Ok y) x e = cc
 line_says at (Err k) x e = absurd (cc)

@@ -6,7 +6,7 @@ use Rattle.sts_asm.specs.Fault.{◌>>=◌, FailsAt}
 use Rattle.sts_asm.proofs.TextLemmas.{fails_on, err_bind}
 use Rattle.sts_asm.specs.Text.{each}
 
--- what was read so far, put before what reading the rest gives
+-- the results so far, in front of those of the rest
 abbrev pub with_front : {B : Type 0} → List B → Result (List B) AsmError → Result (List B) AsmError
 with_front front (Ok ys) = Ok (front ++ ys)
 with_front front (Err e) = Err e
@@ -14,7 +14,7 @@ with_front front (Err e) = Err e
 each_fault : {A B : Type 0} (read : A → Result B AsmError) (front : List B) (x : A) (rest xs : List A) (e : AsmError) → with_front front (each read (x ∷ rest)) ≡ each read xs → read x ≡ Err e → each read xs ≡ Err e
 each_fault read front x rest xs e whole h = sym whole ∙ ap (with_front front) (err_bind (read x) (λ y. each read rest >>= λ ys. Ok (y ∷ ys)) e h)
 
--- a fault of what is read next is the first fault of all
+-- a fault of the next element is the first fault of all
 pub each_fails : {A B : Type 0} (read : A → Result B AsmError) (front : List B) (x : A) (rest xs : List A) (e : AsmError) → with_front front (each read (x ∷ rest)) ≡ each read xs → FailsAt e e.kind (read x) → FailsAt e e.kind (each read xs)
 each_fails read front x rest xs e whole h = fails_on e.kind e (read x) (each read xs) (each_fault read front x rest xs e whole) h
 

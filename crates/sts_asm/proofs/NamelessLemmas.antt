@@ -7,7 +7,7 @@ use Rattle.sts_asm.specs.Line.{has_names, instr_of}
 use Rattle.sts_asm.specs.Table.{Spells}
 use Rattle.sts_asm.proofs.TableLemmas.{spelled_read, read_spelled}
 
--- the words of an instruction that names nothing spell it whatever the names
+-- the words of an instruction without names spell it, whatever the names
 nameless_spelled : (names : Option Names) (instr : Instr) (words : List (List ℕ)) → has_names instr ≡ false → Spells None instr words → Spells names instr words
 nameless_spelled names (i.Push k) words without spelled = spelled
 nameless_spelled names i.Pop words without spelled = spelled

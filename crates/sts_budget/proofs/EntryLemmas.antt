@@ -213,7 +213,7 @@ low_dropped : (ns : Names) (d : ℕ) → d ≤ length (drop 1 ns) → d ≤ leng
 low_dropped [] d le = le
 low_dropped (n ∷ ns) d le = omega arith
 
--- it looks back on no more entries than are open
+-- it depends on no more entries than are open
 pub source_low : (m : Measure) (i : Instr) (ns : Names) (d : ℕ) → d ≤ length (names_after i ns) → source_of (measured m i ns) (length ns) d ≤ length ns
 source_low m (Push k) ns d le = le
 source_low m Pop ns d le = le

@@ -17,7 +17,7 @@ use Rattle.sts_budget.specs.declared.layout.Layout.{Layout}
 use Rattle.sts_budget.specs.Ready.{IsLaidFor}
 use Rattle.sts_budget.proofs.LastTurns.{no_excess, least_excess}
 
--- no resource before this one passes its limit
+-- no resource before this one is over its limit
 abbrev pub NoneBefore : Resource → List Budgets → List Instr → Type 0
 NoneBefore k earlier code = (j : Resource) → cause_number (cause_of j) < cause_number (cause_of k) → Exceeds earlier code (cause_of j) → ⊥
 

@@ -1,4 +1,4 @@
--- The pass that finds what is open at each place.
+-- The pass that finds the open entries at each place.
 use Rattle.std.proofs.Common.{◌≡◌, ◌≢◌, ℕ, suc, ◌+◌, ◌<◌, ◌≤◌, ◌⊎◌, inl, inr, List, [], ◌∷◌, ◌++◌}
 use Rattle.std.proofs.Common.{length, take, set, get_or, false, Option, Some, None, refl, sym, ap}
 use Rattle.std.proofs.Common.{◌∙◌, subst, arith, length-set, get_or-set_same, get_or-set_other}
@@ -66,7 +66,7 @@ writes_one to value d old = writes_more (to ∷ []) 0 to value d old old (omega 
 
 -- ---- one instruction
 
--- there is room for what an instruction opens
+-- there is room for the entry that an instruction opens
 has_room : (i : Instr) (s : TypeState) (ns : Names) → length ns ≡ length s.entries → is_nested i s ≡ false → HasEntryRoom i ns
 has_room (Push k) s ns long e = tt
 has_room Pop s ns long e = tt
@@ -313,7 +313,7 @@ module _ (p : Program) (f : ℕ) (accepted : IsWellTyped p f) (some_code : 0 < l
         h.rules.inside to (among_left (targets (instr_at (routine p f).code k) ++ next_place k (instr_at (routine p f).code k)) _ to a),
       )
 
-  -- the values that are written at the places to which an instruction leads
+  -- the values that are written at the places after an instruction
   pub right_value : (k to : ℕ) (heads : List (Option ℕ)) (mates : List ℕ) (table : List Names) → k < length (routine p f).code → IsLaid p f k heads mates table → Among (targets (instr_at (routine p f).code k) ++ next_place k (instr_at (routine p f).code k)) to
       → (head_after (instr_at (routine p f).code k) k heads ≡ first_of (around (routine p f).code to)) × ((s : TypeState) → Reaches (typing p f) to s → names s.entries ≡ names_after (instr_at (routine p f).code k) (get_or table k []))
   right_value k to heads mates table lt laid a = by (instr_at (routine p f).code k) refl (sort p (routine p f).code k (instr_at (routine p f).code k)) a

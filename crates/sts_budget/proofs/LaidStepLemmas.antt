@@ -1,4 +1,4 @@
--- One step of the pass that finds what is open, as the code makes it.
+-- One step of the pass that finds the open entries, as in the code.
 use Rattle.std.proofs.Common.{◌≡◌, ℕ, zero, suc, ◌+◌, ◌<◌, pos, inl, inr, List, [], ◌∷◌, ◌++◌}
 use Rattle.std.proofs.Common.{length, get_or, replicate, Option, Some, None, IfSome, rules, refl}
 use Rattle.std.proofs.Common.{sym, ap, ◌∙◌, subst, arith}

@@ -49,6 +49,6 @@ names_right p f earlier l fine in_program typed laid pc s r = (right pc (fits p 
     right : (pc : ℕ) → pc < length (routine p f).code → IsRight p f l.heads.items (listed l.lists.items l.which.items) pc
     right pc lt = laid.0.right pc lt (is_written p f typed c.some_code c.bounds (length (routine p f).code) pc (omega arith) lt)
 
--- a layout of a well-typed function is right of its code
+-- a layout of a well-typed function fits its code
 pub laid_for : (p : Program) (f : ℕ) (earlier : List Budgets) (code : List Instr) (l : Layout) → program_fault p.routines ≡ None → f < length p.routines → IsWellTyped p f → length earlier ≡ f → code ≡ (routine p f).code → IsLaidOut p f l → IsLaidFor earlier code l
 laid_for p f earlier code l fine in_program typed size is laid = is_ready p f earlier code l fine in_program typed size is laid

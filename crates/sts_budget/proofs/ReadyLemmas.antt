@@ -1,4 +1,4 @@
--- A layout of a well-typed function is right of its code.
+-- A layout of a well-typed function fits its code.
 use Rattle.std.proofs.Common.{◌≡◌, ℕ, ◌<◌, List, Option, None, [], get_or, length, refl, sym, ◌∙◌}
 use Rattle.std.proofs.Common.{subst, arith}
 use Rattle.std.proofs.lemmas.List.{length-map}

@@ -23,7 +23,7 @@ module _ (c : Skeleton) (around : ℕ → List ℕ) (good : IsStructured c aroun
       let rest : heads ls ≡ around q.0 = cc in
       (q.1.0, (ap c.shape same ∙ q.1.1.0, ap c.mate same ∙ q.1.1.1, rest ∙ ap around (sym same)))
 
-  -- the open loops are those round the place, each with a turn under way
+  -- the open loops are those around the place, each in a turn
   pub record IsInside (pc : ℕ) (loops : Loops) : Type 0 where
     pub within : pc < c.size
     pub inside : heads loops ≡ around pc
@@ -146,6 +146,6 @@ module _ (c : Skeleton) (around : ℕ → List ℕ) (good : IsStructured c aroun
       by EndsPath e rest = none 0 (ap bound_of e) refl
       by (GoesTo places) e rest = none 0 (ap bound_of e) refl
 
-  -- every point of every path lies on a whole path, which counts no less
+  -- every point of every path is on a whole path, which counts at least as much
   pub at_points : (pc : ℕ) (loops : Loops) (m : ℕ) (es : List OpenEntry) → Comes c pc loops m es → Counts (m + c.weight pc)
   at_points pc loops m es r = let i = comes_inside pc loops m es r in made_whole loops i.fit pc m es i.within i.inside r

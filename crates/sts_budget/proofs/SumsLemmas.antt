@@ -1,5 +1,5 @@
--- One pass that keeps, for each d, the greatest sum over the first d open entries finds the
--- greatest sum of all points. The steps of paths are such a sum over no entry.
+-- One pass finds the greatest sum of all points. It keeps, for each d, the greatest sum over the
+-- first d open entries. The steps of paths are such a sum over no entry.
 use Rattle.std.proofs.Common.{◌≡◌, ◌≢◌, ℕ, zero, suc, ◌+◌, ◌-◌, ◌*◌, ◌<◌, ◌≤◌, ◌⊎◌, min, inl, inr}
 use Rattle.std.proofs.Common.{List, [], ◌∷◌, refl, sym, ap, ◌∙◌, subst, arith, suc-mul, zero-mul}
 use Rattle.std.proofs.Common.{mul-le-mul_right}
@@ -47,7 +47,7 @@ module _ (c : Skeleton) (around : ℕ → List ℕ) (good : IsStructured c aroun
   abbrev Before : ℕ → Type 0
   Before pc = (q : ℕ) → q < pc → (d : ℕ) → d ≤ f.depth q → (ls : Loops) (m : ℕ) → heads ls ≡ around q → Begins ls d m → Sums c f d q ls (m + best q d)
 
-  -- a step that is no jump looks back on the same entries
+  -- a step that is no jump depends on the same entries
   plain : (d pc : ℕ) (ls : Loops) (m to : ℕ) (after : Loops) → d ≤ f.depth to → f.source pc d ≡ d → Sums c f d pc ls m → Follows c pc ls to after → Sums c f d to after (m + f.added pc d)
   plain d pc ls m to after low same r s = more low (subst (λ x. Sums c f x pc ls m) (sym same) r) s
 

@@ -44,7 +44,7 @@ reported_run kept p budgets r o accepted lines is same =
 pub refused_run : (p : Program) (judged : Result Program Output) (refusal : Output) (o : Outcome) → MatchResult judged (λ v. v ≡ p) (IsRefused p) → judged ≡ Err refusal → o ≡ alone refusal → IsRun p o
 refused_run p judged refusal o is e same = refused refusal (subst (λ j. MatchResult j (λ v. v ≡ p) (IsRefused p)) e is) same
 
--- what goes to the stream is printed of the run
+-- the stream gets the output of the run
 written_of : (P : Type 0) (text outside : List ℕ) (w : Written) (s : ℕ) (r : Outcome) → P → IsOutcomeOf text outside r → RunWrites w s r → (o : Output) × IsPrinted P text outside o × Writes w.out_old w.out_new s o
 written_of P text outside w s r spares is (whole trace out) = (r.output, of_run spares r is refl, out)
 written_of P text outside w s r spares is (no_trace out) = (file_output, without_file Read refl, out)

@@ -1,4 +1,4 @@
--- Each function of a program is within the limits, however it was read.
+-- Each function of a program is within the limits, in whatever way it was read.
 use Rattle.std.proofs.Common.{◌≡◌, ℕ, zero, suc, ◌<◌, ◌≤◌, List, [], length, take, Bool, true}
 use Rattle.std.proofs.Common.{false, Option, Some, None, ◌||◌, ◌==◌, cond, nat_lt, ◌∙◌, refl, arith}
 use Rattle.std.proofs.Common.{slice_index_or}

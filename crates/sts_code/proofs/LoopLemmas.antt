@@ -9,7 +9,7 @@ use Rattle.std.proofs.lemmas.List.Sums.{sum_by_more}
 use Rattle.sts_code.specs.declared.instr.Instr.{Instr}
 use Rattle.sts_code.specs.Loops.{match_of, is_balanced}
 
--- what is found in a range of numbers means that the range is not empty
+-- if something is found in a range of numbers, the range is not empty
 find_some : (test : ℕ → Bool) (a n m : ℕ) → find test (range_with_len a n) ≡ Some m → 0 < n
 find_some test a zero m e = cc
 find_some test a (suc n) m e = omega arith

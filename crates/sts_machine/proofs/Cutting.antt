@@ -34,7 +34,7 @@ within [] n i e = absurd (cc)
 within (x ∷ is) zero i e = omega arith
 within (x ∷ is) (suc n) i e = let h = within is n i e in omega (arith, h)
 
--- what a local instruction of a slice asks for, and what the slice keeps after it
+-- the requirements of a local instruction of a slice, and the invariant of the slice after it
 pub record Goes (p : Program) (t : ℕ) (start f : Frame) (count : ℕ) (is : List Instr) (i : Instr) : Type 0 where
   pub own_code : is ≡ code p f
   pub is_local : is_local i ≡ true

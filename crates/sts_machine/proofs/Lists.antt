@@ -1,4 +1,4 @@
--- Lists by birth with holes: their sums, and what is at one place.
+-- Lists by birth with holes: their sums, and the element at one place.
 use Rattle.std.proofs.Common.{◌≡◌, ◌≢◌, ℕ, zero, suc, List, [], ◌∷◌, map, length, false, Option, None, refl, sym, get_or, arith}
 use Rattle.std.proofs.lemmas.Bool.Decides.{nat_tests}
 use Rattle.std.proofs.lemmas.List.Sums.{sum_by-cons}
@@ -19,7 +19,7 @@ same_sums f d (x ∷ xs) (y ∷ ys) e h =
     let other = sum_by-cons f y ys in
     omega (arith, rest, first, one, other)
 
--- what a function that keeps holes makes of a list, at one place
+-- a list after a function that keeps holes, at one place
 pub mapped : {X : Type 0} (f : Option X → Option X) (xs : List (Option X)) (u : ℕ) → f None ≡ None → get_or (map f xs) u None ≡ f (get_or xs u None)
 mapped f [] u none = sym none
 mapped f (x ∷ xs) zero none = refl

@@ -148,7 +148,7 @@ module _ (p : Program) (m : Parts) (n : ℕ) (is : IsMachine p m n) (t : ℕ) (l
         stands = steps;
       }
 
--- a slice that fits, of the machine that is seen so
+-- a fitting slice of the machine with this view
 pub puts : {p : Program} {m : Parts} {n t count : ℕ} {f : Frame} {u : Seen} {s : Cut}
     → IsMachine p m n → seen_of p m n ≡ u
     → Fits u s → t ≡ s.task → f ≡ s.frame → count ≡ s.count → locals s.code s.start s.count ≡ Some s.frame → Puts p m n t f count

@@ -47,7 +47,7 @@ pub if_false : {X : Type 0} (b : Bool) (x y : X) → b ≡ false → cond b x y 
 if_false true x y e = cc
 if_false false x y e = refl
 
--- what is asked of a machine at an event, said of its fields
+-- the requirements of a machine at an event, in terms of its fields
 pub asked : (s u : Seen) (e f : Event) → s ≡ u → e ≡ f → live_counts u.program u.live e ≡ true → live_counts s.program s.live f ≡ true
 asked s u e f same is counts =
     subst (λ x. live_counts s.program s.live x ≡ true) is

@@ -35,7 +35,8 @@ may_leave Ret = true
 may_leave Fail = true
 may_leave _ = false
 
--- an instruction of t made x of the view v, and w of u, what v doesn't show
+-- an instruction of t changed the view from v to x, and the parts that the view doesn't show from u
+-- to w
 pub record Changes (v : Live) (u : Unseen) (x : Live) (w : Unseen) (t : ℕ) : Type 0 where
   -- each living task other than t has the same recorded scope as before, or none if it was just
   -- born

@@ -19,7 +19,7 @@ pub record MainBudget (p : Program) : Type 0 where
   pub alone : (b : Budgets) → IsBudgetOf p (main_of p) b → b ≡ budget
   pub runs_well : (events : List Event) → RunsWell p budget events
 
--- laws of a program, which hold of each one that was verified
+-- the laws of a program; they hold for each verified one
 pub record HasLaws (p : Program) : Type 0 where
   pub turns : TurnsAreSeen p
   pub safe : TurnsAreSafe p

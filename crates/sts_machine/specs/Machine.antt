@@ -12,8 +12,7 @@ use Rattle.sts_machine.specs.Laws.{HasLaws}
 use Rattle.sts_machine.specs.Standing.{AreStanding}
 use Rattle.sts_machine.specs.Room.{HasRoomOf}
 
--- its program, what can be asked of its tasks and scopes, what that doesn't show, and the steps
--- that it took
+-- its program, its live view, the parts that the view doesn't show, and the steps that it took
 pub record Seen : Type 0 where
   pub program : Program
   pub live : Live

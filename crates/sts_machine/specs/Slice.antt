@@ -60,7 +60,7 @@ pub record IsReached (p : Program) (t : ℕ) (f : Frame) : Type 0 where
   pub lives : lives_in view t ≡ true
   pub frame : (alive_at view t).frame ≡ f
 
--- what an accepted program keeps, as far as local instructions need it
+-- the facts of an accepted program that local instructions need
 pub record IsLawful (p : Program) : Type 0 where
   pub seen : TurnsAreSeen p
   pub safe : TurnsAreSafe p

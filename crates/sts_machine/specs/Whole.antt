@@ -12,7 +12,7 @@ AreSteps p state [] = Unit {0}
 AreSteps p state (e ∷ es) =
     (is_step e ≡ true) × (counts p state e ≡ true) × AreSteps p (apply p state e) es
 
--- there are such steps from the beginning on, after which the root has ended so
+-- some such steps lead from the beginning to this end of the root
 pub record RunsTo (p : Program) (end : End) : Type 0 where
   pub events : List Event
   pub steps : AreSteps p (opening p) events

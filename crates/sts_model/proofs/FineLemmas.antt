@@ -7,7 +7,7 @@ use Rattle.sts_model.specs.declared.record.Frame.{Frame}
 use Rattle.sts_model.specs.World.{World, task_at, instr_at}
 use Rattle.sts_model.specs.Misuse.{IsFine, misuse, fault_of, misuses_operand, lacks_operands, overflows, breaks_loop, has_wrong_slot, misjoins, has_no_room, is_strangers, is_illegal, breaks_structure, is_unbound}
 
--- no fault from a test, and none from the rest
+-- neither the test nor the rest finds a fault
 no_fault : (b : Bool) (k : Fault) (rest : Option Fault) → cond b (Some k) rest ≡ None → (b ≡ false) × (rest ≡ None)
 no_fault true k rest e = cc
 no_fault false k rest e = (refl, e)

@@ -1,4 +1,4 @@
--- Lemmas on the bytes that are taken of a reader.
+-- Lemmas on the bytes that are taken from a reader.
 use Rattle.std.proofs.Common.{◌≡◌, ℕ, ◌+◌, ◌≤◌, List, ◌++◌, None, Some, Option, IfSome, Result, Ok}
 use Rattle.std.proofs.Common.{Err, OnErr, length-append, length-take, length, take, take_all, sym}
 use Rattle.std.proofs.Common.{ap, ◌∙◌, append-nil, arith, subst}
@@ -35,7 +35,7 @@ LosesUpTo-piece (Err e) most room a b c taken fits before (bs, short, read) = (t
 pub piece_fits : (taken more : List ℕ) (n room most : ℕ) (piece : List ℕ) → more ≡ taken ++ take n piece → n ≤ room → length taken + room ≤ most → length more ≤ most
 piece_fits taken more n room most piece e short fits = rw e (omega (arith, length-append taken (take n piece), length-take n piece))
 
--- what was taken of a reader is of its source
+-- the bytes taken from a reader are those of its source
 pub gives_taken : (known remaining : Option (List ℕ)) (most : ℕ) (taken : List ℕ) → Gives known remaining → IfSome remaining (λ xs. taken ≡ take most xs) → IsTakenOf known most taken
 gives_taken None remaining most taken gives is = tt
 gives_taken (Some xs) remaining most taken gives is = subst (λ o. IfSome o (λ ys. taken ≡ take most ys)) gives is

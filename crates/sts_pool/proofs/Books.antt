@@ -225,7 +225,7 @@ pub idle_from : (c : Bool) → Idle ≡ turned c → c ≡ false
 idle_from true e = absurd (cc)
 idle_from false e = refl
 
--- it is seen in the view whether a step of a task counts
+-- the view says whether a step of a task counts
 pub step_seen : (m : Seen) (journal : List Event) → Stands m journal → TurnsAreSeen m.program → (t : ℕ) → counts m.program (after m.program journal) (event.Step t) ≡ live_can_step m.program m.live t
 step_seen m journal stands seen t = (seen journal m.live m.steps (event.Step t) stands).count
 

@@ -74,7 +74,7 @@ pub shown : (m : Seen) (j : Journal) (n : ℕ) (out : List ℕ) (k : ℕ) → Is
 shown m (Written v) n out k is = subst (MayBe (book_of m (Some v.items) n out)) (sym is.holds.0) (may_be m (Written v) n out k is)
 shown m Counted n out k is = tt
 
--- what holds of all events that may be the journal's holds of the journal
+-- a fact of all events that may be the journal's is a fact of the journal
 of_journal : (m : Seen) (j : Journal) (n : ℕ) (out : List ℕ) (k : ℕ) (P : List Event → Type 0) → IsKept m j n out k → ((events : List Event) → MayBe (book_of m (written j) n out) events → P events) → OfJournal (book_of m (written j) n out) P
 of_journal m (Written v) n out k P is all = all v.items (shown m (Written v) n out k is)
 of_journal m Counted n out k P is all = all
@@ -170,7 +170,7 @@ module _ (m x : Seen) (j : Journal) (n : ℕ) (out : List ℕ) (k c t : ℕ) (f 
   pub back_kept : (l : Journal) → IsRecorded j l (steps_of c t) → IsKept x l n (without t out) k
   back_kept l recorded = more_kept m x j l n n out (without t out) k (steps_of c t) is same recorded (still_entries is.events c t ∙ is.entries) back
 
--- a task is out, too, for which there was room
+-- one more task is out, since there was room for it
 pub out_kept : (m : Seen) (j : Journal) (n : ℕ) (out : List ℕ) (k t : ℕ) → IsKept m j n out k → among out t ≡ false → lives_in m.live t ≡ true → IsKept m j n (out ++ t ∷ []) k
 out_kept m j n out k t is absent alive =
     record {

@@ -102,7 +102,7 @@ module _ {X : Type 0} where
       or_left_same a b rest e = grind (arith, nat_tests)
   placed n (suc i) q (Some x ∷ xs) e h = or_right (eqb q n) (list_any (eqb q) (places (suc n) xs)) (placed (suc n) i q xs (omega (arith, e)) h)
 
-  -- numbers that differ, each of a place with a record, are no more than the records
+  -- different numbers of places with records are no more than the records
   pub few_from_apart : (out : List ℕ) (xs : List (Option X)) → IsDistinct eqb out → ((t : ℕ) → among out t ≡ true → is_some (get_or xs t None) ≡ true) → length out ≤ count_by is_some xs
   few_from_apart out xs apart stands =
       let few = length-le_from_is_member nat_eq_equiv out (places 0 xs) apart (λ q h. placed 0 q q xs (omega arith) (stands q (among_flip out q ∙ h))) in

@@ -45,7 +45,7 @@ bound_first [] e = cc
 bound_first (entry.Scope s ∷ es) e = cc
 bound_first (entry.Binding k v ∷ es) e = record { more = one_bound k v es; outer = λ s. refl }
 
--- no more bindings are outside of a scope than there are
+-- the bindings outside of a scope are no more than all bindings
 pub fewer_behind : (es : List Entry) (s : ℕ) → count_by is_binding (behind s es) ≤ count_by is_binding es
 fewer_behind [] s = omega arith
 fewer_behind (entry.Binding k v ∷ es) s =
@@ -60,7 +60,7 @@ first_own : (l : List ℕ) (n : ℕ) → length l ≡ suc n → (k : ℕ) × ((r
 first_own [] n e = cc
 first_own (k ∷ rest) n e = (k, (rest, refl))
 
--- what is bound to the top operand, and the frame afterwards
+-- the binding of the top operand, and the frame afterwards
 abbrev pub bound_here : Frame → ℕ → Bound
 bound_here f key = record { key = key; value = operand f 0 }
 
@@ -80,7 +80,7 @@ module _ (m : Parts) (is : IsStore m) (t : ℕ) (r q : Running) (d : Records) (a
   written : set (holders m) t (Some (holder_of q)) ≡ holders (with_running m t q d)
   written = sym (map-set (option_map holder_of) m.frames.slots t (Some q))
 
-  -- what another task or a scope has of the sharing
+  -- the part of another task or a scope in the sharing
   held_of : (u : ℕ) (l : Running) → get_or m.frames.slots u None ≡ Some l → get_or (holders m) u None ≡ Some (holder_of l)
   held_of u l e = map_at holder_of m.frames.slots u ∙ ap (option_map holder_of) e
 

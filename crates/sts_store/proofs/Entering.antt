@@ -1,4 +1,4 @@
--- A scope is opened: what is seen, and what keeps the parts in order.
+-- A scope is opened: the view after it, and the facts that keep the parts in order.
 use Rattle.std.proofs.Common.{◌≡◌, ◌≢◌, ℕ, List, [], ◌∷◌, ◌++◌, length, Bool, true, false, Some, None, refl, sym, ◌∙◌, ap, get_or, set, arith, cond, nat_eq}
 use Rattle.std.proofs.lemmas.Bool.Decides.{nat_tests}
 use Rattle.std.proofs.lemmas.List.{length-map, map-set, map-append, length-set}

@@ -1,4 +1,4 @@
--- The end of a task in a tree: when its scope is cancelled, and what is seen of it.
+-- The end of a task in a tree: when its scope is cancelled, and the view after it.
 use Rattle.std.proofs.Common.{◌≡◌, ◌≢◌, ℕ, Bool, true, false, Option, Some, None, refl, sym, ◌∙◌, ap, get_or, cond, ◌&&◌, not, get_or-set_same}
 use Rattle.std.proofs.lemmas.Bool.{and_parts}
 use Rattle.sts_model.specs.declared.event.End.{End}

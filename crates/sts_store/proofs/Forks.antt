@@ -1,4 +1,4 @@
--- A subtask is forked: what is seen, and what keeps the parts in order.
+-- A subtask is forked: the view after it, and the facts that keep the parts in order.
 use Rattle.std.proofs.Common.{◌≡◌, ◌≢◌, ℕ, zero, suc, ◌+◌, arith, List, [], ◌∷◌, ◌++◌, length, Bool, true, false, Option, Some, None, refl, sym, ◌∙◌, ap, get_or, cond, not, nat_eq, is_some, take, length-append}
 use Rattle.std.proofs.lemmas.Bool.Decides.{nat_tests}
 use Rattle.std.proofs.lemmas.List.{length-map, map-append}

@@ -1,4 +1,5 @@
--- A scope and its subtasks are taken out: what is seen, and what keeps the parts in order.
+-- A scope and its subtasks are taken out: the view after it, and the facts that keep the parts in
+-- order.
 use Rattle.std.proofs.Common.{◌≡◌, ◌≢◌, ℕ, suc, ◌+◌, List, [], ◌∷◌, drop, length, map, Bool, true, false, Option, Some, None, refl, sym, ◌∙◌, ap, subst, get_or, arith, cond, nat_eq}
 use Rattle.std.proofs.lemmas.Bool.Decides.{nat_tests}
 use Rattle.std.proofs.lemmas.List.{length-map, map-set, length-set}

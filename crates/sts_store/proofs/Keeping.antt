@@ -48,7 +48,7 @@ by_marks p mark same [] = refl
 by_marks p mark same (None ∷ xs) = ap (λ l. None ∷ l) (by_marks p mark same xs)
 by_marks p mark same (Some x ∷ xs) = ap (λ z. Some z ∷ map (option_map p) (map (option_map mark) xs)) (same x) ∙ ap (λ l. Some (p x) ∷ l) (by_marks p mark same xs)
 
--- what is read of each task, whatever its mark
+-- the reading of each task, whatever its mark
 read_seen : {Y : Type 0} (p : Task → Y) → ((x : Task) → p (unmarked x) ≡ p x) → (f g : Forest Env) → seen f ≡ seen g → map (option_map p) f.tasks ≡ map (option_map p) g.tasks
 read_seen p same f g e = sym (by_marks p unmarked same f.tasks) ∙ ap (λ (h : Forest Env). map (option_map p) h.tasks) e ∙ by_marks p unmarked same g.tasks
 
@@ -63,7 +63,7 @@ lives_unmarked f t = ap lives_of (map_at unmarked f.tasks t) ∙ by (get_or f.ta
     by None = refl
     by (Some x) = refl
 
--- what of a tree the store's order depends on
+-- the part of a tree that the store's order depends on
 pub record SameOrder (f g : Forest Env) : Type 0 where
   pub born : length f.tasks ≡ length g.tasks
   pub alive : (t : ℕ) → lives_at f t ≡ lives_at g t
@@ -94,7 +94,7 @@ rest_seen m f g e =
 
 -- ---- a task's record in the tree
 
--- a task's record is written, with the same scope, and living as it was
+-- a task's record is written, with the same scope, and it lives or not as before
 pub kept_task : (m : Parts) (t : ℕ) (x y : Task) → IsStore m → get_or m.tree.tasks t None ≡ Some x → y.scope ≡ x.scope → y.lives ≡ x.lives → IsStore (record m { tree = with_task m.tree t y })
 kept_task m t x y is at home lives =
     record {

@@ -1,4 +1,4 @@
--- A task ends: what keeps the parts in order, and what is seen.
+-- A task ends: the facts that keep the parts in order, and the view after it.
 use Rattle.std.proofs.Common.{◌≡◌, ◌≢◌, ℕ, zero, suc, ◌+◌, arith, List, [], ◌∷◌, map, length, Bool, true, false, Option, Some, None, refl, sym, ◌∙◌, ap, subst, get_or, set, cond, nat_eq, is_some, get_or-set_same, get_or-set_other}
 use Rattle.std.proofs.lemmas.Bool.Decides.{nat_tests}
 use Rattle.std.proofs.lemmas.List.{length-set, length-map, map-set}
@@ -171,7 +171,7 @@ end_kept m t g room root_end is e =
 pub end_unseen : (m : Parts) (t : ℕ) (g : Forest Env) (room : ℕ) (root_end : Option End) → Ends m.tree g t → unseen_of (with_ended m t g room root_end) ≡ record (unseen_of m) { frame_room = room }
 end_unseen m t g room root_end e = rw (e.stands, e.task_keys, e.scope_keys, e.task_room, e.scope_room) refl
 
--- the frame of a task that lives no longer isn't seen
+-- the view doesn't show the frame of a task that doesn't live
 unframed : (m : Parts) (t : ℕ) (g : Forest Env) (room : ℕ) (end : End) → Ends m.tree g t → live_of (with_ended m t g room (at_end (beside m) t end).root_end) ≡ view_of (at_end (beside m) t end) g
 unframed m t g room end e = ap (λ l. record { tasks = l; scopes = (view_of b g).scopes; root_end = b.root_end }) (tasks_same b d g same)
   where

@@ -1,4 +1,4 @@
--- The phase of a scope is written, and what a `join` does.
+-- The phase of a scope is written, and the effect of a `join`.
 use Rattle.std.proofs.Common.{◌≡◌, ℕ, [], Some, None, refl, ◌∙◌, get_or, true, false, ◌||◌, not}
 use Rattle.sts_env.specs.declared.env.Env.{Env}
 use Rattle.sts_tree.specs.Forest.{Forest}

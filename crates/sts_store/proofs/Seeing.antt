@@ -51,7 +51,7 @@ home_is m t o e = ap (λ y. (unwrap_or y no_live_task).scope) (task_is (beside m
 pub stand_is : (m : Parts) (t : ℕ) (x : Task) → get_or m.tree.tasks t None ≡ Some x → stand_in (unseen_of m) t ≡ x.stand
 stand_is m t x e = ap (λ o. unwrap_or o Free) (map_at stand_of m.tree.tasks t ∙ ap (option_map stand_of) e)
 
--- who can step in the tree may go on in the view
+-- a task that can step in the tree can in the view
 pub steps_seen : (m : Parts) (t : ℕ) → can_step m.tree t ≡ can_go_on m t
 steps_seen m t = by (get_or m.tree.tasks t None) refl
   where

@@ -13,7 +13,7 @@ use Rattle.sts_store.specs.Stored.{IsStore}
 use Rattle.sts_store.proofs.Views.{Lived, lived, with_running, frame_seen, same_frame, some_not}
 use Rattle.sts_store.proofs.Keeping.{kept_frame}
 
--- a task that lives in what contracts see has its records in the parts
+-- a task that lives in the contracts' view has its records in the parts
 pub living : (m now : Parts) → IsStore m → m ≡ now → (t : ℕ) → lives_in (live_of now) t ≡ true → Lived m t
 living m now is same t lives = lived m is t (subst (λ p. lives_in (live_of p) t ≡ true) (sym same) lives)
 

@@ -30,6 +30,6 @@ adds slots one two new families ready room s n f g r forks living i is fits few 
     in
     record { is = rekeyed new (set families s (Some g)) ready (ready_of slots ready) (room - 1) (rw tasks all); tasks = tasks; keys_are = ready_is new ready (ready_of slots ready) all.is_ready }
 
--- a scope has fewer subtasks than a u32 counts
+-- a scope has fewer subtasks than 2^32
 pub few_forks : (slots : List (Option TaskRecord)) (families : List (Option Family)) (ready : Ends) (room s : ℕ) (f : Family) → Stored slots families ready room → get_or families s None ≡ Some f → f.fork_count ≤ 65536
 few_forks slots families ready room s f i is = let c = i.counts s f is in let b = births_few (is_of s) 0 (tasks_of slots) in let few = i.few in omega (arith, c, b, few)

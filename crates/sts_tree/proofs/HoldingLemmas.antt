@@ -1,4 +1,4 @@
--- Lists by birth with holes: one record changed, and what is seen of each.
+-- Lists by birth with holes: one record changed, and the view of each.
 use Rattle.std.proofs.Common.{◌≡◌, ◌≢◌, ℕ, zero, suc, ◌<◌, List, [], ◌∷◌, length, map, Option, Some, None, refl, sym, ◌∙◌, ap, arith, get_or, set, nat_lt, true, is_some}
 use Rattle.std.proofs.lemmas.Bool.Decides.{nat_tests}
 use Rattle.std.proofs.lemmas.List.{map-set, set-get_or}

@@ -223,7 +223,7 @@ module _ {E : Type 0} where
       by zero s z e st = let q = some_root z e in let w : stands_at s Free ≡ true = rw q at st in cc
       by (suc k) s z e st = cc
 
-  -- a new subtask of s: only it and the owner of s are to be settled
+  -- a new subtask of s: only it and the owner of s need settling
   abbrev with_more : Forest E → Task → List ℕ → ℕ → Forest E
   with_more f y keys room = record f { tasks = f.tasks ++ Some y ∷ []; task_keys = keys; task_room = room }
 

@@ -1,4 +1,4 @@
--- The records of scopes: what is seen of them, and their lists.
+-- The records of scopes: their view, and their lists.
 use Rattle.std.proofs.Common.{◌≡◌, ◌≢◌, ℕ, List, [], ◌∷◌, ◌++◌, Option, Some, None, refl, sym, ◌∙◌, ap, get_or, set}
 use Rattle.std.proofs.lemmas.List.{map-set, map-append}
 use Rattle.std.specs.Prelude.{option_map}

@@ -1,4 +1,4 @@
--- The same over the records: which links they have, and which ready list.
+-- The stored forest over the records: their links, and the ready list.
 use Rattle.std.proofs.Common.{◌≡◌, ◌≢◌, ℕ, ◌<◌, List, [], ◌∷◌, ◌++◌, length, Option, Some, None, refl, sym, ◌∙◌, ap, arith, get_or, set, Bool, true, false, nat_eq, nat_lt, get_or-set_same, get_or-set_other}
 use Rattle.std.proofs.lemmas.Bool.Decides.{nat_tests}
 use Rattle.std.proofs.lemmas.List.{map-set, get_or_past, get_or_append_left}
@@ -55,11 +55,11 @@ record_at slots t x is = by (get_or slots t None) refl (sym (map_at task_of slot
 pub seen_set : (slots : List (Option TaskRecord)) (t : ℕ) (q : TaskRecord) → tasks_of (set slots t (Some q)) ≡ set (tasks_of slots) t (Some q.task)
 seen_set slots t q = map-set (option_map task_of) slots t (Some q)
 
--- these records have the lists that these families say
+-- these records have the lists of these families
 abbrev pub Stored : List (Option TaskRecord) → List (Option Family) → Ends → ℕ → Type 0
 Stored slots families ready room = IsForest (link_at slots) (tasks_of slots) families ready (ready_of slots ready) room
 
--- with the keys that the ready list is known to have
+-- and the ready list has these keys
 pub rekeyed : (slots : List (Option TaskRecord)) (families : List (Option Family)) (ready : Ends) (keys : List ℕ) (room : ℕ) → IsForest (link_at slots) (tasks_of slots) families ready keys room → Stored slots families ready room
 rekeyed slots families ready keys room i = rw (ready_is slots ready keys i.is_ready) i
 

@@ -121,7 +121,7 @@ entries_same = (to, from)
     from (Scope x) = scopes_same.1 x
     from (Binding x) = grind arith
 
--- two stacks that are seen in reverse are the same if what is seen is
+-- two stacks that are seen in reverse are the same if their views are
 module _ {X : Type 0} (E : X → X → Bool) (same : IsSame E) where
   pub stacks_same : (xs ys a b : List X) (r : Bool) → reverse xs ≡ a → reverse ys ≡ b → r ≡ pointwise E xs ys → IsTrue r ↔ (a ≡ b)
   stacks_same xs ys a b r p q e = (

@@ -43,7 +43,7 @@ marks_all old now at end marks q =
 
 -- ---- all loops
 
--- the innermost ones of those that begin before k
+-- the innermost loops among those that begin before k
 pub record AreHeads (code : List Instr) (heads : List (Option ℕ)) (k : ℕ) : Type 0 where
   pub long : length heads ≡ length code
   pub heads_are : (q : ℕ) → q < length code → get_or heads q None ≡ slice_get (below code q (min k q)) 0

@@ -36,7 +36,7 @@ first test a (suc n) m e = found_first test a n m (test a) refl e (λ h. first t
 
 -- ---- counts
 
--- how many `times`, how many `next`, before a place
+-- the numbers of `times` and of `next` before a place
 abbrev pub times_before : List Instr → ℕ → ℕ
 times_before code k = count_by is_times (take k code)
 

@@ -85,7 +85,7 @@ module _ {S C : Type 0} (f : Flow S C) (n : ℕ) (laws : IsForward f n) where
   reaches k pc s at_entry = first
   reaches k pc s (out_of from before out lt r e l) = then from before out r e l
 
-  -- all that reaches a place comes from lesser places
+  -- all states that reach a place come from earlier places
   below : (k pc : ℕ) (s : S) → pc ≤ k → Reaches f pc s → Below f k pc s
   below k pc s le first = at_entry
   below k pc s le (then from before out r e l) =
@@ -145,7 +145,7 @@ module _ {S C : Type 0} (f : Flow S C) (n : ℕ) (laws : IsForward f n) where
       pub has_edge_cause : (c : C) → f.edges k s ≡ Err c → HasCause f k c
       has_edge_cause c e = edge s alone e
 
-      -- the place to which a loop goes back has one state in the table
+      -- the place that a loop goes back to has one state in the table
       turn_alone : (out : List (ℕ × S)) (q : ℕ) → f.edges k s ≡ Ok out → f.back k s ≡ Some q → (t : S) × IsAlone f q t
       turn_alone out q fine e = by (cases_lt q k)
         where

@@ -45,7 +45,7 @@ keep_join loops None (Some t) a b c i x y z = (y, (z, tt))
 keep_join loops (Some f) None a b c i x y z = (x, (z, tt))
 keep_join loops (Some f) (Some t) a b c i x y z = (x, (y, (z, tt)))
 
--- what an edge leaves open: what the code says of its place
+-- the loops that an edge leaves open are those that the code says for its place
 abbrev OpensAt : List Instr → ℕ → Instr → List ℕ → ℕ → List ℕ → Type 0
 OpensAt code pc i before to after = (Among (targets i ++ skipped_to code pc i) to × (after ≡ before)) ⊎ (Among (next_place pc i) to × (after ≡ open_after pc i before))
 

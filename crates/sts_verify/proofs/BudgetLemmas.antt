@@ -91,7 +91,7 @@ fronts-one p bs cs h k (suc f) le less =
     take-more (x ∷ xs) zero lt = refl
     take-more (x ∷ xs) (suc n) lt = ap (λ (l : List Budgets). x ∷ l) (take-more xs n (omega arith))
 
--- what are budgets of a function are the same
+-- two budgets of a function are the same
 pub budget_of-one : (p : Program) (f : ℕ) (b c : Budgets) → IsBudgetOf p f b → IsBudgetOf p f c → b ≡ c
 budget_of-one p f b c (bs, (long, right, is)) (cs, (size, good, has)) =
     let front = fronts-one p bs cs right good f (omega (arith, long)) (omega (arith, size)) in

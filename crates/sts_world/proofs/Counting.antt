@@ -1,5 +1,5 @@
--- Births and counts of lists of lines, after one more line, another line or another scope that is
--- closed.
+-- Births and counts of lists of lines: with one more line, with another line, and with one more
+-- closed scope.
 use Rattle.std.proofs.Common.{◌≡◌, ℕ, zero, suc, ◌+◌, ◌<◌, ◌≤◌, List, [], ◌∷◌, ◌++◌, length}
 use Rattle.std.proofs.Common.{count_by, Bool, true, false, cond, not, ◌&&◌, Option, Some, None, eqb}
 use Rattle.std.proofs.Common.{refl, ap, sym, ◌∙◌, arith, get_or, set}

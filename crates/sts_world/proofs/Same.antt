@@ -1,4 +1,4 @@
--- Changes after which the lines are as they were.
+-- Changes that keep the lines.
 use Rattle.std.proofs.Common.{◌≡◌, ℕ, List, [], ◌∷◌, map, Bool, true, false, cond, refl, ap}
 use Rattle.std.proofs.Math.Seq.{map-set_same}
 use Rattle.sts_model.specs.declared.record.Task.{Task}

@@ -1,4 +1,4 @@
--- Scopes as they are kept, and what is shown of them.
+-- Scopes as they are kept, and the view of them.
 use Rattle.std.proofs.Common.{◌≡◌, ℕ, zero, suc, ◌<◌, ◌≤◌, List, [], ◌∷◌, ◌++◌, length, map, Bool}
 use Rattle.std.proofs.Common.{true, false, Option, Some, None, inl, inr, ◌⊎◌, refl, ap, sym, ◌∙◌}
 use Rattle.std.proofs.Common.{get_or, set, take, ◌+◌}

@@ -5,7 +5,7 @@ use Rattle.look_page.specs.declared.printing.Asked.TheVariants as asked
 use Rattle.look_page.specs.Printed.{Prints}
 use Rattle.look_page.proofs.shown.Goals as goal
 
--- whatever is asked for, memory may be refused
+-- memory may run out for any request
 refused : (a : Asked) (text trace : List ℕ) → Prints a text trace memory_output
 refused (asked.Mode mode) text trace = inr refl
 refused (asked.View wanted) text trace = inr refl

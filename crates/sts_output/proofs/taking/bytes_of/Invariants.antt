@@ -2,7 +2,7 @@ use Rattle.std.proofs.Common.{◌≡◌, ◌≤◌, ◌-◌, length, vec_len}
 use Rattle.std.specs.Io.KnownBytes.{Consumes}
 use Rattle.sts_output.proofs.taking.bytes_of.Given as goal
 
--- what was taken so far is what the reader lost
+-- the bytes taken so far are those that the reader lost
 abbrev pub invariant-loop-taken : goal.invariant-loop-taken
 invariant-loop-taken g l = record {
   bound : length l.taken.items ≤ l.most;
