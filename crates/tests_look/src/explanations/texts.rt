@@ -1,5 +1,6 @@
-//! Each fault of a text by its line. There are rows for the kinds of faults, for each program check, for
-//! the wrong word at each place of a line, and for words that are near to a known one.
+//! Each fault of a text, by its line. There are rows for the kinds of faults, and for each program
+//! check. Others are for the wrong word at each place of a line, and for words that are near to a
+//! known one.
 
 use crate::explanations::row::Row;
 use look_refusal::explain;
