@@ -11,20 +11,20 @@ Each text and output of docs/LANGUAGE.md, docs/VERIFIER.md, docs/PATTERNS.md and
 - a block of LANGUAGE.md with a comment `<!-- run: TEXT ? ASKED = STATUS LINES -->` above it, where `@` stands for the
   block, and what is asked is `verify`, `list` or a trace (`0*5` is five steps of task 0, `i0` an interrupt, `x0` an
   expiry); where nothing is said of `verify` it accepts the text; a block that is no example begins with "```text";
-- a line of its tables of faults whose text is written in full;
+- a line of its table of faulty lines, each of which is line 2 of a text;
 - a block "```diff" of VERIFIER.md or PATTERNS.md, which has a refused text and the same text mended (checks/causes.py), and
   what PATTERNS.md says below a block: "Without `LINE`: `refused ..`";
 - a block of PATTERNS.md, which is accepted, with each trace of the table below it, written short (checks/runs.py has what
   comes by workers, and what comes of files whose bytes no row can hold);
 - each command of examples/README.md, with the files that it names.
 
-It also says where a document names a file that isn't there, where PROOFS.md names a function or a clause that its file
-doesn't have, where a document shows a line of a contract that no source has or a part of a program that no example has,
-where an example isn't shown or says that it prints something else, where no document names a refused text of `examples`, where a Java program is shown otherwise than it is,
-where the figures of JDK.md aren't those of a run of jdk/check.py, where README.md counts its differences otherwise,
-where a picture isn't what its script draws, where a crate uses proofs of another one from a file that isn't called
-`*Lemmas`, where the floors of ARCHITECTURE.md don't fit crates.txt, and where the README.md of a crate doesn't name its
-edits, the crates that it uses, or those that use it.
+It also says where a document names a file that isn't there, where LANGUAGE.md lacks an instruction or a cause of one, where
+PROOFS.md names a function or a clause that its file doesn't have, where a document shows a line of a contract that no source
+has or a part of a program that no example has, where an example isn't shown or says that it prints something else, where no
+document names a refused text of `examples`, where a Java program is shown otherwise than it is, where the figures of JDK.md
+aren't those of a run of jdk/check.py, where README.md counts its differences otherwise, where a picture isn't what its script
+draws, where a crate uses proofs of another one from a file that isn't called `*Lemmas`, where the floors of ARCHITECTURE.md
+don't fit crates.txt, and where the README.md of a crate doesn't name its edits, the crates that it uses, or those that use it.
 """
 import functools
 import itertools
@@ -34,24 +34,12 @@ import subprocess
 import sys
 
 import causes as refused
+from stack_code import OPERANDS
 
 ROOT = os.path.dirname(os.path.dirname(os.path.realpath(__file__)))
 FOLDER = "crates/tests_rows/data"
 DOCUMENTS = ["README.md", "CONTRIBUTING.md", "examples/README.md", *(f"docs/{it}" for it in sorted(os.listdir(f"{ROOT}/docs")) if it.endswith(".md"))]
 STATUS = {"success": 0, "failed": 1, "error": 3, "refused": 4, "fault": 5, "running": 5}
-# What tables of LANGUAGE.md describe in words: other tests have these rows.
-IN_WORDS = [
-    "a byte 128 in a comment of line 2",
-    "`func main 0` and a newline",
-    "1,048,577 newlines",
-    "no byte at all",
-    "65 functions",
-    "`main` with 4,097",
-    "`func kid 0 / push 0 / ret / end` twice, then `main`",
-    "`step`, `Step 0`, an empty line, `step  0` with two spaces",
-    "`step 01`, `step -0`, `step 4294967296`",
-    "`step 0` and no newline",
-]
 
 
 def read(path):
@@ -119,25 +107,33 @@ def blocks(path):
     return found
 
 
-def cells(path, first, second):
-    """Returns the rows of a table's lines: a cell with a text, another with what is printed of it."""
-    found, columns = [], []
-    for line in read(path).splitlines():
-        cut = [cell.strip() for cell in line.strip("|").split("|")]
-        if not line.startswith("|"):
-            columns = []
-        elif not columns:
-            columns = cut
-        elif any(it.startswith(first) for it in columns) and second in columns:
-            text = cut[[it.startswith(first) for it in columns].index(True)]
-            printed = cut[columns.index(second)].strip("`")
-            whole = re.fullmatch(r"`([^`]*)`", text)
-            if whole and text not in IN_WORDS:
-                name = f"{cut[0].strip('`')} of a text" if columns[0] == "Code" else printed
-                found.append(row(name, whole[1], [("list", f"{STATUS['error']} {printed}")]))
-            elif text not in IN_WORDS and printed.startswith("error ") and printed != "error memory":
-                fail(f"{path}: {text!r} is written neither in full nor in words that are known")
-    return found
+def lines_two(path):
+    """Returns a row for each line of a table that shows line 2 of a faulty text, and the code of the fault."""
+    found = re.findall(r"^\| `([^`|]*)` \| (A\d) \| [^|]* \|$", re.search(r"^\| Line 2 \| Code \|.*?\n\n", read(path), re.M | re.S)[0], re.M)
+    return [row(f"{code} by the line {line}", f"func main 0 / {line} / ret / end", [("list", f"{STATUS['error']} error {code} line 2")]) for line, code in found]
+
+
+def instructions(path):
+    """Fails where the table of instructions doesn't have each instruction once, or lacks a cause for which a row has it refused."""
+    table = re.search(r"^\| Instruction \|.*?\n\n", read(path), re.M | re.S)[0]
+    known = {}
+    for line in table.splitlines()[2:-1]:
+        first, *_, named = (it.strip() for it in line.strip("|").split("|"))
+        for word in dict.fromkeys(it.split(" ")[0] for it in re.findall(r"`([^`]*)`", first)):
+            if word in known:
+                fail(f"{path} has {word} twice in its table of instructions")
+            known[word] = {*re.findall(r"V\d+", named), "V1", "V2", "V3", "V7", "V8"}
+    if set(known) != set(OPERANDS):
+        fail(f"{path} doesn't have each instruction in its table: {sorted(set(known) ^ set(OPERANDS))}")
+    met = set()
+    for name in os.listdir(f"{ROOT}/{FOLDER}"):
+        for cause, word in re.findall(r"^= 4 refused (V\d+) in \w+ at \d+: (?!end$)(\w+)", read(f"{FOLDER}/{name}"), re.M):
+            met.add((word, cause))
+            if cause not in known[word]:
+                fail(f"{path} doesn't say that {word} is refused as {cause}, as in {name}")
+    shown = {(word, cause) for word, causes_of in known.items() for cause in causes_of if cause not in ("V1", "V2", "V3", "V7", "V8")}
+    if shown - met:
+        fail(f"{path} names causes of instructions that no row has: {sorted(shown - met)}")
 
 
 def causes(path):
@@ -211,13 +207,13 @@ def files():
     language, path = "docs/LANGUAGE.md", "docs/PATTERNS.md"
     tables = {
         "documents_blocks": blocks(language),
-        "documents_texts": cells(language, "Text", "Printed") + cells(language, "Example", "Printed"),
+        "documents_texts": lines_two(language),
         "documents_causes": causes("docs/VERIFIER.md"),
-        "patterns_patterns": patterns(path) + causes(path) + cells(path, "Text", "Printed"),
+        "patterns_patterns": patterns(path) + causes(path),
         "examples_commands": commands("examples/README.md"),
     }
     for name, rows in tables.items():
-        if len(rows) < 5:
+        if len(rows) < (3 if name == "documents_blocks" else 5):
             fail(f"only {len(rows)} rows were found for {name}")
     return {f"{name}.rows": "\n\n".join(rows) + "\n" for name, rows in tables.items()}
 
@@ -428,6 +424,7 @@ def main():
     named_clauses("docs/PROOFS.md")
     shown_programs("README.md")
     examples("examples/README.md")
+    instructions("docs/LANGUAGE.md")
     pictures()
     for name, table in files().items():
         path = f"{ROOT}/{FOLDER}/{name}"

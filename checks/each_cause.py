@@ -29,7 +29,7 @@ from write_trace import trace
 
 SECONDS = 600
 VERIFIER, LANGUAGE = "docs/VERIFIER.md", "docs/LANGUAGE.md"
-INDEX = re.compile(r"(?<=^\| Code \| `look explain` says \| More \|\n\|---\|---\|---\|\n)(?:\|.*\n)*", re.M)
+INDEX = re.compile(r"(?<=^\| Code \| `look explain` says \|\n\|---\|---\|\n)(?:\|.*\n)*", re.M)
 SEVEN = "`func main 0 / push 7 / ret / end`"
 KID = "func kid 0 / push 0 / ret / end"
 # Texts that are too long to be written in full, or have a byte that isn't allowed.
@@ -259,19 +259,14 @@ def anchor(code):
 
 def index(explained):
     """Returns the lines of the index of codes, from what `explain` prints for each."""
-    said = {code.split(" ")[-1]: printed.split("\n")[1] for code, printed in explained.items()}
-    found = []
-    for kinds, title, address, others in (
-        ("A", "a text", "#faults-of-a-text", {"A9": "a program check failed: C1 to C7", "A10": "memory ran out"}),
-        ("C", "a program check", "#program-checks", {}),
-        ("T", "a trace", "#traces", {"T4": "memory ran out"}),
-    ):
-        codes = [it for it in listed_codes() if it[0] == kinds]
-        found += [f"| {it} | {others[it] if it in others else f'`{said[it]}`'} | [{title}]({address}) |\n" for it in codes]
-    found += [f"| {it} | `{said[it]}` | [the cause]({anchor(it)}) |\n" for it in RUNS]
-    faults = re.findall(r"^\d\. \*(\w+)\*: (.*)\.$", read("docs/BEHAVIOUR.md"), re.M)
-    found += [f"| {it} | {words} | [misuse](BEHAVIOUR.md#misuse) |\n" for it, words in faults]
-    return "".join([*found, "| status 0 to 6 | | [exit status](#exit-status) |\n"])
+    said = {code.split(" ")[-1]: f"`{printed.split(chr(10))[1]}`" for code, printed in explained.items()}
+    said |= {"A9": "a program check failed: C1 to C7", "A10": "memory ran out", "T4": "memory ran out"}
+    said |= dict(re.findall(r"^\d\. \*(\w+)\*: ([^.(]*)", read("docs/BEHAVIOUR.md"), re.M))
+    address = {"A": "#faults-of-a-text", "C": "#program-checks", "T": "#traces"}
+    found = [(it, address[it[0]]) for it in sorted(listed_codes(), key=lambda it: (it[0], int(it[1:])))]
+    found += [(it, anchor(it)) for it in RUNS] + [(it, "BEHAVIOUR.md#misuse") for it in FAULTS]
+    lines = [f"| [{code}]({at}) | {said[code].strip()} |\n" for code, at in found]
+    return "".join([*lines, "| [0 to 6](#exit-status) | the exit status |\n"])
 
 
 def pages_of(look, folder):
