@@ -4,12 +4,15 @@
 PROGRAM is `sts`, LOOK is `look`; each of their commands is tried where it applies. A PART is a function below, such as
 `dues_of_sts`; all are tried if none is named.
 - Words: all of them count, even if there are 300, and ten may be right. Words that are mistaken, are no text or ask for
-  help are answered on standard error alone, with status 2 or 0.
+  help are answered on standard error alone, with status 2 or 0. The message names the mistaken word, and help names the
+  commands, their files and what they print.
 - Files: a name is taken as it is, with the blanks around it. FILE is read before the other file, up to a byte more than a
   text may have. A trace is made only under the name that was given, and has the journal.
 - Output and status: each command, for each of its statuses.
 - Outside events: each is recorded as soon as it is due and those before it are recorded. It counts as an entry, with a
   journal and without one.
+- Outside texts: the first fault is reported, and there are at most 4,096 lines.
+- Budgets: a run that reaches all four, and for each budget a text with no run that reaches it.
 - Large runs: 65,535 subtasks, and a text of 1,048,576 bytes, by 4 workers.
 Expected answers were worked out by hand from the rules.  The last line is `N passed, M failed`, of runs.
 """
@@ -81,12 +84,52 @@ class Folder:
         status, printed, told = self.says(*words)
         return status, printed, told != ""
 
+    def names_all(self, words, names):
+        """Returns the status, what is printed, and which of these names the text on standard error lacks."""
+        status, printed, told = self.says(*words)
+        return status, printed, [it for it in names if it not in told]
+
     def read(self, name):
         with open(os.path.join(self.path, name)) as file:
             return file.read()
 
     def names(self):
         return sorted(os.listdir(self.path))
+
+
+# Words that ask for nothing, and what the message says of them.
+MISTAKES = [
+    ("plain text", ["<TRACE>", "Usage"]),
+    ("replay text", ["<TRACE>", "Usage"]),
+    ("verify text trace", ["'trace'", "Usage"]),
+    ("play text", ["'play'", "Usage"]),
+    ("frobnicate", ["'frobnicate'", "Usage"]),
+    ("help frobnicate", ["'frobnicate'"]),
+    ("--", ["Usage"]),
+    ("list", ["<FILE>", "Usage"]),
+    ("verify text --workers", ["'--workers'", "Usage"]),
+    ("run text", ["--workers <N>", "Usage"]),
+    ("run text --workers", ["--workers <N>"]),
+    ("run text --workers 1 --workers 2", ["--workers <N>", "Usage"]),
+    ("run --workers 1", ["<FILE>", "Usage"]),
+    ("run text other --workers 1", ["'other'", "Usage"]),
+    ("run text --workers 1 --outside", ["--outside <FILE>"]),
+    ("run text --workers 1 --trace", ["--trace <FILE>"]),
+]
+OF_PROGRAM = ["sts", "verify", "list", "plain", "replay", "run", "prints budgets", "standard input"]
+OF_VERIFY = ["sts verify", "FILE", "the text of a program", "prints budgets"]
+# Words that ask for help, and what it has.
+HELPS = [
+    ("--help", OF_PROGRAM),
+    ("-h", OF_PROGRAM),
+    ("help", OF_PROGRAM),
+    ("help verify", OF_VERIFY),
+    ("verify --help", OF_VERIFY),
+    ("list -h", ["sts list", "FILE", "the text of a program", "Prints the program as the assembler"]),
+    ("plain --help", ["sts plain", "FILE", "TRACE", "`step N`", "`expire N`", "prints the result"]),
+    ("replay --help", ["sts replay", "FILE", "TRACE", "without checks"]),
+    ("run --help", ["sts run", "FILE", "--workers <N>", "from 1 to 16", "--outside <FILE>", "`at N interrupt T`", "--trace <FILE>", "with N threads"]),
+]
 
 
 def words_of_sts(sts):
@@ -100,10 +143,15 @@ def words_of_sts(sts):
         yield f"{10 + len(more)} words", (status, printed, "x1" in told, sts.names()), (2, "", True, ["outside", "text"])
     for words in (["verify", "text"], ["list", "text"], ["plain", "text", "trace"], ["replay", "text", "trace"]):
         yield f"a word too many: {words}", sts.tells(*words, "text"), (2, "", True)
-    for count in ("0", "17", "-1", "+1", "1.0", "", " 1", "four", "18446744073709551617"):
-        yield f"{count!r} workers", sts.tells("run", "text", f"--workers={count}"), (2, "", True)
-    for count in ("1", "16"):
+    for count in ("0", "17", "-1", "+1", "1.0", "", " 1", "1 ", "x", "four", "4294967297", "18446744073709551617"):
+        named = sts.names_all(["run", "text", f"--workers={count}"], ["--workers <N>", "expected a number from 1 to 16"])
+        yield f"{count!r} workers", named, (2, "", [])
+    for count in ("1", "16", "016"):
         yield f"{count} workers", sts.says("run", f"--workers={count}", "text"), (0, f"{BUDGETS}success 7\nsteps 2\n", "")
+    for words, names in MISTAKES:
+        yield f"{words!r}", sts.names_all(words.split(), names), (2, "", [])
+    for words, names in HELPS:
+        yield f"{words!r}", sts.names_all(words.split(), names), (0, "", [])
     yield from mistaken(sts, [["verify"], ["list"], ["plain", "text"], ["replay", "text"], ["run", "text"], ["run", "--workers", "1"], ["view"], [""]])
     yield from helped(sts, ["verify", "list", "plain", "replay", "run"])
 
@@ -284,6 +332,84 @@ def dues_of_sts(sts):
         yield f"the journal of {short!r}", sts.read("journal"), events
 
 
+# Outside texts with a fault, and what is printed.
+FAULTY = [
+    ("at 01 expire 0\n", "error T2 line 1\n"),
+    ("at 0 expire x\n", "error T2 line 1\n"),
+    ("at 0 step 0\n", "error T1 line 1\n"),
+    ("at 0  expire 0\n", "error T1 line 1\n"),
+    ("at 0 expire 0 \n", "error T1 line 1\n"),
+    ("step 0\n", "error T1 line 1\n"),
+    ("at 0 expire 0\nat 0 expire 0", "error T3\n"),
+    # the first fault counts
+    ("at 0 expire 4294967295\nat 0 expire 4294967296\nstep 0\n", "error T2 line 2\n"),
+    # there are at most 4,096 lines
+    ("at 0 expire 0\n" * 4096 + "x", "error T3\n"),
+    ("at 0 expire 0\n" * 4097, "error T1 line 4097\n"),
+]
+
+
+def outside_texts_of_sts(sts):
+    """Yields the same of outside texts with a fault, and of one that is as long as one may be."""
+    words = ["run", "text", "--workers", "1", "--outside", "due"]
+    for text, printed in FAULTY:
+        sts.has(text=SEVEN, due=text)
+        yield f"an outside text, {text[:40]!r} ..", sts.says(*words), (3, printed, "")
+    sts.has(text=SEVEN, due="at 0 expire 0\n" * 4095 + "at 0 interrupt 4294967295\n")
+    yield "4,096 outside lines", sts.says(*words, "--trace", "journal"), (0, f"{BUDGETS}success 7\nsteps 2\n", "")
+    journal = "expire 0\n" * 4095 + "interrupt 4294967295\nstep 0\nstep 0\n"
+    yield "their journal", sts.read("journal") if "journal" in sts.names() else "", journal
+
+
+# Each `close` comes while a subtask lives, since the `join` before it is interrupted, so it takes both its steps.  Once the two
+# leaves have bound their key, all tasks, scopes and bindings count at once.
+# A leaf has 5 steps.  A subtask has 1 for `open`, 1 and 5 for `fork`, 1 for `join`, 1 for `push`, 2 for `close` and 1 for
+# `ret`, which are 12.  `main` has 1, twice 1 and 12, 1, 1, 2 and 1, which are 32.
+ALL_AT_ONCE = "func leaf 0 / push 5 / bind 1 / unbind / push 7 / ret / end / " \
+    "func kid 0 / open s1 awaitall / fork s1 leaf _ / join s1 - - intr / push 0 / close s1 / ret / intr: / push 1 / close s1 / ret / end / " \
+    "func main 0 / open s0 awaitall / fork s0 kid _ / fork s0 kid _ / join s0 - - intr / push 0 / close s0 / ret / " \
+    "intr: / push 1 / close s0 / ret / end"
+# A text, the steps of a run in short (`0*3` is three steps of the root, `i0` an interrupt of it), the budgets of `main`, and
+# the steps of the run and the most tasks, scopes and bindings that count at once in it.
+COSTS = [
+    # the two leaves bind their key; the root is interrupted, and all end, the root last
+    (ALL_AT_ONCE, "0*3 1*2 2*2 3*2 4*2 i0 0*3 1*3 2*3 3*3 4*3 1*2 2*2 0*2", (32, 5, 3, 2), (32, 5, 3, 2)),
+    # the instructions behind `jz` are skipped
+    ("func main 0 / push 0 / jz on / push 1 / pop / on: / push 7 / ret / end", "0*4", (6, 1, 0, 0), (4, 1, 0, 0)),
+    ("func kid 0 / push 0 / ret / end / func main 0 / open s0 awaitall / push 0 / jz on / fork s0 kid _ / on: / join s0 - - intr / "
+     "push 7 / close s0 / ret / intr: / push 0 / close s0 / ret / end", "0*7", (11, 2, 1, 0), (7, 1, 1, 0)),
+    ("func main 0 / push 0 / jz on / open s0 awaitall / join s0 - - intr / close s0 / jmp on / intr: / close s0 / on: / push 7 / ret / end",
+     "0*4", (9, 1, 1, 0), (4, 1, 0, 0)),
+    ("func main 0 / push 0 / jz on / push 5 / bind 1 / unbind / on: / push 7 / ret / end", "0*4", (7, 1, 0, 1), (4, 1, 0, 0)),
+]
+
+
+def counted(view):
+    """Returns how many tasks, scopes and bindings count in a full view: the tasks of scopes that aren't closed, and the root.
+
+    A view shows what a task reads, whoever bound it: in COSTS no task reads what another one bound.
+    """
+    lines = [it.split() for it in view.splitlines()]
+    scopes = [it[1] for it in lines if it[:1] == ["scope"] and it[5] != "closed"]
+    tasks = [it for it in lines if it[:1] == ["task"] and it[3] in ["-", *scopes]]
+    return len(tasks), len(scopes), sum(len(it) - 1 for it in lines if it[:1] == ["bound"])
+
+
+def costs_of_runs(sts, look):
+    """Yields the same of budgets that are reached, and of some that no run reaches."""
+    for short, steps, budgets, run in COSTS:
+        text = "".join(f"{it}\n" for it in short.split(" / "))
+        trace = "".join(f"interrupt {it[1:]}\n" if it[0] == "i" else f"step {it[0]}\n" * int(it[2:]) for it in steps.split())
+        sts.has(text=text, trace=trace)
+        printed = sts.says("verify", "text")[1].splitlines()
+        found = tuple(int(it.split()[2]) for it in printed if it.startswith("main "))
+        yield f"the budgets of {short[:60]!r}", found, budgets
+        views = look.says("view", "text", "trace", "--each", "--full")[1].split("\nafter ")
+        peaks = [max(it) for it in zip(*map(counted, views))]
+        ended = [it for it in views[-1].splitlines() if it.startswith(("success ", "steps "))]
+        yield f"the costs of a run of {short[:60]!r}", (len(ended), ended[1:], peaks), (2, [f"steps {run[0]}"], list(run[1:]))
+
+
 def large_runs_of_sts(sts):
     """Yields the same of as many subtasks as a scope may have, in a text that is as long as one may be."""
     sts.has(text=WIDE + ";" * (MOST - len(WIDE) - 1) + "\n")
@@ -316,9 +442,9 @@ def files_of_look(look):
     yield from files(look, "look", [["explain", "text"]], [[it, "text", "trace"] for it in ("view", "explain", "draw")])
 
 
-OF_STS = [words_of_sts, names_of_sts, outputs_of_sts, dues_of_sts, large_runs_of_sts, files_of_sts]
+OF_STS = [words_of_sts, names_of_sts, outputs_of_sts, dues_of_sts, outside_texts_of_sts, large_runs_of_sts, files_of_sts]
 OF_LOOK = [words_of_look, names_of_look, outputs_of_look, files_of_look]
-OF_BOTH = [dashed_names]
+OF_BOTH = [dashed_names, costs_of_runs]
 PARTS = [it.__name__ for it in (*OF_STS, *OF_LOOK, *OF_BOTH)]
 
 
