@@ -10,7 +10,8 @@ For n = 1, 2, .. until nothing is refused any more:
   If it was the line on standard error that says why a text or an outside text is refused, the right answer.
 The right answer of `look draw` is what it draws if nothing is refused: another script compares that.
 A run by workers says `error threads` if the start of a worker was refused. It may say this if the refused memory was for
-such a start, and never otherwise. It starts as many workers as it is asked for, with a journal and without.
+such a start, and never otherwise. It starts as many workers as it is asked for, with a journal and without. Where one isn't
+started, the others stop: in a program of 480,052 steps this takes less than half the processor time of a whole run.
 Then all reads and writes take one byte at a time. And the output is full, closed, or read by nobody: status 6.
 Then single calls are tried with refused memory, by the program CALLS (tests_alloc), which prints what each answers:
 - each call that leads to the one that is tried, and this one, finds no memory in turn; otherwise the answer is right;
@@ -327,6 +328,17 @@ class Refusing:
         return (done.stdout, done.returncode), refused
 
 
+    def cost(self, case, refuse):
+        """What is printed and the status, and the processor seconds that the run took."""
+        around = {"LD_PRELOAD": self.library, "REFUSE": refuse}
+        begun = subprocess.Popen([self.program, *case.words], stdin=subprocess.DEVNULL, stdout=subprocess.PIPE, cwd=self.folder, env=around)
+        printed = begun.stdout.read()
+        begun.stdout.close()
+        _, status, used = os.wait4(begun.pid, 0)
+        begun.returncode = os.waitstatus_to_exitcode(status)
+        return (printed, begun.returncode), used.ru_utime + used.ru_stime
+
+
 def told_of(what, told):
     """The two numbers of each line of `count` of this kind: `write` or `thread`."""
     rows = [it.split() for it in told.decode().splitlines()]
@@ -385,6 +397,23 @@ def workers(refusing, case):
             yield answer in right_answers(case) and found == count, f"{count} workers {journal}", (answer, found)
 
 
+# A `main` of 480,052 steps.  Each third of them asks whether its task was interrupted, which a worker does under the lock.
+LONG = "func main 0 / push 16 / times 16 / push 10000 / times 10000 / interrupted / pop / next / next / push 0 / ret / end"
+OF_LONG = "main steps 480052 / main tasks 1 / main scopes 0 / main binds 0 / success 0 / steps 480052"
+
+
+def stops(refusing):
+    """Yields whether a run ends early if its last worker isn't started, with a journal and without one."""
+    for words in (["run", "text", "--workers", "3"], ["run", "text", "--workers", "3", "--trace", "journal"]):
+        case = Case("a long run", words, lines(LONG), None, lines(OF_LONG), 0)
+        refusing.put(case)
+        whole, refused = ([refusing.cost(case, it) for _ in range(5)] for it in ("", "thread:3"))
+        answers = {it for it, _ in whole}, {it for it, _ in refused}
+        least = [min(seconds for _, seconds in it) for it in (whole, refused)]
+        right = answers == ({(case.answer, 0)}, {NO_THREADS}) and 2 * least[1] < least[0]
+        yield right, f"a worker that isn't started: {words}", (answers, least)
+
+
 def outputs(refusing, case):
     """Yields the same for one byte at a time, and for an output that is full, closed, or read by nobody."""
     answer, _ = refusing.run(case, "short")
@@ -408,6 +437,8 @@ def tried(refusing, case):
         yield from refusals(refusing, case, "thread")
     if case.words == ["run", "text", "--workers", "3"]:
         yield from workers(refusing, case)
+    if case.name == "verify: two subtasks":
+        yield from stops(refusing)
 
 
 def without_memory(call, answer):

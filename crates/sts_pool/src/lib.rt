@@ -13,6 +13,3 @@ pub use book::{Book, OutsideFull, Stranger};
 pub use gate::{Gate, Outside};
 pub use report::{Ending, PoolError, Report};
 pub use workers::{run, run_unwritten};
-
-#[cfg(test)]
-mod tests;

@@ -22,24 +22,6 @@ const FORK: Instr = Instr::Fork {
 /// Returns 0.
 pub const RETURNS: Code = &[Instr::Push(0), Instr::Ret];
 
-/// Forks the child once.
-pub const FORKS: Code = &[
-    OPEN,
-    FORK,
-    Instr::Join {
-        slot: 0,
-        failed: None,
-        timeout: None,
-        interrupted: 6,
-    },
-    Instr::Close(0),
-    Instr::Push(1),
-    Instr::Ret,
-    Instr::Push(0),
-    Instr::Close(0),
-    Instr::Fail,
-];
-
 /// 1000 turns of a scope with one subtask.
 pub const SCOPE_IN_A_LOOP: Code = &[
     Instr::Push(1000),

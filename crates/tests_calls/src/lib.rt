@@ -1,10 +1,7 @@
-//! Tests of single calls, for what no row can say. They test readers of texts, traces and command
-//! lines, the verifier, lists, environments and births. They also test the tree of records, the
-//! store, and the machine that tests nothing.
+//! Tests of single calls, for what no program prints. They test lists, environments, births, layouts
+//! of functions, the tree of records, the store, and the machine that tests nothing.
 #![tactic(auto)]
 
-#[cfg(test)]
-mod assembled;
 #[cfg(test)]
 mod births;
 #[cfg(test)]
@@ -22,16 +19,6 @@ mod layouts;
 #[cfg(test)]
 mod lists;
 #[cfg(test)]
-mod reached;
-#[cfg(test)]
 mod rows;
 #[cfg(test)]
-mod runs;
-#[cfg(test)]
 mod standing;
-#[cfg(test)]
-mod traces;
-#[cfg(test)]
-mod verdicts;
-#[cfg(test)]
-mod words;

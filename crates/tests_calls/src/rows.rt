@@ -1,25 +1,10 @@
 //! Texts of worked rows.
 
-/// Seven.
-pub const SEVEN: &str = "func main 0\npush 7\nret\nend\n";
-
 /// Two subtasks double 20 and 1, and `main` adds up.
 pub const DOUBLES: &str = "\
     func work 1\nload 0\npush 2\nmul\nret\nend\n\
     func main 0\nopen s0 all\npush 20\nfork s0 work s1\npush 1\nfork s0 work s2\n\
     join s0 bad - intr\npop\nget s1\nget s2\nadd\nclose s0\nret\n\
-    bad:\nclose s0\nfail\n\
-    intr:\npush 0\nclose s0\nfail\nend\n\
-";
-
-/// One subtask fails while a second waits for a leaf of its own.
-pub const BOOM: &str = "\
-    func leaf 0\ninterrupted\njz calm\npush 1\npush 1\nret\ncalm:\npush 0\nret\nend\n\
-    func boom 0\npush 8\nfail\nend\n\
-    func mid 0\nopen s1 awaitall\nfork s1 leaf _\njoin s1 - - intr\npush 1\nclose s1\nret\n\
-    intr:\ncancelled s1\nclose s1\nret\nend\n\
-    func main 0\nopen s0 awaitok\nfork s0 mid _\nfork s0 boom _\njoin s0 bad - intr\n\
-    close s0\npush 0\nret\n\
     bad:\nclose s0\nfail\n\
     intr:\npush 0\nclose s0\nfail\nend\n\
 ";
