@@ -96,7 +96,7 @@ def workers(program, at, base):
 
 def growth(program, at, base):
     """Rows of programs with 1, 2, 4 and 8 times the work, and the memory that a run takes."""
-    print(f"\n{'plain, so many times the work':38}{'ms':>9}{'MiB':>9}")
+    print(f"\n{'plain, times the work':38}{'ms':>9}{'MiB':>9}")
     for name, times in itertools.product(("chain", "last_of_many", "fifties", "never_run"), (1, 2, 4, 8)):
         command = [program, "plain", at(f"{name}{times}.sts"), at(f"{name}{times}.trace")]
         seconds, _ = least_seconds(command)

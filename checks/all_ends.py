@@ -1,12 +1,12 @@
 #!/usr/bin/env python3
-"""Finds every end that a program can come to, over all schedules.  usage: all_ends.py FILE [options]
+"""Finds every end that a program can reach, over all schedules.  usage: all_ends.py FILE [options]
 
 The search is exhaustive over the machine of plain_machine.py. Local instructions run on at once: what they do depends on
 no other task, and no other task sees it. It prints each end of the root task or fault, and below them how many states it
-saw; status 5 if it stopped before it had seen all.
+saw. The status is 5 if it stopped before it had seen all.
 
 `--fine` gives the end of a subtask the steps that it has in JDK 25: it looks whether its scope is cancelled and sets its
-state, tells the joiner, marks the scope, interrupts one sibling after the other, and ends. A `join` that finds both a
+state, tells the joiner, marks the scope, interrupts its siblings in turn, and ends. A `join` that finds both a
 result and the flag of its owner may then have either outcome.
 """
 import argparse
@@ -77,7 +77,7 @@ class FineMachine(plain_machine.Machine):
             self.cancel_by(number, self.scopes[place])
 
     def is_to_cancel_now(self, scope):
-        """Does the joiner say so of the end that it was told last?"""
+        """Does the last end make the joiner cancel its scope?"""
         before = scope.told.pop()
         was = self.is_to_cancel(scope)
         scope.told.append(before)
@@ -166,7 +166,7 @@ def main():
     reads = argparse.ArgumentParser(description="Finds every end that a program can come to.")
     reads.add_argument("file")
     reads.add_argument("--expiries", action="store_true", help="scopes with a timeout may expire at any time")
-    reads.add_argument("--interrupts", type=int, default=0, help="at most so many interrupts from outside (0)")
+    reads.add_argument("--interrupts", type=int, default=0, help="the most interrupts from outside (0)")
     reads.add_argument("--most", type=int, default=1_000_000, help="the states after which it stops (1000000)")
     reads.add_argument("--fine", action="store_true", help="the end of a subtask has the steps that it has in JDK 25")
     asked = reads.parse_args()

@@ -21,7 +21,7 @@ def said(program, mode, *paths):
 
 
 def whole_from(text):
-    """Where the last `end` that stands alone on its line ends, comments aside."""
+    """The position after the last `end` that has a line to itself, without comments."""
     at = whole = 0
     for line in text.splitlines(keepends=True):
         if line.split(b";")[0].split() == [b"end"]:

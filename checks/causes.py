@@ -1,4 +1,4 @@
-"""The refused texts that the documents show, each with the same text mended.
+"""The refused texts that the documents show, each with the accepted text that mends it.
 
 A block "```diff" has both: a line with `-` is only in the refused text, and a line with `+` only in the accepted one. A
 comment `; 9 times` stands for that many lines, and `; 9 times, with the line above` for that many pairs of lines. Below a
@@ -38,7 +38,7 @@ def whole(lines):
 
 
 def pairs(path):
-    """Yields each refused text of a document, with its mended form."""
+    """Yields each refused text of a document, with its accepted form."""
     with open(f"{ROOT}/{path}") as file:
         page = file.read()
     for found in SHOWN.finditer(page):

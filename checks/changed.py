@@ -1,5 +1,5 @@
 #!/usr/bin/env python3
-"""Proves and tests the crates that changed since a revision and those above them, and tries the must-fail edits of the changed ones.
+"""Proves and tests the crates that changed since a revision, and those above them. Tries the must-fail edits of the changed ones.
 
     checks/changed.py REV
 
@@ -21,7 +21,7 @@ def changed_since(revision, names):
 
 
 def said(words, folder):
-    """Runs a command and returns whether it went well; what it said is shown only where it didn't."""
+    """Runs a command and returns whether it succeeded. Its output is shown only if it failed."""
     ran = subprocess.run(words, cwd=folder, stdin=subprocess.DEVNULL, stdout=subprocess.PIPE, stderr=subprocess.STDOUT, text=True)
     if ran.returncode:
         print("\n".join(ran.stdout.rstrip().split("\n")[-20:]))

@@ -330,14 +330,14 @@ def differences(program, text, events, workers, due):
     if replay != want:
         yield f"replay says {replay}, wanted {want}"
     if verdict.status == ACCEPTED and plain.text.startswith("fault"):
-        yield f"an accepted program comes to a fault: {plain}"
+        yield f"an accepted program faults: {plain}"
     if verdict.status == ACCEPTED and steps_of(plain) > budget_of(verdict):
         yield f"more steps than the budget: {plain}, {verdict}"
     yield from misrun(program, text, workers, due, verdict)
     listed = program.says("list", text)
     if verdict.status == BAD_TEXT:
         if not listed == plain == verdict:
-            yield f"a fault of the text is told otherwise: {listed}, {plain}, {verdict}"
+            yield f"a fault of the text is reported otherwise: {listed}, {plain}, {verdict}"
         return
     if program.says("list", listed.text) != listed:
         yield "a listing isn't listed as itself"

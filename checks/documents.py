@@ -9,22 +9,29 @@ Each text and output of docs/LANGUAGE.md, docs/VERIFIER.md, docs/PATTERNS.md and
 (checks/shown.py has the commands of README.md and docs/TUTORIAL.md):
 
 - a block of LANGUAGE.md with a comment `<!-- run: TEXT ? ASKED = STATUS LINES -->` above it, where `@` stands for the
-  block, and what is asked is `verify`, `list` or a trace (`0*5` is five steps of task 0, `i0` an interrupt, `x0` an
-  expiry); where nothing is said of `verify` it accepts the text; a block that is no example begins with "```text";
-- a line of its table of faulty lines, each of which is line 2 of a text;
+  block, and ASKED is `verify`, `list` or a trace (`0*5` is five steps of task 0, `i0` an interrupt, `x0` an expiry). If
+  `verify` isn't asked for, it accepts the text. A block that is no example begins with "```text";
+- a line of its table of faulty lines; each of them is line 2 of a text;
 - a block "```diff" of VERIFIER.md or PATTERNS.md, which has a refused text and the same text mended (checks/causes.py), and
   what PATTERNS.md says below a block: "Without `LINE`: `refused ..`";
-- a block of PATTERNS.md, which is accepted, with each trace of the table below it, written short (checks/runs.py has what
-  comes by workers, and what comes of files whose bytes no row can hold);
+- a block of PATTERNS.md, which is accepted, with each trace of the table below it, written short (checks/runs.py has the runs
+  with workers, and the files with bytes that no row can hold);
 - each command of examples/README.md, with the files that it names.
 
-It also says where a document names a file that isn't there, where LANGUAGE.md lacks an instruction or a cause of one, where
-PROOFS.md names a function or a clause that its file doesn't have, where a document shows a line of a contract that no source
-has or a part of a program that no example has, where an example isn't shown or says that it prints something else, where no
-document names a refused text of `examples`, where a Java program is shown otherwise than it is, where the figures of JDK.md
-aren't those of a run of jdk/check.py, where README.md counts its differences otherwise, where a picture isn't what its script
-draws, where a crate uses proofs of another one from a file that isn't called `*Lemmas`, where the floors of ARCHITECTURE.md
-don't fit crates.txt, and where the README.md of a crate doesn't name its edits, the crates that it uses, or those that use it.
+It also reports:
+
+- a document that names a file that isn't there, or shows a line of a contract that no source has, or a part of a program
+  that no example has;
+- an instruction, or a cause of one, that LANGUAGE.md lacks;
+- a function or a clause that PROOFS.md names and that its file doesn't have;
+- an example that isn't shown, or says that it prints something else;
+- a refused text of `examples` that no document names;
+- a Java program that isn't shown as it is;
+- figures of JDK.md that aren't those of a run of jdk/check.py, or a wrong count of its differences in README.md;
+- a picture that isn't what its script draws;
+- a crate that uses proofs of another one from a file that isn't called `*Lemmas`;
+- floors of ARCHITECTURE.md that don't fit crates.txt;
+- a README.md of a crate that doesn't name its edits, the crates that it uses, or those that use it.
 """
 import functools
 import itertools
@@ -168,8 +175,8 @@ def commands(path):
 
 
 def programs(path):
-    """Returns each block of a document with what is shown below it: a name, the text, of its table each (asked, printed), and
-    of each line without which it is refused (line, printed)."""
+    """Returns each block of a document with what is shown below it: a name, the text, each (asked, printed) of its table, and
+    (line, printed) for each line that it needs: without that line it is refused."""
     found, heading, lines = [], "", iter(read(path).splitlines())
     for line in lines:
         without = re.fullmatch(r"- Without `([^`]*)`: `([^`]*)`\.", line)
@@ -328,7 +335,7 @@ def named_clauses(path):
 
 
 def shown_programs(path):
-    """Fails where a document shows a part of a program that stands so in no example."""
+    """Fails if a document shows a part of a program that is in no example."""
     texts = [read(f"examples/{it}") for it in os.listdir(f"{ROOT}/examples") if it.endswith(".sts")]
     for block in re.findall(r"```text\n(.*?)```", read(path), re.S):
         if not any(block in text for text in texts):

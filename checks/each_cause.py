@@ -4,12 +4,13 @@
     checks/each_cause.py [LOOK [STS]]          compares; the last line is `N passed, M failed`
     checks/each_cause.py write [LOOK [STS]]    writes these parts of the documents
 
-Of each text: `explain` names the code that `sts` prints, with its status; `view` begins with what `sts plain` prints, with
-its status; `draw` is a well-formed picture, or says of the fault what `view` says. Of each cause V1 to V20: `view` and
-`explain` with a trace say what the plain machine comes to, by the rules of docs/BEHAVIOUR.md. Of each example: `view`
-begins with what examples/README.md shows, `explain` says that it is accepted, and with the trace how it ends, with no task
-that lives.
-docs/VERIFIER.md shows below the text of each cause what `explain` prints, what the plain machine comes to, and the
+For each text, `explain` names the code that `sts` prints, with its status. `view` begins with what `sts plain` prints, with
+its status. `draw` is a well-formed picture, or says about the fault what `view` says. For each cause V1 to V20, `view` and
+`explain` with a trace say what the plain machine does, by the rules of docs/BEHAVIOUR.md. For each example, `view` begins
+with what examples/README.md shows. `explain` says that it is accepted, and with the trace how it ends, with no task that
+lives.
+
+docs/VERIFIER.md shows below the text of each cause what `explain` prints, what the plain machine does, and the
 sentences of the other rows of this cause (the remedies in crates/tests_look/src/explanations/verdicts.rt: they are written by hand, and are
 tests). docs/PATTERNS.md shows what `explain` prints of its refused texts, and docs/LANGUAGE.md the sentence of each code.
 """
@@ -136,7 +137,7 @@ def listed_codes():
 
 def listed():
     """Returns the codes of LANGUAGE.md, and the faults of BEHAVIOUR.md, that a text or a trace can be made for: those of A9
-    are C1 to C7, and A10 and T4 are want of memory."""
+    are C1 to C7, and A10 and T4 mean that memory ran out."""
     faults = re.findall(r"^\d\. \*(\w+)\*:", read("docs/BEHAVIOUR.md"), re.M)
     return {*listed_codes(), *faults} - {"A9", "A10", "T4"}
 
@@ -199,7 +200,7 @@ def looked_at(look, sts, folder, case):
 
 
 def example_at(look, text, steps, printed):
-    """Returns what is compared of an example, of which this is printed by `plain`."""
+    """Returns what is compared of an example; `plain` prints this of it."""
     root, name = os.path.dirname(os.path.dirname(os.path.realpath(__file__))), os.path.basename(text)[:-4]
     file, steps = os.path.join(root, text), os.path.join(root, steps)
     viewed, drawn = (says(look, word, file, steps) for word in ("view", "draw"))
@@ -239,7 +240,7 @@ def renewed(look, folder, path):
         status, printed = says(look, "explain", kept(folder, "text", pair.refused.encode()))
         right += [
             (f"explain what {path} mends under {pair.heading}", status == STATUS["refused"]),
-            (f"explain it mended, {pair.heading}", says(look, "explain", kept(folder, "text", pair.accepted.encode()))[1].startswith("accepted\n")),
+            (f"explain the accepted text, {pair.heading}", says(look, "explain", kept(folder, "text", pair.accepted.encode()))[1].startswith("accepted\n")),
         ]
         code, shown = pair.heading.split(" ")[0], "\n" + re.sub("^(?=.)", "    ", printed, flags=re.M)
         if path == VERIFIER and code not in seen:

@@ -1,7 +1,7 @@
 #!/usr/bin/env python3
 """Gives the programs words and files at their edges.  usage: edges.py [PROGRAM [LOOK [PART ..]]]
 
-PROGRAM is `sts`, LOOK is `look`; each of their commands is tried where it applies. A PART is a function below, such as
+PROGRAM is `sts`, LOOK is `look`; each of their commands is tried if it applies. A PART is a function below, such as
 `dues_of_sts`; all are tried if none is named.
 - Words: all of them count, even if there are 300, and ten may be right. Words that are mistaken, are no text or ask for
   help are answered on standard error alone, with status 2 or 0. The message names the mistaken word, and help names the
@@ -80,7 +80,7 @@ class Folder:
         return status in (3, 4, 6) and told.startswith(f"{name}: ") and told.find("\n") == len(told) - 1
 
     def tells(self, *words):
-        """Returns the status, what is printed, and whether something is told."""
+        """Returns the status, the standard output, and whether there is standard error."""
         status, printed, told = self.says(*words)
         return status, printed, told != ""
 
@@ -133,7 +133,7 @@ HELPS = [
 
 
 def words_of_sts(sts):
-    """Yields what was tried, what came of it, and what is right, of the words of `sts`."""
+    """Yields each trial of the words of `sts`, its result, and the right result. So do the functions below, for other trials."""
     sts.has(text=SEVEN, outside="", trace=TWICE)
     ten = ["run", "--workers", "1", "--outside", "outside", "--trace", "journal", "--", "text"]
     yield "ten words", sts.says(*ten), (0, f"{BUDGETS}success 7\nsteps 2\n", "")
@@ -157,7 +157,7 @@ def words_of_sts(sts):
 
 
 def words_of_look(look):
-    """Yields the same of the words of `look`."""
+    """Tries the words of `look`."""
     look.has(text=SEVEN, trace="step 0\n")
     last = "running\nsteps 1\ntask 0 under - in main at 1 ready\n"
     full = f"{last}  operands 7\n  locals\n  bound\n"
@@ -175,14 +175,15 @@ def words_of_look(look):
 
 
 def mistaken(program, lines):
-    """Yields the same of words that are mistaken, and of one that is no text."""
+    """Tries words that are mistaken, and one that is no text."""
     for words in lines:
         yield f"mistaken: {words}", program.tells(*words), (2, "", True)
     yield "a word that is no text", program.says("list", b"\xff"), (2, "", NOT_TEXT)
 
 
 def helped(program, commands, is_printed=False):
-    """Yields the same where help is asked for: of each command it says which words follow. `look` prints it, `sts` tells it."""
+    """Tries calls for help. For each command the help says which words follow. `look` writes it to standard output, `sts` to
+    standard error."""
     for command in [None, *commands]:
         words = [command, "--help"] if command else ["--help"]
         status, printed, told = program.says(*words)
@@ -192,7 +193,7 @@ def helped(program, commands, is_printed=False):
 
 
 def files(program, name, texts, traces):
-    """Yields what was tried, what came of it, and what is right, of files that are missing, and of a text too long."""
+    """Tries files that are missing, and a text that is too long."""
     for words in [*texts, *traces]:
         program.has(trace=TWICE)
         yield f"no FILE: {name} {words}", program.says(*words), NO_FILE
@@ -214,7 +215,7 @@ NAMES = [" text", "text ", "\ttext", "text\n", " ", "t\u00e9xt", "a=b", "'text'"
 
 
 def names_of_sts(sts):
-    """Yields the same of names that are taken as they are."""
+    """Tries names that are taken as they are."""
     decoys = {"text": POPS, "trace": "", "journal": "kept\n"}
     for name in NAMES:
         sts.has(**decoys, **{name: SEVEN})
@@ -233,11 +234,11 @@ def names_of_sts(sts):
         there = sorted([*decoys, name, "seven", made])
         journal = sts.read(made) if sts.names() == there else None
         yield f"its journal, {made!r}", (sts.names(), journal), (there, "interrupt 5\nstep 0\ninterrupt 6\nstep 0\n")
-        yield f"the file beside it, {made!r}", sts.read("journal"), "kept\n"
+        yield f"the file next to it, {made!r}", sts.read("journal"), "kept\n"
 
 
 def names_of_look(look):
-    """Yields the same of `look`."""
+    """Tries names that are taken as they are, with `look`."""
     for name in NAMES:
         look.has(text=POPS, trace="", **{name: SEVEN})
         yield f"explain {name!r}", look.says("explain", name), (0, "accepted\n", "")
@@ -271,7 +272,7 @@ EXPLAINED = [
 
 
 def outputs_of_look(look):
-    """Yields the same of what the commands of `look` print, and of each status."""
+    """Tries the output of the commands of `look`, and each status."""
     for text, trace, printed, status in VIEWS:
         look.has(text=text, trace=trace)
         yield f"view of {text!r} {trace!r}", look.says("view", "text", "trace"), (status, printed, "")
@@ -288,7 +289,7 @@ def outputs_of_look(look):
 
 
 def outputs_of_sts(sts):
-    """Yields the same of what `sts` prints of these runs, by files and by one input."""
+    """Tries the output of `sts` for these runs, with files and with one input."""
     for text, trace, printed, status in VIEWS:
         sts.has(text=text, trace=trace)
         plain = "".join(printed.splitlines(True)[:2])
@@ -304,7 +305,7 @@ DUES = [
     ("at 4 interrupt 0", 1, "s s s s 0 s s s s s s"),
     ("at 7 interrupt 0", 1, "s s s s s s s 0 s s s"),
     ("at 8 interrupt 0", 0, "s s s s s s s s 0 s s"),
-    # what is due when the root ends is recorded, and what is due later isn't
+    # an event that is due when the root ends is recorded, and a later one isn't
     ("at 10 interrupt 0", 0, "s s s s s s s s s s 0"),
     ("at 11 interrupt 0", 0, "s s s s s s s s s s"),
     # an event is an entry, also one that is idle
@@ -320,7 +321,7 @@ DUES = [
 
 
 def dues_of_sts(sts):
-    """Yields the same of outside texts, which one worker asks before each step."""
+    """Tries outside texts. One worker looks into them before each step."""
     for short, value, journal in DUES:
         outside = "".join(f"{it}\n" for it in short.split(" / "))
         right = 0, f"{BUDGETS.replace('2', '10')}success {value}\nsteps 10\n", ""
@@ -350,7 +351,7 @@ FAULTY = [
 
 
 def outside_texts_of_sts(sts):
-    """Yields the same of outside texts with a fault, and of one that is as long as one may be."""
+    """Tries outside texts with a fault, and one of the greatest length."""
     words = ["run", "text", "--workers", "1", "--outside", "due"]
     for text, printed in FAULTY:
         sts.has(text=SEVEN, due=text)
@@ -396,7 +397,7 @@ def counted(view):
 
 
 def costs_of_runs(sts, look):
-    """Yields the same of budgets that are reached, and of some that no run reaches."""
+    """Tries budgets that are reached, and some that no run reaches."""
     for short, steps, budgets, run in COSTS:
         text = "".join(f"{it}\n" for it in short.split(" / "))
         trace = "".join(f"interrupt {it[1:]}\n" if it[0] == "i" else f"step {it[0]}\n" * int(it[2:]) for it in steps.split())
@@ -411,7 +412,7 @@ def costs_of_runs(sts, look):
 
 
 def large_runs_of_sts(sts):
-    """Yields the same of as many subtasks as a scope may have, in a text that is as long as one may be."""
+    """Tries the most subtasks that a scope may have, in a text of the greatest length."""
     sts.has(text=WIDE + ";" * (MOST - len(WIDE) - 1) + "\n")
     for more in ([], ["--trace", "journal"]):
         yield f"a large run: {more}", sts.says("run", "text", "--workers", "4", *more), (0, OF_WIDE, "")
@@ -419,7 +420,7 @@ def large_runs_of_sts(sts):
 
 
 def dashed_names(sts, look):
-    """Yields the same of names that begin with `-`: only `-` itself, of `look`, is standard input."""
+    """Tries names that begin with `-`: only `-` itself, for `look`, is standard input."""
     names = {"-text": SEVEN, "--": SEVEN, "-e": SEVEN, "trace": TWICE}
     for name in ("-text", "--", "-e"):
         sts.has(**names)

@@ -120,7 +120,7 @@ class Drawing:
         return self.labels
 
     def body(self, size, scopes=0, entries=0, loops=0, slot=None):
-        """Draws a piece: within so many scopes, entries and loops, and with forks where a slot's scope is the last entry."""
+        """Draws a piece, inside these numbers of scopes, entries and loops. It may fork if a slot's scope is the last entry."""
         return in_turn([self.piece(size - 1, scopes, entries, loops, slot) for _ in range(self.chance.randint(1, 3))])
 
     def piece(self, size, scopes, entries, loops, slot):

@@ -1,16 +1,15 @@
 #!/usr/bin/env python3
 """Runs the built program `look` over the examples.  usage: looks.py [LOOK [STS]]
 
-- what docs/LOOK.md shows of a beginning of a trace is what `view` or `explain` prints of it, and what it shows of a
-  text what `explain` prints;
+- docs/LOOK.md shows what `view` or `explain` prints for a beginning of a trace, and what `explain` prints for a text;
 - `explain` of each example says that it is accepted, and where it relies on a rule that JDK 25 doesn't share;
 - `view` of each beginning of each example's trace begins with what `plain` of `sts` prints, with its status;
-- `explain` of each of these says with that status how the run stands, and of each task that lives in `view`, and of no
-  other, the line of the text that its place is, and for which living subtasks it waits;
-- `view --each` of the whole trace is `view` of each beginning in turn, behind a line `after N EVENT` for each event,
+- `explain` of each of these says the state of the run, with that status. For each task that lives in `view`, and for no
+  other, it says the line of its place, and which living subtasks it waits for;
+- `view --each` of the whole trace is `view` of each beginning in turn, after a line `after N EVENT` for each event,
   with `--full` and without;
-- `draw` of each example is well formed, has the status and the heading of `plain`, a lane for each task and a column
-  for each event that was told by `view --each`, and the same bytes a second time;
+- `draw` of each example is well formed, and has the same bytes a second time. It has the status and the heading of
+  `plain`, a lane for each task, and a column for each event that `view --each` shows;
 - the stored pictures are what `draw` prints.
 The last line is `N passed, M failed`, of comparisons.
 """
@@ -69,7 +68,7 @@ def instructions(source):
 
 
 def place_words(source, name, pc):
-    """Returns how a place of a function is told by the lines of the text."""
+    """Returns how a place of a function is named by a line of the text."""
     lines = instructions(source)[name]
     return f"{name}, line {lines[pc][0]}: {lines[pc][1]}" if pc < len(lines) else f"{name}, at its end"
 

@@ -1,5 +1,5 @@
 #!/usr/bin/env python3
-"""Refuses what the programs ask of the system, one request after the other.  usage: memory.py [PROGRAM [CALLS [LOOK]]]
+"""Refuses the requests that the programs make to the system, one at a time.  usage: memory.py [PROGRAM [CALLS [LOOK]]]
 
 Each case is a command of `sts`, the program PROGRAM, or of `look`, the program LOOK, with the answer that its rules give.
 For n = 1, 2, .. until nothing is refused any more:
@@ -36,7 +36,7 @@ BUILT = os.path.join(os.path.dirname(HERE), "crates")
 PROGRAM, CALLS, LOOK = (os.path.join(BUILT, name, "out", name) for name in ("sts", "tests_alloc", "look"))
 NO_MEMORY, NO_FILE, NO_THREADS = (b"error memory\n", 6), (b"error file\n", 6), (b"error threads\n", 6)
 
-# `others` are further answers that are right: of a run whose steps differ with the order of its tasks
+# `others` are further right answers, for a run that takes other steps in another order of its tasks
 Case = collections.namedtuple("Case", "name words text trace answer status others", defaults=[()])
 
 
@@ -94,7 +94,7 @@ REFUSED_TEXTS = [
     ("a way back", "func main 0 / x: / jmp x / end", "refused V4 in main at 0: jmp L0", 4),
     ("an unknown word", "func main 0 / puhs 7 / ret / end", "error A2 line 2", 3),
 ]
-# of each function its name, and the most steps, tasks, scopes and bindings; and how the root ends with no event from outside
+# for each function its name, and the most steps, tasks, scopes and bindings; and how the root ends with no event from outside
 ROWS = {
     "two subtasks": ("work 4 1 0 0 / main 21 3 1 0", "success 42"),
     "a timeout": ("kid 2 1 0 0 / main 9 2 1 0", "success 1"),
@@ -104,7 +104,7 @@ ROWS = {
 }
 # no task of a text that is run with these has the first number, and no scope the second: they change nothing
 DUES = "at 0 interrupt 7777 / at 3 expire 7777"
-# How a run by workers ends, and its steps: as many in whichever order the tasks are taken, but for "a failure". There `main`
+# How a run by workers ends, and its steps. Their number is the same in any order of the tasks, except for "a failure". There `main`
 # takes 5 steps and 1 or 2 of its `close`, `boom` 2, `mid` 5 and 1 or 2 of its `close`, and the leaf 4 or 5.
 ENDS = {
     "two subtasks": ("success 42", [20]),
@@ -232,7 +232,7 @@ def picture(look, text, trace):
 
 
 def routines(text):
-    """Of each function its head, its instructions, and the place of each label."""
+    """The head of each function, its instructions, and the place of each label."""
     for routine in text.split("func ")[1:]:
         head, *body = [it.strip() for it in routine.split(" / ")]
         code, places = [], {}
@@ -442,7 +442,7 @@ def tried(refusing, case):
 
 
 def without_memory(call, answer):
-    """Which call found no memory, by what is printed; none where that is no answer to a refusal."""
+    """The call that found no memory, by the output; none if that is no answer to a refusal."""
     of_last = UNCHANGED if call.leads[-1] in ("verify", "apply") else b""
     if of_last and answer == (of_last + call.case.answer, 0):
         return call.leads[-1]

@@ -1,7 +1,7 @@
 """The rules of docs/BEHAVIOUR.md as a machine in Python, written from that page and apart from the crates.
 
-A Machine takes events one by one and prints how it stands in the lines of `look view`. Each rule that another runtime of
-scopes may have otherwise is a method of its own, so that a machine with another rule is a subclass with that method.
+A Machine takes events one by one and prints its state in the lines of `look view`. If another runtime of scopes may have
+another rule, the rule is a method of its own. So a machine with another rule is a subclass with that method.
 """
 import stack_code
 
@@ -150,7 +150,7 @@ class Machine:
         return not scope.cancelled
 
     def is_to_cancel(self, scope):
-        """Does the joiner cancel the scope after the ends that it was told?"""
+        """Does the joiner cancel the scope after these ends?"""
         kind, bound = scope.joiner.kind, scope.joiner.bound
         failed = sum(it[1] == "failed" for it in scope.told)
         values = [it[2] for it in scope.told if it[1] == "success"]
@@ -512,7 +512,7 @@ class Machine:
     # ---- how it stands, in the lines of `look view`
 
     def root_end(self):
-        """Returns the first line: how the run stands."""
+        """Returns the first line: the state of the run."""
         if self.fault:
             kind, number, pc = self.fault
             return f"fault {kind} task {number} in {self.program.functions[self.tasks[number].function].name} at {pc}"

@@ -1,11 +1,11 @@
 #!/usr/bin/env python3
 """Runs the commands with workers that the documents show, on the built program.  usage: runs.py [PROGRAM]
 
-README.md: `run` of `sum` by 1 to 16 workers prints what `verify` prints and then the end and the steps that stand there,
-and `replay` of the journal prints these two again. examples/README.md: `deadline` with its outside events ends with
-`success 0`. LANGUAGE.md: what its first text prints. PATTERNS.md: each program comes to an end that is shown, `plain`
-and `replay` print what is shown of each trace, and files from other editors are judged as is shown. The lines for a shell
-that PATTERNS.md, LANGUAGE.md and VERIFIER.md show do what is said of them.
+README.md: `run` of `sum` by 1 to 16 workers prints what `verify` prints, and then the end and the steps that README.md shows.
+`replay` of the journal prints these two again. examples/README.md: `deadline` with its outside events ends with
+`success 0`. LANGUAGE.md: what its first text prints. PATTERNS.md: each program reaches an end that is shown, `plain`
+and `replay` print what is shown for each trace, and files from other editors are judged as shown. The lines for a shell
+that PATTERNS.md, LANGUAGE.md and VERIFIER.md show do what the text says.
 
 It also runs other programs, each with a journal and without: programs of one task with outside events, whose ends and
 journals follow from when an event is due; a long loop; and a scope of 65,535 subtasks in a text of 1,048,576 bytes.

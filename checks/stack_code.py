@@ -1,7 +1,7 @@
 """Reads the text of a program (docs/LANGUAGE.md), for the scripts that run one themselves.
 
-`program(text)` returns a Program, or raises BadText where the assembler or a program check says no. It reads what such a
-script needs: which fault it is, and on which line, only `sts` tells.
+`program(text)` returns a Program, or raises BadText if the assembler or a program check refuses the text. It reads what such
+a script needs: only `sts` says which fault it is, and on which line.
 """
 import re
 from typing import NamedTuple

@@ -39,7 +39,7 @@ FAULTY = ("func main 0\npuhs 7\nret\nend\n", ("error A2 line 2\n", 3))
 
 
 def limited(closed=()):
-    """What is done in a new process before it is the program: addresses are few, and these files are closed."""
+    """Prepares a new process before it becomes the program: it limits addresses and closes these files."""
 
     def prepare():
         if "ASAN_OPTIONS" not in os.environ:
@@ -263,7 +263,7 @@ def contents(folder):
     return found
 
 
-# What the programs are tried for: each function yields what was tried, what came of it, and what is right.
+# The trials of the programs. Each function yields what was tried, its result, and the right result.
 PARTS = {
     "unended": lambda program, look, folder: unended(program, look),
     "unwritten": unwritten,

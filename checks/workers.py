@@ -1,8 +1,8 @@
 #!/usr/bin/env python3
 """Counts the threads of `run` on the built program, with a trace and with none.  usage: workers.py [PROGRAM]
 
-A program of 480,052 steps is run by 1, 3 and 16 workers. Meanwhile the process has a thread for each of them and the one
-that waits for them. A look at the process may come late, so up to five runs are tried; a run that has shown them is ended.
+A program of 480,052 steps is run by 1, 3 and 16 workers. Meanwhile the process has a thread for each of them, and one
+that waits for them. The script may look too late, so it tries up to five runs. It ends a run that has shown the threads.
 The last line is `N passed, M failed`.
 """
 import os

@@ -1,7 +1,7 @@
 #!/usr/bin/env python3
 """Prints the trace that is written short.  usage: write_trace.py WORDS
 
-`0*5` stands for five lines `step 0`, `i0` for `interrupt 0` and `x0` for `expire 0`. Words are separated by blanks.
+`0*5` means five lines `step 0`, `i0` means `interrupt 0` and `x0` means `expire 0`. Words are separated by blanks.
 """
 import re
 import sys

@@ -1,5 +1,5 @@
-"""The cases that are played: all rows that run a program, which have the examples and the patterns too, programs that are
-drawn, misuse, and journals of `sts run`."""
+"""The cases that are played: all rows that run a program (the examples and the patterns are among them), drawn programs,
+misuse, and journals of `sts run`."""
 import glob
 import os
 import random

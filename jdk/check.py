@@ -2,13 +2,13 @@
 """Compares the rules of docs/BEHAVIOUR.md with a real JDK 25.  usage: jdk/check.py [options]
 
     jdk/check.py             plays cases, runs programs freely, runs the Java examples; reports counts
-    jdk/check.py --planted   says of each of the wrong models whether the cases notice it
+    jdk/check.py --planted   says for each of the wrong models whether the cases notice it
     jdk/check.py --write     does what the first does, and writes its figures into docs/JDK.md
 
 A case is a text and a trace. The player (Player.java) plays it over the scopes of the JDK; a machine in Python
-(checks/plain_machine.py) goes through the same events; what stands is compared after each. `look view --each`, `sts plain`
-and `sts replay` are asked for a share of the cases, and have to print what that machine does. Where the player differs, the
-machine of known.py, which has the known differences of JDK 25, has to agree with it to the last event; else it is a failure.
+(checks/plain_machine.py) goes through the same events; the states are compared after each. `look view --each`, `sts plain`
+and `sts replay` are asked for a share of the cases, and have to print what that machine does. If the player differs, the
+machine of known.py, which has the known differences of JDK 25, has to agree with it to the last event. Otherwise it fails.
 
 Status 0: no failure; 1: failures; 2: usage; 3: no JDK 25 was found, so nothing was compared.
 """
@@ -176,7 +176,7 @@ def reader():
     reads.add_argument("--cases", type=int, default=7200, help="how many cases are drawn (7200)")
     reads.add_argument("--journals", type=int, default=200, help="how many runs by workers are played (200)")
     reads.add_argument("--seed", type=int, default=1, help="what the cases are drawn from (1)")
-    reads.add_argument("--share", type=int, default=10, help="look and sts are asked for one of so many rows and drawn cases (10)")
+    reads.add_argument("--share", type=int, default=10, help="look and sts are asked for one of this number of rows and drawn cases (10)")
     reads.add_argument("--free", type=int, default=400, help="how often each program is run freely (400)")
     reads.add_argument("--real", type=int, default=600, help="how many cases with an expiry are played with real timeouts (600)")
     reads.add_argument("--jobs", type=int, default=os.cpu_count(), help="how many parts are played at once (one a processor)")

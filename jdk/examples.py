@@ -1,5 +1,5 @@
-"""The Java programs: those of the examples and patterns come to one of the ends of their texts, and those of the
-differences print what they say."""
+"""The Java programs. Those of the examples and patterns reach one of the ends of their texts. Those of the differences
+print what they say."""
 import glob
 import os
 import re
@@ -35,7 +35,7 @@ def pattern_texts():
 
 
 def texts():
-    """Returns the text that each Java program has beside it."""
+    """Returns the text that belongs to each Java program."""
     paths = sorted(glob.glob(f"{os.path.dirname(HERE)}/examples/*.sts"))
     examples = {os.path.basename(it)[:-len(".sts")]: documents.read(f"examples/{os.path.basename(it)}") for it in paths}
     return {**examples, **pattern_texts()}
@@ -52,7 +52,7 @@ def ends_of(text, source, machine):
 
 
 def is_end(lines, ends):
-    """Is what was printed an end? Of a fault only the kind is printed."""
+    """Is the output an end? For a fault only its kind is printed."""
     return len(lines) == 1 and any(it == lines[0] or it.startswith(f"{lines[0]} task ") for it in ends)
 
 

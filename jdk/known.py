@@ -1,7 +1,7 @@
-"""What JDK 25 does otherwise than the rules, as a machine, and which rules a run comes to.
+"""The differences of JDK 25 from the rules, as a machine, and which rules a run meets.
 
-A difference between the player and the rules is a known one where JdkMachine, which has only these differences, agrees with
-the player to the last event; `met` then names them. Any other difference is a failure.
+A difference between the player and the rules is known if JdkMachine agrees with the player to the last event. JdkMachine has
+only the known differences, and `met` names those that a run meets. Any other difference is a failure.
 """
 from plain_machine import Machine
 

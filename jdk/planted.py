@@ -1,4 +1,4 @@
-"""Wrong models, each with one rule turned, and what the player prints with one thing turned. The cases have to notice each."""
+"""Wrong models, each with one wrong rule, and outputs of the player with one wrong word. The cases have to notice each."""
 import collections
 
 import cases

@@ -1,4 +1,4 @@
-"""A headless Chromium, driven over a pair of pipes with Python's library alone."""
+"""A headless Chromium, driven over a pair of pipes, with only Python's library."""
 import base64
 import contextlib
 import json

@@ -4,7 +4,7 @@
 const FIRST_ROOM = 65536;
 
 class Calls {
-  // Of the module, packed and in base 64.
+  // The module, packed and in base 64.
   static async load(packed) {
     const bytes = Uint8Array.from(atob(packed), (letter) => letter.charCodeAt(0));
     const unpacked = new Blob([bytes]).stream().pipeThrough(new DecompressionStream("gzip"));

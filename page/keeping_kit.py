@@ -19,7 +19,7 @@ FOLDERS = ("bin", "toolchain", "toolchain/bin")
 
 
 def linked(kit, folder, inner=""):
-    """Makes a folder with a link to each file or folder of the kit's, but for those that are folders of links themselves."""
+    """Makes a folder with a link to each file or folder of the kit, except those that are folders of links themselves."""
     os.makedirs(os.path.join(folder, inner))
     for name in os.listdir(os.path.join(kit, inner)):
         path = os.path.join(inner, name)

@@ -1,10 +1,10 @@
 "use strict";
-// What the page shows and does: each line that tells of a program or a run comes from a call. What is decided here and in
+// The content and the actions of the page. Each line about a program or a run comes from a call. What is decided here and in
 // reading.js, docs/PAGE.md lists.
 
 const element = (id) => document.getElementById(id);
 
-// The statuses of a fault of a text or a trace, and of want of memory.
+// The status of a fault of a text or a trace, and the status if memory ran out.
 const HAS_NO_RUN = [3, 6];
 
 let calls = null;
@@ -72,7 +72,7 @@ function markLine(line) {
   revealMark();
 }
 
-// What is told of the text: its budgets where it is accepted, else why it isn't.
+// What the page says about the text: its budgets if it is accepted, otherwise why it isn't.
 function verdict(text) {
   const explained = calls.explain(text);
   markLine(explained.status === 0 ? null : lineOf(explained.text));
@@ -163,7 +163,7 @@ function move(to) {
   show();
 }
 
-// Runs the trace; where there is no run, what is told of the text or the trace stands in its place.
+// Runs the trace. If there is no run, the page shows what is wrong with the text or the trace instead.
 function run() {
   const text = element("text").value;
   const viewed = calls.view(text, trace(), { each: true, full: element("full").checked });
@@ -176,7 +176,7 @@ function run() {
 
 // ---- the whole page
 
-// What fails outside of proved code is shown in place of the verdict.
+// A failure outside of proved code is shown instead of the verdict.
 function guarded(act) {
   return (...given) => {
     try {

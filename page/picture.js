@@ -13,7 +13,7 @@ function columnButton(part, number, isNow, choose) {
   return node;
 }
 
-// The picture's own style holds within it alone, since it is an image. Its course stands beside it as text.
+// The picture's own style applies only inside it, since it is an image. The run is next to it as text.
 function drawing(svg, words) {
   const image = made("img", { src: `data:image/svg+xml,${encodeURIComponent(svg)}`, alt: words });
   image.setAttribute("aria-details", "course");

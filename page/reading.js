@@ -57,7 +57,7 @@ function eventsOf(line) {
 }
 
 // The number of the line of the text that an explanation is about, or null where it names none. Its first line names it; of
-// a budget that is passed this says `at its end`, and the third line says where the path ends or the point stands.
+// a budget over its limit this says `at its end`, and the third line says where the path ends or where the point is.
 function lineOf(explanation) {
   const [first, , third] = linesOf(explanation);
   const named = /, line (\d+):/.exec(first) ?? / here, line (\d+):/.exec(third);

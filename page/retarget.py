@@ -1,11 +1,11 @@
 #!/usr/bin/env python3
-"""Makes an LLVM module for wasm64 of the one that the kit made of a static library for x86-64.
+"""Makes an LLVM module for wasm64 from the module that the kit made of a static library for x86-64.
 
     retarget.py IN.ll OUT.ll EXPORT..
 
-The result is as the modules that the kit itself makes for wasm64: another target and processor; each function with locals
-first tests that they fit into the stack, and traps where they don't; and each export is entered by a function that refuses
-to run within another call or after one that trapped. No proof covers any of this.
+The result is like the modules that the kit itself makes for wasm64. It has another target and processor. Each function with
+locals first tests that they fit into the stack, and traps if they don't. Each export is entered by a function that refuses to
+run within another call, or after a call that trapped. No proof covers any of this.
 """
 import re
 import sys

@@ -2,7 +2,7 @@
 """Opens the built page in a headless Chromium and compares it with the programs.  usage: test.py [STS [LOOK]]
 
 - each call answers what `sts` and `look` print, with their status: over every example and every beginning of its trace, and
-  over texts and traces with faults, refused texts, and runs that come to a fault;
+  over texts and traces with faults, refused texts, and runs that fault;
 - texts are explained as the rows of crates/tests_look say, and the line that is named is marked and in view;
 - every example is played by the page's own buttons, after each event of its trace. There is a button for each event that
   counts there and no other, as `look view --each` says. Next to the listing is a number for each task that lives, at its
@@ -164,7 +164,7 @@ class Page:
         self.chromium.value(f"element('example').selectedIndex = {number}, element('example').onchange()")
 
     def each(self, selector, told):
-        """Returns what an expression tells of each element `it`."""
+        """Returns the value of an expression for each element `it`."""
         return self.chromium.value(f"[...document.querySelectorAll({json.dumps(selector)})].map((it) => {told})")
 
     def tap(self, selector):
@@ -183,7 +183,7 @@ class Page:
         return self.each("#stands button", "it.dataset.event")
 
     def marks(self):
-        """Returns of each number beside the listing its line, the number, and whether it can be clicked."""
+        """Returns the line of each number next to the listing, the number, and whether it can be clicked."""
         line = "[...element('listing').children].indexOf(it.parentElement)"
         return self.each("#listing .task", f"[{line}, it.textContent, it.matches('button:enabled')]")
 
@@ -256,7 +256,7 @@ def stands(page, programs, what, text, trace, whole):
     yield f"{what}: what stands", page.shown() == programs.view(text, trace)[1]
     yield f"{what}: what is told", page.text_of("told") == programs.explain(text, trace)[1]
     yield f"{what}: the picture", page.drawn() == programs.draw(text, whole)[1]
-    yield f"{what}: the numbers beside the listing", sorted(page.marks()) == sorted(programs.marks(text, trace))
+    yield f"{what}: the numbers next to the listing", sorted(page.marks()) == sorted(programs.marks(text, trace))
 
 
 def marks_clicked(page, programs, what, text, before):
@@ -337,7 +337,7 @@ def all_played(page, programs):
 
 
 def faults_told(page, programs):
-    """Yields whether it is told by lines where a run stands or faulted, or what is wrong with a text or a trace."""
+    """Yields whether the page says with line numbers where a run is or faulted, or what is wrong with a text or a trace."""
     for text, trace in ODD:
         page.write("text", text)
         page.write("trace", trace)
@@ -348,7 +348,7 @@ def faults_told(page, programs):
         yield f"what stands of {what}", page.shown() == programs.view(text, trace)[1]
         yield f"what is told of {what}", page.text_of("told") == programs.explain(text, trace)[1]
         yield f"what can be played of {what}", sorted(page.buttons()) == sorted(programs.counting(text, trace))
-        yield f"the numbers beside {what}", sorted(page.marks()) == sorted(programs.marks(text, trace))
+        yield f"the numbers next to {what}", sorted(page.marks()) == sorted(programs.marks(text, trace))
 
 
 def as_written(page, programs):
@@ -358,8 +358,8 @@ def as_written(page, programs):
     for trace, passed in WRITTEN:
         page.write("trace", trace)
         page.click("#last")
-        yield f"what is told of the trace {trace!r}", page.text_of("told") == programs.explain(text, passed)[1]
-        yield f"what stands of the trace {trace!r}", page.shown() == programs.view(text, passed)[1]
+        yield f"the message about the trace {trace!r}", page.text_of("told") == programs.explain(text, passed)[1]
+        yield f"the state after the trace {trace!r}", page.shown() == programs.view(text, passed)[1]
         yield f"the trace {trace!r} stays", page.written("trace") == trace
     page.write("trace", "step 0\n\n")
     yield "an empty line is T1", page.text_of("told").startswith('error T1, line 2: ""\n')
