@@ -11,8 +11,9 @@ with what examples/README.md shows. `explain` says that it is accepted, and with
 lives.
 
 docs/VERIFIER.md shows below the text of each cause what `explain` prints, what the plain machine does, and the
-sentences of the other rows of this cause (the remedies in crates/tests_look/src/explanations/verdicts.rt: they are written by hand, and are
-tests). docs/PATTERNS.md shows what `explain` prints of its refused texts, and docs/LANGUAGE.md the sentence of each code.
+sentences of the other rows of this cause: the remedies in crates/tests_look/src/explanations/verdicts.rt, which are tests
+written by hand. docs/PATTERNS.md shows what `explain` prints of its refused texts, and docs/LANGUAGE.md the sentence of each
+code.
 """
 import collections
 import os

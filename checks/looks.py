@@ -1,7 +1,8 @@
 #!/usr/bin/env python3
 """Runs the built program `look` over the examples.  usage: looks.py [LOOK [STS]]
 
-- docs/LOOK.md shows what `view` or `explain` prints for a beginning of a trace, and what `explain` prints for a text;
+- docs/LOOK.md shows what `view` or `explain` prints for a beginning of a trace, and what `explain` prints for a text
+  or an example;
 - `explain` of each example says that it is accepted, and where it relies on a rule that JDK 25 doesn't share;
 - `view` of each beginning of each example's trace begins with what `plain` of `sts` prints, with its status;
 - `explain` of each of these says the state of the run, with that status. For each task that lives in `view`, and for no
@@ -31,6 +32,7 @@ LOOK, STS = (os.path.join(ROOT, "crates", name, "out", name) for name in ("look"
 SHOWN = re.compile(r"After the first (\d+) events of \[(\w+)\].*?:\n\n((?:    .*\n)+)")
 TOLD = re.compile(r"This is printed after the first (\d+) events of \[(\w+)\].*?:\n\n((?:    .*\n)+)")
 EXPLAINED = re.compile(r"\n\n((?:    .*\n)+)\n`explain` prints:\n\n((?:    .*\n)+)")
+EXAMPLE = re.compile(r"`\./look explain (examples/\S+)` prints:\n\n((?:    .*\n)+)")
 LIVING = re.compile(r"task (\d+) under (\S+) in (\S+) at (\d+) (ready|waits (?:join|close) (\d+))(?: interrupted)?")
 
 
@@ -158,10 +160,15 @@ def explained(look, folder):
     page = EXPLAINED.findall(read("docs/LOOK.md"))
     yield "LOOK.md shows an explanation", page != []
     path = os.path.join(folder, "text")
-    for text, block in page:
+    texts = [(dedented(text), dedented(block)) for text, block in page]
+    for text, printed in [*texts, (relied.TEXT, relied.PRINTED)]:
         with open(path, "w") as file:
-            file.write(dedented(text))
-        yield "an explanation in LOOK.md", says(look, "explain", path)[1] == dedented(block)
+            file.write(text)
+        yield "an explanation in LOOK.md", says(look, "explain", path)[1] == printed
+    of_examples = EXAMPLE.findall(read("docs/LOOK.md"))
+    yield "LOOK.md shows the explanation of an example", of_examples != []
+    for name, block in of_examples:
+        yield f"{name} in LOOK.md", says(look, "explain", os.path.join(ROOT, name))[1] == dedented(block)
     for text in sorted(glob.glob(os.path.join(ROOT, "examples", "*.sts"))):
         yield f"{os.path.basename(text)} explained", says(look, "explain", text) == relied.accepted(os.path.basename(text)[:-4])
 
