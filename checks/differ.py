@@ -14,6 +14,7 @@ again.  A case that fails is left in a folder.  The last line is `N passed, M fa
 """
 import argparse
 import collections
+import json
 import os
 import random
 import subprocess
@@ -330,14 +331,14 @@ def differences(program, text, events, workers, due):
     if replay != want:
         yield f"replay says {replay}, wanted {want}"
     if verdict.status == ACCEPTED and plain.text.startswith("fault"):
-        yield f"an accepted program faults: {plain}"
+        yield f"an accepted program comes to a fault: {plain}"
     if verdict.status == ACCEPTED and steps_of(plain) > budget_of(verdict):
         yield f"more steps than the budget: {plain}, {verdict}"
     yield from misrun(program, text, workers, due, verdict)
     listed = program.says("list", text)
     if verdict.status == BAD_TEXT:
         if not listed == plain == verdict:
-            yield f"a fault of the text is reported otherwise: {listed}, {plain}, {verdict}"
+            yield f"a fault of the text is told otherwise: {listed}, {plain}, {verdict}"
         return
     if program.says("list", listed.text) != listed:
         yield "a listing isn't listed as itself"
@@ -378,6 +379,13 @@ def compare(program, seed, numbers, folder, until):
     return verdicts, failed
 
 
+def write(seed, numbers):
+    """Prints the cases as lines of JSON, in the form of docs/IMPLEMENTERS.md; nothing is expected of them."""
+    for number in numbers:
+        text, events, *_ = drawn(seed, number)
+        print(json.dumps({"name": f"seed {seed} case {number}", "text": text, "trace": events}))
+
+
 def main():
     reads = argparse.ArgumentParser(description="Compares the program with itself, over generated programs and traces.")
     reads.add_argument("--program", default=f"{ROOT}/crates/sts/out/sts", help="the built program (crates/sts/out/sts)")
@@ -386,7 +394,11 @@ def main():
     reads.add_argument("--first", type=int, default=0, help="the number of the first case (0)")
     reads.add_argument("--seconds", type=int, default=600, help="the time after which no case is begun (600)")
     reads.add_argument("--failed", default="differ_failed", help="the folder for cases that fail (differ_failed)")
+    reads.add_argument("--write", type=int, metavar="N", help="print N cases as lines of JSON, and compare nothing")
     asked = reads.parse_args()
+    if asked.write is not None:
+        write(asked.seed, range(asked.first, asked.first + asked.write))
+        return 0
     if not os.access(asked.program, os.X_OK):
         reads.error(f"no program at {asked.program}: ./sts builds it")
     numbers = range(asked.first, asked.first + asked.cases)

@@ -31,6 +31,7 @@ It also reports:
 - a picture that isn't what its script draws;
 - a crate that uses proofs of another one from a file that isn't called `*Lemmas`;
 - floors of ARCHITECTURE.md that don't fit crates.txt;
+- a file of `vectors` that isn't what the tables of rows make it (checks/vectors.py);
 - a README.md of a crate that doesn't name its edits, the crates that it uses, or those that use it.
 """
 import functools
@@ -41,6 +42,7 @@ import subprocess
 import sys
 
 import causes as refused
+import vectors
 from stack_code import OPERANDS
 
 ROOT = os.path.dirname(os.path.dirname(os.path.realpath(__file__)))
@@ -238,6 +240,15 @@ def counted_rows():
         open(f"{ROOT}/{path}", "w").write(expected)
     elif read(path) != expected:
         fail(f"{path} doesn't have the numbers of answers in {FOLDER}: checks/documents.py write")
+
+
+def cases():
+    """Fails where a file of vectors/ isn't what the tables of rows make it."""
+    made, _ = vectors.files()
+    if sys.argv[1:] == ["write"]:
+        vectors.write(made)
+    for it in vectors.stale(made):
+        fail(it)
 
 
 @functools.cache
@@ -440,6 +451,7 @@ def main():
         elif not os.path.exists(path) or open(path).read() != table:
             fail(f"{FOLDER}/{name} isn't what the documents show: checks/documents.py write")
     counted_rows()
+    cases()
 
 
 if __name__ == "__main__":

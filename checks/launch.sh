@@ -6,8 +6,14 @@ program=$root/crates/$crate/out/$crate
 unproved=$program.unproved
 
 # Returns whether a source or a definition is newer than this program. A proof changes no program, so proofs don't count.
+# The build writes PROGRAM.newer, a test of the files that the program is built of. Without it all files are tested.
 is_stale() {
   [ -x "$1" ] || return 0
+  if [ -f "$1.newer" ]; then
+    . "$1.newer"
+    is_older "$1"
+    return
+  fi
   for it in "$root"/crates.txt "$root"/crates/*/src "$root"/crates/*/src/* "$root"/crates/*/src/*/* \
     "$root"/crates/*/specs "$root"/crates/*/specs/*; do
     [ ! "$it" -nt "$1" ] || return 0

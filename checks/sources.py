@@ -1,0 +1,42 @@
+"""Which sources and definitions a program is built of, and a file by which the launcher finds a newer one quickly."""
+import os
+
+ROOT = os.path.dirname(os.path.dirname(os.path.realpath(__file__)))
+
+
+def crates():
+    """Returns for each crate of the repository the crates of the repository that it uses."""
+    lines = [it.split("#")[0].strip() for it in open(f"{ROOT}/crates.txt")]
+    listed = dict(it.split(":", 1) for it in lines if it)
+    names = {key.split()[0]: value.split() for key, value in listed.items()}
+    return {name: [it for it in below if it in names] for name, below in names.items()}
+
+
+def needed(below, name, found):
+    """Returns the crates that this one depends on and itself, lowest first."""
+    for it in below[name]:
+        if it not in found:
+            needed(below, it, found)
+    if name not in found:
+        found.append(name)
+    return found
+
+
+def paths(names):
+    """Returns the paths of the sources and definitions of these crates, and of their folders, below the repository."""
+    found = ["crates.txt"]
+    for folder in [f"crates/{name}/{it}" for name in names for it in ("src", "specs")]:
+        for at, _, files in os.walk(f"{ROOT}/{folder}"):
+            at = os.path.relpath(at, ROOT)
+            found += [at, *(f"{at}/{it}" for it in sorted(files))]
+    return found
+
+
+def write(program, crate):
+    """Writes beside a program, as PROGRAM.newer, the test whether something that it is built of is newer. The launcher
+    reads it. A file that is added or removed changes the time of its folder, so the test finds it too."""
+    tests = " -o ".join(f'"$root/{it}" -nt "$1"' for it in paths(needed(crates(), crate, [])))
+    written = f"{program}.newer.{os.getpid()}"
+    with open(written, "w") as file:
+        file.write(f"# Written by checks/sources.py.\nis_older() {{\n  [ {tests} ]\n}}\n")
+    os.replace(written, f"{program}.newer")
