@@ -356,6 +356,10 @@ def outside_texts_of_sts(sts):
     for text, printed in FAULTY:
         sts.has(text=SEVEN, due=text)
         yield f"an outside text, {text[:40]!r} ..", sts.says(*words), (3, printed, "")
+    # a fault of the text comes before one of the outside text, and that before the verdict
+    for text, status, printed in (("", 3, "error A9 C5 function 0 at 0\n"), (POPS, 3, "error T1 line 1\n")):
+        sts.has(text=text, due="x\n")
+        yield f"an outside text with a fault, and {text!r}", sts.says(*words), (status, printed, "")
     sts.has(text=SEVEN, due="at 0 expire 0\n" * 4095 + "at 0 interrupt 4294967295\n")
     yield "4,096 outside lines", sts.says(*words, "--trace", "journal"), (0, f"{BUDGETS}success 7\nsteps 2\n", "")
     journal = "expire 0\n" * 4095 + "interrupt 4294967295\nstep 0\nstep 0\n"

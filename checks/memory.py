@@ -5,7 +5,8 @@ Each case is a command of `sts`, the program PROGRAM, or of `look`, the program 
 For n = 1, 2, .. until nothing is refused any more:
 - the nth request for memory is refused, or that and all later ones: the answer is `error memory` alone with status
   6, or the right one;
-- the nth read fails: `error file` alone with status 6;
+- the nth read fails: `error file` alone with status 6. If it failed for lack of memory, `error memory`, and standard error
+  says that. If a signal came, the read is tried again, and the answer is the right one;
 - the nth write fails: a beginning of the right answer with status 6. If it was a write of the journal, `error file` alone.
   If it was the line on standard error that says why a text or an outside text is refused, the right answer.
 The right answer of `look draw` is what it draws if nothing is refused: another script compares that.
@@ -325,6 +326,7 @@ class Refusing:
         os.close(tells)
         refused = os.read(told, 4096)
         os.close(told)
+        self.reason = done.stderr
         return (done.stdout, done.returncode), refused
 
 
@@ -370,6 +372,10 @@ def is_right(kind, answer, case, is_start):
         return answer == NO_THREADS
     if kind == "read":
         return answer == NO_FILE
+    if kind == "exhaust":
+        return answer == NO_MEMORY
+    if kind == "signal":
+        return answer in right_answers(case)
     if case.status > 2 and answer in right_answers(case):
         return True  # (the whole answer was written, and the line on standard error was not)
     begins = any(it.startswith(answer[0]) for it, _ in right_answers(case))
@@ -382,6 +388,8 @@ def refusals(refusing, case, kind, later=""):
     for n in itertools.count(1):
         answer, refused = refusing.run(case, f"{kind}:{n}{later}")
         right = is_right(kind, answer, case, n in of_starts) if refused else answer in right_answers(case)
+        if kind == "exhaust" and refused:
+            right = right and refusing.reason.endswith(b": out of memory\n")
         yield right, f"{kind}:{n}{later}", answer
         if not refused:
             return
@@ -430,7 +438,7 @@ def outputs(refusing, case):
 
 def tried(refusing, case):
     refusing.put(case)
-    for kind, later in (("memory", ""), ("memory", "+"), ("read", ""), ("write", "")):
+    for kind, later in (("memory", ""), ("memory", "+"), ("read", ""), ("exhaust", ""), ("signal", ""), ("write", "")):
         yield from refusals(refusing, case, kind, later)
     yield from outputs(refusing, case)
     if case.words[:1] == ["run"] and case.status < 2:

@@ -1,5 +1,6 @@
 /* Stands before a program and refuses what it asks of the system, as the environment says:
      REFUSE=memory:3    the third request for memory; read:3 and write:3 the third read and write
+     REFUSE=signal:3    the third read, as if a signal had come; exhaust:3 the third read, for lack of memory
      REFUSE=memory:3+   the third and all later ones
      REFUSE=thread:2    the start of the second thread
      REFUSE=short       nothing, but each read and write takes one byte at a time
@@ -49,7 +50,9 @@ void *malloc(size_t size) { return refuses("memory", ++requests, ENOMEM) ? 0 : _
 void *realloc(void *old, size_t size) { return refuses("memory", ++requests, ENOMEM) ? 0 : __libc_realloc(old, size); }
 
 ssize_t read(int file, void *to, size_t count) {
-  return refuses("read", ++reads, EIO) ? -1 : syscall(SYS_read, file, to, taken(count));
+  reads++;
+  int fails = refuses("read", reads, EIO) || refuses("signal", reads, EINTR) || refuses("exhaust", reads, ENOMEM);
+  return fails ? -1 : syscall(SYS_read, file, to, taken(count));
 }
 
 ssize_t write(int file, const void *from, size_t count) {

@@ -194,29 +194,39 @@ def overwriting(program, folder):
 
 def told(program, words, given=subprocess.DEVNULL):
     """What is written to standard error."""
-    ran = subprocess.run([program, *words], stdin=given, capture_output=True, timeout=SECONDS)
+    # (root may read all files, but for this)
+    plainly = ["setpriv", "--bounding-set=-dac_override,-dac_read_search"] if os.getuid() == 0 else []
+    ran = subprocess.run([*plainly, program, *words], stdin=given, capture_output=True, timeout=SECONDS)
     return ran.stderr.decode(errors="replace")
 
 
 def reasons(program, look, folder):
     """Yields the same for the line that says why, and for standard input that a person or `-` gives."""
-    missing, locked, bad, text = (os.path.join(folder, name) for name in ("missing", "locked", "bad", "text"))
-    for path, content in ((bad, "step 0\n step\n"), (text, FAULTY[0])):
+    names = "missing", "around", "bad", "text", "byte", "empty", "cut", "own"
+    missing, around, bad, text, byte, empty, cut, own = (os.path.join(folder, name) for name in names)
+    wrong_byte = "func main 0\n push \x7f7\nret\nend\n"
+    for path, content in ((bad, "step 0\n step\n"), (text, FAULTY[0]), (byte, wrong_byte), (empty, ""), (cut, "step 0"), (own, "")):
         with open(path, "w") as file:
             file.write(content)
-    os.symlink(locked, locked)
+    os.symlink(around, around)
+    os.chmod(own, 0)
     rows = [
         (["verify", missing], f"cannot read {missing}: there is no such file"),
         (["verify", folder], f"cannot read {folder}: it is a directory"),
         (["plain", SUM, folder], f"cannot read {folder}: it is a directory"),
         (["verify", os.path.join(SUM, "x")], f"cannot read {SUM}/x: a part of its path is no directory"),
         (["verify", "-"], "cannot read -: there is no such file (standard input is /dev/stdin)"),
-        (["verify", locked], f"cannot read {locked}: the system reports an error"),
+        (["verify", around], f"cannot read {around}: the system reports an error"),
+        (["verify", own], f"cannot read {own}: permission is denied"),
         (["run", SUM, "--workers", "2", "--trace", folder], f"cannot write {folder}: it is a directory"),
         (["run", SUM, "--workers", "2", "--trace", "/dev/full"], "cannot write /dev/full: no space is left"),
+        (["run", SUM, "--workers", "2", "--trace", own], f"cannot write {own}: permission is denied"),
         (["run", SUM, "--workers", "2", "--trace", SUM], f"cannot write {SUM}: this run reads that file"),
         (["verify", text], f'{text}, line 2: "puhs 7"; ./look explain FILE says more'),
+        (["verify", byte], f'{byte}, line 2: " push ?7"; ./look explain FILE says more'),
+        (["verify", empty], f"{empty}; ./look explain FILE says more"),
         (["plain", SUM, bad], f'{bad}, line 2: " step"; ./look explain FILE TRACE says more'),
+        (["plain", SUM, cut], f"{cut}: no newline ends its last line; ./look explain FILE TRACE says more"),
         (["run", SUM, "--workers", "2", "--outside", bad], f'{bad}, line 1: "step 0"'),
     ]
     for words, line in rows:
