@@ -26,6 +26,7 @@ It also reports:
 - a function or a clause that PROOFS.md names and that its file doesn't have;
 - an example that isn't shown, or says that it prints something else;
 - a refused text of `examples` that no document names;
+- a program that a document writes on one line;
 - a Java program that isn't shown as it is;
 - figures of JDK.md that aren't those of a run of jdk/check.py, or a wrong count of its differences in README.md;
 - a picture that isn't what its script draws;
@@ -366,6 +367,14 @@ def examples(path):
             fail(f"no document names examples/refused/{name}")
 
 
+def one_line_programs():
+    """Fails where a document writes a program on one line: up to ten lines are a block, and more are a file of examples/."""
+    for path in DOCUMENTS:
+        found = re.search(r"`[^`\n]*\b(?:func|profile) [^`\n]* / [^`\n]*`", read(path))
+        if found:
+            fail(f"{path} has a program on one line: {found[0]}")
+
+
 def pictures():
     """Fails where a picture isn't what its script draws."""
     if subprocess.run([sys.executable, f"{ROOT}/docs/pictures/draw.py", "--check"], stdout=subprocess.DEVNULL).returncode:
@@ -443,6 +452,7 @@ def main():
     shown_programs("README.md")
     examples("examples/README.md")
     instructions("docs/LANGUAGE.md")
+    one_line_programs()
     pictures()
     for name, table in files().items():
         path = f"{ROOT}/{FOLDER}/{name}"

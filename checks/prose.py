@@ -18,10 +18,7 @@ import sys
 
 ROOT = os.path.dirname(os.path.dirname(os.path.realpath(__file__)))
 MOST = f"{ROOT}/checks/prose.most"
-CLEAN = ["README.md", "CONTRIBUTING.md", "docs/TUTORIAL.md", "docs/JDK.md", "docs/PROOFS.md", "docs/DECISIONS.md",
-         "docs/ARCHITECTURE.md", "docs/SPEED.md", "docs/VERIFIER.md", "docs/LANGUAGE.md", "docs/PATTERNS.md", "docs/BEHAVIOUR.md",
-         "docs/LOOK.md", "docs/PAGE.md",
-         "examples/**/*.md", "examples/**/*.sts", "crates/*/README.md"]
+CLEAN = ["*.md", "docs/*.md", "examples/**/*.md", "examples/**/*.sts", "crates/*/README.md"]
 TREE = ["*.md", "docs/*.md", "examples/**/*.md", "examples/**/*.sts", "crates/*/README.md", "crates/*/src/**/*.rt",
         "crates/*/specs/**/*.antt", "crates/*/proofs/**/*.antt"]
 COMMENT = {".rt": r"\s*//[/!]?(?: |$)", ".antt": r"\s*--(?: |$)", ".sts": r"[^;]*;(?: |$)"}
