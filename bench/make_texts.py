@@ -34,7 +34,7 @@ def block(i):
 
 
 def scopes():
-    """Functions of scopes, branches, loops and bindings, as many as a text holds."""
+    """As many functions of scopes, branches, loops and bindings as fit into a text."""
     text = "func leaf 1\nload 0\nret\nend\n"
     ending = "push 0\nret\nend\n"
     for name in [f"part{i}" for i in range(62)]:
@@ -57,7 +57,7 @@ FAN_OUT = lines(
 
 
 # Forty subtasks of 23,436 local steps each, which several workers can do at once. In FAN_OUT they gain nothing: its
-# scopes come one after the other, each with one short subtask.
+# scopes come in a row, each with one short subtask.
 FAN_OF_LOOPS = lines(
     "func work 1 / push 8 / times 8 / push 266 / times 266 / load 0 / push 3 / mul / push 1 / add / store 0 / "
     "load 0 / push 7 / lt / pop / next / next / load 0 / ret / end / func main 0 / open s0 awaitall / push 40 / times 40 / "
@@ -162,7 +162,7 @@ def fed(state, byte):
 
 
 def colliding_names(count):
-    """Names of seven bytes whose hashes by that hasher agree in ten low bits, as many as wanted."""
+    """This number of names of seven bytes. By that hasher their hashes agree in ten low bits."""
     letters = b"abcdefghijklmnopqrstuvwxyz0123456789"
     start = folded(0x243F6A8885A308D3 ^ (7 | 0 << 32), 0x9E3779B97F4A7C15 ^ 16)
     names, states = [], [(b"x", fed(start, ord("x")))]
@@ -178,7 +178,7 @@ def colliding_names(count):
 
 
 def one_bucket_names(count):
-    """Names that the assembler's own mixing puts into one bucket of its 1,024, as many as wanted."""
+    """This number of names that the assembler's own mixing puts into one bucket of its 1,024."""
     letters = b"abcdefghijklmnopqrstuvwxyz0123456789"
     ends = {}
     for a in letters:
@@ -197,7 +197,7 @@ def one_bucket_names(count):
 
 
 def alike_names(count):
-    """Names of 32 bytes, the longest that there are, that differ in their last bytes alone."""
+    """Names of 32 bytes, the longest possible, that differ only in their last bytes."""
     return [f"{'x' * 26}{i:06}" for i in range(count)]
 
 
@@ -208,7 +208,7 @@ def labels(names):
     return "func main 0\n" + "".join(f"{name}:\n" for name in order) + jumps + "push 0\nret\nend\n"
 
 
-# The sizes of the texts of labels, from which each is twice the one before.
+# The sizes of the texts of labels. Each is twice the size before.
 TIMES = (1, 2, 4, 8)
 
 

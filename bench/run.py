@@ -104,7 +104,7 @@ def growth(program, at, base):
 
 
 def labels(program, at, base):
-    """Rows of texts with 1, 2, 4 and 8 times as many labels, and the time over that of the least."""
+    """Rows of texts with 1, 2, 4 and 8 times the labels, and the time compared with the smallest."""
     print(f"\n{'case':38}{'ms':>9}{'times the first':>18}")
     for name in ("colliding", "alike"):
         first = None

@@ -163,7 +163,7 @@ def ends(program, machine=plain_machine.Machine, is_expiring=False, interrupts=0
 
 
 def main():
-    reads = argparse.ArgumentParser(description="Finds every end that a program can come to.")
+    reads = argparse.ArgumentParser(description="Finds every end that a program can reach.")
     reads.add_argument("file")
     reads.add_argument("--expiries", action="store_true", help="scopes with a timeout may expire at any time")
     reads.add_argument("--interrupts", type=int, default=0, help="the most interrupts from outside (0)")

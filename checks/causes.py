@@ -24,7 +24,7 @@ class Pair(NamedTuple):
 
 
 def whole(lines):
-    """Returns the lines of a text, where a comment says how often they stand for themselves."""
+    """Returns the lines of a text. A comment may say how often lines are repeated."""
     found = []
     for line in lines:
         repeated = re.fullmatch(r"(.*?) *; (\d+) times(, with the line above)?", line)

@@ -101,7 +101,7 @@ def of_block(name, harness, block):
 
 
 def blocks(path):
-    """Returns a row for each block of a document, and fails where one has nothing written above it."""
+    """Returns a row for each block of a document, and fails if a block has nothing written above it."""
     found, heading, harness, lines = [], "", [], iter(read(path).splitlines())
     for line in lines:
         if line.startswith("#"):
@@ -124,7 +124,7 @@ def lines_two(path):
 
 
 def instructions(path):
-    """Fails where the table of instructions doesn't have each instruction once, or lacks a cause for which a row has it refused."""
+    """Fails if the table of instructions doesn't have each instruction once, or lacks a cause of a row that refuses it."""
     table = re.search(r"^\| Instruction \|.*?\n\n", read(path), re.M | re.S)[0]
     known = {}
     for line in table.splitlines()[2:-1]:
@@ -229,7 +229,7 @@ def files():
 
 
 def counted_rows():
-    """Fails where a table of rows isn't named in `tables`, or `stdout` doesn't have the number of its answers."""
+    """Fails if a table of rows isn't named in `tables`, or `stdout` doesn't have the number of its answers."""
     names = [it for it in read(f"{FOLDER}/tables").splitlines() if not it.startswith("#")]
     there = sorted(it for it in os.listdir(f"{ROOT}/{FOLDER}") if it.endswith(".rows"))
     if names != there:
@@ -244,7 +244,7 @@ def counted_rows():
 
 
 def cases():
-    """Fails where a file of vectors/ isn't what the tables of rows make it."""
+    """Fails if a file of vectors/ isn't what the tables of rows make it."""
     made, _ = vectors.files()
     if sys.argv[1:] == ["write"]:
         vectors.write(made)
@@ -270,7 +270,7 @@ def named_in(text):
 
 
 def floors():
-    """Fails where the table of floors doesn't have each crate once, or a crate uses one of a higher floor."""
+    """Fails if the table of floors doesn't have each crate once, or a crate uses one of a higher floor."""
     table = re.search(r"^\| Floor \|.*?\n\n", read("docs/ARCHITECTURE.md"), re.M | re.S)[0]
     rows = [named_in(line.strip("|").split("|")[1]) for line in table.splitlines()[2:] if line]
     floor = {it: number for number, row in enumerate(rows) for it in row}
@@ -283,7 +283,7 @@ def floors():
 
 
 def neighbours():
-    """Fails where a crate's page doesn't name each edit of must-fail/, or the crates that it uses and that use it."""
+    """Fails if a crate's page doesn't name each edit of must-fail/, or the crates that it uses and that use it."""
     for name, others in crates().items():
         text = read(page(name))
         edits = f"{ROOT}/crates/{name}/must-fail"
@@ -305,7 +305,7 @@ def headings(path):
 
 
 def named_files():
-    """Fails where a document names a file, or a heading of a document, that isn't there."""
+    """Fails if a document names a file, or a heading of a document, that isn't there."""
     for path in [*DOCUMENTS, *(page(it) for it in crates())]:
         here = os.path.dirname(path)
         text = read(path)
@@ -322,7 +322,7 @@ def named_files():
 
 
 def shown_contracts(path):
-    """Fails where a contract that a document shows has a line that no source has."""
+    """Fails if a contract that a document shows has a line that no source has."""
     folders = [f"{ROOT}/crates/{it}/src" for it in os.listdir(f"{ROOT}/crates")]
     files = [f"{at}/{it}" for folder in folders for at, _, names in os.walk(folder) for it in names]
     sources = {line.strip() for it in files for line in open(it)}
@@ -333,7 +333,7 @@ def shown_contracts(path):
 
 
 def named_clauses(path):
-    """Fails where the table of promises names a function, a clause or a definition that its file doesn't have."""
+    """Fails if the table of promises names a function, a clause or a definition that its file doesn't have."""
     table = re.search(r"^\| Promise \|.*?\n\n", read(path), re.M | re.S)[0]
     for line in table.rstrip().splitlines()[2:]:
         source = ""
@@ -355,7 +355,7 @@ def shown_programs(path):
 
 
 def examples(path):
-    """Fails where an example has no command in a document, or says of itself that it prints something else."""
+    """Fails if an example has no command in a document, or says of itself that it prints something else."""
     shown = {text: printed for mode, text, _, printed in shown_commands(path) if mode == "plain"}
     for text in (f"examples/{it}" for it in sorted(os.listdir(f"{ROOT}/examples")) if it.endswith(".sts")):
         said = re.search(r"^; Prints: ([^(,.]*\d)[^,]*, (steps \d+)\.", read(text), re.M)
@@ -376,13 +376,13 @@ def one_line_programs():
 
 
 def pictures():
-    """Fails where a picture isn't what its script draws."""
+    """Fails if a picture isn't what its script draws."""
     if subprocess.run([sys.executable, f"{ROOT}/docs/pictures/draw.py", "--check"], stdout=subprocess.DEVNULL).returncode:
         fail("a picture isn't what docs/pictures/draw.py draws: run it")
 
 
 def java_programs():
-    """Fails where a document shows a Java program otherwise than its file has it, or none shows one of these files."""
+    """Fails if a document shows a Java program otherwise than its file has it, or none shows one of these files."""
     shown = set()
     for path in DOCUMENTS:
         for name, block in re.findall(r"In Java \(\[`\w+\.java`\]\(\.\./(jdk/\w+/\w+\.java)\)\):\n\n```java\n(.*?)```\n", read(path), re.S):
@@ -406,7 +406,7 @@ def table(page, first):
 
 
 def jdk_figures():
-    """Fails where docs/JDK.md hasn't the figures of a whole run: each rule and each known difference of jdk/check.py came, the
+    """Fails if docs/JDK.md hasn't the figures of a whole run: each rule and each known difference of jdk/check.py came, the
     sums agree, and each Java program ran. The number of differences in README.md is that of the headings."""
     sys.path.insert(0, f"{ROOT}/jdk")
     import known
@@ -417,7 +417,7 @@ def jdk_figures():
     if [it for it, _ in rules] != [rule for rule, _ in RULES] or [it for it, _ in differences] != list(known.DIFFERENCES):
         fail("docs/JDK.md has other rules or differences than jdk/check.py: jdk/check.py --write")
     if not all(numbers[0] > 0 for _, numbers in rules + differences):
-        fail("docs/JDK.md has a rule or a difference that no case came to")
+        fail("docs/JDK.md has a rule or a difference that no case met")
     played = sum(numbers[0] for _, numbers in kinds)
     if f": {played:,} cases of " not in shown or any(numbers[0] != sum(numbers[1:]) for _, numbers in kinds) or played < 10_000:
         fail("the figures of docs/JDK.md don't add up to 10,000 cases")
@@ -430,7 +430,7 @@ def jdk_figures():
 
 
 def proofs_of_others():
-    """Fails where a crate uses proofs of another crate of the repository from a file that isn't called `*Lemmas`."""
+    """Fails if a crate uses proofs of another crate of the repository from a file that isn't called `*Lemmas`."""
     names = "|".join(os.listdir(f"{ROOT}/crates"))
     used = re.compile(rf"\b({names})(?:\.|::)proofs(?:\.|::)(\w+)")
     listed = subprocess.check_output(["git", "ls-files", "-co", "--exclude-standard", "crates"], cwd=ROOT, text=True)

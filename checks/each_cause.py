@@ -55,7 +55,7 @@ IN_FULL = {
     "A9 C7": f"`{KID} / {KID} / func main 0 / ret / end`",
 }
 TRACES = {"T1": "Step 0\n", "T2": "step 01\n", "T3": "step 0"}
-# How the plain machine runs the text of each cause, worked out by hand: a trace in short notation, and what it comes to.
+# How the plain machine runs the text of each cause, worked out by hand: a trace in short notation, and its end.
 RUNS = {
     "V1": ("0*1", "fault Operand task 0 in main at 0 / steps 1"),
     "V2": ("0*33", "fault Operand task 0 in main at 32 / steps 33"),
@@ -82,7 +82,7 @@ RUNS = {
     # the same forks; each subtask does its 26 steps, all their bindings being open after the first 16, and the root 5 more
     "V20": ("0*16389 1..8192*16 1..8192*10 0*5", "success 1 / steps 229386"),
 }
-# What is drawn of the runs whose pictures would be too large.
+# The drawings of the runs with pictures that would be too large.
 BEGINNINGS = {"V17": "0*8", "V18": "0*9", "V19": "0*7 1*8", "V20": "0*7 1*16"}
 # Faults of a run: a text, and a trace in short notation.
 FAULTS = {
@@ -105,7 +105,7 @@ def spelled(words):
 
 
 def events(short):
-    """Returns the bytes of a trace that is written short, where `1..3*2` stands for `1*2 2*2 3*2`."""
+    """Returns the bytes of a trace that is written short; `1..3*2` means `1*2 2*2 3*2`."""
     spans = re.compile(r"(\d+)\.\.(\d+)(\*\d+)")
     return trace(spans.sub(lambda it: " ".join(f"{task}{it[3]}" for task in range(int(it[1]), int(it[2]) + 1)), short)).encode()
 
@@ -216,7 +216,7 @@ def example_at(look, text, steps, printed):
 
 
 def sentences():
-    """Returns for each cause the other sentences that it may have: where each comes, and what it is."""
+    """Returns for each cause its other sentences: the place of each, and the sentence."""
     groups = re.split(r"^ +// ---- ", read("crates/tests_look/src/explanations/verdicts.rt"), flags=re.M)
     rows, found = "".join(it for it in groups if it.startswith("remedies: ")), {}
     for name, code, sentence in re.findall(r'name: "([^"]*)",[^"]*"[^}]*?lines: "refused (V\d+) [^/"]* / ([^"]*)",', rows, re.S):
@@ -227,7 +227,7 @@ def sentences():
 
 
 def below(code, others):
-    """Returns what VERIFIER.md shows of a cause below what `explain` prints: its run, and the other sentences."""
+    """Returns what VERIFIER.md shows for a cause below the output of `explain`: its run, and the other sentences."""
     short, ends = RUNS[code]
     words = f"\nAfter `{short}` the plain machine prints {', '.join(f'`{it}`' for it in ends.split(' / '))}.\n"
     rows = [f"| {where} | `{sentence}` |\n" for where, sentence in others]

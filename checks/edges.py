@@ -65,7 +65,7 @@ class Folder:
                 file.write(content)
 
     def says(self, *words, given=""):
-        """Returns the status, and what is printed and told."""
+        """Returns the status, standard output and standard error."""
         around = {"cwd": self.path, "capture_output": True, "timeout": SECONDS}
         try:
             done = subprocess.run([self.program, *words], input=given.encode(), **around)
@@ -200,7 +200,7 @@ def files(program, name, texts, traces):
     for words in traces:
         program.has(text=SEVEN)
         yield f"no file of events: {name} {words}", program.says(*words), NO_FILE
-        # FILE comes first: the other one is a pipe that nobody writes to, and to open it would never end
+        # FILE comes first: the second file is a pipe that nobody writes to, and opening it would never end
         program.has()
         os.mkfifo(os.path.join(program.path, "trace"))
         yield f"no FILE, and a pipe: {name} {words}", program.says(*words), NO_FILE
@@ -379,7 +379,7 @@ ALL_AT_ONCE = "func leaf 0 / push 5 / bind 1 / unbind / push 7 / ret / end / " \
 COSTS = [
     # the two leaves bind their key; the root is interrupted, and all end, the root last
     (ALL_AT_ONCE, "0*3 1*2 2*2 3*2 4*2 i0 0*3 1*3 2*3 3*3 4*3 1*2 2*2 0*2", (32, 5, 3, 2), (32, 5, 3, 2)),
-    # the instructions behind `jz` are skipped
+    # the instructions after `jz` are skipped
     ("func main 0 / push 0 / jz on / push 1 / pop / on: / push 7 / ret / end", "0*4", (6, 1, 0, 0), (4, 1, 0, 0)),
     ("func kid 0 / push 0 / ret / end / func main 0 / open s0 awaitall / push 0 / jz on / fork s0 kid _ / on: / join s0 - - intr / "
      "push 7 / close s0 / ret / intr: / push 0 / close s0 / ret / end", "0*7", (11, 2, 1, 0), (7, 1, 1, 0)),

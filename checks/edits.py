@@ -45,7 +45,7 @@ def put(crate, to):
 
 
 def tried(crate, to):
-    """Tries a crate's edits, and returns what each came to, after it printed the prover's line on each."""
+    """Tries a crate's edits, prints the prover's line on each, and returns the result of each."""
     how = {"cwd": to, "stdin": subprocess.DEVNULL, "stdout": subprocess.PIPE, "stderr": subprocess.STDOUT}
     said = subprocess.run(["rt", "must-fail", crate], text=True, errors="replace", **how).stdout
     found = {(match[1], match[2]): match[3] for match in TRIED.finditer(said)}
@@ -57,7 +57,7 @@ def tried(crate, to):
 def options(known):
     reads = argparse.ArgumentParser(description="Tries the edits of checks/edits/: the prover has to refuse each.")
     reads.add_argument("--jobs", type=int, default=len(os.sched_getaffinity(0)), help="how many crates side by side")
-    reads.add_argument("crates", nargs="*", metavar="CRATE", help="the crates whose edits are tried (all)")
+    reads.add_argument("crates", nargs="*", metavar="CRATE", help="the crates that have their edits tried (all)")
     read = reads.parse_args()
     unknown = [it for it in read.crates if it not in known]
     if unknown:

@@ -142,7 +142,7 @@ class Drawing:
         return stretch(self.chance.randint(1, 3))
 
     def crowd(self):
-        """Draws a scope with forks under two loops, so many that a peak is near its limit and the steps are within theirs."""
+        """Draws a scope with forks under two loops. There are enough of them that a peak is near its limit and the steps are within theirs."""
         child = self.chance.choice(self.functions)
         most = max(child.weighs[it] for it in PEAKS)
         forks = min(70_000 // most, 950_000 // (child.weighs["steps"] + 2)) + self.chance.randint(-3, 3)
@@ -153,14 +153,14 @@ class Drawing:
         return self.chance.choice((held, binding(3, held), in_turn([scope(1, stretch(1), self.label()), held])))
 
     def children(self):
-        """Draws functions that are accepted, each of which may fork those before it."""
+        """Draws accepted functions. Each may fork those before it."""
         for number in range(self.chance.randint(1, 4)):
             drawn = function(f"child{number}", self.tower() if self.chance.random() < 0.4 else self.body(2))
             if all(drawn.weighs[it] <= LIMITS[it] for it in LIMITS):
                 self.functions.append(drawn)
 
     def tower(self):
-        """Draws some scopes, bindings or forks, one in the other."""
+        """Draws some nested scopes, bindings or forks."""
         inner = stretch(1)
         count = self.chance.randint(2, 12)
         kind = self.chance.choice(PEAKS)
@@ -171,7 +171,7 @@ class Drawing:
         return inner
 
     def nest(self):
-        """Draws loops of 10,000 turns, one in the other, with forks in the innermost one."""
+        """Draws nested loops of 10,000 turns, with forks in the innermost one."""
         child = self.chance.choice(self.functions)
         inner = in_turn([fork(1, child)] * self.chance.randint(1, 5))
         for _ in range(self.chance.randint(4, 8)):
@@ -195,7 +195,7 @@ def words_at(text, number):
 
 
 def told(text, line):
-    """Returns the number that begins a line and the words between, where the rest is a line of the text; else none."""
+    """Returns the number that begins a line and the words between, if the rest is a line of the text; otherwise none."""
     found = re.fullmatch(r"(?:adds )?(\d+)(.*), line (\d+): (.*)", line)
     if not found or words_at(text, int(found[3])) != found[4]:
         return None

@@ -42,7 +42,7 @@ Case = collections.namedtuple("Case", "name words text trace answer status other
 
 
 def right_answers(case):
-    """What a case may answer where nothing is refused."""
+    """What a case may answer if nothing is refused."""
     return {(it, case.status) for it in (case.answer, *case.others)}
 
 
@@ -114,7 +114,7 @@ ENDS = {
     "many scopes": ("success 5", [8004]),
     "a binding": ("success 6", [10]),
 }
-# What `look` says after these events of "a timeout", whose subtask is at its `ret` as the time is up.
+# What `look` says after these events of "a timeout". Its subtask is at its `ret` when the time is up.
 SEEN = "0*2 1*1 x0"
 EXPIRED = "task 1 under 0 in kid at 1 ready interrupted"
 SCOPE = "scope 0 of 0 awaitall opened timed"
@@ -223,7 +223,7 @@ def looks(look):
 
 
 def picture(look, text, trace):
-    """What `look draw` writes of a text and a trace where nothing is refused; if that is no picture, what it never writes."""
+    """What `look draw` writes for a text and a trace if nothing is refused; if that is no picture, what it never writes."""
     with tempfile.TemporaryDirectory() as folder:
         case = Case("draw", ["draw", "text", "trace"], text, trace, None, 5)
         refusing = Refusing(look, "", folder)
@@ -299,13 +299,13 @@ def library_in(folder):
 
 
 class Refusing:
-    """A program behind the library of refuse.c, in a folder with a case's files."""
+    """A program with the library of refuse.c, in a folder with a case's files."""
 
     def __init__(self, program, library, folder):
         self.program, self.library, self.folder = os.path.realpath(program), library, folder
 
     def works(self):
-        """Is a request refused where one is to be?"""
+        """Is a request refused when one should be?"""
         case = next(cases())
         self.put(case)
         return self.run(case, "memory:1")[1]
@@ -316,7 +316,7 @@ class Refusing:
                 file.write(content or b"")
 
     def run(self, case, refuse, out=subprocess.PIPE):
-        """What is printed, the status, and what refuse.c told: nothing where nothing was refused."""
+        """The output, the status, and the report of refuse.c, which is empty if nothing was refused."""
         told, tells = os.pipe()
         with open(os.path.join(self.folder, "trace"), "rb") as file:
             around = {"LD_PRELOAD": self.library, "REFUSE": refuse, "REFUSED": str(tells)}
@@ -383,7 +383,7 @@ def is_right(kind, answer, case, is_start):
 
 
 def refusals(refusing, case, kind, later=""):
-    """Yields for each n whether the answer is right where the nth request of this kind is refused."""
+    """Yields for each n whether the answer is right if the nth request of this kind is refused."""
     of_starts = starts(refusing, case) if kind == "memory" else ()
     for n in itertools.count(1):
         answer, refused = refusing.run(case, f"{kind}:{n}{later}")
@@ -396,7 +396,7 @@ def refusals(refusing, case, kind, later=""):
 
 
 def workers(refusing, case):
-    """Yields of each number of workers whether a run starts as many threads, with a journal and without one."""
+    """Yields for each number of workers whether a run starts that number of threads, with a journal and without one."""
     for count in (1, 2, 3, 4, 8, 16):
         for journal in ([], ["--trace", "journal"]):
             words = ["run", "text", "--workers", str(count), *journal]
@@ -423,7 +423,7 @@ def stops(refusing):
 
 
 def outputs(refusing, case):
-    """Yields the same for one byte at a time, and for an output that is full, closed, or read by nobody."""
+    """Yields whether the answer is right with one byte at a time, and if the output is full, closed, or read by nobody."""
     answer, _ = refusing.run(case, "short")
     yield answer in right_answers(case), "short", answer
     if not case.answer:

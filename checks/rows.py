@@ -24,7 +24,7 @@ def line_bytes(line):
 
 
 def meant(short, words):
-    """Returns the bytes that lines in short stand for."""
+    """Returns the bytes of lines in the short notation."""
     found = []
     for part in short.split(" / "):
         count, is_repeated, repeated = part.partition(" * ")

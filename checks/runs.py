@@ -48,7 +48,7 @@ ASKS = b"func main 0\ninterrupted\nret\nend\n"
 LONG = b"func main 0\npush 8\ntimes 8\npush 10000\ntimes 10000\nnext\nnext\ninterrupted\nret\nend\n"
 # An outside text, the end of the run, and its journal: `s` is a step, `i7` an interrupt of task 7, `x0` an expiry of scope 0.
 # An event is due when the journal has at least as many entries as its line says. It holds back those after it.
-# The expiry counts behind the `open` and before the `join`, and then the end is 2.
+# The expiry counts after the `open` and before the `join`, and then the end is 2.
 OUTSIDES = [
     (TIMED, "", "success 1", "s*5"),
     (TIMED, "at 0 x0", "success 1", "x0 s*5"),
@@ -85,7 +85,7 @@ MOST = 1_048_576  # The bytes that a text may have.
 
 
 def says(program, *words):
-    """Returns what is printed; nothing where the program doesn't end."""
+    """Returns the output, or nothing if the program doesn't end."""
     try:
         done = subprocess.run([program, *words], stdin=subprocess.DEVNULL, capture_output=True, text=True, timeout=SECONDS)
     except subprocess.TimeoutExpired:
@@ -102,7 +102,7 @@ def kept(folder, name, content):
 
 
 def by_workers(program, folder, name, file, ends):
-    """Yields of a program for each number of workers whether it comes to one of these ends, and its journal to the same."""
+    """Yields for each number of workers whether a program reaches one of these ends, and its journal the same one."""
     journal, budgets = os.path.join(folder, "journal"), says(program, "verify", file)
     for workers in WORKERS:
         said = says(program, "run", file, "--workers", workers, "--trace", journal)
@@ -148,7 +148,7 @@ def first_text(program, folder):
 
 
 def by_shell(program, folder, lines, text):
-    """Returns what a shell prints that does these lines where `./sts` is the program and `my.sts` has this text."""
+    """Returns what a shell prints for these lines. There `./sts` is the program, and `my.sts` has this text."""
     kept(folder, "my.sts", text.encode())
     for name, path in ("sts", program), ("checks", f"{ROOT}/checks"):
         if not os.path.lexists(f"{folder}/{name}"):
@@ -235,7 +235,7 @@ def outsides(program, folder):
 
 
 def largest(program, folder):
-    """Yields whether long runs and a crowd come to their ends, in a minute or two, with a journal and without."""
+    """Yields whether long runs and a crowd reach their ends in a minute or two, with a journal and without."""
     journal, printed = os.path.join(folder, "journal"), "success 65535\nsteps 262191\n"
     longest, crowd = kept(folder, "longest", LONGEST), kept(folder, "crowd", CROWD + b";" * (MOST - len(CROWD) - 1) + b"\n")
     for more in ([], ["--trace", journal]):

@@ -59,7 +59,7 @@ def bound_allocations(programs):
 
 
 def answer(program, words, given=subprocess.DEVNULL, **around):
-    """What is printed and the status; nothing where it doesn't end."""
+    """The output and the status, or nothing if it doesn't end."""
     around = {"stdout": subprocess.PIPE, "stderr": subprocess.DEVNULL, "preexec_fn": limited(), **around}
     try:
         done = subprocess.run([program, *words], stdin=given, timeout=SECONDS, **around)

@@ -21,7 +21,7 @@ def option(name, other):
 
 WORKERS, KIDS = option("--workers", 3), option("--kids", 3)
 FAULTS = {
-    "leaves": "a worker leaves a task to the others though none of them is awake",
+    "leaves": "a worker leaves a task to the others although no other is awake",
     "counts": "a worker that sleeps is still counted as awake",
     "lends": "a worker that takes a slice wakes nobody",
     "claims": "a worker that claims a task wakes nobody, nor does one that takes a slice",
@@ -30,7 +30,7 @@ FAULTS = {
 }
 
 # A book: (subtasks forked, whether the root waits, whether the run has ended, units left of each subtask, tasks that are
-# claimed or out). The numbers of `Waits`: (awake, tries). A worker: `L` comes to the lock, `G` claimed a task and passes
+# claimed or out). The numbers of `Waits`: (awake, tries). A worker: `L` goes to the lock, `G` claimed a task and passes
 # the gate, `O` is out with a slice, `S` sleeps, `W` was woken and comes to the lock, `D` has decided to sleep with no lock
 # (a fault), `E` has ended. A state: (book, numbers, workers, whether the run may still be stopped).
 
@@ -125,7 +125,7 @@ class Rule:
                 yield claimed, fewer, put(others, i, ("G", task))
 
     def slices(self, book, numbers, workers, i):
-        """Yields what comes of a worker that takes a slice, or finds none and looks for a task."""
+        """Yields the next states of a worker that takes a slice, or finds none and looks for a task."""
         left = free(book)
         for task in left:
             lent, fewer = with_out(book, task), (numbers[0] - 1, numbers[1])
@@ -169,7 +169,7 @@ class Rule:
 
 
 def is_bad(state):
-    """Tells whether all sleep, or a task is left to sleepers though several workers are wanted."""
+    """Returns whether all sleep, or a task is left to sleepers although several workers are needed."""
     book, numbers, workers, _ = state
     places = {it[0] for it in workers}
     if "S" not in places:

@@ -18,7 +18,7 @@ RUNS = 5
 
 
 def most_threads(words, expected):
-    """Returns how many threads a process has at most, until it has ended or has as many as are expected."""
+    """Returns the most threads that a process has, until it has ended or has the expected number."""
     most, process = 0, subprocess.Popen(words, stdin=subprocess.DEVNULL, stdout=subprocess.DEVNULL)
     while process.poll() is None and most < expected:
         try:

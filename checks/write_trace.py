@@ -10,7 +10,7 @@ LINES = {"i": "interrupt", "x": "expire"}
 
 
 def lines(word):
-    """Returns the lines that a word stands for, or no lines if it is no such word."""
+    """Returns the lines that a word means, or no lines if it is no such word."""
     steps, other = re.fullmatch(r"(\d+)\*(\d+)", word), re.fullmatch(r"([ix])(\d+)", word)
     if steps:
         return [f"step {steps[1]}"] * int(steps[2])

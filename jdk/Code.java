@@ -8,7 +8,7 @@ import java.util.Map;
 
 /** The functions of a text of the stack code. The text has no fault: check.py asks the assembler before. */
 final class Code {
-    /** An instruction: its name, the words behind it, and of each word the place that it names as a label, or -1. */
+    /** An instruction: its name, the words after it, and for each word the place that it names as a label, or -1. */
     record Instruction(String op, String[] words, int[] targets) {
         int slot(int word) {
             return words[word].equals("_") ? -1 : Integer.parseInt(words[word].substring(1));

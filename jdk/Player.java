@@ -14,7 +14,7 @@ import java.util.concurrent.locks.LockSupport;
 import java.util.function.BooleanSupplier;
 
 /**
- * Plays texts and traces over a runtime of structured scopes, and prints how it stands after each event. docs/JDK.md
+ * Plays texts and traces over a runtime of structured scopes, and prints its state after each event. docs/JDK.md
  * defines what is printed; check.py compares it.
  *
  * <p>Each task is a thread that interprets its own frame and stops before each instruction. The player grants one
@@ -74,7 +74,7 @@ public final class Player {
 
     // ---- waiting for rest
 
-    /** Waits; where the player is a virtual thread it shares its carrier with the tasks, and lets them run meanwhile. */
+    /** Waits. If the player is a virtual thread, it shares its carrier with the tasks, and lets them run meanwhile. */
     private static void await(BooleanSupplier isDone, String what) {
         boolean isVirtual = Thread.currentThread().isVirtual();
         long end = 0;
@@ -154,7 +154,7 @@ public final class Player {
         view();
     }
 
-    /** With early joins: the steps of the joins that the last event ended, at once behind it. */
+    /** With early joins: the steps of the joins that the last event ended, right after it. */
     private void woken() {
         if (!IS_EARLY) return;
         for (Task task : tasks)

@@ -51,7 +51,7 @@ interface Scopes {
 
     long value(Object subtask);
 
-    /** The code of a failed subtask; -1 stands for an exception that is no Failure. */
+    /** The code of a failed subtask; -1 means an exception that is no Failure. */
     long code(Object subtask);
 
     /** Runs the body with the key bound to the value. */
@@ -64,7 +64,7 @@ interface Scopes {
     /** Has the timeout of a scope come now, if it has one that is still to come. */
     void expire(Object scope);
 
-    /** Whether the time of a scope may be up by now. A runtime whose timeouts come by {@code expire} alone says no. */
+    /** Whether the time of a scope may be up by now. A runtime that gets timeouts only by {@code expire} says no. */
     default boolean mayBeUp(Object scope) {
         return false;
     }

@@ -34,7 +34,7 @@ final class Task implements Callable<Long> {
         }
     }
 
-    /** Ends a thread whose case is over. */
+    /** Ends a thread when its case is over. */
     static final class Killed extends Error {
         Killed() {
             super(null, null, false, false);

@@ -60,7 +60,7 @@ def of_draws_from(seed, misuse, numbers):
 
 
 def draw_parts(seed, count):
-    """Returns what `of_draws_from` is given for so many cases in all: three of four are whole programs, one is misuse."""
+    """Returns the input of `of_draws_from` for this number of cases in all: three of four are whole programs, one is misuse."""
     whole = count * 3 // 4
     return [(seed, misuse, range(at, min(at + DRAWN_AT_ONCE, most))) for misuse, most in ((False, whole), (True, count - whole))
             for at in range(0, most, DRAWN_AT_ONCE)]
@@ -76,7 +76,7 @@ def journal(sts, text, number):
 
 
 def of_journals(sts, seed, count):
-    """Returns cases whose traces `sts run` wrote, of the examples, the patterns and drawn programs."""
+    """Returns cases with traces that `sts run` wrote, for the examples, the patterns and drawn programs."""
     texts = [it.text for it in of_files()] + [text for _, text, _, _ in documents.programs("docs/PATTERNS.md")]
     texts += [drawn.drawn(seed, it)[0] for it in range(count - len(texts))]
     with ThreadPoolExecutor(WORKERS) as pool:

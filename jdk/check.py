@@ -41,7 +41,7 @@ NO_JDK = 3
 
 
 class Tally:
-    """What came of cases: by kind how many agreed; differences, failures, each with the smallest case; rules come to."""
+    """The results of cases: how many agreed, by kind; differences and failures, each with the smallest case; the rules that were met."""
 
     def __init__(self):
         self.kinds, self.agreed, self.modes = (collections.Counter() for _ in range(3))
@@ -65,7 +65,7 @@ class Tally:
 
 
 def judge(tally, case, printed, mode):
-    """Adds a case to what came of others. With real timeouts a case is dropped where one may be up unasked."""
+    """Adds a case to the results of others. With real timeouts a case is dropped if a timeout may be up unasked."""
     if "unasked" in printed:
         tally.dropped += 1
         return

@@ -13,6 +13,6 @@ void main() throws InterruptedException {
         parts.add(scope.fork(() -> part(22, 10_000)));
         scope.join();
     } catch (StructuredTaskScope.TimeoutException e) { }
-    // After a timeout the owner may call get() only behind close.
+    // After a timeout the owner may call get() only after close.
     IO.println("success " + parts.stream().filter(it -> it.state() == State.SUCCESS).mapToInt(Subtask::get).sum());
 }
