@@ -48,7 +48,7 @@ from stack_code import OPERANDS
 
 ROOT = os.path.dirname(os.path.dirname(os.path.realpath(__file__)))
 FOLDER = "crates/tests_rows/data"
-DOCUMENTS = ["README.md", "CONTRIBUTING.md", "examples/README.md", *(f"docs/{it}" for it in sorted(os.listdir(f"{ROOT}/docs")) if it.endswith(".md"))]
+DOCUMENTS = ["README.md", "CONTRIBUTING.md", "examples/README.md", "jdk/README.md", *(f"docs/{it}" for it in sorted(os.listdir(f"{ROOT}/docs")) if it.endswith(".md"))]
 STATUS = {"success": 0, "failed": 1, "error": 3, "refused": 4, "fault": 5, "running": 5}
 
 

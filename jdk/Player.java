@@ -14,7 +14,7 @@ import java.util.concurrent.locks.LockSupport;
 import java.util.function.BooleanSupplier;
 
 /**
- * Plays texts and traces over a runtime of structured scopes, and prints its state after each event. docs/JDK.md
+ * Plays texts and traces over a runtime of structured scopes, and prints its state after each event. jdk/README.md
  * defines what is printed; check.py compares it.
  *
  * <p>Each task is a thread that interprets its own frame and stops before each instruction. The player grants one

@@ -89,7 +89,7 @@ class Player:
 
 @functools.lru_cache(1_000_000)
 def seen(line):
-    """Returns what the player can show of a line of `look view`: docs/JDK.md has the rules."""
+    """Returns what the player can show of a line of `look view`: jdk/README.md has the rules."""
     words = line.split(" ")
     if words[0] == "task":
         is_unseen = words[8] not in ("ready", "waits") or words[8:10] == ["waits", "close"]
