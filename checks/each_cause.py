@@ -11,8 +11,7 @@ with what examples/README.md shows. `explain` says that it is accepted, and with
 lives.
 
 docs/VERIFIER.md shows below the text of each cause what `explain` prints, what the plain machine does, and the
-sentences of the other rows of this cause: the remedies in crates/tests_look/src/explanations/verdicts.rt, which are tests
-written by hand. docs/PATTERNS.md shows what `explain` prints of its refused texts, and docs/LANGUAGE.md the sentence of each
+sentences of the other rows of this cause: the remedies in checks/look_rows/verdicts.rows, which look_rows.py compares. docs/PATTERNS.md shows what `explain` prints of its refused texts, and docs/LANGUAGE.md the sentence of each
 code.
 """
 import collections
@@ -23,6 +22,7 @@ import sys
 import tempfile
 import xml.dom.minidom
 
+import look_rows
 import relied
 from causes import PAGES, pairs
 from documents import STATUS, read, shown_commands
@@ -217,12 +217,13 @@ def example_at(look, text, steps, printed):
 
 def sentences():
     """Returns for each cause its other sentences: the place of each, and the sentence."""
-    groups = re.split(r"^ +// ---- ", read("crates/tests_look/src/explanations/verdicts.rt"), flags=re.M)
-    rows, found = "".join(it for it in groups if it.startswith("remedies: ")), {}
-    for name, code, sentence in re.findall(r'name: "([^"]*)",[^"]*"[^}]*?lines: "refused (V\d+) [^/"]* / ([^"]*)",', rows, re.S):
-        found.setdefault(code, []).append((name, sentence))
-    if sum(map(len, found.values())) != rows.count("name: ") or not set(found) <= set(RUNS):
-        sys.exit("each_cause.py: a row of the remedies in verdicts.rt wasn't understood")
+    found = {}
+    for where, group, name, _, _, _, _, printed in look_rows.tables():
+        if where.startswith("verdicts.rows ") and group.startswith("remedies: "):
+            said = re.fullmatch(r"refused (V\d+) [^\n]*\n([^\n]*)\n", printed.decode())
+            if not said or said[1] not in RUNS:
+                sys.exit(f"each_cause.py: {where} wasn't understood")
+            found.setdefault(said[1], []).append((name, said[2]))
     return found
 
 

@@ -3,7 +3,7 @@
 
 - each call answers what `sts` and `look` print, with their status: over every example and every beginning of its trace, and
   over texts and traces with faults, refused texts, and runs that fault;
-- texts are explained as the rows of crates/tests_look say, and the line that is named is marked and in view;
+- texts are explained as the rows of checks/look_rows say, and the line that is named is marked and in view;
 - every example is played by the page's own buttons, after each event of its trace. There is a button for each event that
   counts there and no other, as `look view --each` says. Next to the listing is a number for each task that lives, at its
   instruction. A click on the number of a task that is ready writes its step. The page shows what `look view`,
@@ -26,6 +26,9 @@ import tempfile
 
 import browser
 
+sys.path.append(os.path.join(os.path.dirname(os.path.dirname(os.path.realpath(__file__))), "checks"))
+import look_rows  # noqa: E402
+
 HERE = os.path.dirname(os.path.realpath(__file__))
 ROOT = os.path.dirname(HERE)
 PAGE = os.path.join(HERE, "out", "index.html")
@@ -33,10 +36,6 @@ STS, LOOK = (os.path.join(ROOT, "crates", name, "out", name) for name in ("sts",
 EXAMPLES = sorted(glob.glob(os.path.join(ROOT, "examples", "*.sts")))
 NAMES = [os.path.basename(it) for it in EXAMPLES]
 LOOK_PAGE = os.path.join(ROOT, "docs", "LOOK.md")
-# The rows of texts; those of runs.rt have a trace as well.
-ROWS = [os.path.join(ROOT, "crates", "tests_look", "src", "explanations", name) for name in ("texts.rt", "verdicts.rt")]
-ROW = re.compile(r'text: "(.*?)",\s+lines: (".*?[^\\]"),\s+status: (\d)', re.S)
-PART = re.compile(r"(?:(\d+)x )?(.*)", re.S)
 # Lines of `view`.
 BORN = re.compile(r"^(task|scope) (\d+) ", re.M)
 LIVING = re.compile(r"^task (\d+) under \S+ in (\S+) at (\d+) (ready|waits)\b", re.M)
@@ -230,18 +229,11 @@ def all_calls(page, programs):
         yield from same_calls(page, programs, f"odd text {number}", text, [trace])
 
 
-def spelled(literal):
-    """What a string literal of Rust stands for."""
-    return json.loads(re.sub(r"\\u\{(\w+)\}", lambda it: f"\\u{int(it[1], 16):04x}", literal))
-
-
 def rows():
-    """Yields the text, the explanation and the status of each row of explanations."""
-    for path in ROWS:
-        for parts, lines, status in ROW.findall(read(path)):
-            short = [PART.fullmatch(it) for it in spelled(f'"{parts}"').split(" // ")]
-            text = "".join(int(it[1] or 1) * (it[2].replace(" / ", "\n") + "\n") for it in short)
-            yield text, spelled(lines).replace(" / ", "\n") + "\n", int(status)
+    """Yields the text, the explanation and the status of each row of explanations of texts."""
+    for _, _, _, text, words, events, status, printed in look_rows.tables():
+        if words == ["explain"] and events is None:
+            yield text.decode(), printed.decode(), status
 
 
 def explanations(page):

@@ -1,0 +1,140 @@
+#!/usr/bin/env python3
+"""Asks `look` for the answers of the rows in checks/look_rows, which were worked out by hand.  usage: look_rows.py [LOOK]
+
+The files `.rows` have the notation of the tables in crates/tests_rows/data, with these questions:
+- `? explain` asks for the explanation of the text above; `? explain TRACE` for that of its run;
+- `? view [--each] [--full] TRACE` and `? draw TRACE` ask for what these commands print.
+A TRACE is short (`0*5`), or `trace LINES`. A remark `# ---- GROUP` begins a group, and one above a text is the row's name.
+
+pictures.json has runs, and the picture of each. `sizes` are the width and the height of the picture and of its grid, and
+`foot` is where the legend begins. An element is `CLASS X Y WORDS` for a mark, `fork X FROM TO`, `number X N EVENT`,
+`idle X N EVENT`, or `value X Y WORDS` and other texts. The style and the legend are texts that were chosen; they are not
+compared. In a text, a trace and `stands`, ` / ` is between two lines.
+The last line is `N passed, M failed`, of rows.
+"""
+import glob
+import json
+import os
+import re
+import subprocess
+import sys
+import tempfile
+
+import rows
+
+HERE = os.path.dirname(os.path.realpath(__file__))
+LOOK = os.path.join(os.path.dirname(HERE), "crates", "look", "out", "look")
+SHAPES = {
+    "ready": "h24",
+    "waits": "h24",
+    "bracket": "h24",
+    "closing": "h24",
+    "step": "m-4 0a4 4 0 1 0 8 0a4 4 0 1 0-8 0",
+    "success": "m7 0l4 5l8-10",
+    "failed": "m8-5l10 10m0-10l-10 10",
+    "unheard": "m8 0a5 5 0 1 0 10 0a5 5 0 1 0-10 0",
+    "never-started": "m8-5h10v10h-10z",
+    "interrupted": "m2-21l-6 8h5l-3 7l8-9h-5l4-6z",
+    "edge": "m0-4v8",
+    "expired": "m4-4h7l-7 8h7z",
+    "cancelled": "m13 0a4 4 0 1 0 8 0a4 4 0 1 0-8 0m1.2 2.8l5.6-5.6",
+    "fault": "m14-9v10m0 4v3",
+}
+
+
+def tables():
+    """Yields of each row its file and line, its group and name, the text, what is asked, the trace, the status and the output."""
+    for path in sorted(glob.glob(f"{HERE}/look_rows/*.rows")):
+        text, group, name = b"", "", ""
+        for number, line in enumerate(open(path, newline="\n").read().split("\n"), 1):
+            kind, rest = line[:2], line[2:]
+            if not line:
+                text = b""
+            elif kind == "# ":
+                group, name = (rest[5:], name) if rest.startswith("---- ") else (group, rest)
+            elif kind == "? ":
+                asked = re.fullmatch(r"(explain|view|draw)((?: --\w+)*)(?: (.*))?", rest)
+                options, trace = asked[2].split(), None if asked[3] is None else rows.trace(asked[3], {})
+            elif kind == "= ":
+                status, _, short = rest.partition(" ")
+                where = f"{os.path.basename(path)} line {number}"
+                yield where, group, name, text, [asked[1], *options], trace, int(status), rows.meant(short, {})
+            else:
+                text += rows.meant(line, {})
+
+
+def asks(look, words, text, trace):
+    """Returns the status and what `look` prints."""
+    with tempfile.TemporaryDirectory() as folder:
+        files = [(name, content) for name, content in (("text", text), ("trace", trace)) if content is not None]
+        for name, content in files:
+            with open(os.path.join(folder, name), "wb") as file:
+                file.write(content)
+        given = [words[0], *(os.path.join(folder, name) for name, _ in files), *words[1:]]
+        ended = subprocess.run([look, *given], capture_output=True, timeout=60)
+        return ended.returncode, ended.stdout
+
+
+def lines(short):
+    return "".join(f"{it}\n" for it in short.split(" / ")) if short else ""
+
+
+def element(short):
+    """Returns an element of a picture from its short form."""
+    kind, x, y, words = (short.split(" ", 3) + [""])[:4]
+    if kind in ("number", "idle"):
+        idle = " idle" if kind == "idle" else ""
+        return f"<text class='number{idle}' x='{x}' y='44'><title>{words}{idle}</title>{y}</text>\n"
+    if kind == "fork":
+        return f"<path class='fork' d='M{x} {y}V{words}'/>\n"
+    if kind in ("value", "label", "name", "code"):
+        return f"<text class='{kind}' x='{x}' y='{y}'>{words}</text>\n"
+    return f"<path class='{kind}' d='M{x} {y}{SHAPES[kind]}'><title>{words}</title></path>\n"
+
+
+def picture(row):
+    """Returns the picture of a row, without its style and its legend."""
+    wide, high, grid_wide, grid_high = row["sizes"]
+    state = f"{row['state']}\n steps {row['steps']}\n"
+    described = f"{row['state']}\nsteps {row['steps']}\n{lines(row['stands'])}"
+    return (
+        f"<svg xmlns='http://www.w3.org/2000/svg' class='sts-run' role='img' viewBox='0 0 {wide} {high}' width='{wide}' height='{high}'>\n"
+        f"<title>{state}</title>\n<desc>{described}</desc>\n"
+        f"<rect fill='url(#sts-grid)' x='208' y='46' width='{grid_wide}' height='{grid_high}'/>\n"
+        f"<text class='heading' x='12' y='22'>{state}</text>\n{''.join(map(element, row['elements']))}"
+        f"<g transform='translate(12 {row['foot']})'>\n</g>\n</svg>\n"
+    )
+
+
+def without_style(printed):
+    """Returns what is printed without the style, which is before the grid, and the legend, which is the last group."""
+    unstyled = re.sub(r"(?s)(</desc>\n).+?(<rect fill='url\(#sts-grid\)')", r"\1\2", printed, count=1)
+    return re.sub(r"(?s)(<g transform='translate\(12 \d+\)'>\n).+(</g>\n</svg>\n)\Z", r"\1\2", unstyled)
+
+
+def tried(look):
+    """Yields what is asked, what `look` answers, and what is right."""
+    for where, group, name, text, words, trace, status, printed in tables():
+        yield f"{where}: {group}, {name}", asks(look, words, text, trace), (status, printed)
+    with open(f"{HERE}/look_rows/pictures.json") as file:
+        for row in json.load(file):
+            status, printed = asks(look, ["draw"], lines(row["text"]).encode(), lines(row["trace"]).encode())
+            yield f"the picture of {row['name']}", (status, without_style(printed.decode())), (row["status"], picture(row))
+
+
+def main():
+    look = os.path.realpath(sys.argv[1] if sys.argv[1:] else LOOK)
+    if not os.access(look, os.X_OK):
+        print(f"look_rows.py: no program at {look}: ./look builds it", file=sys.stderr)
+        return 2
+    passed = failed = 0
+    for what, said, right in tried(look):
+        passed, failed = passed + (said == right), failed + (said != right)
+        if said != right:
+            print(f"{what}: {said}, and not {right}", file=sys.stderr)
+    print(f"{passed} passed, {failed} failed")
+    return 1 if failed or not passed else 0
+
+
+if __name__ == "__main__":
+    sys.exit(main())

@@ -1,4 +1,0 @@
-//! Rows of pictures: runs, and the drawings of them.
-
-mod row;
-mod runs;
