@@ -66,6 +66,54 @@ FAN_OF_LOOPS = lines(
 )
 
 
+def spin(steps):
+    """Returns a loop of about this number of local steps: 2, and 5 for each turn."""
+    return f"push {steps // 5} / times {steps // 5} / load 0 / push 1 / add / store 0 / next"
+
+
+def polling(steps, times, tasks=4):
+    """Returns a program of some subtasks. Each asks whether it is interrupted, and does local steps before each question."""
+    return lines(
+        f"func work 0 / push {times} / times {times} / {spin(steps)} / interrupted / pop / next / load 0 / ret / end / "
+        f"func main 0 / open s0 awaitall / push {tasks} / times {tasks} / fork s0 work _ / next / join s0 - - intr / close s0 / push 1 / ret / "
+        "intr: / push 0 / close s0 / fail / end"
+    )
+
+
+def subtasks(count, steps):
+    """Returns a program of one scope with many subtasks, each with about this number of local steps."""
+    work = spin(steps) if steps > 5 else "push 1 / pop"
+    return lines(
+        f"func work 0 / {work} / push 0 / ret / end / func main 0 / open s0 awaitall / push 10 / times 10 / "
+        f"push {count // 10} / times {count // 10} / fork s0 work _ / next / next / join s0 - - intr / close s0 / push 1 / ret / "
+        "intr: / push 0 / close s0 / fail / end"
+    )
+
+
+def short_then_wide(scopes):
+    """Returns a program of scopes with one short subtask each, and then a scope of eight with 80,000 local steps each."""
+    return lines(
+        f"func kid 0 / push 0 / ret / end / func work 0 / push 10 / times 10 / {spin(8_000)} / next / load 0 / ret / end / "
+        f"func main 0 / push {scopes} / times {scopes} / open s0 awaitall / fork s0 kid _ / join s0 - - intr / close s0 / jmp go / "
+        "intr: / close s0 / go: / next / open s0 awaitall / push 8 / times 8 / fork s0 work _ / next / join s0 - - stop / close s0 / "
+        "push 3 / ret / stop: / push 0 / close s0 / fail / end"
+    )
+
+
+# Programs in which several workers may be slow: tasks that seldom leave the lock, short subtasks, long ones after many short.
+WORK = {
+    "polling_50": polling(50, 3_500),
+    "polling_500": polling(500, 440),
+    "polling_5000": polling(5_000, 44),
+    "subtasks_5": subtasks(60_000, 5),
+    "subtasks_50": subtasks(15_000, 50),
+    "subtasks_500": subtasks(1_800, 500),
+    "subtasks_5000": subtasks(180, 5_000),
+    "short_then_wide": short_then_wide(9_000),
+    "one_long_task": polling(5_000, 170, 1),
+}
+
+
 def fan_out_trace():
     """Each subtask does its two steps as soon as it is forked."""
     steps = ["step 0\n" * 2]
@@ -233,6 +281,8 @@ def main():
     write(folder, "fan_out.sts", FAN_OUT)
     write(folder, "fan_of_loops.sts", FAN_OF_LOOPS)
     write(folder, "fan_out.trace", fan_out_trace())
+    for name, text in WORK.items():
+        write(folder, f"{name}.sts", text)
     for name, make, least in GROWTH:
         for times in (1, 2, 4, 8):
             text, trace = make(least * times)

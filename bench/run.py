@@ -1,7 +1,7 @@
 #!/usr/bin/env python3
 """Prints tables of the throughputs of `sts`, each the least time of several runs.  usage: run.py [PATH_OF_sts]  (RUNS=9)
 
-ONLY=workers prints one of the tables: texts, machines, workers, growth or labels. Rates are of the whole process less the
+ONLY=workers prints one of the tables: texts, machines, workers, work, growth or labels. Rates are of the whole process less the
 time that a text of one function takes. Runs by workers are taken in turns, one by each number of workers after the other.
 They have no journal, and their median is printed too. If processors are shared, a few runs mislead: for figures like those
 of docs/SPEED.md use RUNS=300 ONLY=workers on a machine that does nothing else.
@@ -17,6 +17,7 @@ import time
 HERE = os.path.dirname(os.path.abspath(__file__))
 RUNS = int(os.environ.get("RUNS", "9"))
 WORKERS = (1, 2, 4)
+WORK = ("polling_50", "polling_500", "polling_5000", "subtasks_5", "subtasks_50", "subtasks_500", "subtasks_5000", "short_then_wide", "one_long_task")
 
 
 def once(command):
@@ -35,17 +36,21 @@ def least_seconds(command):
 
 
 # Run by itself, as a child begins with the memory of the process that started it.
-MEASURE = """
-import os, sys
+COUNT = """
+import os, sys, time
 null = [(os.POSIX_SPAWN_OPEN, 1, os.devnull, os.O_WRONLY, 0)]
-_, _, usage = os.wait4(os.posix_spawn(sys.argv[1], sys.argv[1:], os.environ, file_actions=null), 0)
-print(usage.ru_maxrss / 1024)
+start = time.perf_counter()
+_, status, usage = os.wait4(os.posix_spawn(sys.argv[1], sys.argv[1:], os.environ, file_actions=null), 0)
+print(time.perf_counter() - start, usage.ru_utime + usage.ru_stime, usage.ru_nvcsw, usage.ru_maxrss / 1024, status)
 """
 
 
-def most_megabytes(command):
-    """The most memory that one run takes."""
-    return float(subprocess.check_output([sys.executable, "-c", MEASURE, *command]))
+def counted(command):
+    """Seconds, seconds of processors, waits and MiB of one run."""
+    *figures, status = map(float, subprocess.check_output([sys.executable, "-c", COUNT, *command]).split())
+    if status:
+        raise SystemExit(f"{' '.join(command)}: status {status}")
+    return figures
 
 
 def instructions(path):
@@ -94,13 +99,29 @@ def workers(program, at, base):
             print(f"{f'run {name} by {count}, steps':38}{min(taken) * 1e3:9.2f}{statistics.median(taken) * 1e3:9.2f}{rate:11.2f}")
 
 
+def work(program, at, base):
+    """Rows of runs in which several workers may be slow. Each figure is the least, but the waits are the median."""
+    print(f"\n{'case':38}{'ms':>9}{'times 1':>9}{'of proc.':>10}{'waits':>8}{'MiB':>7}")
+    for name in WORK:
+        figures = {count: [] for count in WORKERS}
+        for _, count in itertools.product(range(RUNS), WORKERS):
+            figures[count].append(counted([program, "run", at(name + ".sts"), "--workers", str(count)]))
+        first = min(figures[1])[0]
+        for count, rows in figures.items():
+            seconds, processors, waits, most = zip(*rows)
+            print(
+                f"{f'run {name} by {count}':38}{min(seconds) * 1e3:9.2f}{min(seconds) / first:9.2f}"
+                f"{min(processors) * 1e3:10.2f}{statistics.median(waits):8.0f}{min(most):7.1f}"
+            )
+
+
 def growth(program, at, base):
     """Rows of programs with 1, 2, 4 and 8 times the work, and the memory that a run takes."""
     print(f"\n{'plain, times the work':38}{'ms':>9}{'MiB':>9}")
     for name, times in itertools.product(("chain", "last_of_many", "fifties", "never_run"), (1, 2, 4, 8)):
         command = [program, "plain", at(f"{name}{times}.sts"), at(f"{name}{times}.trace")]
         seconds, _ = least_seconds(command)
-        print(f"{name + ', ' + str(times) + ' times':38}{seconds * 1e3:9.2f}{most_megabytes(command):9.0f}")
+        print(f"{name + ', ' + str(times) + ' times':38}{seconds * 1e3:9.2f}{counted(command)[3]:9.0f}")
 
 
 def labels(program, at, base):
@@ -114,7 +135,7 @@ def labels(program, at, base):
             print(f"{f'list {name} labels, {times} times':38}{seconds * 1e3:9.2f}{seconds / first:18.1f}")
 
 
-TABLES = {it.__name__: it for it in (texts, machines, workers, growth, labels)}
+TABLES = {it.__name__: it for it in (texts, machines, workers, work, growth, labels)}
 
 
 def main():

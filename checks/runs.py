@@ -3,9 +3,10 @@
 
 README.md: `run` of `sum` by 1 to 16 workers prints what `verify` prints, and then the end and the steps that README.md shows.
 `replay` of the journal prints these two again. examples/README.md: `deadline` with its outside events ends with
-`success 0`. LANGUAGE.md: what its first text prints. PATTERNS.md: each program reaches an end that is shown, `plain`
-and `replay` print what is shown for each trace, and files from other editors are judged as shown. The lines for a shell
-that PATTERNS.md, LANGUAGE.md and VERIFIER.md show do what the text says.
+`success 0`, with a journal and without, and with `success 42` if nothing comes from outside. LANGUAGE.md: what its first
+text prints. PATTERNS.md: each program reaches an end that is shown, `plain` and `replay` print what is shown for each trace,
+and files from other editors are judged as shown. The lines for a shell that PATTERNS.md, LANGUAGE.md and VERIFIER.md show do
+what the text says.
 
 It also runs other programs, each with a journal and without: programs of one task with outside events, whose ends and
 journals follow from when an event is due; a long loop; and a scope of 65,535 subtasks in a text of 1,048,576 bytes.
@@ -262,6 +263,10 @@ def tried(program, folder):
         said = says(program, "run", DEADLINE, "--workers", workers, "--outside", DUE, "--trace", journal)
         yield f"deadline by {workers}", said.startswith(f"{due}success 0\nsteps ")
         yield f"the journal of deadline by {workers}", due + says(program, "replay", DEADLINE, journal) == said
+        said = says(program, "run", DEADLINE, "--workers", workers, "--outside", DUE)
+        yield f"deadline by {workers}, no journal", said.startswith(f"{due}success 0\nsteps ")
+        said = says(program, "run", DEADLINE, "--workers", workers)
+        yield f"deadline by {workers}, nothing from outside", said.startswith(f"{due}success 42\nsteps ")
 
 
 def main():
