@@ -9,7 +9,8 @@ and files from other editors are judged as shown. The lines for a shell that PAT
 what the text says.
 
 It also runs other programs, each with a journal and without: programs of one task with outside events, whose ends and
-journals follow from when an event is due; a long loop; and a scope of 65,535 subtasks in a text of 1,048,576 bytes.
+journals follow from when an event is due; four long tasks, where an event is late by one slice at most; a long loop; and a
+scope of 65,535 subtasks in a text of 1,048,576 bytes.
 The last line is `N passed, M failed`, of runs.
 """
 import os
@@ -77,6 +78,11 @@ OUTSIDES = [
 ]
 # Where instructions are done in a slice, an event may come later than it is due, but before `interrupted`.
 LATE = ["at 65535 i0", "at 65536 i0", "at 70000 i0"]
+# Four subtasks of 200,064 steps each. An event that is due is late by the steps of one slice at most.
+FOUR = b"func work 0\npush 20\ntimes 20\npush 10000\ntimes 10000\nnext\nnext\npush 0\nret\nend\n" \
+    b"func main 0\nopen s0 awaitall\n" + b"fork s0 work _\n" * 4 + b"join s0 - - intr\nclose s0\npush 1\nret\n" \
+    b"intr:\npush 0\nclose s0\nfail\nend\n"
+SLICE = 65_536
 # 2 + 90 * (2 + 10,000 + 1) + 2 steps
 LONGEST = LONG.replace(b" 8\n", b" 90\n")
 # 1 + 15 * (2 + 4,369 * 2 + 1) + 2 steps of the subtasks' owner up to the join, 65,535 * 2 of the subtasks, and 3
@@ -233,6 +239,10 @@ def outsides(program, folder):
         yield f"{short!r}", said == ["success 1\nsteps 80028\n"] * 2
         before = journal.split("interrupt")[0].count("\n")
         yield f"the place of {short!r}", int(short.split()[1]) <= before <= 80026 and journal.count("\n") == 80029
+    for at, workers in ((100_000, "1"), (300_000, "2"), (500_000, "4")):
+        said, journal = with_outside(program, folder, FOUR, f"at {at} i77", workers)
+        before = journal.split("interrupt")[0].count("\n")
+        yield f"an event at {at} by {workers}", said == ["success 1\nsteps 800265\n"] * 2 and at <= before <= at + SLICE
 
 
 def largest(program, folder):
