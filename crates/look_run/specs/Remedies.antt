@@ -1,7 +1,8 @@
 -- What to do about a fault of a run. It depends on the instruction, and on the state of the task
 -- there (this project's own).
-use Rattle.std.specs.Prelude.{ℕ, List, [], ◌∷◌, length, Bool, Option, Some, None, is_some, is_none}
-use Rattle.std.specs.Prelude.{if◌then◌else◌, nat_le}
+use Rattle.std.specs.Prelude.{ℕ, ◌+◌, ◌-◌, List, [], ◌∷◌, length, take, Bool, Option, Some, None}
+use Rattle.std.specs.Prelude.{is_some, is_none, if◌then◌else◌, nat_le, nat_lt}
+use Rattle.std.specs.List.{fold}
 use Rattle.sts_code.specs.Program.{Program}
 use Rattle.sts_code.specs.Facts.{can_fail}
 use Rattle.sts_code.specs.Loops.{match_of}
@@ -27,9 +28,24 @@ use Rattle.look_refusal.specs.declared.remedy.Remedy.TheVariants as r
 
 -- ---- Operand
 
--- a `times` or `next` that can't be done
+-- how many `times` are open after an instruction, by how many were open before it
+abbrev pub open_after : ℕ → Instr → ℕ
+open_after depth (i.Times n) = depth + 1
+open_after depth i.Next = depth - 1
+open_after depth instr = depth
+
+-- how many are still open after these instructions
+abbrev pub open_loops : List Instr → ℕ
+open_loops instrs = fold open_after 0 instrs
+
+-- is the place of a frame inside of a loop?
+abbrev pub is_in_loop : Program → Frame → Bool
+is_in_loop p f = nat_lt 0 (open_loops (take f.pc (code p f)))
+
+-- a `times` or `next` that can't be done; a `next` inside of a loop ends one that was entered in
+-- the middle
 abbrev pub loop_remedy : Program → Frame → Instr → Remedy
-loop_remedy p f i.Next = r.NextWithoutTimes
+loop_remedy p f i.Next = if is_in_loop p f then r.LoopCrossed else r.NextWithoutTimes
 loop_remedy p f instr =
     if is_none (match_of (code p f) f.pc) then r.TimesWithoutNext else r.TooManyLoops
 

@@ -1,7 +1,7 @@
 //! What to do about a fault of a run. It depends on the instruction, and on the state of the task
 //! there.
 
-ghost use Rattle.std.specs.Prelude.{◌≡◌, ◌<◌, length, true, if◌then◌else◌};
+ghost use Rattle.std.specs.Prelude.{◌≡◌, ◌<◌, ◌^◌, length, true, if◌then◌else◌};
 ghost use Rattle.sts_model.specs.Living as living;
 ghost use Rattle.sts_model.specs.Misuse as misuse;
 ghost use Rattle.sts_model.specs.World as model;
@@ -16,11 +16,47 @@ use sts_world::Records;
 
 // ---- Operand
 
+/// How many `times` are open after an instruction, if so many were open before it?
+fn open_after(depth: usize, instr: Instr) -> usize
+    requires { depth < 2 ^ 63 }
+    ensures { result ≡ def.open_after depth instr }
+{
+    match instr {
+        Instr::Times(_) => depth + 1,
+        Instr::Next => depth.saturating_sub(1),
+        _ => depth,
+    }
+}
+
+/// How many `times` of these instructions are still open after the last one?
+fn open_loops(code: &[Instr]) -> usize
+    ensures { result ≡ def.open_loops code.now }
+{
+    let mut depth = 0;
+    for at in 0..code.len() {
+        depth = open_after(depth, code[at]);
+    }
+    depth
+}
+
+/// Is the place of a frame inside of a loop?
+fn is_in_loop(program: &Program, frame: &Frame) -> bool
+    ensures { result ≡ def.is_in_loop program.now frame.now }
+{
+    let code = code(program, frame);
+    let place = code.len().min(frame.pc as usize);
+    open_loops(&code[..place]) > 0
+}
+
 fn loop_remedy(program: &Program, frame: &Frame, instr: Instr) -> Remedy
     ensures { result ≡ def.loop_remedy program.now frame.now instr }
 {
     match instr {
-        Instr::Next => Remedy::NextWithoutTimes,
+        Instr::Next => if is_in_loop(program, frame) {
+            Remedy::LoopCrossed
+        } else {
+            Remedy::NextWithoutTimes
+        },
         _ => if match_of(code(program, frame), frame.pc).is_none() {
             Remedy::TimesWithoutNext
         } else {
