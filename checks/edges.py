@@ -23,7 +23,7 @@ import tempfile
 
 ROOT = os.path.dirname(os.path.dirname(os.path.realpath(__file__)))
 PROGRAM, LOOK = (os.path.join(ROOT, "crates", name, "out", name) for name in ("sts", "look"))
-SECONDS = 60
+SECONDS, LARGE = 60, 600  # how long a run may take, and a large one
 MOST = 1_048_576  # The bytes that a text may have.
 
 SEVEN = "func main 0\npush 7\nret\nend\n"
@@ -64,9 +64,9 @@ class Folder:
             with open(os.path.join(self.path, name), "w") as file:
                 file.write(content)
 
-    def says(self, *words, given=""):
+    def says(self, *words, given="", seconds=SECONDS):
         """Returns the status, standard output and standard error."""
-        around = {"cwd": self.path, "capture_output": True, "timeout": SECONDS}
+        around = {"cwd": self.path, "capture_output": True, "timeout": seconds}
         try:
             done = subprocess.run([self.program, *words], input=given.encode(), **around)
         except subprocess.TimeoutExpired:
@@ -419,7 +419,7 @@ def large_runs_of_sts(sts):
     """Tries the most subtasks that a scope may have, in a text of the greatest length."""
     sts.has(text=WIDE + ";" * (MOST - len(WIDE) - 1) + "\n")
     for more in ([], ["--trace", "journal"]):
-        yield f"a large run: {more}", sts.says("run", "text", "--workers", "4", *more), (0, OF_WIDE, "")
+        yield f"a large run: {more}", sts.says("run", "text", "--workers", "4", *more, seconds=LARGE), (0, OF_WIDE, "")
     yield "its journal", sts.read("journal").count("step ") if "journal" in sts.names() else 0, 262191
 
 
