@@ -320,6 +320,11 @@ DUES = [
 ]
 
 
+# Its flag is read once, at step 70,023 = 2 + 7 * (2 + 10,000 + 1), after more entries than a number of 16 bits has.
+LATE = "func main 0\npush 7\ntimes 7\npush 10000\ntimes 10000\nnext\nnext\ninterrupted\nret\nend\n"
+LATE_DUES = [(70023, 1), (70024, 0), (65536, 1)]
+
+
 def dues_of_sts(sts):
     """Tries outside texts. One worker looks into them before each step."""
     for short, value, journal in DUES:
@@ -331,6 +336,11 @@ def dues_of_sts(sts):
         yield f"{short!r} with a journal", sts.says(*words, "--trace", "journal"), right
         events = "".join("step 0\n" if it == "s" else f"interrupt {it}\n" for it in journal.split())
         yield f"the journal of {short!r}", sts.read("journal"), events
+    for entries, value in LATE_DUES:
+        sts.has(text=LATE, due=f"at {entries} interrupt 0\n")
+        right = 0, f"{BUDGETS.replace('2', '70025')}success {value}\nsteps 70025\n", ""
+        for more in ([], ["--trace", "journal"]):
+            yield f"due at {entries}: {more}", sts.says("run", "text", "--workers", "1", "--outside", "due", *more), right
 
 
 # Outside texts with a fault, and what is printed.
