@@ -16,7 +16,7 @@ use sts_world::Records;
 
 // ---- Operand
 
-/// How many `times` are open after an instruction, if so many were open before it?
+/// How many `times` are open after an instruction, from the number that were open before it.
 fn open_after(depth: usize, instr: Instr) -> usize
     requires { depth < 2 ^ 63 }
     ensures { result ≡ def.open_after depth instr }
