@@ -6,10 +6,11 @@ program=$root/crates/$crate/out/$crate
 unproved=$program.unproved
 
 # Returns whether a source or a definition is newer than this program. A proof changes no program, so proofs don't count.
-# The build writes PROGRAM.newer, a test of the files that the program is built of. Without it all files are tested.
+# The build writes PROGRAM.newer, a test of the files that the program is built of, and dates it a second after the program.
+# Without it, or if something else has built the program since, all files are tested.
 is_stale() {
   [ -x "$1" ] || return 0
-  if [ -f "$1.newer" ]; then
+  if [ "$1.newer" -nt "$1" ]; then
     . "$1.newer"
     is_older "$1"
     return

@@ -33,10 +33,14 @@ def paths(names):
 
 
 def write(program, crate):
-    """Writes beside a program, as PROGRAM.newer, the test whether something that it is built of is newer. The launcher
-    reads it. A file that is added or removed changes the time of its folder, so the test finds it too."""
+    """Writes beside a program, as PROGRAM.newer, the test whether something that it is built of is newer.
+
+    The launcher reads it only if it is newer than the program, since another build leaves it as it was. A file that is
+    added or removed changes the time of its folder, so the test finds it too."""
     tests = " -o ".join(f'"$root/{it}" -nt "$1"' for it in paths(needed(crates(), crate, [])))
     written = f"{program}.newer.{os.getpid()}"
     with open(written, "w") as file:
         file.write(f"# Written by checks/sources.py.\nis_older() {{\n  [ {tests} ]\n}}\n")
+    after = os.path.getmtime(program) + 1
+    os.utime(written, (after, after))
     os.replace(written, f"{program}.newer")
