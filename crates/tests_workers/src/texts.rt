@@ -89,11 +89,11 @@ pub const LATE: &str = "\
 ";
 
 /// Two subtasks. `main` gives 1 if it was interrupted before its first step, and 10 more if it was
-/// interrupted while it waited for them.
+/// interrupted again, while it waited for them or before it asks behind the `close`.
 pub const GREETED: &str = "\
     func kid 0\npush 0\nret\nend\n\
     func main 0\ninterrupted\nstore 0\nopen s0 awaitall\nfork s0 kid _\nfork s0 kid _\njoin s0 - - intr\n\
-    close s0\nload 0\nret\n\
+    close s0\ninterrupted\npush 10\nmul\nload 0\nadd\nret\n\
     intr:\nclose s0\nload 0\npush 10\nadd\nret\nend\n\
 ";
 
