@@ -88,8 +88,8 @@ pub const LATE: &str = "\
     intr:\npush 0\nclose s0\nfail\nend\n\
 ";
 
-/// Two subtasks. `main` gives 1 if it was interrupted before its first step, and 10 more if it was
-/// interrupted again, while it waited for them or before it asks behind the `close`.
+/// Two subtasks. `main` gives 1 if it was interrupted before its first step. It gives 10 more if it
+/// was interrupted while it waited for them, or before it asks once more behind the `close`.
 pub const GREETED: &str = "\
     func kid 0\npush 0\nret\nend\n\
     func main 0\ninterrupted\nstore 0\nopen s0 awaitall\nfork s0 kid _\nfork s0 kid _\njoin s0 - - intr\n\
