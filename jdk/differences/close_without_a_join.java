@@ -1,5 +1,5 @@
 // Prints: StructureViolationException
-// By the rules it is an illegal state, which is tested first. In JDK 25 that comes too, where no scope is open inside.
+// By the rules it is an illegal state, which is tested first. If no scope is open inside, JDK 25 throws IllegalStateException, too.
 void main() throws InterruptedException {
     var scope = StructuredTaskScope.open();
     scope.fork(() -> 1);
