@@ -1,0 +1,161 @@
+//! The lines of ends.
+
+ghost use Rattle.std.specs.Prelude.{◌≡◌, ◌++◌, ◌+◌, ◌<◌, ◌^◌, OnOk};
+ghost use Rattle.sts_output.specs.Printed.{end_line};
+ghost use Rattle.look_ends.specs.Lines as def;
+
+use ends_plain::config::Found;
+use look_run::{Told, say_task};
+use look_text::say;
+use std::alloc::{AllocError, Global};
+use sts_model::{End, Fault};
+use sts_output::printed;
+use sts_plain::PlainState;
+
+/// `fault KIND, task T in NAME, line L: WORDS`
+fn say_fault(
+    alloc: Global,
+    out: &mut Vec<u8>,
+    told: Told<'_, '_, '_>,
+    kind: Fault,
+    task: u32,
+    function: u32,
+    pc: u32,
+) -> Result<(), AllocError>
+    ensures { OnOk result (out.new.items ≡ out.old.items
+        ++ def.fault_words told.entry.program.now told.entry.outline.now kind task function pc) }
+{
+    say(out, "fault ")?;
+    say(out, printed::fault_word(kind))?;
+    say(out, ", ")?;
+    say_task(alloc, out, told, task, function, pc)?;
+    say(out, "\n")
+}
+
+fn say_outcome(alloc: Global, out: &mut Vec<u8>, end: End) -> Result<(), AllocError>
+    ensures { OnOk result (out.new.items ≡ out.old.items ++ end_line end) }
+{
+    let mut line = String::new(alloc);
+    printed::end_line(&mut line, end)?;
+    say(out, line.as_str())
+}
+
+/// `success V`, `failed C` or a fault.
+fn say_end(
+    alloc: Global,
+    out: &mut Vec<u8>,
+    told: Told<'_, '_, '_>,
+    end: PlainState,
+) -> Result<(), AllocError>
+    ensures { OnOk result (out.new.items ≡ out.old.items
+        ++ def.end_words told.entry.program.now told.entry.outline.now end) }
+{
+    match end {
+        PlainState::Running => say(out, "running\n"),
+        PlainState::Ended(end) => say_outcome(alloc, out, end),
+        PlainState::Fault {
+            kind,
+            task,
+            function,
+            pc,
+        } => say_fault(alloc, out, told, kind, task, function, pc),
+    }
+}
+
+/// `K after N events`
+fn say_head(
+    alloc: Global,
+    out: &mut Vec<u8>,
+    place: usize,
+    one: &Found,
+) -> Result<(), AllocError>
+    requires { place + 1 < 2 ^ 64 }
+    ensures { OnOk result (out.new.items ≡ out.old.items ++ def.head_words place one.now) }
+{
+    let number = place + 1;
+    let events = one.trace.len();
+    let head = format!(in alloc; "{number} after {events} events")?;
+    say(out, head.as_str())
+}
+
+/// `K after N events: END`
+fn say_found(
+    alloc: Global,
+    out: &mut Vec<u8>,
+    told: Told<'_, '_, '_>,
+    place: usize,
+    one: &Found,
+) -> Result<(), AllocError>
+    requires { place + 1 < 2 ^ 64 }
+    ensures { OnOk result (out.new.items ≡ out.old.items
+        ++ def.found_line told.entry.program.now told.entry.outline.now place one.now) }
+{
+    say_head(alloc, out, place, one)?;
+    say(out, ": ")?;
+    say_end(alloc, out, told, one.end)
+}
+
+/// The lines of the ends, numbered from 1.
+///
+/// # Errors
+///
+/// Memory was refused; a part of them may then be in `out`.
+pub(crate) fn say_all(
+    alloc: Global,
+    out: &mut Vec<u8>,
+    told: Told<'_, '_, '_>,
+    found: &[Found],
+) -> Result<(), AllocError>
+    ensures { OnOk result (out.new.items ≡ out.old.items
+        ++ def.found_lines told.entry.program.now told.entry.outline.now found.now 0) }
+{
+    for k in 0..found.len() {
+        say_found(alloc, out, told, k, &found[k])?;
+    }
+    Ok(())
+}
+
+/// `K after N events, in T of S schedules: END`
+fn say_sampled(
+    alloc: Global,
+    out: &mut Vec<u8>,
+    told: Told<'_, '_, '_>,
+    place: usize,
+    one: &Found,
+    times: u64,
+    schedules: u32,
+) -> Result<(), AllocError>
+    requires { place + 1 < 2 ^ 64 }
+    ensures { OnOk result (out.new.items ≡ out.old.items
+        ++ def.sampled_line told.entry.program.now told.entry.outline.now place one.now times
+        schedules) }
+{
+    say_head(alloc, out, place, one)?;
+    let share = format!(in alloc; ", in {times} of {schedules} schedules: ")?;
+    say(out, share.as_str())?;
+    say_end(alloc, out, told, one.end)
+}
+
+/// The lines of the ends of random schedules, with how often each came.
+///
+/// # Errors
+///
+/// Memory was refused; a part of them may then be in `out`.
+pub(crate) fn say_shares(
+    alloc: Global,
+    out: &mut Vec<u8>,
+    told: Told<'_, '_, '_>,
+    found: &[Found],
+    times: &[u64],
+    schedules: u32,
+) -> Result<(), AllocError>
+    ensures { OnOk result (out.new.items ≡ out.old.items
+        ++ def.sampled_lines told.entry.program.now told.entry.outline.now found.now times.now
+        schedules 0) }
+{
+    for k in 0..found.len() {
+        let came = times.get(k).copied().unwrap_or(0);
+        say_sampled(alloc, out, told, k, &found[k], came, schedules)?;
+    }
+    Ok(())
+}
