@@ -137,7 +137,7 @@ fn ends<'a>(alloc: Global) -> Result<Command<'a>, AllocError>
         alloc,
         "most",
         "N",
-        "stops when it has N states (1000000)",
+        "stops when it has N states (300000)",
     );
     let sample = option(
         alloc,

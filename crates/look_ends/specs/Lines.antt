@@ -1,18 +1,25 @@
 -- The lines of ends, and what is printed below them (this project's own).
-use Rattle.std.specs.Prelude.{ℕ, ◌+◌, ◌-◌, ◌<◌, List, [], ◌∷◌, ◌++◌, Bool, true, false, not, ◌&&◌}
-use Rattle.std.specs.Prelude.{if◌then◌else◌, codes, length, slice_index_or, nat_lt, Option, Some, None}
+use Rattle.std.specs.Prelude.{ℕ, ◌+◌, ◌-◌, ◌==◌, List, [], ◌∷◌, ◌++◌, Bool, true, false, not, ◌&&◌}
+use Rattle.std.specs.Prelude.{if◌then◌else◌, codes, length, slice_get, Option, Some, None, is_some}
 use Rattle.std.specs.List.{list_any}
 use Rattle.std.specs.Fmt.{decimal}
-use Rattle.sts_code.specs.Program.{Program}
+use Rattle.sts_code.specs.Program.{Program, routine}
 use Rattle.sts_asm.specs.Outline.{Outline}
+use Rattle.sts_asm.specs.Source.{sentence_at}
 use Rattle.sts_model.specs.declared.event.Fault.{Fault}
 use Rattle.sts_plain.specs.declared.misstep.PlainState.{PlainState}
 use Rattle.sts_plain.specs.declared.misstep.PlainState.TheVariants as plain
 use Rattle.sts_output.specs.Printed.{end_line, fault_word}
 use Rattle.ends_plain.specs.declared.config.Found.{Found}
-use Rattle.look_run.specs.Lines.{task_place}
+use Rattle.look_text.specs.Lines.{place_words}
 
 -- ---- an end
+
+-- `task 1 in kid, line 3: close s0`, the words as they are in the text
+abbrev pub task_place : Program → Outline → ℕ → ℕ → ℕ → List ℕ
+task_place p o t f pc =
+    codes "task " ++ decimal t ++ codes " in " ++ (routine p f).name
+    ++ place_words (sentence_at o f pc)
 
 -- `fault Structure, task 1 in kid, line 3: close s0`
 abbrev pub fault_words : Program → Outline → Fault → ℕ → ℕ → ℕ → List ℕ
@@ -45,11 +52,19 @@ sampled_line p o place f times schedules =
     head_words place f ++ codes ", in " ++ decimal times ++ codes " of " ++ decimal schedules
     ++ codes " schedules: " ++ end_words p o f.end
 
+abbrev pub times_or_none : Option ℕ → ℕ
+times_or_none None = 0
+times_or_none (Some n) = n
+
+-- how often the end at a place came
+abbrev pub times_at : List ℕ → ℕ → ℕ
+times_at times place = times_or_none (slice_get times place)
+
 -- the lines of these ends, which came so often
 abbrev pub sampled_lines : Program → Outline → List Found → List ℕ → ℕ → ℕ → List ℕ
 sampled_lines p o [] times schedules place = []
 sampled_lines p o (f ∷ fs) times schedules place =
-    sampled_line p o place f (slice_index_or times place 0) schedules
+    sampled_line p o place f (times_at times place) schedules
     ++ sampled_lines p o fs times schedules (place + 1)
 
 -- ---- below the ends
@@ -75,7 +90,7 @@ states_line whole states =
 -- schedules that came to no end
 abbrev pub unfinished_line : ℕ → List ℕ
 unfinished_line unfinished =
-    if nat_lt 0 unfinished then decimal unfinished ++ codes " schedules were cut off\n" else []
+    if unfinished == 0 then [] else decimal unfinished ++ codes " schedules were cut off\n"
 
 abbrev pub schedules_line : ℕ → ℕ → List ℕ
 schedules_line schedules seed =
@@ -84,16 +99,22 @@ schedules_line schedules seed =
 
 -- ---- the end whose trace is kept
 
--- is it the number of one of these ends?
+-- the end of a number, the first one having number 1
+abbrev pub found_at : List Found → ℕ → Option Found
+found_at found k = if k == 0 then None else slice_get found (k - 1)
+
 abbrev pub is_number : List Found → ℕ → Bool
-is_number found k = nat_lt 0 k && not (nat_lt (length found) k)
+is_number found k = is_some (found_at found k)
 
 -- is there an end of the number that is asked for, if one is?
 abbrev pub has_number : Option ℕ → List Found → Bool
 has_number None found = true
 has_number (Some k) found = is_number found k
 
+abbrev pub unless_there : ℕ → List Found → List ℕ
+unless_there k found =
+    if is_number found k then [] else codes "no end has number " ++ decimal k ++ codes "\n"
+
 abbrev pub no_number_line : Option ℕ → List Found → List ℕ
 no_number_line None found = []
-no_number_line (Some k) found =
-    if is_number found k then [] else codes "no end has number " ++ decimal k ++ codes "\n"
+no_number_line (Some k) found = unless_there k found

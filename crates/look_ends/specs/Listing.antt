@@ -1,6 +1,6 @@
 -- What is printed of the ends of a text, and the trace that is kept (this project's own).
-use Rattle.std.specs.Prelude.{◌≡◌, ◌⊎◌, ℕ, ◌-◌, List, [], ◌∷◌, ◌++◌, Bool, true, false, ◌&&◌}
-use Rattle.std.specs.Prelude.{if◌then◌else◌, nat_lt, Option, Some, None, Result, Ok, Err, slice_get}
+use Rattle.std.specs.Prelude.{◌≡◌, ◌⊎◌, ℕ, List, [], ◌++◌, Bool, true, false, ◌&&◌}
+use Rattle.std.specs.Prelude.{if◌then◌else◌, Option, Some, None, Result, Ok, Err}
 use Rattle.std.specs.Io.KnownBytes.{Appends}
 use Rattle.sts_code.specs.Program.{Program}
 use Rattle.sts_model.specs.declared.event.Event.{Event}
@@ -17,7 +17,7 @@ use Rattle.ends_plain.specs.Listed.{AreEnds, ends_of}
 use Rattle.ends_plain.specs.declared.config.Found.{Found}
 use Rattle.ends_plain.specs.declared.config.Setting.{Setting}
 use Rattle.look_refusal.specs.Output.{fault_output}
-use Rattle.look_ends.specs.Lines.{found_lines, has_number, no_number_line, refused_line}
+use Rattle.look_ends.specs.Lines.{found_at, found_lines, has_number, no_number_line, refused_line}
 use Rattle.look_ends.specs.Lines.{sampled_lines, schedules_line, states_line, unfinished_line}
 use Rattle.look_ends.specs.declared.wanted.Manner.{Manner}
 use Rattle.look_ends.specs.declared.wanted.Manner.TheVariants as manner
@@ -41,7 +41,7 @@ events_of (Some f) = f.trace.items
 -- the trace of the end whose number is asked for, the first one having number 1
 abbrev pub trace_of : Option ℕ → List Found → List Event
 trace_of None found = []
-trace_of (Some k) found = if nat_lt 0 k then events_of (slice_get found (k - 1)) else []
+trace_of (Some k) found = events_of (found_at found k)
 
 -- 0 if all schedules were tried, and an end that was asked for is there
 abbrev pub status_of : Bool → Option ℕ → List Found → ℕ

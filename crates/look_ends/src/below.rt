@@ -1,6 +1,6 @@
 //! The lines below the ends.
 
-ghost use Rattle.std.specs.Prelude.{◌≡◌, ◌++◌, OnOk};
+ghost use Rattle.std.specs.Prelude.{◌≡◌, ◌++◌, OnOk, option_map};
 ghost use Rattle.look_ends.specs.Lines as def;
 
 use ends_plain::config::Found;
@@ -31,9 +31,10 @@ pub(crate) fn say_refused(
         ++ def.refused_line is_refused whole found.now) }
 {
     if is_refused && whole && !has_fault(found) {
-        say(out, "refused, but no run faults\n")?;
+        say(out, "refused, but no run faults\n")
+    } else {
+        Ok(())
     }
-    Ok(())
 }
 
 /// How many states were found, and whether these are all.
@@ -45,38 +46,61 @@ pub(crate) fn say_states(
 ) -> Result<(), AllocError>
     ensures { OnOk result (out.new.items ≡ out.old.items ++ def.states_line whole states) }
 {
-    let line = if whole {
-        format!(in alloc; "{states} states, all schedules\n")?
+    if whole {
+        let line = format!(in alloc; "{states} states, all schedules\n")?;
+        say(out, line.as_str())
     } else {
-        format!(in alloc; "stopped at {states} states, not all schedules\n")?
-    };
-    say(out, line.as_str())
+        let line = format!(in alloc; "stopped at {states} states, not all schedules\n")?;
+        say(out, line.as_str())
+    }
 }
 
-/// How many schedules came to no end, if any, and how many there were.
-pub(crate) fn say_schedules(
+/// How many schedules came to no end, if any.
+pub(crate) fn say_unfinished(
     alloc: Global,
     out: &mut Vec<u8>,
     unfinished: u64,
-    schedules: u32,
-    seed: u32,
 ) -> Result<(), AllocError>
-    ensures { OnOk result (out.new.items ≡ out.old.items ++ def.unfinished_line unfinished
-        ++ def.schedules_line schedules seed) }
+    ensures { OnOk result (out.new.items ≡ out.old.items ++ def.unfinished_line unfinished) }
 {
-    if unfinished > 0 {
-        let line = format!(in alloc; "{unfinished} schedules were cut off\n")?;
-        say(out, line.as_str())?;
+    if unfinished == 0 {
+        return Ok(());
     }
-    let line = format!(in alloc; "{schedules} random schedules by seed {seed}, not all schedules\n")?;
+    let line = format!(in alloc; "{unfinished} schedules were cut off\n")?;
     say(out, line.as_str())
 }
 
-/// Is it the number of one of these ends?
+/// How many schedules there were, and by which seed.
+pub(crate) fn say_schedules(
+    alloc: Global,
+    out: &mut Vec<u8>,
+    schedules: u32,
+    seed: u32,
+) -> Result<(), AllocError>
+    ensures { OnOk result (out.new.items ≡ out.old.items ++ def.schedules_line schedules seed) }
+{
+    let line = format!(in alloc;
+        "{schedules} random schedules by seed {seed}, not all schedules\n"
+    )?;
+    say(out, line.as_str())
+}
+
+/// The end of this number, the first one having number 1.
+pub(crate) fn found_at(found: &[Found], number: u32) -> Option<&Found>
+    ensures { option_map (λ f. f.now) result ≡ def.found_at found.now number }
+{
+    if number == 0 {
+        None
+    } else {
+        found.get(number as usize - 1)
+    }
+}
+
+/// Is there an end of this number?
 fn is_number(found: &[Found], number: u32) -> bool
     ensures { result ≡ def.is_number found.now number }
 {
-    0 < number && number as usize <= found.len()
+    found_at(found, number).is_some()
 }
 
 /// Is there an end of the number that is asked for, if one is?
@@ -89,7 +113,24 @@ pub(crate) fn has_number(number: Option<u32>, found: &[Found]) -> bool
     }
 }
 
-/// That no end has the number that is asked for, if none has.
+/// Says that no end has this number, if none has.
+fn say_unless_there(
+    alloc: Global,
+    out: &mut Vec<u8>,
+    number: u32,
+    found: &[Found],
+) -> Result<(), AllocError>
+    ensures { OnOk result (out.new.items ≡ out.old.items
+        ++ def.unless_there number found.now) }
+{
+    if is_number(found, number) {
+        return Ok(());
+    }
+    let line = format!(in alloc; "no end has number {number}\n")?;
+    say(out, line.as_str())
+}
+
+/// Says that no end has the number that is asked for, if none has.
 pub(crate) fn say_no_number(
     alloc: Global,
     out: &mut Vec<u8>,
@@ -100,12 +141,6 @@ pub(crate) fn say_no_number(
 {
     match number {
         None => Ok(()),
-        Some(k) => {
-            if is_number(found, k) {
-                return Ok(());
-            }
-            let line = format!(in alloc; "no end has number {k}\n")?;
-            say(out, line.as_str())
-        }
+        Some(k) => say_unless_there(alloc, out, k, found),
     }
 }

@@ -5,12 +5,38 @@ ghost use Rattle.sts_output.specs.Printed.{end_line};
 ghost use Rattle.look_ends.specs.Lines as def;
 
 use ends_plain::config::Found;
-use look_run::{Told, say_task};
-use look_text::say;
+use look_text::{say, say_place};
 use std::alloc::{AllocError, Global};
+use sts_asm::Outline;
+use sts_code::{Program, name_of};
 use sts_model::{End, Fault};
 use sts_output::printed;
 use sts_plain::PlainState;
+
+/// A program, and the lines of its text.
+#[derive(Clone, Copy)]
+pub(crate) struct Told<'p, 'o, 't> {
+    pub(crate) program: &'p Program,
+    pub(crate) outline: &'o Outline<'t>,
+}
+
+/// `task T in NAME, line L: WORDS`
+fn say_task(
+    alloc: Global,
+    out: &mut Vec<u8>,
+    told: Told<'_, '_, '_>,
+    task: u32,
+    function: u32,
+    pc: u32,
+) -> Result<(), AllocError>
+    ensures { OnOk result (out.new.items ≡ out.old.items
+        ++ def.task_place told.entry.program.now told.entry.outline.now task function pc) }
+{
+    let name = name_of(told.program, function);
+    let head = format!(in alloc; "task {task} in {name}")?;
+    say(out, head.as_str())?;
+    say_place(alloc, out, told.outline.sentence(function, pc))
+}
 
 /// `fault KIND, task T in NAME, line L: WORDS`
 fn say_fault(
@@ -63,12 +89,7 @@ fn say_end(
 }
 
 /// `K after N events`
-fn say_head(
-    alloc: Global,
-    out: &mut Vec<u8>,
-    place: usize,
-    one: &Found,
-) -> Result<(), AllocError>
+fn say_head(alloc: Global, out: &mut Vec<u8>, place: usize, one: &Found) -> Result<(), AllocError>
     requires { place + 1 < 2 ^ 64 }
     ensures { OnOk result (out.new.items ≡ out.old.items ++ def.head_words place one.now) }
 {
@@ -136,6 +157,16 @@ fn say_sampled(
     say_end(alloc, out, told, one.end)
 }
 
+/// How often the end at a place came.
+fn times_at(times: &[u64], place: usize) -> u64
+    ensures { result ≡ def.times_at times.now place }
+{
+    match times.get(place) {
+        None => 0,
+        Some(n) => *n,
+    }
+}
+
 /// The lines of the ends of random schedules, with how often each came.
 ///
 /// # Errors
@@ -154,8 +185,15 @@ pub(crate) fn say_shares(
         schedules 0) }
 {
     for k in 0..found.len() {
-        let came = times.get(k).copied().unwrap_or(0);
-        say_sampled(alloc, out, told, k, &found[k], came, schedules)?;
+        say_sampled(
+            alloc,
+            out,
+            told,
+            k,
+            &found[k],
+            times_at(times, k),
+            schedules,
+        )?;
     }
     Ok(())
 }

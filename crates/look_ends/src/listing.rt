@@ -1,20 +1,21 @@
 //! What is printed of the ends of a text.
 
-ghost use Rattle.std.specs.Prelude.{◌≡◌, IfOk, Ok};
+ghost use Rattle.std.specs.Prelude.{◌≡◌, IfOk, Ok, option_map};
 ghost use Rattle.sts_asm.specs.Source.{outlined as outlined_of};
 ghost use Rattle.sts_asm.specs.Text.{judged};
 ghost use Rattle.look_ends.specs.Listing as def;
 
-use crate::below::{has_number, say_no_number, say_refused, say_schedules, say_states};
+use crate::below::{
+    found_at, has_number, say_no_number, say_refused, say_schedules, say_states, say_unfinished,
+};
 use crate::exploring::explored;
-use crate::lines::{say_all, say_shares};
+use crate::lines::{Told, say_all, say_shares};
 use crate::progress::Progress;
 use crate::verdict::{Judged, verdict};
 use crate::wanted::{Manner, Wanted};
 use ends_plain::config::{Ends, Found, Setting};
 use ends_plain::sample::{Sample, Sampling, sample_ends};
 use look_refusal::{Output, text_fault};
-use look_run::Told;
 use std::alloc::{AllocError, Global};
 use std::marker::Model;
 use sts_asm::{Outline, assemble, outlined};
@@ -42,22 +43,24 @@ impl Model for Listing {
     ghost view = { λ l. record { output = l.output; trace = l.trace.items } };
 }
 
-/// A copy of the trace of the end whose number is asked for; no event if there is no such end.
-fn trace_of(
-    alloc: Global,
-    number: Option<u32>,
-    found: &[Found],
-) -> Result<Vec<Event>, AllocError>
+/// A copy of the trace of an end, if there is one.
+fn copied_trace(alloc: Global, one: Option<&Found>) -> Result<Vec<Event>, AllocError>
+    ensures { IfOk result (λ es. es.items ≡ def.events_of (option_map (λ f. f.now) one.entry)) }
+{
+    match one {
+        None => Ok(Vec::new(alloc)),
+        Some(one) => Vec::from_slice(alloc, one.trace.as_slice()),
+    }
+}
+
+/// The trace of the end whose number is asked for; no event if there is no such end.
+fn trace_of(alloc: Global, number: Option<u32>, found: &[Found]) -> Result<Vec<Event>, AllocError>
     ensures { IfOk result (λ es. es.items ≡ def.trace_of number found.now) }
 {
-    let mut events = Vec::new(alloc);
-    if let Some(k) = number
-        && k > 0
-        && let Some(one) = found.get(k as usize - 1)
-    {
-        events.extend_from_slice(one.trace.as_slice())?;
+    match number {
+        None => Ok(Vec::new(alloc)),
+        Some(k) => copied_trace(alloc, found_at(found, k)),
     }
-    Ok(events)
 }
 
 /// What is printed of a search.
@@ -105,7 +108,8 @@ fn sampled(
     let mut bytes = Vec::new(alloc);
     let times = sample.times.as_slice();
     say_shares(alloc, &mut bytes, told, found, times, schedules)?;
-    say_schedules(alloc, &mut bytes, sample.unfinished, schedules, seed)?;
+    say_unfinished(alloc, &mut bytes, sample.unfinished)?;
+    say_schedules(alloc, &mut bytes, schedules, seed)?;
     say_no_number(alloc, &mut bytes, number, found)?;
     Ok(Listing {
         output: Output {
@@ -184,9 +188,7 @@ fn of_program<P: Progress>(
         interrupts: wanted.interrupts,
     };
     match wanted.manner {
-        Manner::All { most } => of_all(
-            alloc, outline, setting, is_refused, most, number, progress,
-        ),
+        Manner::All { most } => of_all(alloc, outline, setting, is_refused, most, number, progress),
         Manner::Sample { schedules, seed } => {
             of_sample(alloc, outline, &setting, schedules, seed, number)
         }

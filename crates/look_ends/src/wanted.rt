@@ -4,14 +4,9 @@
 #[derive(Clone, Copy, Debug)]
 pub enum Manner {
     /// All of them, as long as the search keeps no more than `most` states.
-    All {
-        most: u32,
-    },
+    All { most: u32 },
     /// So many random ones; the same seed gives the same ones.
-    Sample {
-        schedules: u32,
-        seed: u32,
-    },
+    Sample { schedules: u32, seed: u32 },
 }
 
 /// Which events may come beside the steps, and which schedules are tried.

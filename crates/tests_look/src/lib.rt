@@ -1,6 +1,8 @@
-//! Tests of what `look` prints: views, explanations and pictures, by rows worked out by hand.
+//! Tests of what `look` prints: views, explanations, pictures and ends, by rows worked out by hand.
 #![tactic(auto)]
 
+#[cfg(test)]
+mod ends;
 #[cfg(test)]
 mod explanations;
 #[cfg(test)]
