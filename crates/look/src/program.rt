@@ -293,15 +293,7 @@ pub fn run_words<S: Sources + Sinks, P: Progress, W: Write, E: Write>(
 {
     match words {
         Ok(words) => match borrowed(alloc, words.as_slice()) {
-            Ok(texts) => run(
-                alloc,
-                sources,
-                texts.as_slice(),
-                progress,
-                out,
-                err,
-                notes,
-            ),
+            Ok(texts) => run(alloc, sources, texts.as_slice(), progress, out, err, notes),
             Err(_) => failed(TakeError::Memory, out),
         },
         Err(WordsError::Memory) => failed(TakeError::Memory, out),

@@ -3,6 +3,7 @@
 ghost use Rattle.std.specs.Prelude.{◌≡◌, ◌++◌, OnOk, option_map};
 ghost use Rattle.look_ends.specs.Lines as def;
 
+use crate::lines::say_number;
 use ends_plain::config::Found;
 use look_text::say;
 use std::alloc::{AllocError, Global};
@@ -79,10 +80,10 @@ pub(crate) fn say_schedules(
 ) -> Result<(), AllocError>
     ensures { OnOk result (out.new.items ≡ out.old.items ++ def.schedules_line schedules seed) }
 {
-    let line = format!(in alloc;
-        "{schedules} random schedules by seed {seed}, not all schedules\n"
-    )?;
-    say(out, line.as_str())
+    say_number(alloc, out, schedules as u64)?;
+    say(out, " random schedules by seed ")?;
+    say_number(alloc, out, seed as u64)?;
+    say(out, ", not all schedules\n")
 }
 
 /// The end of this number, the first one having number 1.

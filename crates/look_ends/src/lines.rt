@@ -1,6 +1,7 @@
 //! The lines of ends.
 
 ghost use Rattle.std.specs.Prelude.{◌≡◌, ◌++◌, ◌+◌, ◌<◌, ◌^◌, OnOk};
+ghost use Rattle.std.specs.Fmt.{decimal};
 ghost use Rattle.sts_output.specs.Printed.{end_line};
 ghost use Rattle.look_ends.specs.Lines as def;
 
@@ -88,15 +89,23 @@ fn say_end(
     }
 }
 
+/// Appends a number.
+pub(crate) fn say_number(alloc: Global, out: &mut Vec<u8>, n: u64) -> Result<(), AllocError>
+    ensures { OnOk result (out.new.items ≡ out.old.items ++ decimal n) }
+{
+    let digits = format!(in alloc; "{n}")?;
+    say(out, digits.as_str())
+}
+
 /// `K after N events`
 fn say_head(alloc: Global, out: &mut Vec<u8>, place: usize, one: &Found) -> Result<(), AllocError>
     requires { place + 1 < 2 ^ 64 }
     ensures { OnOk result (out.new.items ≡ out.old.items ++ def.head_words place one.now) }
 {
-    let number = place + 1;
-    let events = one.trace.len();
-    let head = format!(in alloc; "{number} after {events} events")?;
-    say(out, head.as_str())
+    say_number(alloc, out, place as u64 + 1)?;
+    say(out, " after ")?;
+    say_number(alloc, out, one.trace.len() as u64)?;
+    say(out, " events")
 }
 
 /// `K after N events: END`
@@ -152,8 +161,11 @@ fn say_sampled(
         schedules) }
 {
     say_head(alloc, out, place, one)?;
-    let share = format!(in alloc; ", in {times} of {schedules} schedules: ")?;
-    say(out, share.as_str())?;
+    say(out, ", in ")?;
+    say_number(alloc, out, times)?;
+    say(out, " of ")?;
+    say_number(alloc, out, schedules as u64)?;
+    say(out, " schedules: ")?;
     say_end(alloc, out, told, one.end)
 }
 
