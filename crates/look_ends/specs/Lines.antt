@@ -46,11 +46,15 @@ abbrev pub found_lines : Program → Outline → List Found → ℕ → List ℕ
 found_lines p o [] place = []
 found_lines p o (f ∷ fs) place = found_line p o place f ++ found_lines p o fs (place + 1)
 
+-- `, in 183 of 200 schedules: `
+abbrev pub share_words : ℕ → ℕ → List ℕ
+share_words times schedules =
+    codes ", in " ++ decimal times ++ codes " of " ++ decimal schedules ++ codes " schedules: "
+
 -- `1 after 14 events, in 183 of 200 schedules: success 42`
 abbrev pub sampled_line : Program → Outline → ℕ → Found → ℕ → ℕ → List ℕ
 sampled_line p o place f times schedules =
-    head_words place f ++ codes ", in " ++ decimal times ++ codes " of " ++ decimal schedules
-    ++ codes " schedules: " ++ end_words p o f.end
+    head_words place f ++ (share_words times schedules ++ end_words p o f.end)
 
 abbrev pub times_or_none : Option ℕ → ℕ
 times_or_none None = 0
@@ -92,10 +96,12 @@ abbrev pub unfinished_line : ℕ → List ℕ
 unfinished_line unfinished =
     if unfinished == 0 then [] else decimal unfinished ++ codes " schedules were cut off\n"
 
+abbrev pub seed_words : ℕ → List ℕ
+seed_words seed =
+    codes " random schedules by seed " ++ decimal seed ++ codes ", not all schedules\n"
+
 abbrev pub schedules_line : ℕ → ℕ → List ℕ
-schedules_line schedules seed =
-    decimal schedules ++ codes " random schedules by seed " ++ decimal seed
-    ++ codes ", not all schedules\n"
+schedules_line schedules seed = decimal schedules ++ seed_words seed
 
 -- ---- the end whose trace is kept
 

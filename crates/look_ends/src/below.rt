@@ -3,7 +3,7 @@
 ghost use Rattle.std.specs.Prelude.{◌≡◌, ◌++◌, OnOk, option_map};
 ghost use Rattle.look_ends.specs.Lines as def;
 
-use crate::lines::say_number;
+use crate::lines::say_count;
 use ends_plain::config::Found;
 use look_text::say;
 use std::alloc::{AllocError, Global};
@@ -71,6 +71,14 @@ pub(crate) fn say_unfinished(
     say(out, line.as_str())
 }
 
+/// ` random schedules by seed S, not all schedules`
+fn say_seed(alloc: Global, out: &mut Vec<u8>, seed: u32) -> Result<(), AllocError>
+    ensures { OnOk result (out.new.items ≡ out.old.items ++ def.seed_words seed) }
+{
+    let line = format!(in alloc; " random schedules by seed {seed}, not all schedules\n")?;
+    say(out, line.as_str())
+}
+
 /// How many schedules there were, and by which seed.
 pub(crate) fn say_schedules(
     alloc: Global,
@@ -80,10 +88,8 @@ pub(crate) fn say_schedules(
 ) -> Result<(), AllocError>
     ensures { OnOk result (out.new.items ≡ out.old.items ++ def.schedules_line schedules seed) }
 {
-    say_number(alloc, out, schedules as u64)?;
-    say(out, " random schedules by seed ")?;
-    say_number(alloc, out, seed as u64)?;
-    say(out, ", not all schedules\n")
+    say_count(alloc, out, schedules)?;
+    say_seed(alloc, out, seed)
 }
 
 /// The end of this number, the first one having number 1.

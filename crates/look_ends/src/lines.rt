@@ -97,6 +97,14 @@ pub(crate) fn say_number(alloc: Global, out: &mut Vec<u8>, n: u64) -> Result<(),
     say(out, digits.as_str())
 }
 
+/// Appends a number of 32 bits.
+pub(crate) fn say_count(alloc: Global, out: &mut Vec<u8>, n: u32) -> Result<(), AllocError>
+    ensures { OnOk result (out.new.items ≡ out.old.items ++ decimal n) }
+{
+    let digits = format!(in alloc; "{n}")?;
+    say(out, digits.as_str())
+}
+
 /// `K after N events`
 fn say_head(alloc: Global, out: &mut Vec<u8>, place: usize, one: &Found) -> Result<(), AllocError>
     requires { place + 1 < 2 ^ 64 }
@@ -145,6 +153,17 @@ pub(crate) fn say_all(
     Ok(())
 }
 
+/// `, in T of S schedules: `
+fn say_share(alloc: Global, out: &mut Vec<u8>, times: u64, schedules: u32) -> Result<(), AllocError>
+    ensures { OnOk result (out.new.items ≡ out.old.items ++ def.share_words times schedules) }
+{
+    say(out, ", in ")?;
+    say_number(alloc, out, times)?;
+    say(out, " of ")?;
+    say_count(alloc, out, schedules)?;
+    say(out, " schedules: ")
+}
+
 /// `K after N events, in T of S schedules: END`
 fn say_sampled(
     alloc: Global,
@@ -161,11 +180,7 @@ fn say_sampled(
         schedules) }
 {
     say_head(alloc, out, place, one)?;
-    say(out, ", in ")?;
-    say_number(alloc, out, times)?;
-    say(out, " of ")?;
-    say_number(alloc, out, schedules as u64)?;
-    say(out, " schedules: ")?;
+    say_share(alloc, out, times, schedules)?;
     say_end(alloc, out, told, one.end)
 }
 

@@ -1,4 +1,4 @@
-use Rattle.std.proofs.Common.{◌≡◌, ◌∙◌, Result, ap, sym, subst}
+use Rattle.std.proofs.Common.{◌∙◌, Result, ap, sym, subst}
 use Rattle.sts_asm.specs.Text.{judged}
 use Rattle.sts_asm.specs.declared.fault.AsmError.{AsmError}
 use Rattle.sts_code.specs.Program.{Program}
