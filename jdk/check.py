@@ -199,8 +199,8 @@ def check(pool, player, asked, began):
         print(f"FAILURE: {line}")
     seconds = round(time.time() - began)
     print(f"{wrong.asked} answers of look and sts, {len(wrong.failures)} wrong")
-    print(f"{freely.runs} free runs of {freely.programs} programs: {freely.atomic} came to an end of the rules, "
-          f"{freely.added} to one that the JDK's own steps add, {len(freely.failures)} programs to another")
+    print(f"{freely.runs} free runs of {freely.programs} programs: {freely.by_rules} came to an end that look ends lists, "
+          f"{freely.differing} to one by a known difference, {freely.added} to one that the JDK's own steps add, {len(freely.failures)} programs to another")
     print(f"{ran.count} Java programs ran, {len(ran.failures)} failed; by a known difference alone: {', '.join(sorted(ran.otherwise))}")
     print(f"{player.jdk.build} ({player.jdk.vendor}), {datetime.date.today()}, {seconds} s")
     print(f"{sum(tally.kinds.values())} cases, {tally.events} events, {failures} failures")

@@ -68,7 +68,8 @@ def figures(jdk, tally, real, wrong, freely, ran, seconds):
     yield (f"- {sum(real.kinds.values()):,} cases with an expiry were played with real timeouts. {sum(real.agreed.values()):,} agree to the last event, "
            f"and the others have known differences only. Another {real.dropped:,} were dropped: a timer may have fired unasked.")
     yield f"- `look view --each`, `sts plain` and `sts replay` gave {wrong.asked:,} answers, each as the machine in Python."
-    yield f"- {freely.programs} programs ran {freely.runs:,} times with no controller. {freely.atomic:,} runs came to an end of the rules."
+    yield f"- {freely.programs} programs ran {freely.runs:,} times with no controller. {freely.by_rules:,} runs came to an end that `look ends` lists."
+    yield f"- {freely.differing:,} free runs came to an end that only a known difference adds."
     yield f"- {freely.added:,} free runs came to an end that only the JDK's own steps add. None came to another end."
     yield f"- {ran.count} Java programs ran."
     yield ""

@@ -1,6 +1,6 @@
 -- The request of a command line, or why it has none, read by `clap`'s own definitions (this
 -- project's own).
-use Rattle.std.specs.Prelude.{◌≡◌, ◌⊎◌, ◌&&◌, ◌||◌, Bool, false, if◌then◌else◌, List, [], ◌∷◌}
+use Rattle.std.specs.Prelude.{◌≡◌, ◌⊎◌, ◌&&◌, ◌||◌, Bool, true, false, if◌then◌else◌, List, [], ◌∷◌}
 use Rattle.std.specs.Prelude.{filter_map, Option, Some, None, IsSomeAnd, is_some, codes}
 use Rattle.std.specs.Borrow.{Bor}
 use Rattle.std.specs.List.{list_all}
@@ -13,13 +13,15 @@ use Rattle.sts_args.specs.declared.asked.LineError.TheVariants as error
 use Rattle.look_lines.specs.declared.view.Wanted.{Wanted}
 use Rattle.look.specs.declared.asked.Asked.{Asked}
 use Rattle.look.specs.declared.asked.Asked.TheVariants as asked
+use Rattle.look.specs.AskedEnds.{SaidEnds, ends_at, is_true, said_ends}
 use Rattle.look.specs.Command.{program}
 
--- what a line says: the command, its files in order, and the options of `view`
+-- what a line says: the command, its files in order, and the options of `view` and of `ends`
 pub record Said : Type 0 where
   pub name : Text
   pub files : List Text
   pub wanted : Option Wanted
+  pub ends : Option SaidEnds
 
 -- the file that is named, if one is
 abbrev pub named : Option (Bor Text) → List Text
@@ -31,22 +33,26 @@ said (asked.View file trace wanted) = record {
   name = codes "view";
   files = file.now ∷ trace.now ∷ [];
   wanted = Some wanted;
+  ends = None;
 }
 said (asked.Explain file trace) = record {
   name = codes "explain";
   files = file.now ∷ named trace;
   wanted = None;
+  ends = None;
 }
 said (asked.Draw file trace) = record {
   name = codes "draw";
   files = file.now ∷ trace.now ∷ [];
   wanted = None;
+  ends = None;
 }
-
--- an option without a value is given as `true`
-abbrev pub is_true : Option Text → Bool
-is_true None = false
-is_true (Some text) = bytes_eq text (codes "true")
+said (asked.Ends file ends) = record {
+  name = codes "ends";
+  files = file.now ∷ [];
+  wanted = None;
+  ends = Some (said_ends ends);
+}
 
 abbrev pub is_set : Text → List Row → Bool
 is_set id rows = is_true (first_of id rows)
@@ -57,19 +63,27 @@ wanted_at rows = record { each = is_set (codes "each") rows; full = is_set (code
 abbrev pub is_view : Text → Bool
 is_view name = bytes_eq name (codes "view")
 
+abbrev pub is_ends : Text → Bool
+is_ends name = bytes_eq name (codes "ends")
+
 -- does a command need a trace?
 abbrev pub wants_trace : Text → Bool
 wants_trace name = is_view name || bytes_eq name (codes "draw")
 
+-- the files that a command may be given
+abbrev pub files_of : Text → List Text
+files_of name = if is_ends name then codes "FILE" ∷ [] else codes "FILE" ∷ codes "TRACE" ∷ []
+
 -- the files that a command is given
-abbrev pub files_at : List Row → List Text
-files_at rows = filter_map (λ id. first_of id rows) (codes "FILE" ∷ codes "TRACE" ∷ [])
+abbrev pub files_at : Text → List Row → List Text
+files_at name rows = filter_map (λ id. first_of id rows) (files_of name)
 
 abbrev pub given : Text × List Row → Said
 given (name, rows) = record {
   name = name;
-  files = files_at rows;
+  files = files_at name rows;
   wanted = if is_view name then Some (wanted_at rows) else None;
+  ends = if is_ends name then ends_at rows else None;
 }
 
 -- a command is asked for, with the files and the options that it was given
@@ -88,17 +102,22 @@ pub record Asks (words : List Text) (a : Asked) : Type 0 where
 -- ---- why they ask for nothing
 
 abbrev pub is_command : Text → Bool
-is_command name = wants_trace name || bytes_eq name (codes "explain")
+is_command name = wants_trace name || (bytes_eq name (codes "explain") || is_ends name)
 
 -- the files that a command has to be given
 abbrev pub ids_of : Text → List Text
 ids_of name = if wants_trace name then codes "FILE" ∷ codes "TRACE" ∷ [] else codes "FILE" ∷ []
 
--- the words name a command of the program, and all files that it has to be given
+-- the options of `ends` have numbers
+abbrev pub has_numbers : Text → List Row → Bool
+has_numbers name rows = if is_ends name then is_some (ends_at rows) else true
+
+-- the words name a command of the program, all files that it has to be given, and the numbers that
+-- its options need
 abbrev pub is_whole : Option (Text × List Row) → Bool
 is_whole None = false
 is_whole (Some (name, rows)) = is_command name
-    && list_all (λ id. is_some (first_of id rows)) (ids_of name)
+    && (list_all (λ id. is_some (first_of id rows)) (ids_of name) && has_numbers name rows)
 
 abbrev pub AsksForHelp : List Text → Type 0
 AsksForHelp words = IsAmong kind.DisplayHelp (fault_of program words)

@@ -2,7 +2,7 @@
 use Rattle.std.specs.Prelude.{codes, Some}
 use Rattle.clap.specs.Words.{App, Rule, Text, new_app, new_rule, with_rule, with_subcommand}
 use Rattle.clap.specs.declared.builder.action.ArgAction.TheVariants.{SetTrue}
-use Rattle.sts_args.specs.Command.{file_rule, required, trace_rule}
+use Rattle.sts_args.specs.Command.{file_rule, option_rule, required, trace_rule}
 
 -- an option that takes no value
 abbrev pub flag_rule : Text → Rule
@@ -22,8 +22,20 @@ explain = with_rule (with_rule (new_app (codes "explain")) file_rule) maybe_trac
 abbrev pub draw : App
 draw = with_rule (with_rule (new_app (codes "draw")) file_rule) trace_rule
 
+-- the number and the file of a trace that is kept
+abbrev pub kept_rule : Rule
+kept_rule = record (new_rule (codes "trace")) { long = Some (codes "trace"); value_names = 2 }
+
+abbrev pub ends_by_events : App
+ends_by_events = with_rule (with_rule (with_rule (new_app (codes "ends")) file_rule)
+    (flag_rule (codes "no-expiries"))) (option_rule (codes "interrupts"))
+
+abbrev pub ends : App
+ends = with_rule (with_rule (with_rule (with_rule ends_by_events (option_rule (codes "most")))
+    (option_rule (codes "sample"))) (option_rule (codes "seed"))) kept_rule
+
 -- the program: a command is required
 abbrev pub program : App
 program =
-    with_subcommand (with_subcommand (with_subcommand (required (new_app (codes "look"))) view.top) explain.top)
-    draw.top
+    with_subcommand (with_subcommand (with_subcommand (with_subcommand (required (new_app (codes "look")))
+    view.top) explain.top) draw.top) ends.top

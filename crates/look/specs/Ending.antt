@@ -1,11 +1,12 @@
 -- The output of `look`, and its status (this project's own).
-use Rattle.std.specs.Prelude.{◌≡◌, ℕ, List, Option, Some, None, Result, Ok, Err, map}
+use Rattle.std.specs.Prelude.{◌≡◌, ℕ, List, Option, Some, None, Result, Ok, Err, map, option_map, ⊤}
 use Rattle.std.specs.Prelude.{String, Vec}
 use Rattle.std.specs.Borrow.{Bor}
 use Rattle.std.specs.String.{string_bytes}
 use Rattle.std.specs.declared.alloc.Global.{Global}
 use Rattle.clap.specs.Words.{Text}
-use Rattle.sts_output.specs.Streams.{Files, Prints, Streams, Tells, most_of_a_stream, most_of_a_text}
+use Rattle.sts_output.specs.Streams.{Differ, Files, Prints, SameFile, Streams, Tells}
+use Rattle.sts_output.specs.Streams.{most_of_a_stream, most_of_a_text}
 use Rattle.sts_output.specs.Streams.{not_text_output}
 use Rattle.sts_output.specs.Output.{Output, failure_output, memory_output}
 use Rattle.sts_output.specs.Taking.{IsTakenOf}
@@ -16,9 +17,12 @@ use Rattle.look_picture.specs.Picture.{IsPictureOf}
 use Rattle.look_refusal.specs.Output.{IsExplanation}
 use Rattle.look_run.specs.Output.{IsRunExplanation}
 use Rattle.look_lines.specs.View.{IsViewOf}
+use Rattle.look_ends.specs.Listing.{IsOutcomeOf, Outcome}
 use Rattle.look.specs.Asked.{Asks, AsksForHelp, IsMistaken}
 use Rattle.look.specs.declared.asked.Asked.{Asked}
 use Rattle.look.specs.declared.asked.Asked.TheVariants as asked
+use Rattle.look.specs.declared.asked.AskedEnds.{AskedEnds}
+use Rattle.look.specs.declared.asked.Kept.{Kept}
 use Rattle.look.specs.declared.program.Showing.{Showing}
 use Rattle.look.specs.declared.program.Showing.TheVariants as showing
 
@@ -37,6 +41,25 @@ pub data IsOfTexts (Shows : List ℕ → List ℕ → Output → Type 0) (file t
       → IsOfTexts Shows file trace_file o
   failed : (e : TakeError) → o ≡ failure_output e → IsOfTexts Shows file trace_file o
 
+-- the file of a trace that is kept, if one is, isn't known to be the text's
+abbrev pub Spares : SameFile → Text → Option Kept → Type 0
+Spares same file None = ⊤
+Spares same file (Some kept) = Differ (same kept.file.now file)
+
+-- what is printed of the ends of a text, or that memory or the trace's file failed
+pub data IsPrinted (ends : AskedEnds) (spares : Type 0) (text : List ℕ) (o : Output) : Type 0 where
+  listed : spares → (r : Outcome)
+      → IsOutcomeOf ends.wanted (option_map (λ k. k.number) ends.kept) text r → o ≡ r.output
+      → IsPrinted ends spares text o
+  without_file : (e : TakeError) → o ≡ failure_output e → IsPrinted ends spares text o
+
+-- what is printed of a file's text, or that the file failed
+pub data IsOfEnds (ends : AskedEnds) (spares : Type 0) (file : Option (List ℕ)) (o : Output)
+    : Type 0 where
+  shown : (text : List ℕ) → IsTakenOf file most_of_a_text text → IsPrinted ends spares text o
+      → IsOfEnds ends spares file o
+  failed : (e : TakeError) → o ≡ failure_output e → IsOfEnds ends spares file o
+
 -- what is shown of a text and a trace
 abbrev pub Shows : Showing → List ℕ → List ℕ → Output → Type 0
 Shows (showing.View wanted) = IsViewOf wanted
@@ -49,26 +72,30 @@ IsExplained files file None o = IsOfText IsExplanation file o
 IsExplained files file (Some trace) o = IsOfTexts IsRunExplanation file (files trace.now) o
 
 -- what is shown for a line
-abbrev pub IsShown : Asked → Files → Output → Type 0
-IsShown (asked.View file trace wanted) files o =
+abbrev pub IsShown : Asked → Files → SameFile → Output → Type 0
+IsShown (asked.View file trace wanted) files same o =
     IsOfTexts (IsViewOf wanted) (files file.now) (files trace.now) o
-IsShown (asked.Explain file trace) files o = IsExplained files (files file.now) trace o
-IsShown (asked.Draw file trace) files o =
+IsShown (asked.Explain file trace) files same o = IsExplained files (files file.now) trace o
+IsShown (asked.Draw file trace) files same o =
     IsOfTexts IsPictureOf (files file.now) (files trace.now) o
+IsShown (asked.Ends file ends) files same o =
+    IsOfEnds ends (Spares same file.now ends.kept) (files file.now) o
 
 -- The program writes what the line of the words asks for, and has its status. If the words ask for
 -- help, the status is 0. If they are mistaken, it is 2. Memory may also run out.
-pub data Ends (words : List Text) (files : Files) (s : Streams) (status : ℕ) : Type 0 where
-  shown : (a : Asked) (o : Output) → Asks words a → IsShown a files o → Prints s status o
-      → Ends words files s status
+pub data Ends (words : List Text) (files : Files) (same : SameFile) (s : Streams) (status : ℕ)
+    : Type 0 where
+  shown : (a : Asked) (o : Output) → Asks words a → IsShown a files same o → Prints s status o
+      → Ends words files same s status
   helped : (o : Output) → AsksForHelp words → o.status ≡ 0 → Prints s status o
-      → Ends words files s status
+      → Ends words files same s status
   mistaken : (o : Output) → IsMistaken words → o.status ≡ 2 → Tells s status o
-      → Ends words files s status
-  failed : Prints s status memory_output → Ends words files s status
+      → Ends words files same s status
+  failed : Prints s status memory_output → Ends words files same s status
 
 -- like `Ends`, from the words if they could be read
-abbrev pub EndsFrom : Result (Vec (String Global) Global) WordsError → Files → Streams → ℕ → Type 0
-EndsFrom (Ok words) files s status = Ends (map string_bytes words.items) files s status
-EndsFrom (Err words_error.Memory) files s status = Prints s status memory_output
-EndsFrom (Err words_error.NotText) files s status = Tells s status not_text_output
+abbrev pub EndsFrom : Result (Vec (String Global) Global) WordsError → Files → SameFile → Streams → ℕ
+    → Type 0
+EndsFrom (Ok words) files same s status = Ends (map string_bytes words.items) files same s status
+EndsFrom (Err words_error.Memory) files same s status = Prints s status memory_output
+EndsFrom (Err words_error.NotText) files same s status = Tells s status not_text_output

@@ -1,3 +1,4 @@
 pub mod Asked
+pub mod AskedEnds
 pub mod Command
 pub mod Ending

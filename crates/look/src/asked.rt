@@ -1,6 +1,27 @@
 //! The request of a command line.
 
+use look_ends::Wanted as EndsWanted;
 use look_lines::Wanted;
+
+/// As many states as a search keeps if no other number is asked for.
+pub const MOST_STATES: u32 = 300_000;
+
+/// The seed of random schedules if no other one is asked for.
+pub const FIRST_SEED: u32 = 1;
+
+/// The end whose trace is kept, by its number, and the file that gets the trace.
+#[derive(Clone, Copy, Debug)]
+pub struct Kept<'a> {
+    pub number: u32,
+    pub file: &'a str,
+}
+
+/// Which ends are to be found, and the one whose trace is kept, if one is named.
+#[derive(Clone, Copy, Debug)]
+pub struct AskedEnds<'a> {
+    pub wanted: EndsWanted,
+    pub kept: Option<Kept<'a>>,
+}
 
 /// The request. Names of files are kept as they were written.
 #[derive(Clone, Copy, Debug)]
@@ -21,5 +42,10 @@ pub enum Asked<'a> {
     Draw {
         file: &'a str,
         trace: &'a str,
+    },
+    /// Every end that a program can come to.
+    Ends {
+        file: &'a str,
+        ends: AskedEnds<'a>,
     },
 }

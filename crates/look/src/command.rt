@@ -3,11 +3,15 @@
 ghost use Rattle.std.specs.Prelude.{◌≡◌, IfOk, codes, false};
 ghost use Rattle.clap.specs.Words.{app_of, rule_of};
 ghost use Rattle.clap.specs.declared.builder.Command.TheViews.{out-Command};
+ghost use Rattle.sts_args.specs.Command.{option_rule};
 ghost use Rattle.look.specs.Command as def;
 
 use clap::{Arg, ArgAction, Command};
 use std::alloc::{AllocError, Global};
 use sts_args::{on_file, on_trace};
+
+/// What help calls the two values of `--trace`.
+const TRACE_VALUES: &[&str] = &["K", "TRACE"];
 
 /// An option that takes no value.
 fn flag<'a>(alloc: Global, name: &'a str, help: &'a str) -> Arg<'a>
@@ -77,6 +81,73 @@ fn draw<'a>(alloc: Global) -> Result<Command<'a>, AllocError>
     )
 }
 
+/// An option that takes one value.
+fn option<'a>(alloc: Global, name: &'a str, value: &'a str, help: &'a str) -> Arg<'a>
+    ensures rule { rule_of result ≡ option_rule name.entry.now }
+    ensures local { result.global ≡ false }
+{
+    Arg::new(alloc, name)
+        .long(name)
+        .value_name(value)
+        .help(help)
+}
+
+/// The option that keeps the trace of an end.
+fn kept_trace<'a>(alloc: Global) -> Arg<'a>
+    ensures rule { rule_of result ≡ def.kept_rule }
+    ensures local { result.global ≡ false }
+{
+    Arg::new(alloc, "trace")
+        .long("trace")
+        .value_names(TRACE_VALUES)
+        .help("writes the trace of the end with number K to the file TRACE")
+}
+
+/// The command `ends` with the options that say which events may come.
+fn ends_by_events<'a>(alloc: Global) -> Result<Command<'a>, AllocError>
+    ensures app { IfOk result (λ c. app_of c ≡ def.ends_by_events) }
+    ensures local { IfOk result (λ c. (out-Command c).has_globals ≡ false) }
+{
+    let no_expiries = flag(
+        alloc,
+        "no-expiries",
+        "no scope expires; else a scope with a timeout may expire at any time",
+    );
+    let interrupts = option(
+        alloc,
+        "interrupts",
+        "N",
+        "up to N interrupts from outside, of any living task (0)",
+    );
+    on_file(
+        alloc,
+        "ends",
+        "Finds every end that a program can come to, over all schedules, with a trace for each",
+    )?
+    .arg(no_expiries)?
+    .arg(interrupts)
+}
+
+/// The command `ends`.
+fn ends<'a>(alloc: Global) -> Result<Command<'a>, AllocError>
+    ensures app { IfOk result (λ c. app_of c ≡ def.ends) }
+    ensures local { IfOk result (λ c. (out-Command c).has_globals ≡ false) }
+{
+    let most = option(alloc, "most", "N", "stops when it has N states (300000)");
+    let sample = option(alloc, "sample", "N", "tries N random schedules, not all");
+    let seed = option(
+        alloc,
+        "seed",
+        "S",
+        "a number that fixes the random schedules (1)",
+    );
+    ends_by_events(alloc)?
+        .arg(most)?
+        .arg(sample)?
+        .arg(seed)?
+        .arg(kept_trace(alloc))
+}
+
 /// The whole program.
 ///
 /// # Errors
@@ -88,10 +159,12 @@ pub fn program<'a>(alloc: Global) -> Result<Command<'a>, AllocError>
     let view = view(alloc)?;
     let explain = explain(alloc)?;
     let draw = draw(alloc)?;
+    let ends = ends(alloc)?;
     Command::new(alloc, "look")
-        .about("Shows runs of structured task scopes")
+        .about("Shows runs of structured task scopes, and every end of a program")
         .subcommand_required(true)
         .subcommand(view)?
         .subcommand(explain)?
-        .subcommand(draw)
+        .subcommand(draw)?
+        .subcommand(ends)
 }

@@ -3,7 +3,10 @@
 use std::io::{Input, Read};
 use std::rt::Files;
 use std::{fs, io};
-use sts_output::Sources;
+use sts_output::{Host, Sinks, Sources};
+
+/// What the system calls the standard input.
+const STANDARD_INPUT: &str = "/dev/stdin";
 
 /// The files of the process; the name `-` is its standard input.
 #[derive(Drop)]
@@ -44,5 +47,19 @@ impl<R: Files + Input> Sources for Dashed<'_, R> {
 
     fn input(&self) -> R::Reader {
         self.rt.reader()
+    }
+}
+
+impl<R: Files> Sinks for Dashed<'_, R> {
+    type Sink = R::File;
+
+    fn create(&self, path: &str) -> io::Result<R::File> {
+        Host { rt: self.rt }.create(path)
+    }
+
+    /// The name `-` is that of the file that standard input is.
+    fn is_same(&self, path: &str, other: &str) -> io::Result<bool> {
+        let read = if other == "-" { STANDARD_INPUT } else { other };
+        Host { rt: self.rt }.is_same(path, read)
     }
 }

@@ -1,4 +1,5 @@
-//! The program `look`: shows runs of the plain machine, and what is wrong with a text.
+//! The program `look`: shows runs of the plain machine, what is wrong with a text, and every end of
+//! a program.
 #![tactic(auto)]
 
 pub mod asked;
@@ -6,11 +7,22 @@ pub mod command;
 pub mod dashed;
 pub mod program;
 pub mod reading;
+pub mod terminal;
 
 use crate::program::start;
+use crate::terminal::Terminal;
+use std::io::IsTerminal;
 use std::process::ExitCode;
 
 fn main(rt: HostRuntime) -> ExitCode {
-    let status = start(&rt, rt.alloc(), &mut rt.stdout(), &mut rt.stderr());
+    let is_terminal = rt.stderr().is_terminal();
+    let mut progress = Terminal::new(&rt, rt.alloc(), rt.stderr(), is_terminal);
+    let status = start(
+        &rt,
+        rt.alloc(),
+        &mut progress,
+        &mut rt.stdout(),
+        &mut rt.stderr(),
+    );
     ExitCode::from(status)
 }

@@ -6,9 +6,10 @@ ghost use Rattle.sts_output.specs.Output.{Output, Writes};
 ghost use Rattle.look_refusal.specs.Output.{IsExplanation};
 ghost use Rattle.look.specs.Ending as def;
 
-use crate::asked::Asked;
+use crate::asked::{Asked, AskedEnds};
 use crate::dashed::Dashed;
 use crate::reading::line;
+use look_ends::{Progress, write_ends, write_ends_and_trace};
 use look_lines::{Wanted, write_view};
 use look_picture::write_picture;
 use look_refusal::explain;
@@ -18,8 +19,8 @@ use std::io::{Input, Write};
 use std::rt::{Env, Files};
 use sts_args::LineError;
 use sts_output::{
-    Events, NOT_TEXT, Named, Notes, STATUS_OUTSIDE, Sources, TakeError, WordsError, WriteFailed,
-    borrowed, failed, file_failed, read_text, read_texts, words, written,
+    Events, NOT_TEXT, Named, Notes, STATUS_OUTSIDE, Sinks, Sources, TakeError, WordsError,
+    WriteFailed, borrowed, failed, file_failed, made, read_text, read_texts, words, written,
 };
 
 /// The name that the program goes by.
@@ -128,16 +129,85 @@ fn on_explain<S: Sources, W: Write>(
     }
 }
 
-/// Does what a line asks for.
-fn on_line<S: Sources, W: Write>(
+/// The ends of a text that was read. The file of the trace is made first, if one is named.
+fn on_ends_text<S: Sinks, P: Progress, W: Write>(
     alloc: Global,
-    sources: &S,
-    asked: Asked<'_>,
+    sinks: &S,
+    path: &str,
+    text: &[u8],
+    ends: AskedEnds<'_>,
+    progress: &mut P,
     out: &mut W,
     notes: &mut Notes,
 ) -> Result<u8, WriteFailed>
     ensures { IfOk result (λ s. (o : Output)
-        × def.IsShown asked.entry (S.held sources.now) o
+        × def.IsPrinted ends.entry (def.Spares (S.same sinks.now) path.now ends.entry.kept) text.now o
+        × Writes (W.contents out.old) (W.contents out.new) s o) }
+{
+    match ends.kept {
+        None => write_ends(alloc, ends.wanted, text, progress, out),
+        Some(kept) => match made(alloc, sinks, kept.file, path, None) {
+            Ok(mut trace) => {
+                let mut failure = None;
+                let status = write_ends_and_trace(
+                    alloc,
+                    ends.wanted,
+                    kept.number,
+                    text,
+                    progress,
+                    &mut trace,
+                    out,
+                    &mut failure,
+                )?;
+                notes.written(kept.file, failure);
+                Ok(status)
+            }
+            Err(error) => file_failed(error, out, notes),
+        },
+    }
+}
+
+/// The ends of a text.
+fn on_ends<S: Sources + Sinks, P: Progress, W: Write>(
+    alloc: Global,
+    sources: &S,
+    path: &str,
+    ends: AskedEnds<'_>,
+    progress: &mut P,
+    out: &mut W,
+    notes: &mut Notes,
+) -> Result<u8, WriteFailed>
+    ensures { IfOk result (λ s. (o : Output)
+        × def.IsOfEnds ends.entry (def.Spares (S.same sources.now) path.now ends.entry.kept)
+        (S.held sources.now path.now) o
+        × Writes (W.contents out.old) (W.contents out.new) s o) }
+{
+    match read_text(alloc, sources, path) {
+        Ok(text) => on_ends_text(
+            alloc,
+            sources,
+            path,
+            text.as_slice(),
+            ends,
+            progress,
+            out,
+            notes,
+        ),
+        Err(error) => file_failed(error, out, notes),
+    }
+}
+
+/// Does what a line asks for.
+fn on_line<S: Sources + Sinks, P: Progress, W: Write>(
+    alloc: Global,
+    sources: &S,
+    asked: Asked<'_>,
+    progress: &mut P,
+    out: &mut W,
+    notes: &mut Notes,
+) -> Result<u8, WriteFailed>
+    ensures { IfOk result (λ s. (o : Output)
+        × def.IsShown asked.entry (S.held sources.now) (S.same sources.now) o
         × Writes (W.contents out.old) (W.contents out.new) s o) }
 {
     match asked {
@@ -158,6 +228,7 @@ fn on_line<S: Sources, W: Write>(
         Asked::Draw { file, trace } => {
             on_texts(alloc, sources, Showing::Picture, file, trace, out, notes)
         }
+        Asked::Ends { file, ends } => on_ends(alloc, sources, file, ends, progress, out, notes),
     }
 }
 
@@ -173,16 +244,17 @@ fn on_line<S: Sources, W: Write>(
 /// # Errors
 ///
 /// A write failed.
-pub fn run<S: Sources, W: Write, E: Write>(
+pub fn run<S: Sources + Sinks, P: Progress, W: Write, E: Write>(
     alloc: Global,
     sources: &S,
     words: &[&str],
+    progress: &mut P,
     out: &mut W,
     err: &mut E,
     notes: &mut Notes,
 ) -> Result<u8, WriteFailed>
     ensures { IfOk result (def.Ends (map (λ w. w.now) words.now) (S.held sources.now)
-        (record {
+        (S.same sources.now) (record {
           out_old = W.contents out.old;
           out_new = W.contents out.new;
           err_old = E.contents err.old;
@@ -190,7 +262,7 @@ pub fn run<S: Sources, W: Write, E: Write>(
         })) }
 {
     match line(alloc, words) {
-        Ok(asked) => on_line(alloc, sources, asked, out, notes),
+        Ok(asked) => on_line(alloc, sources, asked, progress, out, notes),
         Err(LineError::Memory) => failed(TakeError::Memory, out),
         Err(LineError::Help(text)) => written(out, text.as_bytes(), 0),
         Err(LineError::Usage(text)) => written(err, text.as_bytes(), 2),
@@ -202,15 +274,16 @@ pub fn run<S: Sources, W: Write, E: Write>(
 /// # Errors
 ///
 /// A write failed.
-pub fn run_words<S: Sources, W: Write, E: Write>(
+pub fn run_words<S: Sources + Sinks, P: Progress, W: Write, E: Write>(
     alloc: Global,
     sources: &S,
     words: &Result<Vec<String>, WordsError>,
+    progress: &mut P,
     out: &mut W,
     err: &mut E,
     notes: &mut Notes,
 ) -> Result<u8, WriteFailed>
-    ensures { IfOk result (def.EndsFrom words.now (S.held sources.now)
+    ensures { IfOk result (def.EndsFrom words.now (S.held sources.now) (S.same sources.now)
         (record {
           out_old = W.contents out.old;
           out_new = W.contents out.new;
@@ -220,7 +293,7 @@ pub fn run_words<S: Sources, W: Write, E: Write>(
 {
     match words {
         Ok(words) => match borrowed(alloc, words.as_slice()) {
-            Ok(texts) => run(alloc, sources, texts.as_slice(), out, err, notes),
+            Ok(texts) => run(alloc, sources, texts.as_slice(), progress, out, err, notes),
             Err(_) => failed(TakeError::Memory, out),
         },
         Err(WordsError::Memory) => failed(TakeError::Memory, out),
@@ -229,15 +302,17 @@ pub fn run_words<S: Sources, W: Write, E: Write>(
 }
 
 /// Does what the process was asked for, and gives the status; a stream that fails is status 6.
-pub fn start<R: Env + Files + Input, W: Write, E: Write>(
+pub fn start<R: Env + Files + Input, P: Progress, W: Write, E: Write>(
     rt: &R,
     alloc: Global,
+    progress: &mut P,
     out: &mut W,
     err: &mut E,
 ) -> u8 {
     let words = words(rt, alloc, NAME.as_bytes());
     let mut notes = Notes::new(alloc, NAME);
-    match run_words(alloc, &Dashed { rt }, &words, out, err, &mut notes) {
+    let sources = Dashed { rt };
+    match run_words(alloc, &sources, &words, progress, out, err, &mut notes) {
         Ok(status) => {
             // (the output and the status are the same if no line can be written)
             let _told = err.write_all(notes.lines());

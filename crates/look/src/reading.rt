@@ -1,16 +1,24 @@
 //! Reads a command line.
 
-ghost use Rattle.std.specs.Prelude.{◌≡◌, IfOk, IfErr, map, Some};
-ghost use Rattle.clap.specs.Words.{rows_of, found_of, subcommand_rows_of};
+ghost use Rattle.std.specs.Prelude.{◌≡◌, IfOk, IfErr, map, option_map, Some, Bool, false};
+ghost use Rattle.clap.specs.Words.{all_of, rows_of, found_of, subcommand_rows_of};
 ghost use Rattle.sts_args.specs.Refused.{BlamesUnless};
 ghost use Rattle.look.specs.Asked.{Asks, IsGiven, IsLineOf, Refuses, is_set, is_whole, wanted_at};
+ghost use Rattle.look.specs.AskedEnds.{ends_at, ends_wanted_at, kept_of, kept_words, manner_at};
+ghost use Rattle.look.specs.AskedEnds.{number_at, said_ends};
 
-use crate::asked::Asked;
+use crate::asked::{Asked, AskedEnds, FIRST_SEED, Kept, MOST_STATES};
 use crate::command::program;
 use clap::ArgMatches;
+use look_ends::{Manner, Wanted as EndsWanted};
 use look_lines::Wanted;
-use std::alloc::Global;
+use std::alloc::{AllocError, Global};
 use sts_args::{LineError, text_of, told, trace_of, unknown};
+use sts_text::digits_up_to;
+
+/// The error for an option whose value is no number.
+const NO_NUMBER: &str =
+    "error: N, S and K of `ends` are numbers from 0 to 4294967295\n\nFor more information, try '--help'.\n";
 
 /// The request of the words of a command line. The first word is the program's own name.
 ///
@@ -65,6 +73,11 @@ fn asked_of<'a>(
             } else if name == "draw" {
                 let trace = trace_of(alloc, inner)?;
                 Ok(Asked::Draw { file, trace })
+            } else if name == "ends" {
+                match asked_ends(inner) {
+                    Some(ends) => Ok(Asked::Ends { file, ends }),
+                    None => Err(no_number(alloc)),
+                }
             } else {
                 Err(unknown(alloc))
             }
@@ -89,5 +102,82 @@ fn wanted_of(inner: &ArgMatches<'_>) -> Wanted
     Wanted {
         each: is_set(inner, "each"),
         full: is_set(inner, "full"),
+    }
+}
+
+/// The number that an option is given, or another one if the option isn't given.
+fn number_of(inner: &ArgMatches<'_>, id: &str, otherwise: u32) -> Option<u32>
+    ensures { result ≡ number_at id.now otherwise (rows_of (found_of inner.now)) }
+{
+    match text_of(inner, id) {
+        None => Some(otherwise),
+        Some(text) => digits_up_to(text.as_bytes(), u32::MAX),
+    }
+}
+
+/// All schedules, or this number of random ones.
+fn manner_of(inner: &ArgMatches<'_>) -> Option<Manner>
+    ensures { result ≡ manner_at (rows_of (found_of inner.now)) }
+{
+    let most = number_of(inner, "most", MOST_STATES)?;
+    let seed = number_of(inner, "seed", FIRST_SEED)?;
+    match text_of(inner, "sample") {
+        None => Some(Manner::All { most }),
+        Some(text) => {
+            let schedules = digits_up_to(text.as_bytes(), u32::MAX)?;
+            Some(Manner::Sample { schedules, seed })
+        }
+    }
+}
+
+/// Which events may come, and which schedules are tried.
+fn ends_wanted(inner: &ArgMatches<'_>) -> Option<EndsWanted>
+    ensures { result ≡ ends_wanted_at (rows_of (found_of inner.now)) }
+{
+    let interrupts = number_of(inner, "interrupts", 0)?;
+    let manner = manner_of(inner)?;
+    Some(EndsWanted {
+        expiries: !is_set(inner, "no-expiries"),
+        interrupts,
+        manner,
+    })
+}
+
+/// The number and the file of `--trace`.
+fn kept_of<'a>(words: &[&'a str]) -> Option<Kept<'a>>
+    ensures { option_map kept_words result ≡ kept_of (map (λ w. w.now) words.now) }
+{
+    let number = digits_up_to(words.first()?.as_bytes(), u32::MAX)?;
+    let file = words.get(1)?;
+    Some(Kept { number, file })
+}
+
+/// The texts that the command was given under an id.
+fn texts_of<'m, 'a>(inner: &'m ArgMatches<'a>, id: &str) -> Option<&'m [&'a str]>
+    ensures { option_map (λ s. map (λ v. v.now) s.now) result
+        ≡ all_of id.now (rows_of (found_of inner.now)) }
+{
+    inner.get_strs(id)
+}
+
+/// What `ends` is asked for; nothing if an option has no number.
+fn asked_ends<'a>(inner: &ArgMatches<'a>) -> Option<AskedEnds<'a>>
+    ensures { option_map said_ends result ≡ ends_at (rows_of (found_of inner.now)) }
+{
+    let wanted = ends_wanted(inner)?;
+    let kept = match texts_of(inner, "trace") {
+        None => None,
+        Some(words) => Some(kept_of(words)?),
+    };
+    Some(AskedEnds { wanted, kept })
+}
+
+/// The error for an option that has no number.
+fn no_number(alloc: Global) -> LineError
+    ensures { (whole : Bool) → whole ≡ false → BlamesUnless whole result }
+{
+    match NO_NUMBER.to_string(alloc) {
+        Ok(text) => LineError::Usage(text),
+        Err(AllocError) => LineError::Memory,
     }
 }

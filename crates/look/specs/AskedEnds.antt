@@ -1,0 +1,85 @@
+-- What `ends` is asked for, read off the words by `clap`'s own definitions (this project's own).
+use Rattle.std.specs.Prelude.{ℕ, Bool, false, not, List, Option, Some, None, option_map, option_and_then}
+use Rattle.std.specs.Prelude.{slice_get, codes, ◌^◌, ◌-◌}
+use Rattle.std.specs.Str.{bytes_eq}
+use Rattle.clap.specs.Words.{Text, Row, all_of, first_of}
+use Rattle.sts_text.specs.Number.{digits_up_to}
+use Rattle.look_ends.specs.declared.wanted.Manner.{Manner}
+use Rattle.look_ends.specs.declared.wanted.Manner.TheVariants.{All, Sample}
+use Rattle.look_ends.specs.declared.wanted.Wanted.{Wanted}
+use Rattle.look.specs.declared.asked.AskedEnds.{AskedEnds}
+use Rattle.look.specs.declared.asked.Kept.{Kept}
+use Rattle.look.specs.declared.asked.TheConstants.{FIRST_SEED, MOST_STATES}
+
+-- the number of an end and the name of a file
+abbrev pub KeptWords : Type 0
+KeptWords = ℕ × Text
+
+abbrev pub kept_words : Kept → KeptWords
+kept_words k = (k.number, k.file.now)
+
+-- which ends, and the one whose trace is kept
+pub record SaidEnds : Type 0 where
+  pub wanted : Wanted
+  pub kept : Option KeptWords
+
+abbrev pub said_ends : AskedEnds → SaidEnds
+said_ends a = record { wanted = a.wanted; kept = option_map kept_words a.kept }
+
+-- ---- what the options say
+
+abbrev pub most_of_a_number : ℕ
+most_of_a_number = 2 ^ 32 - 1
+
+abbrev pub number : Text → Option ℕ
+number text = digits_up_to most_of_a_number text
+
+abbrev pub number_or : ℕ → Option Text → Option ℕ
+number_or otherwise None = Some otherwise
+number_or otherwise (Some text) = number text
+
+-- the number of an option, or another one if the option isn't given
+abbrev pub number_at : Text → ℕ → List Row → Option ℕ
+number_at id otherwise rows = number_or otherwise (first_of id rows)
+
+-- all schedules, or this number of random ones
+abbrev pub manner_by : ℕ → ℕ → Option Text → Option Manner
+manner_by most seed None = Some (All most)
+manner_by most seed (Some text) = option_map (λ n. Sample n seed) (number text)
+
+abbrev pub manner_at : List Row → Option Manner
+manner_at rows =
+    option_and_then (λ most. option_and_then (λ seed. manner_by most seed (first_of (codes "sample") rows))
+    (number_at (codes "seed") FIRST_SEED rows)) (number_at (codes "most") MOST_STATES rows)
+
+-- an option without a value is given as `true`
+abbrev pub is_true : Option Text → Bool
+is_true None = false
+is_true (Some text) = bytes_eq text (codes "true")
+
+abbrev pub ends_wanted_by : List Row → ℕ → Manner → Wanted
+ends_wanted_by rows n manner = record {
+  expiries = not (is_true (first_of (codes "no-expiries") rows));
+  interrupts = n;
+  manner = manner;
+}
+
+abbrev pub ends_wanted_at : List Row → Option Wanted
+ends_wanted_at rows =
+    option_and_then (λ n. option_map (λ m. ends_wanted_by rows n m) (manner_at rows))
+    (number_at (codes "interrupts") 0 rows)
+
+-- a number, then a file
+abbrev pub kept_of : List Text → Option KeptWords
+kept_of words =
+    option_and_then (λ n. option_map (λ file. (n, file)) (slice_get words 1))
+    (option_and_then number (slice_get words 0))
+
+abbrev pub kept_at : Option (List Text) → Option (Option KeptWords)
+kept_at None = Some None
+kept_at (Some words) = option_map Some (kept_of words)
+
+abbrev pub ends_at : List Row → Option SaidEnds
+ends_at rows =
+    option_and_then (λ w. option_map (λ k. record { wanted = w; kept = k })
+    (kept_at (all_of (codes "trace") rows))) (ends_wanted_at rows)

@@ -1,0 +1,23 @@
+-- A listing of a search says what was searched.
+use Rattle.std.proofs.Common.{◌≡◌, ℕ, List, Bool, true, Option, subst, ◌∙◌}
+use Rattle.sts_asm.specs.Outline.{Outline}
+use Rattle.ends_plain.specs.Ends.{AreAll}
+use Rattle.ends_plain.specs.Listed.{AreEnds, ends_of}
+use Rattle.ends_plain.specs.declared.config.Found.{Found}
+use Rattle.ends_plain.specs.declared.config.Setting.{Setting}
+use Rattle.look_ends.specs.Listing.{IsSearch, IsVerdict, Outcome, searched_outcome}
+
+-- what was searched is what was asked for
+pub search_of : (g e x : Setting) (o : Outline) (number : Option ℕ) (is_refused : Bool) (found : List Found) (states : ℕ) (whole : Bool) (r : Outcome)
+    → x ≡ e → e ≡ g → AreEnds e found → (whole ≡ true → AreAll e.program e.expiries e.interrupts (ends_of found)) → IsVerdict g.program is_refused
+    → r ≡ searched_outcome x.program o is_refused number found states whole → IsSearch g o number r
+search_of g e x o number is_refused found states whole r seen same sound complete verdict printed = record {
+  found = found;
+  states = states;
+  whole = whole;
+  is_refused = is_refused;
+  sound = subst (λ (y : Setting). AreEnds y found) same sound;
+  complete = subst (λ (y : Setting). whole ≡ true → AreAll y.program y.expiries y.interrupts (ends_of found)) same complete;
+  verdict = verdict;
+  printed = subst (λ (y : Setting). r ≡ searched_outcome y.program o is_refused number found states whole) (seen ∙ same) printed;
+}

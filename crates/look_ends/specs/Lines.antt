@@ -1,0 +1,126 @@
+-- The lines of ends, and what is printed below them (this project's own).
+use Rattle.std.specs.Prelude.{ℕ, ◌+◌, ◌-◌, ◌==◌, List, [], ◌∷◌, ◌++◌, Bool, true, false, not, ◌&&◌}
+use Rattle.std.specs.Prelude.{if◌then◌else◌, codes, length, slice_get, Option, Some, None, is_some}
+use Rattle.std.specs.List.{list_any}
+use Rattle.std.specs.Fmt.{decimal}
+use Rattle.sts_code.specs.Program.{Program, routine}
+use Rattle.sts_asm.specs.Outline.{Outline}
+use Rattle.sts_asm.specs.Source.{sentence_at}
+use Rattle.sts_model.specs.declared.event.Fault.{Fault}
+use Rattle.sts_plain.specs.declared.misstep.PlainState.{PlainState}
+use Rattle.sts_plain.specs.declared.misstep.PlainState.TheVariants as plain
+use Rattle.sts_output.specs.Printed.{end_line, fault_word}
+use Rattle.ends_plain.specs.declared.config.Found.{Found}
+use Rattle.look_text.specs.Lines.{place_words}
+
+-- ---- an end
+
+-- `task 1 in kid, line 3: close s0`, the words as they are in the text
+abbrev pub task_place : Program → Outline → ℕ → ℕ → ℕ → List ℕ
+task_place p o t f pc =
+    codes "task " ++ decimal t ++ codes " in " ++ (routine p f).name
+    ++ place_words (sentence_at o f pc)
+
+-- `fault Structure, task 1 in kid, line 3: close s0`
+abbrev pub fault_words : Program → Outline → Fault → ℕ → ℕ → ℕ → List ℕ
+fault_words p o kind t f pc =
+    codes "fault " ++ fault_word kind ++ codes ", " ++ task_place p o t f pc ++ codes "\n"
+
+-- `success V`, `failed C` or a fault
+abbrev pub end_words : Program → Outline → PlainState → List ℕ
+end_words p o plain.Running = codes "running\n"
+end_words p o (plain.Ended end) = end_line end
+end_words p o (plain.Fault kind t f pc) = fault_words p o kind t f pc
+
+-- the number of the end at this place, which is counted from 0, and the length of its trace
+abbrev pub head_words : ℕ → Found → List ℕ
+head_words place f =
+    decimal (place + 1) ++ codes " after " ++ decimal (length f.trace.items) ++ codes " events"
+
+-- `1 after 14 events: success 42`
+abbrev pub found_line : Program → Outline → ℕ → Found → List ℕ
+found_line p o place f = head_words place f ++ codes ": " ++ end_words p o f.end
+
+-- the lines of these ends, the first of which is at this place
+abbrev pub found_lines : Program → Outline → List Found → ℕ → List ℕ
+found_lines p o [] place = []
+found_lines p o (f ∷ fs) place = found_line p o place f ++ found_lines p o fs (place + 1)
+
+-- `, in 183 of 200 schedules: `
+abbrev pub share_words : ℕ → ℕ → List ℕ
+share_words times schedules =
+    codes ", in " ++ decimal times ++ codes " of " ++ decimal schedules ++ codes " schedules: "
+
+-- `1 after 14 events, in 183 of 200 schedules: success 42`
+abbrev pub sampled_line : Program → Outline → ℕ → Found → ℕ → ℕ → List ℕ
+sampled_line p o place f times schedules =
+    head_words place f ++ (share_words times schedules ++ end_words p o f.end)
+
+abbrev pub times_or_none : Option ℕ → ℕ
+times_or_none None = 0
+times_or_none (Some n) = n
+
+-- how often the end at a place came
+abbrev pub times_at : List ℕ → ℕ → ℕ
+times_at times place = times_or_none (slice_get times place)
+
+-- the lines of these ends, with the number of times that each came
+abbrev pub sampled_lines : Program → Outline → List Found → List ℕ → ℕ → ℕ → List ℕ
+sampled_lines p o [] times schedules place = []
+sampled_lines p o (f ∷ fs) times schedules place =
+    sampled_line p o place f (times_at times place) schedules
+    ++ sampled_lines p o fs times schedules (place + 1)
+
+-- ---- below the ends
+
+abbrev pub is_fault : PlainState → Bool
+is_fault (plain.Fault kind t f pc) = true
+is_fault _ = false
+
+abbrev pub has_fault : List Found → Bool
+has_fault found = list_any (λ (f : Found). is_fault f.end) found
+
+-- whether the verifier refuses a program that never faults
+abbrev pub refused_line : Bool → Bool → List Found → List ℕ
+refused_line is_refused whole found =
+    if is_refused && (whole && not (has_fault found)) then codes "refused, but no run faults\n"
+    else []
+
+abbrev pub states_line : Bool → ℕ → List ℕ
+states_line whole states =
+    if whole then decimal states ++ codes " states, all schedules\n"
+    else codes "stopped at " ++ decimal states ++ codes " states, not all schedules\n"
+
+-- schedules that came to no end
+abbrev pub unfinished_line : ℕ → List ℕ
+unfinished_line unfinished =
+    if unfinished == 0 then [] else decimal unfinished ++ codes " schedules were cut off\n"
+
+abbrev pub seed_words : ℕ → List ℕ
+seed_words seed =
+    codes " random schedules by seed " ++ decimal seed ++ codes ", not all schedules\n"
+
+abbrev pub schedules_line : ℕ → ℕ → List ℕ
+schedules_line schedules seed = decimal schedules ++ seed_words seed
+
+-- ---- the end whose trace is kept
+
+-- the end of a number, the first one having number 1
+abbrev pub found_at : List Found → ℕ → Option Found
+found_at found k = if k == 0 then None else slice_get found (k - 1)
+
+abbrev pub is_number : List Found → ℕ → Bool
+is_number found k = is_some (found_at found k)
+
+-- is there an end of the number that is asked for, if one is?
+abbrev pub has_number : Option ℕ → List Found → Bool
+has_number None found = true
+has_number (Some k) found = is_number found k
+
+abbrev pub unless_there : ℕ → List Found → List ℕ
+unless_there k found =
+    if is_number found k then [] else codes "no end has number " ++ decimal k ++ codes "\n"
+
+abbrev pub no_number_line : Option ℕ → List Found → List ℕ
+no_number_line None found = []
+no_number_line (Some k) found = unless_there k found

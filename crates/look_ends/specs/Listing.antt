@@ -1,0 +1,144 @@
+-- What is printed of the ends of a text, and the trace that is kept (this project's own).
+use Rattle.std.specs.Prelude.{◌≡◌, ◌⊎◌, ℕ, List, [], ◌++◌, Bool, true, false, ◌&&◌}
+use Rattle.std.specs.Prelude.{if◌then◌else◌, Option, Some, None, Result, Ok, Err}
+use Rattle.std.specs.Io.KnownBytes.{Appends}
+use Rattle.sts_code.specs.Program.{Program}
+use Rattle.sts_model.specs.declared.event.Event.{Event}
+use Rattle.sts_rules.specs.Refusal.{IsAccepted, IsRefusal}
+use Rattle.sts_rules.specs.declared.typing.Cause.{Cause}
+use Rattle.sts_asm.specs.Outline.{Outline}
+use Rattle.sts_asm.specs.Source.{outlined}
+use Rattle.sts_asm.specs.Text.{judged}
+use Rattle.sts_asm.specs.declared.fault.AsmError.{AsmError}
+use Rattle.sts_trace.specs.Spelling.{trace_text}
+use Rattle.sts_output.specs.Output.{Output, Writes, file_output, memory_output}
+use Rattle.ends_plain.specs.Ends.{AreAll}
+use Rattle.ends_plain.specs.Listed.{AreEnds, ends_of}
+use Rattle.ends_plain.specs.declared.config.Found.{Found}
+use Rattle.ends_plain.specs.declared.config.Setting.{Setting}
+use Rattle.look_refusal.specs.Output.{fault_output}
+use Rattle.look_ends.specs.Lines.{found_at, found_lines, has_number, no_number_line, refused_line}
+use Rattle.look_ends.specs.Lines.{sampled_lines, schedules_line, states_line, unfinished_line}
+use Rattle.look_ends.specs.declared.wanted.Manner.{Manner}
+use Rattle.look_ends.specs.declared.wanted.Manner.TheVariants as manner
+use Rattle.look_ends.specs.declared.wanted.Wanted.{Wanted}
+
+-- ---- what is printed
+
+-- what is printed, and the events of the trace that is kept
+pub record Outcome : Type 0 where
+  pub output : Output
+  pub trace : List Event
+
+-- this output, and no trace
+abbrev pub alone : Output → Outcome
+alone o = record { output = o; trace = [] }
+
+abbrev pub events_of : Option Found → List Event
+events_of None = []
+events_of (Some f) = f.trace.items
+
+-- the trace of the end whose number is asked for, the first one having number 1
+abbrev pub trace_of : Option ℕ → List Found → List Event
+trace_of None found = []
+trace_of (Some k) found = events_of (found_at found k)
+
+-- 0 if all schedules were tried, and an end that was asked for is there
+abbrev pub status_of : Bool → Option ℕ → List Found → ℕ
+status_of whole number found = if whole && has_number number found then 0 else 5
+
+-- a line for each end, then what is to be said of all of them
+abbrev pub searched_outcome : Program → Outline → Bool → Option ℕ → List Found → ℕ → Bool → Outcome
+searched_outcome p o is_refused number found states whole = record {
+  output = record {
+    bytes = found_lines p o found 0 ++ (refused_line is_refused whole found
+        ++ (states_line whole states ++ no_number_line number found));
+    status = status_of whole number found;
+  };
+  trace = trace_of number found;
+}
+
+-- what is printed of random schedules, with the number of times that each end came
+abbrev pub sampled_outcome : Program → Outline → ℕ → ℕ → Option ℕ → List Found → List ℕ → ℕ
+    → Outcome
+sampled_outcome p o schedules seed number found times unfinished = record {
+  output = record {
+    bytes = sampled_lines p o found times schedules 0 ++ (unfinished_line unfinished
+        ++ (schedules_line schedules seed ++ no_number_line number found));
+    status = 5;
+  };
+  trace = trace_of number found;
+}
+
+-- ---- of a program
+
+abbrev pub setting : Program → Wanted → Setting
+setting p w = record { program = p; expiries = w.expiries; interrupts = w.interrupts }
+
+-- some place of the program has a cause, for which it is refused
+pub record HasRefusal (p : Program) : Type 0 where
+  pub function : ℕ
+  pub place : ℕ
+  pub cause : Cause
+  pub refusal : IsRefusal p function place cause
+
+-- whether the program is refused
+abbrev pub IsVerdict : Program → Bool → Type 0
+IsVerdict p true = HasRefusal p
+IsVerdict p false = IsAccepted p
+
+-- a listing of ends that were searched for: each of them is one, after the trace that comes with
+-- it. If it says that it is of all schedules, each end that a list of allowed events leads to is
+-- there, however long the list is.
+pub record IsSearch (g : Setting) (o : Outline) (number : Option ℕ) (r : Outcome) : Type 0 where
+  pub found : List Found
+  pub states : ℕ
+  pub whole : Bool
+  pub is_refused : Bool
+  pub sound : AreEnds g found
+  pub complete : whole ≡ true → AreAll g.program g.expiries g.interrupts (ends_of found)
+  pub verdict : IsVerdict g.program is_refused
+  pub printed : r ≡ searched_outcome g.program o is_refused number found states whole
+
+-- a listing of the ends of random schedules: each of them is one, after the trace that comes with
+-- it
+pub record IsSampling (g : Setting) (o : Outline) (schedules seed : ℕ) (number : Option ℕ)
+    (r : Outcome) : Type 0 where
+  pub found : List Found
+  pub times : List ℕ
+  pub unfinished : ℕ
+  pub sound : AreEnds g found
+  pub printed : r ≡ sampled_outcome g.program o schedules seed number found times unfinished
+
+abbrev pub ListsBy : Manner → Setting → Outline → Option ℕ → Outcome → Type 0
+ListsBy (manner.All most) g o number r = IsSearch g o number r
+ListsBy (manner.Sample schedules seed) g o number r = IsSampling g o schedules seed number r
+
+-- ---- of a text
+
+-- the ends of the program, or the fault of a text that is none
+abbrev pub Lists : Result Program AsmError → List ℕ → Wanted → Option ℕ → Outcome → Type 0
+Lists (Ok p) text wanted number r =
+    (o : Outline) × ((outlined text ≡ Ok o) × ListsBy wanted.manner (setting p wanted) o number r)
+Lists (Err e) text wanted number r = r ≡ alone (fault_output e text)
+
+-- the same, or that memory was refused
+abbrev pub IsOutcomeOf : Wanted → Option ℕ → List ℕ → Outcome → Type 0
+IsOutcomeOf wanted number text r =
+    Lists (judged text) text wanted number r ⊎ (r ≡ alone memory_output)
+
+-- ---- what is written
+
+-- the bytes that the trace and the stream hold before and after, where they are known
+pub record Written : Type 0 where
+  pub trace_old : Option (List ℕ)
+  pub trace_new : Option (List ℕ)
+  pub out_old : Option (List ℕ)
+  pub out_new : Option (List ℕ)
+
+-- the trace is written to its file, and the output to the stream; if the file failed, only that is
+-- written to the stream
+pub data WritesBoth (w : Written) (status : ℕ) (r : Outcome) : Type 0 where
+  whole : Appends w.trace_old w.trace_new (trace_text r.trace)
+      → Writes w.out_old w.out_new status r.output → WritesBoth w status r
+  no_trace : Writes w.out_old w.out_new status file_output → WritesBoth w status r

@@ -1,0 +1,153 @@
+//! The lines below the ends.
+
+ghost use Rattle.std.specs.Prelude.{◌≡◌, ◌++◌, OnOk, option_map};
+ghost use Rattle.look_ends.specs.Lines as def;
+
+use crate::lines::say_count;
+use ends_plain::config::Found;
+use look_text::say;
+use std::alloc::{AllocError, Global};
+use sts_plain::PlainState;
+
+fn is_fault(end: PlainState) -> bool
+    ensures { result ≡ def.is_fault end }
+{
+    matches!(end, PlainState::Fault { .. })
+}
+
+fn has_fault(found: &[Found]) -> bool
+    ensures { result ≡ def.has_fault found.now }
+{
+    found.iter().any(|one| is_fault(one.end))
+}
+
+/// Whether the verifier refuses a program that never faults.
+pub(crate) fn say_refused(
+    out: &mut Vec<u8>,
+    is_refused: bool,
+    whole: bool,
+    found: &[Found],
+) -> Result<(), AllocError>
+    ensures { OnOk result (out.new.items ≡ out.old.items
+        ++ def.refused_line is_refused whole found.now) }
+{
+    if is_refused && whole && !has_fault(found) {
+        say(out, "refused, but no run faults\n")
+    } else {
+        Ok(())
+    }
+}
+
+/// How many states were found, and whether these are all.
+pub(crate) fn say_states(
+    alloc: Global,
+    out: &mut Vec<u8>,
+    whole: bool,
+    states: usize,
+) -> Result<(), AllocError>
+    ensures { OnOk result (out.new.items ≡ out.old.items ++ def.states_line whole states) }
+{
+    if whole {
+        let line = format!(in alloc; "{states} states, all schedules\n")?;
+        say(out, line.as_str())
+    } else {
+        let line = format!(in alloc; "stopped at {states} states, not all schedules\n")?;
+        say(out, line.as_str())
+    }
+}
+
+/// How many schedules came to no end, if any.
+pub(crate) fn say_unfinished(
+    alloc: Global,
+    out: &mut Vec<u8>,
+    unfinished: u64,
+) -> Result<(), AllocError>
+    ensures { OnOk result (out.new.items ≡ out.old.items ++ def.unfinished_line unfinished) }
+{
+    if unfinished == 0 {
+        return Ok(());
+    }
+    let line = format!(in alloc; "{unfinished} schedules were cut off\n")?;
+    say(out, line.as_str())
+}
+
+/// ` random schedules by seed S, not all schedules`
+fn say_seed(alloc: Global, out: &mut Vec<u8>, seed: u32) -> Result<(), AllocError>
+    ensures { OnOk result (out.new.items ≡ out.old.items ++ def.seed_words seed) }
+{
+    let line = format!(in alloc; " random schedules by seed {seed}, not all schedules\n")?;
+    say(out, line.as_str())
+}
+
+/// How many schedules there were, and by which seed.
+pub(crate) fn say_schedules(
+    alloc: Global,
+    out: &mut Vec<u8>,
+    schedules: u32,
+    seed: u32,
+) -> Result<(), AllocError>
+    ensures { OnOk result (out.new.items ≡ out.old.items ++ def.schedules_line schedules seed) }
+{
+    say_count(alloc, out, schedules)?;
+    say_seed(alloc, out, seed)
+}
+
+/// The end of this number, the first one having number 1.
+pub(crate) fn found_at(found: &[Found], number: u32) -> Option<&Found>
+    ensures { option_map (λ f. f.now) result ≡ def.found_at found.now number }
+{
+    if number == 0 {
+        None
+    } else {
+        found.get(number as usize - 1)
+    }
+}
+
+/// Is there an end of this number?
+fn is_number(found: &[Found], number: u32) -> bool
+    ensures { result ≡ def.is_number found.now number }
+{
+    found_at(found, number).is_some()
+}
+
+/// Is there an end of the number that is asked for, if one is?
+pub(crate) fn has_number(number: Option<u32>, found: &[Found]) -> bool
+    ensures { result ≡ def.has_number number found.now }
+{
+    match number {
+        None => true,
+        Some(k) => is_number(found, k),
+    }
+}
+
+/// Says that no end has this number, if none has.
+fn say_unless_there(
+    alloc: Global,
+    out: &mut Vec<u8>,
+    number: u32,
+    found: &[Found],
+) -> Result<(), AllocError>
+    ensures { OnOk result (out.new.items ≡ out.old.items
+        ++ def.unless_there number found.now) }
+{
+    if is_number(found, number) {
+        return Ok(());
+    }
+    let line = format!(in alloc; "no end has number {number}\n")?;
+    say(out, line.as_str())
+}
+
+/// Says that no end has the number that is asked for, if none has.
+pub(crate) fn say_no_number(
+    alloc: Global,
+    out: &mut Vec<u8>,
+    number: Option<u32>,
+    found: &[Found],
+) -> Result<(), AllocError>
+    ensures { OnOk result (out.new.items ≡ out.old.items ++ def.no_number_line number found.now) }
+{
+    match number {
+        None => Ok(()),
+        Some(k) => say_unless_there(alloc, out, k, found),
+    }
+}

@@ -1,0 +1,226 @@
+//! The lines of ends.
+
+ghost use Rattle.std.specs.Prelude.{◌≡◌, ◌++◌, ◌+◌, ◌<◌, ◌^◌, OnOk};
+ghost use Rattle.std.specs.Fmt.{decimal};
+ghost use Rattle.sts_output.specs.Printed.{end_line};
+ghost use Rattle.look_ends.specs.Lines as def;
+
+use ends_plain::config::Found;
+use look_text::{say, say_place};
+use std::alloc::{AllocError, Global};
+use sts_asm::Outline;
+use sts_code::{Program, name_of};
+use sts_model::{End, Fault};
+use sts_output::printed;
+use sts_plain::PlainState;
+
+/// A program, and the lines of its text.
+#[derive(Clone, Copy)]
+pub(crate) struct Told<'p, 'o, 't> {
+    pub(crate) program: &'p Program,
+    pub(crate) outline: &'o Outline<'t>,
+}
+
+/// `task T in NAME, line L: WORDS`
+fn say_task(
+    alloc: Global,
+    out: &mut Vec<u8>,
+    told: Told<'_, '_, '_>,
+    task: u32,
+    function: u32,
+    pc: u32,
+) -> Result<(), AllocError>
+    ensures { OnOk result (out.new.items ≡ out.old.items
+        ++ def.task_place told.entry.program.now told.entry.outline.now task function pc) }
+{
+    let name = name_of(told.program, function);
+    let head = format!(in alloc; "task {task} in {name}")?;
+    say(out, head.as_str())?;
+    say_place(alloc, out, told.outline.sentence(function, pc))
+}
+
+/// `fault KIND, task T in NAME, line L: WORDS`
+fn say_fault(
+    alloc: Global,
+    out: &mut Vec<u8>,
+    told: Told<'_, '_, '_>,
+    kind: Fault,
+    task: u32,
+    function: u32,
+    pc: u32,
+) -> Result<(), AllocError>
+    ensures { OnOk result (out.new.items ≡ out.old.items
+        ++ def.fault_words told.entry.program.now told.entry.outline.now kind task function pc) }
+{
+    say(out, "fault ")?;
+    say(out, printed::fault_word(kind))?;
+    say(out, ", ")?;
+    say_task(alloc, out, told, task, function, pc)?;
+    say(out, "\n")
+}
+
+fn say_outcome(alloc: Global, out: &mut Vec<u8>, end: End) -> Result<(), AllocError>
+    ensures { OnOk result (out.new.items ≡ out.old.items ++ end_line end) }
+{
+    let mut line = String::new(alloc);
+    printed::end_line(&mut line, end)?;
+    say(out, line.as_str())
+}
+
+/// `success V`, `failed C` or a fault.
+fn say_end(
+    alloc: Global,
+    out: &mut Vec<u8>,
+    told: Told<'_, '_, '_>,
+    end: PlainState,
+) -> Result<(), AllocError>
+    ensures { OnOk result (out.new.items ≡ out.old.items
+        ++ def.end_words told.entry.program.now told.entry.outline.now end) }
+{
+    match end {
+        PlainState::Running => say(out, "running\n"),
+        PlainState::Ended(end) => say_outcome(alloc, out, end),
+        PlainState::Fault {
+            kind,
+            task,
+            function,
+            pc,
+        } => say_fault(alloc, out, told, kind, task, function, pc),
+    }
+}
+
+/// Appends a number.
+pub(crate) fn say_number(alloc: Global, out: &mut Vec<u8>, n: u64) -> Result<(), AllocError>
+    ensures { OnOk result (out.new.items ≡ out.old.items ++ decimal n) }
+{
+    let digits = format!(in alloc; "{n}")?;
+    say(out, digits.as_str())
+}
+
+/// Appends a number of 32 bits.
+pub(crate) fn say_count(alloc: Global, out: &mut Vec<u8>, n: u32) -> Result<(), AllocError>
+    ensures { OnOk result (out.new.items ≡ out.old.items ++ decimal n) }
+{
+    let digits = format!(in alloc; "{n}")?;
+    say(out, digits.as_str())
+}
+
+/// `K after N events`
+fn say_head(alloc: Global, out: &mut Vec<u8>, place: usize, one: &Found) -> Result<(), AllocError>
+    requires { place + 1 < 2 ^ 64 }
+    ensures { OnOk result (out.new.items ≡ out.old.items ++ def.head_words place one.now) }
+{
+    say_number(alloc, out, place as u64 + 1)?;
+    say(out, " after ")?;
+    say_number(alloc, out, one.trace.len() as u64)?;
+    say(out, " events")
+}
+
+/// `K after N events: END`
+fn say_found(
+    alloc: Global,
+    out: &mut Vec<u8>,
+    told: Told<'_, '_, '_>,
+    place: usize,
+    one: &Found,
+) -> Result<(), AllocError>
+    requires { place + 1 < 2 ^ 64 }
+    ensures { OnOk result (out.new.items ≡ out.old.items
+        ++ def.found_line told.entry.program.now told.entry.outline.now place one.now) }
+{
+    say_head(alloc, out, place, one)?;
+    say(out, ": ")?;
+    say_end(alloc, out, told, one.end)
+}
+
+/// The lines of the ends, numbered from 1.
+///
+/// # Errors
+///
+/// Memory was refused; a part of them may then be in `out`.
+pub(crate) fn say_all(
+    alloc: Global,
+    out: &mut Vec<u8>,
+    told: Told<'_, '_, '_>,
+    found: &[Found],
+) -> Result<(), AllocError>
+    ensures { OnOk result (out.new.items ≡ out.old.items
+        ++ def.found_lines told.entry.program.now told.entry.outline.now found.now 0) }
+{
+    for k in 0..found.len() {
+        say_found(alloc, out, told, k, &found[k])?;
+    }
+    Ok(())
+}
+
+/// `, in T of S schedules: `
+fn say_share(alloc: Global, out: &mut Vec<u8>, times: u64, schedules: u32) -> Result<(), AllocError>
+    ensures { OnOk result (out.new.items ≡ out.old.items ++ def.share_words times schedules) }
+{
+    say(out, ", in ")?;
+    say_number(alloc, out, times)?;
+    say(out, " of ")?;
+    say_count(alloc, out, schedules)?;
+    say(out, " schedules: ")
+}
+
+/// `K after N events, in T of S schedules: END`
+fn say_sampled(
+    alloc: Global,
+    out: &mut Vec<u8>,
+    told: Told<'_, '_, '_>,
+    place: usize,
+    one: &Found,
+    times: u64,
+    schedules: u32,
+) -> Result<(), AllocError>
+    requires { place + 1 < 2 ^ 64 }
+    ensures { OnOk result (out.new.items ≡ out.old.items
+        ++ def.sampled_line told.entry.program.now told.entry.outline.now place one.now times
+        schedules) }
+{
+    say_head(alloc, out, place, one)?;
+    say_share(alloc, out, times, schedules)?;
+    say_end(alloc, out, told, one.end)
+}
+
+/// How often the end at a place came.
+fn times_at(times: &[u64], place: usize) -> u64
+    ensures { result ≡ def.times_at times.now place }
+{
+    match times.get(place) {
+        None => 0,
+        Some(n) => *n,
+    }
+}
+
+/// The lines of the ends of random schedules, with how often each came.
+///
+/// # Errors
+///
+/// Memory was refused; a part of them may then be in `out`.
+pub(crate) fn say_shares(
+    alloc: Global,
+    out: &mut Vec<u8>,
+    told: Told<'_, '_, '_>,
+    found: &[Found],
+    times: &[u64],
+    schedules: u32,
+) -> Result<(), AllocError>
+    ensures { OnOk result (out.new.items ≡ out.old.items
+        ++ def.sampled_lines told.entry.program.now told.entry.outline.now found.now times.now
+        schedules 0) }
+{
+    for k in 0..found.len() {
+        say_sampled(
+            alloc,
+            out,
+            told,
+            k,
+            &found[k],
+            times_at(times, k),
+            schedules,
+        )?;
+    }
+    Ok(())
+}

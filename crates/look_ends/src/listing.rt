@@ -1,0 +1,245 @@
+//! What is printed of the ends of a text.
+
+ghost use Rattle.std.specs.Prelude.{◌≡◌, IfOk, Ok, option_map};
+ghost use Rattle.sts_asm.specs.Source.{outlined as outlined_of};
+ghost use Rattle.sts_asm.specs.Text.{judged};
+ghost use Rattle.look_ends.specs.Listing as def;
+
+use crate::below::{
+    found_at, has_number, say_no_number, say_refused, say_schedules, say_states, say_unfinished,
+};
+use crate::exploring::explored;
+use crate::lines::{Told, say_all, say_shares};
+use crate::progress::Progress;
+use crate::verdict::{Judged, verdict};
+use crate::wanted::{Manner, Wanted};
+use ends_plain::config::{Ends, Found, Setting};
+use ends_plain::sample::{Sample, Sampling, sample_ends};
+use look_refusal::{Output, text_fault};
+use std::alloc::{AllocError, Global};
+use std::marker::Model;
+use sts_asm::{Outline, assemble, outlined};
+use sts_code::Program;
+use sts_model::Event;
+
+/// The status where an answer is not about all schedules, or an end that was asked for isn't there.
+const STATUS_PART: u8 = 5;
+
+/// A random schedule is cut off after this number of events.
+const LONGEST: usize = 100_000;
+
+/// What is printed, and the trace that is kept: that of the end whose number was asked for.
+#[derive(Drop)]
+pub struct Listing {
+    pub output: Output,
+    pub trace: Vec<Event>,
+}
+
+impl Model for Listing {
+    ghost use Rattle.look_ends.specs.Listing.{Outcome};
+
+    ghost Value = { Outcome };
+
+    ghost view = { λ l. record { output = l.output; trace = l.trace.items } };
+}
+
+/// A copy of the trace of an end, if there is one.
+fn copied_trace(alloc: Global, one: Option<&Found>) -> Result<Vec<Event>, AllocError>
+    ensures { IfOk result (λ es. es.items ≡ def.events_of (option_map (λ f. f.now) one.entry)) }
+{
+    match one {
+        None => Ok(Vec::new(alloc)),
+        Some(one) => Vec::from_slice(alloc, one.trace.as_slice()),
+    }
+}
+
+/// The trace of the end whose number is asked for; no event if there is no such end.
+fn trace_of(alloc: Global, number: Option<u32>, found: &[Found]) -> Result<Vec<Event>, AllocError>
+    ensures { IfOk result (λ es. es.items ≡ def.trace_of number found.now) }
+{
+    match number {
+        None => Ok(Vec::new(alloc)),
+        Some(k) => copied_trace(alloc, found_at(found, k)),
+    }
+}
+
+/// What is printed of a search.
+fn searched(
+    alloc: Global,
+    told: Told<'_, '_, '_>,
+    is_refused: bool,
+    number: Option<u32>,
+    ends: &Ends,
+) -> Result<Listing, AllocError>
+    ensures { IfOk result (λ l. l ≡ def.searched_outcome told.entry.program.now
+        told.entry.outline.now is_refused number ends.now.found.items ends.now.states ends.now.whole) }
+{
+    let found = ends.found.as_slice();
+    let mut bytes = Vec::new(alloc);
+    say_all(alloc, &mut bytes, told, found)?;
+    say_refused(&mut bytes, is_refused, ends.whole, found)?;
+    say_states(alloc, &mut bytes, ends.whole, ends.states)?;
+    say_no_number(alloc, &mut bytes, number, found)?;
+    let status = if ends.whole && has_number(number, found) {
+        0
+    } else {
+        STATUS_PART
+    };
+    Ok(Listing {
+        output: Output { bytes, status },
+        trace: trace_of(alloc, number, found)?,
+    })
+}
+
+/// What is printed of random schedules.
+fn sampled(
+    alloc: Global,
+    told: Told<'_, '_, '_>,
+    schedules: u32,
+    seed: u32,
+    number: Option<u32>,
+    sample: &Sample,
+) -> Result<Listing, AllocError>
+    ensures { IfOk result (λ l. l ≡ def.sampled_outcome told.entry.program.now
+        told.entry.outline.now schedules seed number sample.now.found.items sample.now.times.items
+        sample.now.unfinished) }
+{
+    let found = sample.found.as_slice();
+    let mut bytes = Vec::new(alloc);
+    let times = sample.times.as_slice();
+    say_shares(alloc, &mut bytes, told, found, times, schedules)?;
+    say_unfinished(alloc, &mut bytes, sample.unfinished)?;
+    say_schedules(alloc, &mut bytes, schedules, seed)?;
+    say_no_number(alloc, &mut bytes, number, found)?;
+    Ok(Listing {
+        output: Output {
+            bytes,
+            status: STATUS_PART,
+        },
+        trace: trace_of(alloc, number, found)?,
+    })
+}
+
+/// The listing of all ends of a program.
+fn of_all<P: Progress>(
+    alloc: Global,
+    outline: &Outline<'_>,
+    setting: Setting,
+    is_refused: bool,
+    most: u32,
+    number: Option<u32>,
+    progress: &mut P,
+) -> Result<Listing, AllocError>
+    requires { def.IsVerdict setting.program is_refused }
+    ensures { IfOk result (def.IsSearch setting outline.now number) }
+{
+    let exploration = explored(alloc, setting, most, progress)?;
+    let ends = exploration.ends(alloc)?;
+    let told = Told {
+        program: &exploration.setting().program,
+        outline,
+    };
+    searched(alloc, told, is_refused, number, &ends)
+}
+
+/// The listing of the ends of random schedules of a program.
+fn of_sample(
+    alloc: Global,
+    outline: &Outline<'_>,
+    setting: &Setting,
+    schedules: u32,
+    seed: u32,
+    number: Option<u32>,
+) -> Result<Listing, AllocError>
+    ensures { IfOk result (def.IsSampling setting.now outline.now schedules seed number) }
+{
+    let sampling = Sampling {
+        schedules: u64::from(schedules),
+        seed: u64::from(seed),
+        longest: LONGEST,
+    };
+    let sample = sample_ends(alloc, setting, sampling)?;
+    let told = Told {
+        program: &setting.program,
+        outline,
+    };
+    sampled(alloc, told, schedules, seed, number, &sample)
+}
+
+/// The listing of a program, whose lines these are.
+fn of_program<P: Progress>(
+    alloc: Global,
+    outline: &Outline<'_>,
+    program: Program,
+    wanted: Wanted,
+    number: Option<u32>,
+    progress: &mut P,
+) -> Result<Listing, AllocError>
+    ensures { IfOk result (def.ListsBy wanted.manner (def.setting program wanted) outline.now
+        number) }
+{
+    let Judged {
+        program,
+        is_refused,
+    } = verdict(alloc, program)?;
+    let setting = Setting {
+        program,
+        expiries: wanted.expiries,
+        interrupts: wanted.interrupts,
+    };
+    match wanted.manner {
+        Manner::All { most } => of_all(alloc, outline, setting, is_refused, most, number, progress),
+        Manner::Sample { schedules, seed } => {
+            of_sample(alloc, outline, &setting, schedules, seed, number)
+        }
+    }
+}
+
+/// An output with no trace.
+fn alone(alloc: Global, output: Output) -> Listing
+    ensures { result ≡ def.alone output }
+{
+    Listing {
+        output,
+        trace: Vec::new(alloc),
+    }
+}
+
+/// The listing of a text whose lines were read.
+fn of_lines<P: Progress>(
+    alloc: Global,
+    outline: &Outline<'_>,
+    wanted: Wanted,
+    number: Option<u32>,
+    text: &[u8],
+    progress: &mut P,
+) -> Result<Listing, AllocError>
+    requires { outlined_of text.now ≡ Ok outline.now }
+    ensures { IfOk result (def.Lists (judged text.now) text.now wanted number) }
+{
+    match assemble(alloc, text) {
+        Ok(program) => of_program(alloc, outline, program, wanted, number, progress),
+        Err(error) => Ok(alone(alloc, text_fault(alloc, error, text)?)),
+    }
+}
+
+/// Finds the ends of a text, and returns what is printed of them. With a `number`, it keeps the
+/// trace of the end of this number, as `sts replay` reads it.
+///
+/// # Errors
+///
+/// Memory was refused.
+pub fn listed<P: Progress>(
+    alloc: Global,
+    wanted: Wanted,
+    number: Option<u32>,
+    text: &[u8],
+    progress: &mut P,
+) -> Result<Listing, AllocError>
+    ensures { IfOk result (def.Lists (judged text.now) text.now wanted number) }
+{
+    match outlined(alloc, text) {
+        Ok(outline) => of_lines(alloc, &outline, wanted, number, text, progress),
+        Err(error) => Ok(alone(alloc, text_fault(alloc, error, text)?)),
+    }
+}
