@@ -182,11 +182,13 @@ read_answer n p text (Ok events) verdict =
     judged_and_run n (run p text (shown (after p events)) (taken p events)) verdict
 read_answer n p text (Err e) verdict = faulty_trace n (trace_fault e) verdict
 
--- a refused program runs too, as the plain machine runs it
+-- a refused program runs too, as the plain machine runs it; without a trace there is no run
+abbrev pub traced_answer : ℕ → Program → List ℕ → Option (List ℕ) → Data → Data
+traced_answer n p text None verdict = judged_only n verdict
+traced_answer n p text (Some trace) verdict = read_answer n p text (trace_read trace) verdict
+
 abbrev pub program_answer : ℕ → Program → Case → Data → Data
-program_answer n p c verdict =
-    elim c.trace [ None ↦ judged_only n verdict
-    | Some t ↦ read_answer n p c.text (trace_read t) verdict ]
+program_answer n p c verdict = traced_answer n p c.text c.trace verdict
 
 -- the answer to the case of this number
 abbrev pub Answers : ℕ → Case → Result Program AsmError → Data → Type 0

@@ -1,7 +1,7 @@
 -- The case that a line of JSON says (this project's own).
-use Rattle.std.specs.Prelude.{ℕ, List, Option, Some, None, option_map, codes}
-use Rattle.serde_json.specs.Data.{Data, null, boolean, number, string, array, object}
-use Rattle.serde_json.specs.Find.{get}
+use Rattle.std.specs.Prelude.{ℕ, List, Option, Some, None, option_map, option_and_then, codes}
+use Rattle.serde_json.specs.Data.{Data}
+use Rattle.serde_json.specs.Find.{as_str, get}
 use Rattle.look_cases.specs.declared.reading.Case.{Case as Borrowed}
 
 -- a text, and a trace if a run is asked for
@@ -12,25 +12,13 @@ pub record Case : Type 0 where
 abbrev pub seen : Borrowed → Case
 seen c = record { text = c.text.now; trace = option_map (λ t. t.now) c.trace }
 
--- a trace that isn't a string is no trace
+-- a trace that isn't a string makes no case
 abbrev pub with_trace : List ℕ → Option Data → Option Case
 with_trace text None = Some (record { text = text; trace = None })
-with_trace text (Some (string trace)) = Some (record { text = text; trace = Some trace })
-with_trace text (Some null) = None
-with_trace text (Some (boolean b)) = None
-with_trace text (Some (number n)) = None
-with_trace text (Some (array ds)) = None
-with_trace text (Some (object ms)) = None
+with_trace text (Some d) = option_map (λ t. record { text = text; trace = Some t }) (as_str d)
 
--- the text has to be a string
 abbrev pub with_text : Option Data → Option Data → Option Case
-with_text None trace = None
-with_text (Some (string text)) trace = with_trace text trace
-with_text (Some null) trace = None
-with_text (Some (boolean b)) trace = None
-with_text (Some (number n)) trace = None
-with_text (Some (array ds)) trace = None
-with_text (Some (object ms)) trace = None
+with_text text trace = option_and_then (λ t. with_trace t trace) (option_and_then as_str text)
 
 -- the members `text` and `trace`; all others are free
 abbrev pub case_of : Data → Option Case

@@ -3,7 +3,7 @@
 ghost use Rattle.std.specs.Prelude.{◌≡◌, IfOk, Result, Ok, Err, option_map};
 ghost use Rattle.serde_json.specs.View.{view};
 ghost use Rattle.sts_code.specs.Program.{Program as AnyProgram};
-ghost use Rattle.sts_model.specs.Run.{after, taken};
+ghost use Rattle.sts_model.specs.Run.{after as after_events, taken};
 ghost use Rattle.sts_plain.specs.Seen.{shown};
 ghost use Rattle.sts_asm.specs.Fault.{FailsAt};
 ghost use Rattle.sts_asm.specs.declared.fault.AsmError.{AsmError};
@@ -15,12 +15,12 @@ use crate::reading::Case;
 use crate::faults::{text_fault, trace_fault};
 use crate::runs::run;
 use crate::verdicts::{accepted, refused};
+use look_lines::after;
 use serde_json::{Value, json};
 use std::alloc::{AllocError, Global};
 use sts_asm::{AsmError, assemble};
 use sts_code::Program;
 use sts_model::Event;
-use sts_plain::Plain;
 use sts_trace::read_trace;
 use sts_verify::{VerifyError, verify};
 
@@ -28,18 +28,17 @@ use sts_verify::{VerifyError, verify};
 const VERSION: u64 = 1;
 
 /// Returns the state after these events.
-fn after_events(
+fn ran(
     alloc: Global,
     program: &Program,
     text: &[u8],
     events: &[Event],
 ) -> Result<Value, AllocError>
     ensures { IfOk result (λ v. view v ≡ def.run program.now text.now
-        (shown (after program.now events.now)) (taken program.now events.now)) }
+        (shown (after_events program.now events.now)) (taken program.now events.now)) }
 {
-    let mut plain = Plain::start(alloc, program)?;
-    plain.apply_all(alloc, events)?;
-    run(alloc, program, text, plain.state(), plain.steps())
+    let watch = after(alloc, program, events)?;
+    run(alloc, program, text, watch.state(), watch.steps())
 }
 
 /// Returns the answer of a trace, which may have a fault.
@@ -56,7 +55,7 @@ fn traced(
 {
     match read_trace(alloc, trace) {
         Ok(events) => {
-            let state = after_events(alloc, program, text, events.as_slice())?;
+            let state = ran(alloc, program, text, events.as_slice())?;
             json!(in alloc; {"case": number, "run": state, "verdict": verdict, "version": VERSION})
         }
         Err(error) => {

@@ -1,4 +1,4 @@
-//! A case, as a line of JSON says it.
+//! Reads a case from a line of JSON.
 
 ghost use Rattle.std.specs.Prelude.{◌≡◌, option_map};
 ghost use Rattle.serde_json.specs.View.{view};
@@ -13,7 +13,7 @@ pub struct Case<'a> {
     pub trace: Option<&'a [u8]>,
 }
 
-/// Returns the case of a text and what a line has as its trace; none if that is no string.
+/// Returns the case of a text and the member `trace` of a line; none if that isn't a string.
 fn traced<'a>(text: &'a str, trace: Option<&'a Value>) -> Option<Case<'a>>
     ensures { option_map def.seen result
         ≡ def.with_trace text.entry.now (option_map (λ v. view v.now) trace.entry) }
@@ -21,20 +21,25 @@ fn traced<'a>(text: &'a str, trace: Option<&'a Value>) -> Option<Case<'a>>
     let text = text.as_bytes();
     match trace {
         None => Some(Case { text, trace: None }),
-        Some(Value::String(trace)) => Some(Case {
-            text,
-            trace: Some(trace.as_bytes()),
-        }),
-        Some(_) => None,
+        Some(value) => match value.as_str() {
+            None => None,
+            Some(trace) => Some(Case {
+                text,
+                trace: Some(trace.as_bytes()),
+            }),
+        },
     }
 }
 
-/// Returns the case that a line says, if it has the string `text`, and `trace` is a string or absent.
+/// Returns the case of a line: it has a string `text`, and `trace` is a string or absent.
 pub fn case_of(line: &Value) -> Option<Case<'_>>
-    ensures { option_map def.seen result ≡ def.case_of (view line.now) }
+    ensures { option_map def.seen result ≡ def.case_of (view line.entry.now) }
 {
     match line.get("text") {
-        Some(Value::String(text)) => traced(text.as_str(), line.get("trace")),
-        _ => None,
+        None => None,
+        Some(value) => match value.as_str() {
+            None => None,
+            Some(text) => traced(text, line.get("trace")),
+        },
     }
 }
