@@ -1,6 +1,6 @@
 //! The verdict on a program, as JSON.
 
-ghost use Rattle.std.specs.Prelude.{◌≡◌, IfOk, length};
+ghost use Rattle.std.specs.Prelude.{◌≡◌, ℕ, IfOk, List, length};
 ghost use Rattle.serde_json.specs.View.{view, items_view, items_of};
 ghost use Rattle.sts_rules.specs.Refusal.{IsRefusal};
 ghost use Rattle.sts_asm.specs.Source.{outlined as outlined_of};

@@ -1,7 +1,7 @@
 use Rattle.std.proofs.Common.{◌+◌, sym, subst}
 use Rattle.look_cases.specs.Lines.{AreReplies}
 use Rattle.sts_text.specs.Words.{lines}
-use Rattle.look_cases.proofs.Replies.{IsAnswered, at_start, one_more, at_end}
+use Rattle.look_cases.proofs.Answered.{IsAnswered, at_start, one_more, at_end}
 use Rattle.look_cases.proofs.replies.answers.Goals as goal
 
 pub loop-line-init : goal.loop-line-init

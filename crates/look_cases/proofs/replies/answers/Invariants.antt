@@ -1,5 +1,5 @@
 use Rattle.std.proofs.Common.{length}
-use Rattle.look_cases.proofs.Replies.{IsAnswered}
+use Rattle.look_cases.proofs.Answered.{IsAnswered}
 use Rattle.look_cases.proofs.replies.answers.Given as goal
 
 abbrev pub invariant-loop-line : goal.invariant-loop-line
