@@ -1,7 +1,7 @@
 -- What is answered to a case (this project's own; docs/CASES.md has the schema).
-use Rattle.std.specs.Prelude.{◌≡◌, ℕ, Bool, true, false, List, [], ◌∷◌, Option, Some, None}
+use Rattle.std.specs.Prelude.{◌≡◌, ℕ, true, false, List, [], ◌∷◌, Option, Some, None}
 use Rattle.std.specs.Prelude.{Result, Ok, Err, codes, option_map}
-use Rattle.serde_json.specs.Data.{Data, null, boolean, string, array}
+use Rattle.serde_json.specs.Data.{Data, Items, null, boolean, string, array}
 use Rattle.serde_json.specs.View.{items_of}
 use Rattle.sts_code.specs.Checks.{cause_number as check_number}
 use Rattle.sts_code.specs.Program.{Program, Routine, routine}
@@ -89,10 +89,13 @@ budget_list [] bs = []
 budget_list (r ∷ rs) [] = []
 budget_list (r ∷ rs) (b ∷ bs) = budget r.name b ∷ budget_list rs bs
 
-abbrev pub accepted : List Routine → List Budgets → Data
-accepted rs bs = object_of (
+abbrev pub accepted_with : Items → Data
+accepted_with budgets = object_of (
     (codes "accepted", boolean true) ∷
-    (codes "budgets", array (items_of (budget_list rs bs))) ∷ [])
+    (codes "budgets", array budgets) ∷ [])
+
+abbrev pub accepted : List Routine → List Budgets → Data
+accepted rs bs = accepted_with (items_of (budget_list rs bs))
 
 abbrev pub refused : Program → List ℕ → ℕ → ℕ → Cause → Data
 refused p text f pc c = object_of (

@@ -1,8 +1,8 @@
 -- Values of JSON, as answers have them (this project's own).
-use Rattle.std.specs.Prelude.{ℕ, ℤ, List, [], ◌∷◌, ◌++◌, Option, Some, None, codes}
+use Rattle.std.specs.Prelude.{ℕ, ℤ, List, [], ◌∷◌, ◌++◌, Option, Some, None}
 use Rattle.std.specs.Fmt.{decimal}
 use Rattle.serde_json.specs.Data.{Data, null, number, string, object, unsigned, Members}
-use Rattle.serde_json.specs.Data.{no_members, member, Items, no_items, item}
+use Rattle.serde_json.specs.Data.{no_members, member}
 use Rattle.serde_json.specs.Find.{of_integer}
 
 -- these members; their keys are in ascending order wherever this is used

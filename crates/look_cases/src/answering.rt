@@ -5,14 +5,15 @@ ghost use Rattle.serde_json.specs.View.{view};
 ghost use Rattle.sts_code.specs.Program.{Program as AnyProgram};
 ghost use Rattle.sts_model.specs.Run.{after as after_events, taken};
 ghost use Rattle.sts_plain.specs.Seen.{shown};
+ghost use Rattle.sts_rules.specs.Refusal.{IsRefusal};
 ghost use Rattle.sts_asm.specs.Fault.{FailsAt};
 ghost use Rattle.sts_asm.specs.declared.fault.AsmError.{AsmError};
 ghost use Rattle.sts_trace.specs.Reading.{trace_read};
 ghost use Rattle.look_cases.specs.Answer as def;
 ghost use Rattle.look_cases.specs.Case.{seen};
 
-use crate::reading::Case;
 use crate::faults::{text_fault, trace_fault};
+use crate::reading::Case;
 use crate::runs::run;
 use crate::verdicts::{accepted, refused};
 use look_lines::after;
@@ -21,19 +22,15 @@ use std::alloc::{AllocError, Global};
 use sts_asm::{AsmError, assemble};
 use sts_code::Program;
 use sts_model::Event;
+use sts_rules::Cause;
 use sts_trace::read_trace;
-use sts_verify::{VerifyError, verify};
+use sts_verify::{Verified, VerifyError, verify};
 
 /// The version of the answers.
 const VERSION: u64 = 1;
 
 /// Returns the state after these events.
-fn ran(
-    alloc: Global,
-    program: &Program,
-    text: &[u8],
-    events: &[Event],
-) -> Result<Value, AllocError>
+fn ran(alloc: Global, program: &Program, text: &[u8], events: &[Event]) -> Result<Value, AllocError>
     ensures { IfOk result (λ v. view v ≡ def.run program.now text.now
         (shown (after_events program.now events.now)) (taken program.now events.now)) }
 {
@@ -87,6 +84,34 @@ fn of_program(
     }
 }
 
+fn of_accepted(
+    alloc: Global,
+    number: u64,
+    verified: &Verified,
+    case: Case<'_>,
+) -> Result<Value, AllocError>
+    ensures { IfOk result (λ v. def.Answers number (seen case.entry) (Ok verified.now) (view v)) }
+{
+    let verdict = accepted(alloc, verified)?;
+    of_program(alloc, number, verified.program(), case, verdict)
+}
+
+fn of_refused(
+    alloc: Global,
+    number: u64,
+    program: &Program,
+    function: u32,
+    pc: u32,
+    cause: Cause,
+    case: Case<'_>,
+) -> Result<Value, AllocError>
+    requires { IsRefusal program.now function pc cause }
+    ensures { IfOk result (λ v. def.Answers number (seen case.entry) (Ok program.now) (view v)) }
+{
+    let verdict = refused(alloc, program, case.text, function, pc, cause)?;
+    of_program(alloc, number, program, case, verdict)
+}
+
 /// Returns the answer of a text that spells a program.
 fn judged_program(
     alloc: Global,
@@ -97,10 +122,7 @@ fn judged_program(
     ensures { IfOk result (λ v. def.Answers number (seen case.entry) (Ok program) (view v)) }
 {
     match verify(alloc, program) {
-        Ok(verified) => {
-            let verdict = accepted(alloc, &verified)?;
-            of_program(alloc, number, verified.program(), case, verdict)
-        }
+        Ok(verified) => of_accepted(alloc, number, &verified, case),
         Err(VerifyError::Memory(_)) => Err(AllocError),
         Err(
             VerifyError::Refused {
@@ -109,10 +131,7 @@ fn judged_program(
                 pc,
                 cause,
             },
-        ) => {
-            let verdict = refused(alloc, &program, case.text, function, pc, cause)?;
-            of_program(alloc, number, &program, case, verdict)
-        }
+        ) => of_refused(alloc, number, &program, function, pc, cause, case),
     }
 }
 

@@ -30,12 +30,7 @@ fn reply(alloc: Global, number: u64, line: &[u8]) -> Result<Value, AllocError>
 }
 
 /// Appends the answer to a line; nothing if the line is empty.
-fn push_reply(
-    alloc: Global,
-    out: &mut Vec<u8>,
-    number: u64,
-    line: &[u8],
-) -> Result<(), AllocError>
+fn push_reply(alloc: Global, out: &mut Vec<u8>, number: u64, line: &[u8]) -> Result<(), AllocError>
     ensures { OnOk result ((reply : List ℕ) × def.IsReplyLine number line.now reply
         × (out.new.items ≡ out.old.items ++ reply)) }
 {
@@ -76,11 +71,7 @@ pub fn answers(alloc: Global, input: &[u8]) -> Result<Vec<u8>, AllocError>
 /// # Errors
 ///
 /// A write failed.
-pub fn write_answers<W: Write>(
-    alloc: Global,
-    input: &[u8],
-    out: &mut W,
-) -> Result<u8, WriteFailed>
+pub fn write_answers<W: Write>(alloc: Global, input: &[u8], out: &mut W) -> Result<u8, WriteFailed>
     ensures { IfOk result (λ s. (o : Output) × def.IsRepliesTo input.now o
         × Writes (W.contents out.old) (W.contents out.new) s o) }
 {

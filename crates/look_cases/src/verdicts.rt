@@ -83,6 +83,12 @@ fn all_budgets(alloc: Global, verified: &Verified) -> Result<Vec<Budgets>, Alloc
     Ok(budgets)
 }
 
+fn accepted_with(alloc: Global, budgets: Vec<Value>) -> Result<Value, AllocError>
+    ensures { IfOk result (λ v. view v ≡ def.accepted_with (items_view budgets.items)) }
+{
+    json!(in alloc; {"accepted": true, "budgets": budgets})
+}
+
 /// Returns the verdict on an accepted program.
 ///
 /// # Errors
@@ -94,7 +100,7 @@ pub(crate) fn accepted(alloc: Global, verified: &Verified) -> Result<Value, Allo
     let budgets = all_budgets(alloc, verified)?;
     let functions = verified.program().functions();
     let list = budget_list(alloc, functions, budgets.as_slice())?;
-    json!(in alloc; {"accepted": true, "budgets": list})
+    accepted_with(alloc, list)
 }
 
 /// Returns the verdict on a program that is refused.
