@@ -42,6 +42,11 @@ said (asked.Draw file trace) = record {
   files = file.now ∷ trace.now ∷ [];
   wanted = None;
 }
+said (asked.Cases file) = record {
+  name = codes "cases";
+  files = file.now ∷ [];
+  wanted = None;
+}
 
 -- an option without a value is given as `true`
 abbrev pub is_true : Option Text → Bool
@@ -61,14 +66,19 @@ is_view name = bytes_eq name (codes "view")
 abbrev pub wants_trace : Text → Bool
 wants_trace name = is_view name || bytes_eq name (codes "draw")
 
+-- the words for files that a command may be given
+abbrev pub may_have : Text → List Text
+may_have name =
+    if bytes_eq name (codes "cases") then codes "FILE" ∷ [] else codes "FILE" ∷ codes "TRACE" ∷ []
+
 -- the files that a command is given
-abbrev pub files_at : List Row → List Text
-files_at rows = filter_map (λ id. first_of id rows) (codes "FILE" ∷ codes "TRACE" ∷ [])
+abbrev pub files_at : Text → List Row → List Text
+files_at name rows = filter_map (λ id. first_of id rows) (may_have name)
 
 abbrev pub given : Text × List Row → Said
 given (name, rows) = record {
   name = name;
-  files = files_at rows;
+  files = files_at name rows;
   wanted = if is_view name then Some (wanted_at rows) else None;
 }
 
@@ -88,7 +98,8 @@ pub record Asks (words : List Text) (a : Asked) : Type 0 where
 -- ---- why they ask for nothing
 
 abbrev pub is_command : Text → Bool
-is_command name = wants_trace name || bytes_eq name (codes "explain")
+is_command name =
+    wants_trace name || (bytes_eq name (codes "explain") || bytes_eq name (codes "cases"))
 
 -- the files that a command has to be given
 abbrev pub ids_of : Text → List Text

@@ -22,8 +22,11 @@ explain = with_rule (with_rule (new_app (codes "explain")) file_rule) maybe_trac
 abbrev pub draw : App
 draw = with_rule (with_rule (new_app (codes "draw")) file_rule) trace_rule
 
+abbrev pub cases : App
+cases = with_rule (new_app (codes "cases")) file_rule
+
 -- the program: a command is required
 abbrev pub program : App
 program =
-    with_subcommand (with_subcommand (with_subcommand (required (new_app (codes "look"))) view.top) explain.top)
-    draw.top
+    with_subcommand (with_subcommand (with_subcommand (with_subcommand
+    (required (new_app (codes "look"))) view.top) explain.top) draw.top) cases.top

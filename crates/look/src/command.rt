@@ -77,6 +77,18 @@ fn draw<'a>(alloc: Global) -> Result<Command<'a>, AllocError>
     )
 }
 
+/// The command `cases`.
+fn cases<'a>(alloc: Global) -> Result<Command<'a>, AllocError>
+    ensures app { IfOk result (λ c. app_of c ≡ def.cases) }
+    ensures local { IfOk result (λ c. (out-Command c).has_globals ≡ false) }
+{
+    on_file(
+        alloc,
+        "cases",
+        "Answers many cases: for each line of JSON with a text and a trace, a line of JSON",
+    )
+}
+
 /// The whole program.
 ///
 /// # Errors
@@ -88,10 +100,12 @@ pub fn program<'a>(alloc: Global) -> Result<Command<'a>, AllocError>
     let view = view(alloc)?;
     let explain = explain(alloc)?;
     let draw = draw(alloc)?;
+    let cases = cases(alloc)?;
     Command::new(alloc, "look")
         .about("Shows runs of structured task scopes")
         .subcommand_required(true)
         .subcommand(view)?
         .subcommand(explain)?
-        .subcommand(draw)
+        .subcommand(draw)?
+        .subcommand(cases)
 }

@@ -65,6 +65,8 @@ fn asked_of<'a>(
             } else if name == "draw" {
                 let trace = trace_of(alloc, inner)?;
                 Ok(Asked::Draw { file, trace })
+            } else if name == "cases" {
+                Ok(Asked::Cases { file })
             } else {
                 Err(unknown(alloc))
             }
