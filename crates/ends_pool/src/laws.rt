@@ -3,7 +3,6 @@
 ghost use Rattle.ends_pool.specs.Reports.{ReportsAreEnds};
 
 /// The end that a run reports is among all ends.
-#[tactic(auto, using(crate::proofs::ReportLemmas::reports_are_ends))]
 pub fn reports_are_ends()
     ensures { ReportsAreEnds }
 {}

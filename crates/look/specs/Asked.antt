@@ -53,6 +53,12 @@ said (asked.Ends file ends) = record {
   wanted = None;
   ends = Some (said_ends ends);
 }
+said (asked.Cases file) = record {
+  name = codes "cases";
+  files = file.now ∷ [];
+  wanted = None;
+  ends = None;
+}
 
 abbrev pub is_set : Text → List Row → Bool
 is_set id rows = is_true (first_of id rows)
@@ -70,9 +76,13 @@ is_ends name = bytes_eq name (codes "ends")
 abbrev pub wants_trace : Text → Bool
 wants_trace name = is_view name || bytes_eq name (codes "draw")
 
+-- does a command take one file alone?
+abbrev pub takes_one : Text → Bool
+takes_one name = is_ends name || bytes_eq name (codes "cases")
+
 -- the files that a command may be given
 abbrev pub files_of : Text → List Text
-files_of name = if is_ends name then codes "FILE" ∷ [] else codes "FILE" ∷ codes "TRACE" ∷ []
+files_of name = if takes_one name then codes "FILE" ∷ [] else codes "FILE" ∷ codes "TRACE" ∷ []
 
 -- the files that a command is given
 abbrev pub files_at : Text → List Row → List Text
@@ -102,7 +112,7 @@ pub record Asks (words : List Text) (a : Asked) : Type 0 where
 -- ---- why they ask for nothing
 
 abbrev pub is_command : Text → Bool
-is_command name = wants_trace name || (bytes_eq name (codes "explain") || is_ends name)
+is_command name = wants_trace name || (bytes_eq name (codes "explain") || takes_one name)
 
 -- the files that a command has to be given
 abbrev pub ids_of : Text → List Text

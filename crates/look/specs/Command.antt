@@ -34,8 +34,11 @@ abbrev pub ends : App
 ends = with_rule (with_rule (with_rule (with_rule ends_by_events (option_rule (codes "most")))
     (option_rule (codes "sample"))) (option_rule (codes "seed"))) kept_rule
 
+abbrev pub cases : App
+cases = with_rule (new_app (codes "cases")) file_rule
+
 -- the program: a command is required
 abbrev pub program : App
 program =
-    with_subcommand (with_subcommand (with_subcommand (with_subcommand (required (new_app (codes "look")))
-    view.top) explain.top) draw.top) ends.top
+    with_subcommand (with_subcommand (with_subcommand (with_subcommand (with_subcommand
+    (required (new_app (codes "look"))) view.top) explain.top) draw.top) ends.top) cases.top

@@ -13,6 +13,7 @@ use Rattle.sts_output.specs.Taking.{IsTakenOf}
 use Rattle.sts_output.specs.declared.taking.TakeError.{TakeError}
 use Rattle.sts_output.specs.declared.process_words.WordsError.{WordsError}
 use Rattle.sts_output.specs.declared.process_words.WordsError.TheVariants as words_error
+use Rattle.look_cases.specs.Lines.{IsRepliesTo}
 use Rattle.look_picture.specs.Picture.{IsPictureOf}
 use Rattle.look_refusal.specs.Output.{IsExplanation}
 use Rattle.look_run.specs.Output.{IsRunExplanation}
@@ -32,6 +33,13 @@ pub data IsOfText (Shows : List ℕ → Output → Type 0) (file : Option (List 
     shown : (text : List ℕ) → IsTakenOf file most_of_a_text text → Shows text o
         → IsOfText Shows file o
     failed : (e : TakeError) → o ≡ failure_output e → IsOfText Shows file o
+
+-- the output for all bytes of a file, or that memory or the file failed
+pub data IsOfStream (Shows : List ℕ → Output → Type 0) (file : Option (List ℕ)) (o : Output)
+    : Type 0 where
+  shown : (bytes : List ℕ) → IsTakenOf file most_of_a_stream bytes → Shows bytes o
+      → IsOfStream Shows file o
+  failed : (e : TakeError) → o ≡ failure_output e → IsOfStream Shows file o
 
 -- the output for a file's text and another file's trace, or that memory or a file failed
 pub data IsOfTexts (Shows : List ℕ → List ℕ → Output → Type 0) (file trace_file : Option (List ℕ))
@@ -80,6 +88,7 @@ IsShown (asked.Draw file trace) files same o =
     IsOfTexts IsPictureOf (files file.now) (files trace.now) o
 IsShown (asked.Ends file ends) files same o =
     IsOfEnds ends (Spares same file.now ends.kept) (files file.now) o
+IsShown (asked.Cases file) files same o = IsOfStream IsRepliesTo (files file.now) o
 
 -- The program writes what the line of the words asks for, and has its status. If the words ask for
 -- help, the status is 0. If they are mistaken, it is 2. Memory may also run out.

@@ -38,6 +38,10 @@ pub enum Asked<'a> {
         file: &'a str,
         trace: Option<&'a str>,
     },
+    /// The answers to the cases of a file.
+    Cases {
+        file: &'a str,
+    },
     /// A run as a picture.
     Draw {
         file: &'a str,

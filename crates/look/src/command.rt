@@ -148,6 +148,18 @@ fn ends<'a>(alloc: Global) -> Result<Command<'a>, AllocError>
         .arg(kept_trace(alloc))
 }
 
+/// The command `cases`.
+fn cases<'a>(alloc: Global) -> Result<Command<'a>, AllocError>
+    ensures app { IfOk result (λ c. app_of c ≡ def.cases) }
+    ensures local { IfOk result (λ c. (out-Command c).has_globals ≡ false) }
+{
+    on_file(
+        alloc,
+        "cases",
+        "Answers many cases: for each line of JSON with a text and a trace, a line of JSON",
+    )
+}
+
 /// The whole program.
 ///
 /// # Errors
@@ -160,11 +172,13 @@ pub fn program<'a>(alloc: Global) -> Result<Command<'a>, AllocError>
     let explain = explain(alloc)?;
     let draw = draw(alloc)?;
     let ends = ends(alloc)?;
+    let cases = cases(alloc)?;
     Command::new(alloc, "look")
         .about("Shows runs of structured task scopes, and every end of a program")
         .subcommand_required(true)
         .subcommand(view)?
         .subcommand(explain)?
         .subcommand(draw)?
-        .subcommand(ends)
+        .subcommand(ends)?
+        .subcommand(cases)
 }

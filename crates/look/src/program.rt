@@ -4,11 +4,13 @@
 ghost use Rattle.std.specs.Prelude.{◌≡◌, IfOk, map};
 ghost use Rattle.sts_output.specs.Output.{Output, Writes};
 ghost use Rattle.look_refusal.specs.Output.{IsExplanation};
+ghost use Rattle.look_cases.specs.Lines.{IsRepliesTo};
 ghost use Rattle.look.specs.Ending as def;
 
 use crate::asked::{Asked, AskedEnds};
 use crate::dashed::Dashed;
 use crate::reading::line;
+use look_cases::write_answers;
 use look_ends::{Progress, write_ends, write_ends_and_trace};
 use look_lines::{Wanted, write_view};
 use look_picture::write_picture;
@@ -19,8 +21,9 @@ use std::io::{Input, Write};
 use std::rt::{Env, Files};
 use sts_args::LineError;
 use sts_output::{
-    Events, NOT_TEXT, Named, Notes, STATUS_OUTSIDE, Sinks, Sources, TakeError, WordsError,
-    WriteFailed, borrowed, failed, file_failed, made, read_text, read_texts, words, written,
+    Events, FileError, MOST_OF_A_STREAM, NOT_TEXT, Named, Notes, STATUS_OUTSIDE, Sinks, Sources,
+    TakeError, WordsError, WriteFailed, borrowed, failed, file, file_failed, made, read_text,
+    read_texts, words, written,
 };
 
 /// The name that the program goes by.
@@ -107,6 +110,24 @@ fn on_text<S: Sources, W: Write>(
     match read_text(alloc, sources, path) {
         Ok(text) => explain(alloc, text.as_slice(), out),
         Err(error) => file_failed(error, out, notes),
+    }
+}
+
+/// The answers to the cases of a file.
+fn on_cases<S: Sources, W: Write>(
+    alloc: Global,
+    sources: &S,
+    path: &str,
+    out: &mut W,
+    notes: &mut Notes,
+) -> Result<u8, WriteFailed>
+    ensures { IfOk result (λ s. (o : Output)
+        × def.IsOfStream IsRepliesTo (S.held sources.now path.now) o
+        × Writes (W.contents out.old) (W.contents out.new) s o) }
+{
+    match file(alloc, sources, path, MOST_OF_A_STREAM) {
+        Ok(input) => write_answers(alloc, input.as_slice(), out),
+        Err(error) => file_failed(FileError::unread(path, &error), out, notes),
     }
 }
 
@@ -229,6 +250,7 @@ fn on_line<S: Sources + Sinks, P: Progress, W: Write>(
             on_texts(alloc, sources, Showing::Picture, file, trace, out, notes)
         }
         Asked::Ends { file, ends } => on_ends(alloc, sources, file, ends, progress, out, notes),
+        Asked::Cases { file } => on_cases(alloc, sources, file, out, notes),
     }
 }
 

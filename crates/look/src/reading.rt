@@ -78,6 +78,8 @@ fn asked_of<'a>(
                     Some(ends) => Ok(Asked::Ends { file, ends }),
                     None => Err(no_number(alloc)),
                 }
+            } else if name == "cases" {
+                Ok(Asked::Cases { file })
             } else {
                 Err(unknown(alloc))
             }

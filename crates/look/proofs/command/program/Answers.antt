@@ -16,6 +16,8 @@ returns c =
     c.in_ok-subcommand-2.ensures.shape c.in_ok-explain.ensures.local ∙ ap₂ with_subcommand one (ap (λ (a : App). a.top) c.in_ok-explain.ensures.app) in
     let three : app_of c.in_ok-subcommand-3.field-0 ≡ with_subcommand (with_subcommand (with_subcommand (required (new_app (codes "look"))) def.view.top) def.explain.top) def.draw.top =
     c.in_ok-subcommand-3.ensures.shape c.in_ok-draw.ensures.local ∙ ap₂ with_subcommand two (ap (λ (a : App). a.top) c.in_ok-draw.ensures.app) in
-    IfOk-weaker c.subcommand-4.result _ _
-    (λ r h. h.shape c.in_ok-ends.ensures.local ∙ ap₂ with_subcommand three (ap (λ (a : App). a.top) c.in_ok-ends.ensures.app))
-    c.subcommand-4.ensures
+    let four : app_of c.in_ok-subcommand-4.field-0 ≡ with_subcommand (with_subcommand (with_subcommand (with_subcommand (required (new_app (codes "look"))) def.view.top) def.explain.top) def.draw.top) def.ends.top =
+    c.in_ok-subcommand-4.ensures.shape c.in_ok-ends.ensures.local ∙ ap₂ with_subcommand three (ap (λ (a : App). a.top) c.in_ok-ends.ensures.app) in
+    IfOk-weaker c.subcommand-5.result _ _
+    (λ r h. h.shape c.in_ok-cases.ensures.local ∙ ap₂ with_subcommand four (ap (λ (a : App). a.top) c.in_ok-cases.ensures.app))
+    c.subcommand-5.ensures

@@ -9,5 +9,8 @@ returns-in-Explain g c = rw c.in-Explain.is c.on_explain.ensures
 pub returns-in-Draw : goal.returns-in-Draw
 returns-in-Draw g c = rw c.in-Draw.is c.on_texts-in-Draw.ensures
 
+pub returns-in-Cases : goal.returns-in-Cases
+returns-in-Cases g c = rw c.in-Cases.is c.on_cases.ensures
+
 pub returns-in-Ends : goal.returns-in-Ends
 returns-in-Ends g c = rw c.in-Ends.is c.on_ends.ensures

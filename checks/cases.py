@@ -1,0 +1,100 @@
+#!/usr/bin/env python3
+"""Asks `look cases` for the answers to all cases of vectors/.  usage: cases.py [LOOK]
+
+Each member that is expected of a case is the same in its answer, which is in order and has the number of its line. Then it
+tries lines that are no case, an empty line, standard input, and a file that is missing (status 6). The expected answers of
+the vectors come from the worked rows. The last line but one says how many cases were answered in a second, all processes
+included. The last line is `N passed, M failed`, of cases.
+"""
+import glob
+import json
+import os
+import subprocess
+import sys
+import tempfile
+import time
+
+ROOT = os.path.dirname(os.path.dirname(os.path.realpath(__file__)))
+LOOK = os.path.join(ROOT, "crates", "look", "out", "look")
+SEVEN = {"text": "func main 0\npush 7\nret\nend\n", "trace": "step 0\nstep 0\n"}
+# Worked out by hand: `main` has two steps, and ends with 7.
+OF_SEVEN = {
+    "run": {"outcome": "success", "steps": 2, "value": 7},
+    "verdict": {"accepted": True, "budgets": [{"binds": 0, "function": "main", "scopes": 0, "steps": 2, "tasks": 1}]},
+    "version": 1,
+}
+NO_CASE = {"error": "no case", "version": 1}
+
+
+def asks(look, words, given=b""):
+    """Returns the status and what is printed."""
+    ended = subprocess.run([look, "cases", *words], input=given, capture_output=True, timeout=120)
+    return ended.returncode, ended.stdout
+
+
+def agrees(answer, expected):
+    """Returns whether all that is expected is in the answer."""
+    if isinstance(expected, dict):
+        return isinstance(answer, dict) and all(name in answer and agrees(answer[name], it) for name, it in expected.items())
+    if isinstance(expected, list):
+        return isinstance(answer, list) and len(answer) == len(expected) and all(map(agrees, answer, expected))
+    return type(answer) is type(expected) and answer == expected
+
+
+def vectors(look):
+    """Yields each case of vectors/, its answer, and whether that is right."""
+    for path in sorted(glob.glob(f"{ROOT}/vectors/*.jsonl")):
+        with open(path) as file:
+            cases = [json.loads(it) for it in file]
+        status, printed = asks(look, [path])
+        answers = [json.loads(it) for it in printed.decode().splitlines()]
+        yield os.path.basename(path), (status, len(answers)), (status, len(answers)) == (0, len(cases))
+        for number, (case, answer) in enumerate(zip(cases, answers), 1):
+            yield case["name"], answer, agrees(answer, {"case": number, "version": 1, **case["expected"]})
+
+
+def edges(look):
+    """Yields what was tried, what came of it, and whether that is right."""
+    lines = [json.dumps(SEVEN), "", "no JSON", "[]", '{"trace": ""}', '{"text": 7}', json.dumps({**SEVEN, "other": [1]})]
+    expected = [{"case": 1, **OF_SEVEN}, *({"case": it, **NO_CASE} for it in (3, 4, 5, 6)), {"case": 7, **OF_SEVEN}]
+    given = "".join(f"{it}\n" for it in lines).encode()
+    status, printed = asks(look, ["-"], given)
+    answers = [json.loads(it) for it in printed.decode().splitlines()]
+    yield "lines that are no case", (status, answers), (status, answers) == (0, expected)
+    compact = "".join(json.dumps(it, separators=(",", ":"), sort_keys=True) + "\n" for it in expected)
+    yield "the form of answers", printed.decode(), printed.decode() == compact
+    with tempfile.TemporaryDirectory() as folder:
+        path = os.path.join(folder, "cases")
+        with open(path, "wb") as file:
+            file.write(given)
+        said = asks(look, [path])
+        yield "a file", said, said == (status, printed)
+        said = asks(look, [os.path.join(folder, "none")])
+        yield "no file", said, said == (6, b"error file\n")
+    said = asks(look, ["-"])
+    yield "no line", said, said == (0, b"")
+
+
+def main():
+    look = os.path.realpath(sys.argv[1] if sys.argv[1:] else LOOK)
+    if not os.access(look, os.X_OK):
+        print(f"cases.py: no program at {look}: ./look builds it", file=sys.stderr)
+        return 2
+    passed = failed = 0
+    for tried in (vectors, edges):
+        for name, answer, right in tried(look):
+            passed, failed = passed + right, failed + (not right)
+            if not right:
+                print(f"{name}: {answer}", file=sys.stderr)
+    many = (json.dumps(SEVEN) + "\n").encode() * 20_000
+    since = time.perf_counter()
+    status, printed = asks(look, ["-"], many)
+    seconds = time.perf_counter() - since
+    right = status == 0 and printed.count(b"\n") == 20_000
+    print(f"20000 cases in {seconds:.2f} seconds")
+    print(f"{passed + right} passed, {failed + (not right)} failed")
+    return 1 if failed or not right else 0
+
+
+if __name__ == "__main__":
+    sys.exit(main())

@@ -1,0 +1,88 @@
+//! Faults of texts and traces, as JSON.
+
+ghost use Rattle.std.specs.Prelude.{◌≡◌, ◌≢◌, IfOk, Result, Err};
+ghost use Rattle.serde_json.specs.View.{view};
+ghost use Rattle.sts_code.specs.Program.{Program as AnyProgram};
+ghost use Rattle.sts_asm.specs.Fault.{FailsAt, code_error};
+ghost use Rattle.sts_asm.specs.declared.fault.AsmError.{AsmError};
+ghost use Rattle.sts_trace.specs.declared.error.TraceError.TheVariants.{Memory};
+ghost use Rattle.look_cases.specs.Answer as def;
+ghost use Rattle.look_cases.specs.Json as value;
+
+use serde_json::{Value, json};
+use std::alloc::{AllocError, Global};
+use sts_asm::{AsmError, AsmKind};
+use sts_code::CodeError;
+use sts_trace::TraceError;
+
+/// Returns a number that there may be, or null.
+pub(crate) fn count_or_null(number: Option<u64>) -> Value
+    ensures { view result ≡ value.count_or_null number }
+{
+    match number {
+        Some(number) => Value::from(number),
+        None => Value::Null,
+    }
+}
+
+fn line_fault(alloc: Global, number: u8, line: u32) -> Result<Value, AllocError>
+    ensures { IfOk result (λ v. view v ≡ def.line_fault number line) }
+{
+    let fault = format!(in alloc; "A{number}")?;
+    json!(in alloc; {"fault": fault, "line": line})
+}
+
+fn check_fault(alloc: Global, error: CodeError) -> Result<Value, AllocError>
+    ensures { IfOk result (λ v. view v ≡ def.check_fault error) }
+{
+    let number = error.cause.number();
+    let check = format!(in alloc; "C{number}")?;
+    json!(in alloc; {
+        "check": check,
+        "fault": "A9",
+        "function": error.function,
+        "place": error.pc
+    })
+}
+
+/// Returns a fault of a text; lack of memory is no fault of it.
+///
+/// # Errors
+///
+/// Memory was refused.
+pub(crate) fn text_fault(alloc: Global, error: AsmError) -> Result<Value, AllocError>
+    ensures { (read : Result AnyProgram AsmError) → FailsAt error error.kind read
+        → IfOk result (λ v. (read ≡ Err error)
+        × (view v ≡ def.text_fault error (code_error error.kind))) }
+{
+    if matches!(error.kind, AsmKind::Memory) {
+        return Err(AllocError);
+    }
+    match error.kind.code_error() {
+        Some(failed) => check_fault(alloc, failed),
+        None => line_fault(alloc, error.kind.number(), error.line),
+    }
+}
+
+fn bad_line(alloc: Global, fault: &str, line: Option<u64>) -> Result<Value, AllocError>
+    ensures { IfOk result (λ v. view v ≡ def.bad_line fault.now line) }
+{
+    let line = count_or_null(line);
+    json!(in alloc; {"fault": fault, "line": line})
+}
+
+/// Returns a fault of a trace; lack of memory is no fault of it.
+///
+/// # Errors
+///
+/// Memory was refused.
+pub(crate) fn trace_fault(alloc: Global, error: TraceError) -> Result<Value, AllocError>
+    ensures { IfOk result (λ v. (error ≢ Memory) × (view v ≡ def.trace_fault error)) }
+{
+    match error {
+        TraceError::BadLine(n) => bad_line(alloc, "T1", Some(n)),
+        TraceError::BadNumber(n) => bad_line(alloc, "T2", Some(n)),
+        TraceError::NoNewline => bad_line(alloc, "T3", None),
+        TraceError::Memory => Err(AllocError),
+    }
+}

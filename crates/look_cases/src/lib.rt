@@ -1,0 +1,14 @@
+//! Answers to many cases. A case is a line of JSON with a text and a trace. Its answer is a line of
+//! JSON with the verdict on the text and the end of its run.
+#![tactic(auto)]
+
+mod answering;
+mod faults;
+mod reading;
+mod replies;
+mod runs;
+mod verdicts;
+
+pub use answering::answer;
+pub use reading::{Case, case_of};
+pub use replies::{answers, write_answers};
