@@ -205,7 +205,7 @@ def shown(asked):
         yield f"docs/LOOK.md, {name}", printed == [line[4:] for line in block.splitlines()]
     with tempfile.TemporaryDirectory() as folder:
         path = os.path.join(folder, "text")
-        for text, block in re.findall(r"\n\n((?:    .*\n)+)\n[^\n]* `ends` prints:\n\n((?:    .*\n)+)", page):
+        for text, block in re.findall(r"\n\n((?:    .*\n)+)\n[^\n]*Then `ends` prints:\n\n((?:    .*\n)+)", page):
             with open(path, "w") as file:
                 file.write("".join(f"{line[4:]}\n" for line in text.splitlines()))
             printed = says(asked.look, "ends", path)[1]
@@ -214,7 +214,7 @@ def shown(asked):
         for name, text, _, _ in documents.programs("docs/PATTERNS.md"):
             with open(path, "w") as file:
                 file.write(text)
-            found = [it[2] for it in map(LINE.fullmatch, says(asked.look, "ends", path)[1]) if it]
+            found = [it[3] for it in map(LINE.fullmatch, says(asked.look, "ends", path)[1]) if it]
             yield f"docs/PATTERNS.md, {name}", sorted(found) == sorted(re.findall(r"`([^`]+)`", table.get(name, "")))
 
 

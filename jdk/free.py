@@ -101,5 +101,5 @@ def run(pool, player, asked):
             setattr(total, name, getattr(total, name) + getattr(part, name))
     for line in total.names:
         print(line)
-    print(f"{total.left_out} programs of more than {MOST_STATES} states, or that can come to a fault, were not run freely")
+    print(f"{total.left_out} programs of more than {MOST_STATES} states, or that can fault, were not run freely")
     return total
