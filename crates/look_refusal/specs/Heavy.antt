@@ -39,8 +39,8 @@ abbrev pub NoneHeavier : Resource → List Budgets → List Instr → ℕ → Ty
 NoneHeavier k earlier code most = (pc m : ℕ) → Weighs k earlier code pc m → m ≤ most
 
 -- Some control path of the function reaches the reported place. The budget counts the reported
--- weight there, and no other point has a higher count. The share of each place is what the steps of
--- the path at that place add; the function's own part comes on top.
+-- weight there. It is over the limit, and no other point has a higher count. The share of each
+-- place is what the steps of the path at that place add; the function's own part comes on top.
 pub record IsHeavy (p : Program) (f : ℕ) (k : Resource) (h : Heavy) : Type 0 where
   pub earlier : List Budgets
   pub long : length earlier ≡ f

@@ -26,7 +26,7 @@ flow p = flows_in p.resource p.earlier.now p.code.now p.layout.now
 abbrev pub low_at : Pass → ℕ → ℕ
 low_at p pc = depth_of p.resource (names_in p.layout.now pc)
 
--- the places after an instruction that isn't part of a loop
+-- the places after an instruction that is neither `times` nor `next`
 abbrev pub leads : ℕ → Instr → List ℕ
 leads pc i = targets i ++ next_place pc i
 

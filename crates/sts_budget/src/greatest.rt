@@ -131,8 +131,8 @@ fn greatest_by<const N: usize>(alloc: Global, pass: &Pass<'_>) -> Result<Option<
     Ok(Some(own + greatest as u32))
 }
 
-/// The budget of a resource that the open entries count. The rows are as short as the entries
-/// allow. If nothing ever opens, no table is made.
+/// The budget of a resource other than steps, from what the open entries count. The rows are as
+/// short as the entries allow. If nothing ever opens, no table is made.
 fn peak(alloc: Global, pass: &Pass<'_>) -> Result<Option<u32>, AllocError>
     requires ready { IsSet pass.now }
     requires most { pass.now.most ≡ limit_of pass.now.resource - own_of pass.now.resource }
@@ -148,8 +148,8 @@ fn peak(alloc: Global, pass: &Pass<'_>) -> Result<Option<u32>, AllocError>
     greatest_by::<17>(alloc, pass)
 }
 
-/// The budget of this resource, or `None` if it is over its limit. The sum of the steps counts no
-/// entry.
+/// The budget of this resource, or `None` if it is over its limit. Steps are summed over zero
+/// entries.
 pub(crate) fn greatest(alloc: Global, pass: &Pass<'_>) -> Result<Option<u32>, AllocError>
     requires ready { IsSet pass.now }
     requires most { pass.now.most ≡ limit_of pass.now.resource - own_of pass.now.resource }

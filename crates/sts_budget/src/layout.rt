@@ -108,7 +108,7 @@ pub fn names_at(layout: &Layout, pc: usize) -> &Names
     &layout.lists[layout.which[pc]]
 }
 
-/// The places after an instruction that isn't part of a loop.
+/// The places after an instruction that is neither `times` nor `next`.
 pub fn next_places(instr: Instr, pc: u32) -> ArrayVec<u32, 4>
     requires { pc < MAX_INSTRUCTIONS }
     ensures { result.items ≡ facts.targets instr ++ around.next_place pc instr }

@@ -63,7 +63,8 @@ no_task =
       outcome = None;
     }
 
--- the scope that is read if no scope has this birth number: every use of it is a fault
+-- the scope that is read if no scope has this birth number; it is closed, so nothing can be done
+-- with it
 abbrev pub no_scope : Scope
 no_scope =
     record {

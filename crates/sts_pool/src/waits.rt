@@ -28,8 +28,8 @@
 /// A slice with at least this many instructions was long enough to justify waking another worker.
 const WORTH: u32 = 512;
 
-/// Several workers at once claim this many tasks. After that only one does, until a slice is long
-/// enough.
+/// Several workers may claim tasks until this many were claimed. After that only one does, until a
+/// slice is long enough.
 const TRIES: u32 = 64;
 
 /// How many workers are awake with no slice out, and how many tasks may still be claimed by several

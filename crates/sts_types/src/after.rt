@@ -255,7 +255,7 @@ impl TypeState {
         self.entries.push(TypedEntry::Binding(key));
     }
 
-    /// To the next instruction, if that may follow.
+    /// Goes to the next instruction, if that may follow.
     pub fn step(&mut self, program: &Program, pc: u32, instr: Instr)
         requires falls { facts.falls_through instr ≡ true }
         requires room { HasRoom program.now instr self.old }

@@ -120,7 +120,8 @@ fn come_to(state: &mut TypeState, like: &mut usize, kept: &[TypeState], mark: Ma
 }
 
 impl Arrivals {
-    /// A table of `count` places. This typestate has arrived at the first, and is the current one.
+    /// A table of `places` places. The typestate `first` has arrived at the first place, and is the
+    /// current one.
     pub(crate) fn new(
         alloc: Global,
         places: usize,

@@ -109,7 +109,7 @@ impl<'c> CodeLoops<'c> {
         }
     }
 
-    /// Is there a `times` whose match isn't before this place?
+    /// Is there a `times` at `at` with a match that isn't before this place?
     fn is_inside(&self, place: u32, at: u32) -> bool
         ensures { result ≡ def.is_inside self.now place at }
     {
