@@ -11,6 +11,7 @@ scopes that are misused. Each is asked with expiries and without, and with an in
   in mode `replay`, or in mode `plain` if the text is refused.
 - `--sample` finds no other end, and `--most` stops with status 5.
 - docs/LOOK.md shows what `ends` prints, and docs/PATTERNS.md the ends of each of its programs.
+- The sets of ends.rows, worked out by hand, are those that `look ends` prints, as two compilers build it.
 A program with more than MOST_STATES states is left out. The last line is `N passed, M failed`, of comparisons.
 """
 import argparse
@@ -218,6 +219,40 @@ def shown(asked):
             yield f"docs/PATTERNS.md, {name}", sorted(found) == sorted(re.findall(r"`([^`]+)`", table.get(name, "")))
 
 
+def rows():
+    """Yields each question of ends.rows: its line, the text, the options and the ends that were worked out by hand."""
+    defined, lines, is_asked, question = {}, [], False, None
+    with open(os.path.join(ROOT, "checks", "ends.rows")) as file:
+        for number, line in enumerate(file.read().splitlines(), 1):
+            if line.startswith("! "):
+                word, defined[word] = line[2:].split(" ", 1)
+            elif line.startswith("? "):
+                is_asked, question = True, line[2:].split()
+            elif line.startswith("= "):
+                ends = [] if line == "= none" else line[2:].split(" | ")
+                yield number, "\n".join(lines) + "\n", options(question[1:] == ["timed"], int(question[0])), ends
+            elif line and not line.startswith("#"):
+                lines, is_asked = [] if is_asked else lines, False
+                lines += [it for word in line.split(" / ") for it in defined.get(word, word).split(" / ")]
+
+
+def wrong_rows(asked, look):
+    """Returns how many questions ends.rows has, and what is wrong with what this `look` answers."""
+    count, wrong = 0, []
+    with tempfile.TemporaryDirectory() as folder:
+        text = os.path.join(folder, "text")
+        for number, source, words, ends in rows():
+            with open(text, "w") as file:
+                file.write(source)
+            status, printed = says(look, "ends", text, *words)
+            found = [it[3] for it in map(LINE.fullmatch, printed) if it]
+            expected = [by_line(source, it) for it in ends]
+            count += 1
+            if status != 0 or sorted(found) != sorted(expected):
+                wrong.append(f"ends.rows, line {number}: status {status}, {printed}, and the ends are {expected}")
+    return count, wrong
+
+
 def main():
     reads = argparse.ArgumentParser(description="Compares `look ends` with a search in Python.")
     reads.add_argument("look", nargs="?", default=LOOK)
@@ -237,6 +272,10 @@ def main():
             made, wrong, without = it.result()
             passed, failed, left_out = passed + made - len(wrong), failed + len(wrong), left_out + without
             print("".join(f"{line}\n" for line in wrong), end="")
+        for look in filter(os.path.exists, (asked.look, f"{asked.look}.by-rattle")):
+            made, wrong = wrong_rows(asked, look)
+            passed, failed = passed + made - len(wrong), failed + len(wrong)
+            print("".join(f"{look}: {line}\n" for line in wrong), end="")
         for name, is_so in shown(asked):
             passed, failed = passed + is_so, failed + (not is_so)
             print("" if is_so else f"{name} shows other ends\n", end="")

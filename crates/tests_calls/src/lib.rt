@@ -7,6 +7,8 @@ mod births;
 #[cfg(test)]
 mod bound;
 #[cfg(test)]
+mod calls;
+#[cfg(test)]
 mod cancelled;
 #[cfg(test)]
 mod codes;
