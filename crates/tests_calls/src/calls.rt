@@ -49,9 +49,9 @@ pub enum Call {
     Result(u32, Verdict, i64),
     /// How many tasks and scopes have room?
     Room(u32, u32),
-    /// A task has a record, and its key leads back to it. Or has it none?
+    /// A task has a record, and its key leads back to it. Or it has no record.
     HasTask(u32, bool),
-    /// The same of a scope.
+    /// A scope has a record, and its key leads back to it. Or it has no record.
     HasScope(u32, bool),
     /// A scope is open, timed, has the environment 7 and this joiner.
     IsOpen(u32, Joiner),

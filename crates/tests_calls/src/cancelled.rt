@@ -22,7 +22,7 @@ const fn case(tasks: u32, calls: &'static [Call]) -> Case {
     }
 }
 
-/// The lists have the tasks that belong there: those that can step, and those forked in a scope.
+/// One list has the tasks that can step, and another the subtasks of a scope.
 const LISTS: &[Call] = &[
     Call::Open(0, Joiner::AwaitAll, 0),
     Call::Add(0, 1),
@@ -54,7 +54,7 @@ const LISTS: &[Call] = &[
     Call::TakeFlag(3, false),
 ];
 
-/// A cancelled scope starts no subtask, but the subtask counts.
+/// A subtask that is forked in a cancelled scope never lives, and counts as unavailable.
 const CANCELLED: &[Call] = &[
     Call::Open(0, Joiner::AwaitAll, 0),
     Call::Cancel(0),

@@ -1,6 +1,6 @@
 //! Interrupts of a task when its record is used again.
 
-use crate::rows::THOUSAND;
+use crate::texts::THOUSAND;
 use std::test::Fail;
 use sts_asm::assemble;
 use sts_machine::{Machine, Turned};

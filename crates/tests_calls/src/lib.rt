@@ -1,9 +1,13 @@
-//! Tests of single calls, for what no program prints. They test lists, environments, births, layouts
-//! of functions, the tree of records, the store, and the machine that tests nothing.
+//! Tests of single calls, for what no program prints, and of runs by workers.
+//!
+//! They test lists, environments, births, layouts of functions, the tree of records, the store, the
+//! machine that tests nothing, and whole runs, with what a book answers on the way.
 #![tactic(auto)]
 
 #[cfg(test)]
 mod births;
+#[cfg(test)]
+mod books;
 #[cfg(test)]
 mod bound;
 #[cfg(test)]
@@ -15,12 +19,28 @@ mod codes;
 #[cfg(test)]
 mod environments;
 #[cfg(test)]
+mod full;
+#[cfg(test)]
 mod interrupts;
 #[cfg(test)]
 mod layouts;
 #[cfg(test)]
 mod lists;
 #[cfg(test)]
-mod rows;
+mod meeting;
+#[cfg(test)]
+mod outsides;
+#[cfg(test)]
+mod paths;
+#[cfg(test)]
+mod replayed;
+#[cfg(test)]
+mod runs;
+#[cfg(test)]
+mod slices;
 #[cfg(test)]
 mod standing;
+#[cfg(test)]
+mod storms;
+#[cfg(test)]
+mod texts;

@@ -1,6 +1,6 @@
 //! The numbers that count after some steps, and the room that is left.
 
-use crate::rows::{BOUND, DOUBLES, THOUSAND};
+use crate::texts::{BOUND, DOUBLES, THOUSAND};
 use std::alloc::{AllocError, Global};
 use std::process::Abort;
 use std::test::Fail;
