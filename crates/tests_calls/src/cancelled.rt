@@ -6,21 +6,8 @@ use sts_code::{Joiner, Kind};
 use sts_model::{End, Stand, Verdict};
 use sts_tree::Tree;
 
-/// The calls of a case, and how many tasks and scopes its tree has room for.
-struct Case {
-    tasks: u32,
-    scopes: u32,
-    calls: &'static [Call],
-}
-
-/// Room for some tasks and one scope.
-const fn case(tasks: u32, calls: &'static [Call]) -> Case {
-    Case {
-        tasks,
-        scopes: 1,
-        calls,
-    }
-}
+/// The calls of a case, and how many tasks its tree has room for, beside one scope.
+struct Case(u32, &'static [Call]);
 
 /// One list has the tasks that can step, and another the subtasks of a scope.
 const LISTS: &[Call] = &[
@@ -158,20 +145,20 @@ const EXPIRED: &[Call] = &[
 ];
 
 static CASES: [Case; 7] = [
-    case(4, LISTS),
-    case(3, CANCELLED),
-    case(2, KEYS),
-    case(4, RAISED),
-    case(2, CLOSING),
-    case(3, BIRTHS),
-    case(2, EXPIRED),
+    Case(4, LISTS),
+    Case(3, CANCELLED),
+    Case(2, KEYS),
+    Case(4, RAISED),
+    Case(2, CLOSING),
+    Case(3, BIRTHS),
+    Case(2, EXPIRED),
 ];
 
 #[test]
 fn each_call_has_its_answer(rt: HostRuntime) -> Result<(), Fail> {
     for case in &CASES {
-        let mut tree = Tree::with_room(rt.alloc(), case.tasks, case.scopes)?;
-        make_all(&rt, &mut tree, case.calls);
+        let mut tree = Tree::with_room(rt.alloc(), case.0, 1)?;
+        make_all(&rt, &mut tree, case.1);
     }
     Ok(())
 }
