@@ -2,7 +2,7 @@ use Rattle.std.proofs.Common.{suc, sym, ◌∙◌, take, drop, add-one}
 use Rattle.sts_tree.specs.Births.{births}
 use Rattle.sts_tree.specs.Forest.{is_of}
 use Rattle.sts_cancel.proofs.RaisingLemmas.{split_at}
-use Rattle.tests_calls.proofs.cancelled.forked.Goals as goal
+use Rattle.tests_calls.proofs.calls.forked.Goals as goal
 
 pub fork_after-at-requires : goal.fork_after-at-requires
 fork_after-at-requires c =
