@@ -229,7 +229,7 @@ def files():
 
 
 def counted_rows():
-    """Fails if a table of rows isn't named in `tables`, or `stdout` doesn't have the number of its answers."""
+    """Fails if a table of rows isn't named in `tables`, or `stdout` doesn't begin with the numbers of their answers."""
     names = [it for it in read(f"{FOLDER}/tables").splitlines() if not it.startswith("#")]
     there = sorted(it for it in os.listdir(f"{ROOT}/{FOLDER}") if it.endswith(".rows"))
     if names != there:
@@ -237,9 +237,10 @@ def counted_rows():
     counts = [(name, len(re.findall(r"^= ", read(f"{FOLDER}/{name}"), re.M))) for name in names]
     expected = "".join(f"{name}: {count} answers, 0 wrong\n" for name, count in counts)
     path = f"{os.path.dirname(FOLDER)}/stdout"
+    of_rows, others = re.fullmatch(r"((?:\w+\.rows: .*\n)*)((?:.*\n)*)", read(path)).groups()
     if sys.argv[1:] == ["write"]:
-        open(f"{ROOT}/{path}", "w").write(expected)
-    elif read(path) != expected:
+        open(f"{ROOT}/{path}", "w").write(expected + others)
+    elif of_rows != expected:
         fail(f"{path} doesn't have the numbers of answers in {FOLDER}: checks/documents.py write")
 
 

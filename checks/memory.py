@@ -14,7 +14,7 @@ A run by workers says `error threads` if the start of a worker was refused. It m
 such a start, and never otherwise. It starts as many workers as it is asked for, with a journal and without. Where one isn't
 started, the others stop: in a program of 480,052 steps this takes less than half the processor time of a whole run.
 Then all reads and writes take one byte at a time. And the output is full, closed, or read by nobody: status 6.
-Then single calls are tried with refused memory, by the program CALLS (tests_alloc), which prints what each answers:
+Then single calls are tried with refused memory, by the part `calls` of the program CALLS (tests_rows), which prints what each answers:
 - each call that leads to the one that is tried, and this one, finds no memory in turn; otherwise the answer is right;
 - `verify` gives a program back if memory runs out, and a machine is as it was before such an event. The same program, or
   the same event, then gives the right answer;
@@ -34,7 +34,7 @@ import tempfile
 
 HERE = os.path.dirname(os.path.realpath(__file__))
 BUILT = os.path.join(os.path.dirname(HERE), "crates")
-PROGRAM, CALLS, LOOK = (os.path.join(BUILT, name, "out", name) for name in ("sts", "tests_alloc", "look"))
+PROGRAM, CALLS, LOOK = (os.path.join(BUILT, name, "out", name) for name in ("sts", "tests_rows", "look"))
 NO_MEMORY, NO_FILE, NO_THREADS = (b"error memory\n", 6), (b"error file\n", 6), (b"error threads\n", 6)
 
 # `others` are further right answers, for a run that takes other steps in another order of its tasks
@@ -281,9 +281,9 @@ def calls():
             ("take assemble verify run_alone", lines(alone)),
             ("take assemble verify book", FROM_HERE + TO_HERE + lines(alone)),
         ):
-            leads = leads.split()
+            leads = ["words", *leads.split()]
             given = leads[-1].encode() + b"\n" + program + b"%\n" + came + b"%\n" + lines(DUES)
-            yield Call(f"{leads[-1]}: {name}", Case(f"{leads[-1]}: {name}", [], None, given, said, 0), leads)
+            yield Call(f"{leads[-1]}: {name}", Case(f"{leads[-1]}: {name}", ["calls"], None, given, said, 0), leads)
 
 
 def compiler():
@@ -517,7 +517,7 @@ def main():
     programs = [*sys.argv[1:], *(PROGRAM, CALLS, LOOK)[len(sys.argv) - 1 :]]
     for program in programs:
         if not os.access(program, os.X_OK):
-            print(f"memory.py: no program at {program}: ./sts, ./look, and rt run in crates/tests_alloc build them", file=sys.stderr)
+            print(f"memory.py: no program at {program}: ./sts, ./look, and rt run in crates/tests_rows build them", file=sys.stderr)
             return 2
     if not compiler():
         print("memory.py: FAILED, nothing was refused: there is no C compiler (cc, gcc or clang)", file=sys.stderr)

@@ -6,7 +6,7 @@ use sts_code::{Joiner, Kind};
 use sts_model::{End, Stand, Verdict};
 use sts_tree::Tree;
 
-/// The calls of a case, and how many tasks its tree has room for, beside one scope.
+/// The calls of a case, and how many tasks its tree has room for. It has room for one scope.
 struct Case(u32, &'static [Call]);
 
 /// One list has the tasks that can step, and another the subtasks of a scope.

@@ -1,39 +1,58 @@
-//! Walks the tables of rows that the file `tables` names, and prints for each how many answers it
-//! compared, how many of them are wrong, and which. The first lines of `tables` define the
-//! notation. The file `stdout` has what this program must print, so a wrong row and a lost row both
-//! fail the gate.
+//! Tests of what the programs answer, and of calls by themselves. Each word of the command line names
+//! a part, and the parts are done in order.
+//!
+//! - `rows` walks the tables of rows that the file `tables` names.
+//! - `calls` makes single calls on the row that standard input has.
+//! - `tree` times the tree of records.
+//!
+//! The file `stdout` has what all parts must print, so a wrong row and a lost row fail the gate.
 #![tactic(auto)]
 
+mod calls;
+mod failure;
 mod notation;
+mod rounds;
+mod row;
 mod table;
+mod timing;
+mod walking;
+mod whole;
 
-use crate::table::Table;
-use anyhow::Result;
-use std::fs;
+use std::env;
+use std::process::ExitCode;
 
-/// Walks one table.
-fn walk(rt: &HostRuntime, name: &str) -> Result<()> {
-    let text = fs::read_to_string(rt, name)?;
-    let mut table = Table::new(rt.alloc());
-    for line in text.lines() {
-        if let Some(wrong) = table.take_line(line)? {
-            println!(rt; "{name}: {wrong}")?;
-        }
+/// The status if a word names none of the parts.
+const NO_PART: u8 = 2;
+
+/// The status if memory ran out.
+const NO_MEMORY: u8 = 6;
+
+/// Does a part, and returns its status.
+fn done(rt: &HostRuntime, part: &str) -> u8 {
+    match part {
+        "rows" => walking::walk_all(rt),
+        "calls" => calls::answer_all(rt),
+        "tree" => timing::measure_all(rt),
+        _ => NO_PART,
     }
-    println!(rt; "{name}: {} answers, {} wrong", table.compared, table.wrong)?;
-    Ok(())
 }
 
-fn walk_all(rt: &HostRuntime) -> Result<()> {
-    let names = fs::read_to_string(rt, "tables")?;
-    for name in names.lines() {
-        if !name.starts_with("#") {
-            walk(rt, name)?;
+/// Does the parts that the words name, and returns the first status that isn't 0.
+fn done_all(rt: &HostRuntime) -> u8 {
+    let Ok(words) = env::args(&(rt, rt.alloc())) else {
+        // (a write that fails changes nothing)
+        let _ = println!(rt; "error memory in words");
+        return NO_MEMORY;
+    };
+    for part in words.skip(1) {
+        let status = done(rt, part.as_str());
+        if status != 0 {
+            return status;
         }
     }
-    Ok(())
+    0
 }
 
-fn main(rt: HostRuntime) -> Result<()> {
-    walk_all(&rt)
+fn main(rt: HostRuntime) -> ExitCode {
+    ExitCode::from(done_all(&rt))
 }

@@ -1,4 +1,8 @@
-//! The answers of each call on a row.
+//! Makes one call after another on a row and says what each answers. A script makes allocations
+//! fail meanwhile.
+//!
+//! Standard input has a line of calls, a text, a line `%`, a trace, a line `%` and an outside text.
+//! If a call finds no memory, the program prints `error memory in` and its name, with status 6.
 
 use crate::failure::{Failure, in_assembling, in_reading, in_taking, within};
 use crate::row::Row;
@@ -216,11 +220,7 @@ fn booked(rt: &HostRuntime, alloc: Global, row: &Row<'_>) -> Result<(), Failure>
 }
 
 /// Makes the call of a name on a row, and says what it answers.
-///
-/// # Errors
-///
-/// Memory ran out, a write failed, or the row doesn't fit the call.
-pub fn answer(rt: &HostRuntime, alloc: Global, call: &str, row: &Row<'_>) -> Result<(), Failure> {
+fn answer(rt: &HostRuntime, alloc: Global, call: &str, row: &Row<'_>) -> Result<(), Failure> {
     match call {
         "take" => taken(rt, alloc, row),
         "assemble" => assembled(rt, alloc, row),
@@ -235,5 +235,37 @@ pub fn answer(rt: &HostRuntime, alloc: Global, call: &str, row: &Row<'_>) -> Res
         "run_alone" => ran_alone(rt, alloc, row),
         "book" => booked(rt, alloc, row),
         _ => Err(Failure::Unfit("there is no such call")),
+    }
+}
+
+fn answered(rt: &HostRuntime) -> Result<(), Failure> {
+    let input = in_taking(take(rt.alloc(), &mut rt.reader(), u64::MAX))?;
+    let (calls, row) = Row::of(input.as_slice())?;
+    for call in calls.split_ascii_whitespace() {
+        answer(rt, rt.alloc(), call, &row)?;
+    }
+    Ok(())
+}
+
+fn said(rt: &HostRuntime, failure: Failure) -> io::Result<u8> {
+    match failure {
+        Failure::Memory(call) => {
+            println!(rt; "error memory in {call}")?;
+            Ok(6)
+        }
+        Failure::Unfit(why) => {
+            println!(rt; "{why}")?;
+            Ok(2)
+        }
+        Failure::Write => Ok(1),
+    }
+}
+
+/// Makes the calls that standard input names on the row that follows. Returns the status: 6 if memory
+/// ran out, 2 if the row doesn't fit a call, and 1 if a write failed.
+pub fn answer_all(rt: &HostRuntime) -> u8 {
+    match answered(rt) {
+        Ok(()) => 0,
+        Err(failure) => said(rt, failure).unwrap_or(1),
     }
 }
