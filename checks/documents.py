@@ -14,8 +14,8 @@ Each text and output of docs/LANGUAGE.md, docs/VERIFIER.md, docs/PATTERNS.md and
 - a line of its table of faulty lines; each of them is line 2 of a text;
 - a block "```diff" of VERIFIER.md or PATTERNS.md, which has a refused text and the same text mended (checks/causes.py), and
   what PATTERNS.md says below a block: "Without `LINE`: `refused ..`";
-- a block of PATTERNS.md, which is accepted, with each trace of the table below it, written short (checks/runs.py has the runs
-  with workers, and the files with bytes that no row can hold);
+- a program that PATTERNS.md shows a part of, which is accepted, with each trace of the table below it, written short
+  (checks/runs.py has the runs with workers, and the files with bytes that no row can hold);
 - each command of examples/README.md, with the files that it names.
 
 It also reports:
@@ -27,8 +27,9 @@ It also reports:
 - an example that isn't shown, or says that it prints something else;
 - a refused text of `examples` that no document names;
 - a program that a document writes on one line;
-- a Java program that isn't shown as it is;
-- figures of JDK.md that aren't those of a run of jdk/check.py, or a wrong count of its differences in README.md;
+- a part of a program or of a Java program that its file doesn't have, or one of more than ten lines;
+- figures of jdk/README.md that aren't those of a run of jdk/check.py, or a wrong count of the differences in README.md;
+- an instruction that the table of the API in JDK.md lacks, or a word in its place that is none;
 - a picture that isn't what its script draws;
 - a crate that uses proofs of another one from a file that isn't called `*Lemmas`;
 - floors of ARCHITECTURE.md that don't fit crates.txt;
@@ -41,6 +42,7 @@ import os
 import re
 import subprocess
 import sys
+import textwrap
 
 import causes as refused
 import vectors
@@ -49,6 +51,8 @@ from stack_code import OPERANDS
 ROOT = os.path.dirname(os.path.dirname(os.path.realpath(__file__)))
 FOLDER = "crates/tests_rows/data"
 DOCUMENTS = ["README.md", "CONTRIBUTING.md", "examples/README.md", "jdk/README.md", *(f"docs/{it}" for it in sorted(os.listdir(f"{ROOT}/docs")) if it.endswith(".md"))]
+PATTERN = re.compile(r"In \[(?:\w+)\]\(\.\./(examples/patterns/\w+\.sts)\):")
+PART = 10  # lines of a longer program that a document shows
 STATUS = {"success": 0, "failed": 1, "error": 3, "refused": 4, "fault": 5, "running": 5}
 
 
@@ -177,20 +181,43 @@ def commands(path):
     return [row(text, read(text), questions) for text, questions in asked.items()]
 
 
+def dedented(lines):
+    return textwrap.dedent("\n".join(lines))
+
+
+def is_part(block, text):
+    """Returns whether a block has at most ten lines, and a text has these, perhaps further to the right. Between two of them
+    the text may have others if the block has a line `// ..` there."""
+    lines, count = text.splitlines(), 0
+    for part in block.split("// ..\n"):
+        shown = part.splitlines()
+        places = [at for at in range(len(lines) - len(shown) + 1) if dedented(lines[at : at + len(shown)]) == dedented(shown)]
+        if not shown or not places:
+            return False
+        lines, count = lines[places[0] + len(shown) :], count + len(shown)
+    return count <= PART
+
+
 def programs(path):
-    """Returns each block of a document with what is shown below it: a name, the text, each (asked, printed) of its table, and
-    (line, printed) for each line that it needs: without that line it is refused."""
-    found, heading, lines = [], "", iter(read(path).splitlines())
+    """Returns each program of a document with what is shown below it: a name, the text, each (asked, printed) of its table, and
+    (line, printed) for each line that it needs: without that line it is refused. A program is a block, or the file of
+    examples/patterns that the line above the block names; then the block is a part of it."""
+    found, heading, named, lines = [], "", None, iter(read(path).splitlines())
     for line in lines:
         without = re.fullmatch(r"- Without `([^`]*)`: `([^`]*)`\.", line)
         if without:
             found[-1][3].append(without.groups())
         elif line.startswith("#"):
             heading = line.strip("# ")
+        elif PATTERN.search(line):
+            named = PATTERN.search(line)[1]
         elif line.startswith("```"):
             block = "".join(f"{it}\n" for it in itertools.takewhile(lambda it: it != "```", lines))
+            if line == "```" and named and not is_part(block, read(named)):
+                fail(f"{path} shows lines that {named} doesn't have, or too many: {block.splitlines()[0]!r}")
             if line == "```":
-                found.append((heading, block, [], []))
+                found.append((heading, read(named) if named else block, [], []))
+            named = None
         elif line.startswith("| Trace |"):
             table = list(itertools.takewhile(lambda it: it.startswith("|"), lines))[1:]
             found[-1][2].extend(tuple(cell.strip() for cell in it.strip("|").split("|")[:2]) for it in table)
@@ -356,16 +383,17 @@ def shown_programs(path):
 
 
 def examples(path):
-    """Fails if an example has no command in a document, or says of itself that it prints something else."""
+    """Fails if an example has no command in a document, or says of itself that it prints something else, or another text of
+    `examples` is shown nowhere."""
     shown = {text: printed for mode, text, _, printed in shown_commands(path) if mode == "plain"}
     for text in (f"examples/{it}" for it in sorted(os.listdir(f"{ROOT}/examples")) if it.endswith(".sts")):
         said = re.search(r"^; Prints: ([^(,.]*\d)[^,]*, (steps \d+)\.", read(text), re.M)
         if text not in shown or not said or f"{said[1]} / {said[2]}" != shown[text]:
             fail(f"{text}: what it says that it prints isn't what a document shows")
     pages = "".join(map(read, DOCUMENTS))
-    for name in sorted(os.listdir(f"{ROOT}/examples/refused")):
-        if f"examples/refused/{name})" not in pages:
-            fail(f"no document names examples/refused/{name}")
+    for name in (f"examples/{folder}/{it}" for folder in ("patterns", "refused") for it in sorted(os.listdir(f"{ROOT}/examples/{folder}"))):
+        if f"{name})" not in pages:
+            fail(f"no document names {name}")
 
 
 def one_line_programs():
@@ -383,13 +411,13 @@ def pictures():
 
 
 def java_programs():
-    """Fails if a document shows a Java program otherwise than its file has it, or none shows one of these files."""
+    """Fails if a document shows lines of a Java program that its file doesn't have, or shows none of a file's."""
     shown = set()
     for path in DOCUMENTS:
         for name, block in re.findall(r"In Java \(\[`\w+\.java`\]\(\.\./(jdk/\w+/\w+\.java)\)\):\n\n```java\n(.*?)```\n", read(path), re.S):
             shown.add(name)
-            if read(name) != block:
-                fail(f"{path} shows {name} otherwise than it is")
+            if not is_part(block, read(name)):
+                fail(f"{path} shows lines that {name} doesn't have, or too many: {block.splitlines()[0]!r}")
     names = {f"jdk/differences/{it}" for it in os.listdir(f"{ROOT}/jdk/differences")}
     beside = {f"{it[:-4]}.java" for it in os.listdir(f"{ROOT}/examples") if it.endswith(".sts")}
     names |= {f"jdk/examples/{it}" for it in os.listdir(f"{ROOT}/jdk/examples") if it not in beside}
@@ -397,6 +425,7 @@ def java_programs():
         fail(f"Java programs that are shown in no document, or aren't there: {sorted(names ^ shown)}")
 
 
+LOCAL = {"push", "pop", "dup", "swap", "load", "store", "add", "sub", "mul", "lt", "eq", "div", "jmp", "jz", "times", "next", "forget"}
 NUMBERS = ["no", "one", "two", "three", "four", "five", "six", "seven", "eight", "nine", "ten", "eleven", "twelve", "thirteen", "fourteen"]
 
 
@@ -407,27 +436,36 @@ def table(page, first):
 
 
 def jdk_figures():
-    """Fails if docs/JDK.md hasn't the figures of a whole run: each rule and each known difference of jdk/check.py came, the
-    sums agree, and each Java program ran. The number of differences in README.md is that of the headings."""
+    """Fails if jdk/README.md hasn't the figures of a whole run: each rule and each known difference of jdk/check.py came, the
+    sums agree, and each Java program ran. The number of differences in README.md is that of the headings of docs/JDK.md."""
     sys.path.insert(0, f"{ROOT}/jdk")
     import known
     from page import BEGIN, END, RULES
-    text = read("docs/JDK.md")
-    shown = text.split(BEGIN)[1].split(END)[0]
+    shown = read("jdk/README.md").split(BEGIN)[1].split(END)[0]
     kinds, rules, differences = (table(shown, it) for it in ("Cases", "Rule", "Known difference"))
     if [it for it, _ in rules] != [rule for rule, _ in RULES] or [it for it, _ in differences] != list(known.DIFFERENCES):
-        fail("docs/JDK.md has other rules or differences than jdk/check.py: jdk/check.py --write")
+        fail("jdk/README.md has other rules or differences than jdk/check.py: jdk/check.py --write")
     if not all(numbers[0] > 0 for _, numbers in rules + differences):
-        fail("docs/JDK.md has a rule or a difference that no case met")
+        fail("jdk/README.md has a rule or a difference that no case met")
     played = sum(numbers[0] for _, numbers in kinds)
     if f": {played:,} cases of " not in shown or any(numbers[0] != sum(numbers[1:]) for _, numbers in kinds) or played < 10_000:
-        fail("the figures of docs/JDK.md don't add up to 10,000 cases")
+        fail("the figures of jdk/README.md don't add up to 10,000 cases")
     programs_there = sum(len([it for it in os.listdir(f"{ROOT}/jdk/{folder}") if it.endswith(".java")]) for folder in ("examples", "differences"))
     if f"- {programs_there} Java programs ran." not in shown:
-        fail(f"docs/JDK.md doesn't say that {programs_there} Java programs ran: jdk/check.py --write")
-    headings_there = len(re.findall(r"^### ", text.split("\n## What differs\n")[1].split("\n## ")[0], re.M))
+        fail(f"jdk/README.md doesn't say that {programs_there} Java programs ran: jdk/check.py --write")
+    headings_there = len(re.findall(r"^### ", read("docs/JDK.md").split("\n## What differs\n")[1].split("\n## ")[0], re.M))
     if f"[{NUMBERS[headings_there]} differences](docs/JDK.md#what-differs)" not in read("README.md"):
         fail(f"README.md doesn't name the {NUMBERS[headings_there]} differences of docs/JDK.md")
+
+
+def jdk_instructions():
+    """Fails if the table of the API in docs/JDK.md lacks an instruction on scopes, subtasks, keys or flags, or has a word that
+    is none. The other instructions have no call of the API."""
+    table = re.search(r"^\| In Java \|.*?\n\n", read("docs/JDK.md"), re.M | re.S)[0]
+    words = {it.split(" ")[0] for line in table.splitlines()[2:] for it in re.findall(r"`([^`]+)`", line.strip("|").split("|")[-1])}
+    joiners, events = {"all", "any", "awaitok", "awaitall", "until"}, {"expire", "interrupt"}
+    if words - joiners - events - {"push"} != set(OPERANDS) - LOCAL:
+        fail(f"docs/JDK.md doesn't have each instruction in its table of the API: {sorted((words - joiners - events - {'push'}) ^ (set(OPERANDS) - LOCAL))}")
 
 
 def proofs_of_others():
@@ -445,6 +483,7 @@ def main():
     named_files()
     java_programs()
     jdk_figures()
+    jdk_instructions()
     proofs_of_others()
     floors()
     neighbours()

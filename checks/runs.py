@@ -157,7 +157,7 @@ def first_text(program, folder):
 def by_shell(program, folder, lines, text):
     """Returns what a shell prints for these lines. There `./sts` is the program, and `my.sts` has this text."""
     kept(folder, "my.sts", text.encode())
-    for name, path in ("sts", program), ("checks", f"{ROOT}/checks"):
+    for name, path in ("sts", program), ("checks", f"{ROOT}/checks"), ("examples", f"{ROOT}/examples"):
         if not os.path.lexists(f"{folder}/{name}"):
             os.symlink(os.path.realpath(path), f"{folder}/{name}")
     done = subprocess.run(["bash", "-c", lines], cwd=folder, capture_output=True, text=True, timeout=SECONDS)

@@ -3,7 +3,7 @@
 
     jdk/check.py             plays cases, runs programs freely, runs the Java examples; reports counts
     jdk/check.py --planted   says for each of the wrong models whether the cases notice it
-    jdk/check.py --write     does what the first does, and writes its figures into docs/JDK.md
+    jdk/check.py --write     does what the first does, and writes its figures into jdk/README.md
 
 A case is a text and a trace. The player (Player.java) plays it over the scopes of the JDK; a machine in Python
 (checks/plain_machine.py) goes through the same events; the states are compared after each. `look view --each`, `sts plain`
@@ -182,7 +182,7 @@ def reader():
     reads.add_argument("--jobs", type=int, default=os.cpu_count(), help="how many parts are played at once (one a processor)")
     reads.add_argument("--smallest", default="jdk_smallest", help="the folder for the smallest case of each difference")
     reads.add_argument("--planted", action="store_true", help="says of each wrong model whether it is noticed")
-    reads.add_argument("--write", action="store_true", help="writes the figures into docs/JDK.md")
+    reads.add_argument("--write", action="store_true", help="writes the figures into jdk/README.md")
     return reads
 
 

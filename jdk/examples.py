@@ -25,20 +25,11 @@ def names(folder):
     return sorted(os.path.basename(it)[:-len(".java")] for it in glob.glob(f"{HERE}/{folder}/*.java"))
 
 
-def pattern_texts():
-    """Returns the text of each pattern by the name of its Java program, which the page links below its heading."""
-    page, found = documents.read("docs/PATTERNS.md"), {}
-    links = dict(re.findall(r"^## ([^\n]*)\n(?:(?!^## ).*\n)*?In Java \(\[`(\w+)\.java`\]", page, re.M))
-    for heading, text, _, _ in documents.programs("docs/PATTERNS.md"):
-        found[links.get(heading, heading)] = text
-    return found
-
-
 def texts():
-    """Returns the text that belongs to each Java program."""
-    paths = sorted(glob.glob(f"{os.path.dirname(HERE)}/examples/*.sts"))
-    examples = {os.path.basename(it)[:-len(".sts")]: documents.read(f"examples/{os.path.basename(it)}") for it in paths}
-    return {**examples, **pattern_texts()}
+    """Returns the text that belongs to each Java program: an example or a pattern of the same name."""
+    root = os.path.dirname(HERE)
+    paths = sorted(glob.glob(f"{root}/examples/*.sts") + glob.glob(f"{root}/examples/patterns/*.sts"))
+    return {os.path.basename(it)[:-len(".sts")]: documents.read(os.path.relpath(it, root)) for it in paths}
 
 
 def prints(jdk, folder, name):

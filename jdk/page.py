@@ -1,10 +1,10 @@
-"""Writes the figures of a run into docs/JDK.md, between the lines that mark them."""
+"""Writes the figures of a run into jdk/README.md, between the lines that mark them."""
 import datetime
 import os
 
 import known
 
-PATH = os.path.join(os.path.dirname(os.path.dirname(os.path.realpath(__file__))), "docs", "JDK.md")
+PATH = os.path.join(os.path.dirname(os.path.realpath(__file__)), "README.md")
 BEGIN, END = "<!-- figures of `jdk/check.py --write` -->", "<!-- end of the figures -->"
 
 # Each rule with the names that known.Witness gives to what a run comes to; the count is that of the name that came least.
