@@ -22,7 +22,7 @@ It also reports:
 
 - a document that names a file that isn't there, or shows a line of a contract that no source has, or a part of a program
   that no example has;
-- an instruction, or a cause of one, that LANGUAGE.md lacks;
+- an instruction, a cause of one, or a cause in the index of codes that LANGUAGE.md lacks;
 - a function or a clause that PROOFS.md names and that its file doesn't have;
 - an example that isn't shown, or says that it prints something else;
 - a refused text of `examples` that no document names;
@@ -51,7 +51,7 @@ from stack_code import OPERANDS
 ROOT = os.path.dirname(os.path.dirname(os.path.realpath(__file__)))
 FOLDER = "crates/tests_rows/data"
 DOCUMENTS = ["README.md", "CONTRIBUTING.md", "examples/README.md", "jdk/README.md", *(f"docs/{it}" for it in sorted(os.listdir(f"{ROOT}/docs")) if it.endswith(".md"))]
-PATTERN = re.compile(r"In \[(?:\w+)\]\(\.\./(examples/patterns/\w+\.sts)\):")
+PATTERN = re.compile(r"In \[(?:\w+)\]\(\.\./(examples/(?:patterns/)?\w+\.sts)\):")
 PART = 10  # lines of a longer program that a document shows
 STATUS = {"success": 0, "failed": 1, "error": 3, "refused": 4, "fault": 5, "running": 5}
 
@@ -105,19 +105,21 @@ def of_block(name, harness, block):
 
 
 def blocks(path):
-    """Returns a row for each block of a document, and fails if a block has nothing written above it."""
-    found, heading, harness, lines = [], "", [], iter(read(path).splitlines())
+    """Returns a row for each block of a document, and fails if a block has nothing written above it, and is no part of a file."""
+    found, heading, harness, is_named, lines = [], "", [], False, iter(read(path).splitlines())
     for line in lines:
         if line.startswith("#"):
             heading = line.strip("# ")
         elif line.startswith("<!-- run: "):
             harness.append(line[len("<!-- run: "):-len(" -->")])
+        elif PATTERN.search(line):
+            is_named = True
         elif line.startswith("```"):
             block = "".join(f"{it}\n" for it in itertools.takewhile(lambda it: it != "```", lines))
-            if line == "```" and not harness:
+            if line == "```" and not harness and not is_named:
                 fail(f"{path}: nothing says how the block of {heading!r} is run")
             found += [of_block(heading, it, block) for it in harness]
-            harness = []
+            harness, is_named = [], False
     return found
 
 
@@ -148,6 +150,14 @@ def instructions(path):
     shown = {(word, cause) for word, causes_of in known.items() for cause in causes_of if cause not in ("V1", "V2", "V3", "V7", "V8")}
     if shown - met:
         fail(f"{path} names causes of instructions that no row has: {sorted(shown - met)}")
+
+
+def index(path, causes_path):
+    """Fails if the index of codes doesn't name each cause of another document in order, with the address of its section."""
+    found = re.findall(r"^\| \[(V\d+)\]\(VERIFIER\.md#([\w-]+)\) \| (\w+) \|$", read(path), re.M)
+    titles = re.findall(r"^### (V\d+) (\w+)$", read(causes_path), re.M)
+    if found != [(code, f"{code}-{name}".lower(), name) for code, name in titles] or not titles:
+        fail(f"{path} doesn't have the causes of {causes_path} in its index of codes")
 
 
 def causes(path):
@@ -250,7 +260,7 @@ def files():
         "examples_commands": commands("examples/README.md"),
     }
     for name, rows in tables.items():
-        if len(rows) < (3 if name == "documents_blocks" else 5):
+        if len(rows) < (2 if name == "documents_blocks" else 5):
             fail(f"only {len(rows)} rows were found for {name}")
     return {f"{name}.rows": "\n\n".join(rows) + "\n" for name, rows in tables.items()}
 
@@ -492,6 +502,7 @@ def main():
     shown_programs("README.md")
     examples("examples/README.md")
     instructions("docs/LANGUAGE.md")
+    index("docs/LANGUAGE.md", "docs/VERIFIER.md")
     one_line_programs()
     pictures()
     for name, table in files().items():

@@ -11,8 +11,8 @@ with what examples/README.md shows. `explain` says that it is accepted, and with
 lives.
 
 docs/VERIFIER.md shows below the text of each cause what `explain` prints, what the plain machine does, and the
-sentences of the other rows of this cause: the remedies in checks/look_rows/verdicts.rows, which look_rows.py compares. docs/PATTERNS.md shows what `explain` prints of its refused texts, and docs/LANGUAGE.md the sentence of each
-code.
+sentences of the other rows of this cause: the remedies in checks/look_rows/verdicts.rows, which look_rows.py compares.
+docs/PATTERNS.md shows what `explain` prints of its refused texts.
 """
 import collections
 import os
@@ -31,7 +31,6 @@ from write_trace import trace
 
 SECONDS = 600
 VERIFIER, LANGUAGE = "docs/VERIFIER.md", "docs/LANGUAGE.md"
-INDEX = re.compile(r"(?<=^\| Code \| `look explain` says \|\n\|---\|---\|\n)(?:\|.*\n)*", re.M)
 SEVEN = "`func main 0 / push 7 / ret / end`"
 KID = "func kid 0 / push 0 / ret / end"
 # Texts that are too long to be written in full, or have a byte that isn't allowed.
@@ -133,7 +132,7 @@ def cases():
 
 def listed_codes():
     """Returns the codes of a text and a trace that LANGUAGE.md defines, in their order: those of its tables."""
-    return list(dict.fromkeys(re.findall(r"^\| ([ACT]\d+) \|", INDEX.sub("", read(LANGUAGE)), re.M)))
+    return list(dict.fromkeys(re.findall(r"^\| ([ACT]\d+) \|", read(LANGUAGE), re.M)))
 
 
 def listed():
@@ -254,32 +253,10 @@ def renewed(look, folder, path):
     return page, right
 
 
-def anchor(code):
-    """Returns the address of the section of VERIFIER.md about a cause."""
-    title = re.search(rf"^### ({code} .*)$", read(VERIFIER), re.M)[1]
-    return f"VERIFIER.md#{title.lower().replace(' ', '-')}"
-
-
-def index(explained):
-    """Returns the lines of the index of codes, from what `explain` prints for each."""
-    said = {code.split(" ")[-1]: f"`{printed.split(chr(10))[1]}`" for code, printed in explained.items()}
-    said |= {"A9": "a program check failed: C1 to C7", "A10": "memory ran out", "T4": "memory ran out"}
-    said |= dict(re.findall(r"^\d\. \*(\w+)\*: ([^.(]*)", read("docs/BEHAVIOUR.md"), re.M))
-    address = {"A": "#faults-of-a-text", "C": "#program-checks", "T": "#traces"}
-    found = [(it, address[it[0]]) for it in sorted(listed_codes(), key=lambda it: (it[0], int(it[1:])))]
-    found += [(it, anchor(it)) for it in RUNS] + [(it, "BEHAVIOUR.md#misuse") for it in FAULTS]
-    lines = [f"| [{code}]({at}) | {said[code].strip()} |\n" for code, at in found]
-    return "".join([*lines, "| [0 to 6](#exit-status) | the exit status |\n"])
-
-
 def pages_of(look, folder):
     """Returns the pages by their paths as they should be, and what was compared for them."""
     pages = {path: renewed(look, folder, path) for path in PAGES}
-    explained = {case.code: explained_at(look, folder, case)[1] for case in cases()}
-    right = [it for _, answers in pages.values() for it in answers]
-    right.append((f"{LANGUAGE} has an index", len(INDEX.findall(read(LANGUAGE))) == 1))
-    pages = {path: page for path, (page, _) in pages.items()}
-    return {**pages, LANGUAGE: INDEX.sub(lambda _: index(explained), read(LANGUAGE))}, right
+    return {path: page for path, (page, _) in pages.items()}, [it for _, answers in pages.values() for it in answers]
 
 
 def compared(look, sts, folder):

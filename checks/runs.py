@@ -149,7 +149,7 @@ def first_text(program, folder):
     """Yields whether the first text of LANGUAGE.md prints what is shown of it."""
     page = read("docs/LANGUAGE.md")
     file = kept(folder, "first", programs("docs/LANGUAGE.md")[0][1].encode())
-    shown = re.search(r"`./sts run my.sts --workers (\d+)` prints its budgets, `(.*?)` and `(.*?)`", page)
+    shown = re.search(r"`./sts run examples/sum.sts --workers (\d+)` prints its budgets, `(.*?)` and `(.*?)`", page)
     said = says(program, "run", file, "--workers", shown[1])
     yield "the first text", said == f"{says(program, 'verify', file)}{shown[2]}\n{shown[3]}\n"
 
@@ -187,7 +187,7 @@ def shell_lines(program, folder):
     text = read("examples/sum.sts")
     yield f"LANGUAGE.md: {rounds}", by_shell(program, folder, f"{rounds}./sts plain my.sts my.trace", text) == END
     places = re.search(r"^    (\./sts list .*\n)", read("docs/VERIFIER.md"), re.M)[1]
-    for text in (hedge, text, programs("docs/LANGUAGE.md")[0][1]):
+    for text in (hedge, text, read("examples/scoped_values.sts")):
         right = by_shell(program, folder, places, text) == numbered(says(program, "list", f"{folder}/my.sts"))
         yield f"VERIFIER.md: {places}", right
 
