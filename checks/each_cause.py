@@ -226,11 +226,15 @@ def sentences():
     return found
 
 
-def below(code, others):
-    """Returns what VERIFIER.md shows for a cause below the output of `explain`: its run, and the other sentences."""
+def below(code, printed, others):
+    """Returns what VERIFIER.md shows for a cause below what `explain` printed: its run, and the other sentences, each once."""
     short, ends = RUNS[code]
-    words = f"\nAfter `{short}` the plain machine prints {', '.join(f'`{it}`' for it in ends.split(' / '))}.\n"
-    rows = [f"| {where} | `{sentence}` |\n" for where, sentence in others]
+    places = {}
+    for where, sentence in others:
+        places.setdefault(sentence, []).append(where)
+    places.pop(printed.split("\n")[1], None)
+    words = f"\nAfter `{short}` the plain machine prints `{ends.split(' / ')[0]}`.\n"
+    rows = [f"| {'; '.join(where)} | `{sentence}` |\n" for sentence, where in places.items()]
     return words + ("\n| Also | `look explain` says |\n|---|---|\n" + "".join(rows) if rows else "")
 
 
@@ -246,7 +250,7 @@ def renewed(look, folder, path):
         code, shown = pair.heading.split(" ")[0], "\n" + re.sub("^(?=.)", "    ", printed, flags=re.M)
         if path == VERIFIER and code not in seen:
             seen.add(code)
-            shown += below(code, others.get(code, []))
+            shown += below(code, printed, others.get(code, []))
         at = pair.after + moved
         old = re.match(r"(?:\n(?:    .*\n)+)?(?:\nAfter `[^`]*` the plain machine .*\n)?(?:\n\| Also .*\n(?:\|.*\n)*)?", page[at:])[0]
         page, moved = page[:at] + shown + page[at + len(old):], moved + len(shown) - len(old)
