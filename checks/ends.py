@@ -201,16 +201,11 @@ def texts(asked):
 def shown(asked):
     """Yields what docs/LOOK.md and docs/PATTERNS.md show of the ends of programs, and whether it is so."""
     page = documents.read("docs/LOOK.md")
-    for name, block in re.findall(r"For \[(\w+)\]\(\S+\) `ends` prints:\n\n((?:    .*\n)+)", page):
-        printed = says(asked.look, "ends", f"{ROOT}/examples/{name}.sts")[1]
-        yield f"docs/LOOK.md, {name}", printed == [line[4:] for line in block.splitlines()]
+    for path, block in re.findall(r"For \[\w+\]\(\.\./(examples/\S+)\) `ends` prints:\n\n((?:    .*\n)+)", page):
+        printed = says(asked.look, "ends", f"{ROOT}/{path}")[1]
+        yield f"docs/LOOK.md, {path}", printed == [line[4:] for line in block.splitlines()]
     with tempfile.TemporaryDirectory() as folder:
         path = os.path.join(folder, "text")
-        for text, block in re.findall(r"\n\n((?:    .*\n)+)\n[^\n]*Then `ends` prints:\n\n((?:    .*\n)+)", page):
-            with open(path, "w") as file:
-                file.write("".join(f"{line[4:]}\n" for line in text.splitlines()))
-            printed = says(asked.look, "ends", path)[1]
-            yield "docs/LOOK.md, a text", printed == [line[4:] for line in block.splitlines()]
         table = dict(re.findall(r"^\| ([^|`]+) \| ((?:`[^`]+`(?:, )?)+) \| \d+ \|$", documents.read("docs/PATTERNS.md"), re.M))
         for name, text, _, _ in documents.programs("docs/PATTERNS.md"):
             with open(path, "w") as file:
