@@ -154,9 +154,9 @@ def instructions(path):
 
 def index(path, causes_path):
     """Fails if the index of codes doesn't name each cause of another document in order, with the address of its section."""
-    found = re.findall(r"^\| \[(V\d+)\]\(VERIFIER\.md#([\w-]+)\) \| (\w+) \|$", read(path), re.M)
+    found = re.findall(r"\[(V\d+) (\w+)\]\(VERIFIER\.md#([\w-]+)\)", read(path).split("\n## Index of codes\n")[1])
     titles = re.findall(r"^### (V\d+) (\w+)$", read(causes_path), re.M)
-    if found != [(code, f"{code}-{name}".lower(), name) for code, name in titles] or not titles:
+    if not titles or found != [(code, name, f"{code}-{name}".lower()) for code, name in titles]:
         fail(f"{path} doesn't have the causes of {causes_path} in its index of codes")
 
 
