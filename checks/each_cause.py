@@ -31,6 +31,7 @@ from write_trace import trace
 
 SECONDS = 600
 VERIFIER, LANGUAGE = "docs/VERIFIER.md", "docs/LANGUAGE.md"
+OTHERS = "For other mistakes `look explain` says:"
 SEVEN = "`func main 0 / push 7 / ret / end`"
 KID = "func kid 0 / push 0 / ret / end"
 # Texts that are too long to be written in full, or have a byte that isn't allowed.
@@ -215,27 +216,23 @@ def example_at(look, text, steps, printed):
 
 
 def sentences():
-    """Returns for each cause its other sentences: the place of each, and the sentence."""
+    """Returns for each cause its other sentences."""
     found = {}
-    for where, group, name, _, _, _, _, printed in look_rows.tables():
+    for where, group, _, _, _, _, _, printed in look_rows.tables():
         if where.startswith("verdicts.rows ") and group.startswith("remedies: "):
             said = re.fullmatch(r"refused (V\d+) [^\n]*\n([^\n]*)\n", printed.decode())
             if not said or said[1] not in RUNS:
                 sys.exit(f"each_cause.py: {where} wasn't understood")
-            found.setdefault(said[1], []).append((name, said[2]))
+            found.setdefault(said[1], []).append(said[2])
     return found
 
 
 def below(code, printed, others):
     """Returns what VERIFIER.md shows for a cause below what `explain` printed: its run, and the other sentences, each once."""
     short, ends = RUNS[code]
-    places = {}
-    for where, sentence in others:
-        places.setdefault(sentence, []).append(where)
-    places.pop(printed.split("\n")[1], None)
+    rows = [f"- `{it}`\n" for it in dict.fromkeys(others) if it != printed.split("\n")[1]]
     words = f"\nAfter `{short}` the plain machine prints `{ends.split(' / ')[0]}`.\n"
-    rows = [f"| {'; '.join(where)} | `{sentence}` |\n" for sentence, where in places.items()]
-    return words + ("\n| Also | `look explain` says |\n|---|---|\n" + "".join(rows) if rows else "")
+    return words + (f"\n{OTHERS}\n\n{''.join(rows)}" if rows else "")
 
 
 def renewed(look, folder, path):
@@ -252,7 +249,7 @@ def renewed(look, folder, path):
             seen.add(code)
             shown += below(code, printed, others.get(code, []))
         at = pair.after + moved
-        old = re.match(r"(?:\n(?:    .*\n)+)?(?:\nAfter `[^`]*` the plain machine .*\n)?(?:\n\| Also .*\n(?:\|.*\n)*)?", page[at:])[0]
+        old = re.match(rf"(?:\n(?:    .*\n)+)?(?:\nAfter `[^`]*` the plain machine .*\n)?(?:\n{OTHERS}\n\n(?:- .*\n)*)?", page[at:])[0]
         page, moved = page[:at] + shown + page[at + len(old):], moved + len(shown) - len(old)
     return page, right
 

@@ -10,7 +10,8 @@ scopes that are misused. Each is asked with expiries and without, and with an in
 - The trace of each end, as `--trace` writes it, has as many events as its line says, and `sts` comes to that end by it:
   in mode `replay`, or in mode `plain` if the text is refused.
 - `--sample` finds no other end, and `--most` stops with status 5.
-- docs/LOOK.md shows what `ends` prints, and docs/PATTERNS.md the ends of each of its programs.
+- docs/LOOK.md shows what `ends` prints, and docs/PATTERNS.md the ends of each of its programs: those of its row in the table
+  of races, or those that a run by workers may come to.
 - The sets of ends.rows, worked out by hand, are those that `look ends` prints, as two compilers build it.
 A program with more than MOST_STATES states is left out. The last line is `N passed, M failed`, of comparisons.
 """
@@ -206,12 +207,13 @@ def shown(asked):
         yield f"docs/LOOK.md, {path}", printed == [line[4:] for line in block.splitlines()]
     with tempfile.TemporaryDirectory() as folder:
         path = os.path.join(folder, "text")
-        table = dict(re.findall(r"^\| ([^|`]+) \| ((?:`[^`]+`(?:, )?)+) \| \d+ \|$", documents.read("docs/PATTERNS.md"), re.M))
-        for name, text, _, _ in documents.programs("docs/PATTERNS.md"):
+        table = dict(re.findall(r"^\| ([^|`]+) \| ((?:`[^`]+`(?:, )?)+) \|$", documents.read("docs/PATTERNS.md"), re.M))
+        for name, text, runs, _ in documents.programs("docs/PATTERNS.md"):
             with open(path, "w") as file:
                 file.write(text)
             found = [it[3] for it in map(LINE.fullmatch, says(asked.look, "ends", path)[1]) if it]
-            yield f"docs/PATTERNS.md, {name}", sorted(found) == sorted(re.findall(r"`([^`]+)`", table.get(name, "")))
+            ends = table.get(name, dict(runs)["by workers"])
+            yield f"docs/PATTERNS.md, {name}", sorted(found) == sorted(re.findall(r"`([^`]+)`", ends))
 
 
 def rows():
