@@ -197,9 +197,9 @@ def dedented(lines):
 
 def is_part(block, text):
     """Returns whether a block has at most ten lines, and a text has these, perhaps further to the right. Between two of them
-    the text may have others if the block has a line `// ..` there."""
+    the text may have others if the block has a line `// ..` or `; ..` there."""
     lines, count = text.splitlines(), 0
-    for part in block.split("// ..\n"):
+    for part in re.split(r"^(?://|;) \.\.\n", block, flags=re.M):
         shown = part.splitlines()
         places = [at for at in range(len(lines) - len(shown) + 1) if dedented(lines[at : at + len(shown)]) == dedented(shown)]
         if not shown or not places:
