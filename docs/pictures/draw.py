@@ -3,7 +3,7 @@
 
 phases.svg   the phases of a scope, and what moves it from one to another
 run.svg      the run of examples/sum as a journal: a row for each task, a column for each event
-ladder.svg   from a text to the workers, with the theorem on each arrow
+ladder.svg   from a text to the workers, with the promise on each arrow
 
     docs/pictures/draw.py            writes the files
     docs/pictures/draw.py --check    says whether the files are what it would write (status 1 if not)
@@ -103,14 +103,14 @@ def phases():
         arrow("M494 330 C450 350 420 372 392 380"),
         text(476, 366, "close, second step: none lives", "code", "start"),
         arrow("M80 204 C80 330 150 386 260 390"),
-        text(30, 376, "close, where\nnothing was\nforked", "code", "start"),
-        text(30, 452, "Beside the phase a scope has two marks. It is cancelled by its joiner, by an expiry or by close; "
-             "an expiry counts while it is", "small", "start"),
+        text(30, 376, "close, if\nnothing was\nforked", "code", "start"),
+        text(30, 452, "Besides its phase, a scope has two marks. Its joiner, an expiry or a close cancels it. "
+             "An expiry counts while it is", "small", "start"),
         text(30, 468, "opened or attempted. No subtask of a closed scope lives.", "small", "start"),
     ]
-    told = ("Opened goes to joined where join is ok, failed or timed out, and to attempted where it is interrupted; attempted "
-            "goes to joined likewise. Close leads from attempted and joined to closed where no subtask lives, else to closing "
-            "and, once none lives, to closed. From opened, close leads to closed where nothing was forked.")
+    told = ("Opened goes to joined if join is ok, failed or timed out, and to attempted if it is interrupted; attempted "
+            "goes to joined likewise. Close leads from attempted and joined to closed if no subtask lives, else to closing "
+            "and, once none lives, to closed. From opened, close leads to closed if nothing was forked.")
     return picture(760, 484, "The phases of a scope", told, parts)
 
 
@@ -178,13 +178,14 @@ def run():
 # ---- the ladder
 
 LADDER = [  # floor, its crates, the theorem on the arrow to the next one, and the contracts that say it
-    ("text", "sts_text, sts_asm", "assembled if and only if the text spells the program; a listing reads back", "assemble, list"),
-    ("program", "sts_code", "accepted if and only if the definitions accept it; four budgets, exact over control paths", "verify"),
+    ("text", "sts_text, sts_asm", "answers the program that the text spells, or its fault; a listing reads back", "assemble, list"),
+    ("program", "sts_code", "answers accepted or refused, as the definitions do; four budgets, exact over control paths", "verify"),
     ("accepted", "sts_verify", "no list of events leads to a fault; steps, tasks, scopes and bindings stay within the budgets", "every_run"),
     ("plain machine", "sts_plain", "the machine that tests nothing has the live view and the steps of the plain machine", "Plain::apply, Machine::turn"),
-    ("machine", "sts_machine", "the workers' journals are lists of events, and lead to the reported end", "Book::journal, run"),
+    ("machine", "sts_machine", "the reported journal is a list of events, and leads to the reported end", "Book::journal, run"),
     ("workers", "sts_pool", None, None),
 ]
+MEMORY = "assemble, list, verify, Plain::apply and run may also answer that memory ran out. run has other errors too."
 
 
 def ladder():
@@ -197,8 +198,9 @@ def ladder():
             parts.append(arrow(f"M119 {y + 52} L119 {y + step - 3}", "line"))
             parts.append(text(140, y + 70, theorem, "", "start") + text(140, y + 86, contracts, "code", "start"))
     foot = 24 + step * (len(LADDER) - 1) + 50
-    told = " ".join(f"From {name}: {theorem} ({contracts})." for name, _, theorem, contracts in LADDER if theorem)
-    return picture(760, foot + 18, "From a text to the workers", told, parts)
+    parts.append(text(24, foot + 26, MEMORY, "small", "start"))
+    told = " ".join([*(f"From {name}: {theorem} ({contracts})." for name, _, theorem, contracts in LADDER if theorem), MEMORY])
+    return picture(760, foot + 42, "From a text to the workers", told, parts)
 
 
 def main():
