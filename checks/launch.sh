@@ -6,13 +6,14 @@ program=$root/crates/$crate/out/$crate
 unproved=$program.unproved
 
 # Returns whether a source or a definition is newer than this program. A proof changes no program, so proofs don't count.
-# The build writes PROGRAM.newer, a test of the files that the program is built of, and dates it a second after the program.
-# Without it, or if something else has built the program since, all files are tested.
+# The build writes PROGRAM.sources, a test of the files that the program is built of, and dates it a second after the
+# program. Without it, or if something else has built the program since, all files are tested.
 is_stale() {
   [ -x "$1" ] || return 0
-  if [ "$1.newer" -nt "$1" ]; then
-    . "$1.newer"
-    is_older "$1"
+  if [ "$1.sources" -nt "$1" ]; then
+    . "$1.sources"
+    # (the test has paths from the top, which the shell reads faster; most calls are made there)
+    if [ "$root" = . ]; then is_older; else (cd "$root" && is_older); fi
     return
   fi
   for it in "$root"/crates.txt "$root"/crates/*/src "$root"/crates/*/src/* "$root"/crates/*/src/*/* \
@@ -32,10 +33,8 @@ case ${1-} in
     exec "$unproved" "$@"
     ;;
   --version)
-    echo "$name $(cat "$root/VERSION")"
-    rt version 2> /dev/null || echo "rt, the kit's command, is not installed, or not on PATH"
-    echo "differences from JDK 25: docs/JDK.md"
-    exit 0
+    printf '%s ' "$name"
+    exec cat "$root/VERSION"
     ;;
   -h | --help | help)
     # A call for help starts no proof. `sts` writes help to standard error and `look` to standard output, as the programs do.

@@ -1,5 +1,6 @@
 """Which sources and definitions a program is built of, and a file by which the launcher finds a newer one quickly."""
 import os
+import shlex
 
 ROOT = os.path.dirname(os.path.dirname(os.path.realpath(__file__)))
 
@@ -33,14 +34,15 @@ def paths(names):
 
 
 def write(program, crate):
-    """Writes beside a program, as PROGRAM.newer, the test whether something that it is built of is newer.
+    """Writes beside a program, as PROGRAM.sources, the test whether something that it is built of is newer.
 
     The launcher reads it only if it is newer than the program, since another build leaves it as it was. A file that is
     added or removed changes the time of its folder, so the test finds it too."""
-    tests = " -o ".join(f'"$root/{it}" -nt "$1"' for it in paths(needed(crates(), crate, [])))
-    written = f"{program}.newer.{os.getpid()}"
+    tests = " -o ".join(f"{shlex.quote(it)} -nt $built" for it in paths(needed(crates(), crate, [])))
+    written = f"{program}.sources.{os.getpid()}"
     with open(written, "w") as file:
-        file.write(f"# Written by checks/sources.py.\nis_older() {{\n  [ {tests} ]\n}}\n")
+        file.write(f"# Written by checks/sources.py.\nbuilt={shlex.quote(os.path.relpath(program, ROOT))}\n")
+        file.write(f"is_older() {{\n  [ {tests} ]\n}}\n")
     after = os.path.getmtime(program) + 1
     os.utime(written, (after, after))
-    os.replace(written, f"{program}.newer")
+    os.replace(written, f"{program}.sources")

@@ -1,0 +1,136 @@
+#!/usr/bin/env python3
+"""Compares what two builds of `sts` print, byte by byte, with their statuses.  usage: same.py OLD NEW [options]
+
+Use it where a change leaves the standard output of `sts` as it was. OLD may be a build without proofs of an older commit,
+by that commit's `./sts --unproved`. Both programs get the same words and files:
+- each row of crates/tests_rows/data, by each command that checks/rows.py asks;
+- each example: `verify`, `list`, `plain`, `replay`, `run` by one worker with its outside text, and the joined input;
+- cases that checks/differ.py draws: the same;
+- words that are mistaken or ask for help: the status, and that nothing is on standard output.
+By one worker both builds take the same steps unless the scheduler was changed. So a run that differs is only counted apart.
+Standard error is free. The last line is `N passed, M failed`, of calls.
+"""
+import argparse
+import glob
+import os
+import subprocess
+import sys
+import tempfile
+
+import differ
+import rows
+
+ROOT = os.path.dirname(os.path.dirname(os.path.realpath(__file__)))
+WORDS = [["--help"], ["help"], ["help", "run"], ["verify", "--help"], ["run", "--help"], ["verify"], ["frobnicate"], ["--version"],
+         ["plain", "text"], ["run", "text"], ["run", "text", "--workers", "0"], ["run", "text", "--workers", "17"], ["verify", "none"],
+         ["plain", "text", "none"], ["run", "text", "--workers", "1", "--outside", "none"], ["run", "text", "--workers", "1", "--trace", "no/folder"],
+         ["verify", "-"], ["verify", "."], ["list", "text", "text"], [""]]
+
+
+class Two:
+    """Two programs in a folder, and how many calls gave the same and not."""
+
+    def __init__(self, old, new, folder):
+        self.programs, self.folder = (old, new), folder
+        self.passed = self.failed = self.runs = self.other_runs = 0
+
+    def said(self, program, words, given):
+        ended = subprocess.run([program, *words], input=given, stdout=subprocess.PIPE, stderr=subprocess.DEVNULL, cwd=self.folder, timeout=600)
+        return ended.returncode, ended.stdout
+
+    def asks(self, what, words, given=b""):
+        """Asks both programs, and counts whether they say the same."""
+        old, new = (self.said(it, words, given) for it in self.programs)
+        self.passed, self.failed = self.passed + (old == new), self.failed + (old != new)
+        if old != new:
+            print(f"{what}: {words}: {old}, then {new}", file=sys.stderr)
+
+    def runs_alike(self, words):
+        """Asks both for a run and its journal. What is printed is alike up to the budgets, or the same."""
+        answers = []
+        for program in self.programs:
+            answers.append((*self.said(program, [*words, "--trace", "journal"], b""), self.taken("journal")))
+        self.runs, self.other_runs = self.runs + 1, self.other_runs + (answers[0] != answers[1])
+        return answers
+
+    def taken(self, name):
+        path = os.path.join(self.folder, name)
+        if not os.path.exists(path):
+            return None
+        with open(path, "rb") as file:
+            content = file.read()
+        os.remove(path)
+        return content
+
+    def put(self, name, content):
+        with open(os.path.join(self.folder, name), "wb") as file:
+            file.write(content)
+
+    def case(self, what, text, events, due=None):
+        """Tries all commands over a text and its events."""
+        self.put("text", text)
+        self.put("trace", events)
+        for words in (["verify", "text"], ["list", "text"], ["plain", "text", "trace"], ["replay", "text", "trace"]):
+            self.asks(what, words)
+        self.asks(what, [], text + b"%\n" + events)
+        if due is None:
+            return
+        self.put("due", due)
+        old, new = self.runs_alike(["run", "text", "--workers", "1", "--outside", "due"])
+        if old != new and (old[0] in (0, 1)) != (new[0] in (0, 1)):
+            self.failed += 1
+            print(f"{what}: run: {old}, then {new}", file=sys.stderr)
+
+
+def of_rows(two):
+    for name in (it for it in open(f"{rows.DATA}/tables").read().split("\n") if it and not it.startswith("#")):
+        for number, text, asked, events, _ in rows.rows(f"{rows.DATA}/{name}"):
+            what = f"{name} line {number}"
+            if asked == "joined":
+                two.asks(what, [], text)
+            else:
+                two.case(what, text, events)
+
+
+def of_examples(two):
+    for path in sorted(glob.glob(f"{ROOT}/examples/*.sts") + glob.glob(f"{ROOT}/examples/refused/*.sts")):
+        files = [path.removesuffix("sts") + it for it in ("sts", "trace", "outside")]
+        text, events, due = (open(it, "rb").read() if os.path.exists(it) else b"" for it in files)
+        two.case(os.path.relpath(path, ROOT), text, events, due)
+
+
+def of_words(two):
+    two.put("text", b"func main 0\npush 7\nret\nend\n")
+    for words in WORDS:
+        two.asks("words", words)
+
+
+def of_cases(two, seed, numbers):
+    for number in numbers:
+        text, events, _, due = differ.drawn(seed, number)
+        two.case(f"case {number}", text.encode(), events.encode(), due.encode())
+
+
+def main():
+    reads = argparse.ArgumentParser(description="Compares what two builds of sts print.")
+    reads.add_argument("old")
+    reads.add_argument("new")
+    reads.add_argument("--cases", type=int, default=10_000, help="how many cases are drawn (10000)")
+    reads.add_argument("--first", type=int, default=0, help="the number of the first case (0)")
+    reads.add_argument("--seed", type=int, default=44, help="what the cases are drawn from (44)")
+    reads.add_argument("--only-cases", action="store_true", help="no rows, examples and words")
+    asked = reads.parse_args()
+    with tempfile.TemporaryDirectory() as folder:
+        two = Two(os.path.realpath(asked.old), os.path.realpath(asked.new), folder)
+        if not asked.only_cases:
+            for tried in (of_words, of_examples, of_rows):
+                tried(two)
+                print(f"{tried.__name__}: {two.passed} the same so far", flush=True)
+        of_cases(two, asked.seed, range(asked.first, asked.first + asked.cases))
+    print(f"{two.runs} runs by one worker, {two.other_runs} that differ in their journal or what they print")
+    print(f"{two.passed} passed, {two.failed} failed")
+    return 1 if two.failed or not two.passed else 0
+
+
+if __name__ == "__main__":
+    sys.exit(main())
