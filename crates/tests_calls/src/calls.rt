@@ -194,10 +194,7 @@ fn scope_again(tree: &Tree<u8>, s: u32) -> Option<u32> {
 
 fn is_open(rt: &impl Abort, tree: &Tree<u8>, s: u32, joiner: Joiner) -> bool {
     assert!(rt; tree.scope(s).is_some());
-    tree.env(s) == &7
-        && tree.timed(s)
-        && tree.joiner(s) == joiner
-        && tree.phase(s) == Phase::Opened
+    tree.env(s) == &7 && tree.timed(s) && tree.joiner(s) == joiner && tree.phase(s) == Phase::Opened
 }
 
 /// Makes a call, and returns whether its answer is the expected one. A question makes none.
