@@ -28,7 +28,7 @@ RULES = (
     ("`awaitall`", ["awaitall ok"]),
     ("`until failed n`, `until success n`, `until atleast v`", ["failed ok", "success ok", "atleast ok"]),
     ("an expiry cancels the scope", ["expiry"]),
-    ("an expiry that comes behind `join`, in `close`, or of a scope without a timeout changes nothing", ["expiry without effect"]),
+    ("an expiry that comes after `join`, in `close`, or of a scope without a timeout changes nothing", ["expiry without effect"]),
     ("`close` ends at once, or waits and ends later", ["close at once", "close that waits", "end of close"]),
     ("an interrupt doesn't end the wait of a `close`", ["interrupt while close waits"]),
     ("`close` after an interrupted `join`, and where nothing was forked", ["close after an interrupted join", "close with nothing forked"]),
