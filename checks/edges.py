@@ -31,6 +31,7 @@ BUDGETS = "main steps 2\nmain tasks 1\nmain scopes 0\nmain binds 0\n"
 FAILS = SEVEN.replace("ret", "fail").replace("7", "8")
 POPS = "func main 0\npop\nret\nend\n"  # It is refused, and its first step is a fault.
 TWICE = "step 0\nstep 0\n"
+ENDS = "1 after 2 events: success 7\n3 states, all schedules\n"
 # One subtask, which ends; then it is interrupted.
 OWNER = "func kid 0\npush 4\nret\nend\nfunc main 0\nopen s0 any\nfork s0 kid _\njoin s0 bad - intr\nclose s0\nret\n" \
     "bad:\nclose s0\nfail\nintr:\npush 0\nclose s0\nfail\nend\n"
@@ -167,11 +168,14 @@ def words_of_look(look):
     for more, printed in ([], last), (["--full"], full), (["--each"], each), (["--each", "--full"], both):
         for words in (["view", "text", "trace", *more], ["view", *more, "text", "trace"], ["view", "text", *more, "trace"]):
             yield f"{words}", look.says(*words), (5, printed, "")
-    for words in (["view", "text", "trace"], ["explain", "text", "trace"], ["draw", "text", "trace"]):
+    for words in (["view", "text", "trace"], ["explain", "text", "trace"], ["draw", "text", "trace"], ["ends", "text"], ["cases", "text"]):
         status, printed, told = look.says(*words, "x1", *["x"] * 290)
         yield f"300 words: {words}", (status, printed, "x1" in told), (2, "", True)
     yield from mistaken(look, [[], ["view", "text"], ["explain"], ["draw", "text"], ["view", "text", "trace", "--eech"], ["verify", "text"], [""]])
-    yield from helped(look, ["view", "explain", "draw"], is_printed=True)
+    ends = (["--most"], ["--most", "x"], ["--interrupts", "4294967296"], ["--trace", "1"], ["--trace", "x", "made"], ["trace"])
+    yield from mistaken(look, [["ends"], ["cases"], *(["ends", "text", *it] for it in ends)])
+    yield "no trace is made", look.names(), ["text", "trace"]
+    yield from helped(look, ["view", "explain", "draw", "ends", "cases"], is_printed=True)
 
 
 def mistaken(program, lines):
@@ -248,6 +252,11 @@ def names_of_look(look):
         yield f"explain with {name!r}", look.says("explain", "seven", name), (0, "success 7\n", "")
         status, printed, told = look.says("draw", "seven", name)
         yield f"draw with {name!r}", (status, ended in printed, told), (0, True, "")
+        look.has(text=POPS, trace="kept\n", **{name: SEVEN})
+        made = f"{name[:200]}.trace "
+        yield f"ends of {name!r}", look.says("ends", name, "--trace", "1", made), (0, ENDS, "")
+        there = sorted({"text", "trace", name, made})
+        yield f"its trace, {made!r}", (look.names(), look.read(made) if look.names() == there else None), (there, TWICE)
 
 
 # A text, a trace, and what `view` prints of them, with its status
@@ -286,6 +295,8 @@ def outputs_of_look(look):
         look.has(text=text)
         ended, printed, told = look.says("explain", "text")
         yield f"explain {text!r}", (ended, printed.startswith(first), told), (status, True, "")
+        if status == 3:
+            yield f"ends of {text!r}", look.says("ends", "text", "--trace", "1", "made"), (status, printed, "")
 
 
 def outputs_of_sts(sts):
@@ -430,7 +441,9 @@ def large_runs_of_sts(sts):
     sts.has(text=WIDE + ";" * (MOST - len(WIDE) - 1) + "\n")
     for more in ([], ["--trace", "journal"]):
         yield f"a large run: {more}", sts.says("run", "text", "--workers", "4", *more, seconds=LARGE), (0, OF_WIDE, "")
-    yield "its journal", sts.read("journal").count("step ") if "journal" in sts.names() else 0, 262191
+    steps = sts.read("journal").count("step ") if "journal" in sts.names() else 0
+    ended = sts.says("replay", "text", "journal", seconds=LARGE)
+    yield "its journal", (steps, ended), (262191, (0, "success 65535\nsteps 262191\n", ""))
 
 
 def dashed_names(sts, look):
@@ -454,7 +467,9 @@ def files_of_sts(sts):
 
 
 def files_of_look(look):
-    yield from files(look, "look", [["explain", "text"]], [[it, "text", "trace"] for it in ("view", "explain", "draw")])
+    yield from files(look, "look", [["explain", "text"], ["ends", "text"]], [[it, "text", "trace"] for it in ("view", "explain", "draw")])
+    look.has()
+    yield "no FILE, and a trace", (look.says("ends", "text", "--trace", "1", "made"), look.names()), (NO_FILE, [])
 
 
 OF_STS = [words_of_sts, names_of_sts, outputs_of_sts, dues_of_sts, outside_texts_of_sts, large_runs_of_sts, files_of_sts]

@@ -163,6 +163,14 @@ EXPLAINED = [
         3,
     ),
 ]
+# `look ends` of a text with one end, and `look cases` of one case
+SEVEN = "func main 0 / push 7 / ret / end"
+ENDS_OF_SEVEN = "1 after 2 events: success 7 / 3 states, all schedules"
+CASE = '{"text": "func main 0\\npush 7\\nret\\nend\\n", "trace": "step 0\\nstep 0\\n"}'
+ANSWER = (
+    '{"case":1,"run":{"outcome":"success","steps":2,"value":7},"verdict":{"accepted":true,"budgets":'
+    '[{"binds":0,"function":"main","scopes":0,"steps":2,"tasks":1}]},"version":1}'
+)
 UNCHANGED = b"refused, unchanged\n"
 FROM_HERE, TO_HERE = b"from here\n", b"to here\n"
 
@@ -193,7 +201,8 @@ def cases():
     for name, text, trace, answer, status in RUNS:
         for mode in ("plain", "replay"):
             yield Case(f"{mode}: {name}", [mode, "text", "trace"], lines(text), events(trace), lines(answer), status)
-        yield Case(f"joined: {name}", [], None, lines(text) + b"%\n" + events(trace), lines(answer), status)
+        if name != "many scopes":  # (its 6,000 requests are those of `plain`)
+            yield Case(f"joined: {name}", [], None, lines(text) + b"%\n" + events(trace), lines(answer), status)
         yield from runs(name, text, status)
         yield Case(f"verify: {name}", ["verify", "text"], lines(text), None, budgets(name), 0)
         yield Case(f"list: {name}", ["list", "text"], lines(text), None, listed(text), 0)
@@ -208,7 +217,7 @@ def cases():
 
 
 def looks(look):
-    """Each command of `look`, on a run with a scope whose time is up, and on texts with a verdict of each kind."""
+    """Each command of `look`, on a run with a scope whose time is up, on texts with a verdict of each kind, and on one case."""
     text, trace = lines(TIMED), events(SEEN)
     for words, answer in VIEWS:
         yield Case(" ".join(["view", *words]), ["view", "text", "trace", *words], text, trace, lines(answer), 5)
@@ -216,6 +225,9 @@ def looks(look):
         yield Case(f"explain: {name}", ["explain", "text"], lines(of_text), None, lines(answer), status)
     yield Case("explain: a run", ["explain", "text", "trace"], text, trace, lines(TOLD), 5)
     yield Case("draw", ["draw", "text", "trace"], text, trace, picture(look, text, trace), 5)
+    for more in ([], ["--trace", "1", "journal"]):
+        yield Case(" ".join(["ends", *more]), ["ends", "text", *more], lines(SEVEN), None, lines(ENDS_OF_SEVEN), 0)
+    yield Case("cases", ["cases", "text"], f"{CASE}\n".encode(), None, f"{ANSWER}\n".encode(), 0)
     with open(os.path.join(HERE, "help", "look.txt"), "rb") as stored:
         yield Case("look: help", ["--help"], None, None, stored.read(), 0)
     for name, words, status in (("an unknown command", ["veiw", "text"], 2), ("a missing file", ["draw", "text"], 2)):

@@ -9,8 +9,7 @@ and files from other editors are judged as shown. The lines for a shell that PAT
 what the text says.
 
 It also runs other programs, each with a journal and without: programs of one task with outside events, whose ends and
-journals follow from when an event is due; four long tasks, where an event is late by one slice at most; a long loop; and a
-scope of 65,535 subtasks in a text of 1,048,576 bytes.
+journals follow from when an event is due; four long tasks, where an event is late by one slice at most; and a long loop.
 The last line is `N passed, M failed`, of runs.
 """
 import os
@@ -85,10 +84,6 @@ FOUR = b"func work 0\npush 20\ntimes 20\npush 10000\ntimes 10000\nnext\nnext\npu
 SLICE = 65_536
 # 2 + 90 * (2 + 10,000 + 1) + 2 steps
 LONGEST = LONG.replace(b" 8\n", b" 90\n")
-# 1 + 15 * (2 + 4,369 * 2 + 1) + 2 steps of the subtasks' owner up to the join, 65,535 * 2 of the subtasks, and 3
-CROWD = b"func kid 0\npush 0\nret\nend\nfunc main 0\nopen s0 all\npush 15\ntimes 15\npush 4369\ntimes 4369\nfork s0 kid _\nnext\nnext\n" \
-    b"join s0 bad - intr\nclose s0\nret\nbad:\nclose s0\nfail\nintr:\npush 0\nclose s0\nfail\nend\n"
-MOST = 1_048_576  # The bytes that a text may have.
 
 
 def says(program, *words):
@@ -245,22 +240,18 @@ def outsides(program, folder):
         yield f"an event at {at} by {workers}", said == ["success 1\nsteps 800265\n"] * 2 and at <= before <= at + SLICE
 
 
-def largest(program, folder):
-    """Yields whether long runs and a crowd reach their ends in a minute or two, with a journal and without."""
-    journal, printed = os.path.join(folder, "journal"), "success 65535\nsteps 262191\n"
-    longest, crowd = kept(folder, "longest", LONGEST), kept(folder, "crowd", CROWD + b";" * (MOST - len(CROWD) - 1) + b"\n")
+def longest(program, folder):
+    """Yields whether a long run reaches its end in a minute or two, with a journal and without."""
+    journal, file = os.path.join(folder, "journal"), kept(folder, "longest", LONGEST)
     for more in ([], ["--trace", journal]):
-        said = says(program, "run", longest, "--workers", "2", *more)
+        said = says(program, "run", file, "--workers", "2", *more)
         yield f"the longest loop {more}", said.endswith("binds 0\nsuccess 0\nsteps 900274\n")
-        said = says(program, "run", crowd, "--workers", "4", *more)
-        yield f"the crowd {more}", said.endswith(f"main tasks 65536\nmain scopes 1\nmain binds 0\n{printed}")
-    yield "the journal of the crowd", says(program, "replay", crowd, journal) == printed
 
 
 def tried(program, folder):
     """Yields for each run what it is and whether it prints what it should."""
     yield from outsides(program, folder)
-    yield from largest(program, folder)
+    yield from longest(program, folder)
     yield from first_text(program, folder)
     yield from patterns(program, folder)
     yield from files(program, folder)

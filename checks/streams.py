@@ -79,7 +79,7 @@ def without_end(line):
 def looks(text, trace):
     """The commands of `look` on a text and a trace."""
     files = [text, trace]
-    return [["view", *files], ["view", *files, "--each", "--full"], ["explain", text], ["explain", *files], ["draw", *files]]
+    return [["view", *files], ["view", *files, "--each", "--full"], ["explain", text], ["explain", *files], ["draw", *files], ["ends", text]]
 
 
 def unended(program, look):
@@ -91,7 +91,7 @@ def unended(program, look):
                 yield f"{line!r} as {words}", answer(program, words, given), TOO_LONG
         for words in looks(file, TRACE):
             with without_end(line) as given:
-                yield f"{line!r} as {words}", answer(look, words, given), EXPLAINED_TOO_LONG if "explain" in words else TOO_LONG
+                yield f"{line!r} as {words}", answer(look, words, given), EXPLAINED_TOO_LONG if words[0] in ("explain", "ends") else TOO_LONG
     for file, line in (("/dev/zero", "step 0"), ("/dev/stdin", "step 0")):
         for words in (it for it in looks(SUM, file) if file in it):
             with without_end(line) as given:
@@ -160,8 +160,9 @@ def journals(program, folder):
         yield f"its journal: {words}", os.path.exists(journal), False
 
 
-def overwriting(program, folder):
-    """Yields the same for journals that are the text or the outside text by some name, and whether all files are as before."""
+def overwriting(program, look, folder):
+    """Yields the same for journals that are the text or the outside text by some name, and whether all files are as before.
+    A trace that `look ends` writes may not be the text either."""
     room = os.path.join(folder, "room")
     os.mkdir(room)
     text, due = os.path.join(room, "text"), os.path.join(room, "due")
@@ -178,17 +179,23 @@ def overwriting(program, folder):
         for path in (name, f"{name}.symbolic", f"{name}.hard", *others):
             yield f"a journal at {path!r}", answer(program, ["run", text, *options, path]), NO_FILE
             yield f"all files after a journal at {path!r}", contents(room), before
+            yield f"a trace at {path!r}", answer(look, ["ends", name, "--trace", "1", path]), NO_FILE
+            yield f"all files after a trace at {path!r}", contents(room), before
     yield "a journal that is all", answer(program, ["run", text, "--workers", "2", "--outside", text, "--trace", text]), NO_FILE
     yield "all files after that", contents(room), before
     with open(text) as given:
         words = ["run", "/dev/stdin", *options, text]
         yield "a journal that is standard input", answer(program, words, given), NO_FILE
+        yield "a trace that is standard input", answer(look, ["ends", "-", "--trace", "1", text], given), NO_FILE
     yield "all files after standard input", contents(room), before
     # A device has no bytes to lose, and another file may be replaced.
     words = ["run", SUM, "--workers", "2", "--outside", "/dev/null", "--trace"]
     for path in ("/dev/null", f"{text}.hard"):
         answer(program, [*words, path])
     yield "a journal at another file", answer(program, ["replay", SUM, text]), END
+    with open(SUM) as given:
+        answer(look, ["ends", "-", "--trace", "1", due], given)
+    yield "a trace at another file", answer(program, ["replay", SUM, due]), END
     yield "a journal at a device", answer(program, [*words, "/dev/null"])[1], 0
 
 
@@ -278,7 +285,7 @@ PARTS = {
     "unended": lambda program, look, folder: unended(program, look),
     "unwritten": unwritten,
     "journals": lambda program, look, folder: journals(program, folder),
-    "overwriting": lambda program, look, folder: overwriting(program, folder),
+    "overwriting": overwriting,
     "reasons": reasons,
 }
 
