@@ -34,6 +34,7 @@ It also reports:
 - a crate that uses proofs of another one from a file that isn't called `*Lemmas`;
 - floors of ARCHITECTURE.md that don't fit crates.txt;
 - a file of `vectors` that isn't what the tables of rows make it (checks/vectors.py);
+- a decision of a crate's README.md that DECISIONS.md doesn't list;
 - a README.md of a crate that doesn't name its edits, the crates that it uses, or those that use it.
 """
 import functools
@@ -489,8 +490,30 @@ def proofs_of_others():
                 fail(f"{path} uses {name} of {crate}, which isn't called `*Lemmas`")
 
 
+def crate_decisions():
+    """Fails if the last section of docs/DECISIONS.md doesn't list each decision that a crate's README.md gives the reason of."""
+    path = "docs/DECISIONS.md"
+    front, head, _ = read(path).partition("## Inside a crate\n")
+    expected = [head, "The crate's README.md has the reason and the date."]
+    for name in sorted(os.listdir(f"{ROOT}/crates")):
+        page = f"crates/{name}/README.md"
+        section = re.search(r"^## Decisions\n(.*?)(?=^## |\Z)", read(page) if os.path.exists(f"{ROOT}/{page}") else "", re.M | re.S)
+        if section:
+            said = [" ".join(it.split()).rstrip(".") for it in re.findall(r"^- \*\*(.+?)\*\*", section[1], re.M | re.S)]
+            points = [" ".join(it.split()) for it in re.findall(r"^\| (?!Point )([^|]+?) \|", section[1], re.M)]
+            expected.append(f"\n[`{name}`](../{page}#decisions):\n")
+            expected += [f"- {it[0].upper() + it[1:] if it[0].isalpha() else it}." for it in said]
+            expected += [f"- How it reads: {it}." for it in points]
+    expected = front + "\n".join(expected) + "\n"
+    if sys.argv[1:] == ["write"]:
+        open(f"{ROOT}/{path}", "w").write(expected)
+    elif read(path) != expected:
+        fail(f"{path} doesn't list what the crates' README.md decide: checks/documents.py write")
+
+
 def main():
     named_files()
+    crate_decisions()
     java_programs()
     jdk_figures()
     jdk_instructions()
