@@ -11,7 +11,8 @@ scopes that are misused. Each is asked with expiries and without, and with an in
   in mode `replay`, or in mode `plain` if the text is refused.
 - `--sample` finds no other end, and `--most` stops with status 5.
 - docs/LOOK.md shows what `ends` prints, and docs/PATTERNS.md the ends of each of its programs: those of its row in the table
-  of races, or those that a run by workers may come to.
+  of races, or those that a run by workers may come to. docs/BEHAVIOUR.md shows those of programs whose end depends on the
+  order of events.
 - The sets of ends.rows, worked out by hand, are those that `look ends` prints, as two compilers build it.
 A program with more than MOST_STATES states is left out. The last line is `N passed, M failed`, of comparisons.
 """
@@ -200,7 +201,13 @@ def texts(asked):
 
 
 def shown(asked):
-    """Yields what docs/LOOK.md and docs/PATTERNS.md show of the ends of programs, and whether it is so."""
+    """Yields what docs/LOOK.md, docs/PATTERNS.md and docs/BEHAVIOUR.md show of the ends of programs, and whether it is so."""
+    rows = re.findall(r"^\| [^|]+ \| `look (ends [^`]+)` \| ((?:`[^`]+`(?:, )?)+) \|$", documents.read("docs/BEHAVIOUR.md"), re.M)
+    yield "docs/BEHAVIOUR.md, how many rows", len(rows) > 3
+    for words, ends in rows:
+        command, path, *more = words.split()
+        found = [it[3] for it in map(LINE.fullmatch, says(asked.look, command, f"{ROOT}/{path}", *more)[1]) if it]
+        yield f"docs/BEHAVIOUR.md, {words}", sorted(found) == sorted(re.findall(r"`([^`]+)`", ends))
     page = documents.read("docs/LOOK.md")
     for path, block in re.findall(r"For \[\w+\]\(\.\./(examples/\S+)\) `ends` prints:\n\n((?:    .*\n)+)", page):
         printed = says(asked.look, "ends", f"{ROOT}/{path}")[1]

@@ -12,17 +12,26 @@ A journal that can't be made or written is `error file`, status 6. If a run neve
 empty, except if a file that is read first can't be read. A journal that is a file that the run reads, also by another path
 or a link, is refused in the same way, and all files stay as they were. If standard error can't be written, the output and
 the status of a failure are the same. Standard input is `-` for `look`. For `sts` at a terminal it says that it waits.
+
+A search by `look ends` that takes longer than a second says on a terminal how many states it has. At Ctrl-C it ends within a
+second, by that signal. It has then printed nothing, and the file of its trace is empty.
 The last line is `N passed, M failed`, of runs.
 """
 import contextlib
+import fcntl
 import itertools
 import os
 import pty
+import re
 import resource
+import select
 import shutil
+import signal
 import subprocess
 import sys
 import tempfile
+import termios
+import time
 
 ROOT = os.path.dirname(os.path.dirname(os.path.realpath(__file__)))
 PROGRAM, LOOK = (os.path.join(ROOT, "crates", name, "out", name) for name in ("sts", "look"))
@@ -36,6 +45,10 @@ FAILED = ("", 6)
 END = ("success 50\nsteps 24\n", 0)
 REFUSED = ("func main 0\nx:\njmp x\nend\n", ("refused V4 in main at 0: jmp L0\n", 4))
 FAULTY = ("func main 0\npuhs 7\nret\nend\n", ("error A2 line 2\n", 3))
+# a text with more states than any search finds in a few seconds: ten subtasks of three steps
+MANY_STATES = "func kid 0\npush 1\ninterrupted\nadd\nret\nend\nfunc main 0\nopen s0 all\n" + "fork s0 kid _\n" * 10 + (
+    "join s0 bad - intr\nclose s0\nret\nbad:\nclose s0\nfail\nintr:\npush 0\nclose s0\nfail\nend\n"
+)
 
 
 def limited(closed=()):
@@ -271,6 +284,64 @@ def at_terminal(program, words):
         os.close(its)
 
 
+def at_own_terminal(its):
+    """Prepares a new process before it becomes the program: this terminal is its own, and sends it the signal of Ctrl-C."""
+
+    def prepare():
+        os.setsid()
+        fcntl.ioctl(its, termios.TIOCSCTTY, 0)
+
+    return prepare
+
+
+def heard(ours, seconds):
+    """Returns what comes to a terminal, up to the first `states`."""
+    said, end = b"", time.monotonic() + seconds
+    while b"states" not in said and time.monotonic() < end:
+        if select.select([ours], [], [], end - time.monotonic())[0]:
+            try:
+                said += os.read(ours, 1024)
+            except OSError:  # (the program has ended)
+                break
+    return said.decode(errors="replace")
+
+
+def stopped(look, words):
+    """Starts a search at a terminal and stops it by Ctrl-C once it has said something. Returns what it said, how it ended and
+    what it printed, and whether it ended within a second."""
+    ours, its = pty.openpty()
+    begun = subprocess.Popen([look, *words], stdin=subprocess.DEVNULL, stdout=subprocess.PIPE, stderr=its, preexec_fn=at_own_terminal(its))
+    os.close(its)
+    try:
+        said, pressed = heard(ours, SECONDS), time.monotonic()
+        os.write(ours, b"\x03")
+        printed, _ = begun.communicate(timeout=SECONDS)
+        return bool(re.fullmatch(r"\r\d+ states", said)), (begun.returncode, printed), time.monotonic() - pressed < 1
+    except subprocess.TimeoutExpired:
+        return said, "no end", False
+    finally:
+        os.close(ours)
+        begun.kill()
+        begun.communicate()
+
+
+def searching(look, folder):
+    """Yields the same for a search that takes long, and for a short one."""
+    text, trace = os.path.join(folder, "text"), os.path.join(folder, "trace")
+    with open(text, "w") as file:
+        file.write(MANY_STATES)
+    for words in (["ends", text], ["ends", text, "--trace", "1", trace]):
+        yield f"Ctrl-C: {words}", stopped(look, words), (True, (-signal.SIGINT, b""), True)
+    yield "the trace after Ctrl-C", contents(folder).get("trace"), b""
+    ours, its = pty.openpty()
+    try:
+        yield "a short search at a terminal", answer(look, ["ends", SUM], stderr=its), answer(look, ["ends", SUM])
+        yield "what it says", select.select([ours], [], [], 0)[0], []
+    finally:
+        os.close(ours)
+        os.close(its)
+
+
 def contents(folder):
     """Returns the bytes of each file of a folder."""
     found = {}
@@ -287,6 +358,7 @@ PARTS = {
     "journals": lambda program, look, folder: journals(program, folder),
     "overwriting": overwriting,
     "reasons": reasons,
+    "searching": lambda program, look, folder: searching(look, folder),
 }
 
 
