@@ -5,23 +5,25 @@ ghost use Rattle.std.specs.Io.KnownBytes.{Appends};
 ghost use Rattle.sts_trace.specs.Spelling.{trace_text};
 ghost use Rattle.sts_output.specs.Joined.{Halves, halves_of};
 ghost use Rattle.sts_output.specs.Output as def;
+ghost use Rattle.sts_output.specs.Stops.{Prints};
 ghost use Rattle.sts_cli.specs.Running.{IsOutcomeOf, Outcome, RunWrites};
 
 use crate::modes::run::Manner;
 use crate::modes::{replay, run};
-use std::alloc::{AllocError, Global};
+use std::alloc::Global;
 use std::io;
 use std::io::Write;
 use std::sync::Wait;
 use std::thread::Threads;
 use sts_model::Event;
 use sts_output::{
-    Mode, Output, TakeError, WriteFailed, failed, list, plain, split, verify, written,
+    Mode, ModeError, Output, TakeError, WriteFailed, failed, list, plain, split, verify,
+    write_shown, written,
 };
 use sts_trace::write_trace;
 
-fn output(alloc: Global, mode: Mode, text: &[u8], trace: &[u8]) -> Result<Output, AllocError>
-    ensures { IfOk result (λ o. def.Shows mode text.now trace.now o) }
+fn output(alloc: Global, mode: Mode, text: &[u8], trace: &[u8]) -> Result<Output, ModeError>
+    ensures { Prints result (def.Shows mode text.now trace.now) }
 {
     match mode {
         Mode::Plain => plain::after_trace(alloc, text, trace),
@@ -48,10 +50,7 @@ pub fn play<W: Write>(
     ensures { IfOk result (λ s. (o : def.Output) × def.IsOutputOf mode text.now trace.now o
         × def.Writes (W.contents out.old) (W.contents out.new) s o) }
 {
-    match output(alloc, mode, text, trace) {
-        Ok(output) => written(out, output.text.as_bytes(), output.status),
-        Err(_) => failed(TakeError::Memory, out),
-    }
+    write_shown(output(alloc, mode, text, trace), out)
 }
 
 /// Does what `play` does in mode `Plain`. The text goes up to the first line that is exactly `%`,

@@ -98,7 +98,7 @@ fn on_input<S: Sources, W: Write>(
 
 /// The request of `run`.
 #[derive(Clone, Copy)]
-struct Wanted<'a> {
+struct RunRequest<'a> {
     file: &'a str,
     workers: u32,
     outside: Option<&'a str>,
@@ -106,7 +106,7 @@ struct Wanted<'a> {
 }
 
 /// Returns the outside text of a run, if it has one.
-fn outside_of<'a>(wanted: Wanted<'a>, texts: &'a Texts) -> Events<'a> {
+fn outside_of<'a>(wanted: RunRequest<'a>, texts: &'a Texts) -> Events<'a> {
     match wanted.outside {
         Some(name) => Events::Outside(Named::new(name, texts.events.as_slice())),
         None => Events::None,
@@ -119,7 +119,7 @@ fn on_texts<R: Threads + Wait + Sync, S: Sinks, W: Write>(
     alloc: Global,
     sinks: &S,
     texts: &Texts,
-    wanted: Wanted<'_>,
+    wanted: RunRequest<'_>,
     out: &mut W,
     notes: &mut Notes,
 ) -> Result<u8, WriteFailed>
@@ -160,7 +160,7 @@ fn on_run<R: Threads + Wait + Sync, S: Sources + Sinks, W: Write>(
     rt: &R,
     alloc: Global,
     sources: &S,
-    wanted: Wanted<'_>,
+    wanted: RunRequest<'_>,
     out: &mut W,
     notes: &mut Notes,
 ) -> Result<u8, WriteFailed>
@@ -213,7 +213,7 @@ fn on_line<R: Threads + Wait + Sync, S: Sources + Sinks, W: Write>(
             outside,
             trace,
         } => {
-            let wanted = Wanted {
+            let wanted = RunRequest {
                 file,
                 workers,
                 outside,

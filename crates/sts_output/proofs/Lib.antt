@@ -1,3 +1,4 @@
-pub mod Runs
+pub mod RunLemmas
 pub mod Splits
+pub mod StopLemmas
 pub mod Takes

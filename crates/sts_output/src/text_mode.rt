@@ -2,13 +2,14 @@
 
 ghost use Rattle.std.specs.Prelude.{IfOk};
 ghost use Rattle.sts_output.specs.Output as def;
+ghost use Rattle.sts_output.specs.Stops.{Prints};
 ghost use Rattle.sts_output.specs.TextMode.{mode_of};
 
+use crate::mode_error::{ModeError, write_shown};
 use crate::modes::{list, plain, verify};
 use crate::output::Output;
-use crate::taking::TakeError;
-use crate::writing::{WriteFailed, failed, written};
-use std::alloc::{AllocError, Global};
+use crate::writing::WriteFailed;
+use std::alloc::Global;
 use std::io::Write;
 
 /// The modes for a text. `Plain` also reads the trace.
@@ -19,8 +20,8 @@ pub enum TextMode {
     Plain,
 }
 
-fn output(alloc: Global, mode: TextMode, text: &[u8], trace: &[u8]) -> Result<Output, AllocError>
-    ensures { IfOk result (λ o. def.Shows (mode_of mode) text.now trace.now o) }
+fn output(alloc: Global, mode: TextMode, text: &[u8], trace: &[u8]) -> Result<Output, ModeError>
+    ensures { Prints result (def.Shows (mode_of mode) text.now trace.now) }
 {
     match mode {
         TextMode::Plain => plain::after_trace(alloc, text, trace),
@@ -45,8 +46,5 @@ pub fn play_text<W: Write>(
         × def.IsOutputOf (mode_of mode) text.now trace.now o
         × def.Writes (W.contents out.old) (W.contents out.new) s o) }
 {
-    match output(alloc, mode, text, trace) {
-        Ok(output) => written(out, output.text.as_bytes(), output.status),
-        Err(_) => failed(TakeError::Memory, out),
-    }
+    write_shown(output(alloc, mode, text, trace), out)
 }

@@ -4,17 +4,14 @@
 ghost use Rattle.std.specs.Prelude.{◌≡◌, IfOk};
 ghost use Rattle.sts_asm.specs.Text.{judged};
 ghost use Rattle.sts_plain.specs.Seen.{ended_or_running};
-ghost use Rattle.sts_trace.specs.Reading.{trace_read};
 ghost use Rattle.sts_output.specs.Output as def;
+ghost use Rattle.sts_output.specs.Stops.{Prints};
 
 use std::alloc::{AllocError, Global};
-use sts_asm::assemble;
-use sts_code::Program;
 use sts_machine::replay;
 use sts_model::{End, Event};
-use sts_output::{Output, accepted, output};
+use sts_output::{ModeError, Output, events_of, output, program_of, verified_of};
 use sts_plain::PlainState;
-use sts_trace::read_trace;
 use sts_verify::Verified;
 
 /// The state of a machine that doesn't fault.
@@ -36,35 +33,17 @@ fn run(alloc: Global, verified: &Verified, events: &[Event]) -> Result<Output, A
     output::state_output(alloc, verified.program(), state, machine.steps())
 }
 
-/// Verifies the program, and runs the events.
-fn verdict(alloc: Global, program: Program, events: &[Event]) -> Result<Output, AllocError>
-    ensures { IfOk result (λ o. def.IsReplay program events.now o) }
-{
-    match accepted(alloc, program)? {
-        Ok(verified) => run(alloc, &verified, events),
-        Err(refusal) => Ok(refusal),
-    }
-}
-
-fn traced(alloc: Global, program: Program, trace: &[u8]) -> Result<Output, AllocError>
-    ensures { IfOk result (λ o. def.TracedShows program (trace_read trace.now) o) }
-{
-    match read_trace(alloc, trace) {
-        Ok(events) => verdict(alloc, program, events.as_slice()),
-        Err(error) => output::trace_fault(alloc, error),
-    }
-}
-
 /// Assembles the text, reads the trace, verifies the program and runs the events.
 ///
 /// # Errors
 ///
-/// Memory ran out.
-pub fn replayed(alloc: Global, text: &[u8], trace: &[u8]) -> Result<Output, AllocError>
-    ensures { IfOk result (λ o. def.ReplayShows (judged text.now) trace.now o) }
+/// The text or the trace has a fault, the program is refused, or memory ran out.
+pub fn replayed(alloc: Global, text: &[u8], trace: &[u8]) -> Result<Output, ModeError>
+    ensures { Prints result (def.ReplayShows (judged text.now) trace.now) }
 {
-    match assemble(alloc, text) {
-        Ok(program) => traced(alloc, program, trace),
-        Err(error) => output::text_fault(alloc, error),
-    }
+    let program = program_of(alloc, text)?;
+    let events = events_of(alloc, trace)?;
+    let verified = verified_of(alloc, program)?;
+    let output = run(alloc, &verified, events.as_slice())?;
+    Ok(output)
 }

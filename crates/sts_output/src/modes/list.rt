@@ -1,27 +1,25 @@
 //! Mode `list`: the program as the assembler understands it.
 
-ghost use Rattle.std.specs.Prelude.{◌≡◌, IfOk};
+ghost use Rattle.std.specs.Prelude.{◌≡◌};
 ghost use Rattle.sts_asm.specs.Text.{judged};
 ghost use Rattle.sts_output.specs.Output as def;
+ghost use Rattle.sts_output.specs.Stops.{Prints};
 
-use crate::output;
+use crate::mode_error::{ModeError, program_of};
 use crate::output::Output;
-use std::alloc::{AllocError, Global};
-use sts_asm::assemble;
+use std::alloc::Global;
 
 /// Assembles the text and lists the program.
 ///
 /// # Errors
 ///
-/// Memory ran out.
-pub fn listed(alloc: Global, text: &[u8]) -> Result<Output, AllocError>
-    ensures { IfOk result (λ o. o ≡ def.list_output (judged text.now)) }
+/// The text has a fault, or memory ran out.
+pub fn listed(alloc: Global, text: &[u8]) -> Result<Output, ModeError>
+    ensures { Prints result (λ o. o ≡ def.list_output (judged text.now)) }
 {
-    match assemble(alloc, text) {
-        Ok(program) => Ok(Output {
-            text: sts_list::list(alloc, &program)?,
-            status: 0,
-        }),
-        Err(error) => output::text_fault(alloc, error),
-    }
+    let program = program_of(alloc, text)?;
+    Ok(Output {
+        text: sts_list::list(alloc, &program)?,
+        status: 0,
+    })
 }

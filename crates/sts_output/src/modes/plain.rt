@@ -3,17 +3,16 @@
 
 ghost use Rattle.std.specs.Prelude.{◌≡◌, IfOk};
 ghost use Rattle.sts_asm.specs.Text.{judged};
-ghost use Rattle.sts_trace.specs.Reading.{trace_read};
 ghost use Rattle.sts_output.specs.Output as def;
+ghost use Rattle.sts_output.specs.Stops.{Prints};
 
+use crate::mode_error::{ModeError, events_of, program_of};
 use crate::output;
 use crate::output::Output;
 use std::alloc::{AllocError, Global};
-use sts_asm::assemble;
 use sts_code::Program;
 use sts_model::Event;
 use sts_plain::Plain;
-use sts_trace::read_trace;
 
 /// Runs the events on the plain machine.
 fn run(alloc: Global, program: &Program, events: &[Event]) -> Result<Output, AllocError>
@@ -24,25 +23,16 @@ fn run(alloc: Global, program: &Program, events: &[Event]) -> Result<Output, All
     output::state_output(alloc, program, plain.state(), plain.steps())
 }
 
-fn traced(alloc: Global, program: &Program, trace: &[u8]) -> Result<Output, AllocError>
-    ensures { IfOk result (λ o. o ≡ def.traced_output program.now (trace_read trace.now)) }
-{
-    match read_trace(alloc, trace) {
-        Ok(events) => run(alloc, program, events.as_slice()),
-        Err(error) => output::trace_fault(alloc, error),
-    }
-}
-
 /// Assembles the text and runs the trace on the plain machine.
 ///
 /// # Errors
 ///
-/// Memory ran out.
-pub fn after_trace(alloc: Global, text: &[u8], trace: &[u8]) -> Result<Output, AllocError>
-    ensures { IfOk result (λ o. o ≡ def.plain_output (judged text.now) trace.now) }
+/// The text or the trace has a fault, or memory ran out.
+pub fn after_trace(alloc: Global, text: &[u8], trace: &[u8]) -> Result<Output, ModeError>
+    ensures { Prints result (λ o. o ≡ def.plain_output (judged text.now) trace.now) }
 {
-    match assemble(alloc, text) {
-        Ok(program) => traced(alloc, &program, trace),
-        Err(error) => output::text_fault(alloc, error),
-    }
+    let program = program_of(alloc, text)?;
+    let events = events_of(alloc, trace)?;
+    let output = run(alloc, &program, events.as_slice())?;
+    Ok(output)
 }

@@ -4,18 +4,22 @@ ghost use Rattle.std.specs.Prelude.{◌≡◌, IfOk};
 ghost use Rattle.std.specs.String.{string_bytes};
 ghost use Rattle.sts_asm.specs.Text.{judged};
 ghost use Rattle.sts_output.specs.Output as def;
+ghost use Rattle.sts_output.specs.Stops.{Prints};
 
+use crate::mode_error::{ModeError, program_of};
 use crate::output::Output;
-use crate::refusal::accepted;
-use crate::{output, printed};
+use crate::printed;
+use crate::refusal::verified_of;
 use std::alloc::{AllocError, Global};
-use sts_asm::assemble;
-use sts_code::Program;
 use sts_rules::Budgets;
 use sts_verify::Verified;
 
-/// The budgets of the functions, in order.
-fn all_budgets(alloc: Global, verified: &Verified) -> Result<Vec<Budgets>, AllocError>
+/// Returns the budgets of the functions, in order.
+///
+/// # Errors
+///
+/// Memory ran out.
+pub fn all_budgets(alloc: Global, verified: &Verified) -> Result<Vec<Budgets>, AllocError>
     ensures { IfOk result (λ budgets. def.AreTold verified.now budgets.items) }
 {
     let mut budgets = Vec::new(alloc);
@@ -50,26 +54,16 @@ fn told(alloc: Global, verified: &Verified) -> Result<Output, AllocError>
     Ok(Output { text, status: 0 })
 }
 
-/// Verifies a program.
-fn verdict(alloc: Global, program: Program) -> Result<Output, AllocError>
-    ensures { IfOk result (λ o. def.IsVerdict program o) }
-{
-    match accepted(alloc, program)? {
-        Ok(verified) => told(alloc, &verified),
-        Err(refusal) => Ok(refusal),
-    }
-}
-
 /// Assembles the text and verifies the program.
 ///
 /// # Errors
 ///
-/// Memory ran out.
-pub fn verified(alloc: Global, text: &[u8]) -> Result<Output, AllocError>
-    ensures { IfOk result (λ o. def.VerifyShows (judged text.now) o) }
+/// The text has a fault, the program is refused, or memory ran out.
+pub fn verified(alloc: Global, text: &[u8]) -> Result<Output, ModeError>
+    ensures { Prints result (def.VerifyShows (judged text.now)) }
 {
-    match assemble(alloc, text) {
-        Ok(program) => verdict(alloc, program),
-        Err(error) => output::text_fault(alloc, error),
-    }
+    let program = program_of(alloc, text)?;
+    let verified = verified_of(alloc, program)?;
+    let output = told(alloc, &verified)?;
+    Ok(output)
 }

@@ -4,7 +4,7 @@ use Rattle.sts_model.specs.World.{opening}
 use Rattle.sts_model.specs.Run.{after, taken}
 use Rattle.sts_plain.specs.Seen.{Seen, after_event, shown}
 use Rattle.sts_output.specs.Output as def
-use Rattle.sts_output.proofs.Runs.{seen_after, taken_few}
+use Rattle.sts_output.proofs.RunLemmas.{seen_after, taken_few}
 use Rattle.sts_output.proofs.modes.plain.run.Goals as goal
 
 pub returns : goal.returns
