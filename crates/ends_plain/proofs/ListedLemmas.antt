@@ -7,7 +7,7 @@ use Rattle.std.proofs.lemmas.List.Elements.{Contains-append_left, Contains-appen
 use Rattle.sts_model.specs.Run.{after}
 use Rattle.sts_plain.specs.declared.misstep.PlainState.{PlainState}
 use Rattle.sts_plain.specs.Seen.{shown}
-use Rattle.ends_search.specs.Search.{IsWay, Begins, Covers}
+use Rattle.ends_search.specs.Search.{IsWay, Covers}
 use Rattle.ends_plain.specs.declared.config.Config.{Config}
 use Rattle.ends_plain.specs.declared.config.Found.{Found}
 use Rattle.ends_plain.specs.declared.config.Setting.{Setting}
@@ -21,10 +21,10 @@ sole : {X : Type 0} (x e : X) (k : ℕ) → k < 1 → slice_index_or (x ∷ []) 
 sole x e zero less i = sym i
 sole x e (suc k) less i = absurd (omega arith)
 
-pub shown_more : (g : Setting) (states : List Config) (found : List Found) (f : Found) → AreShown g states found → IsShownBy g states f → AreShown g states (found ++ f ∷ [])
-shown_more g states found f all here e c = by (Contains-append_cases found (f ∷ []) e c)
+pub shown_more : (g : Setting) (first : Config) (found : List Found) (f : Found) → AreShown g first found → IsShownBy g first f → AreShown g first (found ++ f ∷ [])
+shown_more g first found f all here e c = by (Contains-append_cases found (f ∷ []) e c)
   where
-    by : Contains found e ⊎ Contains (f ∷ []) e → IsShownBy g states e
+    by : Contains found e ⊎ Contains (f ∷ []) e → IsShownBy g first e
     by (inl h) = all e h
     by (inr h) = rw (sole f e h.0 h.1 h.2) here
 
@@ -32,11 +32,10 @@ shown_more g states found f all here e c = by (Contains-append_cases found (f �
 at_same : (states : List Config) (k : ℕ) (x d : Config) → k < length states → x ≡ slice_index_or states k x → slice_index_or states k d ≡ x
 at_same states k x d less is = get_or_default states k d x less ∙ sym is
 
-pub shown_here : (g : Setting) (states : List Config) (k : ℕ) (x : Config) (f : Found) → k < length states → x ≡ slice_index_or states k x
-    → ((d : Config) → IsWay (next g) (can g) (slice_index_or states 0 d) f.trace.items (slice_index_or states k d)) → f.end ≡ shown x.position → is_end f.end ≡ true → IsShownBy g states f
-shown_here g states k x f less is way shows ends = record {
+pub shown_here : (g : Setting) (first x y : Config) (f : Found) → IsWay (next g) (can g) first f.trace.items y → x ≡ y → f.end ≡ shown x.position → is_end f.end ≡ true → IsShownBy g first f
+shown_here g first x y f way is shows ends = record {
   config = x;
-  way = λ d. subst (λ y. IsWay (next g) (can g) (slice_index_or states 0 d) f.trace.items y) (at_same states k x d less is) (way d);
+  way = subst (λ z. IsWay (next g) (can g) first f.trace.items z) (sym is) way;
   shows = sym shows;
   ends = ends;
 }
@@ -92,10 +91,10 @@ ends_more g found f all here e c = by (Contains-append_cases found (f ∷ []) e 
 
 -- ---- the two clauses
 
-pub sound : (g : Setting) (states : List Config) (found : List Found) → Begins (start g) states → AreShown g states found → AreEnds g found
-sound g states found begins all f c =
+pub sound : (g : Setting) (first : Config) (found : List Found) → first ≡ start g → AreShown g first found → AreEnds g found
+sound g first found begins all f c =
     let here = all f c in
-    let way : IsWay (next g) (can g) (start g) f.trace.items here.config = subst (λ x. IsWay (next g) (can g) x f.trace.items here.config) (begins.first (start g)) (here.way (start g)) in
+    let way : IsWay (next g) (can g) (start g) f.trace.items here.config = subst (λ x. IsWay (next g) (can g) x f.trace.items here.config) begins here.way in
     end_of_way g here.config f way here.shows here.ends
 
 pub complete : (g : Setting) (states : List Config) (ends : List PlainState) → Covers (next g) (can g) (start g) states → HasShown states (length states) ends → AreAll g.program g.expiries g.interrupts ends

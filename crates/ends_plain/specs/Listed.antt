@@ -21,15 +21,15 @@ IsEndOf g f = IsEnd g.program g.expiries g.interrupts f.trace.items f.end
 abbrev pub AreEnds : Setting → List Found → Type 0
 AreEnds g found = (f : Found) → Contains found f → IsEndOf g f
 
--- its trace leads from the first of the states to one that shows the end
-pub record IsShownBy (g : Setting) (states : List Config) (f : Found) : Type 0 where
+-- its trace leads from the first state to one that shows the end
+pub record IsShownBy (g : Setting) (first : Config) (f : Found) : Type 0 where
   pub config : Config
-  pub way : (d : Config) → IsWay (next g) (can g) (slice_index_or states 0 d) f.trace.items config
+  pub way : IsWay (next g) (can g) first f.trace.items config
   pub shows : shown config.position ≡ f.end
   pub ends : is_end f.end ≡ true
 
-abbrev pub AreShown : Setting → List Config → List Found → Type 0
-AreShown g states found = (f : Found) → Contains found f → IsShownBy g states f
+abbrev pub AreShown : Setting → Config → List Found → Type 0
+AreShown g first found = (f : Found) → Contains found f → IsShownBy g first f
 
 -- each end that one of the first n states shows is among these
 abbrev pub HasShown : List Config → ℕ → List PlainState → Type 0

@@ -45,7 +45,7 @@ impl Config {
     /// # Errors
     ///
     /// There is no memory.
-    pub fn apply(
+    pub fn apply_event(
         &mut self,
         alloc: Global,
         setting: &Setting,

@@ -2,13 +2,13 @@
 
 ghost use Rattle.std.specs.Prelude.{◌≡◌, true, false, IfOk, length};
 ghost use Rattle.std.specs.List.{Contains};
-ghost use Rattle.ends_search.specs.Search.{IsTraced};
+ghost use Rattle.ends_search.specs.Search.{IsSpace, states_of};
 ghost use Rattle.ends_plain.specs.Configs.{next, can};
 ghost use Rattle.ends_plain.specs.Ends.{is_end};
 ghost use Rattle.ends_plain.specs.Listed.{ends_of, AreShown, HasShown};
 
 use crate::config::{Config, Found, Setting};
-use ends_search::search::{Space, trace};
+use ends_search::search::{Space, restored, trace};
 use std::alloc::{AllocError, Global};
 use sts_plain::PlainState;
 
@@ -45,15 +45,17 @@ pub fn list(
     setting: &Setting,
     space: &Space<Config>,
 ) -> Result<Vec<Found>, AllocError>
-    requires { IsTraced (next setting.now) (can setting.now)
-        space.now.states.items space.now.origins.items }
-    ensures shown { IfOk result (λ found. AreShown setting.now space.now.states.items found.items) }
+    requires { IsSpace (next setting.now) (can setting.now) space.now.first
+        space.now.origins.items space.now.closed space.now.kept.items space.now.marks.items }
+    ensures shown { IfOk result (λ found. AreShown setting.now space.now.first found.items) }
     ensures all { IfOk result (λ found.
-        HasShown space.now.states.items (length space.now.states.items) (ends_of found.items)) }
+        HasShown (states_of (next setting.now) space.now.first space.now.origins.items)
+        (length space.now.origins.items) (ends_of found.items)) }
 {
     let mut found = Vec::new(alloc);
-    for k in 0..space.states.len() {
-        let end = space.states[k].position.state();
+    for k in 0..space.origins.len() {
+        let config = restored(alloc, setting, space, k)?;
+        let end = config.position.state();
         if is_new(&found, end) {
             let trace = trace(alloc, setting, space, k)?;
             found.push(Found { end, trace })?;

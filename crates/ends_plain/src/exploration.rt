@@ -27,7 +27,8 @@ impl Model for Exploration {
     ghost use Rattle.ends_plain.specs.Explored.{IsExplored};
 
     ghost invariant = { λ x.
-        IsExplored x.setting x.space.states.items x.space.origins.items x.space.closed };
+        IsExplored x.setting x.space.first x.space.origins.items x.space.closed
+        x.space.kept.items x.space.marks.items };
 }
 
 impl Exploration {
@@ -66,12 +67,12 @@ impl Exploration {
 
     /// How many states were found so far.
     pub fn states(&self) -> usize {
-        self.space.states.len()
+        self.space.origins.len()
     }
 
     /// Is no state left to expand, or no room for a further state?
     pub fn is_over(&self) -> bool {
-        self.space.is_full || self.space.closed >= self.space.states.len()
+        self.space.is_full || self.space.closed >= self.space.origins.len()
     }
 
     /// The ends that were found so far; if the answer's `whole` is true, each end that any list of
@@ -89,8 +90,8 @@ impl Exploration {
         let found = list(alloc, &self.setting, &self.space)?;
         Ok(Ends {
             found,
-            states: self.space.states.len(),
-            whole: self.space.closed == self.space.states.len(),
+            states: self.space.origins.len(),
+            whole: self.space.closed == self.space.origins.len(),
         })
     }
 }

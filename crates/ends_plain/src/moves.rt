@@ -39,13 +39,15 @@ impl Machine for Config {
         events_of(alloc, self, setting)
     }
 
-    fn after(&self, alloc: Global, setting: &Setting, event: Event) -> Result<Config, AllocError> {
-        let mut config = Config {
+    fn apply(&mut self, alloc: Global, setting: &Setting, event: Event) -> Result<(), AllocError> {
+        self.apply_event(alloc, setting, event)
+    }
+
+    fn copied(&self, alloc: Global) -> Result<Config, AllocError> {
+        Ok(Config {
             position: self.position.copied(alloc)?,
             left: self.left,
-        };
-        config.apply(alloc, setting, event)?;
-        Ok(config)
+        })
     }
 
     fn same(&self, other: &Config) -> bool {

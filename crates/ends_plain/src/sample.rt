@@ -60,7 +60,7 @@ fn walk(
         let Some(event) = chosen(rng, events.as_slice()) else {
             return Ok(None);
         };
-        config.apply(alloc, setting, event)?;
+        config.apply_event(alloc, setting, event)?;
         trace.push(event)?;
     }
     Ok(None)

@@ -16,7 +16,7 @@ use Rattle.ends_search.specs.declared.origin.Origin.{Origin}
 use Rattle.ends_search.specs.Search.{IsTraced, IsSearched, ComesFrom, Covers, Grows, LeadsInto, Begins, Follows, IsClosed, origin_at, no_origin, CanAt, CanAll, IsWay}
 
 -- a place in a longer list is an older one or the last
-split : (k n : ℕ) → k < n + 1 → (k < n) ⊎ (k ≡ n)
+pub split : (k n : ℕ) → k < n + 1 → (k < n) ⊎ (k ≡ n)
 split k n h = by (ltb k n) refl
   where
     by : (b : Bool) → ltb k n ≡ b → (k < n) ⊎ (k ≡ n)
@@ -73,7 +73,7 @@ pub covers : {S : Type 0} (next : S → Event → S) (can : S → Event → Bool
 covers next can start states begins closed events all = stays next can states closed events start all (0, begins.some, begins.first start)
 
 -- a state of the older ones is the same one among more states
-same_older : {S : Type 0} (old new : List S) → Grows old new → (j : ℕ) → j < length old → (d : S) → slice_index_or new j d ≡ slice_index_or old j d
+pub same_older : {S : Type 0} (old new : List S) → Grows old new → (j : ℕ) → j < length old → (d : S) → slice_index_or new j d ≡ slice_index_or old j d
 same_older old new grows j h d = ap (λ xs. slice_index_or xs j d) grows.same ∙ get_or-append old grows.more d j h
 
 closed_on : {S : Type 0} (next : S → Event → S) (can : S → Event → Bool) (old new : List S) (n : ℕ) → n ≤ length old → IsClosed next can old n → Grows old new → IsClosed next can new n
@@ -98,12 +98,12 @@ begins_more start old new h grows = record {
 
 -- one event more in front
 pub way_back : {S : Type 0} (next : S → Event → S) (can : S → Event → Bool) (states : List S) (back : List Event) (o : Origin) (at place : ℕ) → ComesFrom next can states o at
-    → ((d : S) → IsWay next can (slice_index_or states at d) (reverse back) (slice_index_or states place d))
-    → (d : S) → IsWay next can (slice_index_or states o.parent d) (reverse (back ++ o.event ∷ [])) (slice_index_or states place d)
-way_back next can states back o at place from h d =
+    → (d : S) → IsWay next can (slice_index_or states at d) (reverse back) (slice_index_or states place d)
+    → IsWay next can (slice_index_or states o.parent d) (reverse (back ++ o.event ∷ [])) (slice_index_or states place d)
+way_back next can states back o at place from d h =
     rw reverse-append (record {
-      can_all = (from.can_come d, subst (λ s. CanAll next can s (reverse back)) (from.state d) (h d).can_all);
-      leads = ap (λ s. fold next s (reverse back)) (sym (from.state d)) ∙ (h d).leads;
+      can_all = (from.can_come d, subst (λ s. CanAll next can s (reverse back)) (from.state d) h.can_all);
+      leads = ap (λ s. fold next s (reverse back)) (sym (from.state d)) ∙ h.leads;
     })
 
 -- ---- one event

@@ -1,7 +1,7 @@
 -- The states that a search of a machine finds. `next` is the effect of an event on a state, `can`
 -- says whether the event can come there.
 use Rattle.std.specs.Prelude.{◌≡◌, ℕ, ◌<◌, ◌≤◌, List, [], ◌∷◌, ◌++◌, fold, length, slice_index_or}
-use Rattle.std.specs.Prelude.{Bool, true}
+use Rattle.std.specs.Prelude.{Bool, true, drop, Option, Some, None}
 use Rattle.std.specs.List.{Contains}
 use Rattle.sts_model.specs.declared.event.Event.{Event}
 use Rattle.sts_model.specs.declared.event.Event.TheVariants.{Step}
@@ -54,6 +54,18 @@ pub record IsTraced {S : Type 0} (next : S → Event → S) (can : S → Event �
   pub later : (k : ℕ) → 0 < k → k < length states
       → ComesFrom next can states (origin_at origins k) k
 
+-- one state more: what an event leads to from one of these states
+abbrev pub with_next : {S : Type 0} → (S → Event → S) → S → List S → Origin → List S
+with_next next first states o =
+    states ++ next (slice_index_or states o.parent first) o.event ∷ []
+
+-- the states that were found like this, where `first` is the first one
+abbrev pub states_of : {S : Type 0} → (S → Event → S) → S → List Origin → List S
+states_of next first origins = fold (with_next next first) (first ∷ []) (drop 1 origins)
+
+abbrev pub state_at : {S : Type 0} → (S → Event → S) → S → List Origin → ℕ → S
+state_at next first origins k = slice_index_or (states_of next first origins) k first
+
 -- the first state is this one
 pub record Begins {S : Type 0} (start : S) (states : List S) : Type 0 where
   pub some : 0 < length states
@@ -87,3 +99,27 @@ pub record IsSearched {S : Type 0} (next : S → Event → S) (can : S → Event
   pub traced : IsTraced next can states origins
   pub closed_below : IsClosed next can states closed
   pub within : closed ≤ length states
+
+-- ---- which states are kept whole
+
+-- the place among the states that are kept whole, if the state at k is one of them
+abbrev pub mark_at : List (Option ℕ) → ℕ → Option ℕ
+mark_at marks k = slice_index_or marks k None
+
+-- the state is kept whole at this place, if there is a place
+pub record IsKept {S : Type 0} (kept : List S) (mark : Option ℕ) (state : S) : Type 0 where
+  pub there : (j : ℕ) → mark ≡ Some j → j < length kept
+  pub same : (j : ℕ) → mark ≡ Some j → (d : S) → slice_index_or kept j d ≡ state
+
+-- this holds for each of the states
+pub record AreKept {S : Type 0} (states kept : List S) (marks : List (Option ℕ)) : Type 0 where
+  pub as_many : length marks ≡ length states
+  pub each : (k : ℕ) → k < length states → (d : S)
+      → IsKept kept (mark_at marks k) (slice_index_or states k d)
+
+-- A search so far. Its states follow from the first one and from how the others were found, and
+-- some of them are kept whole.
+pub record IsSpace {S : Type 0} (next : S → Event → S) (can : S → Event → Bool) (first : S)
+    (origins : List Origin) (closed : ℕ) (kept : List S) (marks : List (Option ℕ)) : Type 0 where
+  pub searched : IsSearched next can (states_of next first origins) origins closed
+  pub whole_ones : AreKept (states_of next first origins) kept marks

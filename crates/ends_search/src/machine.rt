@@ -1,6 +1,6 @@
 //! The calls that a search needs on the states that it goes over.
 
-ghost use Rattle.std.specs.Prelude.{◌≡◌, Bool, true, IfOk};
+ghost use Rattle.std.specs.Prelude.{◌≡◌, Bool, true, IfOk, OnOk};
 ghost use Rattle.std.specs.List.{Contains};
 ghost use Rattle.sts_model.specs.declared.event.Event.{Event};
 
@@ -21,14 +21,18 @@ pub trait Machine: Drop {
         ensures all { IfOk result (λ es. (e : Event) → can setting.now self.now e ≡ true → Contains es.items e) }
         ensures only { IfOk result (λ es. (e : Event) → Contains es.items e → can setting.now self.now e ≡ true) };
 
-    /// The state after an event.
-    fn after(
-        &self,
+    /// Applies an event. After an `Err` the state isn't known.
+    fn apply(
+        &mut self,
         alloc: Global,
         setting: &Self::Setting,
         event: Event,
-    ) -> Result<Self, AllocError>
-        ensures { IfOk result (λ s. s ≡ next setting.now self.now event) };
+    ) -> Result<(), AllocError>
+        ensures { OnOk result (self.new ≡ next setting.now self.old event) };
+
+    /// The same once more.
+    fn copied(&self, alloc: Global) -> Result<Self, AllocError>
+        ensures { IfOk result (λ s. s ≡ self.now) };
 
     /// If the answer is true, the two are the same state. It may be false for the same state.
     fn same(&self, other: &Self) -> bool

@@ -1,9 +1,10 @@
 //! The search.
 
-ghost use Rattle.std.specs.Prelude.{◌≡◌, ◌<◌, length, true, IfOk, slice_index_or};
+ghost use Rattle.std.specs.Prelude.{◌≡◌, ◌<◌, length, true, IfOk, IfSome, IsNone, OnOk, fold};
+ghost use Rattle.std.specs.Prelude.{slice_index_or};
 ghost use Rattle.std.specs.List.{Contains};
-ghost use Rattle.ends_search.specs.Search.{IsTraced, IsSearched, Grows, LeadsInto, Begins, Follows};
-ghost use Rattle.ends_search.specs.Search.{CanAt, IsWay, Covers};
+ghost use Rattle.ends_search.specs.Search.{IsSpace, IsKept, Grows, LeadsInto, Follows};
+ghost use Rattle.ends_search.specs.Search.{CanAt, IsWay, state_at, states_of};
 
 use crate::index::Index;
 use crate::machine::Machine;
@@ -11,12 +12,19 @@ use crate::origin::Origin;
 use std::alloc::{AllocError, Global};
 use sts_model::Event;
 
+/// On average, one of this number of states is kept whole. The others are made again from a whole
+/// one when they are needed.
+const WHOLE_ONES: u64 = 16;
+
 /// A search so far.
+///
+/// Its states are the first one, and those that events lead to from older ones. Most of them are
+/// kept only by their origins, which takes far less memory than a whole state.
 #[derive(Drop)]
 pub struct Space<S> {
-    /// The states, in the order of their discovery.
-    pub states: Vec<S>,
-    /// How each of them was found.
+    /// The first state.
+    pub first: S,
+    /// How each of the states was found, in the order of their discovery.
     pub origins: Vec<Origin>,
     /// The number of states that were expanded, the first ones: any event leads from them to one of
     /// the states.
@@ -25,60 +33,180 @@ pub struct Space<S> {
     pub most: usize,
     /// Was a state found for which there was no room?
     pub is_full: bool,
+    /// The states that are kept whole.
+    pub kept: Vec<S>,
+    /// For each state, its place among those that are kept whole, if it is one of them.
+    pub marks: Vec<Option<u32>>,
     index: Index,
 }
 
-/// Is the state among these?
-fn is_known<S: Machine>(states: &[S], index: &Index, state: &S, hash: u64) -> bool
-    ensures { result ≡ true → Contains states.now state.now }
+/// The state at a place, if it is kept whole. The first one is.
+fn whole<'s, S: Machine>(setting: &S::Setting, space: &'s Space<S>, place: usize) -> Option<&'s S>
+    requires within { place < length space.now.origins.items }
+    requires space { IsSpace (S.next setting.now) (S.can setting.now)
+        space.now.first space.now.origins.items space.now.closed
+        space.now.kept.items space.now.marks.items }
+    ensures some { IfSome result (λ s.
+        s.now ≡ state_at (S.next setting.now) space.now.first space.now.origins.items place) }
+    ensures none { IsNone result → 0 < place }
 {
-    let mut at = index.first(hash);
-    for _ in 0..states.len() {
-        match states.get(at) {
-            None => return false,
-            Some(other) => {
-                if other.same(state) {
-                    return true;
-                }
-                at = index.behind(at, hash);
-            }
-        }
+    let _ = setting;
+    if place == 0 {
+        return Some(&space.first);
     }
-    false
+    match space.marks[place] {
+        Some(mark) => Some(&space.kept[mark as usize]),
+        None => None,
+    }
 }
 
-/// Adds the state that an event leads to from the state at a place, unless it is there already.
+/// The state at a place.
+///
+/// # Errors
+///
+/// There is no memory.
+pub fn restored<S: Machine>(
+    alloc: Global,
+    setting: &S::Setting,
+    space: &Space<S>,
+    place: usize,
+) -> Result<S, AllocError>
+    requires within { place < length space.now.origins.items }
+    requires space { IsSpace (S.next setting.now) (S.can setting.now)
+        space.now.first space.now.origins.items space.now.closed
+        space.now.kept.items space.now.marks.items }
+    ensures { IfOk result (λ s.
+        s ≡ state_at (S.next setting.now) space.now.first space.now.origins.items place) }
+{
+    match whole(setting, space, place) {
+        Some(state) => state.copied(alloc),
+        None => {
+            let origin = space.origins[place];
+            let mut state = restored(alloc, setting, space, origin.parent)?;
+            state.apply(alloc, setting, origin.event)?;
+            Ok(state)
+        }
+    }
+}
+
+/// Is it the state at a place?
+fn is_at<S: Machine>(
+    alloc: Global,
+    setting: &S::Setting,
+    space: &Space<S>,
+    place: usize,
+    state: &S,
+) -> Result<bool, AllocError>
+    requires within { place < length space.now.origins.items }
+    requires space { IsSpace (S.next setting.now) (S.can setting.now)
+        space.now.first space.now.origins.items space.now.closed
+        space.now.kept.items space.now.marks.items }
+    ensures { IfOk result (λ r. r ≡ true → Contains
+        (states_of (S.next setting.now) space.now.first space.now.origins.items) state.now) }
+{
+    let other = restored(alloc, setting, space, place)?;
+    Ok(other.same(state))
+}
+
+/// Is the state among those that were found?
+fn is_known<S: Machine>(
+    alloc: Global,
+    setting: &S::Setting,
+    space: &Space<S>,
+    state: &S,
+    hash: u64,
+) -> Result<bool, AllocError>
+    requires { IsSpace (S.next setting.now) (S.can setting.now)
+        space.now.first space.now.origins.items space.now.closed
+        space.now.kept.items space.now.marks.items }
+    ensures { IfOk result (λ r. r ≡ true → Contains
+        (states_of (S.next setting.now) space.now.first space.now.origins.items) state.now) }
+{
+    let mut place = space.index.first(hash);
+    for _ in 0..space.origins.len() {
+        if place >= space.origins.len() {
+            return Ok(false);
+        }
+        if is_at(alloc, setting, space, place, state)? {
+            return Ok(true);
+        }
+        place = space.index.behind(place, hash);
+    }
+    Ok(false)
+}
+
+/// Keeps a state whole if its hash says so, and returns its place.
+fn keep<S: Machine>(kept: &mut Vec<S>, state: S, hash: u64) -> Result<Option<u32>, AllocError>
+    ensures grows { OnOk result (Grows kept.old.items kept.new.items) }
+    ensures is_kept { IfOk result (λ mark. IsKept kept.new.items mark state) }
+{
+    if hash % WHOLE_ONES > 0 {
+        return Ok(None);
+    }
+    let mark = u32::try_from(kept.len()).ok();
+    if mark.is_some() {
+        kept.push(state)?;
+    }
+    Ok(mark)
+}
+
+/// Adds a state, which an event leads to from the state at a place, unless it is there already.
 /// Returns `false` if there is no room for it.
 fn add<S: Machine>(
     alloc: Global,
     setting: &S::Setting,
-    states: &mut Vec<S>,
-    origins: &mut Vec<Origin>,
-    index: &mut Index,
+    space: &mut Space<S>,
+    state: S,
     origin: Origin,
-    most: usize,
 ) -> Result<bool, AllocError>
-    requires within { origin.parent < length states.old.items }
-    requires can { CanAt (S.can setting.now) states.old.items origin.parent origin.event }
-    requires traced { IsTraced (S.next setting.now) (S.can setting.now) states.old.items origins.old.items }
-    ensures traced { IfOk result (λ _.
-        IsTraced (S.next setting.now) (S.can setting.now) states.new.items origins.new.items) }
-    ensures grows { IfOk result (λ _. Grows states.old.items states.new.items) }
-    ensures there { IfOk result (λ there. there ≡ true →
-        Follows (S.next setting.now) states.old.items origin.parent origin.event states.new.items) }
+    requires within { origin.parent < length space.old.origins.items }
+    requires can { CanAt (S.can setting.now)
+        (states_of (S.next setting.now) space.old.first space.old.origins.items)
+        origin.parent origin.event }
+    requires comes { state ≡ S.next setting.now (state_at (S.next setting.now)
+        space.old.first space.old.origins.items origin.parent) origin.event }
+    requires space { IsSpace (S.next setting.now) (S.can setting.now)
+        space.old.first space.old.origins.items space.old.closed
+        space.old.kept.items space.old.marks.items }
+    ensures space { OnOk result (IsSpace (S.next setting.now) (S.can setting.now)
+        space.new.first space.new.origins.items space.new.closed
+        space.new.kept.items space.new.marks.items) }
+    ensures first { OnOk result (space.new.first ≡ space.old.first) }
+    ensures closed { OnOk result (space.new.closed ≡ space.old.closed) }
+    ensures grows { OnOk result (Grows
+        (states_of (S.next setting.now) space.old.first space.old.origins.items)
+        (states_of (S.next setting.now) space.new.first space.new.origins.items)) }
+    ensures there { IfOk result (λ there. there ≡ true → Follows (S.next setting.now)
+        (states_of (S.next setting.now) space.old.first space.old.origins.items)
+        origin.parent origin.event
+        (states_of (S.next setting.now) space.new.first space.new.origins.items)) }
 {
-    let state = states[origin.parent].after(alloc, setting, origin.event)?;
     let hash = state.hash();
-    if is_known(states, index, &state, hash) {
+    if is_known(alloc, setting, space, &state, hash)? {
         return Ok(true);
     }
-    if states.len() >= most {
+    if space.origins.len() >= space.most {
         return Ok(false);
     }
-    index.add(alloc, hash)?;
-    states.push(state)?;
-    origins.push(origin)?;
+    space.index.add(alloc, hash)?;
+    let mark = keep(&mut space.kept, state, hash)?;
+    space.marks.push(mark)?;
+    space.origins.push(origin)?;
     Ok(true)
+}
+
+/// The state after an event.
+fn after<S: Machine>(
+    alloc: Global,
+    setting: &S::Setting,
+    state: &S,
+    event: Event,
+) -> Result<S, AllocError>
+    ensures { IfOk result (λ s. s ≡ S.next setting.now state.now event) }
+{
+    let mut next = state.copied(alloc)?;
+    next.apply(alloc, setting, event)?;
+    Ok(next)
 }
 
 /// Adds all states that an event leads to from the state at this place. Returns `false` if there is
@@ -86,27 +214,35 @@ fn add<S: Machine>(
 fn expand<S: Machine>(
     alloc: Global,
     setting: &S::Setting,
-    states: &mut Vec<S>,
-    origins: &mut Vec<Origin>,
-    index: &mut Index,
+    space: &mut Space<S>,
     place: usize,
-    most: usize,
 ) -> Result<bool, AllocError>
-    requires within { place < length states.old.items }
-    requires traced { IsTraced (S.next setting.now) (S.can setting.now) states.old.items origins.old.items }
-    ensures traced { IfOk result (λ _.
-        IsTraced (S.next setting.now) (S.can setting.now) states.new.items origins.new.items) }
-    ensures grows { IfOk result (λ _. Grows states.old.items states.new.items) }
-    ensures all { IfOk result (λ all. all ≡ true →
-        LeadsInto (S.next setting.now) (S.can setting.now) states.old.items place states.new.items) }
+    requires within { place < length space.old.origins.items }
+    requires space { IsSpace (S.next setting.now) (S.can setting.now)
+        space.old.first space.old.origins.items space.old.closed
+        space.old.kept.items space.old.marks.items }
+    ensures space { OnOk result (IsSpace (S.next setting.now) (S.can setting.now)
+        space.new.first space.new.origins.items space.new.closed
+        space.new.kept.items space.new.marks.items) }
+    ensures first { OnOk result (space.new.first ≡ space.old.first) }
+    ensures closed { OnOk result (space.new.closed ≡ space.old.closed) }
+    ensures grows { OnOk result (Grows
+        (states_of (S.next setting.now) space.old.first space.old.origins.items)
+        (states_of (S.next setting.now) space.new.first space.new.origins.items)) }
+    ensures all { IfOk result (λ all. all ≡ true → LeadsInto (S.next setting.now)
+        (S.can setting.now)
+        (states_of (S.next setting.now) space.old.first space.old.origins.items) place
+        (states_of (S.next setting.now) space.new.first space.new.origins.items)) }
 {
-    let events = states[place].events(alloc, setting)?;
+    let state = restored(alloc, setting, space, place)?;
+    let events = state.events(alloc, setting)?;
     for event in &events {
+        let next = after(alloc, setting, &state, *event)?;
         let origin = Origin {
             parent: place,
             event: *event,
         };
-        let there = add(alloc, setting, states, origins, index, origin, most)?;
+        let there = add(alloc, setting, space, next, origin)?;
         if !there {
             return Ok(false);
         }
@@ -122,29 +258,31 @@ fn expand<S: Machine>(
 pub fn begin<S: Machine>(
     alloc: Global,
     setting: &S::Setting,
-    start: S,
+    first: S,
     most: usize,
 ) -> Result<Space<S>, AllocError>
-    ensures begins { IfOk result (λ r. Begins start r.states.items) }
-    ensures searched { IfOk result (λ r. IsSearched (S.next setting.now) (S.can setting.now)
-        r.states.items r.origins.items r.closed) }
+    ensures first { IfOk result (λ r. r.first ≡ first) }
+    ensures space { IfOk result (λ r. IsSpace (S.next setting.now) (S.can setting.now)
+        r.first r.origins.items r.closed r.kept.items r.marks.items) }
 {
     let _ = setting;
-    let mut states = Vec::new(alloc);
     let mut origins = Vec::new(alloc);
+    let mut marks = Vec::new(alloc);
     let mut index = Index::new(alloc)?;
-    index.add(alloc, start.hash())?;
-    states.push(start)?;
+    index.add(alloc, first.hash())?;
+    marks.push(None)?;
     origins.push(Origin {
         parent: 0,
         event: Event::Step(0),
     })?;
     Ok(Space {
-        states,
+        first,
         origins,
         closed: 0,
         most,
         is_full: false,
+        kept: Vec::new(alloc),
+        marks,
         index,
     })
 }
@@ -161,44 +299,25 @@ pub fn advance<S: Machine>(
     space: Space<S>,
     count: usize,
 ) -> Result<Space<S>, AllocError>
-    requires searched { IsSearched (S.next setting.now) (S.can setting.now)
-        space.states.items space.origins.items space.closed }
-    ensures grows { IfOk result (λ r. Grows space.states.items r.states.items) }
-    ensures searched { IfOk result (λ r. IsSearched (S.next setting.now) (S.can setting.now)
-        r.states.items r.origins.items r.closed) }
+    requires { IsSpace (S.next setting.now) (S.can setting.now)
+        space.first space.origins.items space.closed space.kept.items space.marks.items }
+    ensures first { IfOk result (λ r. r.first ≡ space.first) }
+    ensures space { IfOk result (λ r. IsSpace (S.next setting.now) (S.can setting.now)
+        r.first r.origins.items r.closed r.kept.items r.marks.items) }
 {
-    let mut states = space.states;
-    let mut origins = space.origins;
-    let mut index = space.index;
-    let mut closed = space.closed;
-    let mut is_full = false;
+    let mut space = space;
     for _ in 0..count {
-        if is_full || closed >= states.len() {
+        let place = space.closed;
+        if space.is_full || place >= space.origins.len() {
             break;
         }
-        let done = expand(
-            alloc,
-            setting,
-            &mut states,
-            &mut origins,
-            &mut index,
-            closed,
-            space.most,
-        )?;
-        if done {
-            closed += 1;
+        if expand(alloc, setting, &mut space, place)? {
+            space.closed = place + 1;
         } else {
-            is_full = true;
+            space.is_full = true;
         }
     }
-    Ok(Space {
-        states,
-        origins,
-        closed,
-        most: space.most,
-        is_full,
-        index,
-    })
+    Ok(space)
 }
 
 /// A list of events that leads from the first state to the state at this place.
@@ -212,12 +331,13 @@ pub fn trace<S: Machine>(
     space: &Space<S>,
     place: usize,
 ) -> Result<Vec<Event>, AllocError>
-    requires within { place < length space.now.states.items }
-    requires traced { IsTraced (S.next setting.now) (S.can setting.now)
-        space.now.states.items space.now.origins.items }
-    ensures { IfOk result (λ es. (d : S) → IsWay (S.next setting.now) (S.can setting.now)
-        (slice_index_or space.now.states.items 0 d) es.items
-        (slice_index_or space.now.states.items place d)) }
+    requires within { place < length space.now.origins.items }
+    requires space { IsSpace (S.next setting.now) (S.can setting.now)
+        space.now.first space.now.origins.items space.now.closed
+        space.now.kept.items space.now.marks.items }
+    ensures { IfOk result (λ es. IsWay (S.next setting.now) (S.can setting.now)
+        space.now.first es.items
+        (state_at (S.next setting.now) space.now.first space.now.origins.items place)) }
 {
     let _ = setting;
     let mut back = Vec::new(alloc);

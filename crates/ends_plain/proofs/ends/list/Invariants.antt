@@ -1,5 +1,9 @@
+use Rattle.ends_search.specs.Search.{states_of}
+use Rattle.ends_plain.specs.Configs.{next}
 use Rattle.ends_plain.specs.Listed.{ends_of, AreShown, HasShown}
 use Rattle.ends_plain.proofs.ends.list.Given as goal
 
 abbrev pub invariant-loop-k : goal.invariant-loop-k
-invariant-loop-k l = AreShown l.setting l.space.states.items l.found.items × HasShown l.space.states.items l.k (ends_of l.found.items)
+invariant-loop-k l =
+    AreShown l.setting l.space.first l.found.items
+    × HasShown (states_of (next l.setting) l.space.first l.space.origins.items) l.k (ends_of l.found.items)

@@ -1,19 +1,31 @@
-use Rattle.std.proofs.Common.{[], ◌∷◌, ◌++◌}
-use Rattle.ends_search.proofs.SearchLemmas.{traced_more, there, made_of, holds_last}
+use Rattle.std.proofs.Common.{◌≡◌, ◌<◌, length, [], ◌∷◌, ◌++◌, arith, subst}
+use Rattle.std.specs.List.{Contains}
+use Rattle.ends_search.specs.Search.{states_of}
+use Rattle.ends_search.proofs.StateLemmas.{space_more, grows_more, follows, follows_there}
 use Rattle.ends_search.proofs.search.add.Goals as goal
 
-pub returns-then-is_known-clause-there : goal.returns-then-is_known-clause-there
-returns-then-is_known-clause-there g c _ =
-    let known = c.is_known.ensures c.if-is_known.true in
-    there (g.S.Machine.next c.args.setting.now) c.args.states.now.items c.args.states.now.items c.args.origin.parent c.index.result.now c.in_ok-state.state c.args.origin.event c.requires.within c.index.ensures c.in_ok-state.ensures (rw c.deref.ensures.value at known)
+pub returns-then-branch-clause-there : goal.returns-then-branch-clause-there
+returns-then-branch-clause-there g c _ =
+    let s = c.args.space.now in
+    let next = g.S.Machine.next c.args.setting.now in
+    let states = states_of next s.first s.origins.items in
+    let within : c.args.origin.parent < length states = omega (arith, c.requires.within, c.requires.space.searched.traced.as_many) in
+    let known = c.in_ok-is_known.ensures c.if-branch.true in
+    follows next states states c.args.origin.parent s.first c.args.origin.event within (subst (λ x. Contains states x) c.requires.comes known)
 
-pub returns-clause-traced : goal.returns-clause-traced
-returns-clause-traced g c =
+pub returns-clause-space : goal.returns-clause-space
+returns-clause-space g c =
+    let s = c.args.space.now in
     rw (c.in_ok-push.ensures.items, c.in_ok-push-2.ensures.items)
-    (traced_more (g.S.Machine.next c.args.setting.now) (g.S.Machine.can c.args.setting.now) c.args.states.now.items c.args.origins.now.items c.in_ok-state.state c.args.origin c.requires.traced c.requires.within c.requires.can
-    (made_of (g.S.Machine.next c.args.setting.now) c.args.states.now.items c.args.origin.parent c.index.result.now c.in_ok-state.state c.args.origin.event c.requires.within c.index.ensures c.in_ok-state.ensures))
+    (space_more (g.S.Machine.next c.args.setting.now) (g.S.Machine.can c.args.setting.now) s.first s.origins.items s.closed s.kept.items s.marks.items c.args.origin c.args.state c.keep.new.kept.items c.in_ok-mark.mark
+    c.requires.space c.requires.within c.requires.can c.requires.comes c.in_ok-mark.ensures.grows c.in_ok-mark.ensures.is_kept)
+
+pub returns-clause-grows : goal.returns-clause-grows
+returns-clause-grows g c =
+    let s = c.args.space.now in
+    rw c.in_ok-push-2.ensures.items (grows_more (g.S.Machine.next c.args.setting.now) s.first s.origins.items c.args.origin (omega (arith, c.requires.within)))
 
 pub returns-clause-there : goal.returns-clause-there
 returns-clause-there g c _ =
-    rw c.in_ok-push.ensures.items
-    (there (g.S.Machine.next c.args.setting.now) c.args.states.now.items (c.args.states.now.items ++ c.in_ok-state.state ∷ []) c.args.origin.parent c.index.result.now c.in_ok-state.state c.args.origin.event c.requires.within c.index.ensures c.in_ok-state.ensures (holds_last c.args.states.now.items c.in_ok-state.state))
+    let s = c.args.space.now in
+    rw c.in_ok-push-2.ensures.items (follows_there (g.S.Machine.next c.args.setting.now) s.first s.origins.items c.args.origin (omega (arith, c.requires.within)) (omega (arith, c.requires.within, c.requires.space.searched.traced.as_many)))

@@ -1,7 +1,9 @@
-use Rattle.ends_search.specs.Search.{IsSearched, Grows}
+use Rattle.std.proofs.Common.{◌≡◌}
+use Rattle.ends_search.specs.Search.{IsSpace}
 use Rattle.ends_search.proofs.search.advance.Given as goal
 
 abbrev pub invariant-loop : goal.invariant-loop
 invariant-loop g l =
-    Grows l.fn.space.states.items l.states.items
-    × IsSearched (g.S.Machine.next l.setting) (g.S.Machine.can l.setting) l.states.items l.origins.items l.closed
+    let s = l.space in
+    (s.first ≡ l.fn.space.first)
+    × IsSpace (g.S.Machine.next l.setting) (g.S.Machine.can l.setting) s.first s.origins.items s.closed s.kept.items s.marks.items

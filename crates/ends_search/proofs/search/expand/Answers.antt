@@ -1,33 +1,84 @@
-use Rattle.std.proofs.Common.{◌≡◌, ◌<◌, length, arith}
+use Rattle.std.proofs.Common.{◌≡◌, ◌<◌, length, sym, ◌∙◌, arith}
 use Rattle.std.proofs.lemmas.List.{get_or_default}
-use Rattle.ends_search.proofs.SearchLemmas.{spread_more, grows_on, leads, can_at}
+use Rattle.ends_search.specs.Search.{states_of}
+use Rattle.ends_search.proofs.SearchLemmas.{spread_more, grows_on, leads, can_at, within_more, same_older}
+use Rattle.ends_search.proofs.StateLemmas.{comes_on}
+use Rattle.std.specs.Prelude.{slice_index_or}
 use Rattle.ends_search.proofs.search.expand.Goals as goal
+
+pub add-requires-clause-within : goal.add-requires-clause-within
+add-requires-clause-within g c =
+    let next = g.S.Machine.next c.args.setting.now in
+    let old = c.args.space.now in
+    let mid = c.loop-event.space in
+    let i = c.loop-event.invariant in
+    let less = within_more (states_of next old.first old.origins.items) (states_of next mid.first mid.origins.items) c.args.place i.3 (omega (arith, c.requires.within, c.requires.space.searched.traced.as_many)) in
+    omega (arith, less, i.0.searched.traced.as_many)
 
 pub add-requires-clause-can : goal.add-requires-clause-can
 add-requires-clause-can g c =
+    let next = g.S.Machine.next c.args.setting.now in
+    let old = c.args.space.now in
+    let mid = c.loop-event.space in
+    let states = states_of next old.first old.origins.items in
     let i = c.loop-event.invariant in
+    let within : c.args.place < length states = omega (arith, c.requires.within, c.requires.space.searched.traced.as_many) in
+    let x = c.in_ok-state.state in
     let less : c.loop-event.event-index < length c.deref-event-items.result.now = omega arith in
-    can_at (g.S.Machine.can c.args.setting.now) c.args.states.now.items c.loop-event.states.items c.args.place c.index.result.now c.deref-event-items.result.now c.loop-event.event-index _ c.requires.within c.index.ensures
-    (rw c.deref-event-items.ensures.value c.in_ok-events.ensures.only) i.1 less
+    can_at (g.S.Machine.can c.args.setting.now) states (states_of next mid.first mid.origins.items) c.args.place x c.deref-event-items.result.now c.loop-event.event-index _ within
+    (c.in_ok-state.ensures ∙ get_or_default states c.args.place old.first x within) (rw c.deref-event-items.ensures.value c.in_ok-events.ensures.only) i.3 less
+
+pub add-requires-clause-comes : goal.add-requires-clause-comes
+add-requires-clause-comes g c =
+    let next = g.S.Machine.next c.args.setting.now in
+    let old = c.args.space.now in
+    let mid = c.loop-event.space in
+    let olds = states_of next old.first old.origins.items in
+    let mids = states_of next mid.first mid.origins.items in
+    let within : c.args.place < length olds = omega (arith, c.requires.within, c.requires.space.searched.traced.as_many) in
+    let x = c.in_ok-state.state in
+    let at : x ≡ slice_index_or mids c.args.place mid.first =
+    c.in_ok-state.ensures ∙ get_or_default olds c.args.place old.first mid.first within ∙ sym (same_older olds mids c.loop-event.invariant.3 c.args.place within mid.first) in
+    comes_on next x (slice_index_or mids c.args.place mid.first) c.in_ok-next.next _ c.in_ok-next.ensures at
 
 pub loop-event-preserved : goal.loop-event-preserved
 loop-event-preserved g c =
+    let next = g.S.Machine.next c.args.setting.now in
+    let old = c.args.space.now in
+    let mid = c.loop-event.space in
+    let new = c.add.new.space in
+    let olds = states_of next old.first old.origins.items in
+    let mids = states_of next mid.first mid.origins.items in
+    let news = states_of next new.first new.origins.items in
     let i = c.loop-event.invariant in
     let d = c.in_ok-there.ensures in
+    let within : c.args.place < length olds = omega (arith, c.requires.within, c.requires.space.searched.traced.as_many) in
     let less : c.loop-event.event-index < length c.deref-event-items.result.now = omega arith in (
-      d.traced,
-      grows_on c.args.states.now.items c.loop-event.states.items c.add.new.states.items i.1 d.grows,
-      spread_more (g.S.Machine.next c.args.setting.now) c.args.states.now.items c.loop-event.states.items c.add.new.states.items c.args.place c.deref-event-items.result.now c.loop-event.event-index _ c.requires.within less (get_or_default c.deref-event-items.result.now c.loop-event.event-index _ _ less) i.1 d.grows (d.there c.if-not-there.false) i.2,
+      d.space,
+      d.first ∙ i.1,
+      d.closed ∙ i.2,
+      grows_on olds mids news i.3 d.grows,
+      spread_more next olds mids news c.args.place c.deref-event-items.result.now c.loop-event.event-index _ within less (get_or_default c.deref-event-items.result.now c.loop-event.event-index _ _ less) i.3 d.grows (d.there c.if-not-there.false) i.4,
     )
 
 pub returns-clause-all : goal.returns-clause-all
 returns-clause-all g c _ =
+    let next = g.S.Machine.next c.args.setting.now in
+    let old = c.args.space.now in
+    let mid = c.loop-event.space in
+    let states = states_of next old.first old.origins.items in
     let i = c.loop-event.invariant in
+    let within : c.args.place < length states = omega (arith, c.requires.within, c.requires.space.searched.traced.as_many) in
+    let x = c.in_ok-state.state in
     let all : c.loop-event.event-index ≡ length c.deref-event-items.result.now = omega arith in
-    let spread = rw all at i.2 in
-    leads (g.S.Machine.next c.args.setting.now) (g.S.Machine.can c.args.setting.now) c.args.states.now.items c.loop-event.states.items c.args.place c.deref-event-items.result.now c.index.result.now c.requires.within c.index.ensures
-    (rw c.deref-event-items.ensures.value c.in_ok-events.ensures.all) spread
+    let spread = rw all at i.4 in
+    leads next (g.S.Machine.can c.args.setting.now) states (states_of next mid.first mid.origins.items) c.args.place c.deref-event-items.result.now x within
+    (c.in_ok-state.ensures ∙ get_or_default states c.args.place old.first x within) (rw c.deref-event-items.ensures.value c.in_ok-events.ensures.all) spread
 
 pub returns-then-not-there-clause-grows : goal.returns-then-not-there-clause-grows
 returns-then-not-there-clause-grows g c =
-    grows_on c.args.states.now.items c.loop-event.states.items c.add.new.states.items c.loop-event.invariant.1 c.in_ok-there.ensures.grows
+    let next = g.S.Machine.next c.args.setting.now in
+    let old = c.args.space.now in
+    let mid = c.loop-event.space in
+    let new = c.add.new.space in
+    grows_on (states_of next old.first old.origins.items) (states_of next mid.first mid.origins.items) (states_of next new.first new.origins.items) c.loop-event.invariant.3 c.in_ok-there.ensures.grows

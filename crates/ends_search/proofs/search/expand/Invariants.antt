@@ -1,9 +1,16 @@
-use Rattle.ends_search.specs.Search.{IsTraced, Grows}
+use Rattle.std.proofs.Common.{◌≡◌}
+use Rattle.ends_search.specs.Search.{IsSpace, Grows, states_of}
 use Rattle.ends_search.proofs.SearchLemmas.{Spreads}
 use Rattle.ends_search.proofs.search.expand.Given as goal
 
 abbrev pub invariant-loop-event : goal.invariant-loop-event
 invariant-loop-event g l =
-    IsTraced (g.S.Machine.next l.setting) (g.S.Machine.can l.setting) l.states.items l.origins.items
-    × Grows l.fn.states.items l.states.items
-    × Spreads (g.S.Machine.next l.setting) l.fn.states.items l.place l.event-items l.event-index l.states.items
+    let next = g.S.Machine.next l.setting in
+    let s = l.space in
+    let old = states_of next l.fn.space.first l.fn.space.origins.items in
+    let new = states_of next s.first s.origins.items in
+    IsSpace next (g.S.Machine.can l.setting) s.first s.origins.items s.closed s.kept.items s.marks.items
+    × (s.first ≡ l.fn.space.first)
+    × (s.closed ≡ l.fn.space.closed)
+    × Grows old new
+    × Spreads next old l.place l.event-items l.event-index new

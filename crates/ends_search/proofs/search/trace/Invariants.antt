@@ -1,12 +1,13 @@
 use Rattle.std.proofs.Common.{◌<◌, length, reverse}
-use Rattle.std.specs.Prelude.{slice_index_or}
-use Rattle.ends_search.specs.Search.{IsWay}
+use Rattle.ends_search.specs.Search.{IsWay, state_at}
 use Rattle.ends_search.proofs.search.trace.Given as goal
 
 abbrev pub invariant-loop-at : goal.invariant-loop-at
 invariant-loop-at g l =
-    (l.at < length l.space.states.items)
-    × ((d : g.row.S.Denot) → IsWay (g.S.Machine.next l.setting) (g.S.Machine.can l.setting) (slice_index_or l.space.states.items l.at d) (reverse l.back.items) (slice_index_or l.space.states.items l.place d))
+    let next = g.S.Machine.next l.setting in
+    let origins = l.space.origins.items in
+    (l.at < length origins)
+    × IsWay next (g.S.Machine.can l.setting) (state_at next l.space.first origins l.at) (reverse l.back.items) (state_at next l.space.first origins l.place)
 
 abbrev pub decreases-loop-at : goal.decreases-loop-at
 decreases-loop-at g l = l.at

@@ -1,9 +1,8 @@
-use Rattle.std.proofs.Common.{subst}
-use Rattle.ends_search.specs.Search.{Begins}
+use Rattle.std.proofs.Common.{◌∙◌}
 use Rattle.ends_plain.proofs.exploration.Exploration.begin.Goals as goal
 
 pub invariant_of-result : goal.invariant_of-result
 invariant_of-result c = record {
-  begins = subst (λ x. Begins x c.in_ok-space.space.states.items) c.in_ok-first.ensures c.in_ok-space.ensures.begins;
-  searched = c.in_ok-space.ensures.searched;
+  begins = c.in_ok-space.ensures.first ∙ c.in_ok-first.ensures;
+  space = c.in_ok-space.ensures.space;
 }
