@@ -14,8 +14,8 @@ use Rattle.sts_asm.specs.Operand.{number_at, named, finished}
 use Rattle.sts_asm.specs.Marks.{marked}
 use Rattle.sts_asm.specs.Outline.{Draft, Outline, profile_of, profile_at, profiled, with_keys, no_needs, keys_at, needs_at}
 use Rattle.sts_asm.specs.Outline.{header_at, with_function, begun, ended, label_of, labelled, with_label, with_sentence, inner, inside, said}
-use Rattle.look_text.specs.declared.wanted.Wanted.{Wanted}
-use Rattle.look_text.specs.declared.wanted.Wanted.TheVariants as w
+use Rattle.look_text.specs.declared.wanted.Expected.{Expected}
+use Rattle.look_text.specs.declared.wanted.Expected.TheVariants as w
 use Rattle.look_text.specs.Wanted.{fits, stop, of_mnemonic, after_inner, after_first, is_profile}
 use Rattle.look_text.specs.WrongWord.{IsWrong, wrong, missing, Stops, IsOfOperand}
 use Rattle.look_text.proofs.StopLemmas.{StopsFrom, allows, one, one_on, spelled, nothing, none_of, same_kind}
@@ -35,7 +35,7 @@ carried_wrong f read kind words before word (wrong v rest e l s) =
     wrong v rest e (l.0, λ q. l.1 (kept (f (before ++ l.0)) (read (before ++ l.0)) kind q)) (λ more. failed_on (f ((before ++ v ∷ []) ++ more)) (read ((before ++ v ∷ []) ++ more)) kind (s more))
 carried_wrong f read kind words before word (missing e l) = missing e (l.0, λ q. l.1 (kept (f (before ++ l.0)) (read (before ++ l.0)) kind q))
 
-pub carried : {X Y : Type 0} (s : Wanted) (f : List (List ℕ) → X → Y) (read : List (List ℕ) → Result X AsmKind) → StopsFrom s read → StopsFrom s (λ ws. read ws >>= λ x. Ok (f ws x))
+pub carried : {X Y : Type 0} (s : Expected) (f : List (List ℕ) → X → Y) (read : List (List ℕ) → Result X AsmKind) → StopsFrom s read → StopsFrom s (λ ws. read ws >>= λ x. Ok (f ws x))
 carried s f read all kind words e = carried_wrong f read kind words (stop s words).before (stop s words).word (all kind words (kept (f words) (read words) kind e))
 
 -- ---- `func`
@@ -107,13 +107,13 @@ profile_word = one w.Profile profile_at (allows profile_at (codes "1" ∷ []) On
 
 -- ---- a line, where the fault is of an operand
 
-abbrev pub OperandsFrom : {X : Type 0} → Wanted → (List (List ℕ) → Result X AsmKind) → Type 0
+abbrev pub OperandsFrom : {X : Type 0} → Expected → (List (List ℕ) → Result X AsmKind) → Type 0
 OperandsFrom {X} s read = (kind : AsmKind) (words : List (List ℕ)) → IsOfOperand kind → read words ≡ Err kind → Stops read kind words (stop s words)
 
-pub all_operands : {X : Type 0} (s : Wanted) (read : List (List ℕ) → Result X AsmKind) → StopsFrom s read → OperandsFrom s read
+pub all_operands : {X : Type 0} (s : Expected) (read : List (List ℕ) → Result X AsmKind) → StopsFrom s read → OperandsFrom s read
 all_operands s read all kind words is e = all kind words e
 
-pub carried_operands : {X Y : Type 0} (s : Wanted) (f : List (List ℕ) → X → Y) (read : List (List ℕ) → Result X AsmKind) → OperandsFrom s read → OperandsFrom s (λ ws. read ws >>= λ x. Ok (f ws x))
+pub carried_operands : {X Y : Type 0} (s : Expected) (f : List (List ℕ) → X → Y) (read : List (List ℕ) → Result X AsmKind) → OperandsFrom s read → OperandsFrom s (λ ws. read ws >>= λ x. Ok (f ws x))
 carried_operands s f read all kind words is e = carried_wrong f read kind words (stop s words).before (stop s words).word (all kind words is (kept (f words) (read words) kind e))
 
 no_word : (kind : AsmKind) → IsOfOperand kind → UnknownWord ≡ kind → ⊥

@@ -1,13 +1,13 @@
 -- The word at which a program check fails.
 use Rattle.std.proofs.Common.{◌≡◌, ℕ, zero, suc, ◌+◌, ◌<◌, List, [], ◌∷◌, ◌++◌, Bool, true, false, slice_get, take, drop, refl, sym, ap, ◌∙◌, append_assoc, arith}
-use Rattle.std.specs.Prelude.{Some, None, Option, option_map, ◌||◌, if◌then◌else◌, codes}
+use Rattle.std.specs.Prelude.{Some, None, Option, option_map, ◌||◌, if◌then◌else◌}
 use Rattle.std.specs.List.{list_any}
 use Rattle.std.specs.Str.{bytes_eq}
 use Rattle.sts_asm.specs.Outline.{Draft, Outline}
 use Rattle.sts_asm.specs.Source.{name_at}
-use Rattle.look_text.specs.declared.wanted.Wanted.{Wanted}
+use Rattle.look_text.specs.declared.wanted.Expected.{Expected}
 use Rattle.look_text.specs.Wanted.{Stop, behind, after, first_wrong}
-use Rattle.look_text.specs.Wrong.{stop_words, wrong_line}
+use Rattle.look_text.specs.Wrong.{stop_words}
 use Rattle.look_text.specs.Labels.{is_named}
 use Rattle.look_text.specs.Failing.{first_failing, wanted_there}
 use Rattle.look_text.proofs.LineLemmas.{behind_words}
@@ -19,32 +19,19 @@ abbrev pub said_if : List ℕ → Option Stop → List ℕ
 said_if before None = []
 said_if before (Some s) = before ++ stop_words s
 
-pub said_at : (o : Option Stop) → said_if (codes "at") o ≡ wrong_line o
-said_at None = refl
-said_at (Some s) = refl
-
 said_behind : (before more word : List ℕ) (o : Option Stop) → more ≡ before ++ (32 ∷ word) → said_if more o ≡ said_if before (option_map (behind word) o)
 said_behind before more word None e = refl
 said_behind before more word (Some s) e =
     ap (λ (x : List ℕ). x ++ stop_words s) e ∙ append_assoc before (32 ∷ word) (stop_words s) ∙ ap (λ (x : List ℕ). before ++ x) (sym (behind_words word s))
 
 -- a word that passes was said after a space
-pub passed_said : (test : Wanted → List ℕ → Bool) (wanted next : Wanted) (word : List ℕ) (words left : List (List ℕ)) (before space more : List ℕ) → words ≡ word ∷ left → test wanted word ≡ true → next ≡ after wanted word → space ≡ before ++ 32 ∷ [] → more ≡ space ++ word → said_if more (first_failing test next left) ≡ said_if before (first_failing test wanted words)
+pub passed_said : (test : Expected → List ℕ → Bool) (wanted next : Expected) (word : List ℕ) (words left : List (List ℕ)) (before space more : List ℕ) → words ≡ word ∷ left → test wanted word ≡ true → next ≡ after wanted word → space ≡ before ++ 32 ∷ [] → more ≡ space ++ word → said_if more (first_failing test next left) ≡ said_if before (first_failing test wanted words)
 passed_said test wanted next word words left before space more e f n g h =
     let said : more ≡ before ++ (32 ∷ word) = h ∙ ap (λ (x : List ℕ). x ++ word) g ∙ append_assoc before (32 ∷ []) word in
-    ap (λ (w : Wanted). said_if more (first_failing test w left)) n
+    ap (λ (w : Expected). said_if more (first_failing test w left)) n
     ∙ said_behind before more word (first_failing test (after wanted word) left) said
     ∙ ap (λ (b : Bool). said_if before (if b then option_map (behind word) (first_failing test (after wanted word) left) else Some (first_wrong (wanted_there wanted) word))) (sym f)
     ∙ ap (λ (ws : List (List ℕ)). said_if before (first_failing test wanted ws)) (sym e)
-
--- a word that doesn't pass is reported
-pub failed_said : (test : Wanted → List ℕ → Bool) (wanted : Wanted) (word : List ℕ) (words left : List (List ℕ)) (before : List ℕ) → words ≡ word ∷ left → test wanted word ≡ false → said_if before (first_failing test wanted words) ≡ before ++ stop_words (first_wrong (wanted_there wanted) word)
-failed_said test wanted word words left before e f =
-    ap (λ (ws : List (List ℕ)). said_if before (first_failing test wanted ws)) e
-    ∙ ap (λ (b : Bool). said_if before (if b then option_map (behind word) (first_failing test (after wanted word) left) else Some (first_wrong (wanted_there wanted) word))) f
-
-pub all_passed : (test : Wanted → List ℕ → Bool) (wanted : Wanted) (words : List (List ℕ)) (before : List ℕ) → words ≡ [] → said_if before (first_failing test wanted words) ≡ []
-all_passed test wanted words before e = ap (λ (ws : List (List ℕ)). said_if before (first_failing test wanted ws)) e
 
 -- ---- earlier functions
 
@@ -77,9 +64,3 @@ earlier_more o f i word b small e =
     any_from p (take f o.done) i
     ∙ ap (λ (c : Bool). c || list_any p (drop (suc i) (take f o.done))) (ap (at_option p) (get_taken f i o.done small) ∙ named_there (slice_get o.done i) word ∙ e)
     ∙ ap (λ (n : ℕ). b || list_any p (drop n (take f o.done))) next
-
--- no earlier function is left
-pub none_earlier : (f : ℕ) (ds : List Draft) (p : Draft → Bool) → list_any p (drop f (take f ds)) ≡ false
-none_earlier zero ds p = refl
-none_earlier (suc f) [] p = refl
-none_earlier (suc f) (d ∷ ds) p = none_earlier f ds p

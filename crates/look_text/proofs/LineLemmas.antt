@@ -3,7 +3,7 @@ use Rattle.std.proofs.Common.{◌≡◌, ℕ, List, [], ◌∷◌, ◌++◌, tru
 use Rattle.std.specs.Prelude.{if◌then◌else◌, Some, codes}
 use Rattle.std.proofs.lemmas.List.{append-nil}
 use Rattle.sts_list.specs.Spelling.{after_spaces}
-use Rattle.look_text.specs.declared.wanted.Wanted.{Wanted}
+use Rattle.look_text.specs.declared.wanted.Expected.{Expected}
 use Rattle.look_text.specs.Wanted.{Stop, stop, behind, fits, after}
 use Rattle.look_text.specs.Wrong.{bracketed, expected_words, wanted_words, stop_words}
 
@@ -18,20 +18,20 @@ behind_words word s =
     ap (λ (x : List ℕ). x ++ wanted_words s.wanted s.word) (append_assoc (32 ∷ word) (after_spaces s.before) (bracketed s.word))
     ∙ append_assoc (32 ∷ word) (after_spaces s.before ++ bracketed s.word) (wanted_words s.wanted s.word)
 
-stop_behind : (wanted : Wanted) (word : List ℕ) (left : List (List ℕ)) → fits wanted word ≡ true → stop wanted (word ∷ left) ≡ behind word (stop (after wanted word) left)
+stop_behind : (wanted : Expected) (word : List ℕ) (left : List (List ℕ)) → fits wanted word ≡ true → stop wanted (word ∷ left) ≡ behind word (stop (after wanted word) left)
 stop_behind wanted word left e = ap (λ b. if b then behind word (stop (after wanted word) left) else record { before = []; word = Some word; wanted = wanted }) e
 
 -- nothing can be meant by a missing word
-pub missing_words : (wanted : Wanted) → stop_words (stop wanted []) ≡ codes " []" ++ expected_words wanted
+pub missing_words : (wanted : Expected) → stop_words (stop wanted []) ≡ codes " []" ++ expected_words wanted
 missing_words wanted = ap (λ (x : List ℕ). codes " []" ++ x) (append-nil (expected_words wanted))
 
 -- a word that is as expected was appended after a space
-pub one_word_said : (wanted next : Wanted) (word : List ℕ) (words left : List (List ℕ)) (before space after_word : List ℕ) → words ≡ word ∷ left → fits wanted word ≡ true → next ≡ after wanted word → space ≡ before ++ 32 ∷ [] → after_word ≡ space ++ word → after_word ++ stop_words (stop next left) ≡ before ++ stop_words (stop wanted words)
+pub one_word_said : (wanted next : Expected) (word : List ℕ) (words left : List (List ℕ)) (before space after_word : List ℕ) → words ≡ word ∷ left → fits wanted word ≡ true → next ≡ after wanted word → space ≡ before ++ 32 ∷ [] → after_word ≡ space ++ word → after_word ++ stop_words (stop next left) ≡ before ++ stop_words (stop wanted words)
 one_word_said wanted next word words left before space after_word e f n g h =
     let rest : List ℕ = stop_words (stop (after wanted word) left) in
     let said : after_word ≡ before ++ (32 ∷ word) = h ∙ ap (λ (x : List ℕ). x ++ word) g ∙ append_assoc before (32 ∷ []) word in
     let whole : stop_words (stop wanted words) ≡ (32 ∷ word) ++ rest = ap (λ (ws : List (List ℕ)). stop_words (stop wanted ws)) e ∙ ap stop_words (stop_behind wanted word left f) ∙ behind_words word (stop (after wanted word) left) in
-    ap (λ (w : Wanted). after_word ++ stop_words (stop w left)) n ∙ ap (λ (x : List ℕ). x ++ rest) said ∙ append_assoc before (32 ∷ word) rest
+    ap (λ (w : Expected). after_word ++ stop_words (stop w left)) n ∙ ap (λ (x : List ℕ). x ++ rest) said ∙ append_assoc before (32 ∷ word) rest
     ∙ ap (λ (x : List ℕ). before ++ x) (sym whole)
 
 -- one text more

@@ -28,8 +28,8 @@ use Rattle.sts_asm.specs.Operand.{kind_at, finished}
 use Rattle.sts_asm.specs.Outline.{Sentence, Draft, Outline, outline_of}
 use Rattle.sts_asm.specs.Source.{sentence_at, names_at}
 use Rattle.sts_asm.specs.Text.{each, instr_at, routine_of, checked, program_of}
-use Rattle.look_text.specs.declared.wanted.Wanted.{Wanted}
-use Rattle.look_text.specs.declared.wanted.Wanted.TheVariants as w
+use Rattle.look_text.specs.declared.wanted.Expected.{Expected}
+use Rattle.look_text.specs.declared.wanted.Expected.TheVariants as w
 use Rattle.look_text.specs.Wanted.{Stop, behind, first_wrong, after, of_mnemonic}
 use Rattle.look_text.specs.WrongWord.{wrong, Stops}
 use Rattle.look_text.specs.Names as def
@@ -41,20 +41,20 @@ is_some_mapped f (Some x) = refl
 
 -- Reading by names finds the first word that names nothing, and finds no fault if each word names
 -- something.
-pub record Named {X : Type 0} (names : Names) (s : Wanted) (read : List (List ℕ) → Result X AsmKind) (words : List (List ℕ)) : Type 0 where
+pub record Named {X : Type 0} (names : Names) (s : Expected) (read : List (List ℕ) → Result X AsmKind) (words : List (List ℕ)) : Type 0 where
   pub unknown : read words ≡ Err UnknownLabel → (t : Stop) × ((def.name_stop names s words ≡ Some t) × Stops read UnknownLabel words t)
   pub well : (x : X) → read words ≡ Ok x → def.name_stop names s words ≡ None
 
-abbrev pub NamedFrom : {X : Type 0} → Names → Wanted → (List (List ℕ) → Result X AsmKind) → Type 0
+abbrev pub NamedFrom : {X : Type 0} → Names → Expected → (List (List ℕ) → Result X AsmKind) → Type 0
 NamedFrom names s read = (words : List (List ℕ)) → Named names s read words
 
 -- what one word does
-data Goes {X : Type 0} (names : Names) (s : Wanted) (read : List (List ℕ) → Result X AsmKind) (word : List ℕ) : Type 0 where
+data Goes {X : Type 0} (names : Names) (s : Expected) (read : List (List ℕ) → Result X AsmKind) (word : List ℕ) : Type 0 where
   unnamed : def.names_some names s word ≡ false → ((more : List (List ℕ)) → read (word ∷ more) ≡ Err UnknownLabel) → Goes names s read word
   on : (next : List (List ℕ) → Result X AsmKind) → def.names_some names s word ≡ true → ((more : List (List ℕ)) → read (word ∷ more) ≡ next more) → NamedFrom names (after s word) next → Goes names s read word
   other : (kind : AsmKind) → (kind ≡ UnknownLabel → ⊥) → ((more : List (List ℕ)) → read (word ∷ more) ≡ Err kind) → Goes names s read word
 
-goes_named : {X : Type 0} (names : Names) (s : Wanted) (read : List (List ℕ) → Result X AsmKind) (word : List ℕ) (rest : List (List ℕ)) → (read [] ≡ Err UnknownLabel → ⊥) → Goes names s read word → Named names s read (word ∷ rest)
+goes_named : {X : Type 0} (names : Names) (s : Expected) (read : List (List ℕ) → Result X AsmKind) (word : List ℕ) (rest : List (List ℕ)) → (read [] ≡ Err UnknownLabel → ⊥) → Goes names s read word → Named names s read (word ∷ rest)
 goes_named names s read word rest empty (unnamed n bad) =
     record {
       unknown = λ e. (first_wrong (def.known s) word, (rw n refl, wrong word rest refl ([], empty) bad));
@@ -71,20 +71,20 @@ goes_named names s read word rest empty (other kind isnt bad) =
       well = λ x e. let no : Err kind ≡ Ok x = sym (bad rest) ∙ e in absurd (cc);
     }
 
-step : {X : Type 0} (names : Names) (s : Wanted) (read : List (List ℕ) → Result X AsmKind) → (read [] ≡ Err UnknownLabel → ⊥) → ((word : List ℕ) → Goes names s read word) → NamedFrom names s read
+step : {X : Type 0} (names : Names) (s : Expected) (read : List (List ℕ) → Result X AsmKind) → (read [] ≡ Err UnknownLabel → ⊥) → ((word : List ℕ) → Goes names s read word) → NamedFrom names s read
 step names s read empty goes [] = record { unknown = λ e. absurd (empty e); well = λ x e. refl }
 step names s read empty goes (word ∷ rest) = goes_named names s read word rest empty (goes word)
 
 -- ---- where no name is wanted
 
-abbrev pub Quiet : Names → Wanted → Type 0
+abbrev pub Quiet : Names → Expected → Type 0
 Quiet names s = (words : List (List ℕ)) → def.name_stop names s words ≡ None
 
 quiet_nothing : (names : Names) → Quiet names w.Nothing
 quiet_nothing names [] = refl
 quiet_nothing names (word ∷ rest) = rw (quiet_nothing names rest) refl
 
-pass : (names : Names) (s : Wanted) → ((word : List ℕ) → def.names_some names s word ≡ true) → ((word : List ℕ) → Quiet names (after s word)) → Quiet names s
+pass : (names : Names) (s : Expected) → ((word : List ℕ) → def.names_some names s word ≡ true) → ((word : List ℕ) → Quiet names (after s word)) → Quiet names s
 pass names s y q [] = refl
 pass names s y q (word ∷ rest) = rw (y word, q word rest) refl
 
@@ -179,7 +179,7 @@ never_kind : (words : List (List ℕ)) → Never (kind_at words)
 never_kind [] e = absurd (cc)
 never_kind (word ∷ rest) e = never_wanted BadOperands (looked_up kinds_counted word) rest no_operands e
 
-quiet_named : {X : Type 0} (names : Names) (s : Wanted) (read : List (List ℕ) → Result X AsmKind) → ((words : List (List ℕ)) → Never (read words)) → Quiet names s → NamedFrom names s read
+quiet_named : {X : Type 0} (names : Names) (s : Expected) (read : List (List ℕ) → Result X AsmKind) → ((words : List (List ℕ)) → Never (read words)) → Quiet names s → NamedFrom names s read
 quiet_named names s read never quiet words = record { unknown = λ e. absurd (never words e); well = λ x e. quiet words }
 
 nothing : {X : Type 0} (names : Names) (x : X) → NamedFrom names w.Nothing (finished x)
@@ -187,7 +187,7 @@ nothing names x = quiet_named names w.Nothing (finished x) (never_finished x) (q
 
 -- ---- one word
 
-slot_word : {X : Type 0} (names : Names) (s : Wanted) (next : ℕ → List (List ℕ) → Result X AsmKind) → ((word : List ℕ) → def.names_some names s word ≡ true)
+slot_word : {X : Type 0} (names : Names) (s : Expected) (next : ℕ → List (List ℕ) → Result X AsmKind) → ((word : List ℕ) → def.names_some names s word ≡ true)
     → ((word : List ℕ) (x : ℕ) → NamedFrom names (after s word) (next x)) → NamedFrom names s (λ ws. slot_at ws >>= λ x. next x.0 x.1)
 slot_word {X} names s next y rest = step names s read (λ q. absurd (cc)) (λ word. by word (slot word) refl)
   where
@@ -198,7 +198,7 @@ slot_word {X} names s next y rest = step names s read (λ q. absurd (cc)) (λ wo
     by word None h = other BadOperands no_operands (λ more. rw h refl)
     by word (Some x) h = on (next x) (y word) (λ more. rw h refl) (rest word x)
 
-target_word : {X : Type 0} (names : Names) (s : Wanted) (next : ℕ → List (List ℕ) → Result X AsmKind) → ((word : List ℕ) → def.names_some names s word ≡ def.is_label names word)
+target_word : {X : Type 0} (names : Names) (s : Expected) (next : ℕ → List (List ℕ) → Result X AsmKind) → ((word : List ℕ) → def.names_some names s word ≡ def.is_label names word)
     → ((word : List ℕ) (to : ℕ) → NamedFrom names (after s word) (next to)) → NamedFrom names s (λ ws. target_at (Some names) ws >>= λ x. next x.0 x.1)
 target_word {X} names s next same rest = step names s read (λ q. absurd (cc)) (λ word. by word (is_name word) refl)
   where
@@ -228,7 +228,7 @@ function_word {X} names next rest = step names w.Function read (λ q. absurd (cc
     by word false n = other BadOperands no_operands (λ more. rw n refl)
     by word true n = by_mark word (marked names.functions word) n refl
 
-maybe_word : {X : Type 0} (names : Names) (s : Wanted) (next : Option ℕ → List (List ℕ) → Result X AsmKind) → ((word : List ℕ) → def.names_some names s word ≡ def.is_maybe_label names word)
+maybe_word : {X : Type 0} (names : Names) (s : Expected) (next : Option ℕ → List (List ℕ) → Result X AsmKind) → ((word : List ℕ) → def.names_some names s word ≡ def.is_maybe_label names word)
     → ((word : List ℕ) (to : Option ℕ) → NamedFrom names (after s word) (next to)) → NamedFrom names s (λ ws. maybe_target_at (Some names) ws >>= λ x. next x.0 x.1)
 maybe_word {X} names s next same rest = step names s read (λ q. absurd (cc)) (λ word. by word (bytes_eq word (codes "-")) refl)
   where

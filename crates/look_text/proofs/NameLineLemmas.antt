@@ -9,7 +9,7 @@ use Rattle.sts_asm.specs.Line.{mnemonic_of}
 use Rattle.sts_asm.specs.Marks.{Names}
 use Rattle.sts_asm.specs.Outline.{Sentence, Draft, Outline}
 use Rattle.sts_asm.specs.Source.{names_at, labels_of, sentences_of}
-use Rattle.look_text.specs.declared.wanted.Wanted.{Wanted}
+use Rattle.look_text.specs.declared.wanted.Expected.{Expected}
 use Rattle.look_text.specs.Names.{name_stop, names_some, known, line_stop, lines_stop, functions_stop}
 use Rattle.look_text.specs.Wanted.{Stop, behind, after, first_wrong, of_mnemonic}
 use Rattle.look_text.specs.Wrong.{stop_words, named_line, wrong_line, StopsAt}
@@ -24,14 +24,14 @@ said_behind before after_word word None e = cc
 said_behind before after_word word (Some s) e =
     ap (λ (x : List ℕ). Some x) (ap (λ (x : List ℕ). x ++ stop_words s) e ∙ append_assoc before (32 ∷ word) (stop_words s) ∙ ap (λ (x : List ℕ). before ++ x) (sym (behind_words word s)))
 
-stops_behind : (names : Names) (wanted : Wanted) (word : List ℕ) (left : List (List ℕ)) → names_some names wanted word ≡ true → name_stop names wanted (word ∷ left) ≡ option_map (behind word) (name_stop names (after wanted word) left)
+stops_behind : (names : Names) (wanted : Expected) (word : List ℕ) (left : List (List ℕ)) → names_some names wanted word ≡ true → name_stop names wanted (word ∷ left) ≡ option_map (behind word) (name_stop names (after wanted word) left)
 stops_behind names wanted word left e = ap (λ b. if b then option_map (behind word) (name_stop names (after wanted word) left) else Some (first_wrong (known wanted) word)) e
 
 -- a word that names something was said after a space
-pub name_said : (names : Names) (wanted next : Wanted) (word : List ℕ) (words left : List (List ℕ)) (before space after_word : List ℕ) → words ≡ word ∷ left → names_some names wanted word ≡ true → next ≡ after wanted word → space ≡ before ++ 32 ∷ [] → after_word ≡ space ++ word → said after_word (name_stop names next left) ≡ said before (name_stop names wanted words)
+pub name_said : (names : Names) (wanted next : Expected) (word : List ℕ) (words left : List (List ℕ)) (before space after_word : List ℕ) → words ≡ word ∷ left → names_some names wanted word ≡ true → next ≡ after wanted word → space ≡ before ++ 32 ∷ [] → after_word ≡ space ++ word → said after_word (name_stop names next left) ≡ said before (name_stop names wanted words)
 name_said names wanted next word words left before space after_word e f n g h =
     let here : after_word ≡ before ++ (32 ∷ word) = h ∙ ap (λ (x : List ℕ). x ++ word) g ∙ append_assoc before (32 ∷ []) word in
-    ap (λ (w : Wanted). said after_word (name_stop names w left)) n
+    ap (λ (w : Expected). said after_word (name_stop names w left)) n
     ∙ said_behind before after_word word (name_stop names (after wanted word) left) here
     ∙ ap (λ (o : Option Stop). said before o) (sym (stops_behind names wanted word left f))
     ∙ ap (λ (ws : List (List ℕ)). said before (name_stop names wanted ws)) (sym e)
@@ -43,10 +43,10 @@ mapped_said first before two new (Some s) e h =
     ∙ ap (λ (x : List ℕ). before ++ (codes "at" ++ x)) (sym (behind_words first s))
 
 -- a line was said up to the word that names nothing
-pub line_said : (names : Names) (wanted : Wanted) (first : List ℕ) (words left : List (List ℕ)) (before one two new : List ℕ) → words ≡ first ∷ left → wanted ≡ of_mnemonic (mnemonic_of first) → one ≡ before ++ codes "at " → two ≡ one ++ first → IfSome (name_stop names wanted left) (λ s. new ≡ two ++ stop_words s) → IfSome (line_stop names words) (λ s. new ≡ before ++ named_line s)
+pub line_said : (names : Names) (wanted : Expected) (first : List ℕ) (words left : List (List ℕ)) (before one two new : List ℕ) → words ≡ first ∷ left → wanted ≡ of_mnemonic (mnemonic_of first) → one ≡ before ++ codes "at " → two ≡ one ++ first → IfSome (name_stop names wanted left) (λ s. new ≡ two ++ stop_words s) → IfSome (line_stop names words) (λ s. new ≡ before ++ named_line s)
 line_said names wanted first words left before one two new e w f g h =
     let here : two ≡ before ++ (codes "at " ++ first) = g ∙ ap (λ (x : List ℕ). x ++ first) f ∙ append_assoc before (codes "at ") first in
-    let said_there : IfSome (name_stop names (of_mnemonic (mnemonic_of first)) left) (λ s. new ≡ two ++ stop_words s) = subst (λ (x : Wanted). IfSome (name_stop names x left) (λ s. new ≡ two ++ stop_words s)) w h in
+    let said_there : IfSome (name_stop names (of_mnemonic (mnemonic_of first)) left) (λ s. new ≡ two ++ stop_words s) = subst (λ (x : Expected). IfSome (name_stop names x left) (λ s. new ≡ two ++ stop_words s)) w h in
     subst (λ (ws : List (List ℕ)). IfSome (line_stop names ws) (λ s. new ≡ before ++ named_line s)) (sym e) (mapped_said first before two new (name_stop names (of_mnemonic (mnemonic_of first)) left) here said_there)
 
 stops_with : (names : Names) (lines : List Sentence) (s : Sentence) (o rest : Option Stop) → line_stop names s.words ≡ o → lines_stop names lines ≡ option_or o rest → is_some o ≡ true → StopsAt names lines s

@@ -22,8 +22,8 @@ use Rattle.sts_asm.specs.Operand.{Read, wanted, looked_up, number_at, slot, slot
 use Rattle.sts_asm.specs.Operand.{named, target_at, function_at, maybe_target_at, until_count_at}
 use Rattle.sts_asm.specs.Operand.{until_value_at, until_at, joiners, joiner_at, timed_at, kinds_counted}
 use Rattle.sts_asm.specs.Operand.{kind_at, finished}
-use Rattle.look_text.specs.declared.wanted.Wanted.{Wanted}
-use Rattle.look_text.specs.declared.wanted.Wanted.TheVariants as w
+use Rattle.look_text.specs.declared.wanted.Expected.{Expected}
+use Rattle.look_text.specs.declared.wanted.Expected.TheVariants as w
 use Rattle.look_text.specs.Wanted.{fits, after, of_mnemonic}
 use Rattle.look_text.specs.WrongWord.{Allows}
 use Rattle.look_text.proofs.StopLemmas.{StopsFrom, allows, one, spelled, nothing, none_of}
@@ -52,7 +52,7 @@ pub handed_on : {A B X : Type 0} (kind : AsmKind) (o : Option A) (more : List (L
 handed_on kind None more g h = refl
 handed_on kind (Some a) more g h = refl
 
-slot_word : {X : Type 0} (s : Wanted) (next : ℕ → List (List ℕ) → Result X AsmKind) → ((word : List ℕ) → fits s word ≡ is_some (slot word))
+slot_word : {X : Type 0} (s : Expected) (next : ℕ → List (List ℕ) → Result X AsmKind) → ((word : List ℕ) → fits s word ≡ is_some (slot word))
     → ((kind : AsmKind) → Allows (λ ws. slot_at ws >>= λ x. next x.0 x.1) kind []) → ((word : List ℕ) (x : ℕ) → StopsFrom (after s word) (next x))
     → StopsFrom s (λ ws. slot_at ws >>= λ x. next x.0 x.1)
 slot_word s next fit allowed rest = spelled s slot BadOperands next (λ ws. slot_at ws >>= λ x. next x.0 x.1) allowed fit (λ word more. refl) rest
@@ -61,21 +61,21 @@ pub named_fits : (b : Bool) (word : List ℕ) → b ≡ is_some (cond {A = Optio
 named_fits true word = refl
 named_fits false word = refl
 
-target_word : {X : Type 0} (s : Wanted) (next : ℕ → List (List ℕ) → Result X AsmKind) → ((word : List ℕ) → fits s word ≡ is_name word)
+target_word : {X : Type 0} (s : Expected) (next : ℕ → List (List ℕ) → Result X AsmKind) → ((word : List ℕ) → fits s word ≡ is_name word)
     → ((kind : AsmKind) → Allows (λ ws. target_at None ws >>= λ x. next x.0 x.1) kind []) → ((word : List ℕ) → StopsFrom (after s word) (next 0))
     → StopsFrom s (λ ws. target_at None ws >>= λ x. next x.0 x.1)
 target_word s next fit allowed rest =
     spelled s named BadOperands (λ name. next 0) (λ ws. target_at None ws >>= λ x. next x.0 x.1) allowed (λ word. fit word ∙ named_fits (is_name word) word)
     (λ word more. handed_on BadOperands (named word) more (λ name. wanted UnknownLabel (label_in None name.0) name.1) (λ x. next x.0 x.1)) (λ word name. rest word)
 
-function_word : {X : Type 0} (s : Wanted) (next : ℕ → List (List ℕ) → Result X AsmKind) → ((word : List ℕ) → fits s word ≡ is_name word)
+function_word : {X : Type 0} (s : Expected) (next : ℕ → List (List ℕ) → Result X AsmKind) → ((word : List ℕ) → fits s word ≡ is_name word)
     → ((kind : AsmKind) → Allows (λ ws. function_at None ws >>= λ x. next x.0 x.1) kind []) → ((word : List ℕ) → StopsFrom (after s word) (next 0))
     → StopsFrom s (λ ws. function_at None ws >>= λ x. next x.0 x.1)
 function_word s next fit allowed rest =
     spelled s named BadOperands (λ name. next 0) (λ ws. function_at None ws >>= λ x. next x.0 x.1) allowed (λ word. fit word ∙ named_fits (is_name word) word)
     (λ word more. handed_on BadOperands (named word) more (λ name. wanted UnknownLabel (function_in None name.0) name.1) (λ x. next x.0 x.1)) (λ word name. rest word)
 
-maybe_word : {X : Type 0} (s : Wanted) (next : Option ℕ → List (List ℕ) → Result X AsmKind) → ((word : List ℕ) → fits s word ≡ (bytes_eq word (codes "-") || is_name word))
+maybe_word : {X : Type 0} (s : Expected) (next : Option ℕ → List (List ℕ) → Result X AsmKind) → ((word : List ℕ) → fits s word ≡ (bytes_eq word (codes "-") || is_name word))
     → ((kind : AsmKind) → Allows (λ ws. maybe_target_at None ws >>= λ x. next x.0 x.1) kind []) → ((word : List ℕ) (to : Option ℕ) → StopsFrom (after s word) (next to))
     → StopsFrom s (λ ws. maybe_target_at None ws >>= λ x. next x.0 x.1)
 maybe_word {X} s next fit allowed rest = one s read allowed bad good

@@ -5,21 +5,17 @@ use Rattle.sts_asm.specs.declared.fault.AsmKind.{AsmKind}
 use Rattle.sts_asm.specs.declared.fault.AsmKind.TheVariants.{BadOperands}
 use Rattle.sts_asm.specs.Fault.{◌>>=◌}
 use Rattle.sts_asm.specs.Operand.{wanted, finished}
-use Rattle.look_text.specs.declared.wanted.Wanted.{Wanted}
-use Rattle.look_text.specs.declared.wanted.Wanted.TheVariants as w
+use Rattle.look_text.specs.declared.wanted.Expected.{Expected}
+use Rattle.look_text.specs.declared.wanted.Expected.TheVariants as w
 use Rattle.look_text.specs.Wanted.{Stop, stop, behind, fits, after}
 use Rattle.look_text.specs.WrongWord.{Allows, IsWrong, wrong, missing, Stops}
 
 -- The state in which reading begins, and what is expected there.
-abbrev pub StopsFrom : {X : Type 0} → Wanted → (List (List ℕ) → Result X AsmKind) → Type 0
+abbrev pub StopsFrom : {X : Type 0} → Expected → (List (List ℕ) → Result X AsmKind) → Type 0
 StopsFrom {X} s read = (kind : AsmKind) (words : List (List ℕ)) → read words ≡ Err kind → Stops read kind words (stop s words)
 
 pub same_kind : {X : Type 0} (a b : AsmKind) (r : Result X AsmKind) → r ≡ Err a → r ≡ Err b → a ≡ b
 same_kind a b r e f = cc
-
-pub some_of : {A : Type 0} (o : Option A) → is_some o ≡ true → (x : A) × (o ≡ Some x)
-some_of None e = absurd (cc)
-some_of (Some x) e = (x, refl)
 
 pub none_of : {A : Type 0} (o : Option A) → is_some o ≡ false → o ≡ None
 none_of None e = refl
@@ -38,7 +34,7 @@ one_before read next kind first words before word shift (missing e l) =
 
 -- One word is expected. Another word makes the fault certain; after the expected one reading goes
 -- on.
-pub one_on : {X : Type 0} (s : Wanted) (read : List (List ℕ) → Result X AsmKind) (kind : AsmKind) (word : List ℕ) (words : List (List ℕ)) → Allows read kind []
+pub one_on : {X : Type 0} (s : Expected) (read : List (List ℕ) → Result X AsmKind) (kind : AsmKind) (word : List ℕ) (words : List (List ℕ)) → Allows read kind []
     → (fits s word ≡ false → (bad : AsmKind) × ((more : List (List ℕ)) → read (word ∷ more) ≡ Err bad))
     → (fits s word ≡ true → (next : List (List ℕ) → Result X AsmKind) × (((more : List (List ℕ)) → read (word ∷ more) ≡ next more) × (next words ≡ Err kind → Stops next kind words (stop (after s word) words))))
     → read (word ∷ words) ≡ Err kind → Stops read kind (word ∷ words) (stop s (word ∷ words))
@@ -54,7 +50,7 @@ one_on {X} s read kind word words allowed bad good e = by (fits s word) refl
         let same : h.0 ≡ kind = same_kind h.0 kind (read (word ∷ words)) (h.1 words) e in
         wrong word words refl allowed (λ more. h.1 more ∙ ap (λ (k : AsmKind). Err k) same)
 
-pub one : {X : Type 0} (s : Wanted) (read : List (List ℕ) → Result X AsmKind) → ((kind : AsmKind) → Allows read kind [])
+pub one : {X : Type 0} (s : Expected) (read : List (List ℕ) → Result X AsmKind) → ((kind : AsmKind) → Allows read kind [])
     → ((word : List ℕ) → fits s word ≡ false → (kind : AsmKind) × ((more : List (List ℕ)) → read (word ∷ more) ≡ Err kind))
     → ((word : List ℕ) → fits s word ≡ true → (next : List (List ℕ) → Result X AsmKind) × (((more : List (List ℕ)) → read (word ∷ more) ≡ next more) × StopsFrom (after s word) next))
     → StopsFrom s read
@@ -63,7 +59,7 @@ one s read allowed bad good kind (word ∷ words) e =
     one_on s read kind word words (allowed kind) (bad word) (λ q. let g = good word q in (g.0, (g.1.0, λ h. g.1.1 kind words h))) e
 
 -- A word is expected that spells something.
-pub spelled : {A X : Type 0} (s : Wanted) (f : List ℕ → Option A) (kind : AsmKind) (next : A → List (List ℕ) → Result X AsmKind) (read : List (List ℕ) → Result X AsmKind)
+pub spelled : {A X : Type 0} (s : Expected) (f : List ℕ → Option A) (kind : AsmKind) (next : A → List (List ℕ) → Result X AsmKind) (read : List (List ℕ) → Result X AsmKind)
     → ((kind : AsmKind) → Allows read kind []) → ((word : List ℕ) → fits s word ≡ is_some (f word))
     → ((word : List ℕ) (more : List (List ℕ)) → read (word ∷ more) ≡ (wanted kind (f word) more >>= λ a. next a.0 a.1))
     → ((word : List ℕ) (a : A) → StopsFrom (after s word) (next a))

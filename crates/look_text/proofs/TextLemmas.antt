@@ -10,7 +10,7 @@ use Rattle.sts_asm.specs.declared.fault.AsmError.{AsmError}
 use Rattle.sts_asm.specs.Fault.{◌>>=◌, at_line}
 use Rattle.sts_asm.specs.Outline.{Outline, empty, said, is_allowed, is_semicolon, line_read, lines_read, closed, outline_of}
 use Rattle.sts_asm.specs.Source.{words_of, words_at}
-use Rattle.look_text.specs.declared.wanted.Wanted.TheVariants.{First}
+use Rattle.look_text.specs.declared.wanted.Expected.TheVariants.{First}
 use Rattle.look_text.specs.Wanted.{stop}
 use Rattle.look_text.specs.WrongWord.{Stops, IsOfOperand, OperandsStop}
 use Rattle.look_text.proofs.ExpectedLemmas.{words_operands}

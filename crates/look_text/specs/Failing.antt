@@ -13,8 +13,8 @@ use Rattle.sts_asm.specs.Operand.{slot, handle}
 use Rattle.sts_asm.specs.Outline.{Draft, Sentence, Outline}
 use Rattle.sts_asm.specs.Source.{sentence_at, words_at}
 use Rattle.look_text.specs.Wanted.{Stop, behind, first_wrong, after}
-use Rattle.look_text.specs.declared.wanted.Wanted.{Wanted}
-use Rattle.look_text.specs.declared.wanted.Wanted.TheVariants as w
+use Rattle.look_text.specs.declared.wanted.Expected.{Expected}
+use Rattle.look_text.specs.declared.wanted.Expected.TheVariants as w
 use Rattle.look_text.specs.Heads.{head_at}
 use Rattle.look_text.specs.Labels.{is_behind}
 use Rattle.look_text.specs.Checks.{failing, is_of_head}
@@ -41,7 +41,7 @@ is_positive None = false
 is_positive (Some n) = nat_lt 0 n
 
 -- is the word in the range of what is expected?
-abbrev pub is_in_range : Wanted → List ℕ → Bool
+abbrev pub is_in_range : Expected → List ℕ → Bool
 is_in_range w.Byte word = is_some (number_up_to LAST_SLOT word)
 is_in_range w.Turns word = is_positive (number_up_to MAX_TURNS word)
 is_in_range w.Slot word = is_slot (slot word)
@@ -56,7 +56,7 @@ is_in_range w.Args word = is_some (number_up_to MAX_ARGS word)
 is_in_range wanted word = true
 
 -- is a label expected?
-abbrev pub is_label : Wanted → Bool
+abbrev pub is_label : Expected → Bool
 is_label w.Label = true
 is_label w.JoinFailed = true
 is_label w.JoinTimeout = true
@@ -66,7 +66,7 @@ is_label w.CaseFailed = true
 is_label wanted = false
 
 -- does the word pass the check?
-abbrev pub passes : List ℕ → Outline → ℕ → CodeCause → Wanted → List ℕ → Bool
+abbrev pub passes : List ℕ → Outline → ℕ → CodeCause → Expected → List ℕ → Bool
 passes text o f code.BadTarget wanted word = not (is_label wanted && is_behind text o f word)
 passes text o f code.LaterFunction w.Function word = is_earlier o f word
 passes text o f code.DuplicateName w.Name word = not (is_earlier o f word)
@@ -74,12 +74,12 @@ passes text o f code.BadRange wanted word = is_in_range wanted word
 passes text o f cause wanted word = true
 
 -- what is expected instead of a word that doesn't pass
-abbrev pub wanted_there : Wanted → Wanted
+abbrev pub wanted_there : Expected → Expected
 wanted_there w.Function = w.KnownFunction
 wanted_there wanted = if is_label wanted then w.KnownLabel else wanted
 
 -- the first word that doesn't pass a test, and what is expected there
-abbrev pub first_failing : (Wanted → List ℕ → Bool) → Wanted → List (List ℕ) → Option Stop
+abbrev pub first_failing : (Expected → List ℕ → Bool) → Expected → List (List ℕ) → Option Stop
 first_failing test wanted [] = None
 first_failing test wanted (word ∷ rest) =
     if test wanted word then option_map (behind word) (first_failing test (after wanted word) rest)

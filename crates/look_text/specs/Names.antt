@@ -11,8 +11,8 @@ use Rattle.sts_asm.specs.Source.{outlined, sentence_at, names_at}
 use Rattle.sts_asm.specs.Text.{judged}
 use Rattle.sts_asm.specs.declared.fault.AsmKind.TheVariants.{UnknownLabel}
 use Rattle.sts_asm.specs.declared.fault.AsmError.{AsmError}
-use Rattle.look_text.specs.declared.wanted.Wanted.{Wanted}
-use Rattle.look_text.specs.declared.wanted.Wanted.TheVariants as w
+use Rattle.look_text.specs.declared.wanted.Expected.{Expected}
+use Rattle.look_text.specs.declared.wanted.Expected.TheVariants as w
 use Rattle.look_text.specs.Wanted.{Stop, behind, first_wrong, after, of_mnemonic}
 use Rattle.look_text.specs.WrongWord.{Stops}
 
@@ -25,7 +25,7 @@ abbrev pub is_maybe_label : Names → List ℕ → Bool
 is_maybe_label names word = bytes_eq word (codes "-") || is_label names word
 
 -- does the word name what is expected there? If no name is expected, any word does.
-abbrev pub names_some : Names → Wanted → List ℕ → Bool
+abbrev pub names_some : Names → Expected → List ℕ → Bool
 names_some names w.Label word = is_label names word
 names_some names w.Function word = is_some (marked names.functions word)
 names_some names w.JoinFailed word = is_maybe_label names word
@@ -36,12 +36,12 @@ names_some names w.CaseFailed word = is_label names word
 names_some names wanted word = true
 
 -- what is expected instead of a name that isn't in the text
-abbrev pub known : Wanted → Wanted
+abbrev pub known : Expected → Expected
 known w.Function = w.KnownFunction
 known wanted = w.KnownLabel
 
 -- the first word that names nothing, if there is one
-abbrev pub name_stop : Names → Wanted → List (List ℕ) → Option Stop
+abbrev pub name_stop : Names → Expected → List (List ℕ) → Option Stop
 name_stop names wanted [] = None
 name_stop names wanted (word ∷ rest) =
     if names_some names wanted word

@@ -3,8 +3,8 @@ use Rattle.std.specs.Prelude.{ℕ, List, [], ◌∷◌, drop, length, Bool, true
 use Rattle.std.specs.Prelude.{if◌then◌else◌, codes, Option, find}
 use Rattle.std.specs.Option.{option_or}
 use Rattle.std.specs.Str.{bytes_eq}
-use Rattle.look_text.specs.declared.wanted.Wanted.{Wanted}
-use Rattle.look_text.specs.declared.wanted.Wanted.TheVariants as w
+use Rattle.look_text.specs.declared.wanted.Expected.{Expected}
+use Rattle.look_text.specs.declared.wanted.Expected.TheVariants as w
 
 -- ---- two words
 
@@ -56,7 +56,7 @@ abbrev pub condition_words : List (List ℕ)
 condition_words = codes "failed" ∷ codes "success" ∷ codes "atleast" ∷ []
 
 -- those that may be expected at a place of a line
-abbrev pub known_words : Wanted → List (List ℕ)
+abbrev pub known_words : Expected → List (List ℕ)
 known_words w.Inner = inner_words
 known_words w.Outer = outer_words
 known_words w.Joiner = joiner_words
@@ -74,5 +74,5 @@ abbrev pub near_of : List (List ℕ) → List ℕ → Option (List ℕ)
 near_of words word = option_or (find (is_one_apart word) words) (find (begins_other word) words)
 
 -- the word that a person may have meant by one that isn't what is expected there
-abbrev pub meant : Wanted → List ℕ → Option (List ℕ)
+abbrev pub meant : Expected → List ℕ → Option (List ℕ)
 meant wanted word = near_of (known_words wanted) word

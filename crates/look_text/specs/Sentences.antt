@@ -13,8 +13,8 @@ use Rattle.sts_asm.specs.declared.fault.AsmKind.TheVariants as asm
 use Rattle.look_text.specs.Checks.{takes_too_many}
 use Rattle.look_text.specs.Functions.{functions_of}
 use Rattle.look_text.specs.Wanted.{begins_line}
-use Rattle.look_text.specs.declared.wanted.Wanted.{Wanted}
-use Rattle.look_text.specs.declared.wanted.Wanted.TheVariants as wanted
+use Rattle.look_text.specs.declared.wanted.Expected.{Expected}
+use Rattle.look_text.specs.declared.wanted.Expected.TheVariants as wanted
 
 -- why functions are no program, C1 to C7; the sentence for a bad range is that of an instruction
 abbrev pub code_sentence : CodeCause → List ℕ
@@ -83,7 +83,7 @@ join_form =
     codes "a whole line: join SCOPE FAILED TIMEOUT INTERRUPTED, with - for the first two if none"
 
 -- what is expected at a place of a line
-abbrev pub wanted_sentence : Wanted → List ℕ
+abbrev pub wanted_sentence : Expected → List ℕ
 wanted_sentence wanted.First =
     codes "an instruction, a label or end inside a function, func outside, profile on line 1"
 wanted_sentence wanted.Inner = codes "an instruction, a label or end"

@@ -13,8 +13,8 @@ use Rattle.sts_asm.specs.declared.fault.AsmKind.TheVariants.{UnknownWord, BadNum
 use Rattle.sts_asm.specs.declared.fault.AsmKind.TheVariants.{BadOperands, DuplicateLabel}
 use Rattle.sts_asm.specs.declared.mnemonic.Mnemonic.{Mnemonic}
 use Rattle.sts_asm.specs.declared.mnemonic.Mnemonic.TheVariants as m
-use Rattle.look_text.specs.declared.wanted.Wanted.{Wanted}
-use Rattle.look_text.specs.declared.wanted.Wanted.TheVariants as w
+use Rattle.look_text.specs.declared.wanted.Expected.{Expected}
+use Rattle.look_text.specs.declared.wanted.Expected.TheVariants as w
 
 -- ---- words
 
@@ -44,7 +44,7 @@ begins_line word =
     || is_some (mnemonic_of word))))
 
 -- is the word what is expected?
-abbrev pub fits : Wanted → List ℕ → Bool
+abbrev pub fits : Expected → List ℕ → Bool
 fits w.First word = begins_line word
 fits w.Inner word = false
 fits w.Outer word = false
@@ -84,7 +84,7 @@ fits w.Profile word = is_profile (number_up_to 2 word)
 -- ---- what comes next
 
 -- what is expected after the first word of an instruction
-abbrev pub of_mnemonic : Option Mnemonic → Wanted
+abbrev pub of_mnemonic : Option Mnemonic → Expected
 of_mnemonic None = w.Nothing
 of_mnemonic (Some (m.Plain instr)) = w.Nothing
 of_mnemonic (Some (m.WithNumber form)) = w.Byte
@@ -99,11 +99,11 @@ of_mnemonic (Some m.Case) = w.CaseSlot
 of_mnemonic (Some m.Tally) = w.TallySlot
 
 -- what is expected after the first word of a line in a function: nothing after a label
-abbrev pub after_inner : List ℕ → Wanted
+abbrev pub after_inner : List ℕ → Expected
 after_inner word = if is_some (label_of word) then w.Nothing else of_mnemonic (mnemonic_of word)
 
 -- what is expected after the first word of a line
-abbrev pub after_first : List ℕ → Wanted
+abbrev pub after_first : List ℕ → Expected
 after_first word =
     if bytes_eq word (codes "func") then w.Name
     else (if bytes_eq word (codes "end") then w.Nothing
@@ -111,7 +111,7 @@ after_first word =
     else after_inner word))
 
 -- what is expected after a word that is as expected
-abbrev pub after : Wanted → List ℕ → Wanted
+abbrev pub after : Expected → List ℕ → Expected
 after w.First word = after_first word
 after w.OpenSlot word = w.Joiner
 after w.Joiner word = if bytes_eq word (codes "until") then w.Condition else w.Timed
@@ -139,13 +139,13 @@ after wanted word = w.Nothing
 pub record Stop : Type 0 where
   pub before : List (List ℕ)
   pub word : Option (List ℕ)
-  pub wanted : Wanted
+  pub wanted : Expected
 
 abbrev pub behind : List ℕ → Stop → Stop
 behind word s = record { before = word ∷ s.before; word = s.word; wanted = s.wanted }
 
 -- the first word that isn't what is expected there
-abbrev pub stop : Wanted → List (List ℕ) → Stop
+abbrev pub stop : Expected → List (List ℕ) → Stop
 stop wanted [] = record { before = []; word = None; wanted = wanted }
 stop wanted (word ∷ rest) =
     if fits wanted word then behind word (stop (after wanted word) rest)
@@ -155,11 +155,11 @@ stop wanted (word ∷ rest) =
 
 -- what is expected instead of a first word that isn't allowed there; it depends on whether a
 -- function is open
-abbrev pub in_place_of : Bool → Wanted
+abbrev pub in_place_of : Bool → Expected
 in_place_of inside = if inside then w.Inner else w.Outer
 
 -- the first word is wrong
-abbrev pub first_wrong : Wanted → List ℕ → Stop
+abbrev pub first_wrong : Expected → List ℕ → Stop
 first_wrong wanted word = record { before = []; word = Some word; wanted = wanted }
 
 -- the place where the words of a line are wrong, for the faults that are about one word; a function

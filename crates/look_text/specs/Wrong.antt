@@ -13,7 +13,7 @@ use Rattle.look_text.specs.Inside.{is_inside}
 use Rattle.look_text.specs.Near.{meant}
 use Rattle.look_text.specs.Names.{line_stop, lines_stop, unknown_name}
 use Rattle.look_text.specs.Wanted.{Stop, wrong_place}
-use Rattle.look_text.specs.declared.wanted.Wanted.{Wanted}
+use Rattle.look_text.specs.declared.wanted.Expected.{Expected}
 use Rattle.look_text.specs.Functions.{functions_of}
 use Rattle.look_text.specs.Sentences.{wanted_sentence, join_form}
 
@@ -28,16 +28,16 @@ meant_line None = []
 meant_line (Some known) = codes "did you mean " ++ known ++ codes "?\n"
 
 -- the word that may be meant, if a word is there and one is near to it
-abbrev pub meant_words : Wanted → Option (List ℕ) → List ℕ
+abbrev pub meant_words : Expected → Option (List ℕ) → List ℕ
 meant_words wanted None = []
 meant_words wanted (Some word) = meant_line (meant wanted word)
 
 -- `: expected S, F or U`
-abbrev pub expected_words : Wanted → List ℕ
+abbrev pub expected_words : Expected → List ℕ
 expected_words wanted = codes ": expected " ++ wanted_sentence wanted ++ codes "\n"
 
 -- what is expected, and the word that may be meant
-abbrev pub wanted_words : Wanted → Option (List ℕ) → List ℕ
+abbrev pub wanted_words : Expected → Option (List ℕ) → List ℕ
 wanted_words wanted word = expected_words wanted ++ meant_words wanted word
 
 -- ` push [seven]: expected a number from -9223372036854775808 to 9223372036854775807`

@@ -8,7 +8,7 @@ use Rattle.sts_asm.specs.Source.{outlined, words_at}
 use Rattle.sts_asm.specs.declared.fault.AsmKind.{AsmKind}
 use Rattle.sts_asm.specs.declared.fault.AsmKind.TheVariants.{BadNumber, BadOperands}
 use Rattle.sts_asm.specs.declared.fault.AsmError.{AsmError}
-use Rattle.look_text.specs.declared.wanted.Wanted.TheVariants.{First}
+use Rattle.look_text.specs.declared.wanted.Expected.TheVariants.{First}
 use Rattle.look_text.specs.Wanted.{Stop, stop}
 
 -- Whatever comes after these words, reading finds this fault.

@@ -2,7 +2,7 @@
 
 ghost use Rattle.std.specs.Prelude.{◌≡◌, ◌++◌, ◌≤◌, Ok, OnOk, length, option_map};
 ghost use Rattle.std.specs.Option.{option_copied};
-ghost use Rattle.look_text.specs.declared.wanted.Wanted.TheVariants.{First};
+ghost use Rattle.look_text.specs.declared.wanted.Expected.TheVariants.{First};
 ghost use Rattle.look_text.specs.Failing as def;
 ghost use Rattle.look_text.specs.Functions.{functions_of};
 ghost use Rattle.look_text.specs.Labels.{is_named};
@@ -12,7 +12,7 @@ use crate::checks::{failing, is_of_head};
 use crate::functions::functions_of;
 use crate::heads::head_line;
 use crate::labels::is_behind;
-use crate::wanted::Wanted;
+use crate::wanted::Expected;
 use crate::wrong::say_word;
 use std::alloc::{AllocError, Global};
 use sts_asm::{Outline, Sentence, handle, slot, words_at};
@@ -67,40 +67,46 @@ fn is_positive(number: Option<u32>) -> bool
     }
 }
 
-fn is_in_range(wanted: Wanted, word: &[u8]) -> bool
+fn is_in_range(wanted: Expected, word: &[u8]) -> bool
     ensures { result ≡ def.is_in_range wanted word.now }
 {
     match wanted {
-        Wanted::Byte => number_up_to(word, u32::from(LAST_SLOT)).is_some(),
-        Wanted::Turns => is_positive(number_up_to(word, u32::from(MAX_TURNS))),
-        Wanted::Count => is_positive(number_up_to(word, MAX_ENDS)),
-        Wanted::Slot
-        | Wanted::OpenSlot
-        | Wanted::ForkSlot
-        | Wanted::JoinSlot
-        | Wanted::CaseSlot
-        | Wanted::TallySlot => is_slot(slot(word)),
-        Wanted::Handle => is_handle(handle(word)),
-        Wanted::Args => number_up_to(word, u32::from(MAX_ARGS)).is_some(),
+        Expected::Byte => number_up_to(word, u32::from(LAST_SLOT)).is_some(),
+        Expected::Turns => is_positive(number_up_to(word, u32::from(MAX_TURNS))),
+        Expected::Count => is_positive(number_up_to(word, MAX_ENDS)),
+        Expected::Slot
+        | Expected::OpenSlot
+        | Expected::ForkSlot
+        | Expected::JoinSlot
+        | Expected::CaseSlot
+        | Expected::TallySlot => is_slot(slot(word)),
+        Expected::Handle => is_handle(handle(word)),
+        Expected::Args => number_up_to(word, u32::from(MAX_ARGS)).is_some(),
         _ => true,
     }
 }
 
-fn is_label(wanted: Wanted) -> bool
+fn is_label(wanted: Expected) -> bool
     ensures { result ≡ def.is_label wanted }
 {
     matches!(
         wanted,
-        Wanted::Label
-            | Wanted::JoinFailed
-            | Wanted::JoinTimeout
-            | Wanted::JoinInterrupted
-            | Wanted::CaseSuccess
-            | Wanted::CaseFailed
+        Expected::Label
+            | Expected::JoinFailed
+            | Expected::JoinTimeout
+            | Expected::JoinInterrupted
+            | Expected::CaseSuccess
+            | Expected::CaseFailed
     )
 }
 
-fn passes(outline: &Outline<'_>, error: CodeError, text: &[u8], wanted: Wanted, word: &[u8]) -> bool
+fn passes(
+    outline: &Outline<'_>,
+    error: CodeError,
+    text: &[u8],
+    wanted: Expected,
+    word: &[u8],
+) -> bool
     ensures { result
         ≡ def.passes text.now outline.now error.function error.cause wanted word.now }
 {
@@ -108,20 +114,20 @@ fn passes(outline: &Outline<'_>, error: CodeError, text: &[u8], wanted: Wanted, 
         (CodeCause::BadTarget, _) => {
             !(is_label(wanted) && is_behind(outline, error.function, text, word))
         }
-        (CodeCause::LaterFunction, Wanted::Function) => is_earlier(outline, error.function, word),
-        (CodeCause::DuplicateName, Wanted::Name) => !is_earlier(outline, error.function, word),
+        (CodeCause::LaterFunction, Expected::Function) => is_earlier(outline, error.function, word),
+        (CodeCause::DuplicateName, Expected::Name) => !is_earlier(outline, error.function, word),
         (CodeCause::BadRange, _) => is_in_range(wanted, word),
         _ => true,
     }
 }
 
-fn wanted_there(wanted: Wanted) -> Wanted
+fn wanted_there(wanted: Expected) -> Expected
     ensures { result ≡ def.wanted_there wanted }
 {
     match wanted {
-        Wanted::Function => Wanted::KnownFunction,
+        Expected::Function => Expected::KnownFunction,
         _ => if is_label(wanted) {
-            Wanted::KnownLabel
+            Expected::KnownLabel
         } else {
             wanted
         },
@@ -141,7 +147,7 @@ fn say_failing<'a>(
         (def.first_failing (def.passes text.now outline.now error.function error.cause)
         First words.entry)) }
 {
-    let mut wanted = Wanted::First;
+    let mut wanted = Expected::First;
     let mut left = words;
     let mut told = Vec::new(alloc);
     told.extend_from_slice(b"at")?;

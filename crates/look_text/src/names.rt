@@ -5,7 +5,7 @@ ghost use Rattle.std.specs.Prelude.{◌≡◌, is_some};
 ghost use Rattle.sts_asm.specs.Source.{names_at};
 ghost use Rattle.look_text.specs.Names as def;
 
-use crate::wanted::{Wanted, operand};
+use crate::wanted::{Expected, operand};
 use sts_asm::Outline;
 use sts_text::Words;
 
@@ -17,31 +17,32 @@ fn is_maybe_label(outline: &Outline<'_>, function: usize, word: &[u8]) -> bool
 
 /// Does the word name what is expected there, in this function? If no name is expected, any word
 /// does.
-pub fn names_some(outline: &Outline<'_>, function: usize, wanted: Wanted, word: &[u8]) -> bool
+pub fn names_some(outline: &Outline<'_>, function: usize, wanted: Expected, word: &[u8]) -> bool
     ensures { result ≡ def.names_some (names_at outline.now function) wanted word.now }
 {
     match wanted {
-        Wanted::Label | Wanted::JoinInterrupted | Wanted::CaseSuccess | Wanted::CaseFailed => {
-            outline.has_label(function, word)
-        }
-        Wanted::JoinFailed | Wanted::JoinTimeout => is_maybe_label(outline, function, word),
-        Wanted::Function => outline.has_function(word),
+        Expected::Label
+        | Expected::JoinInterrupted
+        | Expected::CaseSuccess
+        | Expected::CaseFailed => { outline.has_label(function, word) }
+        Expected::JoinFailed | Expected::JoinTimeout => is_maybe_label(outline, function, word),
+        Expected::Function => outline.has_function(word),
         _ => true,
     }
 }
 
 /// What is expected instead of a name that isn't in the text.
-pub fn known(wanted: Wanted) -> Wanted
+pub fn known(wanted: Expected) -> Expected
     ensures { result ≡ def.known wanted }
 {
     match wanted {
-        Wanted::Function => Wanted::KnownFunction,
-        _ => Wanted::KnownLabel,
+        Expected::Function => Expected::KnownFunction,
+        _ => Expected::KnownLabel,
     }
 }
 
 #[tactic(auto, using(crate::proofs::NameLemmas::is_some_mapped))]
-fn has_stop<'a>(outline: &Outline<'_>, function: usize, wanted: Wanted, words: Words<'a>) -> bool
+fn has_stop<'a>(outline: &Outline<'_>, function: usize, wanted: Expected, words: Words<'a>) -> bool
     ensures { result
         ≡ is_some (def.name_stop (names_at outline.now function) wanted words.entry) }
 {

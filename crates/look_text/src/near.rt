@@ -3,7 +3,7 @@
 ghost use Rattle.std.specs.Prelude.{◌≡◌, ◌<◌, length, option_map, map, find};
 ghost use Rattle.look_text.specs.Near as def;
 
-use crate::wanted::Wanted;
+use crate::wanted::Expected;
 
 static INNER_WORDS: [&str; 36] = [
     "push",
@@ -118,16 +118,16 @@ fn begins_other(word: &[u8], known: &[u8]) -> bool
 }
 
 /// The words that may be expected at a place of a line.
-fn known_words(wanted: Wanted) -> &'static [&'static str]
+fn known_words(wanted: Expected) -> &'static [&'static str]
     ensures { map (λ w. w.now) result.now ≡ def.known_words wanted }
 {
     match wanted {
-        Wanted::Inner => &INNER_WORDS,
-        Wanted::Outer => &OUTER_WORDS,
-        Wanted::Joiner => &JOINER_WORDS,
-        Wanted::Condition => &CONDITION_WORDS,
-        Wanted::Timed => &TIMED_WORDS,
-        Wanted::Needs => &NEEDS_WORDS,
+        Expected::Inner => &INNER_WORDS,
+        Expected::Outer => &OUTER_WORDS,
+        Expected::Joiner => &JOINER_WORDS,
+        Expected::Condition => &CONDITION_WORDS,
+        Expected::Timed => &TIMED_WORDS,
+        Expected::Needs => &NEEDS_WORDS,
         _ => &[],
     }
 }
@@ -157,7 +157,7 @@ fn begun_among(word: &[u8], words: &[&'static str]) -> Option<&'static str>
 }
 
 /// The word that a person may have meant by one that isn't what is expected there.
-pub(crate) fn meant(wanted: Wanted, word: &[u8]) -> Option<&'static str>
+pub(crate) fn meant(wanted: Expected, word: &[u8]) -> Option<&'static str>
     ensures { option_map (λ w. w.now) result ≡ def.meant wanted word.now }
 {
     let words = known_words(wanted);

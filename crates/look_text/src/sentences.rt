@@ -8,7 +8,7 @@ ghost use Rattle.look_text.specs.Sentences as def;
 
 use crate::checks::takes_too_many;
 use crate::functions::functions_of;
-use crate::wanted::{Wanted, begins_line};
+use crate::wanted::{Expected, begins_line};
 use std::alloc::{AllocError, Global};
 use sts_asm::{AsmKind, Outline, words_at};
 use sts_code::{CodeCause, CodeError};
@@ -142,46 +142,46 @@ pub(crate) fn join_form() -> &'static str
 }
 
 /// What is expected at a place of a line.
-pub(crate) fn wanted_sentence(wanted: Wanted) -> &'static str
+pub(crate) fn wanted_sentence(wanted: Expected) -> &'static str
     ensures { result.now ≡ def.wanted_sentence wanted }
 {
     match wanted {
-        Wanted::First =>
+        Expected::First =>
             "an instruction, a label or end inside a function, func outside, profile on line 1",
-        Wanted::Inner => "an instruction, a label or end",
-        Wanted::Outer => "func, or profile on line 1",
-        Wanted::NewLabel => "a label that this function hasn't yet",
-        Wanted::KnownLabel => "a label before an instruction of this function",
-        Wanted::KnownFunction => "a function that is written above this one",
-        Wanted::Nothing => "nothing more",
-        Wanted::Byte => "a number from 0 to 15",
-        Wanted::Value => "a number from -9223372036854775808 to 9223372036854775807",
-        Wanted::Turns => "the bound, a number from 1 to 10000",
-        Wanted::Slot => "a slot, s0 to s15",
-        Wanted::Label => "the name of a label",
-        Wanted::OpenSlot => "the slot of the scope, s0 to s15",
-        Wanted::Joiner => "the joiner: all, any, awaitok, awaitall or until",
-        Wanted::Condition => "failed, success or atleast",
-        Wanted::Count => "how many of them, a number from 1 to 65536",
-        Wanted::Least =>
+        Expected::Inner => "an instruction, a label or end",
+        Expected::Outer => "func, or profile on line 1",
+        Expected::NewLabel => "a label that this function hasn't yet",
+        Expected::KnownLabel => "a label before an instruction of this function",
+        Expected::KnownFunction => "a function that is written above this one",
+        Expected::Nothing => "nothing more",
+        Expected::Byte => "a number from 0 to 15",
+        Expected::Value => "a number from -9223372036854775808 to 9223372036854775807",
+        Expected::Turns => "the bound, a number from 1 to 10000",
+        Expected::Slot => "a slot, s0 to s15",
+        Expected::Label => "the name of a label",
+        Expected::OpenSlot => "the slot of the scope, s0 to s15",
+        Expected::Joiner => "the joiner: all, any, awaitok, awaitall or until",
+        Expected::Condition => "failed, success or atleast",
+        Expected::Count => "how many of them, a number from 1 to 65536",
+        Expected::Least =>
             "the least value, a number from -9223372036854775808 to 9223372036854775807",
-        Wanted::Timed => "timed, or nothing more",
-        Wanted::ForkSlot => "the slot of the scope, s0 to s15",
-        Wanted::Function => "the name of the function",
-        Wanted::Handle => "the slot of the subtask, s0 to s15, or _ for none",
-        Wanted::JoinSlot => "the slot of the scope, s0 to s15",
-        Wanted::JoinFailed => "the label for failed, or - for none",
-        Wanted::JoinTimeout => "the label for timeout, or - for none",
-        Wanted::JoinInterrupted => "the label for interrupted",
-        Wanted::CaseSlot => "the slot of the subtask, s0 to s15",
-        Wanted::CaseSuccess => "the label for success",
-        Wanted::CaseFailed => "the label for failed",
-        Wanted::TallySlot => "the slot of the scope, s0 to s15",
-        Wanted::State => "S, F or U",
-        Wanted::Name => "the name of the function, which no earlier one has",
-        Wanted::Args => "how many arguments it takes, a number from 0 to 8",
-        Wanted::Needs => "needs, or nothing more",
-        Wanted::Key => "a key, a number from 0 to 15",
-        Wanted::Profile => "the profile, 1 or 2",
+        Expected::Timed => "timed, or nothing more",
+        Expected::ForkSlot => "the slot of the scope, s0 to s15",
+        Expected::Function => "the name of the function",
+        Expected::Handle => "the slot of the subtask, s0 to s15, or _ for none",
+        Expected::JoinSlot => "the slot of the scope, s0 to s15",
+        Expected::JoinFailed => "the label for failed, or - for none",
+        Expected::JoinTimeout => "the label for timeout, or - for none",
+        Expected::JoinInterrupted => "the label for interrupted",
+        Expected::CaseSlot => "the slot of the subtask, s0 to s15",
+        Expected::CaseSuccess => "the label for success",
+        Expected::CaseFailed => "the label for failed",
+        Expected::TallySlot => "the slot of the scope, s0 to s15",
+        Expected::State => "S, F or U",
+        Expected::Name => "the name of the function, which no earlier one has",
+        Expected::Args => "how many arguments it takes, a number from 0 to 8",
+        Expected::Needs => "needs, or nothing more",
+        Expected::Key => "a key, a number from 0 to 15",
+        Expected::Profile => "the profile, 1 or 2",
     }
 }

@@ -11,7 +11,7 @@ use sts_text::{number, number_up_to};
 
 /// What is expected at a place of a line.
 #[derive(Clone, Copy, Debug, PartialEq, Eq)]
-pub enum Wanted {
+pub enum Expected {
     /// The first word of a line.
     First,
     /// The first word of a line in a function.
@@ -106,118 +106,118 @@ pub(crate) fn begins_line(word: &[u8]) -> bool
         || first_word(word).is_some()
 }
 
-fn of_mnemonic(mnemonic: Option<Mnemonic>) -> Wanted
+fn of_mnemonic(mnemonic: Option<Mnemonic>) -> Expected
     ensures { result ≡ def.of_mnemonic mnemonic }
 {
     match mnemonic {
-        None | Some(Mnemonic::Plain(_)) => Wanted::Nothing,
-        Some(Mnemonic::WithNumber(_)) => Wanted::Byte,
-        Some(Mnemonic::WithSlot(_)) => Wanted::Slot,
-        Some(Mnemonic::WithTarget(_)) => Wanted::Label,
-        Some(Mnemonic::Push) => Wanted::Value,
-        Some(Mnemonic::Times) => Wanted::Turns,
-        Some(Mnemonic::Open) => Wanted::OpenSlot,
-        Some(Mnemonic::Fork) => Wanted::ForkSlot,
-        Some(Mnemonic::Join) => Wanted::JoinSlot,
-        Some(Mnemonic::Case) => Wanted::CaseSlot,
-        Some(Mnemonic::Tally) => Wanted::TallySlot,
+        None | Some(Mnemonic::Plain(_)) => Expected::Nothing,
+        Some(Mnemonic::WithNumber(_)) => Expected::Byte,
+        Some(Mnemonic::WithSlot(_)) => Expected::Slot,
+        Some(Mnemonic::WithTarget(_)) => Expected::Label,
+        Some(Mnemonic::Push) => Expected::Value,
+        Some(Mnemonic::Times) => Expected::Turns,
+        Some(Mnemonic::Open) => Expected::OpenSlot,
+        Some(Mnemonic::Fork) => Expected::ForkSlot,
+        Some(Mnemonic::Join) => Expected::JoinSlot,
+        Some(Mnemonic::Case) => Expected::CaseSlot,
+        Some(Mnemonic::Tally) => Expected::TallySlot,
     }
 }
 
-fn after_inner(word: &[u8]) -> Wanted
+fn after_inner(word: &[u8]) -> Expected
     ensures { result ≡ def.after_inner word.now }
 {
     if label_of(word).is_some() {
-        Wanted::Nothing
+        Expected::Nothing
     } else {
         of_mnemonic(first_word(word))
     }
 }
 
-fn after_first(word: &[u8]) -> Wanted
+fn after_first(word: &[u8]) -> Expected
     ensures { result ≡ def.after_first word.now }
 {
     if word == b"func".as_slice() {
-        Wanted::Name
+        Expected::Name
     } else if word == b"end".as_slice() {
-        Wanted::Nothing
+        Expected::Nothing
     } else if word == b"profile".as_slice() {
-        Wanted::Profile
+        Expected::Profile
     } else {
         after_inner(word)
     }
 }
 
-impl Wanted {
+impl Expected {
     /// Is the word what is expected?
     pub fn fits(self, word: &[u8]) -> bool
         ensures { result ≡ def.fits self word.now }
     {
         match self {
-            Wanted::First => begins_line(word),
-            Wanted::Inner
-            | Wanted::Outer
-            | Wanted::NewLabel
-            | Wanted::KnownLabel
-            | Wanted::KnownFunction
-            | Wanted::Nothing => false,
-            Wanted::Byte | Wanted::Args => number_up_to(word, 255).is_some(),
-            Wanted::Value | Wanted::Least => number(word).is_some(),
-            Wanted::Turns => number_up_to(word, 65535).is_some(),
-            Wanted::Count => number_up_to(word, u32::MAX).is_some(),
-            Wanted::Key => number_up_to(word, 15).is_some(),
-            Wanted::Slot
-            | Wanted::OpenSlot
-            | Wanted::ForkSlot
-            | Wanted::JoinSlot
-            | Wanted::CaseSlot
-            | Wanted::TallySlot => slot(word).is_some(),
-            Wanted::Handle => handle(word).is_some(),
-            Wanted::Label
-            | Wanted::Function
-            | Wanted::JoinInterrupted
-            | Wanted::CaseSuccess
-            | Wanted::CaseFailed
-            | Wanted::Name => is_name(word),
-            Wanted::JoinFailed | Wanted::JoinTimeout => is_maybe_name(word),
-            Wanted::Joiner => is_joiner(word),
-            Wanted::Condition => is_condition(word),
-            Wanted::Timed => word == b"timed".as_slice(),
-            Wanted::State => kind_counted(word).is_some(),
-            Wanted::Needs => word == b"needs".as_slice(),
-            Wanted::Profile => is_profile(word),
+            Expected::First => begins_line(word),
+            Expected::Inner
+            | Expected::Outer
+            | Expected::NewLabel
+            | Expected::KnownLabel
+            | Expected::KnownFunction
+            | Expected::Nothing => false,
+            Expected::Byte | Expected::Args => number_up_to(word, 255).is_some(),
+            Expected::Value | Expected::Least => number(word).is_some(),
+            Expected::Turns => number_up_to(word, 65535).is_some(),
+            Expected::Count => number_up_to(word, u32::MAX).is_some(),
+            Expected::Key => number_up_to(word, 15).is_some(),
+            Expected::Slot
+            | Expected::OpenSlot
+            | Expected::ForkSlot
+            | Expected::JoinSlot
+            | Expected::CaseSlot
+            | Expected::TallySlot => slot(word).is_some(),
+            Expected::Handle => handle(word).is_some(),
+            Expected::Label
+            | Expected::Function
+            | Expected::JoinInterrupted
+            | Expected::CaseSuccess
+            | Expected::CaseFailed
+            | Expected::Name => is_name(word),
+            Expected::JoinFailed | Expected::JoinTimeout => is_maybe_name(word),
+            Expected::Joiner => is_joiner(word),
+            Expected::Condition => is_condition(word),
+            Expected::Timed => word == b"timed".as_slice(),
+            Expected::State => kind_counted(word).is_some(),
+            Expected::Needs => word == b"needs".as_slice(),
+            Expected::Profile => is_profile(word),
         }
     }
 
     /// What is expected after a word that is as expected.
-    pub fn after(self, word: &[u8]) -> Wanted
+    pub fn after(self, word: &[u8]) -> Expected
         ensures { result ≡ def.after self word.now }
     {
         match self {
-            Wanted::First => after_first(word),
-            Wanted::OpenSlot => Wanted::Joiner,
-            Wanted::Joiner if word == b"until".as_slice() => Wanted::Condition,
-            Wanted::Condition if word == b"atleast".as_slice() => Wanted::Least,
-            Wanted::Condition => Wanted::Count,
-            Wanted::Joiner | Wanted::Count | Wanted::Least => Wanted::Timed,
-            Wanted::ForkSlot => Wanted::Function,
-            Wanted::Function => Wanted::Handle,
-            Wanted::JoinSlot => Wanted::JoinFailed,
-            Wanted::JoinFailed => Wanted::JoinTimeout,
-            Wanted::JoinTimeout => Wanted::JoinInterrupted,
-            Wanted::CaseSlot => Wanted::CaseSuccess,
-            Wanted::CaseSuccess => Wanted::CaseFailed,
-            Wanted::TallySlot => Wanted::State,
-            Wanted::Name => Wanted::Args,
-            Wanted::Args => Wanted::Needs,
-            Wanted::Needs | Wanted::Key => Wanted::Key,
-            _ => Wanted::Nothing,
+            Expected::First => after_first(word),
+            Expected::OpenSlot => Expected::Joiner,
+            Expected::Joiner if word == b"until".as_slice() => Expected::Condition,
+            Expected::Condition if word == b"atleast".as_slice() => Expected::Least,
+            Expected::Condition => Expected::Count,
+            Expected::Joiner | Expected::Count | Expected::Least => Expected::Timed,
+            Expected::ForkSlot => Expected::Function,
+            Expected::Function => Expected::Handle,
+            Expected::JoinSlot => Expected::JoinFailed,
+            Expected::JoinFailed => Expected::JoinTimeout,
+            Expected::JoinTimeout => Expected::JoinInterrupted,
+            Expected::CaseSlot => Expected::CaseSuccess,
+            Expected::CaseSuccess => Expected::CaseFailed,
+            Expected::TallySlot => Expected::State,
+            Expected::Name => Expected::Args,
+            Expected::Args => Expected::Needs,
+            Expected::Needs | Expected::Key => Expected::Key,
+            _ => Expected::Nothing,
         }
     }
 }
 
 /// What is expected after the first word of an instruction.
-pub fn operand(first: &[u8]) -> Wanted
+pub fn operand(first: &[u8]) -> Expected
     ensures { result ≡ def.of_mnemonic (mnemonic_of first.now) }
 {
     of_mnemonic(first_word(first))
@@ -225,8 +225,12 @@ pub fn operand(first: &[u8]) -> Wanted
 
 /// What is expected instead of a first word that isn't allowed there. It depends on whether a
 /// function is open.
-pub fn in_place_of(inside: bool) -> Wanted
+pub fn in_place_of(inside: bool) -> Expected
     ensures { result ≡ def.in_place_of inside }
 {
-    if inside { Wanted::Inner } else { Wanted::Outer }
+    if inside {
+        Expected::Inner
+    } else {
+        Expected::Outer
+    }
 }

@@ -18,7 +18,7 @@ use crate::lines::say;
 use crate::names::{known, names_nothing, names_some};
 use crate::near::meant;
 use crate::sentences::{join_form, wanted_sentence};
-use crate::wanted::{Wanted, in_place_of, operand};
+use crate::wanted::{Expected, in_place_of, operand};
 use std::alloc::{AllocError, Global};
 use sts_asm::{AsmKind, Outline, Sentence, is_allowed, line_at, words_at};
 use sts_text::Words;
@@ -42,7 +42,7 @@ fn say_meant(out: &mut Vec<u8>, known: Option<&'static str>) -> Result<(), Alloc
     }
 }
 
-fn say_wanted(out: &mut Vec<u8>, wanted: Wanted) -> Result<(), AllocError>
+fn say_wanted(out: &mut Vec<u8>, wanted: Expected) -> Result<(), AllocError>
     ensures { OnOk result (out.new.items ≡ out.old.items ++ def.expected_words wanted) }
 {
     say(out, ": expected ")?;
@@ -58,7 +58,7 @@ fn say_bracketed(out: &mut Vec<u8>, word: &[u8]) -> Result<(), AllocError>
     say(out, "]")
 }
 
-pub(crate) fn say_word(out: &mut Vec<u8>, word: &[u8], wanted: Wanted) -> Result<(), AllocError>
+pub(crate) fn say_word(out: &mut Vec<u8>, word: &[u8], wanted: Expected) -> Result<(), AllocError>
     ensures { OnOk result (out.new.items ≡ out.old.items
         ++ def.stop_words (first_wrong wanted word.now)) }
 {
@@ -68,7 +68,7 @@ pub(crate) fn say_word(out: &mut Vec<u8>, word: &[u8], wanted: Wanted) -> Result
 }
 
 #[tactic(auto, using(crate::proofs::LineLemmas::missing_words))]
-fn say_missing(out: &mut Vec<u8>, wanted: Wanted) -> Result<(), AllocError>
+fn say_missing(out: &mut Vec<u8>, wanted: Expected) -> Result<(), AllocError>
     ensures { OnOk result (out.new.items ≡ out.old.items ++ def.stop_words (stop wanted [])) }
 {
     say(out, " []")?;
@@ -76,7 +76,7 @@ fn say_missing(out: &mut Vec<u8>, wanted: Wanted) -> Result<(), AllocError>
 }
 
 /// Appends the words up to the first one that isn't what is expected there, and what is expected.
-fn say_stop<'a>(out: &mut Vec<u8>, wanted: Wanted, words: Words<'a>) -> Result<(), AllocError>
+fn say_stop<'a>(out: &mut Vec<u8>, wanted: Expected, words: Words<'a>) -> Result<(), AllocError>
     ensures { OnOk result (out.new.items ≡ out.old.items
         ++ def.stop_words (stop wanted words.entry)) }
 {
@@ -98,7 +98,7 @@ fn say_name_stop<'a>(
     out: &mut Vec<u8>,
     outline: &Outline<'_>,
     function: usize,
-    wanted: Wanted,
+    wanted: Expected,
     words: Words<'a>,
 ) -> Result<(), AllocError>
     ensures { OnOk result (IfSome (name_stop (names_at outline.now function) wanted words.entry)
@@ -215,7 +215,7 @@ fn wrong_line(out: &mut Vec<u8>, kind: AsmKind, text: &[u8], line: u32) -> Resul
     match kind {
         AsmKind::BadNumber | AsmKind::BadOperands => {
             say(out, "at")?;
-            say_stop(out, Wanted::First, words)
+            say_stop(out, Expected::First, words)
         }
         AsmKind::UnknownWord => match words.word() {
             Some(word) => {
@@ -227,7 +227,7 @@ fn wrong_line(out: &mut Vec<u8>, kind: AsmKind, text: &[u8], line: u32) -> Resul
         AsmKind::DuplicateLabel => match words.word() {
             Some(word) => {
                 say(out, "at")?;
-                say_word(out, word, Wanted::NewLabel)
+                say_word(out, word, Expected::NewLabel)
             }
             None => Ok(()),
         },

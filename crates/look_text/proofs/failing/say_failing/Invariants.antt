@@ -1,6 +1,6 @@
 use Rattle.std.proofs.Common.{◌≡◌, length}
 use Rattle.std.specs.Prelude.{codes}
-use Rattle.look_text.specs.declared.wanted.Wanted.TheVariants.{First}
+use Rattle.look_text.specs.declared.wanted.Expected.TheVariants.{First}
 use Rattle.look_text.specs.Failing.{first_failing, passes}
 use Rattle.look_text.proofs.FailLemmas.{said_if}
 use Rattle.look_text.proofs.failing.say_failing.Given as goal
