@@ -1,5 +1,5 @@
 // Prints: StructureViolationException
-// By the rules it is an illegal state, which is tested first. If no scope is open inside, JDK 25 throws IllegalStateException, too.
+// By the rules it is an illegal state, which is tested first. If nothing is open inside, JDK 25 throws IllegalStateException, too.
 void main() throws InterruptedException {
     var scope = StructuredTaskScope.open();
     scope.fork(() -> 1);
