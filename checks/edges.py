@@ -10,7 +10,7 @@ PROGRAM is `sts`, LOOK is `look`; each of their commands is tried if it applies.
   text may have. A trace is made only under the name that was given, and has the journal.
 - Output and status: each command, for each of its statuses.
 - Outside events: each is recorded as soon as it is due and those before it are recorded. It counts as an entry, with a
-  journal and without one.
+  journal and without one. Standard error has a line for each that had no effect.
 - Outside texts: the first fault is reported, and there are at most 4,096 lines.
 - Budgets: a run that reaches all four, and for each budget a text with no run that reaches it.
 - Large runs: 65,535 subtasks, and a text of 1,048,576 bytes, by 4 workers.
@@ -308,27 +308,43 @@ def outputs_of_sts(sts):
         yield f"the input {text!r} {trace!r}", sts.says(given=f"{text}%\n{trace}"), (status, plain, "")
 
 
-# An outside text, the value of DIGITS with it, and its journal in short: `s` is a step, and a number an interrupt of it.
+# Why a line of an outside text has no effect.
+NOT_ALIVE, NO_EXPIRY = "did nothing, since task {} did not live then", "did nothing, since scope {} could not expire then"
+NOT_DUE, HELD = "was never due, since the journal ended with {} events", "never came, since line {} comes first and was never due"
+
+# An outside text, the value of DIGITS with it, its journal in short (`s` is a step, and a number an interrupt of it), and why
+# lines of it have no effect.
 DUES = [
-    ("at 0 interrupt 0", 100, "0 s s s s s s s s s s"),
-    ("at 1 interrupt 0", 10, "s 0 s s s s s s s s s"),
-    ("at 3 interrupt 0", 10, "s s s 0 s s s s s s s"),
-    ("at 4 interrupt 0", 1, "s s s s 0 s s s s s s"),
-    ("at 7 interrupt 0", 1, "s s s s s s s 0 s s s"),
-    ("at 8 interrupt 0", 0, "s s s s s s s s 0 s s"),
+    ("at 0 interrupt 0", 100, "0 s s s s s s s s s s", {}),
+    ("at 1 interrupt 0", 10, "s 0 s s s s s s s s s", {}),
+    ("at 3 interrupt 0", 10, "s s s 0 s s s s s s s", {}),
+    ("at 4 interrupt 0", 1, "s s s s 0 s s s s s s", {}),
+    ("at 7 interrupt 0", 1, "s s s s s s s 0 s s s", {}),
+    ("at 8 interrupt 0", 0, "s s s s s s s s 0 s s", {}),
     # an event that is due when the root ends is recorded, and a later one isn't
-    ("at 10 interrupt 0", 0, "s s s s s s s s s s 0"),
-    ("at 11 interrupt 0", 0, "s s s s s s s s s s"),
+    ("at 10 interrupt 0", 0, "s s s s s s s s s s 0", {1: NOT_ALIVE.format(0)}),
+    ("at 11 interrupt 0", 0, "s s s s s s s s s s", {1: NOT_DUE.format(10)}),
     # an event is an entry, also one that is idle
-    ("at 0 interrupt 5 / at 4 interrupt 0", 10, "5 s s s 0 s s s s s s s"),
-    ("at 0 interrupt 5 / at 5 interrupt 0", 1, "5 s s s s 0 s s s s s s"),
-    ("at 0 interrupt 0 / at 3 interrupt 0", 110, "0 s s 0 s s s s s s s s"),
-    ("at 0 interrupt 0 / at 0 interrupt 0 / at 7 interrupt 0", 101, "0 0 s s s s s 0 s s s s s"),
+    ("at 0 interrupt 5 / at 4 interrupt 0", 10, "5 s s s 0 s s s s s s s", {1: NOT_ALIVE.format(5)}),
+    ("at 0 interrupt 5 / at 5 interrupt 0", 1, "5 s s s s 0 s s s s s s", {1: NOT_ALIVE.format(5)}),
+    ("at 0 interrupt 0 / at 3 interrupt 0", 110, "0 s s 0 s s s s s s s s", {}),
+    ("at 0 interrupt 0 / at 0 interrupt 0 / at 7 interrupt 0", 101, "0 0 s s s s s 0 s s s s s", {}),
     # a line that isn't due holds back those after it, and then they come at once
-    ("at 4 interrupt 5 / at 0 interrupt 0", 1, "s s s s 5 0 s s s s s s"),
-    ("at 4 interrupt 5 / at 0 interrupt 6 / at 6 interrupt 0", 1, "s s s s 5 6 0 s s s s s s"),
-    ("at 11 interrupt 5 / at 0 interrupt 0", 0, "s s s s s s s s s s"),
+    ("at 4 interrupt 5 / at 0 interrupt 0", 1, "s s s s 5 0 s s s s s s", {1: NOT_ALIVE.format(5)}),
+    (
+        "at 4 interrupt 5 / at 0 interrupt 6 / at 6 interrupt 0", 1, "s s s s 5 6 0 s s s s s s",
+        {1: NOT_ALIVE.format(5), 2: NOT_ALIVE.format(6)},
+    ),
+    ("at 11 interrupt 5 / at 0 interrupt 0", 0, "s s s s s s s s s s", {1: NOT_DUE.format(10), 2: HELD.format(1)}),
+    ("at 0 interrupt 5 / at 12 interrupt 0 / at 13 interrupt 0", 0, "5 s s s s s s s s s s",
+        {1: NOT_ALIVE.format(5), 2: NOT_DUE.format(11), 3: NOT_DUE.format(11)}),
 ]
+
+
+def no_effect(outside, reasons):
+    """Returns what standard error says of the lines of the outside text `due` that have no effect."""
+    lines = outside.splitlines()
+    return "".join(f'sts: due, line {number}: "{lines[number - 1]}" {why}\n' for number, why in reasons.items())
 
 
 # Its flag is read once, at step 70,023 = 2 + 7 * (2 + 10,000 + 1), after more entries than a number of 16 bits has.
@@ -338,9 +354,9 @@ LATE_DUES = [(70023, 1), (70024, 0), (65536, 1)]
 
 def dues_of_sts(sts):
     """Tries outside texts. One worker looks into them before each step."""
-    for short, value, journal in DUES:
+    for short, value, journal, reasons in DUES:
         outside = "".join(f"{it}\n" for it in short.split(" / "))
-        right = 0, f"{BUDGETS.replace('2', '10')}success {value}\nsteps 10\n", ""
+        right = 0, f"{BUDGETS.replace('2', '10')}success {value}\nsteps 10\n", no_effect(outside, reasons)
         words = ["run", "text", "--workers", "1", "--outside", "due"]
         sts.has(text=DIGITS, due=outside)
         yield f"{short!r} with no journal", sts.says(*words), right
@@ -381,8 +397,11 @@ def outside_texts_of_sts(sts):
     for text, status, printed in (("", 3, "error A9 C5 function 0 at 0\n"), (POPS, 3, "error T1 line 1\n")):
         sts.has(text=text, due="x\n")
         yield f"an outside text with a fault, and {text!r}", sts.says(*words), (status, printed, "")
-    sts.has(text=SEVEN, due="at 0 expire 0\n" * 4095 + "at 0 interrupt 4294967295\n")
-    yield "4,096 outside lines", sts.says(*words, "--trace", "journal"), (0, f"{BUDGETS}success 7\nsteps 2\n", "")
+    outside = "at 0 expire 0\n" * 4095 + "at 0 interrupt 4294967295\n"
+    sts.has(text=SEVEN, due=outside)
+    reasons = {**{number: NO_EXPIRY.format(0) for number in range(1, 4096)}, 4096: NOT_ALIVE.format(4294967295)}
+    right = 0, f"{BUDGETS}success 7\nsteps 2\n", no_effect(outside, reasons)
+    yield "4,096 outside lines", sts.says(*words, "--trace", "journal"), right
     journal = "expire 0\n" * 4095 + "interrupt 4294967295\nstep 0\nstep 0\n"
     yield "their journal", sts.read("journal") if "journal" in sts.names() else "", journal
 

@@ -8,7 +8,8 @@ For n = 1, 2, .. until nothing is refused any more:
 - the nth read fails: `error file` alone with status 6. If it failed for lack of memory, `error memory`, and standard error
   says that. If a signal came, the read is tried again, and the answer is the right one;
 - the nth write fails: a beginning of the right answer with status 6. If it was a write of the journal, `error file` alone.
-  If it was the line on standard error that says why a text or an outside text is refused, the right answer.
+  If it was a line on standard error that says why a text or an outside text is refused, or which lines of the outside text
+  had no effect, the right answer.
 The right answer of `look draw` is what it draws if nothing is refused: another script compares that.
 A run by workers says `error threads` if the start of a worker was refused. It may say this if the refused memory was for
 such a start, and never otherwise. It starts as many workers as it is asked for, with a journal and without. Where one isn't
@@ -388,8 +389,8 @@ def is_right(kind, answer, case, is_start):
         return answer == NO_MEMORY
     if kind == "signal":
         return answer in right_answers(case)
-    if case.status > 2 and answer in right_answers(case):
-        return True  # (the whole answer was written, and the line on standard error was not)
+    if (case.status > 2 or "--outside" in case.words) and answer in right_answers(case):
+        return True  # (the whole answer was written, and the lines on standard error were not)
     begins = any(it.startswith(answer[0]) for it, _ in right_answers(case))
     return ("journal" in case.words and answer == NO_FILE) or answer[1] == 6 and begins
 

@@ -1,5 +1,6 @@
 pub mod Alike
 pub mod Ends
+pub mod Given
 pub mod Outsides
 pub mod Reports
 pub mod Runs

@@ -1,9 +1,16 @@
 -- The outcome of a run, and its output.
-use Rattle.std.proofs.Common.{◌≡◌, ℕ, List, Bool, Option, Result, Err, MatchResult, ap, subst, sym, ◌∙◌, refl}
+use Rattle.std.proofs.Common.{◌≡◌, ℕ, ◌≤◌, List, length, Bool, false, Option, Result, Ok, Err, MatchResult, count_by, ap, subst, sym, ◌∙◌, refl}
+use Rattle.std.specs.Prelude.{IfOk}
 use Rattle.sts_code.specs.Program.{Program}
+use Rattle.sts_model.specs.Run.{is_step}
+use Rattle.sts_pool.specs.Outside.{IsGiven}
+use Rattle.sts_pool.specs.Report.{IsEnding, IsReport}
 use Rattle.sts_pool.specs.declared.report.Report.{Report}
+use Rattle.sts_trace.specs.declared.outside.Due.{Due}
 use Rattle.sts_rules.specs.Refusal.{IsAccepted}
 use Rattle.sts_output.specs.Output.{AreLines, IsRefused, Output, Writes, file_output}
+use Rattle.sts_cli.proofs.Given.{are_given}
+use Rattle.sts_cli.specs.Dues.{dues_give}
 use Rattle.sts_cli.specs.Running.{IsOutcomeOf, IsRun, Outcome, RunWrites, Written, alone, no_trace}
 use Rattle.sts_cli.specs.Running.{Holds, IsReportOf, refused, report_output, reported, whole}
 use Rattle.sts_output.specs.Taking.{IsTakenOf}
@@ -20,11 +27,23 @@ whole_told kept P o is = record { outcome = o; is = is; output = refl; journal =
 pub told_as : (kept : Bool) (P Q : Outcome → Type 0) (r : Outcome) → ((o : Outcome) → P o → Q o) → Holds kept P r → Holds kept Q r
 told_as kept P Q r more h = record { outcome = h.outcome; is = more h.outcome h.is; output = h.output; journal = h.journal }
 
+-- the report of a run that keeps its journal
+pub kept_report : {E : Type 0} (kept : Bool) (p : Program) (dues : List Due) (r : Result Report E) → length dues ≤ 4096 → IfOk r (λ r. IsReport p r.journal.items r.end) → IfOk r (λ r. IsGiven dues_give dues r.journal.items) → IfOk r (λ r. r.steps ≡ count_by is_step r.journal.items)
+    → IfOk r (IsReportOf kept p dues)
+kept_report kept p dues (Ok r) few report given steps =
+    record { journal = r.journal.items; report = report; given = are_given dues r.journal.items few given; steps = steps; held = λ k. refl }
+kept_report kept p dues (Err e) few report given steps = tt
+
+-- and of one that doesn't
+pub ended_report : (kept : Bool) (p : Program) (dues : List Due) (r : Report) → kept ≡ false → length dues ≤ 4096 → IsEnding p (IsGiven dues_give dues) r.end r.steps → IsReportOf kept p dues r
+ended_report kept p dues r none few is =
+    record { journal = is.journal; report = is.report; given = are_given dues is.journal few is.came; steps = is.counted; held = λ k. absurd (cc) }
+
 -- what is printed of a report
-pub reported_run : (kept : Bool) (p : Program) (budgets : List ℕ) (r : Report) (o : Outcome) → IsAccepted p → AreLines p budgets → IsReportOf kept p r
-    → o ≡ record { output = report_output budgets r.end r.steps; journal = r.journal.items } → Holds kept (IsRun p) o
-reported_run kept p budgets r o accepted lines is same =
-    subst (Holds kept (IsRun p)) (sym same)
+pub reported_run : (kept : Bool) (p : Program) (dues : List Due) (budgets : List ℕ) (r : Report) (o : Outcome) → IsAccepted p → AreLines p budgets → IsReportOf kept p dues r
+    → o ≡ record { output = report_output budgets r.end r.steps; journal = r.journal.items } → Holds kept (IsRun p dues) o
+reported_run kept p dues budgets r o accepted lines is same =
+    subst (Holds kept (IsRun p dues)) (sym same)
     (record {
       outcome = record { output = report_output budgets r.end r.steps; journal = is.journal };
       is =
@@ -34,6 +53,7 @@ reported_run kept p budgets r o accepted lines is same =
             told = lines;
             end = r.end;
             report = is.report;
+            given = is.given;
             printed = ap (report_output budgets r.end) (is.steps ∙ sym is.report.steps);
           });
       output = refl;
@@ -41,8 +61,8 @@ reported_run kept p budgets r o accepted lines is same =
     })
 
 -- a program that isn't accepted is refused
-pub refused_run : (p : Program) (judged : Result Program Output) (refusal : Output) (o : Outcome) → MatchResult judged (λ v. v ≡ p) (IsRefused p) → judged ≡ Err refusal → o ≡ alone refusal → IsRun p o
-refused_run p judged refusal o is e same = refused refusal (subst (λ j. MatchResult j (λ v. v ≡ p) (IsRefused p)) e is) same
+pub refused_run : (p : Program) (dues : List Due) (judged : Result Program Output) (refusal : Output) (o : Outcome) → MatchResult judged (λ v. v ≡ p) (IsRefused p) → judged ≡ Err refusal → o ≡ alone refusal → IsRun p dues o
+refused_run p dues judged refusal o is e same = refused refusal (subst (λ j. MatchResult j (λ v. v ≡ p) (IsRefused p)) e is) same
 
 -- the stream gets the output of the run
 written_of : (P : Type 0) (text outside : List ℕ) (w : Written) (s : ℕ) (r : Outcome) → P → IsOutcomeOf text outside r → RunWrites w s r → (o : Output) × IsPrinted P text outside o × Writes w.out_old w.out_new s o

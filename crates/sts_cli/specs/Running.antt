@@ -1,6 +1,6 @@
 -- The outcome of `run`: its output, and the journal that its trace spells (this project's own).
-use Rattle.std.specs.Prelude.{◌≡◌, ◌⊎◌, ℕ, List, [], ◌∷◌, ◌++◌, Option, Some, None, Result, Ok, Err}
-use Rattle.std.specs.Prelude.{nat_le, if◌then◌else◌, Bool, true, count_by}
+use Rattle.std.specs.Prelude.{◌≡◌, ◌⊎◌, ℕ, List, [], ◌++◌, Option, Result, Ok, Err}
+use Rattle.std.specs.Prelude.{Bool, true, count_by}
 use Rattle.std.specs.Io.KnownBytes.{Appends}
 use Rattle.sts_code.specs.Program.{Program}
 use Rattle.sts_model.specs.Run.{is_step, taken}
@@ -20,18 +20,7 @@ use Rattle.sts_pool.specs.declared.report.PoolError.TheVariants as pool
 use Rattle.sts_output.specs.Output.{AreLines, IsRefused, Output, Writes, end_status, file_output}
 use Rattle.sts_output.specs.Output.{memory_output, text_fault_output, trace_fault_output}
 use Rattle.sts_output.specs.Printed.{end_line, steps_line, threads_line, unfinished_line}
-
--- ---- events from outside
-
--- the first event, if it is due when the journal has this number of entries
-abbrev pub due_event : List Due → ℕ → Option Event
-due_event [] entries = None
-due_event (d ∷ ds) entries = if nat_le d.at entries then Some d.event else None
-
--- the events that are left then: one that isn't due holds back those after it
-abbrev pub dues_left : List Due → ℕ → List Due
-dues_left [] entries = []
-dues_left (d ∷ ds) entries = if nat_le d.at entries then ds else d ∷ ds
+use Rattle.sts_cli.specs.Dues.{AreGiven}
 
 -- ---- what comes of a run
 
@@ -51,13 +40,15 @@ report_output budgets end steps = record {
   status = end_status end;
 }
 
--- an accepted program reached this end with this journal
-pub record IsReported (p : Program) (o : Outcome) : Type 0 where
+-- an accepted program reached this end with this journal, whose interrupts and expiries come from
+-- the outside text
+pub record IsReported (p : Program) (dues : List Due) (o : Outcome) : Type 0 where
   pub accepted : IsAccepted p
   pub budgets : List ℕ
   pub told : AreLines p budgets
   pub end : End
   pub report : IsReport p o.journal end
+  pub given : AreGiven dues o.journal
   pub printed : o.output ≡ report_output budgets end (taken p o.journal)
 
 -- why an accepted program has no report
@@ -66,15 +57,15 @@ pool_output pool.Memory = memory_output
 pool_output pool.SpawnRefused = record { bytes = threads_line; status = 6 }
 pool_output pool.Unfinished = record { bytes = unfinished_line; status = 6 }
 
--- the outcomes of a program, which is accepted or refused
-pub data IsRun (p : Program) (o : Outcome) : Type 0 where
-  reported : IsReported p o → IsRun p o
-  failed : IsAccepted p → (e : PoolError) → o ≡ alone (pool_output e) → IsRun p o
-  refused : (refusal : Output) → IsRefused p refusal → o ≡ alone refusal → IsRun p o
+-- the outcomes of a program, which is accepted or refused, with these events from outside
+pub data IsRun (p : Program) (dues : List Due) (o : Outcome) : Type 0 where
+  reported : IsReported p dues o → IsRun p dues o
+  failed : IsAccepted p → (e : PoolError) → o ≡ alone (pool_output e) → IsRun p dues o
+  refused : (refusal : Output) → IsRefused p refusal → o ≡ alone refusal → IsRun p dues o
 
 -- a fault of the outside text comes before the verdict
 abbrev pub OutsideRuns : Program → Result (List Due) TraceError → Outcome → Type 0
-OutsideRuns p (Ok dues) o = IsRun p o
+OutsideRuns p (Ok dues) o = IsRun p dues o
 OutsideRuns p (Err e) o = o ≡ alone (trace_fault_output e)
 
 abbrev pub TextRuns : Result Program AsmError → List ℕ → Outcome → Type 0
@@ -94,9 +85,10 @@ pub record Holds (kept : Bool) (P : Outcome → Type 0) (r : Outcome) : Type 0 w
   pub journal : kept ≡ true → r.journal ≡ outcome.journal
 
 -- the report of a run by some journal; it holds the journal if `kept` is true
-pub record IsReportOf (kept : Bool) (p : Program) (r : Report) : Type 0 where
+pub record IsReportOf (kept : Bool) (p : Program) (dues : List Due) (r : Report) : Type 0 where
   pub journal : List Event
   pub report : IsReport p journal r.end
+  pub given : AreGiven dues journal
   pub steps : r.steps ≡ count_by is_step journal
   pub held : kept ≡ true → r.journal.items ≡ journal
 

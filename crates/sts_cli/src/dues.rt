@@ -3,7 +3,7 @@
 ghost use Rattle.std.specs.Prelude.{◌≡◌, IfSome};
 ghost use Rattle.std.specs.List.{All};
 ghost use Rattle.sts_pool.specs.Outside.{IsOutside};
-ghost use Rattle.sts_cli.specs.Running.{due_event, dues_left};
+ghost use Rattle.sts_cli.specs.Dues.{due_event, dues_give, dues_left};
 
 use std::collections::VecDeque;
 use std::marker::Model;
@@ -43,11 +43,13 @@ impl Dues {
 }
 
 impl Outside for Dues {
+    ghost gives = { dues_give };
+
     /// The first event that is left, if it is due. One that isn't due holds back those after it.
     fn next(&mut self, journal_length: u64) -> Option<Event>
         ensures outside { IfSome result IsOutside }
-        ensures due { result ≡ due_event self.old journal_length }
-        ensures left { self.new ≡ dues_left self.old journal_length }
+        ensures gives { (result ≡ due_event self.old journal_length)
+            × (self.new ≡ dues_left self.old journal_length) }
     {
         let due = *self.left.front()?;
         if u64::from(due.at) > journal_length {

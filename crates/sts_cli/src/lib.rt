@@ -6,7 +6,9 @@ pub mod laws;
 pub mod modes;
 mod playing;
 mod program;
+mod remarks;
 
 pub use playing::{play, play_joined, play_run};
 pub use program::{run, run_words, start};
-pub use sts_output::{Mode, Notes, TakeError, WriteFailed, take};
+pub use remarks::Remarks;
+pub use sts_output::{Mode, TakeError, WriteFailed, take};

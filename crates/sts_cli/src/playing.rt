@@ -8,8 +8,9 @@ ghost use Rattle.sts_output.specs.Output as def;
 ghost use Rattle.sts_output.specs.Stops.{Prints};
 ghost use Rattle.sts_cli.specs.Running.{IsOutcomeOf, Outcome, RunWrites};
 
-use crate::modes::run::Manner;
+use crate::modes::run::{Manner, Ran};
 use crate::modes::{replay, run};
+use crate::remarks::Came;
 use std::alloc::Global;
 use std::io;
 use std::io::Write;
@@ -77,6 +78,23 @@ fn traced<T: Write>(journal: &[Event], trace: &mut T) -> io::Result<()>
     trace.flush()
 }
 
+/// What a run leaves for standard error: why the trace was not written, and the outside events that
+/// came.
+#[derive(Drop)]
+pub(crate) struct Aside {
+    pub(crate) unwritten: Option<io::Error>,
+    pub(crate) came: Option<Came>,
+}
+
+impl Aside {
+    pub(crate) fn new() -> Aside {
+        Aside {
+            unwritten: None,
+            came: None,
+        }
+    }
+}
+
 /// Does what `play_run` does if no trace is asked for. No journal is kept.
 ///
 /// # Errors
@@ -89,6 +107,7 @@ pub(crate) fn play_untraced<R: Threads + Wait + Sync, W: Write>(
     workers: u32,
     outside: &[u8],
     out: &mut W,
+    aside: &mut Aside,
 ) -> Result<u8, WriteFailed>
     requires { (1 ≤ workers) × (workers ≤ 16) }
     ensures { IfOk result (λ s. (o : Outcome) × IsOutcomeOf text.now outside.now o
@@ -99,12 +118,20 @@ pub(crate) fn play_untraced<R: Threads + Wait + Sync, W: Write>(
         kept: false,
     };
     match run::outcome(rt, alloc, text, manner, outside) {
-        Ok(ran) => written(out, ran.output.text.as_bytes(), ran.output.status),
+        Ok(ran) => {
+            let Ran {
+                output,
+                journal: _,
+                came,
+            } = ran;
+            aside.came = came;
+            written(out, output.text.as_bytes(), output.status)
+        }
         Err(_) => failed(TakeError::Memory, out),
     }
 }
 
-/// Does what `play_run` does, and leaves in `unwritten` why the trace was not written.
+/// Does what `play_run` does, and leaves in `aside` what a person may want to know.
 pub(crate) fn play_traced<R: Threads + Wait + Sync, T: Write, W: Write>(
     rt: &R,
     alloc: Global,
@@ -113,7 +140,7 @@ pub(crate) fn play_traced<R: Threads + Wait + Sync, T: Write, W: Write>(
     outside: &[u8],
     trace: &mut T,
     out: &mut W,
-    unwritten: &mut Option<io::Error>,
+    aside: &mut Aside,
 ) -> Result<u8, WriteFailed>
     requires { (1 ≤ workers) × (workers ≤ 16) }
     ensures { IfOk result (λ s. (o : Outcome) × IsOutcomeOf text.now outside.now o
@@ -129,13 +156,23 @@ pub(crate) fn play_traced<R: Threads + Wait + Sync, T: Write, W: Write>(
         kept: true,
     };
     match run::outcome(rt, alloc, text, manner, outside) {
-        Ok(ran) => match traced(ran.journal.as_slice(), trace) {
-            Ok(()) => written(out, ran.output.text.as_bytes(), ran.output.status),
-            Err(error) => {
-                *unwritten = Some(error);
-                failed(TakeError::Read, out)
+        Ok(ran) => {
+            let Ran {
+                output,
+                journal,
+                came,
+            } = ran;
+            match traced(journal.as_slice(), trace) {
+                Ok(()) => {
+                    aside.came = came;
+                    written(out, output.text.as_bytes(), output.status)
+                }
+                Err(error) => {
+                    aside.unwritten = Some(error);
+                    failed(TakeError::Read, out)
+                }
             }
-        },
+        }
         Err(_) => failed(TakeError::Memory, out),
     }
 }
@@ -167,5 +204,14 @@ pub fn play_run<R: Threads + Wait + Sync, T: Write, W: Write>(
           out_new = W.contents out.new;
         }) s o) }
 {
-    play_traced(rt, alloc, text, workers, outside, trace, out, &mut None)
+    play_traced(
+        rt,
+        alloc,
+        text,
+        workers,
+        outside,
+        trace,
+        out,
+        &mut Aside::new(),
+    )
 }

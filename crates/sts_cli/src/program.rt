@@ -8,7 +8,8 @@ ghost use Rattle.sts_cli.specs.Ending as def;
 ghost use Rattle.sts_output.specs.Output.{Output, Writes};
 ghost use Rattle.sts_output.specs.Streams.{events_of};
 
-use crate::playing::{play, play_joined, play_traced, play_untraced};
+use crate::playing::{Aside, play, play_joined, play_traced, play_untraced};
+use crate::remarks::Remarks;
 use std::alloc::{AllocError, Global};
 use std::io::{Input, Write};
 use std::rt::{Env, Files};
@@ -122,6 +123,7 @@ fn on_texts<R: Threads + Wait + Sync, S: Sinks, W: Write>(
     wanted: RunRequest<'_>,
     out: &mut W,
     notes: &mut Notes,
+    aside: &mut Aside,
 ) -> Result<u8, WriteFailed>
     requires { (1 ≤ wanted.workers) × (wanted.workers ≤ 16) }
     ensures { IfOk result (λ s. (o : Output)
@@ -132,25 +134,29 @@ fn on_texts<R: Threads + Wait + Sync, S: Sinks, W: Write>(
     let (program, outside) = (texts.program.as_slice(), texts.events.as_slice());
     let workers = wanted.workers;
     match wanted.trace {
-        None => play_untraced(rt, alloc, program, workers, outside, out),
+        None => play_untraced(rt, alloc, program, workers, outside, out, aside),
         Some(path) => match made(alloc, sinks, path, wanted.file, wanted.outside) {
-            Ok(mut trace) => {
-                let mut failure = None;
-                let status = play_traced(
-                    rt,
-                    alloc,
-                    program,
-                    workers,
-                    outside,
-                    &mut trace,
-                    out,
-                    &mut failure,
-                )?;
-                notes.written(path, failure);
-                Ok(status)
-            }
+            Ok(mut trace) => play_traced(
+                rt, alloc, program, workers, outside, &mut trace, out, aside,
+            ),
             Err(error) => file_failed(error, out, notes),
         },
+    }
+}
+
+/// Adds the lines about a run that was done: why it failed, and which outside events had no effect.
+fn remark(wanted: RunRequest<'_>, texts: &Texts, status: u8, aside: Aside, remarks: &mut Remarks) {
+    let Aside { unwritten, came } = aside;
+    let events = outside_of(wanted, texts);
+    if let Some(path) = wanted.trace {
+        remarks.notes.written(path, unwritten);
+    }
+    let text = Named::new(wanted.file, texts.program.as_slice());
+    remarks.notes.status(status, text, events);
+    if let Events::Outside(named) = events {
+        if let Some(came) = came {
+            remarks.outside(named, &came);
+        }
     }
 }
 
@@ -162,7 +168,7 @@ fn on_run<R: Threads + Wait + Sync, S: Sources + Sinks, W: Write>(
     sources: &S,
     wanted: RunRequest<'_>,
     out: &mut W,
-    notes: &mut Notes,
+    remarks: &mut Remarks,
 ) -> Result<u8, WriteFailed>
     requires { (1 ≤ wanted.workers) × (wanted.workers ≤ 16) }
     ensures { IfOk result (λ s. (o : Output)
@@ -173,12 +179,13 @@ fn on_run<R: Threads + Wait + Sync, S: Sources + Sinks, W: Write>(
 {
     match read_texts(alloc, sources, wanted.file, wanted.outside) {
         Ok(texts) => {
-            let status = on_texts(rt, alloc, sources, &texts, wanted, out, notes)?;
-            let text = Named::new(wanted.file, texts.program.as_slice());
-            notes.status(status, text, outside_of(wanted, &texts));
+            let mut aside = Aside::new();
+            let notes = &mut remarks.notes;
+            let status = on_texts(rt, alloc, sources, &texts, wanted, out, notes, &mut aside)?;
+            remark(wanted, &texts, status, aside, remarks);
             Ok(status)
         }
-        Err(error) => file_failed(error, out, notes),
+        Err(error) => file_failed(error, out, &mut remarks.notes),
     }
 }
 
@@ -189,7 +196,7 @@ fn on_line<R: Threads + Wait + Sync, S: Sources + Sinks, W: Write>(
     sources: &S,
     wanted: asked::Line<'_>,
     out: &mut W,
-    notes: &mut Notes,
+    remarks: &mut Remarks,
 ) -> Result<u8, WriteFailed>
     requires { HasWorkers wanted }
     ensures { IfOk result (λ s. (o : Output)
@@ -197,6 +204,7 @@ fn on_line<R: Threads + Wait + Sync, S: Sources + Sinks, W: Write>(
         (S.offered sources.now) o
         × Writes (W.contents out.old) (W.contents out.new) s o) }
 {
+    let notes = &mut remarks.notes;
     match wanted {
         asked::Line::Joined => on_input(alloc, sources, out, notes),
         asked::Line::Verify { file } => on_text(alloc, sources, Mode::Verify, file, out, notes),
@@ -219,7 +227,7 @@ fn on_line<R: Threads + Wait + Sync, S: Sources + Sinks, W: Write>(
                 outside,
                 trace,
             };
-            on_run(rt, alloc, sources, wanted, out, notes)
+            on_run(rt, alloc, sources, wanted, out, remarks)
         }
     }
 }
@@ -231,8 +239,9 @@ fn on_line<R: Threads + Wait + Sync, S: Sources + Sinks, W: Write>(
 /// run, or if the program still runs. It is 6 if memory ran out, or a file, a stream or a thread
 /// failed.
 ///
-/// Help and usage faults are written to `err`, everything else to `out`. `notes` gets the lines
-/// that say why a file, a text or its events failed; the function doesn't write them.
+/// Help and usage faults are written to `err`, everything else to `out`. `remarks` gets the lines
+/// that say why a file, a text or its events failed, and which outside events had no effect; the
+/// function doesn't write them.
 ///
 /// # Errors
 ///
@@ -244,7 +253,7 @@ pub fn run<R: Threads + Wait + Sync, S: Sources + Sinks, W: Write, E: Write>(
     words: &[&str],
     out: &mut W,
     err: &mut E,
-    notes: &mut Notes,
+    remarks: &mut Remarks,
 ) -> Result<u8, WriteFailed>
     ensures { IfOk result (def.Ends (map (λ w. w.now) words.now) (S.held sources.now)
         (S.same sources.now) (S.offered sources.now)
@@ -256,7 +265,7 @@ pub fn run<R: Threads + Wait + Sync, S: Sources + Sinks, W: Write, E: Write>(
         })) }
 {
     match line(alloc, words) {
-        Ok(wanted) => on_line(rt, alloc, sources, wanted, out, notes),
+        Ok(wanted) => on_line(rt, alloc, sources, wanted, out, remarks),
         Err(LineError::Memory) => failed(TakeError::Memory, out),
         Err(LineError::Help(text)) => written(err, text.as_bytes(), 0),
         Err(LineError::Usage(text)) => written(err, text.as_bytes(), 2),
@@ -275,7 +284,7 @@ pub fn run_words<R: Threads + Wait + Sync, S: Sources + Sinks, W: Write, E: Writ
     words: &Result<Vec<String>, WordsError>,
     out: &mut W,
     err: &mut E,
-    notes: &mut Notes,
+    remarks: &mut Remarks,
 ) -> Result<u8, WriteFailed>
     ensures { IfOk result (def.EndsFrom words.now (S.held sources.now)
         (S.same sources.now) (S.offered sources.now)
@@ -288,7 +297,7 @@ pub fn run_words<R: Threads + Wait + Sync, S: Sources + Sinks, W: Write, E: Writ
 {
     match words {
         Ok(words) => match borrowed(alloc, words.as_slice()) {
-            Ok(texts) => run(rt, alloc, sources, texts.as_slice(), out, err, notes),
+            Ok(texts) => run(rt, alloc, sources, texts.as_slice(), out, err, remarks),
             Err(_) => failed(TakeError::Memory, out),
         },
         Err(WordsError::Memory) => failed(TakeError::Memory, out),
@@ -314,14 +323,15 @@ pub fn start<R: Env + Files + Input + Threads + Wait + Sync, W: Write, E: Write>
     let _for_output = placeholder(rt);
     let _for_errors = placeholder(rt);
     let words = words(rt, alloc, NAME.as_bytes());
-    let mut notes = Notes::new(alloc, NAME);
+    let mut remarks = Remarks::new(alloc, NAME);
     // (if the message can't be written, output and status are the same)
     if at_terminal && words.as_ref().is_ok_and(|words| words.len() == 1) {
         let _told = err.write_all(WAITS);
     }
-    match run_words(rt, alloc, &Host { rt }, &words, out, err, &mut notes) {
+    match run_words(rt, alloc, &Host { rt }, &words, out, err, &mut remarks) {
         Ok(status) => {
-            let _told = err.write_all(notes.lines());
+            let _told = err.write_all(remarks.notes.lines());
+            let _told = err.write_all(remarks.lines());
             status
         }
         Err(WriteFailed) => STATUS_OUTSIDE,

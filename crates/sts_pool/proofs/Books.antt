@@ -5,7 +5,7 @@ use Rattle.std.proofs.lemmas.Bool.Decides.{nat_tests}
 use Rattle.std.proofs.lemmas.List.{length-replicate}
 use Rattle.std.proofs.lemmas.List.Filters.{length-filter_both}
 use Rattle.std.proofs.lemmas.List.Folds.{sum_by-replicate}
-use Rattle.std.proofs.lemmas.List.Sums.{length-filter, sum_by-append}
+use Rattle.std.proofs.lemmas.List.Sums.{length-filter}
 use Rattle.std.specs.List.{IsDistinct}
 use Rattle.std.specs.Prelude.{MatchBool, option_map, unwrap_or}
 use Rattle.sts_code.specs.Program.{Program}
@@ -33,8 +33,10 @@ use Rattle.sts_machine.specs.Machine.{Seen, Stands}
 use Rattle.sts_machine.specs.Slice.{steps_of}
 use Rattle.sts_machine.specs.Turned.{Picks, turned}
 use Rattle.sts_machine.specs.declared.turned.Turned.TheVariants.{Stepped, Idle}
-use Rattle.sts_pool.specs.Book.{BookSeen, HasBookRoom, IsBook, is_free, outside_entries}
+use Rattle.sts_pool.specs.Book.{BookSeen, HasBookRoom, IsBook, is_free}
+use Rattle.sts_pool.specs.Outside.{outside_entries}
 use Rattle.sts_pool.specs.Report.{IsBounded, IsReport}
+use Rattle.sts_pool.proofs.OutsideLemmas.{entries_more}
 use Rattle.sts_pool.proofs.Outs.{among, among_more, apart_more, apart_without, few_from_apart, was_among, without}
 
 -- ---- a new one
@@ -51,9 +53,6 @@ opening_book m stands none =
     }
 
 -- ---- an event more
-
-pub entries_more : (journal events : List Event) → outside_entries (journal ++ events) ≡ outside_entries journal + outside_entries events
-entries_more journal events = sum_by-append (λ x. cond (not (is_step x)) 1 0) journal events
 
 -- steps come from no outside
 pub still_entries : (journal : List Event) (n t : ℕ) → outside_entries (journal ++ steps_of n t) ≡ outside_entries journal
@@ -171,7 +170,7 @@ back_book m x journal out n t f is stands live steps =
 -- ---- room
 
 -- no more entries than the journal has room for
-entries_few : (m : Seen) (events : List Event) (out : List ℕ) → IsBook m events out → (main : MainBudget m.program) → length events ≤ main.budget.steps + 4096
+pub entries_few : (m : Seen) (events : List Event) (out : List ℕ) → IsBook m events out → (main : MainBudget m.program) → length events ≤ main.budget.steps + 4096
 entries_few m events out is main =
     let few = (main.runs_well events).steps in
     let same = is.stands.steps in
@@ -196,7 +195,7 @@ room_kept p q j k l n same more most room =
     let journal = room.journal_room in
     let out = room.out_room in
     subst (λ z. HasBookRoom z l n) (sym same)
-    (record { main = room.main; stay = room.stay; turns = room.turns; within = room.within; journal_room = omega (arith, journal, more); out_room = omega (arith, out, most) })
+    (record { main = room.main; few = room.few; stay = room.stay; turns = room.turns; within = room.within; journal_room = omega (arith, journal, more); out_room = omega (arith, out, most) })
 
 -- if it is still a book with these entries, the journal had room for them
 pub entries_fit : (m x : Seen) (journal events : List Event) (out : List ℕ) (j k : ℕ) → x.program ≡ m.program → HasBookRoom m.program j k → IsBook x (journal ++ events) out → length journal + length events ≤ j
@@ -251,7 +250,7 @@ turns can out is absent = and_from can (not out) is (not_from_false out absent)
 -- ---- what is reported
 
 -- an entry is a step, or came from outside
-steps_and_outside : (journal : List Event) → count_by is_step journal + outside_entries journal ≡ length journal
+pub steps_and_outside : (journal : List Event) → count_by is_step journal + outside_entries journal ≡ length journal
 steps_and_outside journal =
     let steps : length (filter is_step journal) ≡ count_by is_step journal = length-filter is_step journal in
     let others : length (filter (λ e. not (is_step e)) journal) ≡ outside_entries journal = length-filter (λ e. not (is_step e)) journal in

@@ -1,10 +1,14 @@
 -- A book keeps its facts, whether its journal is written or only counted.
-use Rattle.std.proofs.Common.{◌≡◌, ℕ, ◌+◌, ◌≤◌, List, [], ◌∷◌, ◌++◌, length, true, false, Option, Some, refl, sym, ap, ◌∙◌, subst, vec_len, vec_capacity, count_by, rules, arith}
+use Rattle.std.proofs.Common.{◌≡◌, ℕ, ◌+◌, ◌≤◌, ◌<◌, ◌^◌, List, [], ◌∷◌, ◌++◌, length, true, false, Option, Some, refl, sym, ap, ◌∙◌, subst, cond, vec_len, vec_capacity, count_by, rules, arith}
+use Rattle.std.proofs.lemmas.Bool.{cond-true}
+use Rattle.std.proofs.lemmas.List.Folds.{sum_by-replicate}
 use Rattle.std.specs.Prelude.{IfSome, option_map, unwrap_or}
+use Rattle.sts_code.specs.Program.{Program}
 use Rattle.sts_model.specs.declared.event.End.{End}
 use Rattle.sts_model.specs.declared.event.Event.{Event}
 use Rattle.sts_model.specs.declared.event.Event.TheVariants as event
 use Rattle.sts_model.specs.declared.record.Frame.{Frame}
+use Rattle.sts_model.specs.Live.{Live}
 use Rattle.sts_model.specs.Run.{after, is_step}
 use Rattle.sts_model.specs.World.{task_at}
 use Rattle.laws_runs.specs.Runs.{In}
@@ -13,12 +17,14 @@ use Rattle.laws_live.specs.Run.{live_apply, live_steps_in}
 use Rattle.laws_live.specs.Waiting.{live_can_step}
 use Rattle.sts_machine.specs.Machine.{Seen, Stands}
 use Rattle.sts_machine.specs.Slice.{steps_of}
-use Rattle.sts_pool.specs.Book.{BookSeen, HasBookRoom, IsBook, IsKept, MayBe, OfJournal, Records, book_of, outside_entries}
+use Rattle.sts_pool.specs.Book.{BookSeen, HasBookRoom, IsBook, IsJournal, IsKept, MayBe, OfJournal, Records, book_of}
 use Rattle.sts_pool.specs.Journal.{HasRoomFor, Holds, IsRecorded, written}
-use Rattle.sts_pool.specs.Report.{IsEnding, IsReport}
+use Rattle.sts_pool.specs.Outside.{outside_entries}
+use Rattle.sts_pool.specs.Report.{IsReport}
 use Rattle.sts_pool.specs.declared.journal.Journal.{Journal}
 use Rattle.sts_pool.specs.declared.journal.Journal.TheVariants.{Written, Counted}
-use Rattle.sts_pool.proofs.Books.{back_book, entries_fit, entries_more, opening_book, out_book, out_fits, outside_book, released_book, reports, room_kept, stepped_book, steps_counted, still_entries, still_entries_one}
+use Rattle.sts_pool.proofs.OutsideLemmas.{entries_more, one_outside}
+use Rattle.sts_pool.proofs.Books.{back_book, entries_few, entries_fit, opening_book, out_book, out_fits, outside_book, released_book, reports, room_kept, stepped_book, steps_counted, still_entries, still_entries_one}
 use Rattle.sts_pool.proofs.Outs.{among, without}
 
 -- ---- a journal of either kind
@@ -62,6 +68,15 @@ may_be m j n out k is =
     let entries : outside_entries is.events ≡ n = is.entries in
     record { stands = is.book.stands; outside = entries; counted = omega (arith, counted, entries) }
 
+-- so few entries that a number of 64 bits counts them
+pub countable : (m : Seen) (j : Journal) (n : ℕ) (out : List ℕ) (k : ℕ) → IsKept m j n out k → m.steps + n < 2 ^ 64
+countable m j n out k is =
+    let few = entries_few m is.events out is.book is.room.main in
+    let small = is.room.few in
+    let counted : length is.events ≡ m.steps + outside_entries is.events = is.book.counted in
+    let entries : outside_entries is.events ≡ n = is.entries in
+    omega (arith, few, small, counted, entries)
+
 -- if fewer outside events came than may, one more may come
 pub few_entries : (m : Seen) (j : Journal) (n : ℕ) (out : List ℕ) (k : ℕ) → IsKept m j n out k → (n ≡ 4096 → ⊥) → n + 1 ≤ 4096
 few_entries m j n out k is other =
@@ -85,19 +100,31 @@ told m j n out k b view Q is all =
     subst (λ z. OfJournal z (Q z)) view (of_journal m j n out k (Q (book_of m (written j) n out)) is all)
 
 -- an event was recorded
-pub records : (m x : Seen) (j l : Journal) (n c : ℕ) (out left : List ℕ) (more : List Event) (b : BookSeen) → book_of m (written j) n out ≡ b → IsRecorded j l more → c ≡ n + outside_entries more
+pub records : (m x : Seen) (j l : Journal) (n c : ℕ) (out left : List ℕ) (more : List Event) (b : BookSeen) → book_of m (written j) n out ≡ b → IsRecorded j l more → x.steps ≡ m.steps + count_by is_step more → c ≡ n + outside_entries more
     → ((events : List Event) → Stands m events → Stands x (events ++ more)) → Records b (book_of x (written l) c left) more
-records m x j l n c out left more b view recorded counted stands =
+records m x j l n c out left more b view recorded steps counted stands =
     subst (λ z. Records z (book_of x (written l) c left) more) view
-    (record { written = written_more j l more recorded; outside = counted; stands = stands })
+    (record { written = written_more j l more recorded; steps = steps; outside = counted; stands = stands })
 
--- one from outside is counted
-pub one_outside : (e : Event) (n : ℕ) → is_step e ≡ false → n + 1 ≡ n + outside_entries (e ∷ [])
-one_outside (event.Step t) n outer = absurd (cc)
-one_outside (event.Interrupt t) n outer = omega arith
-one_outside (event.Expire s) n outer = omega arith
+-- a step that was taken is counted
+pub one_step : (p : Program) (v : Live) (t before now : ℕ) → now ≡ before + live_steps_in p v (event.Step t) → live_can_step p v t ≡ true → now ≡ before + count_by is_step (event.Step t ∷ [])
+one_step p v t before now steps can =
+    let one = cond-true {A = ℕ} (live_can_step p v t) 1 0 can in
+    omega (arith, steps, one)
 
--- and steps are not
+-- those of a slice are
+pub all_steps : (c t before now : ℕ) → now ≡ before + c → now ≡ before + count_by is_step (steps_of c t)
+all_steps c t before now steps =
+    let all = sum_by-replicate (λ x. cond (is_step x) 1 0) c (event.Step t) in
+    omega (arith, steps, all)
+
+-- and an event from outside is no step
+pub no_step : (p : Program) (v : Live) (e : Event) (before now : ℕ) → now ≡ before + live_steps_in p v e → is_step e ≡ false → now ≡ before + count_by is_step (e ∷ [])
+no_step p v (event.Step t) before now steps outer = absurd (cc)
+no_step p v (event.Interrupt t) before now steps outer = omega (arith, steps)
+no_step p v (event.Expire s) before now steps outer = omega (arith, steps)
+
+-- steps come from no outside
 pub none_outside : (c t n : ℕ) → n ≡ n + outside_entries (steps_of c t)
 none_outside c t n =
     let none : outside_entries (steps_of c t) ≡ outside_entries [] = still_entries [] c t in
@@ -112,6 +139,10 @@ same_room m x j k same room = room_kept m.program x.program j k j k same (omega 
 -- before the first event
 pub opening_kept : (m : Seen) (j : Journal) (room k : ℕ) → Stands m [] → m.steps ≡ 0 → Holds j [] room → HasBookRoom m.program room k → IsKept m j 0 [] k
 opening_kept m j room k stands none holds has = record { events = []; book = opening_book m stands none; entries = refl; journal_room = room; holds = holds; room = has }
+
+pub opening_journal : (m : Seen) (j : Journal) (room : ℕ) (out : List ℕ) → Stands m [] → m.steps ≡ 0 → Holds j [] room → IsJournal (book_of m (written j) 0 out) []
+opening_journal m (Written v) room out stands none holds = record { may = record { stands = stands; outside = refl; counted = omega (arith, none) }; written = holds.0 }
+opening_journal m Counted room out stands none holds = record { may = record { stands = stands; outside = refl; counted = omega (arith, none) }; written = tt }
 
 -- if more events lead to a book, there is room for them
 more_fits : (m x : Seen) (j : Journal) (n : ℕ) (out left : List ℕ) (k c : ℕ) (more : List Event) (is : IsKept m j n out k) → x.program ≡ m.program → length more ≡ c → IsBook x (is.events ++ more) left → HasRoomFor j c
@@ -199,14 +230,16 @@ released_kept m j n out k t is =
 
 -- ---- what is reported
 
--- how it ended, if its root has
-pub ends : (m : Seen) (j : Journal) (n : ℕ) (out : List ℕ) (k : ℕ) (end : Option End) (o : End) → IsKept m j n out k → ((events : List Event) → Stands m events → In (λ w. end ≡ (task_at w 0).outcome) (after m.program events)) → end ≡ Some o → IsEnding m.program o m.steps
-ends m j n out k end o is ended some =
-    record {
-      journal = is.events;
-      report = reports m is.events out end o is.book is.room.main (ended is.events is.book.stands) some;
-      counted = steps_counted m is.events out is.book;
-    }
+-- how it ended, if its root has, after all events that may be the journal's
+pub ends : (m : Seen) (j : Journal) (n : ℕ) (out : List ℕ) (k : ℕ) (end : Option End) (o : End) → IsKept m j n out k → ((events : List Event) → Stands m events → In (λ w. end ≡ (task_at w 0).outcome) (after m.program events)) → end ≡ Some o
+    → (events : List Event) → MayBe (book_of m (written j) n out) events → IsReport m.program events o × (m.steps ≡ count_by is_step events)
+ends m j n out k end o is ended some events may =
+    let entries : outside_entries is.events ≡ n = is.entries in
+    let from : outside_entries events ≡ n = may.outside in
+    let counted : length events ≡ m.steps + n = may.counted in
+    let most = is.book.most in
+    let book : IsBook m events out = record { stands = may.stands; counted = omega (arith, counted, from); most = omega (arith, most, entries, from); apart = is.book.apart; living = is.book.living } in
+    (reports m events out end o book is.room.main (ended events may.stands) some, steps_counted m events out book)
 
 -- and the journal that led there, if it is written
 pub reported : (m : Seen) (j : Journal) (n : ℕ) (out : List ℕ) (k : ℕ) (end : Option End) (o : End) (entries : List Event) → IsKept m j n out k → ((events : List Event) → Stands m events → In (λ w. end ≡ (task_at w 0).outcome) (after m.program events)) → end ≡ Some o → written j ≡ Some entries

@@ -1,3 +1,5 @@
+pub mod OutsideLemmas
 pub mod Outs
 pub mod Books
 pub mod Kept
+pub mod Asking

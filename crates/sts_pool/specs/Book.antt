@@ -1,7 +1,7 @@
 -- The book of a run: a machine, the journal of its events, and which tasks are out (this project's
 -- own).
-use Rattle.std.specs.Prelude.{◌≡◌, ℕ, ◌+◌, ◌≤◌, List, [], ◌++◌, length, count_by, Bool, true, not, ◌&&◌}
-use Rattle.std.specs.Prelude.{◌==◌, eqb, Option, MatchOption, option_map}
+use Rattle.std.specs.Prelude.{◌≡◌, ℕ, ◌+◌, ◌≤◌, ◌<◌, ◌^◌, List, [], ◌++◌, length, count_by, Bool}
+use Rattle.std.specs.Prelude.{true, not, ◌&&◌, ◌==◌, eqb, Option, IfSome, MatchOption, option_map}
 use Rattle.std.specs.List.{list_any, IsDistinct}
 use Rattle.sts_code.specs.Program.{Program}
 use Rattle.sts_code.specs.declared.limits.TheConstants.{MAX_OUTSIDE}
@@ -18,6 +18,7 @@ use Rattle.sts_machine.specs.Laws.{MainBudget}
 use Rattle.sts_machine.specs.Machine.{Seen, Stands}
 use Rattle.sts_machine.specs.Slice.{Cut, Fits}
 use Rattle.sts_pool.specs.Journal.{Holds}
+use Rattle.sts_pool.specs.Outside.{outside_entries}
 use Rattle.sts_pool.specs.declared.journal.Journal.{Journal}
 
 -- ---- what contracts see of a book
@@ -44,10 +45,6 @@ book_of m journal outside out = record {
   out = out;
 }
 
--- the interrupts and expiries among the events
-abbrev pub outside_entries : List Event → ℕ
-outside_entries events = count_by (λ e. not (is_step e)) events
-
 -- the events may be the journal's entries: they lead to the state of the machine, and each is a
 -- step that was taken or one of the events from outside
 pub record MayBe (b : BookSeen) (events : List Event) : Type 0 where
@@ -55,15 +52,21 @@ pub record MayBe (b : BookSeen) (events : List Event) : Type 0 where
   pub outside : outside_entries events ≡ b.outside
   pub counted : length events ≡ b.machine.steps + b.outside
 
+-- the events are the journal's entries if they are written; otherwise they may be its entries
+pub record IsJournal (b : BookSeen) (events : List Event) : Type 0 where
+  pub may : MayBe b events
+  pub written : IfSome b.journal (λ entries. entries ≡ events)
+
 -- a fact holds of the journal: of its entries if they are written, otherwise of all events that may
 -- be its entries
 abbrev pub OfJournal : BookSeen → (List Event → Type 0) → Type 0
 OfJournal b P = MatchOption b.journal ((events : List Event) → MayBe b events → P events) P
 
--- these events were recorded: a written journal has them at its end, those from outside were
--- counted, and they lead to the new state of the machine
+-- these events were recorded: a written journal has them at its end, the steps and those from
+-- outside were counted, and they lead to the new state of the machine
 pub record Records (old new : BookSeen) (events : List Event) : Type 0 where
   pub written : new.journal ≡ option_map (λ journal. journal ++ events) old.journal
+  pub steps : new.machine.steps ≡ old.machine.steps + count_by is_step events
   pub outside : new.outside ≡ old.outside + outside_entries events
   pub stands : (before : List Event) → Stands old.machine before
       → Stands new.machine (before ++ events)
@@ -98,6 +101,7 @@ pub record IsBook (m : Seen) (events : List Event) (out : List ℕ) : Type 0 whe
 -- the laws of its program, and room in its two lists by the budget of `main`
 pub record HasBookRoom (p : Program) (journal out : ℕ) : Type 0 where
   pub main : MainBudget p
+  pub few : main.budget.steps < 2 ^ 32
   pub stay : StandsStay p
   pub turns : TurnsAreSeen p
   pub within : ViewsAreWithin p

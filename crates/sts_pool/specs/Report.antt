@@ -25,8 +25,11 @@ pub record IsReport (p : Program) (journal : List Event) (end : End) : Type 0 wh
   pub steps : taken p journal ≡ count_by is_step journal
   pub bounded : (b : Budgets) → IsBudgetOf p (main_of p) b → IsBounded p journal b
 
--- some journal leads to this end of the root without a fault, with this many steps
-pub record IsEnding (p : Program) (end : End) (steps : ℕ) : Type 0 where
-  pub journal : List Event
-  pub report : IsReport p journal end
-  pub counted : steps ≡ count_by is_step journal
+-- some journal leads to this end of the root without a fault, with this many steps; its interrupts
+-- and expiries are those that came from outside
+pub record IsEnding (p : Program) (Came : List Event → Type 0) (end : End) (steps : ℕ) : Type 0
+  where
+    pub journal : List Event
+    pub report : IsReport p journal end
+    pub counted : steps ≡ count_by is_step journal
+    pub came : Came journal

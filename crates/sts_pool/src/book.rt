@@ -1,19 +1,21 @@
 //! The book of a run: a machine and the journal of its events.
 
-ghost use Rattle.std.specs.Prelude.{◌≡◌, ◌≢◌, ℕ, ◌++◌, ◌∷◌, [], ◌↔◌, List, IfOk, OnOk, IfErr, OnErr};
-ghost use Rattle.std.specs.Prelude.{IfSome, IfNone, IsErr, IsOk, IsTrue, true, false, filter, not, ◌==◌};
-ghost use Rattle.std.specs.Prelude.{MatchBool, count_by, Some};
+ghost use Rattle.std.specs.Prelude.{◌≡◌, ◌≢◌, ℕ, ◌+◌, ◌++◌, ◌∷◌, [], ◌↔◌, List, IfOk, OnOk, IfErr};
+ghost use Rattle.std.specs.Prelude.{OnErr, IfSome, IfNone, IsErr, IsOk, IsTrue, true, false};
+ghost use Rattle.std.specs.Prelude.{filter, not, ◌==◌, MatchBool, count_by, Some};
 ghost use Rattle.std.specs.Prelude.{vec_capacity};
 ghost use Rattle.std.specs.List.{list_any};
 ghost use Rattle.sts_machine.specs.Slice.{steps_of};
 ghost use Rattle.sts_machine.specs.Turned.{Picks, turned};
 ghost use Rattle.sts_model.specs.Run.{after, counts, is_step};
 ghost use Rattle.sts_model.specs.Waiting.{can_step};
+ghost use Rattle.sts_model.specs.declared.event.Event.{Event as AnyEvent};
 ghost use Rattle.sts_model.specs.World.{code, task_at};
-ghost use Rattle.sts_pool.specs.Book.{IsOurs, MayBe, OfJournal, Records, is_free, is_out, may_turn};
+ghost use Rattle.sts_pool.specs.Book.{IsJournal, IsOurs, MayBe, OfJournal, Records};
+ghost use Rattle.sts_pool.specs.Book.{is_free, is_out, may_turn};
 ghost use Rattle.sts_pool.specs.Journal.{opened};
 ghost use Rattle.sts_pool.specs.Outside.{IsOutside};
-ghost use Rattle.sts_pool.specs.Report.{IsEnding, IsReport};
+ghost use Rattle.sts_pool.specs.Report.{IsReport};
 ghost use Rattle.laws_runs.specs.Runs.{In};
 ghost use Rattle.laws_live.specs.Reading.{alive_at};
 
@@ -72,6 +74,7 @@ impl<'p> Book<'p> {
     pub fn start(alloc: Global, verified: &'p Verified) -> Result<Book<'p>, AllocError>
         ensures program { IfOk result (λ b. b.program ≡ verified.now) }
         ensures journal { IfOk result (λ b. b.journal ≡ Some []) }
+        ensures opening { IfOk result (λ b. IsJournal b []) }
         ensures out { IfOk result (λ b. b.out ≡ []) }
     {
         Book::with_journal(alloc, verified, true)
@@ -90,6 +93,7 @@ impl<'p> Book<'p> {
     ) -> Result<Book<'p>, AllocError>
         ensures program { IfOk result (λ b. b.program ≡ verified.now) }
         ensures journal { IfOk result (λ b. b.journal ≡ opened is_written) }
+        ensures opening { IfOk result (λ b. IsJournal b []) }
         ensures out { IfOk result (λ b. b.out ≡ []) }
     {
         stands_stay(verified);
@@ -119,7 +123,9 @@ impl<'p> Book<'p> {
     }
 
     /// How many entries the journal has, written or not.
-    pub(crate) fn entries(&self) -> u64 {
+    pub(crate) fn entries(&self) -> u64
+        ensures { result ≡ self.now.machine.steps + self.now.outside }
+    {
         self.machine.steps().saturating_add(u64::from(self.outside))
     }
 
@@ -258,13 +264,15 @@ impl<'p> Book<'p> {
         Ok(())
     }
 
-    /// The end of the root and the steps taken, with `workers` as the number of workers.
+    /// The end of the root and the steps taken, with the number of workers, and with which events
+    /// from outside counted.
     ///
     /// # Errors
     ///
     /// The root lives.
-    pub(crate) fn ending(&self, workers: u32) -> Result<Ending, PoolError>
-        ensures ending { IfOk result (λ r. IsEnding self.now.program r.end r.steps) }
+    pub(crate) fn ending(&self, workers: u32, counted: Vec<bool>) -> Result<Ending, PoolError>
+        ensures report { IfOk result (λ r. (events : List AnyEvent) → MayBe self.now events
+            → IsReport self.now.program events r.end × (r.steps ≡ count_by is_step events)) }
         ensures workers { IfOk result (λ r. r.workers ≡ workers) }
     {
         let Some(end) = self.machine.root_end() else {
@@ -274,6 +282,7 @@ impl<'p> Book<'p> {
             end,
             steps: self.machine.steps(),
             workers,
+            counted,
         })
     }
 
@@ -282,8 +291,9 @@ impl<'p> Book<'p> {
     /// # Errors
     ///
     /// The root lives, or the journal isn't written.
-    pub(crate) fn report(self, workers: u32) -> Result<Report, PoolError>
+    pub(crate) fn report(self, workers: u32, counted: Vec<bool>) -> Result<Report, PoolError>
         ensures report { IfOk result (λ r. IsReport self.entry.program r.journal.items r.end) }
+        ensures journal { IfOk result (λ r. self.entry.journal ≡ Some r.journal.items) }
         ensures steps { IfOk result (λ r. r.steps ≡ count_by is_step r.journal.items) }
         ensures workers { IfOk result (λ r. r.workers ≡ workers) }
     {
@@ -305,6 +315,7 @@ impl<'p> Book<'p> {
             journal,
             steps,
             workers,
+            counted,
         })
     }
 

@@ -2,6 +2,7 @@
 //! share it.
 #![tactic(auto)]
 
+mod asked;
 mod book;
 mod gate;
 mod journal;

@@ -4,21 +4,25 @@ use sts_model::{End, Event};
 use thiserror::Error;
 
 /// How the root ended, the journal that led there, how many steps it has, and how many workers
-/// joined the run.
+/// joined the run. For each interrupt and expiry of the journal, in order, `counted` has whether it
+/// counted.
 #[derive(Debug, Drop)]
 pub struct Report {
     pub end: End,
     pub journal: Vec<Event>,
     pub steps: u64,
     pub workers: u32,
+    pub counted: Vec<bool>,
 }
 
-/// How the root ended, how many steps were taken, and how many workers joined the run.
-#[derive(Clone, Copy, Debug, PartialEq, Eq)]
+/// How the root ended, how many steps were taken, how many workers joined the run, and for each
+/// event from outside that came, in order, whether it counted.
+#[derive(Debug, Drop)]
 pub struct Ending {
     pub end: End,
     pub steps: u64,
     pub workers: u32,
+    pub counted: Vec<bool>,
 }
 
 /// Why a run has no report.
@@ -30,7 +34,8 @@ pub enum PoolError {
     /// P2: a worker could not be started; those that were started have ended.
     #[error("a worker could not be started")]
     SpawnRefused,
-    /// P3: the root has not ended in the book that the workers left.
+    /// P3: the root has not ended in the book that the workers left, or an event from outside was
+    /// due there.
     #[error("the run has not ended")]
     Unfinished,
 }

@@ -1,16 +1,20 @@
 //! The workers. They share one book under one lock.
 
-ghost use Rattle.std.specs.Prelude.{◌≡◌, ◌≤◌, IfOk, count_by, length};
+ghost use Rattle.std.specs.Prelude.{◌≡◌, ◌≤◌, [], IfOk, IfSome, count_by, length};
 ghost use Rattle.sts_model.specs.Run.{is_step};
+ghost use Rattle.sts_pool.specs.Asked.{HasGiven};
+ghost use Rattle.sts_pool.specs.Book.{IsJournal};
+ghost use Rattle.sts_pool.specs.Outside.{IsGiven};
 ghost use Rattle.sts_pool.specs.Report.{IsEnding, IsReport};
 
+use crate::asked::{Asked, Runs};
 use crate::book::Book;
 use crate::gate::{Gate, Outside};
 use crate::report::{Ending, PoolError, Report};
 use crate::waits::{AT_ONCE, IN_A_ROW, Waits, turns_after};
 use std::alloc::Global;
 use std::hint::spin_loop;
-use std::marker::{Brand, PhantomData};
+use std::marker::Brand;
 use std::sync::{Condvar, Mutex, MutexGuard, Wait};
 use std::thread;
 use std::thread::{Builder, Threads};
@@ -27,36 +31,19 @@ const PAUSE: u32 = 128;
 /// The bytes of a worker's stack.
 pub(crate) const STACK: usize = 1 << 20;
 
-/// The program of a run: each call of `run` picks its own.
-pub(crate) trait Runs {
-    ghost use Rattle.sts_code.specs.Program.{Program};
-
-    ghost program: { Program };
-}
-
-impl Runs for Brand {
-    ghost use Rattle.std.specs.Prelude.{[]};
-    ghost use Rattle.sts_pool.specs.Book.{no_program};
-
-    ghost program = { no_program };
-}
-
-/// The state that workers share: the book, the outside, whether the run is stopped, how many
+/// The state that workers share: the book with its outside, whether the run is stopped, how many
 /// workers have reached the lock, and the rule for who sleeps.
 #[derive(Drop)]
-struct Shared<'p, O, B: Runs> {
-    book: Book<'p>,
-    outside: O,
+struct Shared<'p, O: Outside, B: Runs<O>> {
+    asked: Asked<'p, O, B>,
     stop: bool,
     came: u32,
     waits: Waits,
-    of: PhantomData<B>,
-    ghost ours: { book.program ≡ B.program },
 }
 
 /// The state under one lock, and the condition that sleeping workers wait for.
 #[derive(Drop)]
-struct Pool<'p, O, B: Runs> {
+struct Pool<'p, O: Outside, B: Runs<O>> {
     shared: Mutex<Shared<'p, O, B>>,
     woken: Condvar,
 }
@@ -73,28 +60,13 @@ enum Found {
     End,
 }
 
-impl<'p, O: Outside, B: Runs> Shared<'p, O, B> {
-    /// Records outside events until there is none or the book is full.
-    #[inline(always)]
-    fn ask(&mut self) {
-        for _ in 0..MAX_OUTSIDE {
-            if self.book.is_full() {
-                break;
-            }
-            let entries = self.book.entries();
-            let Some(event) = self.outside.next(entries) else {
-                break;
-            };
-            let _ = self.book.outside(event);
-        }
-    }
-
+impl<'p, O: Outside, B: Runs<O>> Shared<'p, O, B> {
     /// Does up to `most` turns of a task, until one is no step. Answers whether all of them were
     /// steps.
     fn turns(&mut self, task: u32, most: u32) -> bool {
         for _ in 0..most {
-            self.ask();
-            if self.book.turn(task) == Turned::Idle {
+            self.asked.ask();
+            if self.asked.turn(task) == Turned::Idle {
                 return false;
             }
         }
@@ -103,14 +75,14 @@ impl<'p, O: Outside, B: Runs> Shared<'p, O, B> {
 
     /// Looks for a task.
     fn look(&mut self) -> Found {
-        self.ask();
-        if self.stop || self.book.root_end().is_some() {
+        self.asked.ask();
+        if self.stop || self.asked.has_ended() {
             return Found::End;
         }
         if self.waits.leaves() {
             return Found::Left;
         }
-        let Some(task) = self.book.claim() else {
+        let Some(task) = self.asked.claim() else {
             return if self.waits.wants_several() {
                 Found::Nothing
             } else {
@@ -123,12 +95,12 @@ impl<'p, O: Outside, B: Runs> Shared<'p, O, B> {
 
     /// Is there work for another worker, too?
     fn wants_another(&self) -> bool {
-        self.waits.wants_several() && self.book.has_more()
+        self.waits.wants_several() && self.asked.has_more()
     }
 
     /// A slice to work on.
     fn lend(&mut self) -> Option<Slice<'p>> {
-        let slice = self.book.check_out()?;
+        let slice = self.asked.check_out()?;
         self.waits.lends();
         Some(slice)
     }
@@ -137,7 +109,7 @@ impl<'p, O: Outside, B: Runs> Shared<'p, O, B> {
     /// run; none ever comes.
     fn take_back(&mut self, slice: Slice<'p>, done: u32) {
         self.waits.back(done);
-        if self.book.check_in(slice).is_err() {
+        if !self.asked.check_in(slice) {
             self.stop = true;
         }
     }
@@ -150,7 +122,7 @@ fn pause() {
     }
 }
 
-impl<'p, O: Outside, B: Runs> Pool<'p, O, B> {
+impl<'p, O: Outside, B: Runs<O>> Pool<'p, O, B> {
     /// Takes the lock. The worker sleeps until the lock is free only after it looked for a while
     /// and others had it each time.
     fn locked<R: Wait>(&self, rt: &R) -> MutexGuard<'_, Shared<'p, O, B>> {
@@ -205,7 +177,7 @@ impl<'p, O: Outside, B: Runs> Pool<'p, O, B> {
     /// task can't step, another task to work on is found.
     fn exchange<R: Wait, G: Gate>(&self, rt: &R, gate: &G, worker: u32, task: u32) -> Option<u32> {
         let mut guard = self.locked(rt);
-        guard.book.release(task);
+        guard.asked.release(task);
         if !guard.stop && guard.turns(task, IN_A_ROW) {
             return self.slices(rt, gate, worker, guard);
         }
@@ -265,13 +237,16 @@ impl<'p, O: Outside, B: Runs> Pool<'p, O, B> {
     }
 }
 
-/// Runs a program with 1 to 16 workers: how its root ended, and the journal that led there.
+/// Runs a program with 1 to 16 workers: how its root ended, and the journal that led there. The
+/// interrupts and expiries of the journal are those that `outside` gave, each at the length that
+/// the journal had then.
 ///
 /// # Errors
 ///
 /// Memory ran out, or a worker could not be started. In the second case the other workers were
 /// stopped and have ended. An error would also report that the root had not ended when the workers
-/// were done. No test has met that, and nothing is proved of it.
+/// were done, or that an event from outside was still due then. No test has met that, and nothing
+/// is proved of it.
 pub fn run<R: Threads + Wait + Sync, G: Gate + Sync, O: Outside + Send + Drop>(
     rt: &R,
     alloc: Global,
@@ -282,6 +257,7 @@ pub fn run<R: Threads + Wait + Sync, G: Gate + Sync, O: Outside + Send + Drop>(
 ) -> Result<Report, PoolError>
     requires { (1 ≤ workers) × (workers ≤ 16) }
     ensures report { IfOk result (λ r. IsReport verified.now r.journal.items r.end) }
+    ensures given { IfOk result (λ r. IsGiven O.gives outside r.journal.items) }
     ensures steps { IfOk result (λ r. r.steps ≡ count_by is_step r.journal.items) }
     ensures workers { IfOk result (λ r. r.workers ≡ workers) }
 {
@@ -289,8 +265,16 @@ pub fn run<R: Threads + Wait + Sync, G: Gate + Sync, O: Outside + Send + Drop>(
     let Ok(book) = Book::start(alloc, verified) else {
         return Err(PoolError::Memory);
     };
-    let left = run_on::<Brand, R, G, O>(rt, book, stacks, gate, outside)?;
-    left.book.report(left.workers)
+    let Ok(counted) = Vec::with_capacity(alloc, MAX_OUTSIDE as usize) else {
+        return Err(PoolError::Memory);
+    };
+    let left = run_on::<Brand, R, G, O>(rt, book, counted, stacks, gate, outside)?;
+    let Left {
+        book,
+        counted,
+        workers,
+    } = left;
+    book.report(workers, counted)
 }
 
 /// Does what `run` does, but writes no journal: how the root ended, and the steps taken.
@@ -307,51 +291,71 @@ pub fn run_unwritten<R: Threads + Wait + Sync, G: Gate + Sync, O: Outside + Send
     outside: O,
 ) -> Result<Ending, PoolError>
     requires { (1 ≤ workers) × (workers ≤ 16) }
-    ensures ending { IfOk result (λ r. IsEnding verified.now r.end r.steps) }
+    ensures ending { IfOk result (λ r.
+        IsEnding verified.now (IsGiven O.gives outside) r.end r.steps) }
     ensures workers { IfOk result (λ r. r.workers ≡ workers) }
 {
     let stacks = &[STACK; 16][..workers as usize];
     let Ok(book) = Book::with_journal(alloc, verified, false) else {
         return Err(PoolError::Memory);
     };
-    let left = run_on::<Brand, R, G, O>(rt, book, stacks, gate, outside)?;
-    left.book.ending(left.workers)
+    let Ok(counted) = Vec::with_capacity(alloc, MAX_OUTSIDE as usize) else {
+        return Err(PoolError::Memory);
+    };
+    let left = run_on::<Brand, R, G, O>(rt, book, counted, stacks, gate, outside)?;
+    let Left {
+        book,
+        counted,
+        workers,
+    } = left;
+    book.ending(workers, counted)
 }
 
-/// The result of all workers: the book, and how many of them reached the lock.
+/// The result of all workers: the book, which events from outside counted, and how many workers
+/// reached the lock.
 #[derive(Drop)]
 pub(crate) struct Left<'p> {
     book: Book<'p>,
+    counted: Vec<bool>,
     workers: u32,
 }
 
-/// Starts one worker for each of these stack sizes, and returns the book of the picked program once
-/// all of them have ended.
+/// Starts one worker for each of these stack sizes. Returns the book of the picked program once all
+/// of them have ended; the picked outside gave the interrupts and expiries of its journal.
 ///
 /// # Errors
 ///
-/// A worker could not be started, or a started worker never reached the lock.
+/// A worker could not be started, or a started worker never reached the lock. Or an event from
+/// outside was due when all had ended.
 pub(crate) fn run_on<
     'p,
-    B: Runs + Send + Sync,
+    B: Runs<O> + Send + Sync,
     R: Threads + Wait + Sync,
     G: Gate + Sync,
     O: Outside + Send + Drop,
->(rt: &R, book: Book<'p>, stacks: &[usize], gate: &G, outside: O) -> Result<Left<'p>, PoolError>
+>(
+    rt: &R,
+    book: Book<'p>,
+    counted: Vec<bool>,
+    stacks: &[usize],
+    gate: &G,
+    outside: O,
+) -> Result<Left<'p>, PoolError>
     requires program { book.program ≡ B.program }
+    requires opening { IsJournal book [] }
+    requires outside { IfSome B.outside (λ o. o ≡ outside) }
     requires few { length stacks.now ≤ 16 }
     ensures program { IfOk result (λ l. l.book.program ≡ B.program) }
+    ensures given { IfOk result (λ l. HasGiven O.gives B.outside l.book) }
     ensures workers { IfOk result (λ l. l.workers ≡ length stacks.now) }
 {
     let workers = stacks.len() as u32;
     let pool = Pool::<O, B> {
         shared: Mutex::new(Shared {
-            book,
-            outside,
+            asked: Asked::new(book, outside, counted),
             stop: false,
             came: 0,
             waits: Waits::new(workers),
-            of: PhantomData,
         }),
         woken: Condvar::new(),
     };
@@ -360,30 +364,31 @@ pub(crate) fn run_on<
     }
     let Pool { shared, woken: _ } = pool;
     let Shared {
-        book,
-        outside: _,
+        asked,
         stop: _,
         came,
         waits: _,
-        of: _,
     } = shared.into_inner();
     if came != workers {
         return Err(PoolError::SpawnRefused);
     }
+    let (book, counted) = asked.close()?;
     Ok(Left {
         book,
+        counted,
         workers: came,
     })
 }
 
 /// Starts a worker with a stack of each of these sizes, and waits for all of them to end. The
 /// answer is false if one could not be started.
-fn work_all<'p, B: Runs + Send + Sync, R: Threads + Wait + Sync, G: Gate + Sync, O: Outside + Send>(
-    rt: &R,
-    pool: &Pool<'p, O, B>,
-    gate: &G,
-    stacks: &[usize],
-) -> bool {
+fn work_all<
+    'p,
+    B: Runs<O> + Send + Sync,
+    R: Threads + Wait + Sync,
+    G: Gate + Sync,
+    O: Outside + Send,
+>(rt: &R, pool: &Pool<'p, O, B>, gate: &G, stacks: &[usize]) -> bool {
     thread::scope(thread::scope_env(), rt, |scope| {
         for (worker, stack) in stacks.iter().enumerate() {
             let builder = Builder::new().stack_size(*stack);

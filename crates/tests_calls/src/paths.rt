@@ -6,7 +6,7 @@ use std::process::Abort;
 use std::sync::Wait;
 use std::test::Fail;
 use std::thread::Threads;
-use sts_pool::{Ending, Gate, Outside, run, run_unwritten};
+use sts_pool::{Ending, Gate, Outside, Report, run, run_unwritten};
 use sts_verify::Verified;
 
 /// Is the journal of a run written?
@@ -34,10 +34,18 @@ pub fn ending<R: Abort + Threads + Wait + Sync, G: Gate + Sync, O: Outside + Sen
         Path::Written => {
             let report = run(rt, alloc, verified, workers, gate, outside)?;
             replays(rt, alloc, verified, &report)?;
+            let Report {
+                end,
+                journal: _,
+                steps,
+                workers,
+                counted,
+            } = report;
             Ending {
-                end: report.end,
-                steps: report.steps,
-                workers: report.workers,
+                end,
+                steps,
+                workers,
+                counted,
             }
         }
         Path::Unwritten => run_unwritten(rt, alloc, verified, workers, gate, outside)?,

@@ -1,18 +1,19 @@
 //! Mode `run`: workers bring an accepted program to its end.
 
-ghost use Rattle.std.specs.Prelude.{◌≡◌, ◌≤◌, ◌++◌, ℕ, IfOk, []};
+ghost use Rattle.std.specs.Prelude.{◌≡◌, ◌≤◌, ◌++◌, ℕ, IfOk, [], length};
 ghost use Rattle.std.specs.String.{string_bytes};
 ghost use Rattle.sts_asm.specs.Text.{judged};
 ghost use Rattle.sts_trace.specs.Reading.{outside_read};
 ghost use Rattle.sts_cli.specs.Running as def;
 
 use crate::dues::Dues;
+use crate::remarks::Came;
 use std::alloc::{AllocError, Global};
 use std::marker::Model;
 use std::sync::Wait;
 use std::thread::Threads;
 use sts_asm::assemble;
-use sts_code::Program;
+use sts_code::{MAX_OUTSIDE, Program};
 use sts_model::Event;
 use sts_output::{Output, accepted, output, printed, verify};
 use sts_pool::{Ending, Gate, PoolError, Report, run, run_unwritten};
@@ -26,12 +27,13 @@ pub(crate) struct Manner {
     pub(crate) kept: bool,
 }
 
-/// The outcome of a run: its output, and the journal. The journal is empty if there is no report or
-/// it isn't kept.
+/// The outcome of a run: its output, the journal, and which outside events came. The journal is
+/// empty if there is no report or it isn't kept.
 #[derive(Drop)]
 pub(crate) struct Ran {
     pub(crate) output: Output,
     pub(crate) journal: Vec<Event>,
+    pub(crate) came: Option<Came>,
 }
 
 impl Model for Ran {
@@ -57,6 +59,7 @@ fn alone(alloc: Global, output: Output) -> Ran
     Ran {
         output,
         journal: Vec::new(alloc),
+        came: None,
     }
 }
 
@@ -68,8 +71,9 @@ fn report<R: Threads + Wait + Sync>(
     manner: Manner,
     dues: Dues,
 ) -> Result<Report, PoolError>
-    requires { (1 ≤ manner.workers) × (manner.workers ≤ 16) }
-    ensures { IfOk result (def.IsReportOf manner.kept verified.now) }
+    requires workers { (1 ≤ manner.workers) × (manner.workers ≤ 16) }
+    requires few { length dues ≤ MAX_OUTSIDE }
+    ensures { IfOk result (def.IsReportOf manner.kept verified.now dues) }
 {
     if manner.kept {
         return run(rt, alloc, verified, manner.workers, &Open, dues);
@@ -78,12 +82,14 @@ fn report<R: Threads + Wait + Sync>(
         end,
         steps,
         workers,
+        counted,
     } = run_unwritten(rt, alloc, verified, manner.workers, &Open, dues)?;
     Ok(Report {
         end,
         journal: Vec::new(alloc),
         steps,
         workers,
+        counted,
     })
 }
 
@@ -103,6 +109,7 @@ fn reported(budgets: String, report: Report) -> Result<Ran, AllocError>
             status: output::end_status(report.end),
         },
         journal: report.journal,
+        came: Some(Came::new(report.counted, report.steps)),
     })
 }
 
@@ -127,8 +134,9 @@ fn run_accepted<R: Threads + Wait + Sync>(
     manner: Manner,
     dues: Dues,
 ) -> Result<Ran, AllocError>
-    requires { (1 ≤ manner.workers) × (manner.workers ≤ 16) }
-    ensures { IfOk result (def.Holds manner.kept (def.IsRun verified.now)) }
+    requires workers { (1 ≤ manner.workers) × (manner.workers ≤ 16) }
+    requires few { length dues ≤ MAX_OUTSIDE }
+    ensures { IfOk result (def.Holds manner.kept (def.IsRun verified.now dues)) }
 {
     let budgets = verify::lines(alloc, verified)?;
     match report(rt, alloc, verified, manner, dues) {
@@ -145,8 +153,9 @@ fn verdict<R: Threads + Wait + Sync>(
     manner: Manner,
     dues: Dues,
 ) -> Result<Ran, AllocError>
-    requires { (1 ≤ manner.workers) × (manner.workers ≤ 16) }
-    ensures { IfOk result (def.Holds manner.kept (def.IsRun program)) }
+    requires workers { (1 ≤ manner.workers) × (manner.workers ≤ 16) }
+    requires few { length dues ≤ MAX_OUTSIDE }
+    ensures { IfOk result (def.Holds manner.kept (def.IsRun program dues)) }
 {
     match accepted(alloc, program)? {
         Ok(verified) => run_accepted(rt, alloc, &verified, manner, dues),

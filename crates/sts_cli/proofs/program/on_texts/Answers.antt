@@ -12,11 +12,12 @@ returns-in-None g c =
     (λ s h. printed_alone _ _ _ _ _ _ _ s h.0 spares c.as_slice-program.ensures.value c.as_slice-outside.ensures.value h.1 h.2)
     c.play_untraced.ensures
 
-pub returns-in_ok-status-in-Ok : goal.returns-in_ok-status-in-Ok
-returns-in_ok-status-in-Ok g c =
+pub returns-in-Ok : goal.returns-in-Ok
+returns-in-Ok g c =
     let spares : def.Spares (g.S.Sinks.same c.args.sinks.now) c.args.wanted.file.now c.args.wanted.outside c.args.wanted.trace = rw c.in-Some.is (c.in-Ok.ensures.file, c.in-Ok.ensures.outside) in
-    let h = c.in_ok-status-in-Ok.ensures in
-    printed_of _ _ _ _ _ _ _ h.0 spares c.as_slice-program.ensures.value c.as_slice-outside.ensures.value h.1 h.2
+    IfOk-weaker c.play_traced.result _ _
+    (λ s h. printed_of _ _ _ _ _ _ s h.0 spares c.as_slice-program.ensures.value c.as_slice-outside.ensures.value h.1 h.2)
+    c.play_traced.ensures
 
 pub returns-in-Err : goal.returns-in-Err
 returns-in-Err g c =

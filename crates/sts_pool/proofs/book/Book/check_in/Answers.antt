@@ -4,7 +4,7 @@ use Rattle.sts_model.specs.declared.event.Event.TheVariants as event
 use Rattle.sts_machine.specs.Slice.{steps_of}
 use Rattle.sts_pool.specs.Book.{BookSeen, is_out}
 use Rattle.sts_pool.specs.Journal.{IsRecorded}
-use Rattle.sts_pool.proofs.Kept.{back_fits, back_kept, none_outside, records}
+use Rattle.sts_pool.proofs.Kept.{all_steps, back_fits, back_kept, none_outside, records}
 use Rattle.sts_pool.proofs.Outs.{others_left, taken_out, without}
 use Rattle.sts_pool.proofs.book.Book.check_in.Goals as goal
 
@@ -44,7 +44,7 @@ returns-clause-journal c =
     let out = c.self.inside.out.items in
     let put = c.put.ensures in
     let recorded : IsRecorded j c.push_steps.new.self (steps_of count t) = rw (c.count.ensures.value, c.task-task.ensures) at c.push_steps.ensures in
-    records m c.put.new.self j c.push_steps.new.self n n out c.forget.new.out.items _ c.args.self.now c.self.view_is recorded (none_outside count t n) put.stands
+    records m c.put.new.self j c.push_steps.new.self n n out c.forget.new.out.items _ c.args.self.now c.self.view_is recorded (all_steps count t m.steps c.put.new.self.steps put.steps) (none_outside count t n) put.stands
 
 pub returns-clause-back : goal.returns-clause-back
 returns-clause-back c =

@@ -3,7 +3,8 @@ use Rattle.std.proofs.lemmas.Bool.{both_ways}
 use Rattle.sts_model.specs.Run.{after, counts}
 use Rattle.sts_machine.specs.Turned.{turned}
 use Rattle.sts_pool.specs.Book.{BookSeen}
-use Rattle.sts_pool.proofs.Kept.{event_fits, event_kept, few_entries, one_outside, records, told}
+use Rattle.sts_pool.proofs.Kept.{event_fits, event_kept, few_entries, no_step, records, told}
+use Rattle.sts_pool.proofs.OutsideLemmas.{one_outside}
 use Rattle.sts_pool.proofs.book.Book.outside.Goals as goal
 
 pub push-requires : goal.push-requires
@@ -37,4 +38,4 @@ returns-clause-turned c =
 
 pub returns-clause-journal : goal.returns-clause-journal
 returns-clause-journal c =
-    records c.self.inside.machine c.turn-turned.new.self c.self.inside.journal c.push.new.self c.self.inside.outside (c.self.inside.outside + 1) c.self.inside.out.items c.self.inside.out.items _ c.args.self.now c.self.view_is c.push.ensures (one_outside c.args.event c.self.inside.outside c.requires) c.turn-turned.ensures.stands
+    records c.self.inside.machine c.turn-turned.new.self c.self.inside.journal c.push.new.self c.self.inside.outside (c.self.inside.outside + 1) c.self.inside.out.items c.self.inside.out.items _ c.args.self.now c.self.view_is c.push.ensures (no_step c.self.inside.machine.program c.self.inside.machine.live c.args.event c.self.inside.machine.steps c.turn-turned.new.self.steps c.turn-turned.ensures.steps c.requires) (one_outside c.args.event c.self.inside.outside c.requires) c.turn-turned.ensures.stands

@@ -7,7 +7,7 @@ use Rattle.sts_model.specs.Run.{after, counts}
 use Rattle.laws_live.specs.Waiting.{live_can_step}
 use Rattle.sts_pool.specs.Book.{may_turn}
 use Rattle.sts_pool.proofs.Books.{idle_from, idle_no_turn, out_no_turn, stepped_from, turns}
-use Rattle.sts_pool.proofs.Kept.{none_outside, records, step_fits, step_kept, told}
+use Rattle.sts_pool.proofs.Kept.{none_outside, one_step, records, step_fits, step_kept, told}
 use Rattle.sts_pool.proofs.book.Book.turn.Goals as goal
 
 pub returns-then-is_among-clause-turned : goal.returns-then-is_among-clause-turned
@@ -60,4 +60,5 @@ pub returns-in-Stepped-clause-journal : goal.returns-in-Stepped-clause-journal
 returns-in-Stepped-clause-journal c =
     let m = c.self.inside.machine in
     let t = c.args.task in
-    λ stepped. records m c.turn.new.self c.self.inside.journal c.push.new.self c.self.inside.outside c.self.inside.outside c.self.inside.out.items c.self.inside.out.items _ c.args.self.now c.self.view_is c.push.ensures (none_outside 1 t c.self.inside.outside) c.turn.ensures.stands
+    let can : live_can_step m.program m.live t ≡ true = stepped_from _ (sym c.in-Stepped.is ∙ c.turn.ensures.answer) in
+    λ stepped. records m c.turn.new.self c.self.inside.journal c.push.new.self c.self.inside.outside c.self.inside.outside c.self.inside.out.items c.self.inside.out.items _ c.args.self.now c.self.view_is c.push.ensures (one_step m.program m.live t m.steps c.turn.new.self.steps c.turn.ensures.steps can) (none_outside 1 t c.self.inside.outside) c.turn.ensures.stands

@@ -1,0 +1,173 @@
+-- A book that asks its outside: the interrupts and expiries of its journal came from there.
+use Rattle.std.proofs.Common.{◌≡◌, ℕ, zero, suc, ◌+◌, List, [], ◌∷◌, ◌++◌, Option, Some, None, Result, Ok, Err, inl, inr, refl, sym, ap, ◌∙◌, subst, count_by, append_assoc, append-nil, length-append, arith}
+use Rattle.std.specs.Prelude.{IfNone, IfSome, OnErr, OnOk, option_map}
+use Rattle.sts_code.specs.Program.{Program}
+use Rattle.sts_machine.specs.Slice.{steps_of}
+use Rattle.sts_machine.specs.declared.turned.Turned.{Turned}
+use Rattle.sts_machine.specs.declared.turned.Turned.TheVariants.{Stepped, Idle}
+use Rattle.sts_model.specs.declared.event.End.{End}
+use Rattle.sts_model.specs.declared.event.Event.{Event}
+use Rattle.sts_model.specs.declared.event.Event.TheVariants.{Step}
+use Rattle.sts_model.specs.Run.{is_step}
+use Rattle.sts_pool.specs.Asked.{HasGiven, IsAsked}
+use Rattle.sts_pool.specs.Book.{BookSeen, IsJournal, MayBe, Records}
+use Rattle.sts_pool.specs.Outside as outside
+use Rattle.sts_pool.specs.Outside.{Gave, IsGiven, IsOutside}
+use Rattle.sts_pool.specs.Report.{IsEnding, IsReport}
+use Rattle.sts_pool.proofs.Books.{steps_and_outside}
+use Rattle.sts_pool.proofs.OutsideLemmas.{entries_more}
+
+-- ---- the journal of a book
+
+written_on : (o : Option (List Event)) (events more : List Event) → IfSome o (λ es. es ≡ events) → IfSome (option_map (λ journal. journal ++ more) o) (λ es. es ≡ events ++ more)
+written_on (Some es) events more is = ap (λ xs. xs ++ more) is
+written_on None events more is = is
+
+-- it goes on by what was recorded
+pub journal_more : (b x : BookSeen) (events more : List Event) → IsJournal b events → Records b x more → IsJournal x (events ++ more)
+journal_more b x events more is records =
+    let was = is.may.counted in
+    let came = is.may.outside in
+    let steps = records.steps in
+    let outer = records.outside in
+    let long = length-append events more in
+    let entries = entries_more events more in
+    let all = steps_and_outside more in
+    record {
+      may =
+          record {
+            stands = records.stands events is.may.stands;
+            outside = omega (arith, came, outer, entries);
+            counted = omega (arith, was, steps, outer, long, all);
+          };
+      written = subst (λ o. IfSome o (λ es. es ≡ events ++ more)) (sym records.written) (written_on b.journal events more is.written);
+    }
+
+-- it doesn't depend on which tasks are out
+pub journal_beside : (b : BookSeen) (out : List ℕ) (events : List Event) → IsJournal b events → IsJournal (record b { out = out }) events
+journal_beside b out events is =
+    record {
+      may = record { stands = is.may.stands; outside = is.may.outside; counted = is.may.counted };
+      written = is.written;
+    }
+
+-- ---- what an outside gave
+
+-- a fact of the outside, if there is one, that follows from another
+if_some : {O : Type 0} (first : Option O) (P Q : O → Type 0) → ((o : O) → P o → Q o) → IfSome first P → IfSome first Q
+if_some (Some o) P Q more is = more o is
+if_some None P Q more is = is
+
+-- steps come from no outside
+gave_steps : {O : Type 0} (gives : O → ℕ → Option Event → O → Type 0) (first : O) (c t : ℕ) (journal : List Event) (now : O) → Gave gives first journal now → Gave gives first (journal ++ steps_of c t) now
+gave_steps gives first zero t journal now gave = subst (λ es. Gave gives first es now) (sym (append-nil journal)) gave
+gave_steps gives first (suc c) t journal now gave =
+    let one = outside.step journal now t gave in
+    let all = gave_steps gives first c t (journal ++ Step t ∷ []) now one in
+    rw append_assoc at all
+
+-- ---- a book with its outside
+
+-- before the first event
+pub opening_asked : {O : Type 0} (gives : O → ℕ → Option Event → O → Type 0) (p : Program) (first : Option O) (b : BookSeen) (now : O) → b.program ≡ p → IsJournal b [] → IfSome first (λ o. o ≡ now) → IsAsked gives p first b now
+opening_asked gives p first b now ours opening same =
+    record {
+      program = ours;
+      events = [];
+      journal = opening;
+      gave = if_some first (λ o. o ≡ now) (λ o. Gave gives o [] now) (λ o e. subst (λ z. Gave gives o [] z) e outside.opening) same;
+    }
+
+-- after these entries
+more_asked : {O : Type 0} (gives : O → ℕ → Option Event → O → Type 0) (p : Program) (first : Option O) (b x : BookSeen) (now later : O) (more : List Event) → x.program ≡ b.program → Records b x more
+    → ((o : O) (events : List Event) → IsJournal b events → Gave gives o events now → Gave gives o (events ++ more) later) → IsAsked gives p first b now → IsAsked gives p first x later
+more_asked gives p first b x now later more same records goes is =
+    record {
+      program = same ∙ is.program;
+      events = is.events ++ more;
+      journal = journal_more b x is.events more is.journal records;
+      gave = if_some first (λ o. Gave gives o is.events now) (λ o. Gave gives o (is.events ++ more) later) (λ o gave. goes o is.events is.journal gave) is.gave;
+    }
+
+-- after an event that it gave
+pub event_asked : {O : Type 0} (gives : O → ℕ → Option Event → O → Type 0) (p : Program) (first : Option O) (b x : BookSeen) (now later : O) (n : ℕ) (e : Event) (answer : Option Event) → x.program ≡ b.program → Records b x (e ∷ []) → IsOutside e → answer ≡ Some e → n ≡ b.machine.steps + b.outside → gives now n answer later
+    → IsAsked gives p first b now → IsAsked gives p first x later
+event_asked gives p first b x now later n e answer same records outer some long gave is =
+    more_asked gives p first b x now later (e ∷ []) same records
+    (λ o events journal before. outside.event events now later e before outer
+    (subst (λ k. gives now k (Some e) later) (long ∙ sym journal.may.counted) (subst (λ a. gives now n a later) some gave)))
+    is
+
+-- and if it gave nothing
+pub nothing_asked : {O : Type 0} (gives : O → ℕ → Option Event → O → Type 0) (p : Program) (first : Option O) (b : BookSeen) (now later : O) (n : ℕ) (answer : Option Event) → answer ≡ None → n ≡ b.machine.steps + b.outside → gives now n answer later → IsAsked gives p first b now → IsAsked gives p first b later
+nothing_asked gives p first b now later n answer none long gave is =
+    let here = subst (λ k. gives now k None later) (long ∙ sym is.journal.may.counted) (subst (λ a. gives now n a later) none gave) in
+    record {
+      program = is.program;
+      events = is.events;
+      journal = is.journal;
+      gave = if_some first (λ o. Gave gives o is.events now) (λ o. Gave gives o is.events later) (λ o before. outside.nothing is.events now later before here) is.gave;
+    }
+
+pub stays_asked : {O : Type 0} (gives : O → ℕ → Option Event → O → Type 0) (p : Program) (first : Option O) (b x : BookSeen) (now : O) → x ≡ b → IsAsked gives p first b now → IsAsked gives p first x now
+stays_asked gives p first b x now same is = subst (λ z. IsAsked gives p first z now) (sym same) is
+
+-- after a turn
+pub turned_asked : {O : Type 0} (gives : O → ℕ → Option Event → O → Type 0) (p : Program) (first : Option O) (b x : BookSeen) (now : O) (t : ℕ) (turned : Turned) → x.program ≡ b.program → (turned ≡ Stepped → Records b x (Step t ∷ [])) → (turned ≡ Idle → x ≡ b) → IsAsked gives p first b now → IsAsked gives p first x now
+turned_asked gives p first b x now t Stepped same records idle is =
+    more_asked gives p first b x now now (Step t ∷ []) same (records refl) (λ o events journal before. outside.step events now t before) is
+turned_asked gives p first b x now t Idle same records idle is = stays_asked gives p first b x now (idle refl) is
+
+-- after a slice was given back
+pub back_asked : {O A E : Type 0} (gives : O → ℕ → Option Event → O → Type 0) (p : Program) (first : Option O) (b x : BookSeen) (now : O) (c t : ℕ) (r : Result A E) → OnOk r (x.program ≡ b.program) → OnOk r (Records b x (steps_of c t)) → OnErr r (x ≡ b) → IsAsked gives p first b now → IsAsked gives p first x now
+back_asked gives p first b x now c t (Ok a) same records stays is =
+    more_asked gives p first b x now now (steps_of c t) same records (λ o events journal before. gave_steps gives o c t events now before) is
+back_asked gives p first b x now c t (Err e) same records stays is = stays_asked gives p first b x now stays is
+
+-- whatever tasks are out
+pub beside_asked : {O : Type 0} (gives : O → ℕ → Option Event → O → Type 0) (p : Program) (first : Option O) (b : BookSeen) (out : List ℕ) (now : O) → IsAsked gives p first b now → IsAsked gives p first (record b { out = out }) now
+beside_asked gives p first b out now is =
+    record { program = is.program; events = is.events; journal = journal_beside b out is.events is.journal; gave = is.gave }
+
+pub claimed_asked : {O A : Type 0} (gives : O → ℕ → Option Event → O → Type 0) (p : Program) (first : Option O) (b x : BookSeen) (now : O) (r : Option A) (Q : Type 0) (out : A → List ℕ) → IfNone r ((x ≡ b) × Q) → IfSome r (λ a. x ≡ record b { out = out a }) → IsAsked gives p first b now → IsAsked gives p first x now
+claimed_asked gives p first b x now (Some a) Q out none some is = stays_asked gives p first (record b { out = out a }) x now some (beside_asked gives p first b (out a) now is)
+claimed_asked gives p first b x now None Q out none some is = stays_asked gives p first b x now none.0 is
+
+-- ---- the book that is left
+
+has_given : {O : Type 0} (gives : O → ℕ → Option Event → O → Type 0) (p : Program) (first : Option O) (b : BookSeen) (now : O) (is : IsAsked gives p first b now) → ((o : O) → Gave gives o is.events now → IsGiven gives o is.events) → HasGiven gives first b
+has_given gives p first b now is given =
+    record {
+      events = is.events;
+      journal = is.journal;
+      given = if_some first (λ o. Gave gives o is.events now) (λ o. IsGiven gives o is.events) given is.gave;
+    }
+
+-- the book is full
+pub full_given : {O : Type 0} (gives : O → ℕ → Option Event → O → Type 0) (p : Program) (first : Option O) (b : BookSeen) (now : O) → b.outside ≡ 4096 → IsAsked gives p first b now → HasGiven gives first b
+full_given gives p first b now full is =
+    has_given gives p first b now is (λ o gave. record { left = now; gave = gave; spent = inr (is.journal.may.outside ∙ full) })
+
+-- or nothing more is due
+pub idle_given : {O : Type 0} (gives : O → ℕ → Option Event → O → Type 0) (p : Program) (first : Option O) (b : BookSeen) (now later : O) (n : ℕ) (answer : Option Event) → answer ≡ None → n ≡ b.machine.steps + b.outside → gives now n answer later → IsAsked gives p first b now → HasGiven gives first b
+idle_given gives p first b now later n answer none long gave is =
+    let here = subst (λ k. gives now k None later) (long ∙ sym is.journal.may.counted) (subst (λ a. gives now n a later) none gave) in
+    has_given gives p first b now is (λ o before. record { left = now; gave = before; spent = inl (later, here) })
+
+-- its journal, if it is written
+pub written_given : {O : Type 0} (gives : O → ℕ → Option Event → O → Type 0) (o : O) (b : BookSeen) (entries : List Event) → HasGiven gives (Some o) b → b.journal ≡ Some entries → IsGiven gives o entries
+written_given gives o b entries has e =
+    let same : entries ≡ has.events = subst (λ j. IfSome j (λ es. es ≡ has.events)) e has.journal.written in
+    subst (IsGiven gives o) (sym same) has.given
+
+-- or one that may be its journal
+pub ended_given : {O : Type 0} (gives : O → ℕ → Option Event → O → Type 0) (o : O) (b : BookSeen) (p : Program) (end : End) (steps : ℕ) → b.program ≡ p → HasGiven gives (Some o) b
+    → ((events : List Event) → MayBe b events → IsReport b.program events end × (steps ≡ count_by is_step events)) → IsEnding p (IsGiven gives o) end steps
+ended_given gives o b p end steps ours has ended =
+    let told = ended has.events has.journal.may in
+    record {
+      journal = has.events;
+      report = subst (λ q. IsReport q has.events end) ours told.0;
+      counted = told.1;
+      came = has.given;
+    }

@@ -1,0 +1,10 @@
+use Rattle.std.proofs.Common.{◌∙◌}
+use Rattle.std.proofs.lemmas.Result.{IfOk-weaker}
+use Rattle.sts_pool.proofs.Asking.{ended_given}
+use Rattle.sts_pool.proofs.workers.run_unwritten.Goals as goal
+
+pub returns-clause-ending : goal.returns-clause-ending
+returns-clause-ending g c =
+    let left = c.in_ok-left in
+    let ours = left.ensures.program ∙ c.in-Ok.ensures.program in
+    IfOk-weaker c.ending.result _ _ (λ r told. ended_given g.O.Outside.gives c.args.outside left.left.book c.args.verified.now r.end r.steps ours left.ensures.given told) c.ending.ensures.report

@@ -1,0 +1,166 @@
+//! A book with the outside that it asks.
+
+ghost use Rattle.std.specs.Prelude.{◌≡◌, [], IfOk, IfSome};
+ghost use Rattle.sts_pool.specs.Asked.{HasGiven};
+ghost use Rattle.sts_pool.specs.Book.{IsJournal};
+
+use crate::book::{Book, OutsideFull};
+use crate::gate::Outside;
+use crate::report::PoolError;
+use std::marker::{Brand, Model, PhantomData};
+use sts_code::MAX_OUTSIDE;
+use sts_machine::{Slice, Turned};
+use sts_model::End;
+
+/// The program and the outside of a run: each call of `run` picks its own.
+pub(crate) trait Runs<O> {
+    ghost use Rattle.std.specs.Prelude.{Option};
+    ghost use Rattle.sts_code.specs.Program.{Program};
+
+    ghost program: { Program };
+
+    ghost outside: { Option O };
+}
+
+impl<O> Runs<O> for Brand {
+    ghost use Rattle.std.specs.Prelude.{[], None};
+    ghost use Rattle.sts_pool.specs.Book.{no_program};
+
+    ghost program = { no_program };
+
+    ghost outside = { None };
+}
+
+/// A book, and the outside that it asks. Contracts see it as its book. Its type keeps that the book
+/// is of the picked program, and that the picked outside gave the interrupts and expiries of the
+/// journal.
+///
+/// It also notes of each of them whether it counted.
+#[derive(Drop)]
+pub(crate) struct Asked<'p, O: Outside, B: Runs<O>> {
+    book: Book<'p>,
+    outside: O,
+    counted: Vec<bool>,
+    of: PhantomData<B>,
+}
+
+impl<'p, O: Outside, B: Runs<O>> Model for Asked<'p, O, B> {
+    ghost use Rattle.sts_pool.specs.Asked.{IsAsked};
+    ghost use Rattle.sts_pool.specs.Book.{BookSeen};
+
+    ghost Value = { BookSeen };
+
+    ghost view = { λ a. a.book };
+
+    ghost invariant = { λ a. IsAsked O.gives B.program B.outside a.book a.outside };
+}
+
+impl<'p, O: Outside, B: Runs<O>> Asked<'p, O, B> {
+    /// A book before the first event, and an outside that was not asked yet. `counted` is empty,
+    /// and has room for the limit of outside events.
+    pub(crate) fn new(book: Book<'p>, outside: O, counted: Vec<bool>) -> Asked<'p, O, B>
+        requires program { book.program ≡ B.program }
+        requires opening { IsJournal book [] }
+        requires outside { IfSome B.outside (λ o. o ≡ outside) }
+    {
+        Asked {
+            book,
+            outside,
+            counted,
+            of: PhantomData,
+        }
+    }
+
+    /// Records the next event from outside, if one is due and the book isn't full. Answers whether
+    /// it did.
+    fn records_next(&mut self) -> bool {
+        if self.book.is_full() {
+            return false;
+        }
+        let entries = self.book.entries();
+        let Some(event) = self.outside.next(entries) else {
+            return false;
+        };
+        match self.book.outside(event) {
+            Ok(turned) => {
+                let _has_room = self.counted.push(turned == Turned::Stepped);
+                true
+            }
+            Err(OutsideFull) => unreachable!(),
+        }
+    }
+
+    /// Records the events from outside that are due, until there is none or the book is full.
+    #[inline(always)]
+    pub(crate) fn ask(&mut self) {
+        for _ in 0..MAX_OUTSIDE {
+            if !self.records_next() {
+                break;
+            }
+        }
+    }
+
+    /// Takes a step of a task that can step and isn't out, and records it.
+    #[inline(always)]
+    pub(crate) fn turn(&mut self, task: u32) -> Turned {
+        self.book.turn(task)
+    }
+
+    /// Claims a task that can step and isn't out.
+    pub(crate) fn claim(&mut self) -> Option<u32> {
+        self.book.claim()
+    }
+
+    /// Ends a claim.
+    pub(crate) fn release(&mut self, task: u32) {
+        self.book.release(task);
+    }
+
+    /// Takes the slice of a task that can step and isn't out.
+    pub(crate) fn check_out(&mut self) -> Option<Slice<'p>> {
+        self.book.check_out()
+    }
+
+    /// Takes a slice back, and records its steps. Answers whether it was this book's.
+    pub(crate) fn check_in(&mut self, slice: Slice<'p>) -> bool {
+        self.book.check_in(slice).is_ok()
+    }
+
+    /// Is there a task that can step and isn't out?
+    pub(crate) fn has_more(&self) -> bool {
+        self.book.has_more()
+    }
+
+    /// Has the root ended?
+    pub(crate) fn has_ended(&self) -> bool {
+        self.book.root_end().is_some()
+    }
+}
+
+impl<'p, O: Outside + Drop, B: Runs<O>> Asked<'p, O, B> {
+    /// The book, if no further event from outside is due or the book is full, and which of the
+    /// events that came counted.
+    ///
+    /// # Errors
+    ///
+    /// An event from outside was due.
+    pub(crate) fn close(self) -> Result<(Book<'p>, Vec<bool>), PoolError>
+        ensures program { IfOk result (λ r. r.0.program ≡ B.program) }
+        ensures given { IfOk result (λ r. HasGiven O.gives B.outside r.0) }
+    {
+        let Asked {
+            book,
+            outside,
+            counted,
+            of: _,
+        } = self;
+        if book.is_full() {
+            return Ok((book, counted));
+        }
+        let mut outside = outside;
+        match outside.next(book.entries()) {
+            None => Ok((book, counted)),
+            Some(_) => Err(PoolError::Unfinished),
+        }
+    }
+}
