@@ -479,6 +479,18 @@ def jdk_instructions():
         fail(f"docs/JDK.md doesn't have each instruction in its table of the API: {sorted((words - joiners - events - {'push'}) ^ (set(OPERANDS) - LOCAL))}")
 
 
+def versions():
+    """Fails if README.md or the program `look` names another version or kit than the file VERSION."""
+    text = read("VERSION")
+    kit = re.search(r"^proved with rattle-kit-(\w+) logic (\w+)$", text, re.M)
+    if f"the Rattle kit {kit[1]}," not in read("README.md"):
+        fail("README.md doesn't name the kit of VERSION")
+    said = re.search(r'const VERSION: &str = "(.*?)";', read("crates/look/src/command.rt"), re.S)
+    if re.sub(r"\\\n *", "", said[1]).replace("\\n", "\n") + "\n" != text:
+        fail("crates/look/src/command.rt doesn't say what VERSION says")
+
+
+
 def proofs_of_others():
     """Fails if a crate uses proofs of another crate of the repository from a file that isn't called `*Lemmas`."""
     names = "|".join(os.listdir(f"{ROOT}/crates"))
@@ -518,6 +530,7 @@ def main():
     jdk_figures()
     jdk_instructions()
     proofs_of_others()
+    versions()
     floors()
     neighbours()
     shown_contracts("docs/PROOFS.md")

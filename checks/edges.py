@@ -155,6 +155,12 @@ def words_of_sts(sts):
         yield f"{words!r}", sts.names_all(words.split(), names), (0, "", [])
     yield from mistaken(sts, [["verify"], ["list"], ["plain", "text"], ["replay", "text"], ["run", "text"], ["run", "--workers", "1"], ["view"], [""]])
     yield from helped(sts, ["verify", "list", "plain", "replay", "run"])
+    yield "the help that ./sts prints before it is built", sts.says("--help"), (0, "", of_repository("checks/help/sts.txt"))
+
+
+def of_repository(path):
+    with open(os.path.join(ROOT, path)) as file:
+        return file.read()
 
 
 def words_of_look(look):
@@ -176,6 +182,9 @@ def words_of_look(look):
     yield from mistaken(look, [["ends"], ["cases"], *(["ends", "text", *it] for it in ends)])
     yield "no trace is made", look.names(), ["text", "trace"]
     yield from helped(look, ["view", "explain", "draw", "ends", "cases"], is_printed=True)
+    for words in (["--version"], ["-V"]):
+        yield f"{words}", look.says(*words), (0, f"look {of_repository('VERSION')}", "")
+    yield "the help that ./look prints before it is built", look.says("--help"), (0, of_repository("checks/help/look.txt"), "")
 
 
 def mistaken(program, lines):

@@ -5,8 +5,8 @@ use Rattle.clap.specs.declared.error.kind.ErrorKind.{ErrorKind}
 use Rattle.clap.specs.declared.error.kind.ErrorKind.TheVariants as kind
 use Rattle.sts_args.specs.declared.asked.LineError.{LineError}
 use Rattle.sts_args.specs.declared.asked.LineError.TheVariants as error
-use Rattle.sts_args.specs.Refused.{BlamesUnless, TellsKind}
-use Rattle.look.specs.Asked.{Refuses, is_whole}
+use Rattle.sts_args.specs.Refused.{BlamesUnless}
+use Rattle.look.specs.Asked.{Refuses, TellsKind, is_whole}
 use Rattle.look.specs.Command.{program}
 
 -- a command with something missing is refused
@@ -20,7 +20,9 @@ refuses_blamed words (error.Usage text) none h = inr (none, h)
 pub refuses_told : (words : List Text) (k : ErrorKind) (e : LineError) → TellsKind k e
     → (k ≡ kind.OutOfMemory) ⊎ IsAmong k (fault_of program words) → Refuses words e
 refuses_told words k error.Memory h among = tt
-refuses_told words k (error.Help text) h (inl memory) = let bad : kind.DisplayHelp ≡ kind.OutOfMemory = sym h ∙ memory in cc
-refuses_told words k (error.Help text) h (inr among) = subst (λ x. IsAmong x (fault_of program words)) h among
-refuses_told words k (error.Usage text) h (inl memory) = absurd (h.1 memory)
-refuses_told words k (error.Usage text) h (inr among) = inl (k, among, h.0)
+refuses_told words k (error.Help text) (inl h) (inl memory) = let bad : kind.DisplayHelp ≡ kind.OutOfMemory = sym h ∙ memory in cc
+refuses_told words k (error.Help text) (inr h) (inl memory) = let bad : kind.DisplayVersion ≡ kind.OutOfMemory = sym h ∙ memory in cc
+refuses_told words k (error.Help text) (inl h) (inr among) = inl (subst (λ x. IsAmong x (fault_of program words)) h among)
+refuses_told words k (error.Help text) (inr h) (inr among) = inr (subst (λ x. IsAmong x (fault_of program words)) h among)
+refuses_told words k (error.Usage text) h (inl memory) = absurd (h.2 memory)
+refuses_told words k (error.Usage text) h (inr among) = inl (k, among, h.0, h.1)

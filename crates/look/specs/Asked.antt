@@ -1,17 +1,18 @@
 -- The request of a command line, or why it has none, read by `clap`'s own definitions (this
 -- project's own).
-use Rattle.std.specs.Prelude.{◌≡◌, ◌⊎◌, ◌&&◌, ◌||◌, Bool, true, false, if◌then◌else◌, List, [], ◌∷◌}
+use Rattle.std.specs.Prelude.{◌≡◌, ◌≢◌, ◌⊎◌, ◌&&◌, ◌||◌, Bool, true, false, if◌then◌else◌, List, [], ◌∷◌}
 use Rattle.std.specs.Prelude.{filter_map, Option, Some, None, IsSomeAnd, is_some, codes}
 use Rattle.std.specs.Borrow.{Bor}
 use Rattle.std.specs.List.{list_all}
 use Rattle.std.specs.Str.{bytes_eq}
-use Rattle.clap.specs.Words.{Text, Row, IsAmong, fault_of, first_of, subcommand_of}
+use Rattle.clap.specs.Words.{Text, Row, Kinds, IsAmong, fault_of, first_of, subcommand_of}
+use Rattle.clap.specs.declared.error.kind.ErrorKind.{ErrorKind}
 use Rattle.clap.specs.declared.error.kind.ErrorKind.TheVariants as kind
-use Rattle.sts_args.specs.Refused.{HasMistake}
 use Rattle.sts_args.specs.declared.asked.LineError.{LineError}
 use Rattle.sts_args.specs.declared.asked.LineError.TheVariants as error
 use Rattle.look_lines.specs.declared.view.Wanted.{Wanted}
 use Rattle.look.specs.declared.asked.Asked.{Asked}
+use Rattle.look.specs.declared.asked.AskedView.{AskedView}
 use Rattle.look.specs.declared.asked.Asked.TheVariants as asked
 use Rattle.look.specs.AskedEnds.{SaidEnds, ends_at, is_true, said_ends}
 use Rattle.look.specs.Command.{program}
@@ -20,7 +21,7 @@ use Rattle.look.specs.Command.{program}
 pub record Said : Type 0 where
   pub name : Text
   pub files : List Text
-  pub wanted : Option Wanted
+  pub view : Option AskedView
   pub ends : Option SaidEnds
 
 -- the file that is named, if one is
@@ -29,34 +30,34 @@ named None = []
 named (Some path) = path.now ∷ []
 
 abbrev pub said : Asked → Said
-said (asked.View file trace wanted) = record {
+said (asked.View file trace view) = record {
   name = codes "view";
   files = file.now ∷ trace.now ∷ [];
-  wanted = Some wanted;
+  view = Some view;
   ends = None;
 }
 said (asked.Explain file trace) = record {
   name = codes "explain";
   files = file.now ∷ named trace;
-  wanted = None;
+  view = None;
   ends = None;
 }
 said (asked.Draw file trace) = record {
   name = codes "draw";
   files = file.now ∷ trace.now ∷ [];
-  wanted = None;
+  view = None;
   ends = None;
 }
 said (asked.Ends file ends) = record {
   name = codes "ends";
   files = file.now ∷ [];
-  wanted = None;
+  view = None;
   ends = Some (said_ends ends);
 }
 said (asked.Cases file) = record {
   name = codes "cases";
   files = file.now ∷ [];
-  wanted = None;
+  view = None;
   ends = None;
 }
 
@@ -65,6 +66,9 @@ is_set id rows = is_true (first_of id rows)
 
 abbrev pub wanted_at : List Row → Wanted
 wanted_at rows = record { each = is_set (codes "each") rows; full = is_set (codes "full") rows }
+
+abbrev pub view_at : List Row → AskedView
+view_at rows = record { wanted = wanted_at rows; json = is_set (codes "json") rows }
 
 abbrev pub is_view : Text → Bool
 is_view name = bytes_eq name (codes "view")
@@ -92,7 +96,7 @@ abbrev pub given : Text × List Row → Said
 given (name, rows) = record {
   name = name;
   files = files_at name rows;
-  wanted = if is_view name then Some (wanted_at rows) else None;
+  view = if is_view name then Some (view_at rows) else None;
   ends = if is_ends name then ends_at rows else None;
 }
 
@@ -129,19 +133,33 @@ is_whole None = false
 is_whole (Some (name, rows)) = is_command name
     && (list_all (λ id. is_some (first_of id rows)) (ids_of name) && has_numbers name rows)
 
-abbrev pub AsksForHelp : List Text → Type 0
-AsksForHelp words = IsAmong kind.DisplayHelp (fault_of program words)
+-- the message for an error of `clap` of this kind: the words of help or of the version, or a mistake
+abbrev pub TellsKind : ErrorKind → LineError → Type 0
+TellsKind k error.Memory = Unit {0}
+TellsKind k (error.Help text) = (k ≡ kind.DisplayHelp) ⊎ (k ≡ kind.DisplayVersion)
+TellsKind k (error.Usage text) =
+    (k ≢ kind.DisplayHelp) × (k ≢ kind.DisplayVersion) × (k ≢ kind.OutOfMemory)
+
+-- the words ask for help, or for the version
+abbrev pub AsksForWords : List Text → Type 0
+AsksForWords words = IsAmong kind.DisplayHelp (fault_of program words)
+    ⊎ IsAmong kind.DisplayVersion (fault_of program words)
+
+-- one of the kinds is a mistake
+abbrev pub HasMistake : Kinds → Type 0
+HasMistake kinds = (k : ErrorKind) × IsAmong k kinds
+    × (k ≢ kind.DisplayHelp) × (k ≢ kind.DisplayVersion)
 
 -- `clap` finds no fault, yet the words name no command of the program with its files
 abbrev pub NamesNothing : List Text → Type 0
 NamesNothing words = (fault_of program words ≡ [])
     × (is_whole (subcommand_of program words) ≡ false)
 
--- `clap` finds a fault, other than that the words ask for help
+-- `clap` finds a fault, other than that the words ask for help or for the version
 abbrev pub IsMistaken : List Text → Type 0
 IsMistaken words = HasMistake (fault_of program words) ⊎ NamesNothing words
 
 abbrev pub Refuses : List Text → LineError → Type 0
 Refuses words error.Memory = Unit {0}
-Refuses words (error.Help text) = AsksForHelp words
+Refuses words (error.Help text) = AsksForWords words
 Refuses words (error.Usage text) = IsMistaken words

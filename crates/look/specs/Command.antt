@@ -1,5 +1,5 @@
 -- The commands that `look` knows, as `clap` sees them (this project's own).
-use Rattle.std.specs.Prelude.{codes, Some}
+use Rattle.std.specs.Prelude.{codes, Some, true}
 use Rattle.clap.specs.Words.{App, Rule, Text, new_app, new_rule, with_rule, with_subcommand}
 use Rattle.clap.specs.declared.builder.action.ArgAction.TheVariants.{SetTrue}
 use Rattle.sts_args.specs.Command.{file_rule, option_rule, required, trace_rule}
@@ -9,8 +9,8 @@ abbrev pub flag_rule : Text → Rule
 flag_rule name = record (new_rule name) { long = Some name; action = Some SetTrue }
 
 abbrev pub view : App
-view = with_rule (with_rule (with_rule (with_rule (new_app (codes "view")) file_rule) trace_rule)
-    (flag_rule (codes "each"))) (flag_rule (codes "full"))
+view = with_rule (with_rule (with_rule (with_rule (with_rule (new_app (codes "view")) file_rule)
+    trace_rule) (flag_rule (codes "each"))) (flag_rule (codes "full"))) (flag_rule (codes "json"))
 
 -- a trace that may be left out
 abbrev pub maybe_trace_rule : Rule
@@ -37,8 +37,15 @@ ends = with_rule (with_rule (with_rule (with_rule ends_by_events (option_rule (c
 abbrev pub cases : App
 cases = with_rule (new_app (codes "cases")) file_rule
 
+-- with `--version`
+abbrev pub versioned : App → App
+versioned a = record a { top = record a.top { has_version = true } }
+
+abbrev pub bare : App
+bare = required (versioned (new_app (codes "look")))
+
 -- the program: a command is required
 abbrev pub program : App
 program =
     with_subcommand (with_subcommand (with_subcommand (with_subcommand (with_subcommand
-    (required (new_app (codes "look"))) view.top) explain.top) draw.top) ends.top) cases.top
+    bare view.top) explain.top) draw.top) ends.top) cases.top

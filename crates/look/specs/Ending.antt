@@ -1,5 +1,5 @@
 -- The output of `look`, and its status (this project's own).
-use Rattle.std.specs.Prelude.{◌≡◌, ℕ, List, Option, Some, None, Result, Ok, Err, map, option_map, ⊤}
+use Rattle.std.specs.Prelude.{◌≡◌, ℕ, Bool, true, false, List, Option, Some, None, Result, Ok, Err, map, option_map, ⊤}
 use Rattle.std.specs.Prelude.{String, Vec}
 use Rattle.std.specs.Borrow.{Bor}
 use Rattle.std.specs.String.{string_bytes}
@@ -18,8 +18,10 @@ use Rattle.look_picture.specs.Picture.{IsPictureOf}
 use Rattle.look_refusal.specs.Output.{IsExplanation}
 use Rattle.look_run.specs.Output.{IsRunExplanation}
 use Rattle.look_lines.specs.View.{IsViewOf}
+use Rattle.look_lines.specs.declared.view.Wanted.{Wanted}
+use Rattle.look_views.specs.Views.{AreViewsOf}
 use Rattle.look_ends.specs.Listing.{IsOutcomeOf, Outcome}
-use Rattle.look.specs.Asked.{Asks, AsksForHelp, IsMistaken}
+use Rattle.look.specs.Asked.{Asks, AsksForWords, IsMistaken}
 use Rattle.look.specs.declared.asked.Asked.{Asked}
 use Rattle.look.specs.declared.asked.Asked.TheVariants as asked
 use Rattle.look.specs.declared.asked.AskedEnds.{AskedEnds}
@@ -68,9 +70,14 @@ pub data IsOfEnds (ends : AskedEnds) (spares : Type 0) (file : Option (List ℕ)
       → IsOfEnds ends spares file o
   failed : (e : TakeError) → o ≡ failure_output e → IsOfEnds ends spares file o
 
+-- the views of a run, as lines of JSON or not
+abbrev pub IsViewed : Bool → Wanted → List ℕ → List ℕ → Output → Type 0
+IsViewed true = AreViewsOf
+IsViewed false = IsViewOf
+
 -- what is shown of a text and a trace
 abbrev pub Shows : Showing → List ℕ → List ℕ → Output → Type 0
-Shows (showing.View wanted) = IsViewOf wanted
+Shows (showing.View view) = IsViewed view.json view.wanted
 Shows showing.Run = IsRunExplanation
 Shows showing.Picture = IsPictureOf
 
@@ -81,8 +88,8 @@ IsExplained files file (Some trace) o = IsOfTexts IsRunExplanation file (files t
 
 -- what is shown for a line
 abbrev pub IsShown : Asked → Files → SameFile → Output → Type 0
-IsShown (asked.View file trace wanted) files same o =
-    IsOfTexts (IsViewOf wanted) (files file.now) (files trace.now) o
+IsShown (asked.View file trace view) files same o =
+    IsOfTexts (IsViewed view.json view.wanted) (files file.now) (files trace.now) o
 IsShown (asked.Explain file trace) files same o = IsExplained files (files file.now) trace o
 IsShown (asked.Draw file trace) files same o =
     IsOfTexts IsPictureOf (files file.now) (files trace.now) o
@@ -91,12 +98,12 @@ IsShown (asked.Ends file ends) files same o =
 IsShown (asked.Cases file) files same o = IsOfStream IsRepliesTo (files file.now) o
 
 -- The program writes what the line of the words asks for, and has its status. If the words ask for
--- help, the status is 0. If they are mistaken, it is 2. Memory may also run out.
+-- help or for the version, the status is 0. If they are mistaken, it is 2. Memory may also run out.
 pub data Ends (words : List Text) (files : Files) (same : SameFile) (s : Streams) (status : ℕ)
     : Type 0 where
   shown : (a : Asked) (o : Output) → Asks words a → IsShown a files same o → Prints s status o
       → Ends words files same s status
-  helped : (o : Output) → AsksForHelp words → o.status ≡ 0 → Prints s status o
+  helped : (o : Output) → AsksForWords words → o.status ≡ 0 → Prints s status o
       → Ends words files same s status
   mistaken : (o : Output) → IsMistaken words → o.status ≡ 2 → Tells s status o
       → Ends words files same s status

@@ -23,6 +23,13 @@ pub struct AskedEnds<'a> {
     pub kept: Option<Kept<'a>>,
 }
 
+/// Which views, and whether they are lines of JSON.
+#[derive(Clone, Copy, Debug)]
+pub struct AskedView {
+    pub wanted: Wanted,
+    pub json: bool,
+}
+
 /// The request. Names of files are kept as they were written.
 #[derive(Clone, Copy, Debug)]
 pub enum Asked<'a> {
@@ -30,7 +37,7 @@ pub enum Asked<'a> {
     View {
         file: &'a str,
         trace: &'a str,
-        wanted: Wanted,
+        view: AskedView,
     },
     /// Says what is wrong with a text, if anything is. With a trace it says where the tasks are
     /// after the trace.

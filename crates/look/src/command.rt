@@ -10,6 +10,11 @@ use clap::{Arg, ArgAction, Command};
 use std::alloc::{AllocError, Global};
 use sts_args::{on_file, on_trace};
 
+/// What `--version` prints after the name of the program.
+const VERSION: &str = "1.0.0\n\
+    proved with rattle-kit-13f logic dac8208d650f15bf\n\
+    differences from JDK 25: docs/JDK.md";
+
 /// What help calls the two values of `--trace`.
 const TRACE_VALUES: &[&str] = &["K", "TRACE"];
 
@@ -39,13 +44,15 @@ fn view<'a>(alloc: Global) -> Result<Command<'a>, AllocError>
         "full",
         "also the operands, locals and bindings of living tasks, and the ends that joiners got",
     );
+    let json = flag(alloc, "json", "as lines of JSON, one for each view");
     on_trace(
         alloc,
         "view",
         "Prints the state of every task and scope after a trace, or just before a fault",
     )?
     .arg(each)?
-    .arg(full)
+    .arg(full)?
+    .arg(json)
 }
 
 /// A trace that may be left out.
@@ -175,6 +182,7 @@ pub fn program<'a>(alloc: Global) -> Result<Command<'a>, AllocError>
     let cases = cases(alloc)?;
     Command::new(alloc, "look")
         .about("Shows runs of structured task scopes, and every end of a program")
+        .version(VERSION)
         .subcommand_required(true)
         .subcommand(view)?
         .subcommand(explain)?

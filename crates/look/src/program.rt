@@ -7,15 +7,16 @@ ghost use Rattle.look_refusal.specs.Output.{IsExplanation};
 ghost use Rattle.look_cases.specs.Lines.{IsRepliesTo};
 ghost use Rattle.look.specs.Ending as def;
 
-use crate::asked::{Asked, AskedEnds};
+use crate::asked::{Asked, AskedEnds, AskedView};
 use crate::dashed::Dashed;
 use crate::reading::line;
 use look_cases::write_answers;
 use look_ends::{Progress, write_ends, write_ends_and_trace};
-use look_lines::{Wanted, write_view};
+use look_lines::write_view;
 use look_picture::write_picture;
 use look_refusal::explain;
 use look_run::explain_run;
+use look_views::write_views;
 use std::alloc::Global;
 use std::io::{Input, Write};
 use std::rt::{Env, Files};
@@ -32,7 +33,7 @@ const NAME: &str = "look";
 /// The output for a text and a trace.
 #[derive(Clone, Copy)]
 enum Showing {
-    View(Wanted),
+    View(AskedView),
     Run,
     Picture,
 }
@@ -47,6 +48,25 @@ impl Showing {
     }
 }
 
+/// Writes the views of a run, in lines or as JSON.
+fn show_view<W: Write>(
+    alloc: Global,
+    view: AskedView,
+    text: &[u8],
+    trace: &[u8],
+    out: &mut W,
+) -> Result<u8, WriteFailed>
+    ensures { IfOk result (λ s. (o : Output)
+        × def.IsViewed view.json view.wanted text.now trace.now o
+        × Writes (W.contents out.old) (W.contents out.new) s o) }
+{
+    if view.json {
+        write_views(alloc, view.wanted, text, trace, out)
+    } else {
+        write_view(alloc, view.wanted, text, trace, out)
+    }
+}
+
 fn show<W: Write>(
     alloc: Global,
     showing: Showing,
@@ -58,7 +78,7 @@ fn show<W: Write>(
         × Writes (W.contents out.old) (W.contents out.new) s o) }
 {
     match showing {
-        Showing::View(wanted) => write_view(alloc, wanted, text, trace, out),
+        Showing::View(view) => show_view(alloc, view, text, trace, out),
         Showing::Run => explain_run(alloc, text, trace, out),
         Showing::Picture => write_picture(alloc, text, trace, out),
     }
@@ -232,14 +252,10 @@ fn on_line<S: Sources + Sinks, P: Progress, W: Write>(
         × Writes (W.contents out.old) (W.contents out.new) s o) }
 {
     match asked {
-        Asked::View {
-            file,
-            trace,
-            wanted,
-        } => on_texts(
+        Asked::View { file, trace, view } => on_texts(
             alloc,
             sources,
-            Showing::View(wanted),
+            Showing::View(view),
             file,
             trace,
             out,
@@ -256,8 +272,8 @@ fn on_line<S: Sources + Sinks, P: Progress, W: Write>(
 
 /// Does what a command line asks for, and returns the status. The first word is the program's name.
 ///
-/// The status is 0 if the text is accepted, the root succeeded or help was asked for. It is 1 if
-/// the root failed, 2 for usage, 3 for a fault of a text, 4 for a refusal, and 5 if the run faulted
+/// The status is 0 if the text is accepted, the root succeeded, or help or the version was asked
+/// for. It is 1 if the root failed, 2 for usage, 3 for a fault of a text, 4 for a refusal, and 5 if the run faulted
 /// or goes on. It is 6 if memory, a file or a stream failed.
 ///
 /// Usage faults are written to `err`, everything else to `out`. `notes` gets the lines that say why

@@ -1,15 +1,18 @@
 //! Reads a command line.
 
 ghost use Rattle.std.specs.Prelude.{◌≡◌, IfOk, IfErr, map, option_map, Some, Bool, false};
-ghost use Rattle.clap.specs.Words.{all_of, rows_of, found_of, subcommand_rows_of};
+ghost use Rattle.clap.specs.Words.{all_of, rows_of, found_of, kind_of, subcommand_rows_of};
+ghost use Rattle.clap.specs.declared.error.kind.ErrorKind.TheVariants as kind;
 ghost use Rattle.sts_args.specs.Refused.{BlamesUnless};
-ghost use Rattle.look.specs.Asked.{Asks, IsGiven, IsLineOf, Refuses, is_set, is_whole, wanted_at};
+ghost use Rattle.look.specs.Asked.{Asks, IsGiven, IsLineOf, Refuses, TellsKind, is_set, is_whole};
+ghost use Rattle.look.specs.Asked.{view_at, wanted_at};
 ghost use Rattle.look.specs.AskedEnds.{ends_at, ends_wanted_at, kept_of, kept_words, manner_at};
 ghost use Rattle.look.specs.AskedEnds.{number_at, said_ends};
 
-use crate::asked::{Asked, AskedEnds, FIRST_SEED, Kept, MOST_STATES};
+use crate::asked::{Asked, AskedEnds, AskedView, FIRST_SEED, Kept, MOST_STATES};
 use crate::command::program;
-use clap::ArgMatches;
+use clap::error::ErrorKind;
+use clap::{ArgMatches, Error};
 use look_ends::{Manner, Wanted as EndsWanted};
 use look_lines::Wanted;
 use std::alloc::{AllocError, Global};
@@ -20,18 +23,42 @@ use sts_text::digits_up_to;
 const NO_NUMBER: &str =
     "error: N, S and K of `ends` are numbers from 0 to 4294967295\n\nFor more information, try '--help'.\n";
 
+/// The words of the version, which were asked for.
+fn version(error: &Error, alloc: Global) -> LineError
+    requires { kind_of error.now ≡ kind.DisplayVersion }
+    ensures { TellsKind (kind_of error.now) result }
+{
+    match error.to_string(alloc) {
+        Ok(text) => LineError::Help(text),
+        Err(_) => LineError::Memory,
+    }
+}
+
+/// The message for an error of `clap`.
+fn message(error: &Error, alloc: Global) -> LineError
+    ensures { TellsKind (kind_of error.now) result }
+{
+    let kind = error.kind();
+    if matches!(kind, ErrorKind::DisplayVersion) {
+        version(error, alloc)
+    } else {
+        told(error, alloc)
+    }
+}
+
 /// The request of the words of a command line. The first word is the program's own name.
 ///
 /// # Errors
 ///
-/// Memory ran out, help was asked for, or the words are mistaken: then the text says how.
+/// Memory ran out, help or the version was asked for, or the words are mistaken: then the text says
+/// how.
 pub fn line<'a>(alloc: Global, words: &'a [&'a str]) -> Result<Asked<'a>, LineError>
     ensures asked { IfOk result (Asks (map (λ w. w.now) words.entry.now)) }
     ensures refused { IfErr result (Refuses (map (λ w. w.now) words.entry.now)) }
 {
     let command = program(alloc)?;
     match command.try_get_matches_from(words) {
-        Err(error) => Err(told(&error, alloc)),
+        Err(error) => Err(message(&error, alloc)),
         Ok(matches) => chosen(alloc, &matches),
     }
 }
@@ -61,12 +88,8 @@ fn asked_of<'a>(
         Some(file) => {
             if name == "view" {
                 let trace = trace_of(alloc, inner)?;
-                let wanted = wanted_of(inner);
-                Ok(Asked::View {
-                    file,
-                    trace,
-                    wanted,
-                })
+                let view = view_of(inner);
+                Ok(Asked::View { file, trace, view })
             } else if name == "explain" {
                 let trace = text_of(inner, "TRACE");
                 Ok(Asked::Explain { file, trace })
@@ -97,13 +120,23 @@ fn is_set(inner: &ArgMatches<'_>, id: &str) -> bool
     }
 }
 
-/// The options of a view.
+/// Which views are asked for.
 fn wanted_of(inner: &ArgMatches<'_>) -> Wanted
     ensures { result ≡ wanted_at (rows_of (found_of inner.now)) }
 {
     Wanted {
         each: is_set(inner, "each"),
         full: is_set(inner, "full"),
+    }
+}
+
+/// The options of a view.
+fn view_of(inner: &ArgMatches<'_>) -> AskedView
+    ensures { result ≡ view_at (rows_of (found_of inner.now)) }
+{
+    AskedView {
+        wanted: wanted_of(inner),
+        json: is_set(inner, "json"),
     }
 }
 

@@ -50,7 +50,7 @@ fn check_fault(alloc: Global, error: CodeError) -> Result<Value, AllocError>
 /// # Errors
 ///
 /// Memory was refused.
-pub(crate) fn text_fault(alloc: Global, error: AsmError) -> Result<Value, AllocError>
+pub fn text_fault(alloc: Global, error: AsmError) -> Result<Value, AllocError>
     ensures { (read : Result AnyProgram AsmError) → FailsAt error error.kind read
         → IfOk result (λ v. (read ≡ Err error)
         × (view v ≡ def.text_fault error (code_error error.kind))) }
@@ -76,7 +76,7 @@ fn bad_line(alloc: Global, fault: &str, line: Option<u64>) -> Result<Value, Allo
 /// # Errors
 ///
 /// Memory was refused.
-pub(crate) fn trace_fault(alloc: Global, error: TraceError) -> Result<Value, AllocError>
+pub fn trace_fault(alloc: Global, error: TraceError) -> Result<Value, AllocError>
     ensures { IfOk result (λ v. (error ≢ Memory) × (view v ≡ def.trace_fault error)) }
 {
     match error {

@@ -10,5 +10,7 @@ mod runs;
 mod verdicts;
 
 pub use answering::answer;
+pub use faults::{text_fault, trace_fault};
 pub use reading::{Case, case_of};
 pub use replies::{answers, write_answers};
+pub use runs::ended;

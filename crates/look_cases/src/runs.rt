@@ -13,7 +13,12 @@ use sts_model::{End, Fault};
 use sts_output::printed::fault_word;
 use sts_plain::PlainState;
 
-fn ended(alloc: Global, end: End, steps: u64) -> Result<Value, AllocError>
+/// Returns the end of a run, and the steps that it took.
+///
+/// # Errors
+///
+/// Memory was refused.
+pub fn ended(alloc: Global, end: End, steps: u64) -> Result<Value, AllocError>
     ensures { IfOk result (λ v. view v ≡ def.ended end steps) }
 {
     match end {

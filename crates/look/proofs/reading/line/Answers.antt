@@ -29,5 +29,5 @@ returns-in-Err-clause-refused c =
     let program_is = c.in_ok-command.ensures in
     let words = map (λ w. w.now) c.args.words.now in
     let kinds = c.in-Err.ensures.kinds (ap is_simple_and_free program_is) in
-    refuses_told words (kind_of c.in-Err.error) c.told.result c.told.ensures
+    refuses_told words (kind_of c.in-Err.error) c.message.result c.message.ensures
     (subst (λ (a : App). HasKind (fault_of a words) c.in-Err.error) program_is kinds)

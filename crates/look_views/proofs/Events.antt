@@ -1,0 +1,31 @@
+-- The lines of a list of events, event by event.
+use Rattle.std.proofs.Common.{◌≡◌, ℕ, ◌+◌, ◌-◌, ◌≤◌, ◌<◌, ◌^◌, List, ◌++◌, length, Bool, false, Result, OnOk, arith, ap, ap₂, sym, ◌∙◌, take, drop, get_or}
+use Rattle.std.proofs.lemmas.List.{take_more, length-take-le, drop_more}
+use Rattle.std.proofs.lemmas.Result.{on_ok_weaker}
+use Rattle.serde_json.specs.Data.{Data}
+use Rattle.serde_json.specs.Written.{has_float}
+use Rattle.sts_code.specs.Program.{Program}
+use Rattle.sts_model.specs.declared.event.Event.{Event}
+use Rattle.sts_model.specs.Run.{after, counts}
+use Rattle.look_lines.proofs.WatchedLemmas.{watched_one_more}
+use Rattle.look_lines.specs.Watched.{Watched, after_event, watched}
+use Rattle.look_views.proofs.Floats.{event_view_plain}
+use Rattle.look_views.specs.Views.{event_view, line, view_of_event, views_from}
+
+-- the lines of the rest begin with that of the first event
+pub views_next : (p : Program) (full : Bool) (es : List Event) (i : ℕ) (d : Event) → i < length es → length es ≤ 2 ^ 64 - 1 → views_from p full (take i es) (drop i es) ≡ line (event_view full (i + 1) (get_or es i d) (counts p (after p (take i es)) (get_or es i d)) (after_event (watched p (take i es)) (get_or es i d))) ++ views_from p full (take (i + 1) es) (drop (i + 1) es)
+views_next p full es i d inside short =
+    let n : length (take i es) ≡ i = length-take-le i es (omega (arith, inside)) in
+    let few : length (take i es) < 2 ^ 64 - 1 = omega (arith, n) in
+    let more = take_more es i d inside in
+    let view = λ (m : ℕ) (w : Watched). line (event_view full m (get_or es i d) (counts p (after p (take i es)) (get_or es i d)) w) in
+    let first : view_of_event p full (take i es) (get_or es i d) ≡ view (i + 1) (after_event (watched p (take i es)) (get_or es i d)) =
+    ap₂ view (ap (λ (m : ℕ). m + 1) n) (sym (watched_one_more p (take i es) (get_or es i d) few)) in
+    ap (views_from p full (take i es)) (drop_more es i d inside)
+    ∙ ap₂ (λ b done. b ++ views_from p full done (drop (i + 1) es)) first (sym more)
+
+-- the line of an event, whose view was made of equal parts
+pub event_written : {T E : Type 0} (r : Result T E) (old new : List ℕ) (full : Bool) (n : ℕ) (e : Event) (b c : Bool) (m w : Watched) (d : Data) → d ≡ event_view full n e b m → b ≡ c → m ≡ w → (has_float d ≡ false → OnOk r (new ≡ old ++ line d)) → OnOk r (new ≡ old ++ line (event_view full n e c w))
+event_written r old new full n e b c m w d is counted stands written =
+    let all : d ≡ event_view full n e c w = is ∙ ap₂ (event_view full n e) counted stands in
+    on_ok_weaker r (λ h. h ∙ ap (λ x. old ++ line x) all) (written (ap has_float all ∙ event_view_plain full n e c w))

@@ -1,0 +1,153 @@
+-- No line has a float, so its text is known byte for byte.
+use Rattle.std.proofs.Common.{◌≡◌, ℕ, ◌+◌, ℤ, pos, negsuc, List, [], ◌∷◌, ◌++◌, map, reverse, Option, Some, None, Bool, true, false, ◌&&◌, if◌then◌else◌, refl}
+use Rattle.std.proofs.lemmas.Bool.{or_from}
+use Rattle.serde_json.specs.Data.{Data}
+use Rattle.serde_json.specs.View.{items_of}
+use Rattle.serde_json.specs.Written.{has_float, items_have_float, members_have_float}
+use Rattle.sts_code.specs.Program.{Program}
+use Rattle.sts_code.specs.declared.checking.CodeError.{CodeError}
+use Rattle.sts_model.specs.declared.event.End.{End}
+use Rattle.sts_model.specs.declared.event.End.TheVariants.{Success, Failed}
+use Rattle.sts_model.specs.declared.event.Event.{Event}
+use Rattle.sts_model.specs.declared.event.Stand.{Stand}
+use Rattle.sts_model.specs.declared.event.Stand.TheVariants.{Free, AtJoin, AtClose}
+use Rattle.sts_model.specs.declared.record.Completion.{Completion}
+use Rattle.sts_model.specs.declared.record.Scope.{Scope}
+use Rattle.sts_model.specs.declared.record.Task.{Task}
+use Rattle.sts_model.specs.World.{World, scope_at, task_at}
+use Rattle.sts_model.specs.Living.{lives}
+use Rattle.sts_model.specs.Waiting.{can_step, stand_at}
+use Rattle.sts_model.specs.Environment.{environment_of, read}
+use Rattle.sts_plain.specs.Seen.{shown}
+use Rattle.sts_plain.specs.declared.misstep.PlainState.{PlainState}
+use Rattle.sts_plain.specs.declared.misstep.PlainState.TheVariants as plain
+use Rattle.sts_asm.specs.Fault.{code_error}
+use Rattle.sts_asm.specs.declared.fault.AsmError.{AsmError}
+use Rattle.sts_trace.specs.declared.error.TraceError.{TraceError}
+use Rattle.sts_trace.specs.declared.error.TraceError.TheVariants as trace
+use Rattle.look_cases.specs.Answer as answer
+use Rattle.look_cases.specs.Json.{integer, count_or_null}
+use Rattle.look_lines.specs.Lines.{is_heard, keys}
+use Rattle.look_lines.specs.Watched.{Watched}
+use Rattle.look_views.specs.Scope as scope
+use Rattle.look_views.specs.Task as task
+use Rattle.look_views.specs.Views as def
+
+integer_plain : (z : ℤ) → has_float (integer z) ≡ false
+integer_plain (pos n) = refl
+integer_plain (negsuc n) = refl
+
+maybe_plain : (n : Option ℕ) → has_float (count_or_null n) ≡ false
+maybe_plain None = refl
+maybe_plain (Some n) = refl
+
+either_plain : (b : Bool) (x y : Data) → has_float x ≡ false → has_float y ≡ false → has_float (if b then x else y) ≡ false
+either_plain true x y h k = h
+either_plain false x y h k = k
+
+-- ---- a task
+
+waiting_plain : (stand : Stand) → has_float (task.waiting stand) ≡ false
+waiting_plain Free = refl
+waiting_plain (AtJoin s) = refl
+waiting_plain (AtClose s) = refl
+
+ended_plain : (heard : Bool) (end : Option End) → has_float (task.ended heard end) ≡ false
+ended_plain heard None = refl
+ended_plain heard (Some (Success v)) = or_from _ _ (integer_plain v) refl
+ended_plain heard (Some (Failed c)) = or_from _ _ (integer_plain c) refl
+
+rest_plain : (w : World) (t : ℕ) → has_float (task.rest w t) ≡ false
+rest_plain w t = either_plain (task_at w t).started _ _ (ended_plain (is_heard w t (task_at w t).scope) (task_at w t).outcome) refl
+
+state_plain : (p : Program) (w : World) (t : ℕ) → has_float (task.state p w t) ≡ false
+state_plain p w t =
+    either_plain (lives (task_at w t)) _ _
+    (either_plain (can_step p w t) _ _ refl (waiting_plain (stand_at p w t)))
+    (rest_plain w t)
+
+integers_plain : (zs : List ℤ) → items_have_float (items_of (task.integers zs)) ≡ false
+integers_plain [] = refl
+integers_plain (z ∷ zs) = or_from _ _ (integer_plain z) (integers_plain zs)
+
+one_more_plain : (k : ℕ) (v : Option ℤ) (ds : List Data) → items_have_float (items_of ds) ≡ false → items_have_float (items_of (task.maybe_binding k v ++ ds)) ≡ false
+one_more_plain k None ds h = h
+one_more_plain k (Some v) ds h = or_from _ _ (or_from _ _ (integer_plain v) refl) h
+
+bindings_plain : (w : World) (t : ℕ) (ks : List ℕ) → items_have_float (items_of (task.bindings w t ks)) ≡ false
+bindings_plain w t [] = refl
+bindings_plain w t (k ∷ ks) = one_more_plain k (read (environment_of (task_at w t) w) k) (task.bindings w t ks) (bindings_plain w t ks)
+
+frame_plain : (w : World) (t : ℕ) → has_float (task.frame w t) ≡ false
+frame_plain w t =
+    or_from _ _ (bindings_plain w t keys)
+    (or_from _ _ (integers_plain (task_at w t).frame.locals)
+    (or_from _ _ (integers_plain (reverse (task_at w t).frame.operands)) refl))
+
+brief_plain : (p : Program) (w : World) (t : ℕ) → has_float (task.brief p w t) ≡ false
+brief_plain p w t = or_from _ _ (state_plain p w t) (or_from _ _ (maybe_plain (task_at w t).scope) refl)
+
+whole_plain : (p : Program) (w : World) (t : ℕ) → has_float (task.whole p w t) ≡ false
+whole_plain p w t = or_from _ _ (frame_plain w t) (brief_plain p w t)
+
+tasks_plain : (p : Program) (full : Bool) (w : World) (ts : List Task) (t : ℕ) → items_have_float (items_of (task.tasks p full w ts t)) ≡ false
+tasks_plain p full w [] t = refl
+tasks_plain p full w (x ∷ xs) t =
+    or_from _ _
+    (either_plain (full && lives (task_at w t)) _ _ (whole_plain p w t) (brief_plain p w t))
+    (tasks_plain p full w xs (t + 1))
+
+-- ---- a scope
+
+told_by_plain : (t : ℕ) (end : End) → has_float (scope.told_by t end) ≡ false
+told_by_plain t (Success v) = or_from _ _ (integer_plain v) refl
+told_by_plain t (Failed c) = or_from _ _ (integer_plain c) refl
+
+told_plain : (cs : List Completion) → items_have_float (items_of (scope.told_ends cs)) ≡ false
+told_plain [] = refl
+told_plain (c ∷ cs) = or_from _ _ (told_by_plain c.task c.end) (told_plain cs)
+
+scopes_plain : (full : Bool) (w : World) (ss : List Scope) (s : ℕ) → items_have_float (items_of (scope.scopes full w ss s)) ≡ false
+scopes_plain full w [] s = refl
+scopes_plain full w (x ∷ xs) s =
+    or_from _ _
+    (either_plain full _ _ (or_from _ _ (told_plain (scope_at w s).completions) refl) refl)
+    (scopes_plain full w xs (s + 1))
+
+-- ---- a view
+
+end_plain : (end : End) (steps : ℕ) → has_float (answer.ended end steps) ≡ false
+end_plain (Success v) steps = or_from _ _ (integer_plain v) refl
+end_plain (Failed c) steps = or_from _ _ (integer_plain c) refl
+
+run_plain : (p : Program) (state : PlainState) (steps : ℕ) → has_float (def.run p state steps) ≡ false
+run_plain p plain.Running steps = refl
+run_plain p (plain.Ended end) steps = end_plain end steps
+run_plain p (plain.Fault kind task f pc) steps = refl
+
+pub state_view_plain : (full : Bool) (n : ℕ) (m : Watched) → has_float (def.state_view full n m) ≡ false
+state_view_plain full n m =
+    or_from _ _ (run_plain m.program (shown m.state) m.steps)
+    (or_from _ _ (scopes_plain full m.last m.last.scopes 0)
+    (or_from _ _ (tasks_plain m.program full m.last m.last.tasks 0) refl))
+
+pub event_view_plain : (full : Bool) (n : ℕ) (e : Event) (is_counted : Bool) (m : Watched) → has_float (def.event_view full n e is_counted m) ≡ false
+event_view_plain full n e is_counted m = state_view_plain full n m
+
+-- ---- a fault
+
+text_fault_plain : (e : AsmError) (c : Option CodeError) → has_float (answer.text_fault e c) ≡ false
+text_fault_plain e None = refl
+text_fault_plain e (Some failed) = refl
+
+trace_fault_plain : (e : TraceError) → has_float (answer.trace_fault e) ≡ false
+trace_fault_plain (trace.BadLine n) = refl
+trace_fault_plain (trace.BadNumber n) = refl
+trace_fault_plain trace.NoNewline = refl
+trace_fault_plain trace.Memory = refl
+
+pub text_line_plain : (e : AsmError) → has_float (def.text_line e) ≡ false
+text_line_plain e = or_from _ _ (text_fault_plain e (code_error e.kind)) refl
+
+pub trace_line_plain : (e : TraceError) → has_float (def.trace_line e) ≡ false
+trace_line_plain e = or_from _ _ (trace_fault_plain e) refl

@@ -1,0 +1,3 @@
+pub mod Scope
+pub mod Task
+pub mod Views

@@ -1,0 +1,117 @@
+-- A task as JSON (this project's own; docs/CASES.md has the schema).
+use Rattle.std.specs.Prelude.{ℕ, ℤ, ◌+◌, Bool, List, [], ◌∷◌, ◌++◌, map, reverse, Option, Some, None}
+use Rattle.std.specs.Prelude.{codes, ◌&&◌, if◌then◌else◌}
+use Rattle.std.specs.List.{flat_map}
+use Rattle.serde_json.specs.Data.{Data, array, boolean, null, string}
+use Rattle.serde_json.specs.View.{items_of}
+use Rattle.sts_code.specs.Program.{Program, routine}
+use Rattle.sts_model.specs.declared.event.End.{End}
+use Rattle.sts_model.specs.declared.event.End.TheVariants.{Success, Failed}
+use Rattle.sts_model.specs.declared.event.Stand.{Stand}
+use Rattle.sts_model.specs.declared.event.Stand.TheVariants.{Free, AtJoin, AtClose}
+use Rattle.sts_model.specs.declared.record.Task.{Task}
+use Rattle.sts_model.specs.Environment.{environment_of, read}
+use Rattle.sts_model.specs.Living.{lives}
+use Rattle.sts_model.specs.Waiting.{can_step, stand_at}
+use Rattle.sts_model.specs.World.{World, task_at}
+use Rattle.look_cases.specs.Json.{count, count_or_null, integer, object_of}
+use Rattle.look_lines.specs.Lines.{is_heard, keys}
+
+-- ---- the state
+
+abbrev pub plain_state : List ℕ → Data
+plain_state word = object_of ((codes "is", string word) ∷ [])
+
+abbrev pub waits : List ℕ → ℕ → Data
+waits word s = object_of (
+    (codes "is", string word) ∷
+    (codes "scope", count s) ∷ [])
+
+-- what a task that can't step waits for; a task at no scope can step
+abbrev pub waiting : Stand → Data
+waiting Free = null
+waiting (AtJoin s) = waits (codes "waits join") s
+waiting (AtClose s) = waits (codes "waits close") s
+
+-- the state of a living task
+abbrev pub living : Bool → Stand → Data
+living can_go stand = if can_go then plain_state (codes "ready") else waiting stand
+
+-- how a task ended, and whether it is the root or its joiner was told
+abbrev pub ended : Bool → Option End → Data
+ended heard None = null
+ended heard (Some (Success v)) = object_of (
+    (codes "heard", boolean heard) ∷
+    (codes "is", string (codes "success")) ∷
+    (codes "value", integer v) ∷ [])
+ended heard (Some (Failed c)) = object_of (
+    (codes "code", integer c) ∷
+    (codes "heard", boolean heard) ∷
+    (codes "is", string (codes "failed")) ∷ [])
+
+-- the state of a task that doesn't live: a fork in a cancelled scope makes a task that never starts
+abbrev pub rest : World → ℕ → Data
+rest w t =
+    if (task_at w t).started then ended (is_heard w t (task_at w t).scope) (task_at w t).outcome
+    else plain_state (codes "never-started")
+
+abbrev pub state : Program → World → ℕ → Data
+state p w t =
+    if lives (task_at w t) then living (can_step p w t) (stand_at p w t) else rest w t
+
+-- ---- what a living task has
+
+abbrev pub integers : List ℤ → List Data
+integers values = map integer values
+
+-- the operands, the top last
+abbrev pub operands : List ℤ → List Data
+operands values = integers (reverse values)
+
+abbrev pub binding : ℕ → ℤ → Data
+binding k v = object_of (
+    (codes "key", count k) ∷
+    (codes "value", integer v) ∷ [])
+
+abbrev pub maybe_binding : ℕ → Option ℤ → List Data
+maybe_binding k None = []
+maybe_binding k (Some v) = binding k v ∷ []
+
+-- the keys among these that `read` finds a value for, with the innermost values
+abbrev pub bindings : World → ℕ → List ℕ → List Data
+bindings w t ks = flat_map (λ k. maybe_binding k (read (environment_of (task_at w t) w) k)) ks
+
+abbrev pub bound : World → ℕ → List Data
+bound w t = bindings w t keys
+
+abbrev pub frame : World → ℕ → Data
+frame w t = object_of (
+    (codes "bound", array (items_of (bound w t))) ∷
+    (codes "locals", array (items_of (integers (task_at w t).frame.locals))) ∷
+    (codes "operands", array (items_of (operands (task_at w t).frame.operands))) ∷ [])
+
+-- ---- the task
+
+abbrev pub members : Program → World → ℕ → List (List ℕ × Data)
+members p w t =
+    (codes "function", string (routine p (task_at w t).frame.function).name) ∷
+    (codes "interrupted", boolean (task_at w t).flag) ∷
+    (codes "place", count (task_at w t).frame.pc) ∷
+    (codes "state", state p w t) ∷
+    (codes "task", count t) ∷
+    (codes "under", count_or_null (task_at w t).scope) ∷ []
+
+abbrev pub brief : Program → World → ℕ → Data
+brief p w t = object_of (members p w t)
+
+abbrev pub whole : Program → World → ℕ → Data
+whole p w t = object_of ((codes "frame", frame w t) ∷ members p w t)
+
+-- in full a living task has its frame
+abbrev pub task : Program → Bool → World → ℕ → Data
+task p full w t = if full && lives (task_at w t) then whole p w t else brief p w t
+
+-- these tasks, numbered from t on
+abbrev pub tasks : Program → Bool → World → List Task → ℕ → List Data
+tasks p full w [] t = []
+tasks p full w (x ∷ xs) t = task p full w t ∷ tasks p full w xs (t + 1)

@@ -1,0 +1,12 @@
+//! The views of a run, as lines of JSON: its state before the first event and after each, or only
+//! after the last.
+#![tactic(auto)]
+
+mod frames;
+mod of_text;
+mod runs;
+mod scopes;
+mod tasks;
+mod views;
+
+pub use of_text::{viewed, write_views};

@@ -1,0 +1,116 @@
+//! The scopes, as JSON.
+
+ghost use Rattle.std.specs.Prelude.{◌≡◌, IfOk};
+ghost use Rattle.std.specs.String.{string_bytes};
+ghost use Rattle.serde_json.specs.View.{view, items_view, items_of};
+ghost use Rattle.sts_model.specs.World as model;
+ghost use Rattle.look_views.specs.Scope as def;
+
+use look_lines::phase_word;
+use serde_json::{Value, json};
+use std::alloc::{AllocError, Global};
+use sts_code::{Joiner, Pred};
+use sts_model::{Completion, End};
+use sts_world::Records;
+
+/// Returns the words of a joiner, one space apart, as an `open` has them.
+fn joiner_text(alloc: Global, joiner: Joiner) -> Result<String, AllocError>
+    ensures { IfOk result (λ s. string_bytes s ≡ def.joiner_text joiner) }
+{
+    match joiner {
+        Joiner::AllSucceed => format!(in alloc; "all"),
+        Joiner::AnySucceeds => format!(in alloc; "any"),
+        Joiner::AwaitOk => format!(in alloc; "awaitok"),
+        Joiner::AwaitAll => format!(in alloc; "awaitall"),
+        Joiner::Until(Pred::Failed(n)) => format!(in alloc; "until failed {n}"),
+        Joiner::Until(Pred::Success(n)) => format!(in alloc; "until success {n}"),
+        Joiner::Until(Pred::AtLeast(v)) => format!(in alloc; "until atleast {v}"),
+    }
+}
+
+/// Returns an end that a joiner was told of, with its task.
+fn told_end(alloc: Global, told: Completion) -> Result<Value, AllocError>
+    ensures { IfOk result (λ v. view v ≡ def.told_end told) }
+{
+    let task = told.task;
+    match told.end {
+        End::Success(value) => {
+            json!(in alloc; {"outcome": "success", "task": task, "value": value})
+        }
+        End::Failed(code) => json!(in alloc; {"code": code, "outcome": "failed", "task": task}),
+    }
+}
+
+/// Returns the ends that a joiner was told of, in order.
+fn told_ends(alloc: Global, completions: &[Completion]) -> Result<Vec<Value>, AllocError>
+    ensures { IfOk result (λ list. items_view list.items
+        ≡ items_of (def.told_ends completions.now)) }
+{
+    let mut list = Vec::new(alloc);
+    for told in completions {
+        list.push(told_end(alloc, *told)?)?;
+    }
+    Ok(list)
+}
+
+fn brief(alloc: Global, records: &Records, s: u32) -> Result<Value, AllocError>
+    ensures { IfOk result (λ v. view v ≡ def.brief s (model.scope_at records.now s)) }
+{
+    let joiner = joiner_text(alloc, records.joiner(s))?;
+    json!(in alloc; {
+        "cancelled": records.is_cancelled(s),
+        "expired": records.is_expired(s),
+        "joiner": joiner,
+        "may_expire": records.can_expire(s),
+        "owner": records.owner(s),
+        "phase": phase_word(records.phase(s)),
+        "scope": s,
+        "timed": records.is_timed(s)
+    })
+}
+
+/// Returns a scope with the ends that its joiner was told of.
+fn whole(alloc: Global, records: &Records, s: u32) -> Result<Value, AllocError>
+    ensures { IfOk result (λ v. view v ≡ def.whole s (model.scope_at records.now s)) }
+{
+    let joiner = joiner_text(alloc, records.joiner(s))?;
+    let told = told_ends(alloc, records.completions(s))?;
+    json!(in alloc; {
+        "cancelled": records.is_cancelled(s),
+        "expired": records.is_expired(s),
+        "joiner": joiner,
+        "may_expire": records.can_expire(s),
+        "owner": records.owner(s),
+        "phase": phase_word(records.phase(s)),
+        "scope": s,
+        "timed": records.is_timed(s),
+        "told": told
+    })
+}
+
+fn scope(alloc: Global, full: bool, records: &Records, s: u32) -> Result<Value, AllocError>
+    ensures { IfOk result (λ v. view v ≡ def.scope full s (model.scope_at records.now s)) }
+{
+    if full {
+        whole(alloc, records, s)
+    } else {
+        brief(alloc, records, s)
+    }
+}
+
+/// Returns all scopes that were ever born. In full they have the ends that their joiners were told
+/// of.
+///
+/// # Errors
+///
+/// Memory was refused.
+pub(crate) fn scopes(alloc: Global, full: bool, records: &Records) -> Result<Vec<Value>, AllocError>
+    ensures { IfOk result (λ list. items_view list.items
+        ≡ items_of (def.scopes full records.now records.now.scopes 0)) }
+{
+    let mut list = Vec::new(alloc);
+    for s in 0..records.scopes_born() {
+        list.push(scope(alloc, full, records, s as u32)?)?;
+    }
+    Ok(list)
+}
