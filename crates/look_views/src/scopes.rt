@@ -98,8 +98,7 @@ fn scope(alloc: Global, full: bool, records: &Records, s: u32) -> Result<Value, 
     }
 }
 
-/// Returns all scopes that were ever born. In full they have the ends that their joiners were told
-/// of.
+/// Returns all scopes that were ever born. In full they have the ends that their joiners got.
 ///
 /// # Errors
 ///
