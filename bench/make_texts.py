@@ -17,11 +17,11 @@ def write(folder, name, text):
         file.write(text)
 
 
-def straight():
-    """As many instructions as a program may have, all of them local."""
+def straight(functions=64):
+    """As many local instructions as this number of functions may have. A program may have 64."""
     body = "push 1\n" + "dup\nlt\n" * ((MOST_INSTRUCTIONS - 2) // 2) + "ret\n"
-    functions = [f"func part{i} 0\n{body}end\n" for i in range(63)]
-    return "".join(functions) + f"func main 0\n{body}end\n"
+    parts = [f"func part{i} 0\n{body}end\n" for i in range(functions - 1)]
+    return "".join(parts) + f"func main 0\n{body}end\n"
 
 
 def block(i):
@@ -33,11 +33,11 @@ def block(i):
     )
 
 
-def scopes():
-    """As many functions of scopes, branches, loops and bindings as fit into a text."""
+def scopes(parts=62):
+    """As many functions of scopes, branches, loops and bindings as fit into a text, and no more than this number."""
     text = "func leaf 1\nload 0\nret\nend\n"
     ending = "push 0\nret\nend\n"
-    for name in [f"part{i}" for i in range(62)]:
+    for name in [f"part{i}" for i in range(parts)]:
         body = "".join(block(i) for i in range(150))
         if len(text) + len(body) > MOST_BYTES - 1_000:
             break
@@ -50,13 +50,16 @@ LOOP = lines(
     "load 0 / push 7 / lt / pop / next / next / load 0 / ret / end"
 )
 
-FAN_OUT = lines(
-    "func kid 0 / push 0 / ret / end / func main 0 / push 9 / times 9 / push 10000 / times 10000 / open s0 awaitall / fork s0 kid _ / "
-    "join s0 - - intr / close s0 / jmp on / intr: / close s0 / on: / next / next / push 5 / ret / end"
-)
+
+def fan_out(outer, inner):
+    """Returns a program of outer times inner scopes in a row, with one short subtask each."""
+    return lines(
+        f"func kid 0 / push 0 / ret / end / func main 0 / push {outer} / times {outer} / push {inner} / times {inner} / open s0 awaitall / "
+        "fork s0 kid _ / join s0 - - intr / close s0 / jmp on / intr: / close s0 / on: / next / next / push 5 / ret / end"
+    )
 
 
-# Forty subtasks of 23,436 local steps each, which several workers can do at once. In FAN_OUT they gain nothing: its
+# Forty subtasks of 23,436 local steps each, which several workers can do at once. In fan_out they gain nothing: its
 # scopes come in a row, each with one short subtask.
 FAN_OF_LOOPS = lines(
     "func work 1 / push 8 / times 8 / push 266 / times 266 / load 0 / push 3 / mul / push 1 / add / store 0 / "
@@ -114,13 +117,31 @@ WORK = {
 }
 
 
-def fan_out_trace():
+def chains(count, depth):
+    """Returns a program of chains in a row. In a chain each scope has one subtask, which opens the next scope."""
+    scope = "join s1 - - intr / close s1 / jmp on / intr: / close s1 / on:"
+    inner = "".join(f"func f{i} 0 / open s1 awaitall / fork s1 f{i - 1} _ / {scope} / push 0 / ret / end / " for i in range(1, depth))
+    return lines(
+        f"func f0 0 / push 0 / ret / end / {inner}func main 0 / push {count} / times {count} / "
+        f"open s1 awaitall / fork s1 f{depth - 1} _ / {scope} / next / push 1 / ret / end"
+    )
+
+
+# What jdk/ScopesBench.java does with the scopes of a JDK: scopes in a row, one wide scope, and chains of scopes.
+SCOPES = {
+    "short_scopes": fan_out(11, 10_000),
+    "wide_scope": subtasks(60_000, 5),
+    "chains": chains(1_000, 62),
+}
+
+
+def fan_out_trace(outer, inner):
     """Each subtask does its two steps as soon as it is forked."""
     steps = ["step 0\n" * 2]
     birth = 0
-    for _ in range(9):
+    for _ in range(outer):
         steps.append("step 0\n" * 2)
-        for _ in range(10_000):
+        for _ in range(inner):
             birth += 1
             steps.append("step 0\n" * 2 + f"step {birth}\n" * 2 + "step 0\n" * 4)
         steps.append("step 0\n")
@@ -187,8 +208,44 @@ def never_run(scopes):
     return text, "".join(turns) + "step 0\n" * 2
 
 
+def many_chains(count):
+    """Chains of scopes side by side, all of them open at the end of the trace: then 61 tasks of each wait."""
+    scope = "join s1 - - intr / close s1 / jmp on / intr: / close s1 / on:"
+    inner = "".join(f"func f{i} 0 / open s1 awaitall / fork s1 f{i - 1} _ / {scope} / push 0 / ret / end / " for i in range(1, 62))
+    text = lines(
+        f"func f0 0 / push 0 / ret / end / {inner}func main 0 / open s1 awaitall / push {count} / times {count} / fork s1 f61 _ / next / "
+        f"{scope} / push 1 / ret / end"
+    )
+    steps = ["step 0\n" * (3 + 2 * count)]
+    # those of one depth are born one after another, that of the first chain first
+    steps += [f"step {depth * count + chain + 1}\n" * 2 for depth in range(61) for chain in range(count)]
+    return text, "".join(steps)
+
+
+def unequal(instructions):
+    """A function that is refused at its last place, where two ways meet with unequal heights."""
+    pairs = "push 1\npop\n" * ((instructions - 4) // 2)
+    return f"func main 0\npush 1\njz last\npush 5\n{pairs}last:\nret\nend\n", ""
+
+
+def heavy(instructions):
+    """A function with too many steps, in branches within a loop."""
+    branches = "".join(f"push 1\njz on{i}\npush 2\npop\non{i}:\n" for i in range((instructions - 5) // 4))
+    return f"func main 0\npush 10000\ntimes 10000\n{branches}next\npush 0\nret\nend\n", ""
+
+
 # name, text and trace by the amount of work, and the least amount; each is made with 1, 2, 4 and 8 times that
 GROWTH = [
+    ("straight", lambda functions: (straight(functions), ""), 8),
+    ("scopes", lambda parts: (scopes(parts), ""), 3),
+    ("loop", lambda steps: (LOOP, "step 0\n" * steps), 125_000),
+    ("turns", lambda steps: (LOOP, "step 0\n" * steps), 2_000),
+    ("fan_out", lambda scopes: (fan_out(9, scopes), fan_out_trace(9, scopes)), 1_250),
+    ("row", lambda scopes: (fan_out(1, scopes), fan_out_trace(1, scopes)), 1_250),
+    ("many_chains", many_chains, 20),
+    ("wide", lambda count: (subtasks(count, 5), ""), 7_500),
+    ("unequal", unequal, 512),
+    ("heavy", heavy, 512),
     ("chain", chain, 10_000),
     ("last_of_many", last_of_many, 7_000),
     ("fifties", fifties, 1_200),
@@ -278,10 +335,10 @@ def main():
     write(folder, "scopes.sts", scopes())
     write(folder, "loop.sts", LOOP)
     write(folder, "loop.trace", "step 0\n" * 1_000_000)
-    write(folder, "fan_out.sts", FAN_OUT)
+    write(folder, "fan_out.sts", fan_out(9, 10_000))
     write(folder, "fan_of_loops.sts", FAN_OF_LOOPS)
-    write(folder, "fan_out.trace", fan_out_trace())
-    for name, text in WORK.items():
+    write(folder, "fan_out.trace", fan_out_trace(9, 10_000))
+    for name, text in {**WORK, **SCOPES}.items():
         write(folder, f"{name}.sts", text)
     for name, make, least in GROWTH:
         for times in (1, 2, 4, 8):

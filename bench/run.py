@@ -1,12 +1,17 @@
 #!/usr/bin/env python3
-"""Prints tables of the throughputs of `sts`, each the least time of several runs.  usage: run.py [PATH_OF_sts]  (RUNS=9)
+"""Prints tables of the throughputs of `sts` and `look`, each the least time of several runs.
+usage: run.py [PATH_OF_sts [PATH_OF_look]]  (RUNS=9)
 
-ONLY=workers prints one of the tables: texts, machines, workers, work, growth or labels. Rates are of the whole process less the
-time that a text of one function takes. Runs by workers are taken in turns, one by each number of workers after the other.
+ONLY=workers prints one of the tables: texts, machines, workers, scopes, work, growth or labels. Rates are of the whole process
+less the time that a text of one function takes. `growth` has 1, 2, 4 and 8 times the work, and the exponent: the slope by which
+the logarithm of the time, less that of a text of one function, grows with that of the work. In proportion it is 1. Its times are
+those of the processor, which depend less on what else the machine does.
+Runs by workers are taken in turns, one by each number of workers after the other.
 They have no journal, and their median is printed too. If processors are shared, a few runs mislead: for figures like those
 of docs/SPEED.md use RUNS=300 ONLY=workers on a machine that does nothing else.
 """
 import itertools
+import math
 import os
 import statistics
 import subprocess
@@ -16,6 +21,8 @@ import time
 
 HERE = os.path.dirname(os.path.abspath(__file__))
 RUNS = int(os.environ.get("RUNS", "9"))
+# the words of the line, or the launchers in the root folder
+STS, LOOK = (os.path.abspath(given or os.path.join(HERE, "..", name)) for given, name in zip((sys.argv + ["", ""])[1:3], ("sts", "look")))
 WORKERS = (1, 2, 4)
 WORK = ("polling_50", "polling_500", "polling_5000", "subtasks_5", "subtasks_50", "subtasks_500", "subtasks_5000", "short_then_wide", "one_long_task")
 
@@ -45,11 +52,11 @@ print(time.perf_counter() - start, usage.ru_utime + usage.ru_stime, usage.ru_nvc
 """
 
 
-def counted(command):
-    """Seconds, seconds of processors, waits and MiB of one run."""
+def counted(command, statuses=(0,)):
+    """Seconds, seconds of processors, waits and MiB of one run, which may end with these statuses."""
     *figures, status = map(float, subprocess.check_output([sys.executable, "-c", COUNT, *command]).split())
-    if status:
-        raise SystemExit(f"{' '.join(command)}: status {status}")
+    if status / 256 not in statuses:
+        raise SystemExit(f"{' '.join(command)}: status {status / 256}")
     return figures
 
 
@@ -99,6 +106,15 @@ def workers(program, at, base):
             print(f"{f'run {name} by {count}, steps':38}{min(taken) * 1e3:9.2f}{statistics.median(taken) * 1e3:9.2f}{rate:11.2f}")
 
 
+def scopes(program, at, base):
+    """Rows of runs of many scopes, as jdk/ScopesBench.java has them."""
+    print(f"\n{'case':38}{'ms':>9}{'median':>9}{'of proc.':>10}{'MiB':>7}")
+    for name, count in itertools.product(("short_scopes", "wide_scope", "chains"), WORKERS):
+        seconds, processors, _, most = zip(*(counted([program, "run", at(name + ".sts"), "--workers", str(count)]) for _ in range(RUNS)))
+        least, median = min(seconds) * 1e3, statistics.median(seconds) * 1e3
+        print(f"{f'run {name} by {count}':38}{least:9.2f}{median:9.2f}{min(processors) * 1e3:10.2f}{min(most):7.1f}")
+
+
 def work(program, at, base):
     """Rows of runs in which several workers may be slow. Each figure is the least, but the waits are the median."""
     print(f"\n{'case':38}{'ms':>9}{'times 1':>9}{'of proc.':>10}{'waits':>8}{'MiB':>7}")
@@ -115,13 +131,46 @@ def work(program, at, base):
             )
 
 
+# The commands whose growth is shown, and the texts by the amount of work; a command of `look` names a trace where it takes one.
+GROWING = [
+    ("sts list", ("straight", "scopes")),
+    ("sts verify", ("straight", "scopes")),
+    ("sts plain TRACE", ("loop", "fan_out", "chain", "last_of_many", "fifties", "never_run")),
+    ("sts replay TRACE", ("loop", "fan_out")),
+    ("sts run --workers 1", ("fan_out", "wide")),
+    ("look view TRACE", ("row", "many_chains")),
+    ("look view TRACE --each", ("turns",)),
+    ("look explain", ("straight", "scopes", "unequal", "heavy")),
+    ("look explain TRACE", ("row", "many_chains")),
+    ("look draw TRACE", ("row",)),
+]
+TIMES = (1, 2, 4, 8)
+
+
+def slope(values):
+    """The slope of a line through the logarithms of values at 1, 2, 4 and 8."""
+    xs, ys = [math.log(it) for it in TIMES], [math.log(max(it, 1e-6)) for it in values]
+    x, y = statistics.mean(xs), statistics.mean(ys)
+    return sum((a - x) * (b - y) for a, b in zip(xs, ys)) / sum((a - x) ** 2 for a in xs)
+
+
 def growth(program, at, base):
-    """Rows of programs with 1, 2, 4 and 8 times the work, and the memory that a run takes."""
-    print(f"\n{'plain, times the work':38}{'ms':>9}{'MiB':>9}")
-    for name, times in itertools.product(("chain", "last_of_many", "fifties", "never_run"), (1, 2, 4, 8)):
-        command = [program, "plain", at(f"{name}{times}.sts"), at(f"{name}{times}.trace")]
-        seconds, _ = least_seconds(command)
-        print(f"{name + ', ' + str(times) + ' times':38}{seconds * 1e3:9.2f}{counted(command)[3]:9.0f}")
+    """Rows of commands with 1, 2, 4 and 8 times the work, and the memory that the last takes."""
+    starts = {"sts": [program, "list", at("small.sts")], "look": [LOOK, "explain", at("small.sts")]}
+    least = {tool: min(counted(line)[1] for _ in range(RUNS)) for tool, line in starts.items()}
+    print(f"\n{'processor ms, by the work':38}" + "".join(f"{it:>9}" for it in TIMES) + f"{'exponent':>10}{'MiB':>7}")
+    for command, names in GROWING:
+        tool, mode, *options = command.split()
+        for name in names:
+            rows = []
+            for times in TIMES:
+                words = [at(f"{name}{times}.trace") if it == "TRACE" else it for it in options]
+                line = [program if tool == "sts" else LOOK, mode, at(f"{name}{times}.sts"), *words]
+                rows.append([counted(line, (0, 4, 5)) for _ in range(RUNS)])
+            seconds = [min(it[1] for it in row) for row in rows]
+            shown = "".join(f"{it * 1e3:9.2f}" for it in seconds)
+            words = " ".join([tool, mode, name, *(it for it in options if it != "TRACE")])
+            print(f"{words:38}{shown}{slope([it - least[tool] for it in seconds]):10.2f}{min(it[3] for it in rows[-1]):7.0f}", flush=True)
 
 
 def labels(program, at, base):
@@ -135,11 +184,10 @@ def labels(program, at, base):
             print(f"{f'list {name} labels, {times} times':38}{seconds * 1e3:9.2f}{seconds / first:18.1f}")
 
 
-TABLES = {it.__name__: it for it in (texts, machines, workers, work, growth, labels)}
+TABLES = {it.__name__: it for it in (texts, machines, workers, scopes, work, growth, labels)}
 
 
 def main():
-    program = os.path.abspath(sys.argv[1] if len(sys.argv) > 1 else os.path.join(HERE, "..", "sts"))
     only = os.environ.get("ONLY")
     if only and only not in TABLES:
         raise SystemExit(f"ONLY={only}: the tables are {', '.join(TABLES)}")
@@ -149,10 +197,10 @@ def main():
         small = at("small.sts")
         with open(small, "w") as file:
             file.write("func main 0\npush 7\nret\nend\n")
-        base, _ = least_seconds([program, "list", small])
+        base, _ = least_seconds([STS, "list", small])
         print(f"{'a text of one function':38}{base * 1e3:9.2f} ms")
         for table in [TABLES[only]] if only else TABLES.values():
-            table(program, at, base)
+            table(STS, at, base)
 
 
 main()
