@@ -515,7 +515,7 @@ def crate_decisions():
             points = [" ".join(it.split()) for it in re.findall(r"^\| (?!Point )([^|]+?) \|", section[1], re.M)]
             expected.append(f"\n[`{name}`](../{page}#decisions):\n")
             expected += [f"- {it[0].upper() + it[1:] if it[0].isalpha() else it}." for it in said]
-            expected += [f"- How it reads: {it}." for it in points]
+            expected += [f"- How {len(points)} edge cases are settled, in a table."] if points else []
     expected = front + "\n".join(expected) + "\n"
     if sys.argv[1:] == ["write"]:
         open(f"{ROOT}/{path}", "w").write(expected)
