@@ -239,14 +239,14 @@ def names_of_sts(sts):
         sts.add({"seven": SEVEN})
         for mode in ("plain", "replay"):
             yield f"{mode} with {name!r}", sts.says(mode, "seven", name), (0, "success 7\nsteps 2\n", "")
-        sts.has(**decoys, **{name: "at 0 interrupt 5\nat 2 interrupt 6\n"})
+        sts.has(**decoys, **{name: "at 0 interrupt 0\nat 2 interrupt 0\n"})
         sts.add({"seven": SEVEN})
         made = f"{name[:200]}.journal "
         words = ["run", "seven", "--workers", "1", "--outside", name, "--trace", made]
         yield f"{words}", sts.says(*words), (0, f"{BUDGETS}success 7\nsteps 2\n", "")
         there = sorted([*decoys, name, "seven", made])
         journal = sts.read(made) if sts.names() == there else None
-        yield f"its journal, {made!r}", (sts.names(), journal), (there, "interrupt 5\nstep 0\ninterrupt 6\nstep 0\n")
+        yield f"its journal, {made!r}", (sts.names(), journal), (there, "interrupt 0\nstep 0\n" * 2)
         yield f"the file next to it, {made!r}", sts.read("journal"), "kept\n"
 
 
