@@ -14,12 +14,16 @@ PROGRAM is `sts`, LOOK is `look`; each of their commands is tried if it applies.
 - Outside texts: the first fault is reported, and there are at most 4,096 lines.
 - Budgets: a run that reaches all four, and for each budget a text with no run that reaches it.
 - Large runs: 65,535 subtasks, and a text of 1,048,576 bytes, by 4 workers.
+- The launchers ./sts and ./look: a call for help starts no proof, and neither does a word that is no command, if there is
+  no program yet. Any other call starts one if there is no program or a source is newer.
 Expected answers were worked out by hand from the rules.  The last line is `N passed, M failed`, of runs.
 """
 import os
+import shutil
 import subprocess
 import sys
 import tempfile
+import time
 
 ROOT = os.path.dirname(os.path.dirname(os.path.realpath(__file__)))
 PROGRAM, LOOK = (os.path.join(ROOT, "crates", name, "out", name) for name in ("sts", "look"))
@@ -119,6 +123,7 @@ MISTAKES = [
 ]
 OF_PROGRAM = ["sts", "verify", "list", "plain", "replay", "run", "prints budgets", "standard input"]
 OF_VERIFY = ["sts verify", "FILE", "the text of a program", "prints budgets"]
+COMMANDS_OF_LOOK = ["view", "explain", "draw", "ends", "cases"]
 # Words that ask for help, and what it has.
 HELPS = [
     ("--help", OF_PROGRAM),
@@ -154,8 +159,7 @@ def words_of_sts(sts):
     for words, names in HELPS:
         yield f"{words!r}", sts.names_all(words.split(), names), (0, "", [])
     yield from mistaken(sts, [["verify"], ["list"], ["plain", "text"], ["replay", "text"], ["run", "text"], ["run", "--workers", "1"], ["view"], [""]])
-    yield from helped(sts, ["verify", "list", "plain", "replay", "run"])
-    yield "the help that ./sts prints before it is built", sts.says("--help"), (0, "", of_repository("checks/help/sts.txt"))
+    yield from helped(sts, OF_PROGRAM[1:6])
 
 
 def of_repository(path):
@@ -181,10 +185,9 @@ def words_of_look(look):
     ends = (["--most"], ["--most", "x"], ["--interrupts", "4294967296"], ["--trace", "1"], ["--trace", "x", "made"], ["trace"])
     yield from mistaken(look, [["ends"], ["cases"], *(["ends", "text", *it] for it in ends)])
     yield "no trace is made", look.names(), ["text", "trace"]
-    yield from helped(look, ["view", "explain", "draw", "ends", "cases"], is_printed=True)
+    yield from helped(look, COMMANDS_OF_LOOK, is_printed=True)
     for words in (["--version"], ["-V"]):
         yield f"{words}", look.says(*words), (0, f"look {of_repository('VERSION')}", "")
-    yield "the help that ./look prints before it is built", look.says("--help"), (0, of_repository("checks/help/look.txt"), "")
 
 
 def mistaken(program, lines):
@@ -203,6 +206,50 @@ def helped(program, commands, is_printed=False):
         text, other = (printed, told) if is_printed else (told, printed)
         names = "FILE" in text and command in text if command else all(it in text for it in commands)
         yield f"help of {command}", (status, other, names), (0, "", True)
+
+
+def put(path, content, seconds):
+    """Makes a file that may be executed, dated by its age in seconds."""
+    os.makedirs(os.path.dirname(path), exist_ok=True)
+    with open(path, "w") as file:
+        file.write(content)
+    os.chmod(path, 0o755)
+    os.utime(path, (time.time() - seconds,) * 2)
+
+
+def launchers(sts, look):
+    """Tries ./sts and ./look where a script that prints `builds` is in place of the one that proves and builds."""
+    for program, name, commands in (sts, "sts", OF_PROGRAM[1:6]), (look, "look", COMMANDS_OF_LOOK):
+        with tempfile.TemporaryDirectory() as top:
+            for it in (name, "checks/launch.sh", "VERSION"):
+                put(f"{top}/{it}", of_repository(it), 300)
+            shutil.copytree(f"{ROOT}/checks/help", f"{top}/checks/help")
+            put(f"{top}/checks/build.py", "import sys\nprint('builds', *sys.argv[2:])\n", 300)
+            yield from launched(Folder(f"{top}/{name}", top), program, name, commands)
+
+
+def launched(launcher, program, name, commands):
+    """Tries a launcher before there is a program, with one that is older than a source, and with one that isn't."""
+    helps = [["-h"], ["--help"], ["help"], *(["help", it] for it in [*commands, "help"])]
+    helps += [[command, it] for command in commands for it in ("-h", "--help")]
+    for words in helps:
+        yield f"./{name} {words} with no program", launcher.says(*words), program.says(*words)
+    for words in (["frobnicate"], ["help", "frobnicate"], ["frobnicate", "text"], ["frobnicate", "-h"]):
+        refused = 2, "", f"{name}: no command frobnicate; ./{name} --help has the commands\n"
+        yield f"./{name} {words} with no program", launcher.says(*words), refused
+    asked = [[], [commands[0], "text"], [commands[0], "text", "--help"]]
+    for words in asked:
+        yield f"./{name} {words} with no program", launcher.says(*words), (0, f"{' '.join(['builds', *words])}\n", "")
+    yield f"./{name} --version", launcher.says("--version"), (0, f"{name} {of_repository('VERSION')}", "")
+    put(f"{launcher.path}/crates/{name}/out/{name}", "#!/bin/sh\necho runs $@\n", 200)
+    for says, source in ("builds", 100), ("runs", 290):
+        put(f"{launcher.path}/crates/{name}/src/lib.rt", "", source)
+        put(f"{launcher.path}/crates.txt", "", 290)
+        os.utime(f"{launcher.path}/crates/{name}/src", (time.time() - 290,) * 2)
+        for words in [*asked, ["frobnicate"]]:
+            yield f"./{name} {words}, a source of {source}", launcher.says(*words), (0, f"{' '.join([says, *words])}\n", "")
+        for words in helps:
+            yield f"./{name} {words}, a source of {source}", launcher.says(*words), (0, f"{' '.join(['runs', *words])}\n", "")
 
 
 def files(program, name, texts, traces):
@@ -502,7 +549,7 @@ def files_of_look(look):
 
 OF_STS = [words_of_sts, names_of_sts, outputs_of_sts, dues_of_sts, outside_texts_of_sts, large_runs_of_sts, files_of_sts]
 OF_LOOK = [words_of_look, names_of_look, outputs_of_look, files_of_look]
-OF_BOTH = [dashed_names, costs_of_runs]
+OF_BOTH = [dashed_names, costs_of_runs, launchers]
 PARTS = [it.__name__ for it in (*OF_STS, *OF_LOOK, *OF_BOTH)]
 
 

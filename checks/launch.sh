@@ -23,8 +23,31 @@ is_stale() {
   return 1
 }
 
-case ${1-} in
-  --unproved)
+# Sets `about` to the name of the text in checks/help that a call asks for, or to nothing if it asks for none.
+find_help() {
+  case "$# ${1-} ${2-}" in
+    '1 -h ' | '1 --help ' | '1 help ') about=$name ;;
+    '2 help '*) about=$name.$2 ;;
+    '2 '*' -h' | '2 '*' --help') about=$name.$1 ;;
+    *) about= ;;
+  esac
+}
+
+# Answers a call that needs no program: it asks for help, or its first word is no command. `sts` writes help to standard
+# error and `look` to standard output, as the programs do.
+answer_at_once() {
+  text=${about:-$name.$1}
+  if [ ! -f "$root/checks/help/$text.txt" ]; then
+    echo "$name: no command ${text#*.}; ./$name --help has the commands" >&2
+    exit 2
+  fi
+  [ "$about" ] || return 0
+  [ "$name" = look ] || exec >&2
+  exec cat "$root/checks/help/$text.txt"
+}
+
+case "$name ${1-}" in
+  *' --unproved')
     shift
     if is_stale "$unproved"; then
       exec python3 "$root/checks/unproved.py" "$name" "$unproved" "$@"
@@ -32,18 +55,17 @@ case ${1-} in
     echo "$name: not proved: this program was built without its proofs" >&2
     exec "$unproved" "$@"
     ;;
-  --version)
+  *' --version' | 'look -V')
     printf '%s ' "$name"
     exec cat "$root/VERSION"
     ;;
-  -h | --help | help)
-    # A call for help starts no proof. `sts` writes help to standard error and `look` to standard output, as the programs do.
-    if [ ! -x "$program" ] && [ $# = 1 ] && [ -f "$root/checks/help/$name.txt" ]; then
-      [ "$name" = look ] || exec >&2
-      exec cat "$root/checks/help/$name.txt"
-    fi
-    ;;
 esac
+find_help "$@"
+if [ ! -x "$program" ]; then
+  [ $# = 0 ] || answer_at_once "$@"
+elif [ "$about" ]; then
+  exec "$program" "$@" # (a call for help starts no proof, even if a source is newer)
+fi
 if is_stale "$program"; then
   exec python3 "$root/checks/build.py" "$program" "$@"
 fi
