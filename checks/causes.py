@@ -1,7 +1,7 @@
 """The refused texts that the documents show, each with the accepted text that mends it.
 
 A block "```diff" has both: a line with `-` is only in the refused text, and a line with `+` only in the accepted one. A
-comment `; 9 times` stands for that many lines, and `; 9 times, with the line above` for that many pairs of lines. Below a
+comment `; 9 times` stands for that many lines, and `; this line and the one above, 9 times` for that many pairs of lines. Below a
 line "In [NAME](../examples/refused/NAME.sts):" the block is a part of that file, and is mended there. Below the block is
 what `look explain` prints of the refused text.
 """
@@ -27,11 +27,11 @@ def whole(lines):
     """Returns the lines of a text. A comment may say how often lines are repeated."""
     found = []
     for line in lines:
-        repeated = re.fullmatch(r"(.*?) *; (\d+) times(, with the line above)?", line)
-        if repeated and repeated[3]:
-            found[-1:] = [found[-1], repeated[1]] * int(repeated[2])
+        repeated = re.fullmatch(r"(.*?) *; (this line and the one above, )?(\d+) times", line)
+        if repeated and repeated[2]:
+            found[-1:] = [found[-1], repeated[1]] * int(repeated[3])
         elif repeated:
-            found += [repeated[1]] * int(repeated[2])
+            found += [repeated[1]] * int(repeated[3])
         else:
             found.append(line)
     return "".join(f"{it}\n" for it in found)
