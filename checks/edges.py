@@ -221,11 +221,12 @@ def launchers(sts, look):
     """Tries ./sts and ./look where a script that prints `builds` is in place of the one that proves and builds."""
     for program, name, commands in (sts, "sts", OF_PROGRAM[1:6]), (look, "look", COMMANDS_OF_LOOK):
         with tempfile.TemporaryDirectory() as top:
-            for it in (name, "checks/launch.sh", "VERSION"):
+            for it in (name, "checks/launch.sh", "checks/sources.py", "VERSION"):
                 put(f"{top}/{it}", of_repository(it), 300)
             shutil.copytree(f"{ROOT}/checks/help", f"{top}/checks/help")
             put(f"{top}/checks/build.py", "import sys\nprint('builds', *sys.argv[2:])\n", 300)
             yield from launched(Folder(f"{top}/{name}", top), program, name, commands)
+            yield from launched_fast(top, name)
 
 
 def launched(launcher, program, name, commands):
@@ -250,6 +251,23 @@ def launched(launcher, program, name, commands):
             yield f"./{name} {words}, a source of {source}", launcher.says(*words), (0, f"{' '.join([says, *words])}\n", "")
         for words in helps:
             yield f"./{name} {words}, a source of {source}", launcher.says(*words), (0, f"{' '.join(['runs', *words])}\n", "")
+
+
+def launched_fast(top, name):
+    """Tries a launcher that knows by a file which sources its program is built of, from two folders and by a link."""
+    os.symlink(f"{top}/{name}", f"{top}/checks/link")
+    ways = [(f"./{name}", top), (f"../{name}", f"{top}/checks"), (f"{top}/{name}", f"{top}/checks"), ("./link", f"{top}/checks")]
+    put(f"{top}/crates.txt", f"{name}:\nother:\n", 290)
+    put(f"{top}/crates/{name}/src/lib.rt", "", 290)
+    put(f"{top}/crates/other/src/lib.rt", "", 100)
+    write = f"import sources; sources.write('{top}/crates/{name}/out/{name}', '{name}')"
+    subprocess.run([sys.executable, "-c", write], cwd=f"{top}/checks", check=True)
+    for changed in (None, f"crates/{name}/src/lib.rt", f"crates/{name}/src", "crates.txt"):
+        for it in (f"crates/{name}/src/lib.rt", f"crates/{name}/src", "crates.txt"):
+            os.utime(f"{top}/{it}", (time.time() - (100 if it == changed else 290),) * 2)
+        for path, folder in ways:
+            said = Folder(path, folder).says("list", "text")
+            yield f"{path}, {changed} is newer", said, (0, f"{'builds' if changed else 'runs'} list text\n", "")
 
 
 def files(program, name, texts, traces):
