@@ -361,8 +361,8 @@ def named_files():
 
 
 def shown_contracts(path):
-    """Fails if a contract that a document shows has a line that no source has."""
-    folders = [f"{ROOT}/crates/{it}/src" for it in os.listdir(f"{ROOT}/crates")]
+    """Fails if a contract or a definition that a document shows has a line that no source has."""
+    folders = [f"{ROOT}/crates/{it}/{part}" for it in os.listdir(f"{ROOT}/crates") for part in ("src", "specs")]
     files = [f"{at}/{it}" for folder in folders for at, _, names in os.walk(folder) for it in names]
     sources = {line.strip() for it in files for line in open(it)}
     for block in re.findall(r"```text\n(.*?)```", read(path), re.S):
