@@ -181,7 +181,7 @@ LADDER = [  # floor, its crates, the theorem on the arrow to the next one, and t
     ("text", "sts_text, sts_asm", "answers the program that the text spells, or its fault; a listing reads back", "assemble, list"),
     ("program", "sts_code", "answers accepted or refused, as the definitions do; four budgets, exact over control paths", "verify"),
     ("accepted", "sts_verify", "no list of events leads to a fault; steps, tasks, scopes and bindings stay within the budgets", "every_run"),
-    ("plain machine", "sts_plain", "the machine that tests nothing has the live view and the steps of the plain machine", "Plain::apply, Machine::turn"),
+    ("plain machine", "sts_plain", "the fast machine has the live view and the steps of the plain machine", "Plain::apply, Machine::turn"),
     ("machine", "sts_machine", "the reported journal is a list of events, and leads to the reported end", "Book::journal, run"),
     ("workers", "sts_pool", None, None),
 ]
