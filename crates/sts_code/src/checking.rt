@@ -1,11 +1,10 @@
 //! The checks that a list of functions has to pass to be a program.
 
-ghost use Rattle.std.specs.Prelude.{◌≡◌, ◌≤◌, ◌<◌, ◌^◌, [], length, take};
+ghost use Rattle.std.specs.Prelude.{◌≡◌, ◌≤◌, ◌<◌, ◌^◌, [], length, take, nat_le, option_to_list};
 ghost use Rattle.std.specs.List.{list_any};
 ghost use Rattle.sts_code.specs.Checks as def;
 
 use crate::code::needs_any;
-use crate::facts::targets;
 use crate::instr::{Instr, Joiner, Pred};
 use crate::limits::{LAST_SLOT, MAX_ARGS, MAX_ENDS, MAX_FUNCTIONS, MAX_INSTRUCTIONS, MAX_TURNS};
 use crate::naming::is_name;
@@ -58,10 +57,38 @@ pub struct CodeError {
     pub pc: u32,
 }
 
+/// Is the place, if there is one, outside so many instructions?
+fn is_outside(count: usize, place: Option<u32>) -> bool
+    ensures { result ≡ list_any (nat_le count) (option_to_list place) }
+{
+    match place {
+        None => false,
+        Some(to) => count <= to as usize,
+    }
+}
+
 fn has_bad_target(count: usize, instr: Instr) -> bool
     ensures { result ≡ def.has_bad_target count instr }
 {
-    targets(instr).iter().any(|to| count <= *to as usize)
+    match instr {
+        Instr::Div(to) | Instr::Jmp(to) | Instr::Jz(to) => count <= to as usize,
+        Instr::Join {
+            failed,
+            timeout,
+            interrupted,
+            ..
+        } => {
+            is_outside(count, failed)
+                || is_outside(count, timeout)
+                || count <= interrupted as usize
+        }
+        Instr::Case {
+            success,
+            failed,
+            ..
+        } => count <= success as usize || count <= failed as usize,
+        _ => false,
+    }
 }
 
 fn forks_later(at: u32, instr: Instr) -> bool

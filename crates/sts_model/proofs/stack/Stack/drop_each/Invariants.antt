@@ -1,5 +1,5 @@
 use Rattle.std.proofs.Common.{◌≡◌, drop, reverse}
-use Rattle.sts_model.proofs.stack.Stack.drop_top.Given as goal
+use Rattle.sts_model.proofs.stack.Stack.drop_each.Given as goal
 
 -- `counter` values were taken off
 abbrev pub invariant-loop : goal.invariant-loop

@@ -1,7 +1,7 @@
 use Rattle.std.proofs.Common.{drop, reverse, refl, ap, ◌∙◌}
 use Rattle.std.proofs.lemmas.List.{drop-drop}
 use Rattle.sts_model.proofs.ListLemmas.{reverse_take}
-use Rattle.sts_model.proofs.stack.Stack.drop_top.Goals as goal
+use Rattle.sts_model.proofs.stack.Stack.drop_each.Goals as goal
 
 pub loop-preserved : goal.loop-preserved
 loop-preserved g c =
