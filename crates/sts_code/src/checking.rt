@@ -57,7 +57,7 @@ pub struct CodeError {
     pub pc: u32,
 }
 
-/// Is the place, if there is one, outside so many instructions?
+/// Is this a place after the last of `count` instructions?
 fn is_outside(count: usize, place: Option<u32>) -> bool
     ensures { result ≡ list_any (nat_le count) (option_to_list place) }
 {
@@ -78,9 +78,7 @@ fn has_bad_target(count: usize, instr: Instr) -> bool
             interrupted,
             ..
         } => {
-            is_outside(count, failed)
-                || is_outside(count, timeout)
-                || count <= interrupted as usize
+            is_outside(count, failed) || is_outside(count, timeout) || count <= interrupted as usize
         }
         Instr::Case {
             success,

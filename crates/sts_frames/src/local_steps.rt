@@ -89,6 +89,7 @@ fn set_local(locals: &mut [i64; 16], x: u8, value: i64)
 }
 
 /// Does a local instruction.
+#[inline(always)]
 #[tactic(auto, using(crate::proofs::LoopLemmas::closes_loop_bounds))]
 pub fn local(frame: &mut Frame, program: &Program, code: &[Instr], instr: Instr)
     requires own_code { code.now ≡ world.code program.now frame.old }
@@ -101,13 +102,15 @@ pub fn local(frame: &mut Frame, program: &Program, code: &[Instr], instr: Instr)
     ensures { frame.new ≡ def.local code.now instr frame.old }
 {
     let next = frame.pc + 1;
-    let a = frame.operand(1);
-    let b = frame.operand(0);
     match instr {
         Instr::Push(k) => frame.goes_with(next, 0, k),
         Instr::Pop => frame.goes(next, 1),
-        Instr::Dup => frame.goes_with(next, 0, b),
+        Instr::Dup => {
+            let b = frame.operand(0);
+            frame.goes_with(next, 0, b);
+        }
         Instr::Swap => {
+            let (a, b) = (frame.operand(1), frame.operand(0));
             frame.goes_with(next, 2, b);
             frame.goes_with(next, 0, a);
         }
@@ -116,15 +119,32 @@ pub fn local(frame: &mut Frame, program: &Program, code: &[Instr], instr: Instr)
             frame.goes_with(next, 0, value);
         }
         Instr::Store(x) => {
+            let b = frame.operand(0);
             frame.goes(next, 1);
             set_local(&mut frame.locals, x, b);
         }
-        Instr::Add => frame.goes_with(next, 2, sum(a, b)),
-        Instr::Sub => frame.goes_with(next, 2, difference(a, b)),
-        Instr::Mul => frame.goes_with(next, 2, product(a, b)),
-        Instr::Lt => frame.goes_with(next, 2, i64::from(a < b)),
-        Instr::Eq => frame.goes_with(next, 2, i64::from(a == b)),
+        Instr::Add => {
+            let value = sum(frame.operand(1), frame.operand(0));
+            frame.goes_with(next, 2, value);
+        }
+        Instr::Sub => {
+            let value = difference(frame.operand(1), frame.operand(0));
+            frame.goes_with(next, 2, value);
+        }
+        Instr::Mul => {
+            let value = product(frame.operand(1), frame.operand(0));
+            frame.goes_with(next, 2, value);
+        }
+        Instr::Lt => {
+            let value = i64::from(frame.operand(1) < frame.operand(0));
+            frame.goes_with(next, 2, value);
+        }
+        Instr::Eq => {
+            let value = i64::from(frame.operand(1) == frame.operand(0));
+            frame.goes_with(next, 2, value);
+        }
         Instr::Div(to) => {
+            let (a, b) = (frame.operand(1), frame.operand(0));
             if b == 0 {
                 frame.goes(to, 2);
             } else {
@@ -133,13 +153,16 @@ pub fn local(frame: &mut Frame, program: &Program, code: &[Instr], instr: Instr)
         }
         Instr::Jmp(to) => frame.goes(to, 0),
         Instr::Jz(to) => {
-            if b == 0 {
+            if frame.operand(0) == 0 {
                 frame.goes(to, 1);
             } else {
                 frame.goes(next, 1);
             }
         }
-        Instr::Times(n) => enters(frame, code, clipped(n, b)),
+        Instr::Times(n) => {
+            let most = clipped(n, frame.operand(0));
+            enters(frame, code, most);
+        }
         Instr::Next => turns(frame),
         _ => {}
     }
@@ -164,6 +187,7 @@ fn enters(frame: &mut Frame, code: &[Instr], turns: u16)
 }
 
 /// Ends a turn of the innermost loop.
+#[inline(always)]
 fn turns(frame: &mut Frame)
     requires more { frame.old.pc + 1 < 2 ^ 32 }
     requires some { 0 < length frame.old.loops }
