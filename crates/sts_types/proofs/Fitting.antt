@@ -105,7 +105,7 @@ module _ (p : Program) (f pc : ℕ) (i : Instr) (s : TypeState) where
     pub lead_found : is_some o ≡ true → o ≡ least_cause p f pc i s
     lead_found t = found _ _ _ FallsOff BackJump LoopMismatch o after_leads lead_is t ∙ first_two (lead (routine p f).code after_leads)
 
-    lead_missed : is_some o ≡ false → after_leads ≡ least_cause p f pc i s
+    pub lead_missed : is_some o ≡ false → after_leads ≡ least_cause p f pc i s
     lead_missed t = missed _ _ _ FallsOff BackJump LoopMismatch o after_leads lead_is t ∙ first_two (lead (routine p f).code after_leads)
 
     module _ (none : is_some o ≡ false) (flat : test.is_too_deep i s ≡ false) (o' : Option Cause) (e' : o' ≡ slot None) where

@@ -11,4 +11,5 @@ pub mod Passing
 pub mod PromisingLemmas
 pub mod Ranges
 pub mod RoomLemmas
+pub mod SimpleLemmas
 pub mod Visiting

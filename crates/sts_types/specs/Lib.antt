@@ -1,5 +1,6 @@
 pub mod Arrivals
 pub mod Room
+pub mod Simple
 pub mod Site
 pub mod Tables
 pub mod Typing

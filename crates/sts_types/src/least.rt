@@ -1,18 +1,63 @@
 //! The least cause that holds at an instruction.
 
-ghost use Rattle.std.specs.Prelude.{◌≡◌, ◌<◌, length, option_to_list, if◌then◌else◌, Some, None};
+ghost use Rattle.std.specs.Prelude.{◌≡◌, ◌<◌, ◌+◌, length, option_to_list, if◌then◌else◌, Some, None};
+ghost use Rattle.std.specs.Prelude.{nat_le};
+ghost use Rattle.sts_types.specs.Simple.{is_simple};
 ghost use Rattle.sts_types.specs.Site.{IsSite};
 ghost use Rattle.sts_rules.specs.Causes as def;
+ghost use Rattle.sts_rules.specs.TypeState.{heads};
 
 use crate::cause::{
     breaks_structure, has_busy_slot, has_wrong_slot, is_illegal, is_nested, is_strangers,
     is_too_deep, is_unbound, lacks_operands, misjoins, overflows,
 };
 use crate::leads::{falls_off, jumps_back, mismatches};
+use crate::loops::CodeLoops;
 use crate::site::Site;
 use crate::state::TypeState;
 use sts_code::{Instr, Program, targets};
 use sts_rules::Cause;
+
+/// Does the instruction only pop and push, and go on to the next place?
+fn is_simple(instr: Instr) -> bool
+    ensures { result ≡ is_simple instr }
+{
+    matches!(
+        instr,
+        Instr::Push(_)
+            | Instr::Pop
+            | Instr::Dup
+            | Instr::Swap
+            | Instr::Load(_)
+            | Instr::Store(_)
+            | Instr::Add
+            | Instr::Sub
+            | Instr::Mul
+            | Instr::Lt
+            | Instr::Eq
+            | Instr::Bound(_)
+            | Instr::OrElse(_)
+            | Instr::Interrupted
+    )
+}
+
+/// The least cause from V3 to V5 of an instruction that only goes on to the next place.
+fn straight_cause(loops: &CodeLoops<'_>, pc: u32, state: &TypeState) -> Option<Cause>
+    requires { pc < length loops.now }
+    ensures { result ≡
+        (if nat_le (length loops.now) (pc + 1) then Some Cause.FallsOff
+        else (if def.is_other_loop loops.now (heads state.now.loops) (pc + 1)
+        then Some Cause.LoopMismatch else None)) }
+{
+    let next = loops.after(pc);
+    if loops.len() <= next {
+        return Some(Cause::FallsOff);
+    }
+    if !loops.are_around(next, state.loops(), 0) {
+        return Some(Cause::LoopMismatch);
+    }
+    None
+}
 
 /// The least cause from V3 to V5.
 fn lead_cause(site: &Site<'_>, state: &TypeState) -> Option<Cause>
@@ -23,6 +68,9 @@ fn lead_cause(site: &Site<'_>, state: &TypeState) -> Option<Cause>
         (if def.mismatches site.now.loops.now site.now.pc site.now.instr state.now
         then Some Cause.LoopMismatch else None))) }
 {
+    if is_simple(site.instr) {
+        return straight_cause(site.loops, site.pc, state);
+    }
     let targets = targets(site.instr);
     let targets = targets.as_slice();
     if falls_off(site, targets) {
@@ -87,6 +135,9 @@ pub(crate) fn least_cause(site: &Site<'_>, state: &TypeState) -> Option<Cause>
     let lead = lead_cause(site, state);
     if lead.is_some() {
         return lead;
+    }
+    if is_simple(site.instr) {
+        return None;
     }
     if is_too_deep(site.instr, state) {
         return Some(Cause::LoopDepth);

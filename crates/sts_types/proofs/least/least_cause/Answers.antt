@@ -1,11 +1,17 @@
 use Rattle.std.proofs.Common.{◌∙◌, sym, ap}
 use Rattle.sts_rules.specs.Causes.{is_illegal}
-use Rattle.sts_types.proofs.Fitting.{lead_found, slot_found, slot_missed}
+use Rattle.sts_types.proofs.Fitting.{lead_found, lead_missed, slot_found, slot_missed}
+use Rattle.sts_types.proofs.SimpleLemmas.{none_later}
 use Rattle.sts_types.proofs.least.least_cause.Goals as goal
 
 pub returns-then-is_some : goal.returns-then-is_some
 returns-then-is_some c =
     lead_found c.args.site.now.program.now c.args.site.now.function c.args.site.now.pc c.args.site.now.instr c.args.state.now c.args.site.now.loops.now c.requires.site.code (sym c.lacks_operands.ensures ∙ c.if-lacks_operands.false) (sym c.overflows.ensures ∙ c.if-overflows.false) c.lead_cause-lead.result c.lead_cause-lead.ensures (sym c.is_some.ensures ∙ c.if-is_some.true)
+
+pub returns-then-is_simple : goal.returns-then-is_simple
+returns-then-is_simple c =
+    none_later c.args.site.now.program.now c.args.site.now.function c.args.site.now.pc c.args.site.now.instr c.args.state.now (sym c.is_simple.ensures ∙ c.if-is_simple.true)
+    ∙ lead_missed c.args.site.now.program.now c.args.site.now.function c.args.site.now.pc c.args.site.now.instr c.args.state.now c.args.site.now.loops.now c.requires.site.code (sym c.lacks_operands.ensures ∙ c.if-lacks_operands.false) (sym c.overflows.ensures ∙ c.if-overflows.false) c.lead_cause-lead.result c.lead_cause-lead.ensures (sym c.is_some.ensures ∙ c.if-is_some.false)
 
 pub returns-then-is_some-2 : goal.returns-then-is_some-2
 returns-then-is_some-2 c =

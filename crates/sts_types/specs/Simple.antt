@@ -1,0 +1,23 @@
+-- Instructions that only pop and push, and go on to the next place (this project's own).
+use Rattle.std.specs.Prelude.{Bool, true, false}
+use Rattle.sts_code.specs.declared.instr.Instr.{Instr}
+use Rattle.sts_code.specs.declared.instr.Instr.TheVariants.{Push, Pop, Dup, Swap, Load, Store, Add}
+use Rattle.sts_code.specs.declared.instr.Instr.TheVariants.{Sub, Mul, Lt, Eq, Bound, OrElse}
+use Rattle.sts_code.specs.declared.instr.Instr.TheVariants.{Interrupted}
+
+abbrev pub is_simple : Instr → Bool
+is_simple (Push k) = true
+is_simple Pop = true
+is_simple Dup = true
+is_simple Swap = true
+is_simple (Load x) = true
+is_simple (Store x) = true
+is_simple Add = true
+is_simple Sub = true
+is_simple Mul = true
+is_simple Lt = true
+is_simple Eq = true
+is_simple (Bound k) = true
+is_simple (OrElse k) = true
+is_simple Interrupted = true
+is_simple _ = false
