@@ -145,6 +145,13 @@ impl World {
         births(&self.families, s).len()
     }
 
+    /// The birth numbers of a scope's subtasks, in fork order.
+    pub fn subtasks(&self, s: u32) -> &[u32]
+        ensures { result.now ≡ kept.births s (lines self.now).tasks }
+    {
+        births(&self.families, s)
+    }
+
     /// Does a subtask of the scope live?
     pub fn any_lives(&self, s: u32) -> bool
         ensures { result ≡ living.any_lives self.now s }
