@@ -34,7 +34,8 @@ impl Model for Chains {
 }
 
 impl Chains {
-    /// No records, and room for `binds` bindings at once. No other call takes memory.
+    /// No records, and room for `binds` bindings at once. No later call can answer that memory ran
+    /// out.
     ///
     /// # Errors
     ///

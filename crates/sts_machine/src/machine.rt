@@ -54,8 +54,8 @@ impl<'p> Model for Machine<'p> {
 }
 
 impl<'p> Machine<'p> {
-    /// The machine before the first event. It has room for the budgets of `main`, so no other call
-    /// takes memory.
+    /// The machine before the first event. It has room for the budgets of `main`. No later call can
+    /// answer that memory ran out.
     ///
     /// # Errors
     ///

@@ -65,8 +65,8 @@ pub struct Stranger<'p> {
 
 impl<'p> Book<'p> {
     /// A book before the first event. It has room for the steps of `main`'s budget and 4,096
-    /// outside events in the journal, and for the tasks of that budget to be out. No other call
-    /// takes memory.
+    /// outside events in the journal, and for the tasks of that budget to be out. No later call
+    /// can answer that memory ran out.
     ///
     /// # Errors
     ///

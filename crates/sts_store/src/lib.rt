@@ -3,8 +3,8 @@
 //!
 //! Contracts see the parts, and speak of the live view that they form. Each call has the same
 //! effect on that view as an instruction, an interrupt or an expiry. Its contract also says how the
-//! parts change that the view doesn't show. Only `Store::with_room` takes memory, and no other call
-//! can fail.
+//! parts change that the view doesn't show. Only `Store::with_room` can fail: it may answer that
+//! memory ran out.
 //!
 //! The law in `agreement` says that each change of the tree is the change of the live view with the
 //! same name.

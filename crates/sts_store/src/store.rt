@@ -52,8 +52,8 @@ impl Model for Store {
 }
 
 impl Store {
-    /// The root task alone, at this frame, with nothing bound, and this much room. No other call
-    /// takes memory.
+    /// The root task alone, at this frame, with nothing bound, and this much room. No later call
+    /// can answer that memory ran out.
     ///
     /// # Errors
     ///

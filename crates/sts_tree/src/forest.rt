@@ -107,8 +107,8 @@ impl<E: Drop> Forest<E> {
     ghost use Rattle.sts_joiners.specs.Tallied.{ends_told, with_end};
     ghost use Rattle.sts_tree.specs.declared.record.Scope.{Scope as AnyScope};
 
-    /// The root task alone, ready, with room for `tasks` tasks and `scopes` scopes. No other call
-    /// takes memory.
+    /// The root task alone, ready, with room for `tasks` tasks and `scopes` scopes. No later call
+    /// can answer that memory ran out.
     ///
     /// # Errors
     ///

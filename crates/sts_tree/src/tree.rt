@@ -42,7 +42,7 @@ impl<E: Drop> Tree<E> {
     ghost use Rattle.sts_tree.specs.declared.record.Scope.{Scope as AnyScope};
 
     /// The root task alone, which can step, with room for `tasks` tasks and `scopes` scopes. No
-    /// other call takes memory.
+    /// later call can answer that memory ran out.
     ///
     /// # Errors
     ///
