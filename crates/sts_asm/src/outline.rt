@@ -1,7 +1,7 @@
 //! The functions of a text with their labels and lines, before names are looked up.
 
 ghost use Rattle.std.specs.Prelude.{◌≡◌, ◌∷◌, ◌++◌, ◌+◌, ◌<◌, ◌≤◌, ◌^◌, [], length, option_map};
-ghost use Rattle.std.specs.Prelude.{is_some, None, OnOk, Ok};
+ghost use Rattle.std.specs.Prelude.{is_some, None, OnOk, Ok, IsTrue, true};
 ghost use Rattle.std.specs.List.{list_all, position, before_first};
 ghost use Rattle.sts_text.specs.Words.{words as words_in};
 ghost use Rattle.sts_asm.specs.Fault.{Steps};
@@ -69,6 +69,14 @@ impl<'a> Lines<'a> {
         ensures { result ≡ length self.now }
     {
         self.sentences.len()
+    }
+
+    /// Takes room for `count` lines more.
+    fn reserve(&mut self, count: usize) -> Result<(), AllocError>
+        ensures { OnOk result (self.new ≡ self.old) }
+    {
+        self.sentences.reserve(count)?;
+        self.unnamed.reserve(count)
     }
 
     fn push(&mut self, at: u32, text: &'a [u8], unnamed: Instr) -> Result<(), AllocError>
@@ -293,6 +301,14 @@ fn all_plain(line: &[u8]) -> bool
     line.iter().all(|b| matches!(*b, b' '..=b'~') && *b != b';')
 }
 
+/// Are the bytes of this line plain? `known` says that they are known to be.
+fn is_plain_line(line: &[u8], known: bool) -> bool
+    requires { IsTrue known → list_all is_plain line.now ≡ true }
+    ensures { result ≡ list_all is_plain line.now }
+{
+    known || all_plain(line)
+}
+
 fn semicolon_in(line: &[u8]) -> Option<usize>
     ensures { result ≡ position is_semicolon line.now }
 {
@@ -330,6 +346,14 @@ impl<'a> Outline<'a> {
         self.current.is_some()
     }
 
+    /// How many instructions the function before has, as functions of a text are often alike.
+    fn last_length(&self) -> usize {
+        match self.done.last() {
+            Some(draft) => draft.code.len(),
+            None => 0,
+        }
+    }
+
     #[inline(never)]
     fn profile(&mut self, rest: &mut Words<'a>) -> Result<(), AsmKind>
         ensures steps { Steps result self.new (def.profiled self.old rest.old) }
@@ -348,7 +372,8 @@ impl<'a> Outline<'a> {
         if self.current.is_some() {
             return Err(AsmKind::Unclosed);
         }
-        let draft = header_at(self.alloc, rest)?;
+        let mut draft = header_at(self.alloc, rest)?;
+        draft.code.reserve(self.last_length())?;
         let at = self.done.len() as u32;
         self.functions.push(draft.name.as_bytes(), at)?;
         self.current = Some(draft);
@@ -415,14 +440,28 @@ impl<'a> Outline<'a> {
     /// # Errors
     ///
     /// The kind of the line's fault, or memory ran out.
-    #[tactic(auto, using(crate::proofs::PlainLemmas::plain_lines))]
     pub fn line(&mut self, at: u32, line: &'a [u8]) -> Result<(), AsmKind>
         requires { size_of self.old < 2 ^ 32 }
         ensures steps { Steps result self.new (def.line_read at self.old line.now) }
         ensures grows { OnOk result (size_of self.new ≤ size_of self.old + 1) }
     {
+        self.read(at, line, false)
+    }
+
+    /// Reads the line of this number. `known` says that its bytes are known to be plain.
+    ///
+    /// # Errors
+    ///
+    /// The kind of the line's fault, or memory ran out.
+    #[tactic(auto, using(crate::proofs::PlainLemmas::plain_lines))]
+    pub(crate) fn read(&mut self, at: u32, line: &'a [u8], known: bool) -> Result<(), AsmKind>
+        requires size { size_of self.old < 2 ^ 32 }
+        requires known { IsTrue known → list_all is_plain line.now ≡ true }
+        ensures steps { Steps result self.new (def.line_read at self.old line.now) }
+        ensures grows { OnOk result (size_of self.new ≤ size_of self.old + 1) }
+    {
         let mut text = line;
-        if !all_plain(line) {
+        if !is_plain_line(line, known) {
             if !all_allowed(line) {
                 return Err(AsmKind::NotAscii);
             }

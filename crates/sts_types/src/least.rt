@@ -1,7 +1,7 @@
 //! The least cause that holds at an instruction.
 
-ghost use Rattle.std.specs.Prelude.{◌≡◌, ◌<◌, ◌+◌, length, option_to_list, if◌then◌else◌, Some, None};
-ghost use Rattle.std.specs.Prelude.{nat_le};
+ghost use Rattle.std.specs.Prelude.{◌≡◌, ◌<◌, ◌+◌, length, option_to_list, if◌then◌else◌, Some};
+ghost use Rattle.std.specs.Prelude.{None, nat_le};
 ghost use Rattle.sts_types.specs.Simple.{is_simple};
 ghost use Rattle.sts_types.specs.Site.{IsSite};
 ghost use Rattle.sts_rules.specs.Causes as def;
