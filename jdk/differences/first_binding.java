@@ -5,7 +5,7 @@ void main() throws InterruptedException {
     ScopedValue<Integer> key = ScopedValue.newInstance();
     for (var time : List.of("first", "second")) {
         try (var scope = StructuredTaskScope.open()) {
-            ScopedValue.where(key, 1).run(() -> { });      // the thread's first binding, the first time
+            ScopedValue.where(key, 1).run(() -> { });      // in the first run of this block: the thread's first binding
             scope.fork(() -> 1);
             scope.join();
             IO.println("forked, the " + time + " time");
