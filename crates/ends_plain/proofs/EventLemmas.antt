@@ -10,19 +10,13 @@ use Rattle.std.proofs.lemmas.List.Elements.{Contains-append_left, Contains-appen
 use Rattle.sts_model.specs.declared.event.Event.{Event}
 use Rattle.sts_model.specs.declared.event.Event.TheVariants as event
 use Rattle.sts_code.specs.Program.{Program}
+pub use Rattle.ends_search.proofs.SearchLemmas.{split}
 use Rattle.sts_model.specs.World.{World, task_at, scope_at, no_task, no_scope, State, Running}
 use Rattle.sts_model.specs.Living.{lives}
 use Rattle.sts_model.specs.Waiting.{can_step, can_go, stand_at}
 use Rattle.sts_model.specs.Outside.{can_expire}
 use Rattle.ends_plain.specs.declared.config.Setting.{Setting}
 use Rattle.ends_plain.specs.Configs.{AreThose, steps_now, interrupts_now, expires_now, can_come}
-
-pub split : (k n : ℕ) → k < n + 1 → (k < n) ⊎ (k ≡ n)
-split k n h = by (ltb k n) refl
-  where
-    by : (b : Bool) → ltb k n ≡ b → (k < n) ⊎ (k ≡ n)
-    by true e = inl (ltb-true k n e)
-    by false e = inr (omega (arith, ltb-false k n e))
 
 -- those of the first n numbers that pass
 pub record Below (mk : ℕ → Event) (test : Event → Bool) (n : ℕ) (es : List Event) : Type 0 where

@@ -1,8 +1,7 @@
 -- How a search grows, and that a closed one covers all that events lead to.
 use Rattle.std.proofs.Common.{◌≡◌, ℕ, ◌+◌, ◌<◌, ◌≤◌, ◌⊎◌, List, [], ◌∷◌, ◌++◌, length, fold, refl, ap, sym, ◌∙◌, arith, inl, inr, subst}
 use Rattle.std.proofs.Common.{length-append, reverse, append_assoc, Bool, true, false}
-use Rattle.std.proofs.Math.Dec.{ltb}
-use Rattle.std.proofs.lemmas.Bool.{ltb-true, ltb-false}
+use borrow.Author.Count.{below_more}
 use Rattle.std.proofs.lemmas.List.{get_or_default}
 use Rattle.std.proofs.lemmas.List.{append-nil}
 use Rattle.std.specs.Prelude.{slice_index_or}
@@ -17,11 +16,7 @@ use Rattle.ends_search.specs.Search.{IsTraced, IsSearched, ComesFrom, Covers, Gr
 
 -- a place in a longer list is an older one or the last
 pub split : (k n : ℕ) → k < n + 1 → (k < n) ⊎ (k ≡ n)
-split k n h = by (ltb k n) refl
-  where
-    by : (b : Bool) → ltb k n ≡ b → (k < n) ⊎ (k ≡ n)
-    by true e = inl (ltb-true k n e)
-    by false e = inr (omega (arith, ltb-false k n e))
+split k n h = below_more (λ j. (j < n) ⊎ (j ≡ n)) n (λ j less. inl less) (inr refl) k h
 
 -- ---- one state more
 

@@ -35,7 +35,7 @@ use Rattle.laws_runs.proofs.BirthLemmas.{more_scopes, new_scope, opener, new-own
 use Rattle.laws_accepted.specs.Typed.{FitsOpen, FitsEntry, FitsSlot, Fits, Zips, Covers}
 use Rattle.laws_accepted.proofs.Zips.{zips-map, both-set}
 use Rattle.laws_accepted.proofs.Same.{Same, Onward, entry-on, slot-on, fits-same}
-use Rattle.laws_accepted.proofs.Stands.{Stands, Lands, not_closing}
+use Rattle.laws_accepted.proofs.Stands.{Stands, Lands, lands-forward, not_closing}
 use Rattle.laws_accepted.proofs.LocalRows.{height-moved}
 use Rattle.laws_accepted.proofs.FrameRows.{kind-own, empty-owns_nothing, own-set, holds-not}
 
@@ -74,23 +74,18 @@ apart-set xs x m old below y z n d e = by (owned-set xs x m y n d) (owned-set xs
 
 pub lands-open : (p : Program) (w : World) (t x : ℕ) (joiner : Joiner) (timed : Bool) (s : TypeState) → Stands p w (task_at w t).frame (Open x joiner timed) s → Same w (more_scopes w (new_scope w t joiner timed)) (task_at w t).frame → Covers p (task_at w t).frame.function s.entries (environment_of (task_at w t) w) → x < 16 → ((y n : ℕ) → slot (task_at w t).frame y ≡ Own n → n < length w.scopes) → Lands p (more_scopes w (new_scope w t joiner timed)) (task_at w t).frame (opener w (task_at w t).frame x)
 lands-open p w t x joiner timed s st same covers less below =
-    record {
-      function = refl;
-      state = after;
-      reached = st.leads (f.pc + 1) after (inl (refl, refl));
-      fits =
-          record {
-            height = st.fits.height;
-            loops = st.fits.loops;
-            entries = (opened, zips-map (FitsEntry p m f) (FitsEntry p m g) f.entries s.entries (entry-on p m f g on) old.entries);
-            slots = λ y.
-                both-set (FitsSlot m g) f.slots s.slots x y (Own (length w.scopes)) Empty kind_of.Own kind_of.Empty (st.fits.wide ∙ sym st.fits.typed_wide) tt
-                (λ j. slot-on p m f g on (slot f j) (kind s j) (old.slots j));
-            apart = apart-set f.slots x (length w.scopes) st.fits.apart below;
-            wide = length-set f.slots x (Own (length w.scopes)) ∙ st.fits.wide;
-            typed_wide = length-set s.slots x kind_of.Own ∙ st.fits.typed_wide;
-          };
-    }
+    lands-forward p w _ _ _ (Open x joiner timed) s after st refl refl (inl (refl, refl))
+    (record {
+      height = st.fits.height;
+      loops = st.fits.loops;
+      entries = (opened, zips-map (FitsEntry p m f) (FitsEntry p m g) f.entries s.entries (entry-on p m f g on) old.entries);
+      slots = λ y.
+          both-set (FitsSlot m g) f.slots s.slots x y (Own (length w.scopes)) Empty kind_of.Own kind_of.Empty (st.fits.wide ∙ sym st.fits.typed_wide) tt
+          (λ j. slot-on p m f g on (slot f j) (kind s j) (old.slots j));
+      apart = apart-set f.slots x (length w.scopes) st.fits.apart below;
+      wide = length-set f.slots x (Own (length w.scopes)) ∙ st.fits.wide;
+      typed_wide = length-set s.slots x kind_of.Own ∙ st.fits.typed_wide;
+    })
   where
     f : Frame
     f = (task_at w t).frame

@@ -42,7 +42,7 @@ use Rattle.laws_accepted.specs.Typed.{closes, fits_phase, FitsOpen, FitsEntry, F
 use Rattle.laws_accepted.proofs.Zips.{zips-map, zips-without, zips-drop, mapped}
 use Rattle.laws_accepted.proofs.Same.{Knows, scope-on, slot-same}
 use Rattle.laws_accepted.proofs.Others.{knows-later}
-use Rattle.laws_accepted.proofs.Stands.{Stands, Lands}
+use Rattle.laws_accepted.proofs.Stands.{Stands, Lands, lands-forward}
 use Rattle.laws_accepted.proofs.FrameRows.{kind-own, holds-not}
 use Rattle.laws_accepted.proofs.JoinRows.{Landed}
 
@@ -68,9 +68,7 @@ pub record AtClose (p : Program) (w : World) (t x n : ℕ) (s : TypeState) : Typ
 
 closing-fits : (k : TypedPhase) (expired closing : Bool) → closing ≡ true → fits_phase closing k phase.Closing expired ≡ true
 closing-fits Opened expired closing e = e
-closing-fits Attempted expired closing e = e
-closing-fits Joined expired closing e = e
-closing-fits Late expired closing e = e
+closing-fits _ expired closing e = e
 
 -- the frame is at the close of this slot
 at_this_close : (p : Program) (f : Frame) (x y : ℕ) → instr_at p f ≡ Some (Close x) → y ≡ x → closes (instr_at p f) y ≡ true
@@ -204,21 +202,16 @@ second false b d e = cc
 lands-closed : (p : Program) (w : World) (t x n : ℕ) (s : TypeState) → AtClose p w t x n s → Landed p w t (closed (cancel w n) t (task_at w t).frame n)
 lands-closed p w t x n s h later =
     subst (λ (y : Frame). Lands p v f y) (sym frame)
+    (lands-forward p w v f g (Close x) s after st refl refl (inl (refl, refl))
     (record {
-      function = refl;
-      state = after;
-      reached = st.leads (f.pc + 1) after (inl (refl, refl));
-      fits =
-          record {
-            height = st.fits.height;
-            loops = st.fits.loops;
-            entries = zips-without (cause.is_scope_in x) (FitsEntry p w f) (FitsEntry p v g) (drop 1 f.entries) (drop 1 s.entries) (only-first p w f f.entries s.entries x st.fits.entries first) (entry-closed p w v f g x n st.at h.own st.fits.apart keeps refl (λ m never. other-scope w n m phase.Closed never)) (zips-drop (FitsEntry p w f) f.entries s.entries st.fits.entries);
-            slots = slots;
-            apart = λ y z j d e. st.fits.apart y z j (was y j d) (was z j e);
-            wide = length-map f.slots _ ∙ st.fits.wide;
-            typed_wide = length-set (map (clear_kind x) s.slots) x kind_of.Empty ∙ length-map s.slots _ ∙ st.fits.typed_wide;
-          };
-    })
+      height = st.fits.height;
+      loops = st.fits.loops;
+      entries = zips-without (cause.is_scope_in x) (FitsEntry p w f) (FitsEntry p v g) (drop 1 f.entries) (drop 1 s.entries) (only-first p w f f.entries s.entries x st.fits.entries first) (entry-closed p w v f g x n st.at h.own st.fits.apart keeps refl (λ m never. other-scope w n m phase.Closed never)) (zips-drop (FitsEntry p w f) f.entries s.entries st.fits.entries);
+      slots = slots;
+      apart = λ y z j d e. st.fits.apart y z j (was y j d) (was z j e);
+      wide = length-map f.slots _ ∙ st.fits.wide;
+      typed_wide = length-set (map (clear_kind x) s.slots) x kind_of.Empty ∙ length-map s.slots _ ∙ st.fits.typed_wide;
+    }))
   where
     f : Frame
     f = (task_at w t).frame

@@ -49,6 +49,7 @@ use Rattle.laws_runs.proofs.BirthLemmas.{born_alive, new_scope, opener, more_tas
 use Rattle.laws_runs.proofs.FrameLemmas.{own_slot, at_own-is}
 use Rattle.laws_runs.proofs.EffectLemmas.{first_no, alive_in, dead_in}
 use Rattle.laws_runs.proofs.EventLemmas.{Also}
+use Rattle.laws_runs.proofs.EntryLemmas.{tell_both}
 use Rattle.laws_runs.specs.Runs.{Does}
 use Rattle.laws_accepted.proofs.TimelyLemmas.{Timely}
 use Rattle.sts_budget.proofs.CheckedLemmas.{is_checked}
@@ -71,19 +72,12 @@ use Rattle.laws_accepted.proofs.RangeLemmas.{opens_in_range}
 pub same_instr : (p : Program) (f : Frame) (i : Instr) → instr_at p f ≡ Some i → program.instr_at (code p f) f.pc ≡ i
 same_instr p f i e = get_or_from_slice_get (code p f) f.pc i Ret e
 
-third_no : (a b c : Bool) → (a || b || c) ≡ false → c ≡ false
-third_no a b c e = (or_parts (a || b) c e).1
-
-second_no : (a b c : Bool) → (a || b || c) ≡ false → b ≡ false
-second_no a b c e = (or_parts a b (or_parts (a || b) c e).0).1
-
 alike-tell : (w : World) (t : ℕ) (o : Option ℕ) (end : End) → Alike w (tell w t o end)
-alike-tell w t None end = alike-refl w
-alike-tell w t (Some s) end =
+alike-tell w t o end =
+    tell_both w t o end (λ (x : World). Alike w x) (alike-refl w)
+    (λ s.
     let v : World = with_scope w s (told (scope_at w s) t end) in
-    cond_both (scope_at w s).cancelled w (decide v s) (λ (x : World). Alike w x)
-    (λ e. alike-refl w)
-    (λ e. alike-trans w v (decide v s) (alike-scope w s (told (scope_at w s) t end))
+    alike-trans w v (decide v s) (alike-scope w s (told (scope_at w s) t end))
     (cond_both (cancels (scope_at v s).joiner (ends (scope_at v s))) (cancel v s) v (λ (x : World). Alike v x) (λ d. alike-cancel v s) (λ d. alike-refl v)))
 
 module _ (Typed : Type 0) (p : Program) (budgets : List Budgets) (w : World) (n t : ℕ) (is : IsCosted Typed p budgets) (o : Good Typed p budgets w n) (facts : Also Timely w) where
@@ -290,10 +284,7 @@ module _ (Typed : Type 0) (p : Program) (budgets : List Budgets) (w : World) (n 
       }
     where
       no_scope_there : (q : Slot) (s : ℕ) → is_sub q ≡ true → q ≡ slots.Own s → ⊥
-      no_scope_there slots.Empty s e h = cc
-      no_scope_there (slots.Own r) s e h = cc
-      no_scope_there (slots.Lent r) s e h = cc
-      no_scope_there (slots.Sub r) s e h = cc
+      no_scope_there q s e h = let none : false ≡ true = ap is_sub (sym h) ∙ e in cc
 
   closed_moves : (x s : ℕ) → Does p w t (Close x) → not (innermost (is_entry_of s) (task_at w t).frame.entries) ≡ false → Moves p budgets w (closed (cancel w s) t (task_at w t).frame s) t (Close x)
   closed_moves x s d first =

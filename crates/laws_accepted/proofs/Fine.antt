@@ -86,33 +86,31 @@ both-hold false b d e = cc
 
 -- ---- slots and their kinds
 
+-- a test of a slot and one of its kind that agree on each of the four kinds
+record IsTest (test : Slot → Bool) (kind_test : SlotKind → Bool) : Type 0 where
+  empty : test Empty ≡ kind_test kind_of.Empty
+  own : (n : ℕ) → test (Own n) ≡ kind_test kind_of.Own
+  lent : (n : ℕ) → test (Lent n) ≡ kind_test kind_of.Lent
+  sub : (u y : ℕ) (state : Known) → test (Sub u) ≡ kind_test (kind_of.Sub y state)
+
+same-test : (test : Slot → Bool) (kind_test : SlotKind → Bool) (w : World) (f : Frame) (q : Slot) (k : SlotKind) → IsTest test kind_test → FitsSlot w f q k → test q ≡ kind_test k
+same-test test kind_test w f Empty kind_of.Empty i h = i.empty
+same-test test kind_test w f (Own n) kind_of.Own i h = i.own n
+same-test test kind_test w f (Lent n) kind_of.Lent i h = i.lent n
+same-test test kind_test w f (Sub u) (kind_of.Sub y state) i h = i.sub u y state
+same-test test kind_test w f q k i h = absurd h
+
 same-scope : (w : World) (f : Frame) (q : Slot) (k : SlotKind) → FitsSlot w f q k → misuse.is_scope q ≡ (cause.is_own k || cause.is_lent k)
-same-scope w f Empty kind_of.Empty h = refl
-same-scope w f (Own n) kind_of.Own h = refl
-same-scope w f (Lent n) kind_of.Lent h = refl
-same-scope w f (Sub u) (kind_of.Sub y state) h = refl
-same-scope w f q k h = absurd h
+same-scope w f q k h = same-test misuse.is_scope (λ x. cause.is_own x || cause.is_lent x) w f q k (record { empty = refl; own = λ n. refl; lent = λ n. refl; sub = λ u y state. refl }) h
 
 same-lent : (w : World) (f : Frame) (q : Slot) (k : SlotKind) → FitsSlot w f q k → misuse.is_lent q ≡ cause.is_lent k
-same-lent w f Empty kind_of.Empty h = refl
-same-lent w f (Own n) kind_of.Own h = refl
-same-lent w f (Lent n) kind_of.Lent h = refl
-same-lent w f (Sub u) (kind_of.Sub y state) h = refl
-same-lent w f q k h = absurd h
+same-lent w f q k h = same-test misuse.is_lent cause.is_lent w f q k (record { empty = refl; own = λ n. refl; lent = λ n. refl; sub = λ u y state. refl }) h
 
 same-sub : (w : World) (f : Frame) (q : Slot) (k : SlotKind) → FitsSlot w f q k → misuse.is_sub q ≡ cause.is_sub k
-same-sub w f Empty kind_of.Empty h = refl
-same-sub w f (Own n) kind_of.Own h = refl
-same-sub w f (Lent n) kind_of.Lent h = refl
-same-sub w f (Sub u) (kind_of.Sub y state) h = refl
-same-sub w f q k h = absurd h
+same-sub w f q k h = same-test misuse.is_sub cause.is_sub w f q k (record { empty = refl; own = λ n. refl; lent = λ n. refl; sub = λ u y state. refl }) h
 
 same-empty : (w : World) (f : Frame) (q : Slot) (k : SlotKind) → FitsSlot w f q k → misuse.is_empty q ≡ cause.is_empty k
-same-empty w f Empty kind_of.Empty h = refl
-same-empty w f (Own n) kind_of.Own h = refl
-same-empty w f (Lent n) kind_of.Lent h = refl
-same-empty w f (Sub u) (kind_of.Sub y state) h = refl
-same-empty w f q k h = absurd h
+same-empty w f q k h = same-test misuse.is_empty cause.is_empty w f q k (record { empty = refl; own = λ n. refl; lent = λ n. refl; sub = λ u y state. refl }) h
 
 at-slots : (w : World) (f : Frame) (s : TypeState) (o : Option ℕ) (test : Slot → Bool) (test' : SlotKind → Bool) → ((y : ℕ) → test (slot f y) ≡ test' (kind s y)) → misuse.at_slot f o test ≡ cause.at_slot s o test'
 at-slots w f s None test test' same = refl
@@ -159,15 +157,11 @@ fine-loops p w f i s st = refl
 -- a test of an own scope fails if it fails of each scope that is owned
 at_own-fails : (w : World) (q : Slot) (test : ℕ → Scope → Bool) → ((n : ℕ) → q ≡ Own n → test n (scope_at w n) ≡ false) → misuse.at_own w q test ≡ false
 at_own-fails w (Own n) test h = h n refl
-at_own-fails w Empty test h = refl
-at_own-fails w (Lent n) test h = refl
-at_own-fails w (Sub u) test h = refl
+at_own-fails w _ test h = refl
 
 at_sub-fails : (w : World) (q : Slot) (test : ℕ → Scope → Bool) → ((u : ℕ) → q ≡ Sub u → test u (scope_of w u) ≡ false) → misuse.at_sub w q test ≡ false
 at_sub-fails w (Sub u) test h = h u refl
-at_sub-fails w Empty test h = refl
-at_sub-fails w (Own n) test h = refl
-at_sub-fails w (Lent n) test h = refl
+at_sub-fails w _ test h = refl
 
 -- the scope of the typestate passes no test of causes
 passes-not : (s : TypeState) (x : ℕ) (r : TypedScope) (test : TypedScope → Bool) → cause.is_own (kind s x) ≡ true → scope_in s.entries x ≡ Some r → cause.at_own s x (cause.passes test) ≡ false → test r ≡ false

@@ -58,9 +58,7 @@ owns_still xs (Some y) u x s empty mine = at_set (λ (q : Slot). q ≡ slots.Own
   where
     not_empty : (q : Slot) → is_empty q ≡ true → q ≡ slots.Own s → ⊥
     not_empty slots.Empty e d = cc
-    not_empty (slots.Own r) e d = cc
-    not_empty (slots.Lent r) e d = cc
-    not_empty (slots.Sub r) e d = cc
+    not_empty _ e d = cc
 
 length-with_slot : (xs : List Slot) (h : Option ℕ) (u : ℕ) → length (with_slot xs h (slots.Sub u)) ≡ length xs
 length-with_slot xs None u = refl

@@ -32,7 +32,7 @@ use Rattle.laws_runs.proofs.FrameLemmas.{owns-set}
 use Rattle.laws_accepted.specs.Typed.{closes, is_known, FitsEntry, FitsSlot}
 use Rattle.laws_accepted.proofs.Zips.{zips-map, zips-drop, both-set}
 use Rattle.laws_accepted.proofs.Same.{Onward, entry-on, slot-on}
-use Rattle.laws_accepted.proofs.Stands.{Stands, Lands, not_closing, onward-slots}
+use Rattle.laws_accepted.proofs.Stands.{Stands, Lands, lands-forward, not_closing, onward-slots}
 use Rattle.laws_accepted.proofs.LocalRows.{height-moved}
 
 -- ---- what a slot of a kind holds
@@ -46,24 +46,13 @@ kind-own w f Empty k n h e = cc
 kind-own w f (Lent m) k n h e = cc
 kind-own w f (Sub u) k n h e = cc
 
-pub own-kind : (w : World) (f : Frame) (x : Slot) (k : SlotKind) → FitsSlot w f x k → cause.is_own k ≡ true → (n : ℕ) × (x ≡ Own n)
-own-kind w f (Own m) k h e = (m, refl)
-own-kind w f Empty kind_of.Own h e = absurd h
-own-kind w f (Lent m) kind_of.Own h e = absurd h
-own-kind w f (Sub u) kind_of.Own h e = absurd h
-own-kind w f x k h e = cc
-
 sub-owns_nothing : (k : SlotKind) → cause.is_sub k ≡ true → cause.is_own k ≡ true → ⊥
 sub-owns_nothing kind_of.Own d e = cc
-sub-owns_nothing (kind_of.Sub y state) d e = cc
-sub-owns_nothing kind_of.Empty d e = cc
-sub-owns_nothing kind_of.Lent d e = cc
+sub-owns_nothing _ d e = cc
 
 pub empty-owns_nothing : (k : SlotKind) → cause.is_empty k ≡ true → cause.is_own k ≡ true → ⊥
 empty-owns_nothing kind_of.Own d e = cc
-empty-owns_nothing (kind_of.Sub y state) d e = cc
-empty-owns_nothing kind_of.Empty d e = cc
-empty-owns_nothing kind_of.Lent d e = cc
+empty-owns_nothing _ d e = cc
 
 pub holds-not : (b : Bool) → not b ≡ false → b ≡ true
 holds-not true e = refl
@@ -141,23 +130,18 @@ lands-case p w f h success failed s st (Some (Failed c)) e = lands-known p w f (
 
 pub lands-forget : (p : Program) (w : World) (f : Frame) (h : ℕ) (s : TypeState) → Stands p w f (Forget h) s → Lands p w f (record (steps f 0 []) { slots = slice_set f.slots h Empty })
 lands-forget p w f h s st =
-    record {
-      function = refl;
-      state = record s { slots = slice_set s.slots h kind_of.Empty };
-      reached = st.leads (f.pc + 1) (record s { slots = slice_set s.slots h kind_of.Empty }) (inl (refl, refl));
-      fits =
-          record {
-            height = st.fits.height;
-            loops = st.fits.loops;
-            entries = zips-map (FitsEntry p w f) (FitsEntry p w g) f.entries s.entries (entry-on p w f g on) st.fits.entries;
-            slots = λ y.
-                both-set (FitsSlot w g) f.slots s.slots h y Empty Empty kind_of.Empty kind_of.Empty (st.fits.wide ∙ sym st.fits.typed_wide) tt
-                (λ j. slot-on p w f g on (slot f j) (kind s j) (st.fits.slots j));
-            apart = λ x y n d e. st.fits.apart x y n (owns-set f.slots h Empty (λ r q. cc) x n d) (owns-set f.slots h Empty (λ r q. cc) y n e);
-            wide = length-set f.slots h Empty ∙ st.fits.wide;
-            typed_wide = length-set s.slots h kind_of.Empty ∙ st.fits.typed_wide;
-          };
-    }
+    lands-forward p w _ _ _ (Forget h) s (record s { slots = slice_set s.slots h kind_of.Empty }) st refl refl (inl (refl, refl))
+    (record {
+      height = st.fits.height;
+      loops = st.fits.loops;
+      entries = zips-map (FitsEntry p w f) (FitsEntry p w g) f.entries s.entries (entry-on p w f g on) st.fits.entries;
+      slots = λ y.
+          both-set (FitsSlot w g) f.slots s.slots h y Empty Empty kind_of.Empty kind_of.Empty (st.fits.wide ∙ sym st.fits.typed_wide) tt
+          (λ j. slot-on p w f g on (slot f j) (kind s j) (st.fits.slots j));
+      apart = λ x y n d e. st.fits.apart x y n (owns-set f.slots h Empty (λ r q. cc) x n d) (owns-set f.slots h Empty (λ r q. cc) y n e);
+      wide = length-set f.slots h Empty ∙ st.fits.wide;
+      typed_wide = length-set s.slots h kind_of.Empty ∙ st.fits.typed_wide;
+    })
   where
     g : Frame
     g = record (steps f 0 []) { slots = slice_set f.slots h Empty }
@@ -177,60 +161,45 @@ lands-bind p w f k s st =
     let g : Frame = record (steps f 1 []) { entries = entry.Binding k (operand f 0) ∷ f.entries } in
     let x : TypeState = record (moved p (Bind k) s) { entries = typed.Binding k ∷ s.entries } in
     let on = onward-slots p f g refl refl (not_closing p f (Bind k) st.at (λ y. refl)) in
-    record {
-      function = refl;
-      state = x;
-      reached = st.leads (f.pc + 1) x (inl (refl, refl));
-      fits =
-          record {
-            height = let n = height-moved f.operands [] 1 s.height st.fits.height in omega (arith, n);
-            loops = st.fits.loops;
-            entries = (refl, zips-map (FitsEntry p w f) (FitsEntry p w g) f.entries s.entries (entry-on p w f g on) st.fits.entries);
-            slots = λ y. slot-on p w f g on (slot f y) (kind s y) (st.fits.slots y);
-            apart = st.fits.apart;
-            wide = st.fits.wide;
-            typed_wide = st.fits.typed_wide;
-          };
-    }
+    lands-forward p w _ _ _ (Bind k) s x st refl refl (inl (refl, refl))
+    (record {
+      height = let n = height-moved f.operands [] 1 s.height st.fits.height in omega (arith, n);
+      loops = st.fits.loops;
+      entries = (refl, zips-map (FitsEntry p w f) (FitsEntry p w g) f.entries s.entries (entry-on p w f g on) st.fits.entries);
+      slots = λ y. slot-on p w f g on (slot f y) (kind s y) (st.fits.slots y);
+      apart = st.fits.apart;
+      wide = st.fits.wide;
+      typed_wide = st.fits.typed_wide;
+    })
 
 pub lands-unbind : (p : Program) (w : World) (f : Frame) (s : TypeState) → Stands p w f Unbind s → Lands p w f (record (steps f 0 []) { entries = drop 1 f.entries })
 lands-unbind p w f s st =
     let g : Frame = record (steps f 0 []) { entries = drop 1 f.entries } in
     let x : TypeState = record s { entries = drop 1 s.entries } in
     let on = onward-slots p f g refl refl (not_closing p f Unbind st.at (λ y. refl)) in
-    record {
-      function = refl;
-      state = x;
-      reached = st.leads (f.pc + 1) x (inl (refl, refl));
-      fits =
-          record {
-            height = st.fits.height;
-            loops = st.fits.loops;
-            entries = zips-drop (FitsEntry p w g) f.entries s.entries (zips-map (FitsEntry p w f) (FitsEntry p w g) f.entries s.entries (entry-on p w f g on) st.fits.entries);
-            slots = λ y. slot-on p w f g on (slot f y) (kind s y) (st.fits.slots y);
-            apart = st.fits.apart;
-            wide = st.fits.wide;
-            typed_wide = st.fits.typed_wide;
-          };
-    }
+    lands-forward p w _ _ _ Unbind s x st refl refl (inl (refl, refl))
+    (record {
+      height = st.fits.height;
+      loops = st.fits.loops;
+      entries = zips-drop (FitsEntry p w g) f.entries s.entries (zips-map (FitsEntry p w f) (FitsEntry p w g) f.entries s.entries (entry-on p w f g on) st.fits.entries);
+      slots = λ y. slot-on p w f g on (slot f y) (kind s y) (st.fits.slots y);
+      apart = st.fits.apart;
+      wide = st.fits.wide;
+      typed_wide = st.fits.typed_wide;
+    })
 
 pub lands-orelse : (p : Program) (w : World) (f : Frame) (k : ℕ) (s : TypeState) (x : ℤ) → Stands p w f (OrElse k) s → Lands p w f (steps f 1 (x ∷ []))
 lands-orelse p w f k s x h =
     let g : Frame = steps f 1 (x ∷ []) in
     let y : TypeState = moved p (OrElse k) s in
     let on = onward-slots p f g refl refl (not_closing p f (OrElse k) h.at (λ z. refl)) in
-    record {
-      function = refl;
-      state = y;
-      reached = h.leads (f.pc + 1) y (inl (refl, refl));
-      fits =
-          record {
-            height = height-moved f.operands (x ∷ []) 1 s.height h.fits.height;
-            loops = h.fits.loops;
-            entries = zips-map (FitsEntry p w f) (FitsEntry p w g) f.entries s.entries (entry-on p w f g on) h.fits.entries;
-            slots = λ z. slot-on p w f g on (slot f z) (kind s z) (h.fits.slots z);
-            apart = h.fits.apart;
-            wide = h.fits.wide;
-            typed_wide = h.fits.typed_wide;
-          };
-    }
+    lands-forward p w _ _ _ (OrElse k) s y h refl refl (inl (refl, refl))
+    (record {
+      height = height-moved f.operands (x ∷ []) 1 s.height h.fits.height;
+      loops = h.fits.loops;
+      entries = zips-map (FitsEntry p w f) (FitsEntry p w g) f.entries s.entries (entry-on p w f g on) h.fits.entries;
+      slots = λ z. slot-on p w f g on (slot f z) (kind s z) (h.fits.slots z);
+      apart = h.fits.apart;
+      wide = h.fits.wide;
+      typed_wide = h.fits.typed_wide;
+    })

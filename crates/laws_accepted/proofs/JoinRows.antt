@@ -195,18 +195,14 @@ no_failure (c ∷ cs) u end none e = by (c.task == u) e (or_parts _ _ none) (no_
     by false e h next = next h.1 e
 
 not_leaving : (ph : Phase) → can_join ph ≡ true → is_leaving ph ≡ false
-not_leaving phase.Opened e = refl
-not_leaving phase.Attempted e = refl
-not_leaving phase.Joined e = refl
 not_leaving phase.Closing e = cc
 not_leaving phase.Closed e = cc
+not_leaving _ e = refl
 
 asks_of_all : (j : Joiner) (es : List End) → is_all_success j ≡ true → cancels j es ≡ list_any joining.is_failure es
 asks_of_all AllSucceed es e = refl
 asks_of_all AwaitOk es e = refl
-asks_of_all AnySucceeds es e = cc
-asks_of_all AwaitAll es e = cc
-asks_of_all (Until q) es e = cc
+asks_of_all _ es e = cc
 
 -- the joiner awaits all successes, and none failed
 pub all_succeeded : (w : World) (n : ℕ) → Also Orderly w → n < length w.scopes → can_join (scope_at w n).phase ≡ true → (scope_at w n).expired ≡ false → ((scope_at w n).cancelled || not (any_lives w n)) ≡ true → is_all_success (scope_at w n).joiner ≡ true → list_any joining.is_failure (ends (scope_at w n)) ≡ false → (u : ℕ) → (task_at w u).scope ≡ Some n → has_succeeded (sub_state w u) ≡ true

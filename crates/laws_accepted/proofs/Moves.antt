@@ -114,11 +114,9 @@ among_next None None interrupted next = inr (inl refl)
 
 -- only a joiner that can fail answers with a failure
 failed_can : (j : Joiner) (es : List End) (n : ℕ) (c : _) → result_of j es n ≡ verdict.Failed c → can_fail j ≡ true
-failed_can AllSucceed es n c e = refl
-failed_can AwaitOk es n c e = refl
-failed_can AnySucceeds es n c e = refl
 failed_can AwaitAll es n c e = cc
 failed_can (Until q) es n c e = cc
+failed_can _ es n c e = refl
 
 as_said : (a b : Bool) → not (same a b) ≡ false → b ≡ true → a ≡ true
 as_said true b e h = refl
@@ -223,10 +221,7 @@ entering_open budgets w f x joiner timed o size low empty os z sl =
     )
   where
     not_empty : (q : Slot) (s : ℕ) → is_empty q ≡ true → q ≡ slots.Own s → ⊥
-    not_empty slots.Empty s e d = cc
-    not_empty (slots.Own r) s e d = cc
-    not_empty (slots.Lent r) s e d = cc
-    not_empty (slots.Sub r) s e d = cc
+    not_empty q s e d = let none : false ≡ true = ap is_empty (sym d) ∙ e in cc
 
 -- ---- close
 

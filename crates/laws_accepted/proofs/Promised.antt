@@ -1,5 +1,5 @@
 -- Accepted programs: their budgets are within the limits, and so is every state of every run.
-use Rattle.std.proofs.Common.{Some, ◌≡◌, ℕ, zero, suc, ◌+◌, ◌-◌, ◌<◌, ◌≤◌, ◌⊎◌, inl, inr, List, []}
+use Rattle.std.proofs.Common.{Some, ◌≡◌, ℕ, ◌+◌, ◌-◌, ◌<◌, ◌≤◌, ◌⊎◌, inl, inr, List, []}
 use Rattle.std.proofs.Common.{◌∷◌, ◌++◌, true, false, None, refl, sym, ◌∙◌, ap, subst, length}
 use Rattle.std.proofs.Common.{arith, take, get_or}
 use Rattle.std.specs.Prelude.{nat_le}
@@ -10,7 +10,7 @@ use Rattle.std.proofs.Math.Seq.{get_or-append_seam, take-append_seam}
 use Rattle.sts_code.specs.Checks.{program_fault}
 use Rattle.sts_code.specs.Program.{Program, routine}
 use Rattle.sts_code.specs.declared.instr.Instr.{Instr}
-use Rattle.sts_code.specs.declared.instr.Instr.TheVariants.{Open, Fork, Close}
+use Rattle.sts_code.specs.declared.instr.Instr.TheVariants.{Open, Fork}
 use Rattle.sts_rules.specs.declared.budget.Budgets.{Budgets}
 use Rattle.sts_model.specs.declared.event.Event.{Event}
 use Rattle.sts_rules.specs.declared.typing.Cause.TheVariants.{TooManySteps, TooManyTasks}
@@ -33,7 +33,7 @@ use Rattle.sts_budget.proofs.PathLemmas.{are_within, lie_on_paths}
 use Rattle.sts_budget.proofs.CheckedLemmas.{is_checked}
 use Rattle.laws_accepted.specs.Costs.{AreTyped, main_budget, Accepted, IsModest, AcceptedIsModest}
 use Rattle.laws_accepted.specs.Costs.{HasPlaceFor, AcceptedHasPlace}
-use Rattle.laws_accepted.proofs.RangeLemmas.{some_function}
+use Rattle.laws_accepted.proofs.RangeLemmas.{some_function, not_more}
 use Rattle.laws_accepted.proofs.Turns.{waits-few, waits-fork}
 use Rattle.laws_accepted.proofs.Good.{IsCosted, Good}
 use Rattle.laws_accepted.proofs.Effects.{same_instr}
@@ -44,13 +44,6 @@ use Rattle.laws_accepted.proofs.Born.{births_are_steps}
 -- the limits of a function
 abbrev pub limits : Budgets
 limits = record { steps = 1000000; tasks = 65536; scopes = 65536; binds = 65536 }
-
-not_more : (limit m : ℕ) → (limit < m → ⊥) → m ≤ limit
-not_more limit m never = by (cases_lt limit m)
-  where
-    by : (limit < m) ⊎ (m ≤ limit) → m ≤ limit
-    by (inl less) = absurd (never less)
-    by (inr le) = le
 
 module _ (p : Program) (checked : program_fault p.routines ≡ None) (accepted : IsAccepted p) where
   pub low : length p.routines - 1 < length p.routines
@@ -133,8 +126,6 @@ module _ (p : Program) (checked : program_fault p.routines ≡ None) (accepted :
       rw (h, k) refl
 
   some_step : (es : List Budgets) (i : Instr) → 0 < steps_of es i
-  some_step es (Fork x g h) = omega arith
-  some_step es (Close x) = omega arith
   some_step es _ = omega arith
 
   has_place_for : (events : List Event) (w : World) → length w.tasks + length w.scopes ≤ taken p events + 1 → Good (AreTyped p) p budgets_of w (taken p events) → Also Timely w → (t : ℕ) (i : Instr) → lives (task_at w t) ≡ true → instr_at p (task_at w t).frame ≡ Some i → HasPlaceFor w (task_at w t).frame i

@@ -25,10 +25,8 @@ no_crowd w f (Some (Open x joiner timed)) place = place (Open x joiner timed) re
 no_crowd w f (Some (Fork x g h)) place = by (slot f x) (place (Fork x g h) refl)
   where
     by : (q : Slot) → ((s : ℕ) → q ≡ Own s → is_crowded (standing_tasks w) (length w.tasks) ≡ false) → at_own w q (λ s scope. is_crowded (standing_tasks w) (length w.tasks)) ≡ false
-    by Empty at = refl
     by (Own s) at = at s refl
-    by (Lent s) at = refl
-    by (Sub u) at = refl
+    by _ at = refl
 no_crowd w f o place = refl
 
 pub living_tasks_are_fine : (p : Program) → program_fault p.routines ≡ None → IsAccepted p → OnlyRoomIsWanted p → AcceptedHasPlace → LivingTasksAreFine p

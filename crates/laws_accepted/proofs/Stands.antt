@@ -1,5 +1,5 @@
 -- A typed task in front of an instruction, and the place after its step.
-use Rattle.std.proofs.Common.{◌≡◌, ℕ, zero, suc, ◌<◌, List, [], ◌∷◌, length, map, false, Option}
+use Rattle.std.proofs.Common.{◌≡◌, ℕ, zero, suc, ◌+◌, ◌<◌, List, [], ◌∷◌, length, map, false, Option}
 use Rattle.std.proofs.Common.{Some, refl, sym, subst, slice_get, slice_index_or}
 use Rattle.sts_code.specs.Program.{Program, routine}
 use Rattle.sts_code.specs.declared.instr.Instr.{Instr}
@@ -64,6 +64,10 @@ pub record Lands (p : Program) (w : World) (f g : Frame) : Type 0 where
   pub reached : Reaches (typing p f.function) g.pc state
   pub fits : Fits p w g state
 
+-- a step to the next place, along the first edge
+pub lands-forward : (p : Program) (w v : World) (f g : Frame) (i : Instr) (s x : TypeState) → Stands p w f i s → g.function ≡ f.function → g.pc ≡ f.pc + 1 → Leads (follows p (routine p f.function).code f.pc i s) (f.pc + 1) x → Fits p v g x → Lands p v f g
+lands-forward p w v f g i s x st function next leads fits = record { function = function; state = x; reached = subst (λ (n : ℕ). Reaches (typing p f.function) n x) (sym next) (st.leads (f.pc + 1) x leads); fits = fits }
+
 pub lands-same : (p : Program) (w v : World) (f g : Frame) → Same w v g → Lands p w f g → Lands p v f g
 lands-same p w v f g same h = record { function = h.function; state = h.state; reached = h.reached; fits = fits-same p w v g h.state same h.fits }
 
@@ -77,9 +81,6 @@ pub record Keeps (f g : Frame) : Type 0 where
   pub loops : g.loops ≡ f.loops
   pub entries : g.entries ≡ f.entries
   pub slots : g.slots ≡ f.slots
-
-pub keeps-refl : (f : Frame) → Keeps f f
-keeps-refl f = record { function = refl; loops = refl; entries = refl; slots = refl }
 
 pub onward-slots : (p : Program) (f g : Frame) → g.function ≡ f.function → g.slots ≡ f.slots → ((x : ℕ) → closes (instr_at p f) x ≡ false) → Onward p f g
 onward-slots p f g function slots still = record { function = function; own = λ x n e. rw slots e; still = still }

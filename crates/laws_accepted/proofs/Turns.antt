@@ -138,10 +138,8 @@ no_wait_at_join (Some k) (Lent s) = refl
 no_wait_at_join (Some k) (Sub s) = refl
 
 wait_at_close : (w : World) (x : Slot) → steps_begun (stands_at_close w x) ≤ 1
-wait_at_close w Empty = omega arith
 wait_at_close w (Own s) = cond_both (is_closing (scope_at w s).phase) (AtClose s) Free (λ x. steps_begun x ≤ 1) (λ e. omega arith) (λ e. omega arith)
-wait_at_close w (Lent s) = omega arith
-wait_at_close w (Sub s) = omega arith
+wait_at_close w _ = omega arith
 
 few_waits : (p : Program) (w : World) (t : ℕ) (earlier : List Budgets) (i : Instr) → steps_begun (stand_at_instr p w t (Some i)) + 1 ≤ steps_of earlier i
 few_waits p w t earlier (Join x failed timeout interrupted) = let h = no_wait_at_join (misuse p w t) (slot (task_at w t).frame x) in omega (arith, h)
@@ -169,11 +167,8 @@ phase_stays Joined b e le still = cc
 phase_stays Closed b e le still = cc
 
 closing_open : (a : Phase) → is_closing a ≡ true → is_closed a ≡ false
-closing_open Opened e = refl
-closing_open Attempted e = refl
-closing_open Joined e = refl
-closing_open Closing e = refl
 closing_open Closed e = cc
+closing_open _ e = refl
 
 pub closing-stays : (w v : World) (u x s : ℕ) → Sound w → Entered v → Later w v → (task_at v u).frame ≡ (task_at w u).frame → lives (task_at v u) ≡ true → slot (task_at w u).frame x ≡ Own s → is_closing (scope_at w s).phase ≡ true → is_closing (scope_at v s).phase ≡ true
 closing-stays w v u x s o e later same alive mine closing =
@@ -188,13 +183,11 @@ pub waits-stay : (p : Program) (w v : World) (u : ℕ) → Sound w → Entered v
 waits-stay p w v u o e later same alive = rw same (by (instr_at p (task_at w u).frame))
   where
     at_close : (x : ℕ) (q : Slot) → slot (task_at w u).frame x ≡ q → steps_begun (stands_at_close w q) ≤ steps_begun (stands_at_close v q)
-    at_close x Empty is = omega arith
-    at_close x (Lent s) is = omega arith
-    at_close x (Sub s) is = omega arith
     at_close x (Own s) is =
         cond_both (is_closing (scope_at w s).phase) (AtClose s) Free (λ a. steps_begun a ≤ steps_begun (cond (is_closing (scope_at v s).phase) (AtClose s) Free))
         (λ h. let k = closing-stays w v u x s o e later same alive is h in rw k (omega arith))
         (λ h. omega arith)
+    at_close x _ is = omega arith
 
     by : (q : Option Instr) → steps_begun (stand_at_instr p w u q) ≤ steps_begun (stand_at_instr p v u q)
     by None = omega arith

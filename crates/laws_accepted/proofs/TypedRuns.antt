@@ -59,6 +59,10 @@ pub record Accepted (p : Program) : Type 0 where
   pub accepted : IsAccepted p
   pub promises : TypingPromises p
 
+-- the program under another name
+pub accepted_as : (p q : Program) → p ≡ q → program_fault p.routines ≡ None → IsAccepted q → TypingPromises p → Accepted p
+accepted_as p q same checked accepted promises = record { checked = checked; accepted = subst IsAccepted (sym same) accepted; promises = promises }
+
 -- ---- one step, of the tasks that were there
 
 -- what lives lived before

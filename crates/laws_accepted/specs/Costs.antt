@@ -8,6 +8,7 @@ use Rattle.sts_code.specs.Program.{Program}
 use Rattle.sts_code.specs.declared.instr.Instr.{Instr}
 use Rattle.sts_code.specs.declared.instr.Instr.TheVariants.{Open, Fork, Bind}
 use Rattle.sts_code.specs.declared.instr.Joiner.{Joiner}
+use Rattle.sts_code.specs.declared.limits.TheConstants.{MAX_STANDING, MAX_STEPS}
 use Rattle.sts_rules.specs.declared.budget.Budgets.{Budgets}
 use Rattle.sts_model.specs.declared.event.Event.{Event}
 use Rattle.sts_model.specs.declared.event.Stand.{Stand}
@@ -155,13 +156,17 @@ pub record RoomAddsUp (p : Program) (budgets : List Budgets) (w : World) : Type 
 abbrev pub RoomIsSlack : Type 0
 RoomIsSlack = Costs (λ p budgets events w. RoomAddsUp p budgets w)
 
--- these budgets leave room for the scope, the binding or the task that this instruction of a frame
--- makes; a fork must be in a scope of its own
+-- beside this many tasks, scopes and bindings, the budgets leave room for the scope, the binding or
+-- the task that this instruction of a frame makes; a fork must be in a scope of its own
+abbrev pub HasRoomBeside : Budgets → (tasks scopes binds : ℕ) → Frame → Instr → Type 0
+HasRoomBeside b tasks scopes binds f (Open x joiner timed) = scopes < b.scopes
+HasRoomBeside b tasks scopes binds f (Bind key) = binds < b.binds
+HasRoomBeside b tasks scopes binds f (Fork x g h) = (s : ℕ) → slot f x ≡ Own s → tasks < b.tasks
+HasRoomBeside b tasks scopes binds f _ = Unit {0}
+
 abbrev pub HasRoomFor : Budgets → World → Frame → Instr → Type 0
-HasRoomFor b w f (Open x joiner timed) = standing_scopes w < b.scopes
-HasRoomFor b w f (Bind key) = standing_bindings w < b.binds
-HasRoomFor b w f (Fork x g h) = (s : ℕ) → slot f x ≡ Own s → standing_tasks w < b.tasks
-HasRoomFor b w f _ = Unit {0}
+HasRoomFor b w f i =
+    HasRoomBeside b (standing_tasks w) (standing_scopes w) (standing_bindings w) f i
 
 -- there is room for the next instruction of each living task
 abbrev pub HasRoom : Program → Budgets → World → Type 0
@@ -190,10 +195,10 @@ Accepted P =
 
 -- no limit is passed
 pub record IsModest (p : Program) (events : List Event) (w : World) : Type 0 where
-  pub steps : taken p events ≤ 1000000
-  pub tasks : standing_tasks w ≤ 65536
-  pub scopes : standing_scopes w ≤ 65536
-  pub binds : standing_bindings w ≤ 65536
+  pub steps : taken p events ≤ MAX_STEPS
+  pub tasks : standing_tasks w ≤ MAX_STANDING
+  pub scopes : standing_scopes w ≤ MAX_STANDING
+  pub binds : standing_bindings w ≤ MAX_STANDING
 
 abbrev pub AcceptedIsModest : Type 0
 AcceptedIsModest = Accepted IsModest

@@ -4,21 +4,20 @@ use Rattle.std.specs.Prelude.{◌≡◌, ℕ, ◌<◌, ◌≤◌, List, true, Op
 use Rattle.std.specs.Prelude.{sum_by}
 use Rattle.sts_code.specs.Program.{Program}
 use Rattle.sts_code.specs.declared.instr.Instr.{Instr}
-use Rattle.sts_code.specs.declared.instr.Instr.TheVariants.{Open, Fork, Bind}
 use Rattle.sts_rules.specs.declared.budget.Budgets.{Budgets}
 use Rattle.sts_rules.specs.Refusal.{IsBudgetOf}
 use Rattle.sts_model.specs.declared.event.Event.{Event}
-use Rattle.sts_model.specs.declared.record.Slot.TheVariants.{Own}
 use Rattle.sts_model.specs.declared.record.Frame.{Frame}
 use Rattle.sts_model.specs.World.{instr_at}
 use Rattle.sts_model.specs.Standing.{standing_bindings}
-use Rattle.sts_model.specs.Misuse.{slot, is_binding}
+use Rattle.sts_model.specs.Misuse.{is_binding}
 use Rattle.sts_model.specs.Run.{after}
 use Rattle.sts_model.specs.Live.{Live, LiveTask, Alive, live}
 use Rattle.laws_runs.specs.Runs.{In}
 use Rattle.laws_live.specs.Reading.{alive_at, lives_in}
 use Rattle.laws_live.specs.Seen.{StandsAt}
 use Rattle.laws_accepted.specs.Accepted.{main_of}
+use Rattle.laws_accepted.specs.Costs.{HasRoomBeside}
 
 -- ---- what stands
 
@@ -66,10 +65,8 @@ ViewsAreWithin p = ViewsWithMain p IsWithin
 -- the numbers of the view leave room for what this instruction of a frame opens, binds or forks in
 -- a scope of its own
 abbrev pub LiveHasRoomFor : Budgets → Live → Frame → Instr → Type 0
-LiveHasRoomFor b v f (Open x joiner timed) = live_scopes v < b.scopes
-LiveHasRoomFor b v f (Bind key) = live_bindings v < b.binds
-LiveHasRoomFor b v f (Fork x g h) = (s : ℕ) → slot f x ≡ Own s → live_tasks v < b.tasks
-LiveHasRoomFor b v f _ = Unit {0}
+LiveHasRoomFor b v f i =
+    HasRoomBeside b (live_tasks v) (live_scopes v) (live_bindings v) f i
 
 -- the view has room for the next instruction of each living task
 abbrev pub LiveHasRoom : Program → Budgets → Live → Type 0

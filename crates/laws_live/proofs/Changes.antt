@@ -37,22 +37,28 @@ kept_alive o q a change true true = refl
 kept_alive o q a change true false = refl
 kept_alive o q a change false c = refl
 
--- the frame and the flag of one task
-pub seen-task : (w : World) (t : ℕ) (f : Frame) (flag : Bool) (change : Alive → Alive) → t < length w.tasks → had w (task_at w t).scope (record (task_at w t) { frame = f; flag = flag }) ≡ change (had w (task_at w t).scope (task_at w t)) → live (with_task w t (record (task_at w t) { frame = f; flag = flag })) ≡ with_alive (live w) t change
-seen-task w t f flag change born same =
-    let x : Task = record (task_at w t) { frame = f; flag = flag } in
+-- one task is written, and the view shows it so
+pub seen-written : (w : World) (t : ℕ) (x : Task) (to : Option LiveTask) (end : Option End) → t < length w.tasks → seen (with_task w t x) t x ≡ to → (get_or (set w.tasks t x) 0 no_task).outcome ≡ end → live (with_task w t x) ≡ record (live w) { tasks = set (live w).tasks t to; root_end = end }
+seen-written w t x to end born is root =
     let v : World = with_task w t x in
     let n = tasks_born w in
-    let to : Option LiveTask = option_map (λ (task : LiveTask). record task { alive = option_map change task.alive }) (task_in (live w) t) in
-    same_view v (with_alive (live w) t change)
+    same_view v (record (live w) { tasks = set (live w).tasks t to; root_end = end })
     (length-set (live w).tasks t to ∙ n ∙ sym (length-set w.tasks t x))
     (scopes_born w)
     (λ u less.
     let count = length-set w.tasks t x in
     at_put (λ (y : Option LiveTask). seen v u (get_or (set w.tasks t x) u no_task) ≡ y) (live w).tasks t u to None (omega (arith, n, born))
-    (λ e. rw (e, get_or-set_same w.tasks t x no_task born, task_here w t born, same) (kept_alive (task_at w t).scope _ (had w (task_at w t).scope (task_at w t)) change (stands_in w (task_at w t).scope) (lives (task_at w t))))
+    (λ e. rw (e, get_or-set_same w.tasks t x no_task born) is)
     (λ other. rw (get_or-set_other w.tasks t u x no_task other) (sym (task_here w u (omega (arith, count, less))))))
     (λ s less. sym (scope_here w s less))
+    root
+
+-- the frame and the flag of one task
+pub seen-task : (w : World) (t : ℕ) (f : Frame) (flag : Bool) (change : Alive → Alive) → t < length w.tasks → had w (task_at w t).scope (record (task_at w t) { frame = f; flag = flag }) ≡ change (had w (task_at w t).scope (task_at w t)) → live (with_task w t (record (task_at w t) { frame = f; flag = flag })) ≡ with_alive (live w) t change
+seen-task w t f flag change born same =
+    let x : Task = record (task_at w t) { frame = f; flag = flag } in
+    seen-written w t x (option_map (λ (task : LiveTask). record task { alive = option_map change task.alive }) (task_in (live w) t)) (task_at w 0).outcome born
+    (rw (task_here w t born, same) (kept_alive (task_at w t).scope _ (had w (task_at w t).scope (task_at w t)) change (stands_in w (task_at w t).scope) (lives (task_at w t))))
     (at_set (λ (task : Task). task.outcome ≡ (task_at w 0).outcome) w.tasks t 0 x no_task (λ e. rw e refl) refl)
 
 -- ---- one scope

@@ -3,16 +3,13 @@ use Rattle.std.proofs.Common.{◌≡◌, ℕ, ◌<◌, ◌+◌, ◌-◌, List, [
 use Rattle.std.proofs.Common.{Some, None, refl, sym, ◌∙◌, ap, length, arith, drop, cond, ◌&&◌, ◌||◌}
 use Rattle.std.proofs.Common.{not, pos, unwrap_or, length-append}
 use Rattle.std.proofs.lemmas.List.{length-map, get_or_append_left}
-use Rattle.std.specs.Prelude.{filter_map, nat_le, ◌==◌}
-use Rattle.std.specs.Int.{int_wrapping_div, w64}
-use Rattle.std.specs.Ordering.{int_eq}
+use Rattle.std.specs.Prelude.{filter_map, ◌==◌}
 use Rattle.sts_code.specs.Program.{Program, routine}
 use Rattle.sts_code.specs.declared.instr.Instr.{Instr}
 use Rattle.sts_code.specs.declared.instr.Instr.TheVariants.{Open, Fork, Join, Close, Cancelled}
 use Rattle.sts_code.specs.declared.instr.Instr.TheVariants.{Case, Get, Except, Tally, Total, Forget}
 use Rattle.sts_code.specs.declared.instr.Instr.TheVariants.{Bind, Unbind, Read, Bound, OrElse}
-use Rattle.sts_code.specs.declared.instr.Instr.TheVariants.{Interrupted, Ret, Fail, Div, Times}
-use Rattle.sts_code.specs.declared.instr.Instr.TheVariants.{Next}
+use Rattle.sts_code.specs.declared.instr.Instr.TheVariants.{Interrupted, Ret, Fail}
 use Rattle.sts_code.specs.declared.instr.Joiner.{Joiner}
 use Rattle.sts_code.specs.declared.instr.Kind.{Kind}
 use Rattle.sts_code.specs.declared.instr.Kind.TheVariants.{S, F, U}
@@ -27,13 +24,11 @@ use Rattle.sts_model.specs.declared.record.Slot.TheVariants as slots
 use Rattle.sts_model.specs.declared.record.Entry.{Entry}
 use Rattle.sts_model.specs.declared.record.Entry.TheVariants as entry
 use Rattle.sts_model.specs.declared.record.Frame.{Frame}
-use Rattle.sts_model.specs.declared.record.Loop.{Loop}
 use Rattle.sts_model.specs.declared.record.Task.{Task}
 use Rattle.sts_model.specs.declared.record.Scope.{Scope}
 use Rattle.sts_model.specs.declared.record.Bound as bound
 use Rattle.sts_model.specs.World.{World, code, task_at, scope_at, no_task, no_scope, with_frame}
-use Rattle.sts_model.specs.Local.{local, turns, enters, clipped, operand, goes, steps, truth}
-use Rattle.sts_code.specs.Loops.{match_of}
+use Rattle.sts_model.specs.Local.{local, operand, goes, steps, truth}
 use Rattle.sts_model.specs.Told as kept
 use Rattle.sts_model.specs.Living.{lives, is_in, any_lives, is_closed, completion_of, ends}
 use Rattle.sts_model.specs.Living.{subtask_count, sub_state, parent}
@@ -49,7 +44,7 @@ use Rattle.sts_model.specs.Live.{Live, LiveTask, LiveScope, Alive, live, shown_s
 use Rattle.laws_runs.proofs.ListLemmas.{at_set, past}
 use Rattle.laws_runs.proofs.KeptLemmas.{kept-cancel}
 use Rattle.laws_runs.proofs.SoundLemmas.{Sound, sound-kept, born_open}
-use Rattle.laws_runs.proofs.FrameLemmas.{own_slot, at_own-is}
+use Rattle.laws_runs.proofs.FrameLemmas.{own_slot, at_own-is, leaves-local}
 use Rattle.laws_runs.proofs.BirthLemmas.{born_alive, more_tasks, more_scopes, new_scope, opener}
 use Rattle.laws_runs.proofs.EffectLemmas.{first_no, frame-cancel}
 use Rattle.laws_runs.proofs.CompletionLemmas.{AllTold}
@@ -82,24 +77,6 @@ seen-cond false x y v u h k = k refl
 pub seen-frame : (w : World) (t : ℕ) (f : Frame) → t < length w.tasks → filter_map bound_of f.entries ≡ filter_map bound_of (task_at w t).frame.entries → live (with_frame w t f) ≡ with_live_frame (live w) t f
 seen-frame w t f born same = seen-task w t f (task_at w t).flag (λ alive. record alive { frame = f }) born (rw same refl)
 
-entries-cond : (b : Bool) (f g : Frame) (es : List Entry) → f.entries ≡ es → g.entries ≡ es → (cond b f g).entries ≡ es
-entries-cond true f g es h k = h
-entries-cond false f g es h k = k
-
-entries-turns : (f : Frame) (ls : List Loop) → (turns f ls).entries ≡ f.entries
-entries-turns f [] = refl
-entries-turns f (l ∷ ls) = entries-cond (nat_le l.left 1) (record (steps f 0 []) { loops = ls }) (record f { pc = l.at + 1; loops = record l { left = l.left - 1 } ∷ ls }) f.entries refl refl
-
-entries-enters : (is : List Instr) (f : Frame) (n : ℕ) → (enters is f n).entries ≡ f.entries
-entries-enters is f n = entries-cond (n == 0) (goes f (unwrap_or (match_of is f.pc) 0 + 1) 1 []) (record (steps f 1 []) { loops = record { at = f.pc; left = n } ∷ f.loops }) f.entries refl refl
-
--- a local instruction leaves the entries
-entries-local : (is : List Instr) (i : Instr) (f : Frame) → (local is i f).entries ≡ f.entries
-entries-local is (Div to) f = entries-cond (int_eq (operand f 0) (pos 0)) (goes f to 2 []) (steps f 2 (int_wrapping_div w64 (operand f 1) (operand f 0) ∷ [])) f.entries refl refl
-entries-local is (Times n) f = entries-enters is f (clipped n (operand f 0))
-entries-local is Next f = entries-turns f f.loops
-entries-local is _ f = refl
-
 -- ---- what slots name
 
 scope_named : (w : World) (t x : ℕ) → NamesStanding w t x → not (is_scope (slot (task_at w t).frame x)) ≡ false → is_closed (scope_at w (named (slot (task_at w t).frame x))).phase ≡ false
@@ -115,10 +92,8 @@ sub_named : (w : World) (t x : ℕ) → NamesStanding w t x → not (is_sub (slo
 sub_named w t x h e = by (slot (task_at w t).frame x) refl e
   where
     by : (y : Slot) → slot (task_at w t).frame x ≡ y → not (is_sub y) ≡ false → stands_in w (task_at w (named y)).scope ≡ true
-    by slots.Empty is e = cc
-    by (slots.Own s) is e = cc
-    by (slots.Lent s) is e = cc
     by (slots.Sub u) is e = h.sub u is
+    by _ is e = cc
 
 -- the state of a subtask in the view
 state_is : (w : World) (u : ℕ) → stands_in w (task_at w u).scope ≡ true → live_state (live w) u ≡ sub_state w u
@@ -220,14 +195,12 @@ phase-cancel w s r = by (scope_at w s).cancelled
 
 -- a slot that names the scope or a subtask of it
 pub of_is : (w : World) (s : ℕ) (x : Slot) → is_closed (scope_at w s).phase ≡ false → is_live_of (live w) s x ≡ is_of w s x
-of_is w s slots.Empty still = refl
-of_is w s (slots.Own r) still = refl
-of_is w s (slots.Lent r) still = refl
 of_is w s (slots.Sub u) still = by (stands_in w (task_at w u).scope) refl
   where
     outside : (a : Bool) → is_in s (task_at w u).scope ≡ a → stands_in w (task_at w u).scope ≡ false → a ≡ false
     outside false e f = refl
     outside true e f = let h = stands_some w s (task_at w u).scope still e in cc
+of_is w s _ still = refl
 
     by : (b : Bool) → stands_in w (task_at w u).scope ≡ b → is_in s (live_task_at (live w) u).scope ≡ is_in s (task_at w u).scope
     by true e = ap (λ (task : LiveTask). is_in s task.scope) (task_is w u e)
@@ -347,4 +320,4 @@ seen-effect p w t Interrupted o alive is =
 seen-effect p w t Ret o alive is = seen-end w t (task_at w t).frame (Success (operand (task_at w t).frame 0)) o.sound o.told alive
 seen-effect p w t Fail o alive is = seen-end w t (task_at w t).frame (Failed (operand (task_at w t).frame 0)) o.sound o.told alive
 seen-effect p w t i o alive is =
-    seen-frame w t (local (code p (task_at w t).frame) i (task_at w t).frame) (born_alive w t alive) (ap (filter_map bound_of) (entries-local (code p (task_at w t).frame) i (task_at w t).frame))
+    seen-frame w t (local (code p (task_at w t).frame) i (task_at w t).frame) (born_alive w t alive) (ap (filter_map bound_of) (leaves-local (code p (task_at w t).frame) i (task_at w t).frame).entries)

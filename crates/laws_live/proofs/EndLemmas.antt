@@ -36,7 +36,7 @@ use Rattle.laws_live.specs.Cancelling.{live_cancel}
 use Rattle.laws_live.proofs.ListLemmas.{map_kept, and_false}
 use Rattle.laws_live.proofs.ViewLemmas.{shown, seen_of, seen, seen_scope, tasks_born, scopes_born}
 use Rattle.laws_live.proofs.ViewLemmas.{task_here, scope_here, same_view, scope_is, task_is}
-use Rattle.laws_live.proofs.Changes.{seen-cancel}
+use Rattle.laws_live.proofs.Changes.{seen-written, seen-cancel}
 
 -- ---- the task has ended
 
@@ -46,18 +46,8 @@ no_longer_lives false o q a = refl
 
 pub seen-ended : (w : World) (t : ℕ) (f : Frame) (end : End) → t < length w.tasks → live (ended w t f end) ≡ live_ended (live w) t end
 seen-ended w t f end born =
-    let v : World = ended w t f end in
-    let n = tasks_born w in
-    let to : Option LiveTask = option_map (λ (task : LiveTask). record task { alive = None }) (task_in (live w) t) in
-    same_view v (live_ended (live w) t end)
-    (length-set (live w).tasks t to ∙ n ∙ sym (length-set w.tasks t x))
-    (scopes_born w)
-    (λ u less.
-    let count = length-set w.tasks t x in
-    at_put (λ (y : Option LiveTask). seen v u (get_or (set w.tasks t x) u no_task) ≡ y) (live w).tasks t u to None (omega (arith, n, born))
-    (λ e. rw (e, get_or-set_same w.tasks t x no_task born, task_here w t born, and_false (task_at w t).started) (no_longer_lives (stands_in w (task_at w t).scope) (task_at w t).scope _ _))
-    (λ other. rw (get_or-set_other w.tasks t u x no_task other) (sym (task_here w u (omega (arith, count, less))))))
-    (λ s less. sym (scope_here w s less))
+    seen-written w t x (option_map (λ (task : LiveTask). record task { alive = None }) (task_in (live w) t)) (cond (t == 0) (Some end) (task_at w 0).outcome) born
+    (rw (task_here w t born, and_false (task_at w t).started) (no_longer_lives (stands_in w (task_at w t).scope) (task_at w t).scope _ _))
     (root (t == 0) refl)
   where
     x : Task

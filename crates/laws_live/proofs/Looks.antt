@@ -71,9 +71,6 @@ go-same w v u (Some (Join x failed timeout interrupted)) o q h alive alive_v =
     rw (alive_is v u q.sound alive_v, alive_is w u o.sound alive, h.task) (by (slot (task_at w u).frame x) refl)
   where
     by : (y : Slot) → slot (task_at w u).frame x ≡ y → live_can_go (live v) u (live_stands_at_join y) ≡ live_can_go (live w) u (live_stands_at_join y)
-    by Empty e = refl
-    by (Lent s) e = refl
-    by (Sub t) e = refl
     by (Own s) e =
         let mine = same-scope-owned w u x s o e in
         let e_v : slot (task_at v u).frame x ≡ Own s = ap (λ (task : Task). slot task.frame x) h.task ∙ e in
@@ -81,6 +78,7 @@ go-same w v u (Some (Join x failed timeout interrupted)) o q h alive alive_v =
         let any = h.any s mine.0 mine.1 in
         let flag = h.task in
         rw (scope_is v s (open_some v s ((q.named u x alive_v).own s e_v)), scope_is w s (open_some w s ((o.named u x alive).own s e)), any_is v s q.sound, any_is w s o.sound, alive_is v u q.sound alive_v, alive_is w u o.sound alive, scope, any, flag) refl
+    by _ e = refl
 go-same w v u (Some (Close x)) o q h alive alive_v =
     rw (alive_is v u q.sound alive_v, alive_is w u o.sound alive, h.task) (by (slot (task_at w u).frame x) refl)
   where
@@ -89,14 +87,12 @@ go-same w v u (Some (Close x)) o q h alive alive_v =
     closing s false any = refl
 
     by : (y : Slot) → slot (task_at w u).frame x ≡ y → live_can_go (live v) u (live_stands_at_close (live v) y) ≡ live_can_go (live w) u (live_stands_at_close (live w) y)
-    by Empty e = refl
-    by (Lent s) e = refl
-    by (Sub t) e = refl
     by (Own s) e =
         let mine = same-scope-owned w u x s o e in
         let e_v : slot (task_at v u).frame x ≡ Own s = ap (λ (task : Task). slot task.frame x) h.task ∙ e in
         let scope = h.scope s mine.0 mine.1 in
         rw (scope_is v s (open_some v s ((q.named u x alive_v).own s e_v)), scope_is w s (open_some w s ((o.named u x alive).own s e)), scope) (closing s (is_closing (scope_at w s).phase) (h.any s mine.0 mine.1))
+    by _ e = refl
 go-same w v u i o q h alive alive_v = refl
 
 pub can-same : (p : Program) (w v : World) (u : ℕ) → Facts w → Facts v → Looks w v u → live_can_step p (live v) u ≡ live_can_step p (live w) u

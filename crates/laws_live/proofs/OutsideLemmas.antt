@@ -31,11 +31,8 @@ seen-interrupt w t o =
 
 -- a closed scope can't expire
 shut_joins : (phase : Phase) → is_closed phase ≡ true → can_join phase ≡ false
-shut_joins Opened e = cc
-shut_joins Attempted e = cc
-shut_joins Joined e = cc
-shut_joins Closing e = cc
 shut_joins Closed e = refl
+shut_joins _ e = cc
 
 -- which scopes can expire
 pub can_expire_is : (w : World) (s : ℕ) → live_can_expire (live_scope_at (live w) s) ≡ can_expire (scope_at w s)

@@ -47,10 +47,8 @@ own_is : (w : World) (t x : ℕ) (test : ℕ → Scope → Bool) (seen : ℕ →
 own_is w t x test seen o alive same = by (slot (task_at w t).frame x) refl
   where
     by : (y : Slot) → slot (task_at w t).frame x ≡ y → live_at_own (live w) y seen ≡ at_own w y test
-    by Empty e = refl
-    by (Lent s) e = refl
-    by (Sub u) e = refl
     by (Own s) e = let still = open_some w s ((o.named t x alive).own s e) in ap (seen s) (scope_is w s still) ∙ same s still
+    by _ e = refl
 
 parent_is : (w : World) (q : Option ℕ) → stands_in w q ≡ true → live_parent (live w) q ≡ shown_scope (parent w q)
 parent_is w None stands = refl
@@ -60,15 +58,13 @@ sub_is : (w : World) (t x : ℕ) (test : ℕ → Scope → Bool) (seen : ℕ →
 sub_is w t x test seen o alive same = by (slot (task_at w t).frame x) refl
   where
     by : (y : Slot) → slot (task_at w t).frame x ≡ y → live_at_sub (live w) y seen ≡ at_sub w y test
-    by Empty e = refl
-    by (Lent s) e = refl
-    by (Own s) e = refl
     by (Sub u) e =
         let stands = (o.named t x alive).sub u e in
         let is = task_is w u stands in
         ap (λ (task : LiveTask). seen u (live_parent (live w) task.scope)) is
         ∙ ap (seen u) (parent_is w (task_at w u).scope stands)
         ∙ same u (ap (λ (task : LiveTask). task.state) is)
+    by _ e = refl
 
 -- ---- the rows
 

@@ -65,16 +65,12 @@ stands_free : (p : Program) (v : Live) (u : ℕ) → OwnsNothing v u → live_st
 stands_free p v u none = by (instr_at p (alive_at v u).frame)
   where
     at_join : (q : Slot) → ((s : ℕ) → q ≡ Own s → ⊥) → live_stands_at_join q ≡ Free
-    at_join Empty h = refl
     at_join (Own s) h = absurd (h s refl)
-    at_join (Lent s) h = refl
-    at_join (Sub t) h = refl
+    at_join _ h = refl
 
     at_close : (q : Slot) → ((s : ℕ) → q ≡ Own s → ⊥) → live_stands_at_close v q ≡ Free
-    at_close Empty h = refl
     at_close (Own s) h = absurd (h s refl)
-    at_close (Lent s) h = refl
-    at_close (Sub t) h = refl
+    at_close _ h = refl
 
     by : (i : Option Instr) → live_stand_at_instr v u i ≡ Free
     by (Some (Join y failed timeout interrupted)) = at_join (slot (alive_at v u).frame y) (none y)
@@ -120,10 +116,8 @@ stand_same p v x u o h =
     ap (λ (f : Frame). live_stand_at_instr x u (instr_at p f)) h.frame ∙ by (instr_at p (alive_at v u).frame)
   where
     close_same : (y : ℕ) (q : Slot) → slot (alive_at v u).frame y ≡ q → live_stands_at_close x q ≡ live_stands_at_close v q
-    close_same y Empty e = refl
     close_same y (Own s) e = ap (λ phase. cond (is_closing phase) (AtClose s) Free) (phase_same v x u s h (owned v u y s o e))
-    close_same y (Lent s) e = refl
-    close_same y (Sub t) e = refl
+    close_same y _ e = refl
 
     by : (i : Option Instr) → live_stand_at_instr x u i ≡ live_stand_at_instr v u i
     by (Some (Join y failed timeout interrupted)) = ap (λ (f : Frame). live_stands_at_join (slot f y)) h.frame
@@ -285,20 +279,16 @@ stands_are_owned p v o t s = by (instr_at p (alive_at v t).frame)
     one y r e same = let is : r ≡ s = grind (arith, nat_tests) in subst (IsOwned v t) is (owned v t y r o e)
 
     at_join : (y : ℕ) (q : Slot) → slot (alive_at v t).frame y ≡ q → is_stand_at s (live_stands_at_join q) ≡ true → IsOwned v t s
-    at_join y Empty e h = cc
     at_join y (Own r) e h = one y r e h
-    at_join y (Lent r) e h = cc
-    at_join y (Sub r) e h = cc
+    at_join y _ e h = cc
 
     closing : (y r : ℕ) (b : Bool) → slot (alive_at v t).frame y ≡ Own r → is_stand_at s (cond b (AtClose r) Free) ≡ true → IsOwned v t s
     closing y r true e h = one y r e h
     closing y r false e h = cc
 
     at_close : (y : ℕ) (q : Slot) → slot (alive_at v t).frame y ≡ q → is_stand_at s (live_stands_at_close v q) ≡ true → IsOwned v t s
-    at_close y Empty e h = cc
     at_close y (Own r) e h = closing y r (is_closing (live_scope_at v r).phase) e h
-    at_close y (Lent r) e h = cc
-    at_close y (Sub r) e h = cc
+    at_close y _ e h = cc
 
     by : (i : Option Instr) → is_stand_at s (live_stand_at_instr v t i) ≡ true → IsOwned v t s
     by (Some (Join y failed timeout interrupted)) h = at_join y (slot (alive_at v t).frame y) refl h

@@ -139,9 +139,6 @@ go-still w v u (Some (Join x failed timeout interrupted)) o q h alive alive_v ca
     ∙ by (slot (task_at w u).frame x) refl (ap (λ (f : Frame). live_can_go (live w) u (live_stands_at_join (slot f x))) (sym (frame_is w u o alive)) ∙ can)
   where
     by : (y : Slot) → slot (task_at w u).frame x ≡ y → live_can_go (live w) u (live_stands_at_join y) ≡ true → live_can_go (live v) u (live_stands_at_join y) ≡ true
-    by Empty e can = refl
-    by (Lent s) e can = refl
-    by (Sub t) e can = refl
     by (Own s) e can =
         let mine = same-scope-owned w u x s o e in
         let e_v : slot (task_at v u).frame x ≡ Own s = ap (λ (f : Frame). slot f x) h.frame ∙ e in
@@ -149,6 +146,7 @@ go-still w v u (Some (Join x failed timeout interrupted)) o q h alive alive_v ca
         let before = rw (scope_is w s (open_some w s ((o.named u x alive).own s e)), any_is w s o.sound, alive_is w u o.sound alive) at can in
         rw (scope_is v s (open_some v s ((q.named u x alive_v).own s e_v)), any_is v s q.sound, alive_is v u q.sound alive_v)
         (go_on (scope_at w s).expired (scope_at w s).cancelled (any_lives w s) (task_at w u).flag (scope_at v s).expired (scope_at v s).cancelled (any_lives v s) (task_at v u).flag k.expired k.cancelled (h.any s mine.0 mine.1) h.flag before)
+    by _ e can = refl
 go-still w v u (Some (Close x)) o q h alive alive_v can =
     ap (λ (f : Frame). live_can_go (live v) u (live_stands_at_close (live v) (slot f x))) (frame_is v u q alive_v ∙ h.frame)
     ∙ by (slot (task_at w u).frame x) refl (ap (λ (f : Frame). live_can_go (live w) u (live_stands_at_close (live w) (slot f x))) (sym (frame_is w u o alive)) ∙ can)
@@ -158,9 +156,6 @@ go-still w v u (Some (Close x)) o q h alive alive_v can =
     closing s false any can = refl
 
     by : (y : Slot) → slot (task_at w u).frame x ≡ y → live_can_go (live w) u (live_stands_at_close (live w) y) ≡ true → live_can_go (live v) u (live_stands_at_close (live v) y) ≡ true
-    by Empty e can = refl
-    by (Lent s) e can = refl
-    by (Sub t) e can = refl
     by (Own s) e can =
         let mine = same-scope-owned w u x s o e in
         let e_v : slot (task_at v u).frame x ≡ Own s = ap (λ (f : Frame). slot f x) h.frame ∙ e in
@@ -169,6 +164,7 @@ go-still w v u (Some (Close x)) o q h alive alive_v can =
         let before = rw (scope_is w s (open_some w s ((o.named u x alive).own s e))) at can in
         rw (scope_is v s (open_some v s ((q.named u x alive_v).own s e_v)), phase)
         (closing s (is_closing (scope_at w s).phase) (h.any s mine.0 mine.1) before)
+    by _ e can = refl
 go-still w v u i o q h alive alive_v can = refl
 
 can-still : (p : Program) (w v : World) (u : ℕ) → Facts w → Facts v → Wakes w v u → live_can_step p (live w) u ≡ true → live_can_step p (live v) u ≡ true

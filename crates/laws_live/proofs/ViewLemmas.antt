@@ -2,6 +2,7 @@
 use Rattle.std.proofs.Common.{◌≡◌, ℕ, ◌<◌, ◌≤◌, ◌+◌, List, [], ◌∷◌, ◌++◌, Bool, true, false, Option}
 use Rattle.std.proofs.Common.{Some, None, refl, sym, ◌∙◌, ap, subst, length, arith, cond, ◌&&◌, not}
 use Rattle.std.proofs.Common.{nat_lt}
+use Rattle.std.proofs.lemmas.Bool.{cases_lt}
 use Rattle.std.proofs.lemmas.Bool.Decides.{nat_tests}
 use Rattle.std.proofs.lemmas.List.FromFn.{get_or-map-range_with_len, length-map-range_with_len}
 use Rattle.std.specs.Prelude.{is_some, unwrap_or, count_by, filter_map}
@@ -108,27 +109,21 @@ task_is w u stands = by (nat_lt u (length w.tasks)) refl
         let no : task_at w u ≡ no_task = past w.tasks u no_task more in
         rw (none, no) refl
 
+-- what left its place, or never had one, isn't in a list
+missing : {X : Type 0} (xs : List (Option X)) (n i : ℕ) → length xs ≡ n → (i < n → get_or xs i None ≡ None) → get_or xs i None ≡ None
+missing xs n i long gone = by (cases_lt i n)
+  where
+    by : (i < n) ⊎ (n ≤ i) → get_or xs i None ≡ None
+    by (inl less) = gone less
+    by (inr more) = past xs i None (omega (arith, long, more))
+
 -- a task in a closed scope isn't in the view
 pub task_gone : (w : World) (u : ℕ) → stands_in w (task_at w u).scope ≡ false → task_in (live w) u ≡ None
-task_gone w u out = by (nat_lt u (length w.tasks)) refl
-  where
-    by : (b : Bool) → nat_lt u (length w.tasks) ≡ b → task_in (live w) u ≡ None
-    by true e = task_here w u (grind (arith, nat_tests)) ∙ rw out refl
-    by false e =
-        let n = tasks_born w in
-        let more : length w.tasks ≤ u = grind (arith, nat_tests) in
-        past (live w).tasks u None (omega (arith, n, more))
+task_gone w u out = missing (live w).tasks (length w.tasks) u (tasks_born w) (λ less. task_here w u less ∙ rw out refl)
 
 -- a closed scope isn't in the view
 pub scope_gone : (w : World) (s : ℕ) → is_closed (scope_at w s).phase ≡ true → scope_in (live w) s ≡ None
-scope_gone w s closed = by (nat_lt s (length w.scopes)) refl
-  where
-    by : (b : Bool) → nat_lt s (length w.scopes) ≡ b → scope_in (live w) s ≡ None
-    by true e = scope_here w s (grind (arith, nat_tests)) ∙ rw closed refl
-    by false e =
-        let n = scopes_born w in
-        let more : length w.scopes ≤ s = grind (arith, nat_tests) in
-        past (live w).scopes s None (omega (arith, n, more))
+scope_gone w s closed = missing (live w).scopes (length w.scopes) s (scopes_born w) (λ less. scope_here w s less ∙ rw closed refl)
 
 -- what a living task has
 pub alive_is : (w : World) (u : ℕ) → Sound w → lives (task_at w u) ≡ true → alive_at (live w) u ≡ had w (task_at w u).scope (task_at w u)

@@ -30,10 +30,8 @@ goes_at_join : (w : World) (t x : ℕ) → Facts w → lives (task_at w t) ≡ t
 goes_at_join w t x o alive = by (slot (task_at w t).frame x) refl
   where
     by : (y : Slot) → slot (task_at w t).frame x ≡ y → can_go w (task_at w t) (stands_at_join None y) ≡ live_can_go (live w) t (live_stands_at_join y)
-    by Empty e = refl
     by (Own s) e = rw (scope_is w s (open_some w s ((o.named t x alive).own s e)), any_is w s o.sound, alive_is w t o.sound alive) refl
-    by (Lent s) e = refl
-    by (Sub u) e = refl
+    by _ e = refl
 
 goes_at_close : (w : World) (t x : ℕ) → Facts w → lives (task_at w t) ≡ true → can_go w (task_at w t) (stands_at_close w (slot (task_at w t).frame x)) ≡ live_can_go (live w) t (live_stands_at_close (live w) (slot (task_at w t).frame x))
 goes_at_close w t x o alive = by (slot (task_at w t).frame x) refl
@@ -43,10 +41,8 @@ goes_at_close w t x o alive = by (slot (task_at w t).frame x) refl
     closing s false = refl
 
     by : (y : Slot) → slot (task_at w t).frame x ≡ y → can_go w (task_at w t) (stands_at_close w y) ≡ live_can_go (live w) t (live_stands_at_close (live w) y)
-    by Empty e = refl
     by (Own s) e = rw (scope_is w s (open_some w s ((o.named t x alive).own s e))) (closing s (is_closing (scope_at w s).phase))
-    by (Lent s) e = refl
-    by (Sub u) e = refl
+    by _ e = refl
 
 -- two answers: they are the same if nothing is misused, and the second is no if the first is
 pub record Agrees (p : Program) (w : World) (t : ℕ) (a b : Bool) : Type 0 where
@@ -59,9 +55,7 @@ same_agrees p w t a b e = record { proper = λ m. e; still = λ h. sym e ∙ h }
 -- a misused `join` goes on
 misused_goes : (w : World) (t : ℕ) (k : Fault) (y : Slot) → can_go w (task_at w t) (stands_at_join (Some k) y) ≡ true
 misused_goes w t k Empty = refl
-misused_goes w t k (Own s) = refl
-misused_goes w t k (Lent s) = refl
-misused_goes w t k (Sub u) = refl
+misused_goes w t k _ = refl
 
 go_is : (p : Program) (w : World) (t : ℕ) (i : Option Instr) → Facts w → lives (task_at w t) ≡ true → Agrees p w t (can_go w (task_at w t) (stand_at_instr p w t i)) (live_can_go (live w) t (live_stand_at_instr (live w) t i))
 go_is p w t (Some (Join x failed timeout interrupted)) o alive =

@@ -15,19 +15,19 @@ use Rattle.sts_model.specs.declared.event.End.{End}
 use Rattle.sts_model.specs.declared.event.End.TheVariants.{Success, Failed}
 use Rattle.sts_model.specs.declared.event.Verdict.{Verdict}
 use Rattle.sts_model.specs.declared.event.Verdict.TheVariants as verdict
-use Rattle.sts_model.specs.declared.event.Phase.TheVariants.{Opened, Attempted, Joined, Closing}
+use Rattle.sts_model.specs.declared.event.Phase.TheVariants.{Attempted, Joined, Closing}
 use Rattle.sts_model.specs.declared.record.Slot.{Slot}
 use Rattle.sts_model.specs.declared.record.Slot.TheVariants.{Empty, Own, Lent, Sub}
 use Rattle.sts_model.specs.declared.record.Entry.TheVariants as entry
 use Rattle.sts_model.specs.declared.record.Frame.{Frame}
-use Rattle.sts_model.specs.World.{code, entry_frame}
+use Rattle.sts_model.specs.World.{code, entry_frame, fresh_scope}
 use Rattle.sts_model.specs.Local.{local, operand, goes, steps, truth}
 use Rattle.sts_model.specs.Living.{is_in}
 use Rattle.sts_model.specs.Told.{told, tell, result_told, cancels_told}
 use Rattle.sts_model.specs.Environment.{read}
 use Rattle.sts_model.specs.Misuse.{slot}
 use Rattle.sts_model.specs.Effect.{named, forked, case_target, value_or_zero}
-use Rattle.sts_model.specs.Live.{Live, LiveTask, LiveScope, Alive}
+use Rattle.sts_model.specs.Live.{Live, LiveTask, LiveScope, Alive, shown_scope}
 use Rattle.laws_live.specs.Reading.{live_task_at, live_scope_at, alive_at, with_live_task}
 use Rattle.laws_live.specs.Reading.{with_alive, with_live_frame, with_live_scope, with_live_phase}
 use Rattle.laws_live.specs.Reading.{live_count, live_any_lives}
@@ -37,16 +37,7 @@ use Rattle.laws_live.specs.Cancelling.{live_cancel}
 
 abbrev pub opened_scope : Live → ℕ → Joiner → Bool → LiveScope
 opened_scope v t joiner timed =
-    record {
-      owner = t;
-      joiner = joiner;
-      timed = timed;
-      phase = Opened;
-      cancelled = false;
-      expired = false;
-      environment = (alive_at v t).environment;
-      told = told joiner [];
-    }
+    shown_scope (fresh_scope t joiner timed (alive_at v t).environment)
 
 unfoldable pub live_open : Live → ℕ → Frame → ℕ → Joiner → Bool → Live
 live_open v t f x joiner timed =

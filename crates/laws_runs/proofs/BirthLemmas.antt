@@ -8,7 +8,6 @@ use Rattle.std.proofs.lemmas.List.{get_or_append_left}
 use Rattle.std.proofs.Math.Seq.{get_or-append_seam}
 use Rattle.std.proofs.lemmas.Bool.Decides.{nat_tests}
 use Rattle.sts_code.specs.Program.{Program, routine}
-use Rattle.sts_model.specs.declared.event.Phase.TheVariants.{Opened}
 use Rattle.sts_code.specs.declared.instr.Joiner.{Joiner}
 use Rattle.sts_model.specs.declared.record.Slot.{Slot}
 use Rattle.sts_model.specs.declared.record.Slot.TheVariants as slots
@@ -16,7 +15,7 @@ use Rattle.sts_model.specs.declared.record.Entry.TheVariants as entry
 use Rattle.sts_model.specs.declared.record.Frame.{Frame}
 use Rattle.sts_model.specs.declared.record.Task.{Task}
 use Rattle.sts_model.specs.declared.record.Scope.{Scope}
-use Rattle.sts_model.specs.World.{World, task_at, scope_at, no_task, no_scope, entry_frame}
+use Rattle.sts_model.specs.World.{World, task_at, scope_at, no_task, no_scope, fresh_scope, entry_frame}
 use Rattle.sts_model.specs.Local.{steps}
 use Rattle.sts_model.specs.Living.{lives, is_closed}
 use Rattle.sts_model.specs.Environment.{environment_of}
@@ -144,7 +143,7 @@ abbrev pub more_scopes : World → Scope → World
 more_scopes w x = record w { scopes = w.scopes ++ x ∷ [] }
 
 abbrev pub new_scope : World → ℕ → Joiner → Bool → Scope
-new_scope w t joiner timed = record { owner = t; joiner = joiner; timed = timed; phase = Opened; cancelled = false; expired = false; completions = []; environment = environment_of (task_at w t) w }
+new_scope w t joiner timed = fresh_scope t joiner timed (environment_of (task_at w t) w)
 
 -- the frame that owns it
 abbrev pub opener : World → Frame → ℕ → Frame

@@ -98,11 +98,9 @@ follow-open w t x f joiner timed h s born =
     (follow-refl w h s)
 
 staying_at_join : (phase : Phase) → not (can_join phase) ≡ false → is_leaving phase ≡ false
-staying_at_join Opened e = refl
-staying_at_join Attempted e = refl
-staying_at_join Joined e = refl
 staying_at_join Closing e = cc
 staying_at_join Closed e = cc
+staying_at_join _ e = refl
 
 -- if the close of a scope hasn't begun, the scope was born
 born_staying : (w : World) (s : ℕ) → is_leaving (scope_at w s).phase ≡ false → s < length w.scopes

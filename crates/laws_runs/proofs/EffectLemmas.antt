@@ -31,7 +31,7 @@ use Rattle.sts_model.specs.Living.{is_closed, ends, subtask_count}
 use Rattle.sts_model.specs.Cancelling.{marked, cancel}
 use Rattle.sts_model.specs.Misuse.{slot, can_join, is_entry_of, innermost, IsFine}
 use Rattle.sts_model.specs.Effect.{effect, named, with_phase, joined, join_verdict, join_scope}
-use Rattle.sts_model.specs.Effect.{closed, close_scope, told, decide, tell, ended, end_task}
+use Rattle.sts_model.specs.Effect.{closed, close_scope, told, decide, tell, ended, end_task, takes_memory}
 use Rattle.sts_model.specs.Outside.{interrupt, can_expire, expire}
 use Rattle.laws_runs.specs.Later.{stage}
 use Rattle.laws_runs.proofs.ListLemmas.{at_set, found, none_found}
@@ -52,30 +52,20 @@ use Rattle.laws_runs.proofs.SoundLemmas.{Sound, sound-kept}
 open_at_join : (phase : Phase) → not (can_join phase) ≡ false → is_closed phase ≡ false
 open_at_join Opened e = refl
 open_at_join Attempted e = refl
-open_at_join Joined e = cc
-open_at_join Closing e = cc
-open_at_join Closed e = cc
+open_at_join _ e = cc
 
 early : (phase : Phase) → not (can_join phase) ≡ false → stage phase ≤ 1
 early Opened e = omega arith
 early Attempted e = omega arith
-early Joined e = cc
-early Closing e = cc
-early Closed e = cc
+early _ e = cc
 
 not_closed : (phase : Phase) → is_closed phase ≡ false → stage phase ≤ 3
-not_closed Opened e = omega arith
-not_closed Attempted e = omega arith
-not_closed Joined e = omega arith
-not_closed Closing e = omega arith
 not_closed Closed e = cc
+not_closed _ e = omega arith
 
 at_most_closed : (phase : Phase) → stage phase ≤ 4
 at_most_closed Opened = omega arith
-at_most_closed Attempted = omega arith
-at_most_closed Joined = omega arith
-at_most_closed Closing = omega arith
-at_most_closed Closed = omega arith
+at_most_closed _ = omega arith
 
 -- a phase of a scope that may be joined, to one that isn't Closed
 still-open_phase : (w : World) (s : ℕ) (phase : Phase) → not (can_join (scope_at w s).phase) ≡ false → 1 ≤ stage phase → is_closed phase ≡ false → Still w (with_phase w s phase)
@@ -257,14 +247,6 @@ still-expire w s =
 
 -- ---- all instructions but four
 
--- does the instruction make a task or a scope, or end the task?
-abbrev pub changes_tree : Instr → Bool
-changes_tree (Open s joiner timed) = true
-changes_tree (Fork s g h) = true
-changes_tree Ret = true
-changes_tree Fail = true
-changes_tree _ = false
-
 -- the facts of an instruction on a scope of its own
 pub owned_slot : (p : Program) (w : World) (t : ℕ) (i : Instr) (x : ℕ) → Sound w → slot (task_at w t).frame x ≡ slots.Own (named (slot (task_at w t).frame x)) → named (slot (task_at w t).frame x) < length w.scopes
 owned_slot p w t i x o e = (o.own t x (named (slot (task_at w t).frame x)) e).born
@@ -272,7 +254,7 @@ owned_slot p w t i x o e = (o.own t x (named (slot (task_at w t).frame x)) e).bo
 pub first_no : (a b : Bool) → (a || b) ≡ false → a ≡ false
 first_no a b e = (or_parts a b e).0
 
-pub still-effect : (p : Program) (w : World) (t : ℕ) (i : Instr) → Sound w → IsFine p w t (task_at w t).frame i → changes_tree i ≡ false → Still w (effect p w t (task_at w t).frame i)
+pub still-effect : (p : Program) (w : World) (t : ℕ) (i : Instr) → Sound w → IsFine p w t (task_at w t).frame i → takes_memory i ≡ false → Still w (effect p w t (task_at w t).frame i)
 still-effect p w t (Open s joiner timed) o fine e = cc
 still-effect p w t (Fork s g h) o fine e = cc
 still-effect p w t Ret o fine e = cc

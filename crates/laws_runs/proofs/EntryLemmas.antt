@@ -159,13 +159,19 @@ enters-join w t s failed timeout interrupted =
 enters-decide : (w : World) (s : ℕ) → Enters w (decide w s)
 enters-decide w s = cond_both (cancels (scope_at w s).joiner (ends (scope_at w s))) (cancel w s) w (λ (v : World). Enters w v) (λ e. enters-cancel w s) (λ e. enters-refl w)
 
+-- what holds of a world, and of it after a scope's joiner was told and decided, holds after any end
+-- is told
+pub tell_both : (w : World) (t : ℕ) (o : Option ℕ) (end : End) (P : World → Type 0) → P w → ((s : ℕ) → P (decide (with_scope w s (told (scope_at w s) t end)) s)) → P (tell w t o end)
+tell_both w t None end P none some = none
+tell_both w t (Some s) end P none some =
+    cond_both (scope_at w s).cancelled w (decide (with_scope w s (told (scope_at w s) t end)) s) P (λ e. none) (λ e. some s)
+
 enters-tell : (w : World) (t : ℕ) (o : Option ℕ) (end : End) → Enters w (tell w t o end)
-enters-tell w t None end = enters-refl w
-enters-tell w t (Some s) end =
+enters-tell w t o end =
+    tell_both w t o end (λ (x : World). Enters w x) (enters-refl w)
+    (λ s.
     let v : World = with_scope w s (told (scope_at w s) t end) in
-    cond_both (scope_at w s).cancelled w (decide v s) (λ (x : World). Enters w x)
-    (λ e. enters-refl w)
-    (λ e. enters-trans w v (decide v s) (enters-scope w s (told (scope_at w s) t end) (λ h. h)) (enters-decide v s))
+    enters-trans w v (decide v s) (enters-scope w s (told (scope_at w s) t end) (λ h. h)) (enters-decide v s))
 
 pub enters-end : (w : World) (t : ℕ) (end : End) → Enters w (end_task w t (task_at w t).frame end)
 unfolding end_task

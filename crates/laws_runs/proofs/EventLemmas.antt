@@ -94,11 +94,8 @@ next-open w t x joiner timed o alive =
     }
 
 open_at_fork : (phase : Phase) → not (is_opened phase) ≡ false → is_closed phase ≡ false
-open_at_fork Opened e = refl
-open_at_fork Attempted e = refl
-open_at_fork Joined e = refl
-open_at_fork Closing e = refl
 open_at_fork Closed e = cc
+open_at_fork _ e = refl
 
 next-fork : (p : Program) (w : World) (t s g : ℕ) (h : Option ℕ) → Right w → Owner w.scopes s t → lives (task_at w t) ≡ true → not (is_opened (scope_at w s).phase) ≡ false → Next w (fork_task p w t (task_at w t).frame s g h)
 next-fork p w t s g h o mine alive opened =

@@ -1,18 +1,16 @@
 -- Flags: what each effect does to them.
 use Rattle.std.proofs.Common.{◌≡◌, ◌⊎◌, inl, inr, ℕ, zero, suc, ◌<◌, List, [], ◌∷◌, ◌++◌, Bool}
-use Rattle.std.proofs.Common.{true, false, Option, Some, None, refl, sym, ◌∙◌, ap, subst, length}
-use Rattle.std.proofs.Common.{arith, get_or, set, cond, ◌||◌, ◌&&◌, not, unwrap_or, drop, take}
-use Rattle.std.proofs.Common.{replicate, nat_eq, get_or-set_same, get_or-set_other, length-set}
-use Rattle.std.specs.Prelude.{◌==◌, slice_set}
+use Rattle.std.proofs.Common.{true, false, Option, Some, None, refl, sym, ◌∙◌, ap, length}
+use Rattle.std.proofs.Common.{arith, get_or, set, cond, ◌||◌, ◌&&◌, not, unwrap_or, drop}
+use Rattle.std.proofs.Common.{get_or-set_same, get_or-set_other, length-set}
+use Rattle.std.specs.Prelude.{◌==◌}
 use Rattle.std.specs.Cmp.Derive.{both_true}
 use Rattle.std.proofs.lemmas.Bool.{cond_both, and_parts}
 use Rattle.std.proofs.lemmas.Bool.Decides.{nat_tests}
-use Rattle.sts_code.specs.Program.{Program, routine}
+use Rattle.sts_code.specs.Program.{Program}
 use Rattle.sts_code.specs.declared.instr.Instr.{Instr}
 use Rattle.sts_code.specs.declared.instr.Joiner.{Joiner}
-use Rattle.sts_code.specs.declared.instr.Instr.TheVariants.{Open, Fork, Join, Close, Cancelled}
-use Rattle.sts_code.specs.declared.instr.Instr.TheVariants.{Case, Get, Except, Tally, Total, Forget}
-use Rattle.sts_code.specs.declared.instr.Instr.TheVariants.{Bind, Unbind, Read, Bound, OrElse}
+use Rattle.sts_code.specs.declared.instr.Instr.TheVariants.{Open, Fork, Join, Close}
 use Rattle.sts_code.specs.declared.instr.Instr.TheVariants.{Interrupted, Ret, Fail}
 use Rattle.sts_model.specs.declared.event.Event.{Event}
 use Rattle.sts_model.specs.declared.event.Event.TheVariants as event
@@ -33,9 +31,9 @@ use Rattle.sts_model.specs.Joining.{cancels, result_of}
 use Rattle.sts_model.specs.Living.{lives, is_subtask, is_living_subtask, any_lives, ends}
 use Rattle.sts_model.specs.Living.{subtask_count}
 use Rattle.sts_model.specs.Cancelling.{raise, raised, marked, cancel}
-use Rattle.sts_model.specs.Misuse.{slot, can_join, IsFine}
+use Rattle.sts_model.specs.Misuse.{slot}
 use Rattle.sts_model.specs.Waiting.{can_step}
-use Rattle.sts_model.specs.Effect.{effect, named, with_phase, open_scope, fork_task, forked}
+use Rattle.sts_model.specs.Effect.{effect, named, with_phase, open_scope, fork_task}
 use Rattle.sts_model.specs.Effect.{subtask_of, joined, join_verdict, join_scope, closed, cleared}
 use Rattle.sts_model.specs.Effect.{close_scope, told, decide, tell, ended, end_task}
 use Rattle.sts_model.specs.Outside.{interrupt, can_expire, expire}
@@ -44,9 +42,9 @@ use Rattle.laws_runs.proofs.ListLemmas.{at_set, at_more, past, within}
 use Rattle.laws_runs.proofs.FrameLemmas.{own_slot}
 use Rattle.laws_runs.proofs.SoundLemmas.{Sound}
 use Rattle.laws_runs.proofs.EffectLemmas.{first_no, is_in-some, some-is_in, owned_slot}
-use Rattle.laws_runs.proofs.BirthLemmas.{born_alive, more_tasks, more_scopes, new_scope, opener}
+use Rattle.laws_runs.proofs.BirthLemmas.{born_alive, more_tasks, more_scopes, new_scope}
 use Rattle.laws_runs.proofs.EventLemmas.{Right, each}
-use Rattle.laws_runs.specs.Flags.{IsCancelled, is_unfinished, takes_flag, is_taken, Takes}
+use Rattle.laws_runs.specs.Flags.{IsCancelled, takes_flag, is_taken, Takes}
 use Rattle.laws_runs.specs.Flags.{CancelInterrupts, InterruptSetsFlag, FlagsHaveCause, FlagsAreTaken}
 
 -- ---- what changes no flag and cancels nothing
@@ -303,15 +301,22 @@ follows-raises p w e v h never_interrupted never_taken =
           };
     }
 
+-- a step of t takes the flag of no other task, and only if t can step
+step_taken : (p : Program) (w : World) (t u : ℕ) → is_taken p w (event.Step t) u ≡ true → (t ≡ u) × ((can_step p w u ≡ true) × (takes_flag w (task_at w u).frame (instr_at p (task_at w u).frame) ≡ true))
+step_taken p w t u is =
+    let k = and_parts (t == u) _ is in
+    let same : t ≡ u = let q = k.0 in grind (arith, nat_tests) in
+    (same, and_parts (can_step p w u) _ k.1)
+
 -- a step with an instruction that does not take the flag
 follows-step : (p : Program) (w : World) (t : ℕ) (i : Instr) (v : World) → Does p w t i → takes_flag w (task_at w t).frame (Some i) ≡ false → Raises w v → Follows p w (event.Step t) v
 follows-step p w t i v d keeps h = follows-raises p w (event.Step t) v h (λ u is. cc) never
   where
     never : (u : ℕ) → is_taken p w (event.Step t) u ≡ true → ⊥
     never u is =
-        let k = and_parts (t == u) _ is in
-        let same : t ≡ u = let q = k.0 in grind (arith, nat_tests) in
-        let taken = (and_parts (can_step p w u) _ k.1).1 in
+        let k = step_taken p w t u is in
+        let same : t ≡ u = k.0 in
+        let taken = k.1.1 in
         let here : takes_flag w (task_at w t).frame (instr_at p (task_at w t).frame) ≡ true = rw (← same) at taken in
         let at = d.at in
         let clash : takes_flag w (task_at w t).frame (Some i) ≡ true = rw at at here in
@@ -406,18 +411,6 @@ follows-effect p w t Interrupted h d =
     (puts-task w t (record (task_at w t) { frame = steps (task_at w t).frame 0 (truth (task_at w t).flag ∷ []); flag = false }) (born_alive w t d.alive))
 follows-effect p w t Ret h d = follows-step p w t _ _ d refl (raises-end w t (task_at w t).frame (Success (operand (task_at w t).frame 0)) h.sound)
 follows-effect p w t Fail h d = follows-step p w t _ _ d refl (raises-end w t (task_at w t).frame (Failed (operand (task_at w t).frame 0)) h.sound)
-follows-effect p w t (Cancelled x) h d = follows-step p w t _ _ d refl (raises-calm w _ (calm-frame w t _))
-follows-effect p w t (Case x a b) h d = follows-step p w t _ _ d refl (raises-calm w _ (calm-frame w t _))
-follows-effect p w t (Get x) h d = follows-step p w t _ _ d refl (raises-calm w _ (calm-frame w t _))
-follows-effect p w t (Except x) h d = follows-step p w t _ _ d refl (raises-calm w _ (calm-frame w t _))
-follows-effect p w t (Tally x k) h d = follows-step p w t _ _ d refl (raises-calm w _ (calm-frame w t _))
-follows-effect p w t (Total x) h d = follows-step p w t _ _ d refl (raises-calm w _ (calm-frame w t _))
-follows-effect p w t (Forget x) h d = follows-step p w t _ _ d refl (raises-calm w _ (calm-frame w t _))
-follows-effect p w t (Bind k) h d = follows-step p w t _ _ d refl (raises-calm w _ (calm-frame w t _))
-follows-effect p w t Unbind h d = follows-step p w t _ _ d refl (raises-calm w _ (calm-frame w t _))
-follows-effect p w t (Read k) h d = follows-step p w t _ _ d refl (raises-calm w _ (calm-frame w t _))
-follows-effect p w t (Bound k) h d = follows-step p w t _ _ d refl (raises-calm w _ (calm-frame w t _))
-follows-effect p w t (OrElse k) h d = follows-step p w t _ _ d refl (raises-calm w _ (calm-frame w t _))
 follows-effect p w t i h d = follows-step p w t _ _ d refl (raises-calm w _ (calm-frame w t _))
 
 -- ---- events from outside, and those that do nothing
@@ -455,10 +448,8 @@ follows-nothing p w t cannot = follows-raises p w (event.Step t) w (raises-calm 
   where
     never : (u : ℕ) → is_taken p w (event.Step t) u ≡ true → ⊥
     never u is =
-        let k = and_parts (t == u) _ is in
-        let same : t ≡ u = let q = k.0 in grind (arith, nat_tests) in
-        let can = (and_parts (can_step p w u) _ k.1).0 in
-        let bad : true ≡ false = sym can ∙ ap (λ n. can_step p w n) (sym same) ∙ cannot in
+        let k = step_taken p w t u is in
+        let bad : true ≡ false = sym k.1.0 ∙ ap (λ n. can_step p w n) (sym k.0) ∙ cannot in
         cc
 
 follows-leads : (p : Program) → LeadsBy p Right (λ w e v. Follows p w e v)

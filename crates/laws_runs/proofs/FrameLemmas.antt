@@ -1,6 +1,7 @@
 -- The frames after a step: they own no more, and have the entries of open scopes and bindings.
 use Rattle.std.proofs.Common.{◌≡◌, ℕ, zero, suc, ◌+◌, List, [], ◌∷◌, Bool, true, false, Option}
-use Rattle.std.proofs.Common.{Some, None, refl, get_or, set, drop, cond, ◌||◌, not, arith}
+use Rattle.std.proofs.Common.{Some, None, refl, sym, ap, subst, ◌∙◌, get_or, set, drop, cond, ◌||◌}
+use Rattle.std.proofs.Common.{not, arith}
 use Rattle.std.proofs.lemmas.Bool.Decides.{nat_tests}
 use Rattle.std.specs.List.{list_any}
 use Rattle.std.specs.Prelude.{◌==◌, ◌-◌, nat_le, pos, unwrap_or}
@@ -28,31 +29,43 @@ use Rattle.laws_runs.proofs.StillLemmas.{Fits}
 pub fits-refl : (w : World) (f : Frame) → Fits w f f
 fits-refl w f = record { own = λ i s e. e; entries = λ s still e. e }
 
-fits-cond : (w : World) (b : Bool) (f g h : Frame) → Fits w f g → Fits w f h → Fits w f (cond b g h)
-fits-cond w true f g h x y = x
-fits-cond w false f g h x y = y
+-- the two frames have the same function, entries and slots
+pub record Leaves (f g : Frame) : Type 0 where
+  pub function : g.function ≡ f.function
+  pub entries : g.entries ≡ f.entries
+  pub slots : g.slots ≡ f.slots
 
-fits-turns : (w : World) (f : Frame) (ls : List Loop) → Fits w f (turns f ls)
-fits-turns w f [] = record { own = λ i s e. e; entries = λ s still e. e }
-fits-turns w f (l ∷ ls) =
-    fits-cond w (nat_le l.left 1) f (record (steps f 0 []) { loops = ls }) (record f { pc = l.at + 1; loops = record l { left = l.left - 1 } ∷ ls })
-    (record { own = λ i s e. e; entries = λ s still e. e })
-    (record { own = λ i s e. e; entries = λ s still e. e })
+leaves-cond : (b : Bool) (f g h : Frame) → Leaves f g → Leaves f h → Leaves f (cond b g h)
+leaves-cond true f g h x y = x
+leaves-cond false f g h x y = y
 
-fits-enters : (w : World) (is : List Instr) (f : Frame) (n : ℕ) → Fits w f (enters is f n)
-fits-enters w is f n =
-    fits-cond w (n == 0) f (goes f (unwrap_or (match_of is f.pc) 0 + 1) 1 []) (record (steps f 1 []) { loops = record { at = f.pc; left = n } ∷ f.loops })
-    (record { own = λ i s e. e; entries = λ s still e. e })
-    (record { own = λ i s e. e; entries = λ s still e. e })
+leaves-turns : (f : Frame) (ls : List Loop) → Leaves f (turns f ls)
+leaves-turns f [] = record { function = refl; entries = refl; slots = refl }
+leaves-turns f (l ∷ ls) =
+    leaves-cond (nat_le l.left 1) f (record (steps f 0 []) { loops = ls }) (record f { pc = l.at + 1; loops = record l { left = l.left - 1 } ∷ ls })
+    (record { function = refl; entries = refl; slots = refl })
+    (record { function = refl; entries = refl; slots = refl })
+
+leaves-enters : (is : List Instr) (f : Frame) (n : ℕ) → Leaves f (enters is f n)
+leaves-enters is f n =
+    leaves-cond (n == 0) f (goes f (unwrap_or (match_of is f.pc) 0 + 1) 1 []) (record (steps f 1 []) { loops = record { at = f.pc; left = n } ∷ f.loops })
+    (record { function = refl; entries = refl; slots = refl })
+    (record { function = refl; entries = refl; slots = refl })
+
+-- a local instruction leaves the function, the entries and the slots
+pub leaves-local : (is : List Instr) (i : Instr) (f : Frame) → Leaves f (local is i f)
+leaves-local is (Div to) f =
+    leaves-cond (int_eq (operand f 0) (pos 0)) f (goes f to 2 []) (steps f 2 (int_wrapping_div w64 (operand f 1) (operand f 0) ∷ []))
+    (record { function = refl; entries = refl; slots = refl })
+    (record { function = refl; entries = refl; slots = refl })
+leaves-local is (Times n) f = leaves-enters is f (clipped n (operand f 0))
+leaves-local is Next f = leaves-turns f f.loops
+leaves-local is _ f = record { function = refl; entries = refl; slots = refl }
 
 pub fits-local : (w : World) (is : List Instr) (i : Instr) (f : Frame) → Fits w f (local is i f)
-fits-local w is (Div to) f =
-    fits-cond w (int_eq (operand f 0) (pos 0)) f (goes f to 2 []) (steps f 2 (int_wrapping_div w64 (operand f 1) (operand f 0) ∷ []))
-    (record { own = λ i s e. e; entries = λ s still e. e })
-    (record { own = λ i s e. e; entries = λ s still e. e })
-fits-local w is (Times n) f = fits-enters w is f (clipped n (operand f 0))
-fits-local w is Next f = fits-turns w f f.loops
-fits-local w is _ f = record { own = λ i s e. e; entries = λ s still e. e }
+fits-local w is i f =
+    let same = leaves-local is i f in
+    record { own = λ j s e. ap (λ (xs : List Slot). get_or xs j slots.Empty) (sym same.slots) ∙ e; entries = λ s still e. subst (λ (es : List Entry). list_any (is_entry_of s) es ≡ true) (sym same.entries) e }
 
 -- ---- slots
 
@@ -78,16 +91,12 @@ owns-with_slot xs (Some h) u i r e = owns-set xs h (slots.Sub u) (λ r e. cc) i 
 
 -- a slot with a scope that isn't lent owns it
 pub own_slot : (x : Slot) → not (is_scope x) ≡ false → is_lent x ≡ false → x ≡ slots.Own (named x)
-own_slot slots.Empty a b = cc
 own_slot (slots.Own s) a b = refl
-own_slot (slots.Lent s) a b = cc
-own_slot (slots.Sub t) a b = cc
+own_slot _ a b = cc
 
 pub at_own-is : (w : World) (x : Slot) (test : ℕ → Scope → Bool) → x ≡ slots.Own (named x) → at_own w x test ≡ test (named x) (scope_at w (named x))
-at_own-is w slots.Empty test e = cc
 at_own-is w (slots.Own s) test e = refl
-at_own-is w (slots.Lent s) test e = cc
-at_own-is w (slots.Sub t) test e = cc
+at_own-is w _ test e = cc
 
 -- ---- entries
 

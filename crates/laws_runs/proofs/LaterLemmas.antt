@@ -38,16 +38,12 @@ moves_on-same x y phase expired = record { forward = rw phase (omega arith); tim
 late_stage : (phase : Phase) → can_join phase ≡ false → 2 ≤ stage phase
 late_stage Opened e = cc
 late_stage Attempted e = cc
-late_stage Joined e = omega arith
-late_stage Closing e = omega arith
-late_stage Closed e = omega arith
+late_stage _ e = omega arith
 
 stage_late : (phase : Phase) → 2 ≤ stage phase → can_join phase ≡ false
 stage_late Opened e = absurd (omega arith)
 stage_late Attempted e = absurd (omega arith)
-stage_late Joined e = refl
-stage_late Closing e = refl
-stage_late Closed e = refl
+stage_late _ e = refl
 
 moves_on-trans : (x y z : Scope) → MovesOn x y → MovesOn y z → MovesOn x z
 moves_on-trans x y z h k =

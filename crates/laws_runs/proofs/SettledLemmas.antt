@@ -71,10 +71,7 @@ settled-open w t x joiner timed o =
 
 unjoined : (phase : Phase) → not (is_opened phase) ≡ false → is_joined phase ≡ false
 unjoined Opened e = refl
-unjoined Attempted e = cc
-unjoined Joined e = cc
-unjoined Closing e = cc
-unjoined Closed e = cc
+unjoined _ e = cc
 
 started_unless : (b : Bool) → b ≡ false → not b ≡ true
 started_unless false e = refl

@@ -2,21 +2,18 @@
 -- still counts.
 use Rattle.std.proofs.Common.{◌≡◌, ℕ, zero, suc, ◌<◌, ◌-◌, List, [], ◌∷◌, Bool, true, false, Option}
 use Rattle.std.proofs.Common.{Some, None, refl, sym, ◌∙◌, ap, subst, length, arith, get_or, cond}
-use Rattle.std.proofs.Common.{replicate, take, drop, ◌+◌, ◌||◌, not, pos, unwrap_or}
+use Rattle.std.proofs.Common.{replicate, take, drop, ◌+◌, ◌||◌, not, unwrap_or}
 use Rattle.std.proofs.Common.{get_or-set_other}
 use Rattle.std.proofs.lemmas.Bool.Decides.{nat_tests}
 use Rattle.std.proofs.lemmas.List.{get_or_append_left}
 use Rattle.std.proofs.Math.Seq.{get_or-append_seam}
-use Rattle.std.specs.Prelude.{is_some, slice_set, reverse, nat_le, ℤ, ◌==◌}
-use Rattle.std.specs.Int.{int_wrapping_div, w64}
-use Rattle.std.specs.Ordering.{int_eq}
+use Rattle.std.specs.Prelude.{is_some, slice_set, reverse, ℤ, ◌==◌}
 use Rattle.sts_code.specs.Program.{Program, routine}
 use Rattle.sts_code.specs.declared.instr.Instr.{Instr}
 use Rattle.sts_code.specs.declared.instr.Instr.TheVariants.{Open, Fork, Join, Close, Cancelled}
 use Rattle.sts_code.specs.declared.instr.Instr.TheVariants.{Case, Get, Except, Tally, Total, Forget}
 use Rattle.sts_code.specs.declared.instr.Instr.TheVariants.{Bind, Unbind, Read, Bound, OrElse}
-use Rattle.sts_code.specs.declared.instr.Instr.TheVariants.{Interrupted, Ret, Fail, Div, Times}
-use Rattle.sts_code.specs.declared.instr.Instr.TheVariants.{Next}
+use Rattle.sts_code.specs.declared.instr.Instr.TheVariants.{Interrupted, Ret, Fail}
 use Rattle.sts_code.specs.declared.instr.Joiner.{Joiner}
 use Rattle.sts_model.specs.declared.event.End.{End}
 use Rattle.sts_model.specs.declared.event.End.TheVariants.{Success, Failed}
@@ -27,13 +24,11 @@ use Rattle.sts_model.specs.declared.event.Verdict.TheVariants as verdict
 use Rattle.sts_model.specs.declared.record.Slot.{Slot}
 use Rattle.sts_model.specs.declared.record.Slot.TheVariants.{Empty, Own, Lent, Sub}
 use Rattle.sts_model.specs.declared.record.Frame.{Frame}
-use Rattle.sts_model.specs.declared.record.Loop.{Loop}
 use Rattle.sts_model.specs.declared.record.Task.{Task}
 use Rattle.sts_model.specs.declared.record.Scope.{Scope}
 use Rattle.sts_model.specs.World.{World, code, task_at, scope_at, no_task, no_scope, entry_frame}
 use Rattle.sts_model.specs.World.{with_task, with_scope, with_frame, opening}
-use Rattle.sts_model.specs.Local.{local, turns, enters, clipped, operand, goes, steps}
-use Rattle.sts_code.specs.Loops.{match_of}
+use Rattle.sts_model.specs.Local.{local, operand, goes, steps}
 use Rattle.sts_model.specs.Joining.{cancels, result_of}
 use Rattle.sts_model.specs.Living.{lives, is_in, any_lives, is_closed, ends, subtask_count}
 use Rattle.sts_model.specs.Standing.{stands_in}
@@ -47,7 +42,7 @@ use Rattle.sts_model.specs.Outside.{interrupt, can_expire, expire}
 use Rattle.laws_runs.proofs.ListLemmas.{at_set, at_put, at_more, within}
 use Rattle.laws_runs.proofs.KeptLemmas.{kept-cancel, at_raised}
 use Rattle.laws_runs.proofs.SoundLemmas.{Sound, sound-kept, born_open, stands_alive}
-use Rattle.laws_runs.proofs.FrameLemmas.{own_slot}
+use Rattle.laws_runs.proofs.FrameLemmas.{own_slot, leaves-local}
 use Rattle.laws_runs.proofs.BirthLemmas.{born_alive, more_tasks, more_scopes, new_scope, opener}
 use Rattle.laws_runs.proofs.EffectLemmas.{first_no, frame-cancel}
 use Rattle.std.proofs.Math.Bool.{and-false}
@@ -162,26 +157,6 @@ named-more_tasks w x h new u i =
           owner = λ s still. refl;
           still = λ s still. still;
         }
-
--- ---- frames
-
-slots-cond : (b : Bool) (f g : Frame) (l : List Slot) → f.slots ≡ l → g.slots ≡ l → (cond b f g).slots ≡ l
-slots-cond true f g l h k = h
-slots-cond false f g l h k = k
-
-slots-turns : (f : Frame) (ls : List Loop) → (turns f ls).slots ≡ f.slots
-slots-turns f [] = refl
-slots-turns f (l ∷ ls) = slots-cond (nat_le l.left 1) (record (steps f 0 []) { loops = ls }) (record f { pc = l.at + 1; loops = record l { left = l.left - 1 } ∷ ls }) f.slots refl refl
-
-slots-enters : (is : List Instr) (f : Frame) (n : ℕ) → (enters is f n).slots ≡ f.slots
-slots-enters is f n = slots-cond (n == 0) (goes f (unwrap_or (match_of is f.pc) 0 + 1) 1 []) (record (steps f 1 []) { loops = record { at = f.pc; left = n } ∷ f.loops }) f.slots refl refl
-
--- a local instruction leaves the slots
-slots-local : (is : List Instr) (i : Instr) (f : Frame) → (local is i f).slots ≡ f.slots
-slots-local is (Div to) f = slots-cond (int_eq (operand f 0) (pos 0)) (goes f to 2 []) (steps f 2 (int_wrapping_div w64 (operand f 1) (operand f 0) ∷ [])) f.slots refl refl
-slots-local is (Times n) f = slots-enters is f (clipped n (operand f 0))
-slots-local is Next f = slots-turns f f.loops
-slots-local is _ f = refl
 
 -- ---- open and fork
 
@@ -406,7 +381,7 @@ named-effect p w t (Bound k) o h alive is = named-frame w t _ (task_at w t).flag
 named-effect p w t (OrElse k) o h alive is = named-frame w t _ (task_at w t).flag h refl
 named-effect p w t Ret o h alive is = named-end w t (task_at w t).frame (Success (operand (task_at w t).frame 0)) h
 named-effect p w t Fail o h alive is = named-end w t (task_at w t).frame (Failed (operand (task_at w t).frame 0)) h
-named-effect p w t i o h alive is = named-frame w t (local (code p (task_at w t).frame) i (task_at w t).frame) (task_at w t).flag h (slots-local (code p (task_at w t).frame) i (task_at w t).frame)
+named-effect p w t i o h alive is = named-frame w t (local (code p (task_at w t).frame) i (task_at w t).frame) (task_at w t).flag h (leaves-local (code p (task_at w t).frame) i (task_at w t).frame).slots
 
 pub named-interrupt : (w : World) (t : ℕ) → Named w → Named (interrupt w t)
 named-interrupt w t h = named-cond (lives (task_at w t)) _ w (λ e. named-frame w t (task_at w t).frame true h refl) (λ e. h)

@@ -90,9 +90,7 @@ goes_at_close w t (Own s) none = by (is_closing (scope_at w s).phase)
     by : (b : Bool) → can_go w (task_at w t) (cond b (AtClose s) Free) ≡ true
     by true = rw (none s refl) refl
     by false = refl
-goes_at_close w t Empty none = refl
-goes_at_close w t (Lent s) none = refl
-goes_at_close w t (Sub s) none = refl
+goes_at_close w t _ none = refl
 
 goes : (p : Program) (w : World) (t : ℕ) → Sound w → IsLast w t → (i : Option Instr) → can_go w (task_at w t) (stand_at_instr p w t i) ≡ true
 goes p w t o last (Some (Join x failed timeout i)) =

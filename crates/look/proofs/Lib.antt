@@ -1,2 +1,3 @@
+mod Passing
 mod Printing
 mod Refusing

@@ -29,19 +29,19 @@ use Rattle.look.specs.declared.asked.Kept.{Kept}
 use Rattle.look.specs.declared.program.Showing.{Showing}
 use Rattle.look.specs.declared.program.Showing.TheVariants as showing
 
--- the output for a file's text, or that memory or the file failed
-pub data IsOfText (Shows : List ℕ → Output → Type 0) (file : Option (List ℕ)) (o : Output) : Type 0
-  where
-    shown : (text : List ℕ) → IsTakenOf file most_of_a_text text → Shows text o
-        → IsOfText Shows file o
-    failed : (e : TakeError) → o ≡ failure_output e → IsOfText Shows file o
-
--- the output for all bytes of a file, or that memory or the file failed
-pub data IsOfStream (Shows : List ℕ → Output → Type 0) (file : Option (List ℕ)) (o : Output)
+-- the output for the bytes of a file, up to a limit, or that memory or the file failed
+pub data IsOf (most : ℕ) (Shows : List ℕ → Output → Type 0) (file : Option (List ℕ)) (o : Output)
     : Type 0 where
-  shown : (bytes : List ℕ) → IsTakenOf file most_of_a_stream bytes → Shows bytes o
-      → IsOfStream Shows file o
-  failed : (e : TakeError) → o ≡ failure_output e → IsOfStream Shows file o
+  shown : (bytes : List ℕ) → IsTakenOf file most bytes → Shows bytes o → IsOf most Shows file o
+  failed : (e : TakeError) → o ≡ failure_output e → IsOf most Shows file o
+
+-- the output for a file's text
+abbrev pub IsOfText : (List ℕ → Output → Type 0) → Option (List ℕ) → Output → Type 0
+IsOfText Shows file o = IsOf most_of_a_text Shows file o
+
+-- the output for all bytes of a file
+abbrev pub IsOfStream : (List ℕ → Output → Type 0) → Option (List ℕ) → Output → Type 0
+IsOfStream Shows file o = IsOf most_of_a_stream Shows file o
 
 -- the output for a file's text and another file's trace, or that memory or a file failed
 pub data IsOfTexts (Shows : List ℕ → List ℕ → Output → Type 0) (file trace_file : Option (List ℕ))
@@ -64,11 +64,8 @@ pub data IsPrinted (ends : AskedEnds) (spares : Type 0) (text : List ℕ) (o : O
   without_file : (e : TakeError) → o ≡ failure_output e → IsPrinted ends spares text o
 
 -- what is printed of a file's text, or that the file failed
-pub data IsOfEnds (ends : AskedEnds) (spares : Type 0) (file : Option (List ℕ)) (o : Output)
-    : Type 0 where
-  shown : (text : List ℕ) → IsTakenOf file most_of_a_text text → IsPrinted ends spares text o
-      → IsOfEnds ends spares file o
-  failed : (e : TakeError) → o ≡ failure_output e → IsOfEnds ends spares file o
+abbrev pub IsOfEnds : AskedEnds → Type 0 → Option (List ℕ) → Output → Type 0
+IsOfEnds ends spares file o = IsOfText (IsPrinted ends spares) file o
 
 -- the views of a run, as lines of JSON or not
 abbrev pub IsViewed : Bool → Wanted → List ℕ → List ℕ → Output → Type 0

@@ -1,13 +1,12 @@
 -- How a search grows, and that it finds all nodes.
-use Rattle.std.proofs.Common.{◌≡◌, ℕ, ◌+◌, ◌<◌, ◌≤◌, ◌⊎◌, List, [], ◌∷◌, ◌++◌, length, refl, ap, sym, ◌∙◌, arith, inl, inr, subst, length-append, append_assoc, Bool, true, false}
-use Rattle.std.proofs.Math.Dec.{ltb}
-use Rattle.std.proofs.lemmas.Bool.{ltb-true, ltb-false}
+use Rattle.std.proofs.Common.{◌≡◌, ℕ, ◌+◌, ◌<◌, ◌≤◌, ◌⊎◌, List, [], ◌∷◌, ◌++◌, length, refl, ap, sym, ◌∙◌, arith, inl, inr, subst, length-append, append_assoc}
+use borrow.Author.Count.{below_more}
 use Rattle.std.proofs.lemmas.List.{get_or_default, append-nil}
 use Rattle.std.specs.Prelude.{slice_index_or}
 use Rattle.std.specs.List.{Contains}
 use Rattle.std.proofs.Math.ListN.{get_or-append}
 use Rattle.std.proofs.Math.Seq.{get_or-append_seam}
-use Rattle.std.proofs.lemmas.List.Elements.{Contains-append_left, Contains-append_cases}
+use Rattle.std.proofs.lemmas.List.Elements.{Contains-append_left}
 use Rattle.sts_code.specs.Program.{Program}
 use Rattle.look_accepted.specs.declared.node.Node.{Node}
 use Rattle.look_accepted.specs.Nodes.{Comes, first, then, first_node, followers}
@@ -15,11 +14,7 @@ use Rattle.look_accepted.specs.Found.{AreFound, Grows, Adds, IsSpread, AreAll}
 
 -- a place in a longer list is an older one or the last
 pub split : (k n : ℕ) → k < n + 1 → (k < n) ⊎ (k ≡ n)
-split k n h = by (ltb k n) refl
-  where
-    by : (b : Bool) → ltb k n ≡ b → (k < n) ⊎ (k ≡ n)
-    by true e = inl (ltb-true k n e)
-    by false e = inr (omega (arith, ltb-false k n e))
+split k n h = below_more (λ j. (j < n) ⊎ (j ≡ n)) n (λ j less. inl less) (inr refl) k h
 
 -- ---- lists that grow
 
@@ -45,16 +40,6 @@ single : (x m : Node) → Contains (x ∷ []) m → m ≡ x
 single x m c = let zero' : c.0 ≡ 0 = omega (arith, c.1) in sym c.2 ∙ ap (λ (k : ℕ). slice_index_or (x ∷ []) k m) zero'
 
 -- ---- one node more
-
-pub adds_known : (nodes : List Node) (n : Node) → Contains nodes n → Adds nodes n nodes
-adds_known nodes n c = record { grows = grows_none nodes; there = c; only = λ m h. inl h }
-
-pub adds_last : (nodes : List Node) (n : Node) → Adds nodes n (nodes ++ n ∷ [])
-adds_last nodes n = record { grows = record { more = n ∷ []; same = refl }; there = holds_last nodes n; only = λ m h. by m (Contains-append_cases nodes (n ∷ []) m h) }
-  where
-    by : (m : Node) → Contains nodes m ⊎ Contains (n ∷ []) m → Contains nodes m ⊎ (m ≡ n)
-    by m (inl h) = inl h
-    by m (inr h) = inr (single n m h)
 
 -- what comes is still all that was found
 pub found_more : (p : Program) (f : ℕ) (old new : List Node) (n : Node) → AreFound p f old → Adds old n new → Comes p f n → AreFound p f new

@@ -1,2 +1,2 @@
 pub mod Answered
-pub mod Floats
+pub mod FloatLemmas

@@ -4,7 +4,6 @@ ghost use Rattle.std.specs.Prelude.{◌≡◌, ℕ, IfOk, List, length};
 ghost use Rattle.serde_json.specs.View.{view, items_view, items_of};
 ghost use Rattle.sts_rules.specs.Refusal.{IsRefusal};
 ghost use Rattle.sts_asm.specs.Source.{outlined as outlined_of};
-ghost use Rattle.sts_output.specs.Output.{AreTold};
 ghost use Rattle.look_cases.specs.Answer as def;
 
 use crate::faults::count_or_null;
@@ -12,6 +11,7 @@ use serde_json::{Value, json};
 use std::alloc::{AllocError, Global};
 use sts_asm::{AsmKind, outlined};
 use sts_code::{Function, Program, name_of};
+use sts_output::verify::all_budgets;
 use sts_rules::{Budgets, Cause};
 use sts_verify::Verified;
 
@@ -70,17 +70,6 @@ fn budget_list(
         list.push(budget(alloc, function.name.as_str(), budgets[i])?)?;
     }
     Ok(list)
-}
-
-/// Returns the budgets of all functions of a program.
-fn all_budgets(alloc: Global, verified: &Verified) -> Result<Vec<Budgets>, AllocError>
-    ensures { IfOk result (λ budgets. AreTold verified.now budgets.items) }
-{
-    let mut budgets = Vec::new(alloc);
-    for function in 0..verified.program().functions().len() {
-        budgets.push(verified.budgets(function))?;
-    }
-    Ok(budgets)
 }
 
 fn accepted_with(alloc: Global, budgets: Vec<Value>) -> Result<Value, AllocError>

@@ -1,7 +1,6 @@
 -- What is printed of the ends of a text, and the trace that is kept (this project's own).
 use Rattle.std.specs.Prelude.{◌≡◌, ◌⊎◌, ℕ, List, [], ◌++◌, Bool, true, false, ◌&&◌}
 use Rattle.std.specs.Prelude.{if◌then◌else◌, Option, Some, None, Result, Ok, Err}
-use Rattle.std.specs.Io.KnownBytes.{Appends}
 use Rattle.sts_code.specs.Program.{Program}
 use Rattle.sts_model.specs.declared.event.Event.{Event}
 use Rattle.sts_rules.specs.Refusal.{IsAccepted, IsRefusal}
@@ -10,8 +9,8 @@ use Rattle.sts_asm.specs.Outline.{Outline}
 use Rattle.sts_asm.specs.Source.{outlined}
 use Rattle.sts_asm.specs.Text.{judged}
 use Rattle.sts_asm.specs.declared.fault.AsmError.{AsmError}
-use Rattle.sts_trace.specs.Spelling.{trace_text}
-use Rattle.sts_output.specs.Output.{Output, Writes, file_output, memory_output}
+use Rattle.sts_output.specs.Output.{Output, memory_output}
+use Rattle.sts_output.specs.Streams.{Written, WritesBoth}
 use Rattle.ends_plain.specs.Ends.{AreAll}
 use Rattle.ends_plain.specs.Listed.{AreEnds, ends_of}
 use Rattle.ends_plain.specs.declared.config.Found.{Found}
@@ -129,16 +128,6 @@ IsOutcomeOf wanted number text r =
 
 -- ---- what is written
 
--- the bytes that the trace and the stream hold before and after, where they are known
-pub record Written : Type 0 where
-  pub trace_old : Option (List ℕ)
-  pub trace_new : Option (List ℕ)
-  pub out_old : Option (List ℕ)
-  pub out_new : Option (List ℕ)
-
--- the trace is written to its file, and the output to the stream; if the file failed, only that is
--- written to the stream
-pub data WritesBoth (w : Written) (status : ℕ) (r : Outcome) : Type 0 where
-  whole : Appends w.trace_old w.trace_new (trace_text r.trace)
-      → Writes w.out_old w.out_new status r.output → WritesBoth w status r
-  no_trace : Writes w.out_old w.out_new status file_output → WritesBoth w status r
+-- the trace that is kept is written to its file, and the output to the stream
+abbrev pub ListingWrites : Written → ℕ → Outcome → Type 0
+ListingWrites w status r = WritesBoth w status r.trace r.output

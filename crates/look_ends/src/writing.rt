@@ -66,7 +66,7 @@ pub fn write_ends_and_trace<P: Progress, T: Write, W: Write>(
     unwritten: &mut Option<io::Error>,
 ) -> Result<u8, WriteFailed>
     ensures { IfOk result (λ s. (o : def.Outcome) × def.IsOutcomeOf wanted (Some number) text.now o
-        × def.WritesBoth (record {
+        × def.ListingWrites (record {
           trace_old = T.contents trace.old;
           trace_new = T.contents trace.new;
           out_old = W.contents out.old;

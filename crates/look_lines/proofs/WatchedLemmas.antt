@@ -4,27 +4,16 @@ use Rattle.std.proofs.lemmas.List.{take_more, length-take-le}
 use Rattle.sts_code.specs.Program.{Program}
 use Rattle.sts_model.specs.declared.event.Event.{Event}
 use Rattle.sts_model.specs.World.{World, State, opening}
-use Rattle.sts_model.specs.Run.{after, apply, counts, is_step, taken, taken_from}
+use Rattle.sts_model.specs.Run.{after, apply, counts, is_step, taken}
 use Rattle.laws_runs.proofs.RunLemmas.{after-append, taken_one_more}
 use Rattle.sts_plain.specs.Seen.{one_more}
+use Rattle.sts_output.proofs.RunLemmas.{taken_few}
 use Rattle.look_lines.specs.Watched.{Watched, after_event, last_from, last_of, last_world, no_world, watched}
 
 -- the world as it last ran, after one event more
 last_one_more : (p : Program) (before : World) (state : State) (events : List Event) (e : Event) → last_from p before state (events ++ e ∷ []) ≡ last_of (last_from p before state events) (apply p (fold (apply p) state events) e)
 last_one_more p before state [] e = refl
 last_one_more p before state (x ∷ xs) e = last_one_more p (last_of before state) (apply p state x) xs e
-
-at_most_one : (b : Bool) → cond b 1 0 ≤ 1
-at_most_one true = omega arith
-at_most_one false = omega arith
-
--- no more steps are taken than there are events
-pub taken_few : (es : List Event) (p : Program) (state : State) → taken_from p state es ≤ length es
-taken_few [] p state = omega arith
-taken_few (e ∷ es) p state =
-    let one = at_most_one (is_step e && counts p state e) in
-    let more = taken_few es p (apply p state e) in
-    omega arith
 
 counted : (b : Bool) (n : ℕ) → n < 2 ^ 64 - 1 → one_more b n ≡ n + cond b 1 0
 counted true n h = omega arith

@@ -36,48 +36,57 @@ pub enum Mark {
     Fault,
 }
 
+/// The class of a mark, for the style, and its shape from its point, as an SVG path.
+#[derive(Clone, Copy)]
+struct Appearance {
+    class: &'static str,
+    shape: &'static str,
+}
+
+fn appearance_of(class: &'static str, shape: &'static str) -> Appearance
+    ensures class { result.class.now ≡ class.now }
+    ensures shape { result.shape.now ≡ shape.now }
+{
+    Appearance { class, shape }
+}
+
 impl Mark {
+    fn appearance(self) -> Appearance
+        ensures class { result.class.now ≡ def.class self }
+        ensures shape { result.shape.now ≡ def.shape self }
+    {
+        match self {
+            Mark::Ready => appearance_of("ready", "h24"),
+            Mark::Waits => appearance_of("waits", "h24"),
+            Mark::Step => appearance_of("step", "m-4 0a4 4 0 1 0 8 0a4 4 0 1 0-8 0"),
+            Mark::Success => appearance_of("success", "m7 0l4 5l8-10"),
+            Mark::Failed => appearance_of("failed", "m8-5l10 10m0-10l-10 10"),
+            Mark::Unheard => appearance_of("unheard", "m8 0a5 5 0 1 0 10 0a5 5 0 1 0-10 0"),
+            Mark::NeverStarted => appearance_of("never-started", "m8-5h10v10h-10z"),
+            Mark::Interrupted => appearance_of("interrupted", "m2-21l-6 8h5l-3 7l8-9h-5l4-6z"),
+            Mark::Bracket => appearance_of("bracket", "h24"),
+            Mark::Closing => appearance_of("closing", "h24"),
+            Mark::Edge => appearance_of("edge", "m0-4v8"),
+            Mark::Expired => appearance_of("expired", "m4-4h7l-7 8h7z"),
+            Mark::Cancelled => appearance_of(
+                "cancelled",
+                "m13 0a4 4 0 1 0 8 0a4 4 0 1 0-8 0m1.2 2.8l5.6-5.6",
+            ),
+            Mark::Fault => appearance_of("fault", "m14-9v10m0 4v3"),
+        }
+    }
+
     /// The class that the style knows it by.
     pub fn class(self) -> &'static str
         ensures { result.now ≡ def.class self }
     {
-        match self {
-            Mark::Ready => "ready",
-            Mark::Waits => "waits",
-            Mark::Step => "step",
-            Mark::Success => "success",
-            Mark::Failed => "failed",
-            Mark::Unheard => "unheard",
-            Mark::NeverStarted => "never-started",
-            Mark::Interrupted => "interrupted",
-            Mark::Bracket => "bracket",
-            Mark::Closing => "closing",
-            Mark::Edge => "edge",
-            Mark::Expired => "expired",
-            Mark::Cancelled => "cancelled",
-            Mark::Fault => "fault",
-        }
+        self.appearance().class
     }
 
     /// The shape of the mark from its point, as an SVG path.
     pub fn shape(self) -> &'static str
         ensures { result.now ≡ def.shape self }
     {
-        match self {
-            Mark::Ready => "h24",
-            Mark::Waits => "h24",
-            Mark::Step => "m-4 0a4 4 0 1 0 8 0a4 4 0 1 0-8 0",
-            Mark::Success => "m7 0l4 5l8-10",
-            Mark::Failed => "m8-5l10 10m0-10l-10 10",
-            Mark::Unheard => "m8 0a5 5 0 1 0 10 0a5 5 0 1 0-10 0",
-            Mark::NeverStarted => "m8-5h10v10h-10z",
-            Mark::Interrupted => "m2-21l-6 8h5l-3 7l8-9h-5l4-6z",
-            Mark::Bracket => "h24",
-            Mark::Closing => "h24",
-            Mark::Edge => "m0-4v8",
-            Mark::Expired => "m4-4h7l-7 8h7z",
-            Mark::Cancelled => "m13 0a4 4 0 1 0 8 0a4 4 0 1 0-8 0m1.2 2.8l5.6-5.6",
-            Mark::Fault => "m14-9v10m0 4v3",
-        }
+        self.appearance().shape
     }
 }

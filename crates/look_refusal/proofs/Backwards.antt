@@ -1,20 +1,23 @@
 -- The walk back along a trail: the amount of each step, and that the numbers fit.
-use Rattle.std.proofs.Common.{◌≡◌, ℕ, ◌+◌, ◌-◌, ◌*◌, ◌<◌, ◌≤◌, ◌⊎◌, min, List, [], ◌∷◌, length, Some, None, true, false, inl, inr, refl, sym, ap, ◌∙◌, subst, arith, mul-le-mul_left}
+use Rattle.std.proofs.Common.{◌≡◌, ℕ, ◌+◌, ◌-◌, ◌*◌, ◌<◌, ◌≤◌, ◌⊎◌, min, List, [], ◌∷◌, length, get_or, Bool, Option, Some, None, true, false, inl, inr, refl, sym, ap, ◌∙◌, subst, arith, mul-le-mul_left}
 use Rattle.std.proofs.lemmas.Bool.{cases_eq}
+use Rattle.sts_code.specs.declared.instr.Instr.{Instr}
+use Rattle.sts_code.specs.declared.instr.Instr.TheVariants.{Ret}
 use Rattle.sts_code.specs.Program.{instr_at}
 use Rattle.sts_rules.specs.Around.{around}
 use Rattle.sts_rules.specs.ControlPaths.{GoesTo, Among}
 use Rattle.sts_budget.specs.Structured.{Led, from_go, from_head, from_end, bound_of}
 use Rattle.sts_budget.specs.Sums.{FitsEntries, gain, base, last_turns}
+use Rattle.sts_budget.proofs.LaidStepLemmas.{any_default}
 use Rattle.look_refusal.specs.declared.search.Loop.{Loop}
 use Rattle.look_refusal.specs.declared.search.Search.{Search}
 use Rattle.look_refusal.specs.declared.search.Spot.{Spot}
 use Rattle.look_refusal.specs.declared.shares.Shares.{Shares}
 use Rattle.look_refusal.specs.declared.trail.Trail.{Trail}
-use Rattle.look_refusal.specs.Search.{IsReady, IsSpot, IsLoop, LeadsOn, paths, flow, ends_turn}
+use Rattle.look_refusal.specs.Search.{IsReady, IsSpot, IsLoop, LeadsOn, OpensLoop, paths, flow, ends_turn}
 use Rattle.look_refusal.specs.Trail.{IsTrail, IsFrom, handed, looped, sum_in, best_in, greatest_number}
 use Rattle.look_refusal.specs.Walk.{AreParts, IsBegin, IsStepBack, IsWalked, IsWalkedBack, IsWalkedBackOut, rest_in}
-use Rattle.look_refusal.proofs.Leading.{Way, straight, looping, way_of, leads_straight, leads_loop, leads_later, handed_straight, handed_loop}
+use Rattle.look_refusal.proofs.Leading.{Way, straight, looping, around_found, around_missing, way_of, leads_straight, leads_loop, leads_later, handed_straight, handed_loop}
 use Rattle.look_refusal.proofs.Tables.{fits_here}
 use Rattle.look_refusal.proofs.Walking.{walked_none, walked_both, walked_straight, walked_skip, walked_loop, walked_out}
 
@@ -67,6 +70,13 @@ module _ (s : Search) (ready : IsReady s) (t : Trail) (trail : IsTrail s t) wher
   -- the place before a spot
   pub from_is : (at : Spot) (q : ℕ) → IsSpot s at → (best_in t at.place at.depth).from ≡ Some q → (q < at.place) × LeadsOn s q at.place × (sum_in t at.place at.depth ≡ handed s (sum_in t) q at.depth)
   from_is at q spot e = subst (IsFrom s (sum_in t) at.place at.place at.depth (sum_in t at.place at.depth)) e (trail.row at.place spot.in_code at.depth spot.shallow).from
+
+  -- whether the instruction on the way back ends a turn
+  pub ends_turn_at : (at : Spot) (q : ℕ) (d : Instr) (answer b : Bool) → IsSpot s at → (best_in t at.place at.depth).from ≡ Some q → answer ≡ ends_turn (get_or s.code.now q d) → answer ≡ b → ends_turn (instr_at s.code.now q) ≡ b
+  ends_turn_at at q d answer b spot e is told =
+      let f = from_is at q spot e in
+      let within : q < length s.code.now = omega (arith, f.0, spot.in_code) in
+      sym (is ∙ ap ends_turn (any_default s.code.now q d Ret within)) ∙ told
 
   -- ---- over an instruction that is no loop's
 
@@ -411,6 +421,22 @@ module _ (s : Search) (ready : IsReady s) (t : Trail) (trail : IsTrail s t) wher
           let g = ready.good.loop p n.0.0 n.0.1 in
           let place = ap (λ (x : Spot). x.place) (b.inside p hs is) in
           omega (arith, place, g.1, g.2)
+
+  -- a loop opens at the head that is found
+  pub loop_opens : (at turn : Spot) (head : ℕ) (found d : Option ℕ) → IsBegin s at turn → found ≡ get_or s.layout.now.heads.items turn.place d → found ≡ Some head → OpensLoop s head
+  loop_opens at turn head found d b is told =
+      let r = around_found s ready turn.place head found d (turn_in at turn b) is told in
+      (ready.good.nested turn.place head r.0 r.1).0
+
+  -- the turn is one of the loop with the head that is found
+  pub turn_of_loop : (l : Loop) (at turn : Spot) (head : ℕ) (found d : Option ℕ) → l.head ≡ head → IsBegin s at turn → found ≡ get_or s.layout.now.heads.items turn.place d → found ≡ Some head → (turn ≡ record { place = l.head + 1; depth = min at.depth ((flow s).depth l.head) }) × (around s.code.now at.place ≡ l.head ∷ around s.code.now l.head)
+  turn_of_loop l at turn head found d same b is told =
+      let r = around_found s ready turn.place head found d (turn_in at turn b) is told in
+      subst (λ h. (turn ≡ record { place = h + 1; depth = min at.depth ((flow s).depth h) }) × (around s.code.now at.place ≡ h ∷ around s.code.now h)) (sym same) (turn_inside at turn head r.0 b r.1)
+
+  -- no head is found outside all loops
+  pub turn_of_none : (at turn : Spot) (found d : Option ℕ) → IsBegin s at turn → found ≡ get_or s.layout.now.heads.items turn.place d → found ≡ None → (turn ≡ record { place = 0; depth = 0 }) × (around s.code.now at.place ≡ [])
+  turn_of_none at turn found d b is told = turn_outside at turn b (around_missing s ready turn.place found d (turn_in at turn b) is told)
 
   pub next_spot : (l : Loop) (at turn next : Spot) (v1 v2 : Shares) → IsLoop s l → turn ≡ record { place = l.head + 1; depth = min at.depth ((flow s).depth l.head) } → IsWalkedBackOut s t l turn next v1 v2 → IsSpot s next
   next_spot l at turn next v1 v2 is turn_same out =

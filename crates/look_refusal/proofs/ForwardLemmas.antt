@@ -128,9 +128,7 @@ never_budget p f pc s k e =
   where
     never : (k : Resource) (i : Instr) → holds p f pc i s (cause_of k) ≡ true → ⊥
     never Steps i h = absurd (cc)
-    never Tasks i h = absurd (cc)
-    never Scopes i h = absurd (cc)
-    never Binds i h = absurd (cc)
+    never _ i h = absurd (cc)
 
 -- ---- turns
 

@@ -30,6 +30,11 @@ module _ (s : Search) (ready : IsReady s) (t : Trail) (trail : IsTrail s t) wher
       ∙ ap (λ x. looped s (sum_in t) l.head l.end (l.turns - 1) x ((flow s).depth l.head) + sum_in t pc ((flow s).depth pc)) (sym stands_is)
       ∙ ap (λ x. looped s (sum_in t) l.head l.end (l.turns - 1) stands x + sum_in t pc ((flow s).depth pc)) (sym d_is)
 
+  -- the same, by the head that was found, its full sum and its depth
+  pub full_over : (l : Loop) → IsLoop s l → (pc head : ℕ) (ps : List ℕ) (stands d : ℕ) → around s.code.now pc ≡ head ∷ ps → l.head ≡ head → stands ≡ full_in s t head → d ≡ (flow s).depth head → full_in s t pc ≡ looped s (sum_in t) l.head l.end (l.turns - 1) stands d + sum_in t pc ((flow s).depth pc)
+  full_over l is pc head ps stands d round same stands_is d_is =
+      full_by l is pc ps (round ∙ ap (λ x. x ∷ ps) (sym same)) stands d (stands_is ∙ ap (λ x. full_in s t x) (sym same)) (d_is ∙ ap (flow s).depth (sym same))
+
   pub full_alone : (pc : ℕ) → around s.code.now pc ≡ [] → full_in s t pc ≡ sum_in t pc ((flow s).depth pc)
   full_alone pc round = full_outside (paths s) (around s.code.now) ready.good (flow s) (fits_here s ready) (sum_in t) (is_table s ready t trail) pc round
 

@@ -11,7 +11,8 @@ use Rattle.sts_code.specs.Facts.{targets}
 use Rattle.sts_rules.specs.Around.{next_place}
 use Rattle.sts_rules.specs.Budget.{shape_of}
 use Rattle.sts_rules.specs.ControlPaths.{GoesTo, Repeats, EndsTurn, EndsPath}
-use Rattle.look_refusal.specs.Search.{ends_turn, ends_path, turns_of}
+use Rattle.sts_budget.specs.Handing.{turns_of}
+use Rattle.look_refusal.specs.Search.{ends_turn, ends_path}
 
 -- it goes on without a loop, opens one, ends a turn of one, or ends the path
 pub data Kind (pc : ℕ) (i : Instr) : Type 0 where
@@ -21,41 +22,11 @@ pub data Kind (pc : ℕ) (i : Instr) : Type 0 where
   ends : ends_turn i ≡ false → ends_path i ≡ true → targets i ++ next_place pc i ≡ [] → shape_of pc i ≡ EndsPath → Kind pc i
 
 pub kind : (pc : ℕ) (i : Instr) → Kind pc i
-kind pc (Push k) = goes refl refl refl refl
-kind pc Pop = goes refl refl refl refl
-kind pc Dup = goes refl refl refl refl
-kind pc Swap = goes refl refl refl refl
-kind pc (Load x) = goes refl refl refl refl
-kind pc (Store x) = goes refl refl refl refl
-kind pc Add = goes refl refl refl refl
-kind pc Sub = goes refl refl refl refl
-kind pc Mul = goes refl refl refl refl
-kind pc Lt = goes refl refl refl refl
-kind pc Eq = goes refl refl refl refl
-kind pc (Div to) = goes refl refl refl refl
-kind pc (Jmp to) = goes refl refl refl refl
-kind pc (Jz to) = goes refl refl refl refl
 kind pc (Times n) = opens refl refl refl
 kind pc Next = turns refl refl refl refl refl
-kind pc (Open x j timed) = goes refl refl refl refl
-kind pc (Fork x g h) = goes refl refl refl refl
-kind pc (Join x a b c) = goes refl refl refl refl
-kind pc (Close x) = goes refl refl refl refl
-kind pc (Cancelled x) = goes refl refl refl refl
-kind pc (Case h a b) = goes refl refl refl refl
-kind pc (Get h) = goes refl refl refl refl
-kind pc (Except h) = goes refl refl refl refl
-kind pc (Tally x k) = goes refl refl refl refl
-kind pc (Total x) = goes refl refl refl refl
-kind pc (Forget h) = goes refl refl refl refl
-kind pc (Bind k) = goes refl refl refl refl
-kind pc Unbind = goes refl refl refl refl
-kind pc (Read k) = goes refl refl refl refl
-kind pc (Bound k) = goes refl refl refl refl
-kind pc (OrElse k) = goes refl refl refl refl
-kind pc Interrupted = goes refl refl refl refl
 kind pc Ret = ends refl refl refl refl
 kind pc Fail = ends refl refl refl refl
+kind pc _ = goes refl refl refl refl
 
 -- what ends a path
 pub path_ends : (pc : ℕ) (i : Instr) → ends_path i ≡ true → shape_of pc i ≡ EndsPath

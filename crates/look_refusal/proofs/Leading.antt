@@ -1,5 +1,5 @@
 -- The places that instructions lead to, and the sums that they hand on.
-use Rattle.std.proofs.Common.{◌≡◌, ℕ, ◌+◌, ◌*◌, ◌<◌, List, [], ◌∷◌, ◌++◌, length, get_or, Bool, true, false, cond, Some, None, unwrap_or, inl, inr, refl, sym, ap, ◌∙◌, subst, arith}
+use Rattle.std.proofs.Common.{◌≡◌, ℕ, ◌+◌, ◌*◌, ◌<◌, List, [], ◌∷◌, ◌++◌, length, get_or, Bool, true, false, cond, Option, Some, None, unwrap_or, inl, inr, refl, sym, ap, ◌∙◌, subst, arith}
 use Rattle.sts_code.specs.Facts.{targets}
 use Rattle.sts_code.specs.Program.{instr_at}
 use Rattle.sts_rules.specs.Around.{next_place, around}
@@ -7,8 +7,10 @@ use Rattle.sts_rules.specs.ControlPaths.{GoesTo, Repeats, EndsTurn, EndsPath, Am
 use Rattle.sts_budget.specs.Laid.{first_of}
 use Rattle.sts_budget.specs.Ready.{head_in}
 use Rattle.sts_budget.specs.Sums.{gain}
+use Rattle.sts_budget.proofs.LaidStepLemmas.{any_default}
 use Rattle.look_refusal.specs.declared.search.Search.{Search}
-use Rattle.look_refusal.specs.Search.{IsReady, IsLoop, LeadsOn, paths, flow, ends_turn, turns_of}
+use Rattle.sts_budget.specs.Handing.{turns_of}
+use Rattle.look_refusal.specs.Search.{IsReady, IsLoop, LeadsOn, paths, flow, ends_turn}
 use Rattle.look_refusal.specs.Trail.{handed, looped}
 use Rattle.look_refusal.proofs.Instrs.{Kind, kind, goes, opens, turns, ends}
 
@@ -61,6 +63,17 @@ module _ (s : Search) (ready : IsReady s) where
       by : (hs : List ℕ) → around s.code.now pc ≡ hs → around s.code.now pc ≡ []
       by [] is = is
       by (x ∷ xs) is = let no : None ≡ Some x = sym e ∙ ready.heads pc within ∙ ap first_of is in absurd (cc)
+
+  -- the head that was looked up at a place, whatever was read past the end
+  found_is : (pc : ℕ) (found d o : Option ℕ) → pc < length s.code.now → found ≡ get_or s.layout.now.heads.items pc d → found ≡ o → get_or s.layout.now.heads.items pc None ≡ o
+  found_is pc found d o within is told =
+      sym (is ∙ any_default s.layout.now.heads.items pc d None (omega (arith, ready.heads_long, within))) ∙ told
+
+  pub around_found : (pc head : ℕ) (found d : Option ℕ) → pc < length s.code.now → found ≡ get_or s.layout.now.heads.items pc d → found ≡ Some head → (ps : List ℕ) × (around s.code.now pc ≡ head ∷ ps)
+  around_found pc head found d within is told = around_head pc head within (found_is pc found d (Some head) within is told)
+
+  pub around_missing : (pc : ℕ) (found d : Option ℕ) → pc < length s.code.now → found ≡ get_or s.layout.now.heads.items pc d → found ≡ None → around s.code.now pc ≡ []
+  around_missing pc found d within is told = around_none pc within (found_is pc found d None within is told)
 
   -- the way from a place to a place after it
   pub data Way (from to : ℕ) : Type 0 where

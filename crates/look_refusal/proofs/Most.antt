@@ -81,9 +81,7 @@ top_most s t place most weight top trail ready le = none_heavier s.earlier.now s
 
 own_small : (k : Resource) → own_of k ≤ 1
 own_small Steps = omega arith
-own_small Tasks = omega arith
-own_small Scopes = omega arith
-own_small Binds = omega arith
+own_small _ = omega arith
 
 -- if the greatest sum isn't 0, some place has it
 pub top_there : (s : Search) (t : Trail) (place most : ℕ) → IsTop s t (length s.code.now) place most → 1 < own_of s.resource + most → (place < length s.code.now) × (may_end s place ≡ true) × (full_in s t place ≡ most)

@@ -95,9 +95,7 @@ phase_read p q xs ys e = absurd (omega (arith, byte 1 e))
 -- no phase is called `timed`
 not_timed : (p : TypedPhase) (xs ys : List ℕ) → codes " timed" ++ xs ≡ phase_words p ++ ys → ⊥
 not_timed Opened xs ys e = omega (arith, byte 1 e)
-not_timed Attempted xs ys e = omega (arith, byte 1 e)
-not_timed Joined xs ys e = omega (arith, byte 1 e)
-not_timed Late xs ys e = omega (arith, byte 1 e)
+not_timed _ xs ys e = omega (arith, byte 1 e)
 
 -- what follows the joiner
 abbrev ending : Bool → TypedPhase → List ℕ → List ℕ
@@ -118,10 +116,7 @@ ending_first false Late more = refl
 
 joiner_first : (j : Joiner) (more : List ℕ) → NoDigit (after_spaces (joiner_words j) ++ more)
 joiner_first AllSucceed more = refl
-joiner_first AnySucceeds more = refl
-joiner_first AwaitOk more = refl
-joiner_first AwaitAll more = refl
-joiner_first (Until c) more = refl
+joiner_first _ more = refl
 
 -- what follows the slot
 abbrev after_slot : TypedScope → List ℕ → List ℕ

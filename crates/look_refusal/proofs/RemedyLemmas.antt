@@ -17,26 +17,14 @@ use Rattle.look_refusal.specs.Ways.{IsReached, AreClear}
 
 -- no budget
 no_excess : (earlier : List Budgets) (code : List Instr) (c : Cause) → Exceeds earlier code c → fixed_remedy c ≡ None → ⊥
-no_excess earlier code StackUnder x e = absurd (cc)
-no_excess earlier code StackOver x e = absurd (cc)
-no_excess earlier code FallsOff x e = absurd (cc)
-no_excess earlier code BackJump x e = absurd (cc)
 no_excess earlier code LoopMismatch x e = absurd (x)
-no_excess earlier code LoopDepth x e = absurd (cc)
-no_excess earlier code StatesDiffer x e = absurd (cc)
-no_excess earlier code DeadCode x e = absurd (cc)
 no_excess earlier code SlotKind x e = absurd (x)
 no_excess earlier code SlotBusy x e = absurd (x)
-no_excess earlier code WrongThread x e = absurd (cc)
 no_excess earlier code IllegalState x e = absurd (x)
 no_excess earlier code Structure x e = absurd (x)
-no_excess earlier code Nesting x e = absurd (cc)
 no_excess earlier code Unbound x e = absurd (x)
 no_excess earlier code JoinEdges x e = absurd (x)
-no_excess earlier code TooManySteps x e = absurd (cc)
-no_excess earlier code TooManyTasks x e = absurd (cc)
-no_excess earlier code TooManyScopes x e = absurd (cc)
-no_excess earlier code TooManyBinds x e = absurd (cc)
+no_excess earlier code _ x e = absurd (cc)
 
 -- the place is reached, and two ways don't differ there
 reached_by : (p : Program) (f pc : ℕ) (c : Cause) → fixed_remedy c ≡ None → HasCause (typing p f) pc c → IsReached p f pc

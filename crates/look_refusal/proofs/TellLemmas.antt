@@ -43,27 +43,14 @@ no_budget p f c steps tasks scopes binds Binds e = absurd (binds e)
 -- no budget is why ways differ
 pub heavy_cause : (k : Resource) → cause_of k ≢ StatesDiffer
 heavy_cause Steps e = absurd (cc)
-heavy_cause Tasks e = absurd (cc)
-heavy_cause Scopes e = absurd (cc)
-heavy_cause Binds e = absurd (cc)
+heavy_cause _ e = absurd (cc)
 
 one_resource : (k j : Resource) → cause_of k ≡ cause_of j → k ≡ j
 one_resource Steps Steps e = refl
 one_resource Tasks Tasks e = refl
 one_resource Scopes Scopes e = refl
 one_resource Binds Binds e = refl
-one_resource Steps Tasks e = absurd (cc)
-one_resource Steps Scopes e = absurd (cc)
-one_resource Steps Binds e = absurd (cc)
-one_resource Tasks Steps e = absurd (cc)
-one_resource Tasks Scopes e = absurd (cc)
-one_resource Tasks Binds e = absurd (cc)
-one_resource Scopes Steps e = absurd (cc)
-one_resource Scopes Tasks e = absurd (cc)
-one_resource Scopes Binds e = absurd (cc)
-one_resource Binds Steps e = absurd (cc)
-one_resource Binds Tasks e = absurd (cc)
-one_resource Binds Scopes e = absurd (cc)
+one_resource k j e = absurd (cc)
 
 -- if ways differ, no budget is over its limit
 pub type_refusal : (p : Program) (f pc : ℕ) (c : Cause) → c ≡ StatesDiffer → IsUnsound p f pc c → IsTypeRefusal p f pc StatesDiffer
@@ -80,9 +67,7 @@ heavy_told p o f pc k h before after is e = told (weight_lines o f k h) (weighs 
 
 dead_cause : (k : Resource) → DeadCode ≡ cause_of k → ⊥
 dead_cause Steps e = absurd (cc)
-dead_cause Tasks e = absurd (cc)
-dead_cause Scopes e = absurd (cc)
-dead_cause Binds e = absurd (cc)
+dead_cause _ e = absurd (cc)
 
 -- no budget is the cause of an instruction by itself
 no_cause : (p : Program) (f pc : ℕ) (k : Resource) (c : Cause) → c ≡ cause_of k → HasCause (typing p f) pc c → ⊥

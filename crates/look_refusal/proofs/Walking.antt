@@ -14,12 +14,6 @@ use Rattle.look_refusal.proofs.Extending.{plus, fold_of, nothing, extends_none, 
 
 -- ---- what was added
 
--- at one place
-pub set_raised : (pc amount times : ℕ) (before after : Shares) → pc < length before.places.items → after.places.items ≡ set before.places.items pc (get_or before.places.items pc 0 + times * amount) → after.total ≡ before.total + times * amount → IsRaised times (one pc amount) before after
-set_raised pc amount times before after within is all = record {
-  long = ap length is ∙ length-set before.places.items pc _;
-  at = λ x. ap (λ l. get_or l x 0) is ∙ here x (pc == x) refl;
-  all = all;
 }
   where
     here : (x : ℕ) (b : Bool) → pc == x ≡ b → get_or (set before.places.items pc (get_or before.places.items pc 0 + times * amount)) x 0 ≡ get_or before.places.items x 0 + times * cond b amount 0
@@ -80,94 +74,77 @@ body_as c f h e d turn end body p q r t way loops =
     (subst (λ x. Extends c f x (h + 1) loops end.depth end.place loops body) q
     (subst (λ x. Extends c f turn.depth x loops end.depth end.place loops body) p (way loops))))
 
-pub walked_loop : (z : Search) (l : Loop) (times many : ℕ) (to turn end at : Spot) (s t u v : Shares) → IsLoop z l → to.place ≡ l.end + 1 → IsSpot z to → turn.place ≡ l.head + 1 → turn.depth ≡ to.depth → IsSpot z turn → many ≡ times * l.turns → IsStepBack (flow z) l.end to many s t end → IsWalked (paths z) (flow z) many turn end t u → IsStepBack (flow z) l.head turn times u v at → IsWalked (paths z) (flow z) times at to s v
-walked_loop z l times many to turn end at s t u v is behind low begins same lower many_is last (body, (way, raised)) first = by l.turns is.some refl
-  where
-    c : Skeleton
-    c = paths z
+module _ (z : Search) (l : Loop) where
+  abbrev c : Skeleton
+  c = paths z
 
-    f : Flows
-    f = flow z
+  abbrev f : Flows
+  f = flow z
 
-    h : ℕ
-    h = l.head
+  abbrev h : ℕ
+  h = l.head
 
-    e : ℕ
-    e = l.end
+  abbrev e : ℕ
+  e = l.end
 
-    d : ℕ
-    d = to.depth
+  -- what a turn adds, with the end of the turn before it
+  abbrev turn_of : Amounts → ℕ → Amounts
+  turn_of body d = plus body (one e (f.added e d))
 
-    turn_of : Amounts
-    turn_of = plus body (one e (f.added e d))
+  pub walked_loop : (times many : ℕ) (to turn end at : Spot) (s t u v : Shares) → IsLoop z l → to.place ≡ l.end + 1 → IsSpot z to → turn.place ≡ l.head + 1 → turn.depth ≡ to.depth → IsSpot z turn → many ≡ times * l.turns → IsStepBack (flow z) l.end to many s t end → IsWalked (paths z) (flow z) many turn end t u → IsStepBack (flow z) l.head turn times u v at → IsWalked (paths z) (flow z) times at to s v
+  walked_loop times many to turn end at s t u v is behind low begins same lower many_is last (body, (way, raised)) first = by l.turns is.some refl
+    where
+      d : ℕ
+      d = to.depth
 
-    each : (loops : Loops) → Extends c f d (h + 1) loops (f.source e d) e loops body
-    each = body_as c f h e d turn end body begins same last.place last.depth way
+      each : (loops : Loops) → Extends c f d (h + 1) loops (f.source e d) e loops body
+      each = body_as c f h e d turn end body begins same last.place last.depth way
 
-    lower_is : d ≤ f.depth (h + 1)
-    lower_is = subst (λ x. x ≤ f.depth (h + 1)) same (subst (λ x. turn.depth ≤ f.depth x) begins lower.shallow)
+      lower_is : d ≤ f.depth (h + 1)
+      lower_is = subst (λ x. x ≤ f.depth (h + 1)) same (subst (λ x. turn.depth ≤ f.depth x) begins lower.shallow)
 
-    low_is : d ≤ f.depth (e + 1)
-    low_is = subst (λ x. d ≤ f.depth x) behind low.shallow
+      low_is : d ≤ f.depth (e + 1)
+      low_is = subst (λ x. d ≤ f.depth x) behind low.shallow
 
-    head_raised : IsRaised times (one h (f.added h d)) u v
-    head_raised = subst (λ x. IsRaised times (one h (f.added h x)) u v) same first.raised
+      head_raised : IsRaised times (one h (f.added h d)) u v
+      head_raised = subst (λ x. IsRaised times (one h (f.added h x)) u v) same first.raised
 
-    depth_is : at.depth ≡ f.source h d
-    depth_is = first.depth ∙ ap (λ x. f.source h x) same
+      depth_is : at.depth ≡ f.source h d
+      depth_is = first.depth ∙ ap (λ x. f.source h x) same
 
-    by : (n : ℕ) → 0 < n → l.turns ≡ n → IsWalked c f times at to s v
-    by zero lt q = absurd (omega arith)
-    by (suc n) lt q =
-        let opens : c.shape h ≡ Repeats (suc n) = is.opens ∙ ap (λ k. Repeats k) q in
-        let a = plus (one h (f.added h d)) (fold_of (suc n) turn_of) in
-        let all = raised_both many (one e (f.added e d)) body s t u last.raised raised in
-        let folded = raised_fold times (suc n) many turn_of s u (many_is ∙ ap (λ k. times * k) q) all in
-        (a, (λ loops. step_as c f h to at loops loops a first.place depth_is (subst (λ x. Extends c f (f.source h d) h loops d x loops a) (sym behind) (over_loop c f h e d n body each lower_is low_is opens is.ends loops)), raised_both times (fold_of (suc n) turn_of) (one h (f.added h d)) s u v folded head_raised))
+      by : (n : ℕ) → 0 < n → l.turns ≡ n → IsWalked c f times at to s v
+      by zero lt q = absurd (omega arith)
+      by (suc n) lt q =
+          let opens : c.shape h ≡ Repeats (suc n) = is.opens ∙ ap (λ k. Repeats k) q in
+          let a = plus (one h (f.added h d)) (fold_of (suc n) (turn_of body d)) in
+          let all = raised_both many (one e (f.added e d)) body s t u last.raised raised in
+          let folded = raised_fold times (suc n) many (turn_of body d) s u (many_is ∙ ap (λ k. times * k) q) all in
+          (a, (λ loops. step_as c f h to at loops loops a first.place depth_is (subst (λ x. Extends c f (f.source h d) h loops d x loops a) (sym behind) (over_loop c f h e d n body each lower_is low_is opens is.ends loops)), raised_both times (fold_of (suc n) (turn_of body d)) (one h (f.added h d)) s u v folded head_raised))
 
-pub walked_out : (z : Search) (l : Loop) (many : ℕ) (turn end at : Spot) (s t u v : Shares) → IsLoop z l → turn.place ≡ l.head + 1 → IsSpot z turn → many ≡ l.turns - 1 → IsStepBack (flow z) l.end turn many s t end → IsWalked (paths z) (flow z) many turn end t u → IsStepBack (flow z) l.head turn 1 u v at → IsWalkedOut (paths z) (flow z) at turn s v
-walked_out z l many turn end at s t u v is begins low many_is last (body, (way, raised)) first = by l.turns is.some refl
-  where
-    c : Skeleton
-    c = paths z
+  pub walked_out : (many : ℕ) (turn end at : Spot) (s t u v : Shares) → IsLoop z l → turn.place ≡ l.head + 1 → IsSpot z turn → many ≡ l.turns - 1 → IsStepBack (flow z) l.end turn many s t end → IsWalked (paths z) (flow z) many turn end t u → IsStepBack (flow z) l.head turn 1 u v at → IsWalkedOut (paths z) (flow z) at turn s v
+  walked_out many turn end at s t u v is begins low many_is last (body, (way, raised)) first = by l.turns is.some refl
+    where
+      each : (loops : Loops) → Extends c f turn.depth (h + 1) loops (f.source e turn.depth) e loops body
+      each = body_as c f h e turn.depth turn end body begins refl last.place last.depth way
 
-    f : Flows
-    f = flow z
+      low_is : turn.depth ≤ f.depth (h + 1)
+      low_is = subst (λ x. turn.depth ≤ f.depth x) begins low.shallow
 
-    h : ℕ
-    h = l.head
-
-    e : ℕ
-    e = l.end
-
-    d : ℕ
-    d = turn.depth
-
-    turn_of : Amounts
-    turn_of = plus body (one e (f.added e d))
-
-    each : (loops : Loops) → Extends c f d (h + 1) loops (f.source e d) e loops body
-    each = body_as c f h e d turn end body begins refl last.place last.depth way
-
-    low_is : d ≤ f.depth (h + 1)
-    low_is = subst (λ x. d ≤ f.depth x) begins low.shallow
-
-    by : (n : ℕ) → 0 < n → l.turns ≡ n → IsWalkedOut c f at turn s v
-    by zero lt q = absurd (omega arith)
-    by (suc n) lt q =
-        let opens : c.shape h ≡ Repeats (suc n) = is.opens ∙ ap (λ k. Repeats k) q in
-        let a = plus (one h (f.added h d)) (fold_of n turn_of) in
-        let all = raised_both many (one e (f.added e d)) body s t u last.raised raised in
-        let many_so : many ≡ 1 * n = omega arith in
-        let folded = raised_fold 1 n many turn_of s u many_so all in
-        (a, (λ loops. out_as a loops (to_last_turn c f h e d n body each low_is opens is.ends loops), raised_both 1 (fold_of n turn_of) (one h (f.added h d)) s u v folded first.raised))
-      where
-        out_as : (a : Amounts) (loops : Loops) → Extends c f (f.source h d) h loops d (h + 1) ((h, 1) ∷ loops) a → Extends c f at.depth at.place loops turn.depth turn.place ((at.place, 1) ∷ loops) a
-        out_as a loops w =
-            subst (λ x. Extends c f at.depth x loops turn.depth turn.place ((x, 1) ∷ loops) a) (sym first.place)
-            (subst (λ x. Extends c f x h loops turn.depth turn.place ((h, 1) ∷ loops) a) (sym first.depth)
-            (subst (λ x. Extends c f (f.source h d) h loops d x ((h, 1) ∷ loops) a) (sym begins) w))
-
+      by : (n : ℕ) → 0 < n → l.turns ≡ n → IsWalkedOut c f at turn s v
+      by zero lt q = absurd (omega arith)
+      by (suc n) lt q =
+          let opens : c.shape h ≡ Repeats (suc n) = is.opens ∙ ap (λ k. Repeats k) q in
+          let a = plus (one h (f.added h turn.depth)) (fold_of n (turn_of body turn.depth)) in
+          let all = raised_both many (one e (f.added e turn.depth)) body s t u last.raised raised in
+          let many_so : many ≡ 1 * n = omega arith in
+          let folded = raised_fold 1 n many (turn_of body turn.depth) s u many_so all in
+          (a, (λ loops. out_as a loops (to_last_turn c f h e turn.depth n body each low_is opens is.ends loops), raised_both 1 (fold_of n (turn_of body turn.depth)) (one h (f.added h turn.depth)) s u v folded first.raised))
+        where
+          out_as : (a : Amounts) (loops : Loops) → Extends c f (f.source h turn.depth) h loops turn.depth (h + 1) ((h, 1) ∷ loops) a → Extends c f at.depth at.place loops turn.depth turn.place ((at.place, 1) ∷ loops) a
+          out_as a loops w =
+              subst (λ x. Extends c f at.depth x loops turn.depth turn.place ((x, 1) ∷ loops) a) (sym first.place)
+              (subst (λ x. Extends c f x h loops turn.depth turn.place ((h, 1) ∷ loops) a) (sym first.depth)
+              (subst (λ x. Extends c f (f.source h turn.depth) h loops turn.depth x ((h, 1) ∷ loops) a) (sym begins) w))
 -- over a whole loop that makes no turn
 pub walked_skip : (c : Skeleton) (f : Flows) (h n times : ℕ) (to at : Spot) (s t : Shares) → c.shape h ≡ Repeats n → to.place ≡ c.mate h + 1 → to.depth ≤ f.depth to.place → IsStepBack f h to times s t at → IsWalked c f times at to s t
 walked_skip c f h n times to at s t shape behind low is =

@@ -1,7 +1,7 @@
 -- The input of a search (this project's own).
 use Rattle.std.specs.Prelude.{◌≡◌, ℕ, ◌<◌, ◌≤◌, ◌++◌, Bool, true, false, length}
 use Rattle.sts_code.specs.declared.instr.Instr.{Instr}
-use Rattle.sts_code.specs.declared.instr.Instr.TheVariants.{Times, Next, Ret, Fail}
+use Rattle.sts_code.specs.declared.instr.Instr.TheVariants.{Next, Ret, Fail}
 use Rattle.sts_code.specs.Facts.{targets}
 use Rattle.sts_code.specs.Program.{instr_at}
 use Rattle.sts_rules.specs.Around.{next_place}
@@ -9,6 +9,7 @@ use Rattle.sts_rules.specs.Budget.{skeleton}
 use Rattle.sts_rules.specs.ControlPaths.{Skeleton, Repeats, EndsTurn, Among}
 use Rattle.sts_budget.specs.declared.change.Resource.{Resource}
 use Rattle.sts_budget.specs.declared.change.Resource.TheVariants.{Steps}
+use Rattle.sts_budget.specs.Handing.{turns_of}
 use Rattle.sts_budget.specs.Ready.{IsLaidFor, flows_in}
 use Rattle.sts_budget.specs.Sums.{Flows}
 use Rattle.look_refusal.specs.declared.search.Search.{Search}
@@ -31,17 +32,6 @@ flow s = flows_in s.resource s.earlier.now s.code.now s.layout.now
 abbrev pub ends_turn : Instr → Bool
 ends_turn Next = true
 ends_turn i = false
-
--- does it end the path?
-abbrev pub ends_path : Instr → Bool
-ends_path Ret = true
-ends_path Fail = true
-ends_path i = false
-
--- the most turns of the loop that it opens
-abbrev pub turns_of : Instr → ℕ
-turns_of (Times n) = n
-turns_of i = 0
 
 -- the place is one of the code, and the sum there is over no more entries than are open
 pub record IsSpot (s : Search) (at : Spot) : Type 0 where
@@ -67,6 +57,12 @@ abbrev pub LeadsOn : Search → ℕ → ℕ → Type 0
 LeadsOn s from to =
     (turns_of (instr_at s.code.now from) ≡ 0)
     × Among (targets (instr_at s.code.now from) ++ next_place from (instr_at s.code.now from)) to
+
+-- does it end the path?
+abbrev pub ends_path : Instr → Bool
+ends_path Ret = true
+ends_path Fail = true
+ends_path i = false
 
 -- a path that is reported for its steps is a whole one
 abbrev pub ends_for : Resource → Instr → Bool

@@ -7,7 +7,7 @@ ghost use Rattle.sts_rules.specs.ControlPaths.{Among};
 ghost use Rattle.look_refusal.specs.Search as def;
 
 use sts_budget::{
-    Layout, Resource, added_of, change_of, depth_of, names_at, next_places, source_of,
+    Layout, Resource, added_of, change_of, depth_of, names_at, next_places, source_of, turns_of,
 };
 use sts_code::{Instr, MAX_ENTRIES};
 use sts_rules::Budgets;
@@ -81,16 +81,6 @@ pub(crate) fn ends_path(instr: Instr) -> bool
     ensures { result ≡ def.ends_path instr }
 {
     matches!(instr, Instr::Ret | Instr::Fail)
-}
-
-/// The limit for the turns of the loop that the instruction opens.
-pub(crate) fn turns_of(instr: Instr) -> u16
-    ensures { result ≡ def.turns_of instr }
-{
-    match instr {
-        Instr::Times(turns) => turns,
-        _ => 0,
-    }
 }
 
 /// May the reported path end at this place? A path that is reported for its steps is a whole one.

@@ -13,26 +13,35 @@ use sts_code::MAX_INSTRUCTIONS;
 /// How many lines are shown at most.
 const SHOWN: usize = 50;
 
-fn count_words(resource: Resource) -> &'static str
-    ensures { result.now ≡ def.count_words resource }
-{
-    match resource {
-        Resource::Steps => " steps on a path that ends here",
-        Resource::Tasks => " tasks count here",
-        Resource::Scopes => " scopes are open here",
-        Resource::Binds => " bindings are open here",
-    }
+/// The words of a resource: those of a weight, and the line of the function's own part, outside its
+/// instructions.
+#[derive(Clone, Copy)]
+struct Words {
+    weight: &'static str,
+    own: &'static str,
 }
 
-/// The line of the function's own part, outside its instructions.
-fn own_line(resource: Resource) -> &'static str
-    ensures { result.now ≡ def.own_line resource }
+fn words_of(resource: Resource) -> Words
+    ensures weight { result.weight.now ≡ def.count_words resource }
+    ensures own { result.own.now ≡ def.own_line resource }
 {
     match resource {
-        Resource::Steps => "adds 1, its last step\n",
-        Resource::Tasks => "adds 1, the task itself\n",
-        Resource::Scopes => "",
-        Resource::Binds => "",
+        Resource::Steps => Words {
+            weight: " steps on a path that ends here",
+            own: "adds 1, its last step\n",
+        },
+        Resource::Tasks => Words {
+            weight: " tasks count here",
+            own: "adds 1, the task itself\n",
+        },
+        Resource::Scopes => Words {
+            weight: " scopes are open here",
+            own: "",
+        },
+        Resource::Binds => Words {
+            weight: " bindings are open here",
+            own: "",
+        },
     }
 }
 
@@ -158,7 +167,7 @@ fn say_weight(
     let weight = heavy.weight;
     let head = format!(in alloc; "{weight}")?;
     say(out, head.as_str())?;
-    say(out, count_words(resource))?;
+    say(out, words_of(resource).weight)?;
     say_place(alloc, out, outline.sentence(function, heavy.place))?;
     say(out, "\n")
 }
@@ -185,5 +194,5 @@ pub(crate) fn weight_lines(
     let shares = heavy.shares.as_slice();
     say_shares(alloc, out, outline, function, shares)?;
     say_others(alloc, out, others(shares))?;
-    say(out, own_line(resource))
+    say(out, words_of(resource).own)
 }

@@ -17,7 +17,7 @@ use Rattle.sts_asm.specs.Outline.{Draft, Outline, empty, profile_at, profiled, n
 use Rattle.sts_asm.specs.Source.{words_of, words_at}
 use Rattle.look_text.specs.Heads.{is_head, heads_from, head_at, Begins, HeadsBeginFunctions}
 use Rattle.look_text.proofs.PlaceLemmas.{line_says}
-use Rattle.look_text.proofs.StandLemmas.{after, finished_same, AreFrom}
+use Rattle.look_text.proofs.StandLemmas.{after, finished_same, AreFrom, from_first, line_from, next_from}
 
 -- what begins the line of a function
 abbrev opening : Draft → List (List ℕ)
@@ -127,15 +127,12 @@ lines_open : (text : List ℕ) (at : ℕ) (o : Outline) (rest : List (List ℕ))
 unfolding lines_read
 lines_open text at o [] p first from e = let same : o ≡ p = cc in ap openings (sym same) ∙ sym (append-nil (openings o))
 lines_open text at o (line ∷ more) p first from e =
-    let here : at + 0 - 1 ≡ at - 1 = omega arith in
-    let stands : slice_get (lines text) (at - 1) ≡ Some line = subst (λ (n : ℕ). slice_get (lines text) n ≡ Some line) here (from 0) in
+    let stands = line_from text at line more from in
     let head : Bool = is_head (words_of (Some line)) in
     let added : List (List (List ℕ)) = begun_by head (words_of (Some line)) in
     let later : List (List (List ℕ)) = first_words text (heads_from (at + 1) more) in
     after (at_line at (line_read at o line)) _ p e (λ q r f. (
-    let rest_opens = lines_open text (at + 1) q more p (omega arith) (λ n. (
-    let next : at + suc n - 1 ≡ at + 1 + n - 1 = omega arith in
-    subst (λ (m : ℕ). slice_get (lines text) m ≡ slice_get more n) next (from (suc n)))) f in
+    let rest_opens = lines_open text (at + 1) q more p (omega arith) (next_from text at line more from) f in
     rest_opens ∙ ap (λ (xs : List (List (List ℕ))). xs ++ later) (line_opens at o line q r) ∙ append_assoc (openings o) added later
     ∙ ap (λ (xs : List (List (List ℕ))). openings o ++ xs) (heads_first text at line more head stands refl)))
 
@@ -147,11 +144,10 @@ closed_opens o (Some d) is e = absurd (cc)
 
 outline_opens : (text : List ℕ) (o : Outline) → outline_of text ≡ Ok o → map opening o.done ≡ first_words text (heads_from 1 (lines text))
 outline_opens text o e =
-    let first : AreFrom text 1 (lines text) = λ n. (let same : 1 + n - 1 ≡ n = omega arith in ap (slice_get (lines text)) same) in
     after (lines_read 1 empty (lines text)) _ o e (λ p r f. either_way (is_some p.current) (Err (record { line = length (lines text); kind = Unclosed })) (Ok p) o f (λ b g. absurd (cc)) (λ b g. (
     let same : p ≡ o = cc in
     let closed : is_some o.current ≡ false = ap (λ (x : Outline). is_some x.current) (sym same) ∙ b in
-    sym (closed_opens o o.current refl closed) ∙ ap openings (sym same) ∙ lines_open text 1 empty (lines text) p (omega arith) first r)))
+    sym (closed_opens o o.current refl closed) ∙ ap openings (sym same) ∙ lines_open text 1 empty (lines text) p (omega arith) (from_first text) r)))
 
 -- ---- one function
 

@@ -18,7 +18,7 @@ use Rattle.sts_asm.specs.Outline.{Sentence, Draft, Outline, empty, profile_at, n
 use Rattle.sts_asm.specs.Source.{sentences_of}
 use Rattle.look_text.specs.Labels.{is_end, is_named, gives, are_giving, number_of, last_line, names_none, BehindNamesNone}
 use Rattle.look_text.proofs.PlaceLemmas.{line_says}
-use Rattle.look_text.proofs.StandLemmas.{after, finished_same, AreFrom, one_of}
+use Rattle.look_text.proofs.StandLemmas.{after, finished_same, AreFrom, from_first, line_from, next_from, one_of}
 use Rattle.look_text.proofs.HeadLaw.{either_way}
 
 abbrev giving : List ℕ → ℕ → List ℕ → Bool
@@ -212,18 +212,14 @@ lines_settled : (text : List ℕ) (at : ℕ) (o : Outline) (rest : List (List �
 unfolding lines_read
 lines_settled text at o [] p first from s e = let same : o ≡ p = cc in subst (λ (x : Outline). All (Settled text) x.done) same s.0
 lines_settled text at o (line ∷ more) p first from s e =
-    let here : at + 0 - 1 ≡ at - 1 = omega arith in
-    let stands : slice_get (lines text) (at - 1) ≡ Some line = subst (λ (n : ℕ). slice_get (lines text) n ≡ Some line) here (from 0) in
-    after (at_line at (line_read at o line)) _ p e (λ q r f. lines_settled text (at + 1) q more p (omega arith) (λ n. (
-    let next : at + suc n - 1 ≡ at + 1 + n - 1 = omega arith in
-    subst (λ (m : ℕ). slice_get (lines text) m ≡ slice_get more n) next (from (suc n)))) (line_settled text at o line q first stands s r) f)
+    let stands = line_from text at line more from in
+    after (at_line at (line_read at o line)) _ p e (λ q r f. lines_settled text (at + 1) q more p (omega arith) (next_from text at line more from) (line_settled text at o line q first stands s r) f)
 
 outline_settled : (text : List ℕ) (o : Outline) → outline_of text ≡ Ok o → All (Settled text) o.done
 outline_settled text o e =
-    let first : AreFrom text 1 (lines text) = λ n. (let same : 1 + n - 1 ≡ n = omega arith in ap (slice_get (lines text)) same) in
     after (lines_read 1 empty (lines text)) _ o e (λ p r f. either_way (is_some p.current) (Err (record { line = length (lines text); kind = Unclosed })) (Ok p) o f (λ b g. absurd (cc)) (λ b g. (
     let same : p ≡ o = cc in
-    subst (λ (x : Outline). All (Settled text) x.done) same (lines_settled text 1 empty (lines text) p (omega arith) first (All-nil (Settled text), tt) r))))
+    subst (λ (x : Outline). All (Settled text) x.done) same (lines_settled text 1 empty (lines text) p (omega arith) (from_first text) (All-nil (Settled text), tt) r))))
 
 pub behind_names_none : BehindNamesNone
 behind_names_none text o f d name e there some =

@@ -93,6 +93,19 @@ said_stand text at o (word ∷ rest) p here s h =
 abbrev pub AreFrom : List ℕ → ℕ → List (List ℕ) → Type 0
 AreFrom text at rest = (n : ℕ) → slice_get (lines text) (at + n - 1) ≡ slice_get rest n
 
+pub from_first : (text : List ℕ) → AreFrom text 1 (lines text)
+from_first text = λ n. (let same : 1 + n - 1 ≡ n = omega arith in ap (slice_get (lines text)) same)
+
+pub line_from : (text : List ℕ) (at : ℕ) (line : List ℕ) (more : List (List ℕ)) → AreFrom text at (line ∷ more) → slice_get (lines text) (at - 1) ≡ Some line
+line_from text at line more from =
+    let here : at + 0 - 1 ≡ at - 1 = omega arith in
+    subst (λ (n : ℕ). slice_get (lines text) n ≡ Some line) here (from 0)
+
+pub next_from : (text : List ℕ) (at : ℕ) (line : List ℕ) (more : List (List ℕ)) → AreFrom text at (line ∷ more) → AreFrom text (at + 1) more
+next_from text at line more from = λ n. (
+    let next : at + suc n - 1 ≡ at + 1 + n - 1 = omega arith in
+    subst (λ (m : ℕ). slice_get (lines text) m ≡ slice_get more n) next (from (suc n)))
+
 line_stand : (text : List ℕ) (at : ℕ) (o : Outline) (line : List ℕ) (p : Outline) → 0 < at → slice_get (lines text) (at - 1) ≡ Some line → AllStand text o → at_line at (line_read at o line) ≡ Ok p → AllStand text p
 line_stand text at o line p first stands s e =
     let small : at - 1 < length (lines text) = slice_get_within (lines text) (at - 1) line stands in
@@ -104,20 +117,16 @@ lines_read_stand : (text : List ℕ) (at : ℕ) (o : Outline) (rest : List (List
 unfolding lines_read
 lines_read_stand text at o [] p first from s e = let same : o ≡ p = cc in subst (AllStand text) same s
 lines_read_stand text at o (line ∷ more) p first from s e =
-    let here : at + 0 - 1 ≡ at - 1 = omega arith in
-    let stands : slice_get (lines text) (at - 1) ≡ Some line = subst (λ (n : ℕ). slice_get (lines text) n ≡ Some line) here (from 0) in
-    after (at_line at (line_read at o line)) _ p e (λ q r f. lines_read_stand text (at + 1) q more p (omega arith) (λ n. (
-    let next : at + suc n - 1 ≡ at + 1 + n - 1 = omega arith in
-    subst (λ (m : ℕ). slice_get (lines text) m ≡ slice_get more n) next (from (suc n)))) (line_stand text at o line q first stands s r) f)
+    let stands = line_from text at line more from in
+    after (at_line at (line_read at o line)) _ p e (λ q r f. lines_read_stand text (at + 1) q more p (omega arith) (next_from text at line more from) (line_stand text at o line q first stands s r) f)
 
 -- ---- a text
 
 outlined_stand : (text : List ℕ) (o : Outline) → outline_of text ≡ Ok o → AllStand text o
 outlined_stand text o e =
-    let first : AreFrom text 1 (lines text) = λ n. (let same : 1 + n - 1 ≡ n = omega arith in ap (slice_get (lines text)) same) in
     after (lines_read 1 empty (lines text)) _ o e (λ p r f. either (is_some p.current) (Err (record { line = length (lines text); kind = Unclosed })) (Ok p) o f (λ g. absurd (cc)) (λ g. (
     let same : p ≡ o = cc in
-    subst (AllStand text) same (lines_read_stand text 1 empty (lines text) p (omega arith) first (All-nil (λ (d : Draft). All (Stands text) d.code), All-nil (Stands text)) r))))
+    subst (AllStand text) same (lines_read_stand text 1 empty (lines text) p (omega arith) (from_first text) (All-nil (λ (d : Draft). All (Stands text) d.code), All-nil (Stands text)) r))))
 
 -- a property of all elements is one of each
 pub one_of : {A : Type 0} (P : A → Type 0) (xs : List A) (n : ℕ) (x : A) → All P xs → slice_get xs n ≡ Some x → P x

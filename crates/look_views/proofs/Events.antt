@@ -1,5 +1,5 @@
 -- The lines of a list of events, event by event.
-use Rattle.std.proofs.Common.{◌≡◌, ℕ, ◌+◌, ◌-◌, ◌≤◌, ◌<◌, ◌^◌, List, ◌++◌, length, Bool, false, Result, OnOk, arith, ap, ap₂, sym, ◌∙◌, take, drop, get_or}
+use Rattle.std.proofs.Common.{◌≡◌, ℕ, ◌+◌, ◌-◌, ◌≤◌, ◌<◌, ◌^◌, List, ◌++◌, length, Bool, false, Result, OnOk, arith, ap, ap₂, sym, ◌∙◌, append_assoc, take, drop, get_or}
 use Rattle.std.proofs.lemmas.List.{take_more, length-take-le, drop_more}
 use Rattle.std.proofs.lemmas.Result.{on_ok_weaker}
 use Rattle.serde_json.specs.Data.{Data}
@@ -23,6 +23,18 @@ views_next p full es i d inside short =
     ap₂ view (ap (λ (m : ℕ). m + 1) n) (sym (watched_one_more p (take i es) (get_or es i d) few)) in
     ap (views_from p full (take i es)) (drop_more es i d inside)
     ∙ ap₂ (λ b done. b ++ views_from p full done (drop (i + 1) es)) first (sym more)
+
+-- after the line of one more event, what is written and the lines of the rest are still all lines
+pub one_line_more : (p : Program) (full : Bool) (es : List Event) (i : ℕ) (d : Event) (old new all : List ℕ) (w : Watched) → i < length es → length es ≤ 2 ^ 64 - 1 → w ≡ watched p (take i es)
+    → new ≡ old ++ line (event_view full (i + 1) (get_or es i d) (counts w.program w.state (get_or es i d)) (after_event w (get_or es i d)))
+    → old ++ views_from p full (take i es) (drop i es) ≡ all → new ++ views_from p full (take (i + 1) es) (drop (i + 1) es) ≡ all
+one_line_more p full es i d old new all w inside short stands written before =
+    let here : Watched → List ℕ = λ x. line (event_view full (i + 1) (get_or es i d) (counts x.program x.state (get_or es i d)) (after_event x (get_or es i d))) in
+    let rest : List ℕ = views_from p full (take (i + 1) es) (drop (i + 1) es) in
+    ap (λ xs. xs ++ rest) (written ∙ ap (λ x. old ++ here x) stands)
+    ∙ append_assoc old (here (watched p (take i es))) rest
+    ∙ ap (λ xs. old ++ xs) (sym (views_next p full es i d inside short))
+    ∙ before
 
 -- the line of an event, whose view was made of equal parts
 pub event_written : {T E : Type 0} (r : Result T E) (old new : List ℕ) (full : Bool) (n : ℕ) (e : Event) (b c : Bool) (m w : Watched) (d : Data) → d ≡ event_view full n e b m → b ≡ c → m ≡ w → (has_float d ≡ false → OnOk r (new ≡ old ++ line d)) → OnOk r (new ≡ old ++ line (event_view full n e c w))

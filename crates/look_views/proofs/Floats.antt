@@ -1,16 +1,14 @@
 -- No line has a float, so its text is known byte for byte.
-use Rattle.std.proofs.Common.{◌≡◌, ℕ, ◌+◌, ℤ, pos, negsuc, List, [], ◌∷◌, ◌++◌, map, reverse, Option, Some, None, Bool, true, false, ◌&&◌, if◌then◌else◌, refl}
+use Rattle.std.proofs.Common.{◌≡◌, ℕ, ◌+◌, ℤ, List, [], ◌∷◌, ◌++◌, reverse, Option, Some, None, Bool, true, false, ◌&&◌, if◌then◌else◌, refl}
 use Rattle.std.proofs.lemmas.Bool.{or_from}
 use Rattle.serde_json.specs.Data.{Data}
 use Rattle.serde_json.specs.View.{items_of}
-use Rattle.serde_json.specs.Written.{has_float, items_have_float, members_have_float}
+use Rattle.serde_json.specs.Written.{has_float, items_have_float}
 use Rattle.sts_code.specs.Program.{Program}
-use Rattle.sts_code.specs.declared.checking.CodeError.{CodeError}
 use Rattle.sts_model.specs.declared.event.End.{End}
 use Rattle.sts_model.specs.declared.event.End.TheVariants.{Success, Failed}
 use Rattle.sts_model.specs.declared.event.Event.{Event}
 use Rattle.sts_model.specs.declared.event.Stand.{Stand}
-use Rattle.sts_model.specs.declared.event.Stand.TheVariants.{Free, AtJoin, AtClose}
 use Rattle.sts_model.specs.declared.record.Completion.{Completion}
 use Rattle.sts_model.specs.declared.record.Scope.{Scope}
 use Rattle.sts_model.specs.declared.record.Task.{Task}
@@ -25,21 +23,14 @@ use Rattle.sts_asm.specs.Fault.{code_error}
 use Rattle.sts_asm.specs.declared.fault.AsmError.{AsmError}
 use Rattle.sts_trace.specs.declared.error.TraceError.{TraceError}
 use Rattle.sts_trace.specs.declared.error.TraceError.TheVariants as trace
-use Rattle.look_cases.specs.Answer as answer
-use Rattle.look_cases.specs.Json.{integer, count_or_null}
+use Rattle.look_cases.proofs.FloatLemmas.{integer_plain, maybe_plain, text_fault_plain}
+use Rattle.look_cases.proofs.FloatLemmas.{trace_fault_plain}
+use Rattle.look_cases.proofs.FloatLemmas as answers
 use Rattle.look_lines.specs.Lines.{is_heard, keys}
 use Rattle.look_lines.specs.Watched.{Watched}
 use Rattle.look_views.specs.Scope as scope
 use Rattle.look_views.specs.Task as task
 use Rattle.look_views.specs.Views as def
-
-integer_plain : (z : ℤ) → has_float (integer z) ≡ false
-integer_plain (pos n) = refl
-integer_plain (negsuc n) = refl
-
-maybe_plain : (n : Option ℕ) → has_float (count_or_null n) ≡ false
-maybe_plain None = refl
-maybe_plain (Some n) = refl
 
 either_plain : (b : Bool) (x y : Data) → has_float x ≡ false → has_float y ≡ false → has_float (if b then x else y) ≡ false
 either_plain true x y h k = h
@@ -49,8 +40,7 @@ either_plain false x y h k = k
 
 waiting_plain : (stand : Stand) → has_float (task.waiting stand) ≡ false
 waiting_plain Free = refl
-waiting_plain (AtJoin s) = refl
-waiting_plain (AtClose s) = refl
+waiting_plain _ = refl
 
 ended_plain : (heard : Bool) (end : Option End) → has_float (task.ended heard end) ≡ false
 ended_plain heard None = refl
@@ -116,13 +106,9 @@ scopes_plain full w (x ∷ xs) s =
 
 -- ---- a view
 
-end_plain : (end : End) (steps : ℕ) → has_float (answer.ended end steps) ≡ false
-end_plain (Success v) steps = or_from _ _ (integer_plain v) refl
-end_plain (Failed c) steps = or_from _ _ (integer_plain c) refl
-
 run_plain : (p : Program) (state : PlainState) (steps : ℕ) → has_float (def.run p state steps) ≡ false
 run_plain p plain.Running steps = refl
-run_plain p (plain.Ended end) steps = end_plain end steps
+run_plain p (plain.Ended end) steps = answers.ended_plain end steps
 run_plain p (plain.Fault kind task f pc) steps = refl
 
 pub state_view_plain : (full : Bool) (n : ℕ) (m : Watched) → has_float (def.state_view full n m) ≡ false
@@ -135,16 +121,6 @@ pub event_view_plain : (full : Bool) (n : ℕ) (e : Event) (is_counted : Bool) (
 event_view_plain full n e is_counted m = state_view_plain full n m
 
 -- ---- a fault
-
-text_fault_plain : (e : AsmError) (c : Option CodeError) → has_float (answer.text_fault e c) ≡ false
-text_fault_plain e None = refl
-text_fault_plain e (Some failed) = refl
-
-trace_fault_plain : (e : TraceError) → has_float (answer.trace_fault e) ≡ false
-trace_fault_plain (trace.BadLine n) = refl
-trace_fault_plain (trace.BadNumber n) = refl
-trace_fault_plain trace.NoNewline = refl
-trace_fault_plain trace.Memory = refl
 
 pub text_line_plain : (e : AsmError) → has_float (def.text_line e) ≡ false
 text_line_plain e = or_from _ _ (text_fault_plain e (code_error e.kind)) refl

@@ -9,41 +9,13 @@ use Rattle.sts_asm.proofs.TableLemmas.{spelled_read, read_spelled}
 
 -- the words of an instruction without names spell it, whatever the names
 nameless_spelled : (names : Option Names) (instr : Instr) (words : List (List ℕ)) → has_names instr ≡ false → Spells None instr words → Spells names instr words
-nameless_spelled names (i.Push k) words without spelled = spelled
-nameless_spelled names i.Pop words without spelled = spelled
-nameless_spelled names i.Dup words without spelled = spelled
-nameless_spelled names i.Swap words without spelled = spelled
-nameless_spelled names (i.Load n) words without spelled = spelled
-nameless_spelled names (i.Store n) words without spelled = spelled
-nameless_spelled names i.Add words without spelled = spelled
-nameless_spelled names i.Sub words without spelled = spelled
-nameless_spelled names i.Mul words without spelled = spelled
-nameless_spelled names i.Lt words without spelled = spelled
-nameless_spelled names i.Eq words without spelled = spelled
 nameless_spelled names (i.Div to) words without spelled = cc
 nameless_spelled names (i.Jmp to) words without spelled = cc
 nameless_spelled names (i.Jz to) words without spelled = cc
-nameless_spelled names (i.Times n) words without spelled = spelled
-nameless_spelled names i.Next words without spelled = spelled
-nameless_spelled names (i.Open s j t) words without spelled = spelled
 nameless_spelled names (i.Fork s f h) words without spelled = cc
 nameless_spelled names (i.Join s f t r) words without spelled = cc
-nameless_spelled names (i.Close s) words without spelled = spelled
-nameless_spelled names (i.Cancelled s) words without spelled = spelled
 nameless_spelled names (i.Case h s f) words without spelled = cc
-nameless_spelled names (i.Get s) words without spelled = spelled
-nameless_spelled names (i.Except s) words without spelled = spelled
-nameless_spelled names (i.Tally s k) words without spelled = spelled
-nameless_spelled names (i.Total s) words without spelled = spelled
-nameless_spelled names (i.Forget s) words without spelled = spelled
-nameless_spelled names (i.Bind n) words without spelled = spelled
-nameless_spelled names i.Unbind words without spelled = spelled
-nameless_spelled names (i.Read n) words without spelled = spelled
-nameless_spelled names (i.Bound n) words without spelled = spelled
-nameless_spelled names (i.OrElse n) words without spelled = spelled
-nameless_spelled names i.Interrupted words without spelled = spelled
-nameless_spelled names i.Ret words without spelled = spelled
-nameless_spelled names i.Fail words without spelled = spelled
+nameless_spelled names _ words without spelled = spelled
 
 -- an instruction without names is read alike, whatever the names
 pub nameless : (names : Option Names) (instr : Instr) (words : List (List ℕ)) → has_names instr ≡ false → instr_of None words ≡ Ok instr → instr_of names words ≡ Ok instr

@@ -81,8 +81,7 @@ timed_read false ts e = rw e refl
 
 kind_read : (k : Kind) (u : List ℕ) → IsKind k u → kind_at (u ∷ []) ≡ Ok (k, [])
 kind_read S u e = rw e refl
-kind_read F u e = rw e refl
-kind_read U u e = rw e refl
+kind_read _ u e = rw e refl
 
 -- what the table says is read
 pub spelled_read : (names : Option Names) (instr : Instr) (words : List (List ℕ)) → Spells names instr words → instr_of names words ≡ Ok instr

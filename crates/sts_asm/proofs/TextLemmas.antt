@@ -28,15 +28,7 @@ line_last at o p text last e = rw (last, e) refl
 -- a fault stays the first one, whatever would follow
 pub fails_on : {X Y : Type 0} (k : AsmKind) (e : AsmError) (a : Result X AsmError) (b : Result Y AsmError) → (a ≡ Err e → b ≡ Err e) → FailsAt e k a → FailsAt e k b
 fails_on Memory e a b f h = h
-fails_on NotAscii e a b f h = f h
-fails_on UnknownWord e a b f h = f h
-fails_on BadNumber e a b f h = f h
-fails_on BadOperands e a b f h = f h
-fails_on UnknownLabel e a b f h = f h
-fails_on DuplicateLabel e a b f h = f h
-fails_on Unclosed e a b f h = f h
-fails_on TextTooLong e a b f h = f h
-fails_on (Code c) e a b f h = f h
+fails_on _ e a b f h = f h
 
 -- the first fault of the lines is that of this line
 pub line_fails : (at : ℕ) (o : Outline) (e : AsmError) (line : List ℕ) (more : List (List ℕ)) → FailsAt e e.kind (at_line at (line_read at o line)) → FailsAt e e.kind (lines_read at o (line ∷ more))

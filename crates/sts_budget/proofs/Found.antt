@@ -27,15 +27,11 @@ IsWithin k earlier code m = IsMost k earlier code m × (m ≤ limit_of k)
 
 pub before_steps : (earlier : List Budgets) (code : List Instr) → NoneBefore Steps earlier code
 before_steps earlier code Steps lt e = omega arith
-before_steps earlier code Tasks lt e = omega arith
-before_steps earlier code Scopes lt e = omega arith
-before_steps earlier code Binds lt e = omega arith
+before_steps earlier code _ lt e = omega arith
 
 pub before_tasks : (earlier : List Budgets) (code : List Instr) (s : ℕ) → IsWithin Steps earlier code s → NoneBefore Tasks earlier code
 before_tasks earlier code s hs Steps lt e = no_excess Steps earlier code s hs.0 hs.1 e
-before_tasks earlier code s hs Tasks lt e = omega arith
-before_tasks earlier code s hs Scopes lt e = omega arith
-before_tasks earlier code s hs Binds lt e = omega arith
+before_tasks earlier code s hs _ lt e = omega arith
 
 pub before_scopes : (earlier : List Budgets) (code : List Instr) (s t : ℕ) → IsWithin Steps earlier code s → IsWithin Tasks earlier code t → NoneBefore Scopes earlier code
 before_scopes earlier code s t hs ht Steps lt e = no_excess Steps earlier code s hs.0 hs.1 e
@@ -57,26 +53,11 @@ found_error k earlier code code' same before (TooMuch c) h (Err x) a =
     subst (λ y. IsFound earlier code' (Err y)) (sym a) (subst (λ xs. IsLeastExcess earlier xs c) same (subst (IsLeastExcess earlier code) (sym h.0) least))
 
 none_exceeds : (earlier : List Budgets) (code : List Instr) (s t o b : ℕ) → IsWithin Steps earlier code s → IsWithin Tasks earlier code t → IsWithin Scopes earlier code o → IsWithin Binds earlier code b → (c : Cause) → Exceeds earlier code c → ⊥
-none_exceeds earlier code s t o b hs ht ho hb cause.StackUnder e = e
-none_exceeds earlier code s t o b hs ht ho hb cause.StackOver e = e
-none_exceeds earlier code s t o b hs ht ho hb cause.FallsOff e = e
-none_exceeds earlier code s t o b hs ht ho hb cause.BackJump e = e
-none_exceeds earlier code s t o b hs ht ho hb cause.LoopMismatch e = e
-none_exceeds earlier code s t o b hs ht ho hb cause.LoopDepth e = e
-none_exceeds earlier code s t o b hs ht ho hb cause.StatesDiffer e = e
-none_exceeds earlier code s t o b hs ht ho hb cause.DeadCode e = e
-none_exceeds earlier code s t o b hs ht ho hb cause.SlotKind e = e
-none_exceeds earlier code s t o b hs ht ho hb cause.SlotBusy e = e
-none_exceeds earlier code s t o b hs ht ho hb cause.WrongThread e = e
-none_exceeds earlier code s t o b hs ht ho hb cause.IllegalState e = e
-none_exceeds earlier code s t o b hs ht ho hb cause.Structure e = e
-none_exceeds earlier code s t o b hs ht ho hb cause.Nesting e = e
-none_exceeds earlier code s t o b hs ht ho hb cause.Unbound e = e
-none_exceeds earlier code s t o b hs ht ho hb cause.JoinEdges e = e
 none_exceeds earlier code s t o b hs ht ho hb cause.TooManySteps e = no_excess Steps earlier code s hs.0 hs.1 e
 none_exceeds earlier code s t o b hs ht ho hb cause.TooManyTasks e = no_excess Tasks earlier code t ht.0 ht.1 e
 none_exceeds earlier code s t o b hs ht ho hb cause.TooManyScopes e = no_excess Scopes earlier code o ho.0 ho.1 e
 none_exceeds earlier code s t o b hs ht ho hb cause.TooManyBinds e = no_excess Binds earlier code b hb.0 hb.1 e
+none_exceeds earlier code s t o b hs ht ho hb _ e = e
 
 pub found_all : (earlier : List Budgets) (code code' : List Instr) → code ≡ code' → (s t o b : ℕ) → IsWithin Steps earlier code s → IsWithin Tasks earlier code t → IsWithin Scopes earlier code o → IsWithin Binds earlier code b → IsFound earlier code' (Ok (record { steps = s; tasks = t; scopes = o; binds = b }))
 found_all earlier code code' same s t o b hs ht ho hb = subst (λ xs. IsFound earlier xs (Ok (record { steps = s; tasks = t; scopes = o; binds = b }))) same (record { steps = hs.0; tasks = ht.0; scopes = ho.0; binds = hb.0 }, none_exceeds earlier code s t o b hs ht ho hb)

@@ -33,78 +33,13 @@ use Rattle.sts_budget.specs.Sums.{Sums, none, more, FitsEntries, Stands, full}
 -- each instruction counts a step
 pub counts_one : (earlier : List Budgets) (i : Instr) → 1 ≤ steps_of earlier i
 counts_one earlier (Push k) = omega arith
-counts_one earlier Pop = omega arith
-counts_one earlier Dup = omega arith
-counts_one earlier Swap = omega arith
-counts_one earlier (Load x) = omega arith
-counts_one earlier (Store x) = omega arith
-counts_one earlier Add = omega arith
-counts_one earlier Sub = omega arith
-counts_one earlier Mul = omega arith
-counts_one earlier Lt = omega arith
-counts_one earlier Eq = omega arith
-counts_one earlier (Div to) = omega arith
-counts_one earlier (Jmp to) = omega arith
-counts_one earlier (Jz to) = omega arith
-counts_one earlier (Times n) = omega arith
-counts_one earlier Next = omega arith
-counts_one earlier (Open x j timed) = omega arith
-counts_one earlier (Fork x g h) = omega arith
-counts_one earlier (Join x a b c) = omega arith
-counts_one earlier (Close x) = omega arith
-counts_one earlier (Cancelled x) = omega arith
-counts_one earlier (Case h a b) = omega arith
-counts_one earlier (Get h) = omega arith
-counts_one earlier (Except h) = omega arith
-counts_one earlier (Tally x k) = omega arith
-counts_one earlier (Total x) = omega arith
-counts_one earlier (Forget h) = omega arith
-counts_one earlier (Bind k) = omega arith
-counts_one earlier Unbind = omega arith
-counts_one earlier (Read k) = omega arith
-counts_one earlier (Bound k) = omega arith
-counts_one earlier (OrElse k) = omega arith
-counts_one earlier Interrupted = omega arith
-counts_one earlier Ret = omega arith
-counts_one earlier Fail = omega arith
+counts_one earlier _ = omega arith
 
 -- the last of a path counts no more
 pub end_counts : (earlier : List Budgets) (pc : ℕ) (i : Instr) → shape_of pc i ≡ EndsPath → steps_of earlier i ≡ 1
-end_counts earlier pc (Push k) e = absurd (cc)
-end_counts earlier pc Pop e = absurd (cc)
-end_counts earlier pc Dup e = absurd (cc)
-end_counts earlier pc Swap e = absurd (cc)
-end_counts earlier pc (Load x) e = absurd (cc)
-end_counts earlier pc (Store x) e = absurd (cc)
-end_counts earlier pc Add e = absurd (cc)
-end_counts earlier pc Sub e = absurd (cc)
-end_counts earlier pc Mul e = absurd (cc)
-end_counts earlier pc Lt e = absurd (cc)
-end_counts earlier pc Eq e = absurd (cc)
-end_counts earlier pc (Div to) e = absurd (cc)
-end_counts earlier pc (Jmp to) e = absurd (cc)
-end_counts earlier pc (Jz to) e = absurd (cc)
-end_counts earlier pc (Times n) e = absurd (cc)
-end_counts earlier pc Next e = absurd (cc)
-end_counts earlier pc (Open x j timed) e = absurd (cc)
-end_counts earlier pc (Fork x g h) e = absurd (cc)
-end_counts earlier pc (Join x a b c) e = absurd (cc)
-end_counts earlier pc (Close x) e = absurd (cc)
-end_counts earlier pc (Cancelled x) e = absurd (cc)
-end_counts earlier pc (Case h a b) e = absurd (cc)
-end_counts earlier pc (Get h) e = absurd (cc)
-end_counts earlier pc (Except h) e = absurd (cc)
-end_counts earlier pc (Tally x k) e = absurd (cc)
-end_counts earlier pc (Total x) e = absurd (cc)
-end_counts earlier pc (Forget h) e = absurd (cc)
-end_counts earlier pc (Bind k) e = absurd (cc)
-end_counts earlier pc Unbind e = absurd (cc)
-end_counts earlier pc (Read k) e = absurd (cc)
-end_counts earlier pc (Bound k) e = absurd (cc)
-end_counts earlier pc (OrElse k) e = absurd (cc)
-end_counts earlier pc Interrupted e = absurd (cc)
 end_counts earlier pc Ret e = refl
 end_counts earlier pc Fail e = refl
+end_counts earlier pc _ e = absurd (cc)
 
 module _ (earlier : List Budgets) (code : List Instr) (round : ℕ → List ℕ) (good : IsStructured (skeleton earlier code) round) (names_at : ℕ → Names) (known : KnowsNames code (skeleton earlier code) round names_at) where
   abbrev c : Skeleton
@@ -165,21 +100,25 @@ module _ (earlier : List Budgets) (code : List Instr) (round : ℕ → List ℕ)
 
   -- ---- paths and sums
 
+  -- what a step makes of the sum over the first entries
+  step_front : (m : Measure) (from pc : ℕ) (ls loops : Loops) (entries : List OpenEntry) → IsInside c round good from ls → names entries ≡ names_at from → Follows c from ls pc loops → (d : ℕ) → d ≤ length (names_at pc) → (d ≤ length (names_after (instr_at code from) (names_at from))) × (front m (entries_of (instr_at code from) entries) d ≡ front m entries (source_of (measured m (instr_at code from) (names_at from)) (length (names_at from)) d) + added_of (measured m (instr_at code from) (names_at from)) (length (names_at from)) d)
+  step_front m from pc ls loops entries i n s d le =
+      let after_is = follow_names from ls pc loops i s in
+      let fit = subst (FitsNames (instr_at code from)) (sym n) (known.fit from i.within) in
+      let low : d ≤ length (names_after (instr_at code from) (names_at from)) = subst (λ ns. d ≤ length ns) after_is le in
+      let low' : d ≤ length (names_after (instr_at code from) (names entries)) = subst (λ ns. d ≤ length (names_after (instr_at code from) ns)) (sym n) low in
+      let f = front_of m (instr_at code from) entries d fit low' in
+      (low, subst (λ ns. front m (entries_of (instr_at code from) entries) d ≡ front m entries (source_of (measured m (instr_at code from) ns) (length ns) d) + added_of (measured m (instr_at code from) ns) (length ns) d) n f)
+
   -- each sum over the first entries at a point is one of the sums
   pub to_sums : (m : Measure) (pc : ℕ) (loops : Loops) (before : ℕ) (es : List OpenEntry) → Comes c pc loops before es → (d : ℕ) → d ≤ length (names_at pc) → Sums c (flows_by m code names_at) d pc loops (front m es d)
   to_sums m pc loops before es start d le = let z : 0 ≡ d = omega (arith, ap length known.empty) in subst (λ x. Sums c (flows_by m code names_at) x 0 [] 0) z none
   to_sums m pc loops before es (step {pc = from} {loops = ls} {before = b} {entries = entries} r s) d le =
       let i = comes_inside c round good from ls b entries r in
       let n = comes_names from ls b entries r in
-      let after_is = follow_names from ls pc loops i s in
-      let fit = subst (FitsNames (instr_at code from)) (sym n) (known.fit from i.within) in
-      let low : d ≤ length (names_after (instr_at code from) (names_at from)) = subst (λ ns. d ≤ length ns) after_is le in
-      let low' : d ≤ length (names_after (instr_at code from) (names entries)) = subst (λ ns. d ≤ length (names_after (instr_at code from) ns)) (sym n) low in
-      let f = front_of m (instr_at code from) entries d fit low' in
-      let f' : front m (entries_of (instr_at code from) entries) d ≡ front m entries (source_of (measured m (instr_at code from) (names_at from)) (length (names_at from)) d) + added_of (measured m (instr_at code from) (names_at from)) (length (names_at from)) d =
-      subst (λ ns. front m (entries_of (instr_at code from) entries) d ≡ front m entries (source_of (measured m (instr_at code from) ns) (length ns) d) + added_of (measured m (instr_at code from) ns) (length ns) d) n f in
-      let back = source_low m (instr_at code from) (names_at from) d low in
-      subst (λ x. Sums c (flows_by m code names_at) d pc loops x) (sym f') (more le (to_sums m from ls b entries r (source_of (measured m (instr_at code from) (names_at from)) (length (names_at from)) d) back) s)
+      let f = step_front m from pc ls loops entries i n s d le in
+      let back = source_low m (instr_at code from) (names_at from) d f.0 in
+      subst (λ x. Sums c (flows_by m code names_at) d pc loops x) (sym f.1) (more le (to_sums m from ls b entries r (source_of (measured m (instr_at code from) (names_at from)) (length (names_at from)) d) back) s)
 
   -- each of the sums is one at a point
   pub from_sums : (m : Measure) (d pc : ℕ) (loops : Loops) (sum : ℕ) → Sums c (flows_by m code names_at) d pc loops sum → (before : ℕ) × ((es : List OpenEntry) × (Comes c pc loops before es × (front m es d ≡ sum)))
@@ -189,14 +128,8 @@ module _ (earlier : List Budgets) (code : List Instr) (round : ℕ → List ℕ)
       let entries = w.1.0 in
       let i = comes_inside c round good from ls w.0 entries w.1.1.0 in
       let n = comes_names from ls w.0 entries w.1.1.0 in
-      let after_is = follow_names from ls pc loops i s in
-      let fit = subst (FitsNames (instr_at code from)) (sym n) (known.fit from i.within) in
-      let low : d ≤ length (names_after (instr_at code from) (names_at from)) = subst (λ ns. d ≤ length ns) after_is le in
-      let low' : d ≤ length (names_after (instr_at code from) (names entries)) = subst (λ ns. d ≤ length (names_after (instr_at code from) ns)) (sym n) low in
-      let f = front_of m (instr_at code from) entries d fit low' in
-      let f' : front m (entries_of (instr_at code from) entries) d ≡ front m entries (source_of (measured m (instr_at code from) (names_at from)) (length (names_at from)) d) + added_of (measured m (instr_at code from) (names_at from)) (length (names_at from)) d =
-      subst (λ ns. front m (entries_of (instr_at code from) entries) d ≡ front m entries (source_of (measured m (instr_at code from) ns) (length ns) d) + added_of (measured m (instr_at code from) ns) (length ns) d) n f in
-      (w.0 + c.weight from, (entries_of (instr_at code from) entries, (step w.1.1.0 s, f' ∙ ap (λ x. x + added_of (measured m (instr_at code from) (names_at from)) (length (names_at from)) d) w.1.1.1)))
+      let f = step_front m from pc ls loops entries i n s d le in
+      (w.0 + c.weight from, (entries_of (instr_at code from) entries, (step w.1.1.0 s, f.1 ∙ ap (λ x. x + added_of (measured m (instr_at code from) (names_at from)) (length (names_at from)) d) w.1.1.1)))
 
   pub to_steps : (pc : ℕ) (loops : Loops) (before : ℕ) (es : List OpenEntry) → Comes c pc loops before es → Sums c (flows Steps earlier code names_at) 0 pc loops before
   to_steps pc loops before es start = none

@@ -42,91 +42,23 @@ any_program = record { profile = One; routines = [] }
 -- a `times` and a `next` count the same
 pub times_counts : (k : Resource) (earlier : List Budgets) (n : ℕ) (ns : List (Option ℕ)) (d : ℕ) → added_of (change_of k earlier (Times n) ns) (depth_of k ns) d ≡ own_step k
 times_counts Steps earlier n ns d = refl
-times_counts Tasks earlier n ns d = refl
-times_counts Scopes earlier n ns d = refl
-times_counts Binds earlier n ns d = refl
+times_counts _ earlier n ns d = refl
 
 pub next_counts : (k : Resource) (earlier : List Budgets) (ns : List (Option ℕ)) (d : ℕ) → added_of (change_of k earlier Next ns) (depth_of k ns) d ≡ own_step k
 next_counts Steps earlier ns d = refl
-next_counts Tasks earlier ns d = refl
-next_counts Scopes earlier ns d = refl
-next_counts Binds earlier ns d = refl
+next_counts _ earlier ns d = refl
 
 -- an instruction that goes on hands on the sums after it
 value_goes : (k : Resource) (earlier : List Budgets) (code : List Instr) (l : Layout) (best : ℕ → ℕ → ℕ) (pc : ℕ) (i : Instr) (d : ℕ) → GoesOn any_program code pc i → value_by k earlier code l best pc i d ≡ best pc (source_of (change_of k earlier i (names_in l pc)) (depth_of k (names_in l pc)) d) + added_of (change_of k earlier i (names_in l pc)) (depth_of k (names_in l pc)) d
-value_goes k earlier code l best pc (Push v) d goes = refl
-value_goes k earlier code l best pc Pop d goes = refl
-value_goes k earlier code l best pc Dup d goes = refl
-value_goes k earlier code l best pc Swap d goes = refl
-value_goes k earlier code l best pc (Load x) d goes = refl
-value_goes k earlier code l best pc (Store x) d goes = refl
-value_goes k earlier code l best pc Add d goes = refl
-value_goes k earlier code l best pc Sub d goes = refl
-value_goes k earlier code l best pc Mul d goes = refl
-value_goes k earlier code l best pc Lt d goes = refl
-value_goes k earlier code l best pc Eq d goes = refl
-value_goes k earlier code l best pc (Div to) d goes = refl
-value_goes k earlier code l best pc (Jmp to) d goes = refl
-value_goes k earlier code l best pc (Jz to) d goes = refl
-value_goes k earlier code l best pc (Times n) d goes = refl
 value_goes k earlier code l best pc Next d goes = (let z : EndsTurn ≡ GoesTo (targets Next ++ next_place pc Next) = goes.shape in absurd (cc))
-value_goes k earlier code l best pc (Open x j timed) d goes = refl
-value_goes k earlier code l best pc (Fork x g h) d goes = refl
-value_goes k earlier code l best pc (Join x a b c) d goes = refl
-value_goes k earlier code l best pc (Close x) d goes = refl
-value_goes k earlier code l best pc (Cancelled x) d goes = refl
-value_goes k earlier code l best pc (Case h a b) d goes = refl
-value_goes k earlier code l best pc (Get h) d goes = refl
-value_goes k earlier code l best pc (Except h) d goes = refl
-value_goes k earlier code l best pc (Tally x w) d goes = refl
-value_goes k earlier code l best pc (Total x) d goes = refl
-value_goes k earlier code l best pc (Forget h) d goes = refl
-value_goes k earlier code l best pc (Bind v) d goes = refl
-value_goes k earlier code l best pc Unbind d goes = refl
-value_goes k earlier code l best pc (Read v) d goes = refl
-value_goes k earlier code l best pc (Bound v) d goes = refl
-value_goes k earlier code l best pc (OrElse v) d goes = refl
-value_goes k earlier code l best pc Interrupted d goes = refl
-value_goes k earlier code l best pc Ret d goes = refl
-value_goes k earlier code l best pc Fail d goes = refl
+value_goes k earlier code l best pc _ d goes = refl
 
 -- nothing new comes from a quiet instruction
 quiet_none : (c : Skeleton) (f : Flows) (head : ℕ → ℕ) (best : ℕ → ℕ → ℕ) (pc : ℕ) (i : Instr) → is_quiet i ≡ true → (q d m : ℕ) → New c f head best pc (shape_of pc i) q d m → ⊥
-quiet_none skel fl head best pc (Push k) e q d m w = absurd (cc)
-quiet_none skel fl head best pc Pop e q d m w = absurd (cc)
-quiet_none skel fl head best pc Dup e q d m w = absurd (cc)
-quiet_none skel fl head best pc Swap e q d m w = absurd (cc)
-quiet_none skel fl head best pc (Load x) e q d m w = absurd (cc)
-quiet_none skel fl head best pc (Store x) e q d m w = absurd (cc)
-quiet_none skel fl head best pc Add e q d m w = absurd (cc)
-quiet_none skel fl head best pc Sub e q d m w = absurd (cc)
-quiet_none skel fl head best pc Mul e q d m w = absurd (cc)
-quiet_none skel fl head best pc Lt e q d m w = absurd (cc)
-quiet_none skel fl head best pc Eq e q d m w = absurd (cc)
-quiet_none skel fl head best pc (Div to) e q d m w = absurd (cc)
-quiet_none skel fl head best pc (Jmp to) e q d m w = absurd (cc)
-quiet_none skel fl head best pc (Jz to) e q d m w = absurd (cc)
 quiet_none skel fl head best pc (Times n) e q d m w = w
-quiet_none skel fl head best pc Next e q d m w = absurd (cc)
-quiet_none skel fl head best pc (Open x j timed) e q d m w = absurd (cc)
-quiet_none skel fl head best pc (Fork x g h) e q d m w = absurd (cc)
-quiet_none skel fl head best pc (Join x a b c) e q d m w = absurd (cc)
-quiet_none skel fl head best pc (Close x) e q d m w = absurd (cc)
-quiet_none skel fl head best pc (Cancelled x) e q d m w = absurd (cc)
-quiet_none skel fl head best pc (Case h a b) e q d m w = absurd (cc)
-quiet_none skel fl head best pc (Get h) e q d m w = absurd (cc)
-quiet_none skel fl head best pc (Except h) e q d m w = absurd (cc)
-quiet_none skel fl head best pc (Tally x k) e q d m w = absurd (cc)
-quiet_none skel fl head best pc (Total x) e q d m w = absurd (cc)
-quiet_none skel fl head best pc (Forget h) e q d m w = absurd (cc)
-quiet_none skel fl head best pc (Bind k) e q d m w = absurd (cc)
-quiet_none skel fl head best pc Unbind e q d m w = absurd (cc)
-quiet_none skel fl head best pc (Read k) e q d m w = absurd (cc)
-quiet_none skel fl head best pc (Bound k) e q d m w = absurd (cc)
-quiet_none skel fl head best pc (OrElse k) e q d m w = absurd (cc)
-quiet_none skel fl head best pc Interrupted e q d m w = absurd (cc)
 quiet_none skel fl head best pc Ret e q d m w = w
 quiet_none skel fl head best pc Fail e q d m w = w
+quiet_none skel fl head best pc _ e q d m w = absurd (cc)
 
 module _ (k : Resource) (earlier : List Budgets) (code : List Instr) (l : Layout) (ready : IsLaidFor earlier code l) where
   abbrev c : Skeleton

@@ -68,78 +68,14 @@ writes_one to value d old = writes_more (to ∷ []) 0 to value d old old (omega 
 
 -- there is room for the entry that an instruction opens
 has_room : (i : Instr) (s : TypeState) (ns : Names) → length ns ≡ length s.entries → is_nested i s ≡ false → HasEntryRoom i ns
-has_room (Push k) s ns long e = tt
-has_room Pop s ns long e = tt
-has_room Dup s ns long e = tt
-has_room Swap s ns long e = tt
-has_room (Load x) s ns long e = tt
-has_room (Store x) s ns long e = tt
-has_room Add s ns long e = tt
-has_room Sub s ns long e = tt
-has_room Mul s ns long e = tt
-has_room Lt s ns long e = tt
-has_room Eq s ns long e = tt
-has_room (Div to) s ns long e = tt
-has_room (Jmp to) s ns long e = tt
-has_room (Jz to) s ns long e = tt
-has_room (Times n) s ns long e = tt
-has_room Next s ns long e = tt
 has_room (Open x j timed) s ns long e = (let lt = leb-false 16 (length s.entries) e in omega arith)
-has_room (Fork x g h) s ns long e = tt
-has_room (Join x a b c) s ns long e = tt
-has_room (Close x) s ns long e = tt
-has_room (Cancelled x) s ns long e = tt
-has_room (Case h a b) s ns long e = tt
-has_room (Get h) s ns long e = tt
-has_room (Except h) s ns long e = tt
-has_room (Tally x k) s ns long e = tt
-has_room (Total x) s ns long e = tt
-has_room (Forget h) s ns long e = tt
 has_room (Bind k) s ns long e = (let lt = leb-false 16 (length s.entries) e in omega arith)
-has_room Unbind s ns long e = tt
-has_room (Read k) s ns long e = tt
-has_room (Bound k) s ns long e = tt
-has_room (OrElse k) s ns long e = tt
-has_room Interrupted s ns long e = tt
-has_room Ret s ns long e = tt
-has_room Fail s ns long e = tt
+has_room _ s ns long e = tt
 
 head_kept : (p : Program) (code : List Instr) (pc : ℕ) (i : Instr) (heads : List (Option ℕ)) → GoesOn p code pc i → head_after i pc heads ≡ get_or heads pc None
-head_kept p code pc (Push k) heads goes = refl
-head_kept p code pc Pop heads goes = refl
-head_kept p code pc Dup heads goes = refl
-head_kept p code pc Swap heads goes = refl
-head_kept p code pc (Load x) heads goes = refl
-head_kept p code pc (Store x) heads goes = refl
-head_kept p code pc Add heads goes = refl
-head_kept p code pc Sub heads goes = refl
-head_kept p code pc Mul heads goes = refl
-head_kept p code pc Lt heads goes = refl
-head_kept p code pc Eq heads goes = refl
-head_kept p code pc (Div to) heads goes = refl
-head_kept p code pc (Jmp to) heads goes = refl
-head_kept p code pc (Jz to) heads goes = refl
 head_kept p code pc (Times n) heads goes = (let z : Repeats n ≡ GoesTo (targets (Times n) ++ next_place pc (Times n)) = goes.shape in absurd (cc))
 head_kept p code pc Next heads goes = (let z : EndsTurn ≡ GoesTo (targets Next ++ next_place pc Next) = goes.shape in absurd (cc))
-head_kept p code pc (Open x j timed) heads goes = refl
-head_kept p code pc (Fork x g h) heads goes = refl
-head_kept p code pc (Join x a b c) heads goes = refl
-head_kept p code pc (Close x) heads goes = refl
-head_kept p code pc (Cancelled x) heads goes = refl
-head_kept p code pc (Case h a b) heads goes = refl
-head_kept p code pc (Get h) heads goes = refl
-head_kept p code pc (Except h) heads goes = refl
-head_kept p code pc (Tally x k) heads goes = refl
-head_kept p code pc (Total x) heads goes = refl
-head_kept p code pc (Forget h) heads goes = refl
-head_kept p code pc (Bind k) heads goes = refl
-head_kept p code pc Unbind heads goes = refl
-head_kept p code pc (Read k) heads goes = refl
-head_kept p code pc (Bound k) heads goes = refl
-head_kept p code pc (OrElse k) heads goes = refl
-head_kept p code pc Interrupted heads goes = refl
-head_kept p code pc Ret heads goes = refl
-head_kept p code pc Fail heads goes = refl
+head_kept p code pc _ heads goes = refl
 
 long_after : (i : Instr) (pc : ℕ) (head : Option ℕ) (mates : List ℕ) → length (mates_after i pc head mates) ≡ length mates
 long_after Next pc (Some h) mates = length-set mates h pc
@@ -182,77 +118,11 @@ long_after Fail pc head mates = refl
 -- the other instructions end no loop
 mates_kept : (p : Program) (code : List Instr) (pc : ℕ) (i : Instr) (head : Option ℕ) (mates : List ℕ) → (i ≡ Next → ⊥) → mates_after i pc head mates ≡ mates
 mates_kept p code pc Next head mates other = absurd (other refl)
-mates_kept p code pc (Push k) head mates other = refl
-mates_kept p code pc Pop head mates other = refl
-mates_kept p code pc Dup head mates other = refl
-mates_kept p code pc Swap head mates other = refl
-mates_kept p code pc (Load x) head mates other = refl
-mates_kept p code pc (Store x) head mates other = refl
-mates_kept p code pc Add head mates other = refl
-mates_kept p code pc Sub head mates other = refl
-mates_kept p code pc Mul head mates other = refl
-mates_kept p code pc Lt head mates other = refl
-mates_kept p code pc Eq head mates other = refl
-mates_kept p code pc (Div to) head mates other = refl
-mates_kept p code pc (Jmp to) head mates other = refl
-mates_kept p code pc (Jz to) head mates other = refl
-mates_kept p code pc (Times n) head mates other = refl
-mates_kept p code pc (Open x j timed) head mates other = refl
-mates_kept p code pc (Fork x g h) head mates other = refl
-mates_kept p code pc (Join x a b c) head mates other = refl
-mates_kept p code pc (Close x) head mates other = refl
-mates_kept p code pc (Cancelled x) head mates other = refl
-mates_kept p code pc (Case h a b) head mates other = refl
-mates_kept p code pc (Get h) head mates other = refl
-mates_kept p code pc (Except h) head mates other = refl
-mates_kept p code pc (Tally x k) head mates other = refl
-mates_kept p code pc (Total x) head mates other = refl
-mates_kept p code pc (Forget h) head mates other = refl
-mates_kept p code pc (Bind k) head mates other = refl
-mates_kept p code pc Unbind head mates other = refl
-mates_kept p code pc (Read k) head mates other = refl
-mates_kept p code pc (Bound k) head mates other = refl
-mates_kept p code pc (OrElse k) head mates other = refl
-mates_kept p code pc Interrupted head mates other = refl
-mates_kept p code pc Ret head mates other = refl
-mates_kept p code pc Fail head mates other = refl
+mates_kept p code pc _ head mates other = refl
 
 is_next_instr : (i : Instr) → (i ≡ Next) ⊎ (i ≡ Next → ⊥)
-is_next_instr (Push k) = inr (λ e. (cc))
-is_next_instr Pop = inr (λ e. (cc))
-is_next_instr Dup = inr (λ e. (cc))
-is_next_instr Swap = inr (λ e. (cc))
-is_next_instr (Load x) = inr (λ e. (cc))
-is_next_instr (Store x) = inr (λ e. (cc))
-is_next_instr Add = inr (λ e. (cc))
-is_next_instr Sub = inr (λ e. (cc))
-is_next_instr Mul = inr (λ e. (cc))
-is_next_instr Lt = inr (λ e. (cc))
-is_next_instr Eq = inr (λ e. (cc))
-is_next_instr (Div to) = inr (λ e. (cc))
-is_next_instr (Jmp to) = inr (λ e. (cc))
-is_next_instr (Jz to) = inr (λ e. (cc))
-is_next_instr (Times n) = inr (λ e. (cc))
 is_next_instr Next = inl refl
-is_next_instr (Open x j timed) = inr (λ e. (cc))
-is_next_instr (Fork x g h) = inr (λ e. (cc))
-is_next_instr (Join x a b c) = inr (λ e. (cc))
-is_next_instr (Close x) = inr (λ e. (cc))
-is_next_instr (Cancelled x) = inr (λ e. (cc))
-is_next_instr (Case h a b) = inr (λ e. (cc))
-is_next_instr (Get h) = inr (λ e. (cc))
-is_next_instr (Except h) = inr (λ e. (cc))
-is_next_instr (Tally x k) = inr (λ e. (cc))
-is_next_instr (Total x) = inr (λ e. (cc))
-is_next_instr (Forget h) = inr (λ e. (cc))
-is_next_instr (Bind k) = inr (λ e. (cc))
-is_next_instr Unbind = inr (λ e. (cc))
-is_next_instr (Read k) = inr (λ e. (cc))
-is_next_instr (Bound k) = inr (λ e. (cc))
-is_next_instr (OrElse k) = inr (λ e. (cc))
-is_next_instr Interrupted = inr (λ e. (cc))
-is_next_instr Ret = inr (λ e. (cc))
-is_next_instr Fail = inr (λ e. (cc))
+is_next_instr _ = inr (λ e. (cc))
 
 -- ---- the function
 

@@ -39,58 +39,19 @@ use Rattle.sts_budget.proofs.SumsLemmas.{IsTable, point_attained, full_inside, f
 
 pub limit_small : (k : Resource) → limit_of k ≤ 1000000
 limit_small Steps = omega arith
-limit_small Tasks = omega arith
-limit_small Scopes = omega arith
-limit_small Binds = omega arith
+limit_small _ = omega arith
 
 pub own_within : (k : Resource) → own_of k ≤ limit_of k
 own_within Steps = omega arith
-own_within Tasks = omega arith
-own_within Scopes = omega arith
-own_within Binds = omega arith
+own_within _ = omega arith
 
 own_low : (k : Resource) → own_step k ≤ 1
 own_low Steps = omega arith
-own_low Tasks = omega arith
-own_low Scopes = omega arith
-own_low Binds = omega arith
+own_low _ = omega arith
 
 is_times_or : (i : Instr) (pc own full end : ℕ) (bases : List ℕ) → ((n : ℕ) × (i ≡ Times n)) ⊎ (((n : ℕ) → i ≡ Times n → ⊥) × (bases_after i pc own full end bases ≡ bases))
-is_times_or (Push v) pc own full end bases = inr ((λ m e. (cc)), refl)
-is_times_or Pop pc own full end bases = inr ((λ m e. (cc)), refl)
-is_times_or Dup pc own full end bases = inr ((λ m e. (cc)), refl)
-is_times_or Swap pc own full end bases = inr ((λ m e. (cc)), refl)
-is_times_or (Load x) pc own full end bases = inr ((λ m e. (cc)), refl)
-is_times_or (Store x) pc own full end bases = inr ((λ m e. (cc)), refl)
-is_times_or Add pc own full end bases = inr ((λ m e. (cc)), refl)
-is_times_or Sub pc own full end bases = inr ((λ m e. (cc)), refl)
-is_times_or Mul pc own full end bases = inr ((λ m e. (cc)), refl)
-is_times_or Lt pc own full end bases = inr ((λ m e. (cc)), refl)
-is_times_or Eq pc own full end bases = inr ((λ m e. (cc)), refl)
-is_times_or (Div to) pc own full end bases = inr ((λ m e. (cc)), refl)
-is_times_or (Jmp to) pc own full end bases = inr ((λ m e. (cc)), refl)
-is_times_or (Jz to) pc own full end bases = inr ((λ m e. (cc)), refl)
 is_times_or (Times n) pc own full end bases = inl (n, refl)
-is_times_or Next pc own full end bases = inr ((λ m e. (cc)), refl)
-is_times_or (Open x j timed) pc own full end bases = inr ((λ m e. (cc)), refl)
-is_times_or (Fork x g h) pc own full end bases = inr ((λ m e. (cc)), refl)
-is_times_or (Join x a b c) pc own full end bases = inr ((λ m e. (cc)), refl)
-is_times_or (Close x) pc own full end bases = inr ((λ m e. (cc)), refl)
-is_times_or (Cancelled x) pc own full end bases = inr ((λ m e. (cc)), refl)
-is_times_or (Case h a b) pc own full end bases = inr ((λ m e. (cc)), refl)
-is_times_or (Get h) pc own full end bases = inr ((λ m e. (cc)), refl)
-is_times_or (Except h) pc own full end bases = inr ((λ m e. (cc)), refl)
-is_times_or (Tally x v) pc own full end bases = inr ((λ m e. (cc)), refl)
-is_times_or (Total x) pc own full end bases = inr ((λ m e. (cc)), refl)
-is_times_or (Forget h) pc own full end bases = inr ((λ m e. (cc)), refl)
-is_times_or (Bind v) pc own full end bases = inr ((λ m e. (cc)), refl)
-is_times_or Unbind pc own full end bases = inr ((λ m e. (cc)), refl)
-is_times_or (Read v) pc own full end bases = inr ((λ m e. (cc)), refl)
-is_times_or (Bound v) pc own full end bases = inr ((λ m e. (cc)), refl)
-is_times_or (OrElse v) pc own full end bases = inr ((λ m e. (cc)), refl)
-is_times_or Interrupted pc own full end bases = inr ((λ m e. (cc)), refl)
-is_times_or Ret pc own full end bases = inr ((λ m e. (cc)), refl)
-is_times_or Fail pc own full end bases = inr ((λ m e. (cc)), refl)
+is_times_or _ pc own full end bases = inr ((λ m e. (cc)), refl)
 
 -- the bases are small
 pub base_small : (bases : List ℕ) (o : Option ℕ) → ((i : ℕ) → get_or bases i 0 < 1125899906842624) → base_of bases o < 1125899906842624
@@ -243,23 +204,8 @@ pub least_excess : (k : Resource) (earlier : List Budgets) (code : List Instr) �
 least_excess k earlier code here before = (here, less)
   where
     less : (other : Cause) → cause_number other < cause_number (cause_of k) → Exceeds earlier code other → ⊥
-    less cause.StackUnder lt e = e
-    less cause.StackOver lt e = e
-    less cause.FallsOff lt e = e
-    less cause.BackJump lt e = e
-    less cause.LoopMismatch lt e = e
-    less cause.LoopDepth lt e = e
-    less cause.StatesDiffer lt e = e
-    less cause.DeadCode lt e = e
-    less cause.SlotKind lt e = e
-    less cause.SlotBusy lt e = e
-    less cause.WrongThread lt e = e
-    less cause.IllegalState lt e = e
-    less cause.Structure lt e = e
-    less cause.Nesting lt e = e
-    less cause.Unbound lt e = e
-    less cause.JoinEdges lt e = e
     less cause.TooManySteps lt e = before Steps lt e
     less cause.TooManyTasks lt e = before Tasks lt e
     less cause.TooManyScopes lt e = before Scopes lt e
     less cause.TooManyBinds lt e = before Binds lt e
+    less _ lt e = e

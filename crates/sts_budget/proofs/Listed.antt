@@ -20,79 +20,22 @@ use Rattle.sts_budget.proofs.Forward.{among_cases}
 
 -- an instruction that opens and closes nothing keeps the names
 same_names : (i : Instr) (ns : Names) → keeps_names i ≡ true → names_after i ns ≡ ns
-same_names (Push k) ns e = refl
-same_names Pop ns e = refl
-same_names Dup ns e = refl
-same_names Swap ns e = refl
-same_names (Load x) ns e = refl
-same_names (Store x) ns e = refl
-same_names Add ns e = refl
-same_names Sub ns e = refl
-same_names Mul ns e = refl
-same_names Lt ns e = refl
-same_names Eq ns e = refl
-same_names (Div to) ns e = refl
-same_names (Jmp to) ns e = refl
-same_names (Jz to) ns e = refl
-same_names (Times n) ns e = refl
-same_names Next ns e = refl
 same_names (Open x j timed) ns e = absurd (cc)
-same_names (Fork x g h) ns e = refl
-same_names (Join x a b c) ns e = refl
 same_names (Close x) ns e = absurd (cc)
-same_names (Cancelled x) ns e = refl
-same_names (Case h a b) ns e = refl
-same_names (Get h) ns e = refl
-same_names (Except h) ns e = refl
-same_names (Tally x k) ns e = refl
-same_names (Total x) ns e = refl
-same_names (Forget h) ns e = refl
 same_names (Bind k) ns e = absurd (cc)
 same_names Unbind ns e = absurd (cc)
-same_names (Read k) ns e = refl
-same_names (Bound k) ns e = refl
-same_names (OrElse k) ns e = refl
-same_names Interrupted ns e = refl
-same_names Ret ns e = refl
-same_names Fail ns e = refl
+same_names _ ns e = refl
 
 -- an instruction that goes straight on leads only to the next place
 pub straight : (i : Instr) (pc : ℕ) → goes_straight_on i ≡ true → (pc + 1) ∷ [] ≡ targets i ++ next_place pc i
-straight (Push k) pc e = refl
-straight Pop pc e = refl
-straight Dup pc e = refl
-straight Swap pc e = refl
-straight (Load x) pc e = refl
-straight (Store x) pc e = refl
-straight Add pc e = refl
-straight Sub pc e = refl
-straight Mul pc e = refl
-straight Lt pc e = refl
-straight Eq pc e = refl
 straight (Div to) pc e = absurd (cc)
 straight (Jmp to) pc e = absurd (cc)
 straight (Jz to) pc e = absurd (cc)
-straight (Times n) pc e = refl
-straight Next pc e = refl
-straight (Open x j timed) pc e = refl
-straight (Fork x g h) pc e = refl
 straight (Join x a b c) pc e = absurd (cc)
-straight (Close x) pc e = refl
-straight (Cancelled x) pc e = refl
 straight (Case h a b) pc e = absurd (cc)
-straight (Get h) pc e = refl
-straight (Except h) pc e = refl
-straight (Tally x k) pc e = refl
-straight (Total x) pc e = refl
-straight (Forget h) pc e = refl
-straight (Bind k) pc e = refl
-straight Unbind pc e = refl
-straight (Read k) pc e = refl
-straight (Bound k) pc e = refl
-straight (OrElse k) pc e = refl
-straight Interrupted pc e = refl
 straight Ret pc e = absurd (cc)
 straight Fail pc e = absurd (cc)
+straight _ pc e = refl
 
 pub list_kept : (i : Instr) (list : ℕ) (lists : List Names) → list < length lists → keeps_names i ≡ true → IsListAfter i list list lists lists
 list_kept i list lists lt e = record { kept = λ k less. refl; more = omega arith; inside = lt; after = sym (same_names i (get_or lists list []) e) }

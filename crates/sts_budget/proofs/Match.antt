@@ -18,78 +18,12 @@ use Rattle.sts_code.specs.Loops.{is_times, is_next, is_balanced, match_of}
 use Rattle.sts_code.specs.Program.{instr_at}
 
 pub next_is : (i : Instr) → is_next i ≡ true → i ≡ Next
-next_is (Push k) e = cc
-next_is Pop e = cc
-next_is Dup e = cc
-next_is Swap e = cc
-next_is (Load x) e = cc
-next_is (Store x) e = cc
-next_is Add e = cc
-next_is Sub e = cc
-next_is Mul e = cc
-next_is Lt e = cc
-next_is Eq e = cc
-next_is (Div to) e = cc
-next_is (Jmp to) e = cc
-next_is (Jz to) e = cc
-next_is (Times n) e = cc
 next_is Next e = refl
-next_is (Open x j timed) e = cc
-next_is (Fork x g h) e = cc
-next_is (Join x a b c) e = cc
-next_is (Close x) e = cc
-next_is (Cancelled x) e = cc
-next_is (Case h a b) e = cc
-next_is (Get h) e = cc
-next_is (Except h) e = cc
-next_is (Tally x k) e = cc
-next_is (Total x) e = cc
-next_is (Forget h) e = cc
-next_is (Bind k) e = cc
-next_is Unbind e = cc
-next_is (Read k) e = cc
-next_is (Bound k) e = cc
-next_is (OrElse k) e = cc
-next_is Interrupted e = cc
-next_is Ret e = cc
-next_is Fail e = cc
+next_is _ e = cc
 
 pub times_is : (i : Instr) → is_times i ≡ true → (n : ℕ) × (i ≡ Times n)
-times_is (Push k) e = absurd (cc)
-times_is Pop e = absurd (cc)
-times_is Dup e = absurd (cc)
-times_is Swap e = absurd (cc)
-times_is (Load x) e = absurd (cc)
-times_is (Store x) e = absurd (cc)
-times_is Add e = absurd (cc)
-times_is Sub e = absurd (cc)
-times_is Mul e = absurd (cc)
-times_is Lt e = absurd (cc)
-times_is Eq e = absurd (cc)
-times_is (Div to) e = absurd (cc)
-times_is (Jmp to) e = absurd (cc)
-times_is (Jz to) e = absurd (cc)
 times_is (Times n) e = (n, refl)
-times_is Next e = absurd (cc)
-times_is (Open x j timed) e = absurd (cc)
-times_is (Fork x g h) e = absurd (cc)
-times_is (Join x a b c) e = absurd (cc)
-times_is (Close x) e = absurd (cc)
-times_is (Cancelled x) e = absurd (cc)
-times_is (Case h a b) e = absurd (cc)
-times_is (Get h) e = absurd (cc)
-times_is (Except h) e = absurd (cc)
-times_is (Tally x k) e = absurd (cc)
-times_is (Total x) e = absurd (cc)
-times_is (Forget h) e = absurd (cc)
-times_is (Bind k) e = absurd (cc)
-times_is Unbind e = absurd (cc)
-times_is (Read k) e = absurd (cc)
-times_is (Bound k) e = absurd (cc)
-times_is (OrElse k) e = absurd (cc)
-times_is Interrupted e = absurd (cc)
-times_is Ret e = absurd (cc)
-times_is Fail e = absurd (cc)
+times_is _ e = absurd (cc)
 
 one_more : (t : Instr → Bool) (xs : List Instr) (k : ℕ) → k < length xs → count_by t (take (suc k) xs) ≡ count_by t (take k xs) + cond (t (get_or xs k Ret)) 1 0
 one_more t xs k lt =

@@ -45,10 +45,8 @@ use Rattle.sts_budget.specs.TypedNames.{names}
 
 -- a slot kind that isn't lent is own, if it is one of these two
 own_of : (k : SlotKind) → not (is_own k || is_lent k) ≡ false → is_lent k ≡ false → is_own k ≡ true
-own_of slot.Empty a b = absurd (cc)
 own_of slot.Own a b = refl
-own_of slot.Lent a b = absurd (cc)
-own_of (slot.Sub x s) a b = absurd (cc)
+own_of _ a b = absurd (cc)
 
 -- the slot holds the task's own scope, and the test of that scope fails
 own_passes : (a b : Bool) → a ≡ true → a && b ≡ false → b ≡ false
@@ -87,41 +85,10 @@ unbinds s e = let n = neither (not (innermost is_binding s.entries)) (is_held s)
 
 -- if no cause holds, the names fit the instruction
 fits_names : (p : Program) (i : Instr) (s : TypeState) → breaks_structure i s ≡ false → is_illegal p.profile i s ≡ false → has_wrong_slot i s ≡ false → is_strangers i s ≡ false → FitsNames i (names s.entries)
-fits_names p (Push k) s ordered legal right own = tt
-fits_names p Pop s ordered legal right own = tt
-fits_names p Dup s ordered legal right own = tt
-fits_names p Swap s ordered legal right own = tt
-fits_names p (Load x) s ordered legal right own = tt
-fits_names p (Store x) s ordered legal right own = tt
-fits_names p Add s ordered legal right own = tt
-fits_names p Sub s ordered legal right own = tt
-fits_names p Mul s ordered legal right own = tt
-fits_names p Lt s ordered legal right own = tt
-fits_names p Eq s ordered legal right own = tt
-fits_names p (Div to) s ordered legal right own = tt
-fits_names p (Jmp to) s ordered legal right own = tt
-fits_names p (Jz to) s ordered legal right own = tt
-fits_names p (Times n) s ordered legal right own = tt
-fits_names p Next s ordered legal right own = tt
-fits_names p (Open x j timed) s ordered legal right own = tt
 fits_names p (Fork x g h) s ordered legal right own = has_scope s.entries x (not_false _ (own_passes (is_own (kind s x)) (not (passes is_opened (scope_in s.entries x))) (own_slot s x right own) legal))
-fits_names p (Join x a b c) s ordered legal right own = tt
 fits_names p (Close x) s ordered legal right own = some_entry (is_scope_in x) s.entries (closes s x right own ordered).0
-fits_names p (Cancelled x) s ordered legal right own = tt
-fits_names p (Case h a b) s ordered legal right own = tt
-fits_names p (Get h) s ordered legal right own = tt
-fits_names p (Except h) s ordered legal right own = tt
-fits_names p (Tally x k) s ordered legal right own = tt
-fits_names p (Total x) s ordered legal right own = tt
-fits_names p (Forget h) s ordered legal right own = tt
-fits_names p (Bind k) s ordered legal right own = tt
 fits_names p Unbind s ordered legal right own = some_entry is_binding s.entries (unbinds s ordered).0
-fits_names p (Read k) s ordered legal right own = tt
-fits_names p (Bound k) s ordered legal right own = tt
-fits_names p (OrElse k) s ordered legal right own = tt
-fits_names p Interrupted s ordered legal right own = tt
-fits_names p Ret s ordered legal right own = tt
-fits_names p Fail s ordered legal right own = tt
+fits_names p _ s ordered legal right own = tt
 
 dropped : (ns : Names) → length ns ≤ length (drop 1 ns) + 1
 dropped [] = omega arith
@@ -130,41 +97,9 @@ dropped (n ∷ ns) = omega arith
 -- an instruction leaves at least the entries that were there, or takes out one that was opened
 -- after each open loop began
 keeps_depth : (i : Instr) (s : TypeState) → breaks_structure i s ≡ false → has_wrong_slot i s ≡ false → is_strangers i s ≡ false → (length (names s.entries) ≤ length (names_after i (names s.entries))) ⊎ ((is_held s ≡ false) × (length (names s.entries) ≤ length (names_after i (names s.entries)) + 1))
-keeps_depth (Push k) s ordered right own = inl (omega arith)
-keeps_depth Pop s ordered right own = inl (omega arith)
-keeps_depth Dup s ordered right own = inl (omega arith)
-keeps_depth Swap s ordered right own = inl (omega arith)
-keeps_depth (Load x) s ordered right own = inl (omega arith)
-keeps_depth (Store x) s ordered right own = inl (omega arith)
-keeps_depth Add s ordered right own = inl (omega arith)
-keeps_depth Sub s ordered right own = inl (omega arith)
-keeps_depth Mul s ordered right own = inl (omega arith)
-keeps_depth Lt s ordered right own = inl (omega arith)
-keeps_depth Eq s ordered right own = inl (omega arith)
-keeps_depth (Div to) s ordered right own = inl (omega arith)
-keeps_depth (Jmp to) s ordered right own = inl (omega arith)
-keeps_depth (Jz to) s ordered right own = inl (omega arith)
-keeps_depth (Times n) s ordered right own = inl (omega arith)
-keeps_depth Next s ordered right own = inl (omega arith)
-keeps_depth (Open x j timed) s ordered right own = inl (omega arith)
-keeps_depth (Fork x g h) s ordered right own = inl (omega arith)
-keeps_depth (Join x a b c) s ordered right own = inl (omega arith)
 keeps_depth (Close x) s ordered right own = inr ((closes s x right own ordered).1, dropped (names s.entries))
-keeps_depth (Cancelled x) s ordered right own = inl (omega arith)
-keeps_depth (Case h a b) s ordered right own = inl (omega arith)
-keeps_depth (Get h) s ordered right own = inl (omega arith)
-keeps_depth (Except h) s ordered right own = inl (omega arith)
-keeps_depth (Tally x k) s ordered right own = inl (omega arith)
-keeps_depth (Total x) s ordered right own = inl (omega arith)
-keeps_depth (Forget h) s ordered right own = inl (omega arith)
-keeps_depth (Bind k) s ordered right own = inl (omega arith)
 keeps_depth Unbind s ordered right own = inr ((unbinds s ordered).1, dropped (names s.entries))
-keeps_depth (Read k) s ordered right own = inl (omega arith)
-keeps_depth (Bound k) s ordered right own = inl (omega arith)
-keeps_depth (OrElse k) s ordered right own = inl (omega arith)
-keeps_depth Interrupted s ordered right own = inl (omega arith)
-keeps_depth Ret s ordered right own = inl (omega arith)
-keeps_depth Fail s ordered right own = inl (omega arith)
+keeps_depth _ s ordered right own = inl (omega arith)
 
 -- ---- the function
 

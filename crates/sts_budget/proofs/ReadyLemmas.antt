@@ -26,41 +26,8 @@ use Rattle.sts_budget.proofs.TypedLemmas.{fits, structured, opened}
 
 -- each fork is of an earlier function
 forks : (f pc : ℕ) (i : Instr) → ((x g : ℕ) (h : Option ℕ) → i ≡ Fork x g h → g < f) → ForksEarlier f i
-forks f pc (Push v) e = tt
-forks f pc Pop e = tt
-forks f pc Dup e = tt
-forks f pc Swap e = tt
-forks f pc (Load x) e = tt
-forks f pc (Store x) e = tt
-forks f pc Add e = tt
-forks f pc Sub e = tt
-forks f pc Mul e = tt
-forks f pc Lt e = tt
-forks f pc Eq e = tt
-forks f pc (Div to) e = tt
-forks f pc (Jmp to) e = tt
-forks f pc (Jz to) e = tt
-forks f pc (Times n) e = tt
-forks f pc Next e = tt
-forks f pc (Open x j timed) e = tt
 forks f pc (Fork x g h) e = e x g h refl
-forks f pc (Join x a b c) e = tt
-forks f pc (Close x) e = tt
-forks f pc (Cancelled x) e = tt
-forks f pc (Case h a b) e = tt
-forks f pc (Get h) e = tt
-forks f pc (Except h) e = tt
-forks f pc (Tally x v) e = tt
-forks f pc (Total x) e = tt
-forks f pc (Forget h) e = tt
-forks f pc (Bind v) e = tt
-forks f pc Unbind e = tt
-forks f pc (Read v) e = tt
-forks f pc (Bound v) e = tt
-forks f pc (OrElse v) e = tt
-forks f pc Interrupted e = tt
-forks f pc Ret e = tt
-forks f pc Fail e = tt
+forks f pc _ e = tt
 
 pub is_ready : (p : Program) (f : ℕ) (earlier : List Budgets) (code : List Instr) (l : Layout) → program_fault p.routines ≡ None → f < length p.routines → IsWellTyped p f → length earlier ≡ f → code ≡ (routine p f).code → IsLaidOut p f l → IsLaidFor earlier code l
 is_ready p f earlier code l fine in_program typed long is laid = subst (λ xs. IsLaidFor earlier xs l) (sym is) ready

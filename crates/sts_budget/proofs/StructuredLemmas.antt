@@ -142,9 +142,7 @@ module _ (c : Skeleton) (around : ℕ → List ℕ) (good : IsStructured c aroun
       by (Repeats n) e rest =
           let left_is : suc (l.1 - 1) ≡ l.1 = omega (arith, fit.0) in
           subst (λ t. IsMadeWhole ((l.0, t) ∷ ls)) left_is (out_of_loop l.0 n e ls rest (l.1 - 1))
-      by EndsTurn e rest = none 0 (ap bound_of e) refl
-      by EndsPath e rest = none 0 (ap bound_of e) refl
-      by (GoesTo places) e rest = none 0 (ap bound_of e) refl
+      by _ e rest = none 0 (ap bound_of e) refl
 
   -- every point of every path is on a whole path, which counts at least as much
   pub at_points : (pc : ℕ) (loops : Loops) (m : ℕ) (es : List OpenEntry) → Comes c pc loops m es → Counts (m + c.weight pc)

@@ -37,6 +37,12 @@ heads_last : (ps : List ℕ) → heads (last_turns ps) ≡ ps
 heads_last [] = refl
 heads_last (p ∷ ps) = ap (λ (hs : List ℕ). p ∷ hs) (heads_last ps)
 
+-- the entries of a place in a loop that were open when the loop began
+low_in : (c : Skeleton) (around : ℕ → List ℕ) (f : Flows) → FitsEntries c around f → (p n d : ℕ) → c.shape p ≡ Repeats n → (min d (f.depth p) ≤ f.depth p) × (min d (f.depth p) ≤ f.depth (p + 1))
+low_in c around f fits p n d e =
+    let s = fits.same p n e in
+    (omega arith, omega (arith, s.0))
+
 module _ (c : Skeleton) (around : ℕ → List ℕ) (good : IsStructured c around) (f : Flows) (fits : FitsEntries c around f) (best : ℕ → ℕ → ℕ) (bound : ℕ) (sourced : IsSourced c f best bound) where
   -- a path is at the start of the innermost loop's turn, with this sum over the first d of the
   -- entries that were open when the loop began
@@ -160,18 +166,14 @@ module _ (c : Skeleton) (around : ℕ → List ℕ) (good : IsStructured c aroun
   begins : (ps : List ℕ) (pc d : ℕ) → pc < bound → around pc ≡ ps → (m : ℕ) × Begins (last_turns ps) d m
   begins [] pc d within is = (0, refl)
   begins (p ∷ ps) pc d within is =
-      let q = good.nested pc p ps is in
+      let ((n, e), around_it) = good.nested pc p ps is in
       let less = good.lesser pc p ps is in
-      let n = q.0.0 in
-      let e = q.0.1 in
       let l = good.loop p n e in
-      let s = fits.same p n e in
       let x = min d (f.depth p) in
-      let low : x ≤ f.depth p = omega arith in
-      let low_1 : x ≤ f.depth (p + 1) = omega (arith, s.0) in
+      let (low, low_1) = low_in c around f fits p n d e in
       let p_in : p < bound = omega arith in
-      let outer = begins ps p x p_in q.1 in
-      let inside : heads (last_turns ps) ≡ around p = heads_last ps ∙ sym q.1 in
+      let outer = begins ps p x p_in around_it in
+      let inside : heads (last_turns ps) ≡ around p = heads_last ps ∙ sym around_it in
       let here = attained p p_in x low (last_turns ps) outer.0 inside outer.1 in
       (_, plain x p _ _ _ _ low_1 (fits.times p n x e) here (enter n 1 e (omega arith) (omega (arith, l.0))))
 
@@ -311,16 +313,12 @@ module _ (c : Skeleton) (around : ℕ → List ℕ) (good : IsStructured c aroun
   begins_last : (ps : List ℕ) (pc d : ℕ) → around pc ≡ ps → Begins c around good f fits best c.size table.sourced (last_turns ps) d (base c f best (last_turns ps) d)
   begins_last [] pc d is = refl
   begins_last (p ∷ ps) pc d is =
-      let q = good.nested pc p ps is in
-      let n = q.0.0 in
-      let e = q.0.1 in
+      let ((n, e), around_it) = good.nested pc p ps is in
       let l = good.loop p n e in
-      let s = fits.same p n e in
       let x = min d (f.depth p) in
-      let low : x ≤ f.depth p = omega arith in
-      let low_1 : x ≤ f.depth (p + 1) = omega (arith, s.0) in
-      let outer = begins_last ps p x q.1 in
-      let inside : heads (last_turns ps) ≡ around p = heads_last ps ∙ sym q.1 in
+      let (low, low_1) = low_in c around f fits p n d e in
+      let outer = begins_last ps p x around_it in
+      let inside : heads (last_turns ps) ≡ around p = heads_last ps ∙ sym around_it in
       let p_in : p < c.size = omega (arith, l.1, l.2) in
       let here = attained c around good f fits best c.size table.sourced p p_in x low (last_turns ps) (base c f best (last_turns ps) x) inside outer in
       let opened = plain c around good f fits best c.size table.sourced x p _ _ _ _ low_1 (fits.times p n x e) here (enter n n e l.0 (omega arith)) in

@@ -5,7 +5,7 @@ use Rattle.std.proofs.Common.{length, drop, map, reverse, Bool, true, false, con
 use Rattle.std.proofs.Common.{Some, None, Ok, refl, sym, ap, ◌∙◌, subst, arith, is_none, option_map}
 use Rattle.std.proofs.Common.{option_to_list, unwrap_or}
 use Rattle.std.specs.List.{filter, range_with_len}
-use Rattle.std.proofs.lemmas.Bool.{cases_eq, cases_lt, leb-true, le-leb, eqb-true}
+use Rattle.std.proofs.lemmas.Bool.{and_parts, cases_eq, cases_lt, leb-true, le-leb, eqb-true}
 use Rattle.std.proofs.lemmas.List.{get_or_past, reverse-append}
 use Rattle.sts_code.specs.Program.{Program, routine, instr_at}
 use Rattle.sts_code.specs.declared.instr.Instr.{Instr}
@@ -110,10 +110,6 @@ is_within code pc p q t m le = ap (λ b. b && reaches_to pc (match_of code p)) t
 round : (code : List Instr) (pc p q : ℕ) → p < pc → is_times (instr_at code p) ≡ true → match_of code p ≡ Some q → pc ≤ q → Among (around code pc) p
 round code pc p q lt t m le = passes_member (is_inside code pc) (reverse (range_with_len 0 pc)) p (is_within code pc p q t m le) (among_reverse (range_with_len 0 pc) p (in_range 0 pc p (omega arith) (omega arith)))
 
-both : (a b : Bool) → a && b ≡ true → (a ≡ true) × (b ≡ true)
-both true b e = (refl, e)
-both false b e = absurd (cc)
-
 reached : (pc : ℕ) (o : Option ℕ) → reaches_to pc o ≡ true → (q : ℕ) × ((o ≡ Some q) × (pc ≤ q))
 reached pc None e = absurd (cc)
 reached pc (Some q) e = (q, (refl, leb-true pc q e))
@@ -122,7 +118,7 @@ reached pc (Some q) e = (q, (refl, leb-true pc q e))
 pub is_round : (code : List Instr) (pc p : ℕ) → Among (around code pc) p → (is_times (instr_at code p) ≡ true) × ((q : ℕ) × ((match_of code p ≡ Some q) × (pc ≤ q)))
 is_round code pc p a =
     let m = member_passes (is_inside code pc) (reverse (range_with_len 0 pc)) p a in
-    let b = both (is_times (instr_at code p)) (reaches_to pc (match_of code p)) m.0 in
+    let b = and_parts (is_times (instr_at code p)) (reaches_to pc (match_of code p)) m.0 in
     (b.0, reached pc (match_of code p) b.1)
 
 within_times : (code : List Instr) (p : ℕ) → is_times (instr_at code p) ≡ true → p < length code

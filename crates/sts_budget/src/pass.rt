@@ -111,8 +111,8 @@ fn is_quiet(instr: Instr) -> bool
     matches!(instr, Instr::Times(_) | Instr::Ret | Instr::Fail)
 }
 
-/// The most turns of a loop.
-fn turns_of(instr: Instr) -> u16
+/// The most turns of the loop that the instruction opens, and 0 if it opens none.
+pub fn turns_of(instr: Instr) -> u16
     ensures { result ≡ turns_of instr }
 {
     match instr {

@@ -74,8 +74,7 @@ Came dues journal =
 
 no_step : (e : Event) (t : ℕ) → e ≡ Step t → IsOutside e → ⊥
 no_step (Step u) t is outer = absurd (cc)
-no_step (Interrupt u) t is outer = absurd (cc)
-no_step (Expire u) t is outer = absurd (cc)
+no_step _ t is outer = absurd (cc)
 
 gave_came : (dues : List Due) {journal : List Event} {left : List Due} → Gave dues_give dues journal left → Came dues journal × (left ≡ drop (outside_entries journal) dues)
 gave_came dues outside.opening = ((λ k e is outer. absurd (cc)), refl)

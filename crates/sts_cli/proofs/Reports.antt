@@ -11,11 +11,11 @@ use Rattle.sts_rules.specs.Refusal.{IsAccepted}
 use Rattle.sts_output.specs.Output.{AreLines, IsRefused, Output, Writes, file_output}
 use Rattle.sts_cli.proofs.Given.{are_given}
 use Rattle.sts_cli.specs.Dues.{dues_give}
-use Rattle.sts_cli.specs.Running.{IsOutcomeOf, IsRun, Outcome, RunWrites, Written, alone, no_trace}
-use Rattle.sts_cli.specs.Running.{Holds, IsReportOf, refused, report_output, reported, whole}
+use Rattle.sts_cli.specs.Running.{IsOutcomeOf, IsRun, Outcome, RunWrites, alone}
+use Rattle.sts_cli.specs.Running.{Holds, IsReportOf, refused, report_output, reported}
 use Rattle.sts_output.specs.Taking.{IsTakenOf}
 use Rattle.sts_cli.specs.Ending.{IsOfRun, IsPrinted, of_run}
-use Rattle.sts_output.specs.Streams.{most_of_a_text, most_of_a_stream}
+use Rattle.sts_output.specs.Streams.{Written, most_of_a_text, most_of_a_stream, no_trace, whole}
 use Rattle.sts_cli.specs.Ending.{shown, without_file}
 use Rattle.sts_output.specs.declared.taking.TakeError.TheVariants.{Read}
 

@@ -1,7 +1,6 @@
 -- The outcome of `run`: its output, and the journal that its trace spells (this project's own).
-use Rattle.std.specs.Prelude.{◌≡◌, ◌⊎◌, ℕ, List, [], ◌++◌, Option, Result, Ok, Err}
+use Rattle.std.specs.Prelude.{◌≡◌, ◌⊎◌, ℕ, List, [], ◌++◌, Result, Ok, Err}
 use Rattle.std.specs.Prelude.{Bool, true, count_by}
-use Rattle.std.specs.Io.KnownBytes.{Appends}
 use Rattle.sts_code.specs.Program.{Program}
 use Rattle.sts_model.specs.Run.{is_step, taken}
 use Rattle.sts_model.specs.declared.event.End.{End}
@@ -10,15 +9,15 @@ use Rattle.sts_rules.specs.Refusal.{IsAccepted}
 use Rattle.sts_asm.specs.Text.{judged}
 use Rattle.sts_asm.specs.declared.fault.AsmError.{AsmError}
 use Rattle.sts_trace.specs.Reading.{outside_read}
-use Rattle.sts_trace.specs.Spelling.{trace_text}
 use Rattle.sts_trace.specs.declared.error.TraceError.{TraceError}
 use Rattle.sts_trace.specs.declared.outside.Due.{Due}
 use Rattle.sts_pool.specs.Report.{IsReport}
 use Rattle.sts_pool.specs.declared.report.PoolError.{PoolError}
 use Rattle.sts_pool.specs.declared.report.Report.{Report}
 use Rattle.sts_pool.specs.declared.report.PoolError.TheVariants as pool
-use Rattle.sts_output.specs.Output.{AreLines, IsRefused, Output, Writes, end_status, file_output}
+use Rattle.sts_output.specs.Output.{AreLines, IsRefused, Output, end_status}
 use Rattle.sts_output.specs.Output.{memory_output, text_fault_output, trace_fault_output}
+use Rattle.sts_output.specs.Streams.{Written, WritesBoth}
 use Rattle.sts_output.specs.Printed.{end_line, steps_line, threads_line, unfinished_line}
 use Rattle.sts_cli.specs.Dues.{AreGiven}
 
@@ -94,16 +93,6 @@ pub record IsReportOf (kept : Bool) (p : Program) (dues : List Due) (r : Report)
 
 -- ---- what is written
 
--- the bytes that the trace and the stream hold before and after, if they are known
-pub record Written : Type 0 where
-  pub trace_old : Option (List ℕ)
-  pub trace_new : Option (List ℕ)
-  pub out_old : Option (List ℕ)
-  pub out_new : Option (List ℕ)
-
--- the journal is written to the trace, and the output to the stream; if the trace failed, the
--- stream gets only `error file`
-pub data RunWrites (w : Written) (status : ℕ) (o : Outcome) : Type 0 where
-  whole : Appends w.trace_old w.trace_new (trace_text o.journal)
-      → Writes w.out_old w.out_new status o.output → RunWrites w status o
-  no_trace : Writes w.out_old w.out_new status file_output → RunWrites w status o
+-- the journal is written to the trace, and the output to the stream
+abbrev pub RunWrites : Written → ℕ → Outcome → Type 0
+RunWrites w status o = WritesBoth w status o.journal o.output

@@ -14,12 +14,12 @@ use Rattle.sts_code.specs.Program.{Program, Routine, no_routine, routine}
 use borrow.Author.Tests.{ltb-false}
 
 -- neither of two faults is there
-neither : {A : Type 0} (a b : Option A) → option_or a b ≡ None → (a ≡ None) × (b ≡ None)
+pub neither : {A : Type 0} (a b : Option A) → option_or a b ≡ None → (a ≡ None) × (b ≡ None)
 neither None b e = (refl, e)
 neither (Some x) b e = cc
 
 -- if no error is reported for a cause, there is no cause
-no_cause : (at pc : ℕ) (cause : Option CodeCause) → def.fault_at at pc cause ≡ None → cause ≡ None
+pub no_cause : (at pc : ℕ) (cause : Option CodeCause) → def.fault_at at pc cause ≡ None → cause ≡ None
 no_cause at pc None e = refl
 no_cause at pc (Some c) e = cc
 
@@ -37,7 +37,7 @@ neither_holds true b x rest e = cc
 neither_holds false true x rest e = cc
 neither_holds false false x rest e = (refl, refl)
 
-no_test : (a : Bool) (x : CodeCause) (rest : Option CodeCause) → cond a (Some x) rest ≡ None → (a ≡ false) × (rest ≡ None)
+pub no_test : (a : Bool) (x : CodeCause) (rest : Option CodeCause) → cond a (Some x) rest ≡ None → (a ≡ false) × (rest ≡ None)
 no_test true x rest e = cc
 no_test false x rest e = (refl, e)
 

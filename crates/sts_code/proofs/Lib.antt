@@ -1,3 +1,4 @@
 pub mod CheckedLemmas
+pub mod InstrLemmas
 pub mod LimitLemmas
 pub mod LoopLemmas

@@ -3,12 +3,12 @@ use Rattle.std.proofs.Common.{◌≡◌, ℕ, zero, suc, ◌<◌, ◌≤◌, Lis
 use Rattle.std.proofs.Common.{false, Option, Some, None, ◌||◌, ◌==◌, cond, nat_lt, ◌∙◌, refl, arith}
 use Rattle.std.proofs.Common.{slice_index_or}
 use Rattle.std.proofs.lemmas.List.{get_or_default}
-use Rattle.std.specs.Option.{option_or}
 use Rattle.sts_code.specs.declared.checking.CodeCause.{CodeCause}
-use Rattle.sts_code.specs.Checks.{program_fault, fault_at, routine_cause}
+use Rattle.sts_code.specs.Checks.{program_fault, routine_cause}
 use Rattle.sts_code.specs.declared.limits.TheConstants.{MAX_INSTRUCTIONS, MAX_ARGS}
 use Rattle.sts_code.specs.Program.{Program, Routine, routine, no_routine}
-use Rattle.sts_code.proofs.CheckedLemmas.{code_is_short, routine_is_fine, routines_are_fine}
+use Rattle.sts_code.proofs.CheckedLemmas.{neither, no_cause, code_is_short, routine_is_fine}
+use Rattle.sts_code.proofs.CheckedLemmas.{routines_are_fine}
 use borrow.Author.Tests.{ltb-true}
 
 pub function_is_short : (p : Program) (rs : List Routine) (i : ℕ) (d r : Routine) → rs ≡ p.routines → program_fault p.routines ≡ None → true ≡ nat_lt i (length rs) → r ≡ slice_index_or rs i d → (length r.code ≤ MAX_INSTRUCTIONS) × (r.args ≤ MAX_ARGS)
@@ -17,14 +17,6 @@ function_is_short p rs i d r same fine h at =
     rw e (code_is_short p i fine)
 
 -- ---- no function is empty
-
-neither : {A : Type 0} (a b : Option A) → option_or a b ≡ None → a ≡ None
-neither None b e = refl
-neither (Some x) b e = cc
-
-no_cause : (at pc : ℕ) (cause : Option CodeCause) → fault_at at pc cause ≡ None → cause ≡ None
-no_cause at pc None e = refl
-no_cause at pc (Some c) e = cc
 
 second_test : (a b : Bool) (x y : CodeCause) (rest : Option CodeCause) → cond a (Some x) (cond b (Some y) rest) ≡ None → b ≡ false
 second_test true b x y rest e = cc
@@ -38,7 +30,7 @@ last_test false b e = e
 pub has_code : (p : Program) (i : ℕ) → program_fault p.routines ≡ None → i < length p.routines → 0 < length (routine p i).code
 has_code p i e h =
     let fine = routine_is_fine [] p.routines i (routines_are_fine p.routines e).1 h in
-    let none = no_cause _ 0 (routine_cause (take i p.routines) (routine p i)) (neither _ _ fine) in
+    let none = no_cause _ 0 (routine_cause (take i p.routines) (routine p i)) (neither _ _ fine).0 in
     let named = second_test _ _ _ _ _ none in
     let some = last_test _ (length (routine p i).code == 0) named in
     by (length (routine p i).code) some

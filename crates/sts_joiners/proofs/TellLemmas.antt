@@ -46,10 +46,7 @@ count (e ∷ ends) =
 
 result : (j : Joiner) (ends : List End) (n : ℕ) → result_of j ends n ≡ result_told j (told j ends) n
 result AllSucceed ends n = refl
-result AwaitOk ends n = refl
-result AnySucceeds ends n = refl
-result AwaitAll ends n = refl
-result (Until p) ends n = refl
+result _ ends n = refl
 
 cancel : (j : Joiner) (ends : List End) → cancels j ends ≡ cancels_told j (told j ends)
 cancel AllSucceed ends = any_found is_failure ends

@@ -119,41 +119,8 @@ IsBelow at None = ⊤
 IsBelow at (Some f) = f < at
 
 pub fork_within : (at : ℕ) (instr : Instr) → forks_later at instr ≡ false → IsBelow at (forked instr)
-fork_within at (i.Push k) e = tt
-fork_within at (i.Load x) e = tt
-fork_within at (i.Store x) e = tt
-fork_within at (i.Div to) e = tt
-fork_within at (i.Jmp to) e = tt
-fork_within at (i.Jz to) e = tt
-fork_within at (i.Times n) e = tt
-fork_within at (i.Open s j t) e = tt
 fork_within at (i.Fork s f h) e = later at f e
-fork_within at (i.Join s f t r) e = tt
-fork_within at (i.Close s) e = tt
-fork_within at (i.Cancelled s) e = tt
-fork_within at (i.Case h s f) e = tt
-fork_within at (i.Get h) e = tt
-fork_within at (i.Except h) e = tt
-fork_within at (i.Tally s k) e = tt
-fork_within at (i.Total s) e = tt
-fork_within at (i.Forget h) e = tt
-fork_within at (i.Bind k) e = tt
-fork_within at (i.Read k) e = tt
-fork_within at (i.Bound k) e = tt
-fork_within at (i.OrElse k) e = tt
-fork_within at i.Pop e = tt
-fork_within at i.Dup e = tt
-fork_within at i.Swap e = tt
-fork_within at i.Add e = tt
-fork_within at i.Sub e = tt
-fork_within at i.Mul e = tt
-fork_within at i.Lt e = tt
-fork_within at i.Eq e = tt
-fork_within at i.Next e = tt
-fork_within at i.Unbind e = tt
-fork_within at i.Interrupted e = tt
-fork_within at i.Ret e = tt
-fork_within at i.Fail e = tt
+fork_within at _ e = tt
 
 -- ---- the names of the functions
 

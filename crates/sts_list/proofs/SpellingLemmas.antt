@@ -92,11 +92,8 @@ condition_good (Success n) e f = let h = count_good n e in (decimal n, refl, num
 condition_good (AtLeast v) e f = (signed_decimal v, refl, value_read v f)
 
 joiner_good : (j : Joiner) → has_bad_count j ≡ false → FitsJoiner j → IsJoiner j (joiner_words j)
-joiner_good AllSucceed e f = refl
-joiner_good AnySucceeds e f = refl
-joiner_good AwaitOk e f = refl
-joiner_good AwaitAll e f = refl
 joiner_good (Until c) e f = condition_good c e f
+joiner_good _ e f = refl
 
 timed_good : (t : Bool) → IsTimed t (timed_words t)
 timed_good true = refl
@@ -104,8 +101,7 @@ timed_good false = refl
 
 kind_good : (k : Kind) → IsKind k (kind_word k)
 kind_good S = refl
-kind_good F = refl
-kind_good U = refl
+kind_good _ = refl
 
 all_split : (P : ℕ → Type 0) (xs ys : List ℕ) → AllByRecursion P (xs ++ ys) → AllByRecursion P xs × AllByRecursion P ys
 all_split P [] ys h = (tt, h)
@@ -114,19 +110,6 @@ all_split P (x ∷ xs) ys h = let r = all_split P xs ys h.1 in ((h.0, r.0), r.1)
 -- the words of an instruction in a listing spell it
 pub spelled_as : (p : Program) (names : Option Names) (found other : ℕ → ℕ) (instr : Instr) → has_bad_range instr ≡ false → FitsInstr instr → AllByRecursion (Labels names found) (targets instr) → Forks p names other instr → Spells names (moved found other instr) (keyword instr ∷ operands p instr)
 spelled_as p names found other (i.Push k) e f t g = (signed_decimal k, refl, value_read k f)
-spelled_as p names found other i.Pop e f t g = refl
-spelled_as p names found other i.Dup e f t g = refl
-spelled_as p names found other i.Swap e f t g = refl
-spelled_as p names found other i.Add e f t g = refl
-spelled_as p names found other i.Sub e f t g = refl
-spelled_as p names found other i.Mul e f t g = refl
-spelled_as p names found other i.Lt e f t g = refl
-spelled_as p names found other i.Eq e f t g = refl
-spelled_as p names found other i.Next e f t g = refl
-spelled_as p names found other i.Unbind e f t g = refl
-spelled_as p names found other i.Interrupted e f t g = refl
-spelled_as p names found other i.Ret e f t g = refl
-spelled_as p names found other i.Fail e f t g = refl
 spelled_as p names found other (i.Load n) e f t g = (decimal n, refl, number_good n e)
 spelled_as p names found other (i.Store n) e f t g = (decimal n, refl, number_good n e)
 spelled_as p names found other (i.Bind n) e f t g = (decimal n, refl, number_good n e)
@@ -158,6 +141,7 @@ spelled_as p names found other (i.Join s failed timeout r) e f t g =
     (slot s, maybe_label failed, maybe_label timeout, label r, refl, slot_good s e, maybe_good names found failed b.0, maybe_good names found timeout b.1, target_good names found r a.1.0)
 spelled_as p names found other (i.Case h s f) e k t g = (slot h, label s, label f, refl, slot_good h e, target_good names found s t.0, target_good names found f t.1.0)
 spelled_as p names found other (i.Tally s k) e f t g = (slot s, kind_word k, refl, slot_good s e, kind_good k)
+spelled_as p names found other _ e f t g = refl
 
 -- ---- the words are words
 
@@ -189,8 +173,7 @@ handle_is_word (Some s) e = slot_is_word s e
 
 kind_is_word : (k : Kind) → IsWord (kind_word k)
 kind_is_word S = record { filled = omega arith; plain = refl }
-kind_is_word F = record { filled = omega arith; plain = refl }
-kind_is_word U = record { filled = omega arith; plain = refl }
+kind_is_word _ = record { filled = omega arith; plain = refl }
 
 pub concrete : (w : List ℕ) → nat_lt 0 (length w) ≡ true → list_all is_plain w ≡ true → IsWord w
 concrete w f e = record { filled = grind (arith, nat_tests); plain = e }
@@ -217,19 +200,6 @@ words_append (x ∷ xs) ys h g = (h.0, words_append xs ys h.1 g)
 
 pub operands_are_words : (p : Program) (names : Option Names) (found other : ℕ → ℕ) (instr : Instr) → has_bad_range instr ≡ false → FitsInstr instr → AllByRecursion (Labels names found) (targets instr) → Forks p names other instr → AreWords (operands p instr)
 operands_are_words p names found other (i.Push k) e f t g = (value_word k f, tt)
-operands_are_words p names found other i.Pop e f t g = tt
-operands_are_words p names found other i.Dup e f t g = tt
-operands_are_words p names found other i.Swap e f t g = tt
-operands_are_words p names found other i.Add e f t g = tt
-operands_are_words p names found other i.Sub e f t g = tt
-operands_are_words p names found other i.Mul e f t g = tt
-operands_are_words p names found other i.Lt e f t g = tt
-operands_are_words p names found other i.Eq e f t g = tt
-operands_are_words p names found other i.Next e f t g = tt
-operands_are_words p names found other i.Unbind e f t g = tt
-operands_are_words p names found other i.Interrupted e f t g = tt
-operands_are_words p names found other i.Ret e f t g = tt
-operands_are_words p names found other i.Fail e f t g = tt
 operands_are_words p names found other (i.Load n) e f t g = (number_is_word n e, tt)
 operands_are_words p names found other (i.Store n) e f t g = (number_is_word n e, tt)
 operands_are_words p names found other (i.Bind n) e f t g = (number_is_word n e, tt)
@@ -261,6 +231,7 @@ operands_are_words p names found other (i.Join s failed timeout r) e f t g =
     (slot_is_word s e, (maybe_is_word names found failed b.0, (maybe_is_word names found timeout b.1, (label_is_word names found r a.1.0, tt))))
 operands_are_words p names found other (i.Case h s f) e k t g = (slot_is_word h e, (label_is_word names found s t.0, (label_is_word names found f t.1.0, tt)))
 operands_are_words p names found other (i.Tally s k) e f t g = (slot_is_word s e, (kind_is_word k, tt))
+operands_are_words p names found other _ e f t g = tt
 
 -- the first word of an instruction is a word
 pub keyword_is_word : (instr : Instr) → IsWord (keyword instr)
@@ -306,38 +277,5 @@ same_option (Some x) = refl
 
 -- if all names are found in their own places, nothing is moved
 pub moved_nowhere : (instr : Instr) → moved (λ to. to) (λ f. f) instr ≡ instr
-moved_nowhere (i.Push k) = refl
-moved_nowhere (i.Load x) = refl
-moved_nowhere (i.Store x) = refl
-moved_nowhere (i.Div to) = refl
-moved_nowhere (i.Jmp to) = refl
-moved_nowhere (i.Jz to) = refl
-moved_nowhere (i.Times n) = refl
-moved_nowhere (i.Open s j t) = refl
-moved_nowhere (i.Fork s f h) = refl
 moved_nowhere (i.Join s f t r) = rw (same_option f, same_option t) refl
-moved_nowhere (i.Close s) = refl
-moved_nowhere (i.Cancelled s) = refl
-moved_nowhere (i.Case h s f) = refl
-moved_nowhere (i.Get h) = refl
-moved_nowhere (i.Except h) = refl
-moved_nowhere (i.Tally s k) = refl
-moved_nowhere (i.Total s) = refl
-moved_nowhere (i.Forget h) = refl
-moved_nowhere (i.Bind k) = refl
-moved_nowhere (i.Read k) = refl
-moved_nowhere (i.Bound k) = refl
-moved_nowhere (i.OrElse k) = refl
-moved_nowhere i.Pop = refl
-moved_nowhere i.Dup = refl
-moved_nowhere i.Swap = refl
-moved_nowhere i.Add = refl
-moved_nowhere i.Sub = refl
-moved_nowhere i.Mul = refl
-moved_nowhere i.Lt = refl
-moved_nowhere i.Eq = refl
-moved_nowhere i.Next = refl
-moved_nowhere i.Unbind = refl
-moved_nowhere i.Interrupted = refl
-moved_nowhere i.Ret = refl
-moved_nowhere i.Fail = refl
+moved_nowhere _ = refl

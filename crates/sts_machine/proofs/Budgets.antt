@@ -1,6 +1,5 @@
 -- The budget of tasks of `main` is from 1 to the limit.
-use Rattle.std.proofs.Common.{◌≡◌, ℕ, ◌<◌, ◌≤◌, ◌⊎◌, inl, inr, List, length, refl, sym, ◌∙◌, subst, arith}
-use Rattle.std.proofs.lemmas.Bool.{cases_lt}
+use Rattle.std.proofs.Common.{◌≡◌, ℕ, ◌<◌, ◌≤◌, List, length, refl, sym, ◌∙◌, subst, arith}
 use Rattle.sts_code.specs.Program.{Program, routine}
 use Rattle.sts_rules.specs.declared.budget.Budgets.{Budgets}
 use Rattle.sts_rules.specs.declared.typing.Cause.TheVariants.{TooManyTasks}
@@ -10,6 +9,7 @@ use Rattle.sts_rules.specs.Refusal.{IsAccepted, IsBudgetOf}
 use Rattle.sts_verify.proofs.BudgetLemmas.{budget_is, budget_of-one}
 use Rattle.laws_live.proofs.ListLemmas.{alike}
 use Rattle.laws_accepted.specs.Accepted.{main_of}
+use Rattle.laws_accepted.proofs.RangeLemmas.{not_more}
 
 -- the functions before one have one list of budgets
 earlier-one : (p : Program) (bs cs : List Budgets) → length bs ≡ length cs → AreBudgets p bs → AreBudgets p cs → bs ≡ cs
@@ -18,13 +18,6 @@ earlier-one p bs cs long right good =
     (λ f less.
     budget_of-one p f (budget_at bs f) (budget_at cs f) (budget_is p bs f less right (budget_at bs f) refl)
     (budget_is p cs f (omega (arith, less, long)) good (budget_at cs f) refl))
-
-not_more : (limit m : ℕ) → (limit < m → ⊥) → m ≤ limit
-not_more limit m never = by (cases_lt limit m)
-  where
-    by : (limit < m) ⊎ (m ≤ limit) → m ≤ limit
-    by (inl less) = absurd (never less)
-    by (inr le) = le
 
 pub few_tasks : (p : Program) (b : Budgets) → IsAccepted p → 0 < length p.routines → IsBudgetOf p (main_of p) b → b.tasks ≤ 65536
 few_tasks p b accepted some (earlier, (long, right, is)) =

@@ -23,10 +23,8 @@ use Rattle.laws_live.specs.Order.{InOrder}
 
 -- a test of the scope that a slot owns
 own_test : (v : Live) (y : Slot) (test : ℕ → LiveScope → Bool) → y ≡ Own (named y) → live_at_own v y test ≡ test (named y) (live_scope_at v (named y))
-own_test v Empty test e = cc
 own_test v (Own s) test e = refl
-own_test v (Lent s) test e = cc
-own_test v (Sub s) test e = cc
+own_test v _ test e = cc
 
 pub holds : (b : Bool) → not b ≡ false → b ≡ true
 holds true e = refl

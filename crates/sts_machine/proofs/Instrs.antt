@@ -1,6 +1,7 @@
 -- `==` on instructions is true if and only if they are the same: a lemma for each, so that each is
 -- a small split.
 use Rattle.std.proofs.Common.{◌≡◌, ℕ, ℤ, Bool, true, false, ◌&&◌, Option, Some, None, refl, subst, arith, eqb, eqb-true, eq-eqb}
+use Rattle.std.proofs.lemmas.Bool.{and_parts}
 use Rattle.std.specs.Bool.{Decides}
 use Rattle.std.proofs.lemmas.Bool.Decides.{Decides-int_eq}
 use Rattle.std.specs.contracts.prelude.BoolPartialEq.TheImpl as bool_eq
@@ -16,10 +17,6 @@ use Rattle.sts_code.specs.contracts.instr.JoinerPartialEq.TheImpl as joiner_eq
 use Rattle.sts_code.specs.contracts.instr.InstrPartialEq.TheImpl as instr_eq
 
 -- ---- what instructions are made of
-
-both : (a b : Bool) → (a && b) ≡ true → (a ≡ true) × (b ≡ true)
-both true b e = (refl, e)
-both false b e = cc
 
 pred-to : (a b : Pred) → pred_eq.eq-value.it a b ≡ true → a ≡ b
 pred-to (pred.AtLeast x) (pred.AtLeast y) e = let h = (Decides-int_eq x y).0 e in cc
@@ -121,8 +118,8 @@ to_next b e = cc
 
 to_open : (s : ℕ) (j : Joiner) (t : Bool) (b : Instr) → instr_eq.eq-value.it (Open s j t) b ≡ true → Open s j t ≡ b
 to_open s j t (Open s' j' t') e =
-    let p = both (eqb s s') _ e in
-    let q = both (joiner_eq.eq-value.it j j') _ p.1 in
+    let p = and_parts (eqb s s') _ e in
+    let q = and_parts (joiner_eq.eq-value.it j j') _ p.1 in
     same_open s s' j j' t t' (eqb-true s s' p.0) (joiner-to j j' q.0) (bool-to t t' q.1)
 to_open s j t b e = cc
 
@@ -246,12 +243,6 @@ to Fail b e = to_fail b e
 from : (a : Instr) → instr_eq.eq-value.it a a ≡ true
 from (Push x) = (Decides-int_eq x x).1 refl
 from (Open s j t) = all_three (eqb s s) (joiner_eq.eq-value.it j j) (bool_eq.ghosts.eq t t) (eq-eqb s s refl) (joiner-from j) (bool-from t)
-from (Fork s f None) = grind arith
-from (Fork s f (Some a)) = grind arith
-from (Join s None None i) = grind arith
-from (Join s (Some a) None i) = grind arith
-from (Join s None (Some a) i) = grind arith
-from (Join s (Some a) (Some c) i) = grind arith
 from a = grind arith
 
 pub each_instr : (a b : Instr) → Decides (instr_eq.eq-value.it a b) (a ≡ b)

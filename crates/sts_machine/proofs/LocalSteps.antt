@@ -1,29 +1,28 @@
 -- A local instruction is a step of its task that only changes its frame. A slice is such a step,
 -- instruction by instruction.
-use Rattle.std.proofs.Common.{◌≡◌, ℕ, zero, suc, ◌+◌, ◌<◌, ◌≤◌, List, [], ◌∷◌, ◌++◌, Bool, true, false, Option, Some, None, refl, sym, ◌∙◌, ap, subst, length, arith, get_or, set, cond, nat_eq, nat_le, pos, slice_get, append_assoc, append-nil, get_or-set_same}
+use Rattle.std.proofs.Common.{◌≡◌, ℕ, zero, suc, ◌+◌, ◌<◌, ◌≤◌, List, [], ◌∷◌, ◌++◌, Bool, true, false, Option, Some, None, refl, sym, ◌∙◌, ap, subst, length, arith, get_or, set, cond, slice_get, append_assoc, append-nil, get_or-set_same}
 use Rattle.std.specs.Prelude.{option_map, unwrap_or, is_some}
-use Rattle.std.specs.Ordering.{int_eq}
 use Rattle.std.proofs.lemmas.List.{set-set, set-get_or}
 use Rattle.sts_code.specs.Program.{Program, routine}
 use Rattle.sts_code.specs.declared.instr.Instr.{Instr}
-use Rattle.sts_code.specs.declared.instr.Instr.TheVariants.{Push, Pop, Dup, Swap, Load, Store, Add, Sub, Mul, Lt, Eq, Div, Jmp, Jz, Times, Next}
+use Rattle.sts_code.specs.declared.instr.Instr.TheVariants.{Join, Close}
 use Rattle.sts_model.specs.declared.event.Event.{Event}
 use Rattle.sts_model.specs.declared.event.Event.TheVariants as event
 use Rattle.sts_model.specs.declared.event.Stand.TheVariants.{Free}
 use Rattle.sts_model.specs.declared.record.Frame.{Frame}
-use Rattle.sts_model.specs.declared.record.Loop.{Loop}
 use Rattle.sts_model.specs.World.{code, instr_at}
-use Rattle.sts_model.specs.Local.{is_local, local, turns, clipped, operand}
+use Rattle.sts_model.specs.Local.{is_local, local}
 use Rattle.sts_model.specs.Live.{Live, LiveTask, Alive}
 use Rattle.laws_runs.specs.Runs.{In}
+use Rattle.laws_runs.proofs.FrameLemmas.{leaves-local}
 use Rattle.laws_live.specs.Reading.{alive_at, lives_in, with_live_frame, no_live_task, no_alive}
 use Rattle.laws_live.specs.Waiting.{live_stand_at_instr, live_stand_at, live_can_step}
-use Rattle.laws_live.specs.Effect.{live_effect}
 use Rattle.laws_live.specs.Run.{live_apply, live_perform, live_steps_in}
 use Rattle.laws_live.specs.Seen.{StandsAt, TurnsAreSeen}
 use Rattle.laws_accepted.specs.Costs.{IsModest}
 use Rattle.laws_accepted.specs.Accepted.{LimitsHold}
 use Rattle.sts_machine.specs.Slice.{if_local, and_local, locals, steps_of}
+use Rattle.sts_machine.proofs.Fine.{local_effect}
 
 -- ---- what a local instruction leaves as it is
 
@@ -38,32 +37,8 @@ beside-refl f = record { function = refl; entries = refl }
 beside-trans : (f g h : Frame) → IsBeside f g → IsBeside g h → IsBeside f h
 beside-trans f g h a b = record { function = b.function ∙ a.function; entries = b.entries ∙ a.entries }
 
-either : (b : Bool) (f g h : Frame) → IsBeside f g → IsBeside f h → IsBeside f (cond b g h)
-either true f g h x y = x
-either false f g h x y = y
-
-beside-turns : (f : Frame) (ls : List Loop) → IsBeside f (turns f ls)
-beside-turns f [] = beside-refl f
-beside-turns f (l ∷ ls) = either (nat_le l.left 1) f _ _ (record { function = refl; entries = refl }) (record { function = refl; entries = refl })
-
 pub beside-local : (is : List Instr) (i : Instr) (f : Frame) → IsBeside f (local is i f)
-beside-local is (Push k) f = record { function = refl; entries = refl }
-beside-local is Pop f = record { function = refl; entries = refl }
-beside-local is Dup f = record { function = refl; entries = refl }
-beside-local is Swap f = record { function = refl; entries = refl }
-beside-local is (Load x) f = record { function = refl; entries = refl }
-beside-local is (Store x) f = record { function = refl; entries = refl }
-beside-local is Add f = record { function = refl; entries = refl }
-beside-local is Sub f = record { function = refl; entries = refl }
-beside-local is Mul f = record { function = refl; entries = refl }
-beside-local is Lt f = record { function = refl; entries = refl }
-beside-local is Eq f = record { function = refl; entries = refl }
-beside-local is (Div to) f = either (int_eq (operand f 0) (pos 0)) f _ _ (record { function = refl; entries = refl }) (record { function = refl; entries = refl })
-beside-local is (Jmp to) f = record { function = refl; entries = refl }
-beside-local is (Jz to) f = record { function = refl; entries = refl }
-beside-local is (Times n) f = either (nat_eq (clipped n (operand f 0)) 0) f _ _ (record { function = refl; entries = refl }) (record { function = refl; entries = refl })
-beside-local is Next f = beside-turns f f.loops
-beside-local is i f = beside-refl f
+beside-local is i f = let same = leaves-local is i f in record { function = same.function; entries = same.entries }
 
 -- ---- what the last of the local instructions came from
 
@@ -167,44 +142,11 @@ twice-framed v t f g e =
 
 -- ---- one step
 
--- at a local instruction the task is at no scope, and its effect is on the frame
+-- at a local instruction the task is at no scope
 free : (v : Live) (t : ℕ) (i : Instr) → is_local i ≡ true → live_stand_at_instr v t (Some i) ≡ Free
-free v t (Push k) e = refl
-free v t Pop e = refl
-free v t Dup e = refl
-free v t Swap e = refl
-free v t (Load x) e = refl
-free v t (Store x) e = refl
-free v t Add e = refl
-free v t Sub e = refl
-free v t Mul e = refl
-free v t Lt e = refl
-free v t Eq e = refl
-free v t (Div to) e = refl
-free v t (Jmp to) e = refl
-free v t (Jz to) e = refl
-free v t (Times n) e = refl
-free v t Next e = refl
-free v t i e = absurd (cc)
-
-effect : (p : Program) (v : Live) (t : ℕ) (f : Frame) (i : Instr) → is_local i ≡ true → live_effect p v t f i ≡ with_live_frame v t (local (code p f) i f)
-effect p v t f (Push k) e = refl
-effect p v t f Pop e = refl
-effect p v t f Dup e = refl
-effect p v t f Swap e = refl
-effect p v t f (Load x) e = refl
-effect p v t f (Store x) e = refl
-effect p v t f Add e = refl
-effect p v t f Sub e = refl
-effect p v t f Mul e = refl
-effect p v t f Lt e = refl
-effect p v t f Eq e = refl
-effect p v t f (Div to) e = refl
-effect p v t f (Jmp to) e = refl
-effect p v t f (Jz to) e = refl
-effect p v t f (Times n) e = refl
-effect p v t f Next e = refl
-effect p v t f i e = absurd (cc)
+free v t (Join x failed timeout interrupted) e = cc
+free v t (Close x) e = cc
+free v t i e = refl
 
 -- a living task at a local instruction
 pub record AtLocal (p : Program) (v : Live) (t : ℕ) (f : Frame) (i : Instr) : Type 0 where
@@ -226,7 +168,7 @@ apply-local p v t f i h =
     ap (λ b. cond b (live_perform p v t (alive_at v t).frame (instr_at p (alive_at v t).frame)) v) (can-local p v t f i h)
     ∙ ap (λ (g : Frame). live_perform p v t g (instr_at p g)) h.frame
     ∙ ap (live_perform p v t f) h.at
-    ∙ effect p v t f i h.is_local
+    ∙ local_effect p v t f i h.is_local
 
 pub step-local : (p : Program) (events : List Event) (v : Live) (n t : ℕ) (f : Frame) (i : Instr) → TurnsAreSeen p → StandsAt p events v n → AtLocal p v t f i → StandsAt p (events ++ event.Step t ∷ []) (with_live_frame v t (local (code p f) i f)) (n + 1)
 step-local p events v n t f i law stands h =

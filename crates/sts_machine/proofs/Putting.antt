@@ -97,9 +97,7 @@ module _ (v : Live) (t : ℕ) (f : Frame) (i : ℕ) (other : (i == t) ≡ false)
 
   at_close : (q : Slot) → live_stands_at_close after q ≡ live_stands_at_close v q
   at_close Empty = refl
-  at_close (Own s) = refl
-  at_close (Lent s) = refl
-  at_close (Sub u) = refl
+  at_close _ = refl
 
   at_instr : (o : Option Instr) → live_stand_at_instr after i o ≡ live_stand_at_instr v i o
   at_instr (Some (Join x failed timeout interrupted)) = ap (λ (g : Frame). live_stands_at_join (slot g x)) frame_apart

@@ -1,8 +1,7 @@
 -- Effects that don't change the numbers of tasks, scopes and bindings.
-use Rattle.std.proofs.Common.{◌≡◌, ℕ, List, [], ◌∷◌, length, Bool, true, false, ◌||◌, not, Option, Some, None, refl, ◌∙◌, ap, set, cond, is_some}
+use Rattle.std.proofs.Common.{◌≡◌, ℕ, [], ◌∷◌, length, Bool, true, false, ◌||◌, not, Option, Some, None, refl, ◌∙◌, ap, set, cond, is_some}
 use Rattle.std.proofs.lemmas.List.{length-set, length-map}
-use Rattle.std.specs.Ordering.{int_eq}
-use Rattle.std.specs.Prelude.{option_map, unwrap_or, count_by, nat_le, pos, ◌==◌}
+use Rattle.std.specs.Prelude.{option_map, unwrap_or, count_by, ◌==◌}
 use Rattle.sts_code.specs.Program.{Program}
 use Rattle.sts_code.specs.declared.instr.Instr.{Instr}
 use Rattle.sts_code.specs.declared.instr.Instr.TheVariants.{Div, Times, Next, Open, Fork, Join, Close, Bind, Unbind, Interrupted, Ret, Fail}
@@ -12,15 +11,15 @@ use Rattle.sts_model.specs.declared.event.Phase.TheVariants.{Attempted, Joined}
 use Rattle.sts_model.specs.declared.event.Verdict.{Verdict}
 use Rattle.sts_model.specs.declared.event.Verdict.TheVariants as verdict
 use Rattle.sts_model.specs.declared.record.Frame.{Frame}
-use Rattle.sts_model.specs.declared.record.Loop.{Loop}
 use Rattle.sts_model.specs.World.{code}
 use Rattle.sts_model.specs.Living.{is_in}
-use Rattle.sts_model.specs.Local.{local, operand, goes, turns, clipped}
+use Rattle.sts_model.specs.Local.{goes}
 use Rattle.sts_model.specs.Misuse.{slot, is_binding}
 use Rattle.sts_model.specs.Effect.{named}
 use Rattle.sts_model.specs.Told.{tell, cancels_told, result_told}
 use Rattle.sts_model.specs.Live.{Live, LiveTask, LiveScope, Alive}
 use Rattle.laws_runs.proofs.ListLemmas.{at_set}
+use Rattle.laws_runs.proofs.FrameLemmas.{leaves-local}
 use Rattle.laws_live.specs.Reading.{scope_in, task_in, no_live_task, no_alive, live_task_at, live_scope_at, alive_at, lives_in, with_live_task, with_alive, with_live_frame, with_live_scope, with_live_phase, live_any_lives, live_count}
 use Rattle.laws_live.specs.Cancelling.{live_raise, live_raised, live_marked, live_cancel}
 use Rattle.laws_live.specs.Effect.{live_verdict, live_join, live_told, live_decide, live_tell, live_effect}
@@ -191,22 +190,6 @@ quiet-tell v t (Some s) end =
     (quiet-trans v x (live_decide x s) (quiet-told v t s end)
     (quiet-cond x (cancels_told (live_scope_at x s).joiner (live_scope_at x s).told) (live_cancel x s) x (quiet-cancel x s) (quiet-refl x)))
 
--- ---- local instructions
-
-entries-cond : (b : Bool) (f g h : Frame) → g.entries ≡ f.entries → h.entries ≡ f.entries → (cond b g h).entries ≡ f.entries
-entries-cond true f g h x y = x
-entries-cond false f g h x y = y
-
-entries-turns : (f : Frame) (ls : List Loop) → (turns f ls).entries ≡ f.entries
-entries-turns f [] = refl
-entries-turns f (l ∷ ls) = entries-cond (nat_le l.left 1) f _ _ refl refl
-
-entries-local : (is : List Instr) (i : Instr) (f : Frame) → (local is i f).entries ≡ f.entries
-entries-local is (Div to) f = entries-cond (int_eq (operand f 0) (pos 0)) f _ _ refl refl
-entries-local is (Times n) f = entries-cond (clipped n (operand f 0) == 0) f _ _ refl refl
-entries-local is Next f = entries-turns f f.loops
-entries-local is _ f = refl
-
 -- ---- every instruction
 
 pub quiet-effect : (p : Program) (v : Live) (t : ℕ) (i : Instr) → is_quiet i ≡ true → IsQuiet v (live_effect p v t (alive_at v t).frame i)
@@ -219,9 +202,9 @@ quiet-effect p v t Ret e = cc
 quiet-effect p v t Fail e = cc
 quiet-effect p v t (Join x failed timeout interrupted) e = quiet-join v t (named (slot (alive_at v t).frame x)) (unwrap_or failed 0) (unwrap_or timeout 0) interrupted
 quiet-effect p v t Interrupted e = quiet-alive v t _ (bound_alike v t)
-quiet-effect p v t (Div to) e = quiet-frame v t _ (ap (λ es. count_by is_binding es) (entries-local (code p (alive_at v t).frame) (Div to) (alive_at v t).frame))
-quiet-effect p v t (Times n) e = quiet-frame v t _ (ap (λ es. count_by is_binding es) (entries-local (code p (alive_at v t).frame) (Times n) (alive_at v t).frame))
-quiet-effect p v t Next e = quiet-frame v t _ (ap (λ es. count_by is_binding es) (entries-local (code p (alive_at v t).frame) Next (alive_at v t).frame))
+quiet-effect p v t (Div to) e = quiet-frame v t _ (ap (λ es. count_by is_binding es) (leaves-local (code p (alive_at v t).frame) (Div to) (alive_at v t).frame).entries)
+quiet-effect p v t (Times n) e = quiet-frame v t _ (ap (λ es. count_by is_binding es) (leaves-local (code p (alive_at v t).frame) (Times n) (alive_at v t).frame).entries)
+quiet-effect p v t Next e = quiet-frame v t _ (ap (λ es. count_by is_binding es) (leaves-local (code p (alive_at v t).frame) Next (alive_at v t).frame).entries)
 quiet-effect p v t i e = quiet-frame v t _ refl
 
 -- ---- from outside

@@ -57,6 +57,10 @@ module _ (p : Program) (events : List Event) (v : Live) (n : ℕ) (h : StandsAt 
 abbrev pub KnowsRoom : Seen → Type 0
 KnowsRoom m = (b : Budgets) → IsBudgetOf m.program (main_of m.program) b → HasRoomOf b m.live m.unseen
 
+-- the room of the machine that is seen, by the budgets of its `main`
+pub room_by : (inside seen : Seen) → inside ≡ seen → KnowsRoom inside → (b : Budgets) → IsBudgetOf inside.program (main_of inside.program) b → HasRoomOf b seen.live seen.unseen
+room_by inside seen is room b printed = subst (λ (m : Seen). HasRoomOf b m.live m.unseen) is (room b printed)
+
 -- the numbers that count, if this room is left of these budgets
 abbrev pub rest_of : Budgets → Standing → Standing
 rest_of b room =
@@ -74,8 +78,3 @@ taken_off b v u h =
 
 pub add_up : (b : Budgets) (v : Live) (u : Unseen) (s : Standing) → s ≡ standing_of v → HasRoomOf b v u → AddUpTo b s (room_of u)
 add_up b v u s is h = rw is (record { tasks = h.tasks; scopes = h.scopes; binds = h.binds })
-
--- there is a key if and only if there is a record
-pub key_is_some : {X : Type 0} (o : Option X) (k : ℕ) → is_some (cond (is_some o) (Some k) None) ≡ is_some o
-key_is_some None k = refl
-key_is_some (Some x) k = refl

@@ -1,6 +1,7 @@
 //! The laws that a machine relies on.
 
 ghost use Rattle.std.specs.Prelude.{◌<◌, ◌≤◌};
+ghost use Rattle.sts_code.specs.declared.limits.TheConstants.{MAX_STANDING};
 ghost use Rattle.laws_accepted.specs.Accepted.{main_of};
 ghost use Rattle.sts_machine.specs.Laws.{HasLaws};
 ghost use Rattle.sts_rules.specs.Refusal.{IsBudgetOf};
@@ -15,7 +16,7 @@ use sts_verify::Verified;
 pub(crate) fn laws(verified: &Verified) -> Budgets
     ensures printed { IsBudgetOf verified.now (main_of verified.now) result }
     ensures some { 0 < result.tasks }
-    ensures few { result.tasks ≤ 65536 }
+    ensures few { result.tasks ≤ MAX_STANDING }
     ensures laws { HasLaws verified.now }
 {
     turns_are_seen(verified);

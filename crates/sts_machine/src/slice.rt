@@ -3,7 +3,7 @@
 
 ghost use Rattle.std.specs.Prelude.{◌≡◌, ◌+◌, ◌<◌, ◌≤◌, Some, None, true, false, is_some, length};
 ghost use Rattle.std.specs.Prelude.{if◌then◌else◌};
-ghost use Rattle.sts_code.specs.declared.limits.TheConstants.{MAX_INSTRUCTIONS};
+ghost use Rattle.sts_code.specs.declared.limits.TheConstants.{MAX_INSTRUCTIONS, MAX_STEPS};
 ghost use Rattle.sts_machine.specs.Slice.{IsLawful, IsReached, local_at, locals};
 ghost use Rattle.sts_model.specs.World as world;
 
@@ -84,7 +84,7 @@ impl<'p> Slice<'p> {
     /// How many instructions were done.
     pub fn count(&self) -> u32
         ensures value { result ≡ self.now.count }
-        ensures most { result ≤ 1000000 }
+        ensures most { result ≤ MAX_STEPS }
     {
         self.count
     }

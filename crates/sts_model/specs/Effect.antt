@@ -20,7 +20,7 @@ use Rattle.sts_model.specs.declared.event.End.TheVariants.{Success, Failed}
 use Rattle.sts_model.specs.declared.event.Verdict.{Verdict}
 use Rattle.sts_model.specs.declared.event.Verdict.TheVariants as verdict
 use Rattle.sts_model.specs.declared.event.Phase.{Phase}
-use Rattle.sts_model.specs.declared.event.Phase.TheVariants.{Opened, Attempted, Joined, Closing}
+use Rattle.sts_model.specs.declared.event.Phase.TheVariants.{Attempted, Joined, Closing}
 use Rattle.sts_model.specs.declared.event.Phase.TheVariants.{Closed}
 use Rattle.sts_model.specs.declared.record.Slot.{Slot}
 use Rattle.sts_model.specs.declared.record.Slot.TheVariants.{Empty, Own, Lent, Sub}
@@ -30,8 +30,8 @@ use Rattle.sts_model.specs.declared.record.Task.{Task}
 use Rattle.sts_model.specs.declared.record.Scope.{Scope}
 use Rattle.sts_model.specs.Local.{local, operand, goes, steps, truth}
 use Rattle.sts_model.specs.Joining.{is_success, is_failure, cancels, result_of, total_of}
-use Rattle.sts_model.specs.World.{World, code, entry_frame, task_at, scope_at, with_task}
-use Rattle.sts_model.specs.World.{with_scope, with_frame}
+use Rattle.sts_model.specs.World.{World, code, entry_frame, task_at, scope_at, fresh_scope}
+use Rattle.sts_model.specs.World.{with_task, with_scope, with_frame}
 use Rattle.sts_model.specs.Living.{is_in, subtask_count, any_lives, sub_state, ends}
 use Rattle.sts_model.specs.Cancelling.{cancel}
 use Rattle.sts_model.specs.Environment.{environment_of, read}
@@ -53,16 +53,7 @@ unfoldable pub open_scope : World → ℕ → Frame → ℕ → Joiner → Bool 
 open_scope w t f x joiner timed =
     with_frame
     (record w {
-      scopes = w.scopes ++ record {
-        owner = t;
-        joiner = joiner;
-        timed = timed;
-        phase = Opened;
-        cancelled = false;
-        expired = false;
-        completions = [];
-        environment = environment_of (task_at w t) w;
-      } ∷ [];
+      scopes = w.scopes ++ fresh_scope t joiner timed (environment_of (task_at w t) w) ∷ [];
     })
     t
     (record (steps f 0 []) {

@@ -1,17 +1,19 @@
 -- The state of the plain machine: all tasks and all scopes that were ever born, by birth number.
 -- Restates "Description" of JEP 505 (a scope, its owner and its subtasks). It is this project's own
 -- that nothing is ever forgotten.
-use Rattle.std.specs.Prelude.{ℕ, ◌-◌, ℤ, pos, List, [], ◌∷◌, ◌++◌, length, true, false, Option}
-use Rattle.std.specs.Prelude.{None, replicate, slice_get, slice_set, slice_index_or}
+use Rattle.std.specs.Prelude.{ℕ, ◌-◌, ℤ, pos, List, [], ◌∷◌, ◌++◌, length, Bool, true, false}
+use Rattle.std.specs.Prelude.{Option, None, replicate, slice_get, slice_set, slice_index_or}
 use Rattle.sts_code.specs.Program.{Program, routine}
 use Rattle.sts_code.specs.declared.instr.Instr.{Instr}
+use Rattle.sts_code.specs.declared.instr.Joiner.{Joiner}
 use Rattle.sts_code.specs.declared.instr.Joiner.TheVariants.{AwaitAll}
 use Rattle.sts_model.specs.declared.record.Slot.{Slot}
 use Rattle.sts_model.specs.declared.record.Slot.TheVariants.{Empty}
 use Rattle.sts_model.specs.declared.record.Frame.{Frame}
 use Rattle.sts_model.specs.declared.record.Task.{Task}
 use Rattle.sts_model.specs.declared.record.Scope.{Scope}
-use Rattle.sts_model.specs.declared.event.Phase.TheVariants.{Closed}
+use Rattle.sts_model.specs.declared.record.Bound.{Bound}
+use Rattle.sts_model.specs.declared.event.Phase.TheVariants.{Opened, Closed}
 use Rattle.sts_model.specs.declared.event.Fault.{Fault}
 
 pub record World : Type 0 where
@@ -63,20 +65,24 @@ no_task =
       outcome = None;
     }
 
--- the scope that is read if no scope has this birth number; it is closed, so nothing can be done
--- with it
-abbrev pub no_scope : Scope
-no_scope =
+-- a scope that was just opened, with the environment of its owner
+abbrev pub fresh_scope : ℕ → Joiner → Bool → List Bound → Scope
+fresh_scope owner joiner timed environment =
     record {
-      owner = 0;
-      joiner = AwaitAll;
-      timed = false;
-      phase = Closed;
+      owner = owner;
+      joiner = joiner;
+      timed = timed;
+      phase = Opened;
       cancelled = false;
       expired = false;
       completions = [];
-      environment = [];
+      environment = environment;
     }
+
+-- the scope that is read if no scope has this birth number; it is closed, so nothing can be done
+-- with it
+abbrev pub no_scope : Scope
+no_scope = record (fresh_scope 0 AwaitAll false []) { phase = Closed }
 
 -- the task, the scope of this birth number
 abbrev pub task_at : World → ℕ → Task

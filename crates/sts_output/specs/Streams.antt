@@ -2,8 +2,10 @@
 use Rattle.std.specs.Prelude.{◌≡◌, ◌-◌, ◌^◌, ℕ, List, [], Option, Some, None, codes}
 use Rattle.std.specs.Prelude.{Bool, false, ⊤, IfSome}
 use Rattle.std.specs.Borrow.{Bor}
-use Rattle.std.specs.Io.KnownBytes.{Keeps}
-use Rattle.sts_output.specs.Output.{Output, Writes}
+use Rattle.std.specs.Io.KnownBytes.{Appends, Keeps}
+use Rattle.sts_model.specs.declared.event.Event.{Event}
+use Rattle.sts_trace.specs.Spelling.{trace_text}
+use Rattle.sts_output.specs.Output.{Output, Writes, file_output}
 
 -- one byte more than a text may have
 abbrev pub most_of_a_text : ℕ
@@ -57,3 +59,19 @@ not_text_output = record {
   bytes = codes "error: a word of the command line is not UTF-8\n";
   status = 2;
 }
+
+-- ---- a trace beside the output
+
+-- the bytes that the trace and the stream hold before and after, if they are known
+pub record Written : Type 0 where
+  pub trace_old : Option (List ℕ)
+  pub trace_new : Option (List ℕ)
+  pub out_old : Option (List ℕ)
+  pub out_new : Option (List ℕ)
+
+-- the events are written to the trace, and the output to the stream; if the trace failed, the
+-- stream gets only `error file`
+pub data WritesBoth (w : Written) (status : ℕ) (events : List Event) (o : Output) : Type 0 where
+  whole : Appends w.trace_old w.trace_new (trace_text events)
+      → Writes w.out_old w.out_new status o → WritesBoth w status events o
+  no_trace : Writes w.out_old w.out_new status file_output → WritesBoth w status events o

@@ -15,10 +15,7 @@ use Rattle.sts_model.specs.World.{World, scope_at}
 
 is_open : (phase : Phase) → not (is_opened phase) ≡ false → is_closed phase ≡ false
 is_open Opened e = refl
-is_open Attempted e = cc
-is_open Joined e = cc
-is_open Closing e = cc
-is_open Closed e = cc
+is_open _ e = cc
 
 pub forks_open : (p : Program) (w : World) (t : ℕ) (f : Frame) (x g : ℕ) (h : Option ℕ) → IsFine p w t f (Fork x g h) → is_closed (scope_at w (named (slot f x))).phase ≡ false
 forks_open p w t f x g h fine = by_slot (slot f x) refl

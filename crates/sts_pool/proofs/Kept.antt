@@ -1,6 +1,6 @@
 -- A book keeps its facts, whether its journal is written or only counted.
-use Rattle.std.proofs.Common.{◌≡◌, ℕ, ◌+◌, ◌≤◌, ◌<◌, ◌^◌, List, [], ◌∷◌, ◌++◌, length, true, false, Option, Some, refl, sym, ap, ◌∙◌, subst, cond, vec_len, vec_capacity, count_by, rules, arith}
-use Rattle.std.proofs.lemmas.Bool.{cond-true}
+use Rattle.std.proofs.Common.{◌≡◌, ℕ, ◌+◌, ◌≤◌, ◌<◌, ◌^◌, List, [], ◌∷◌, ◌++◌, length, Bool, true, false, Option, Some, refl, sym, ap, ◌∙◌, subst, cond, vec_len, vec_capacity, count_by, rules, arith}
+use Rattle.std.proofs.lemmas.Bool.{both_ways, cond-true}
 use Rattle.std.proofs.lemmas.List.Folds.{sum_by-replicate}
 use Rattle.std.specs.Prelude.{IfSome, option_map, unwrap_or}
 use Rattle.sts_code.specs.Program.{Program}
@@ -17,14 +17,14 @@ use Rattle.laws_live.specs.Run.{live_apply, live_steps_in}
 use Rattle.laws_live.specs.Waiting.{live_can_step}
 use Rattle.sts_machine.specs.Machine.{Seen, Stands}
 use Rattle.sts_machine.specs.Slice.{steps_of}
-use Rattle.sts_pool.specs.Book.{BookSeen, HasBookRoom, IsBook, IsJournal, IsKept, MayBe, OfJournal, Records, book_of}
+use Rattle.sts_pool.specs.Book.{BookSeen, HasBookRoom, IsBook, IsJournal, IsKept, MayBe, OfJournal, Records, book_of, is_free}
 use Rattle.sts_pool.specs.Journal.{HasRoomFor, Holds, IsRecorded, written}
 use Rattle.sts_pool.specs.Outside.{outside_entries}
 use Rattle.sts_pool.specs.Report.{IsReport}
 use Rattle.sts_pool.specs.declared.journal.Journal.{Journal}
 use Rattle.sts_pool.specs.declared.journal.Journal.TheVariants.{Written, Counted}
 use Rattle.sts_pool.proofs.OutsideLemmas.{entries_more, one_outside}
-use Rattle.sts_pool.proofs.Books.{back_book, entries_few, entries_fit, opening_book, out_book, out_fits, outside_book, released_book, reports, room_kept, stepped_book, steps_counted, still_entries, still_entries_one}
+use Rattle.sts_pool.proofs.Books.{back_book, entries_few, entries_fit, free_parts, lives, opening_book, out_book, out_fits, outside_book, released_book, reports, room_kept, stepped_book, steps_counted, still_entries, still_entries_one}
 use Rattle.sts_pool.proofs.Outs.{among, without}
 
 -- ---- a journal of either kind
@@ -83,6 +83,10 @@ few_entries m j n out k is other =
     let most = is.book.most in
     let entries : outside_entries is.events ≡ n = is.entries in
     omega (arith, most, entries, other)
+
+-- one more may come to a book that isn't full
+pub few_more : (m : Seen) (j : Journal) (n : ℕ) (out : List ℕ) (k : ℕ) (b : BookSeen) (full : Bool) → book_of m (written j) n out ≡ b → IsKept m j n out k → (b.outside ≡ 4096 → full ≡ true) → full ≡ false → n + 1 ≤ 4096
+few_more m j n out k b full view is filled free = few_entries m j n out k is (λ e. both_ways full free (filled (sym (ap (λ (x : BookSeen). x.outside) view) ∙ e)))
 
 -- the entries that are written may be the journal's
 pub shown : (m : Seen) (j : Journal) (n : ℕ) (out : List ℕ) (k : ℕ) → IsKept m j n out k → IfSome (written j) (MayBe (book_of m (written j) n out))
@@ -212,6 +216,12 @@ out_kept m j n out k t is absent alive =
       holds = is.holds;
       room = is.room;
     }
+
+-- a task that is free is taken out
+pub claimed : (m : Seen) (j : Journal) (n : ℕ) (out : List ℕ) (k t : ℕ) (b : BookSeen) → book_of m (written j) n out ≡ b → IsKept m j n out k → is_free b t ≡ true → IsKept m j n (out ++ t ∷ []) k
+claimed m j n out k t b view is free =
+    let parts = free_parts (live_can_step m.program m.live t) out t (subst (λ (x : BookSeen). is_free x t ≡ true) (sym view) free) in
+    out_kept m j n out k t is parts.1 (lives m.program m.live t parts.0)
 
 pub out_kept_fits : (m : Seen) (j : Journal) (n : ℕ) (out : List ℕ) (k t : ℕ) → IsKept m j n (out ++ t ∷ []) k → length out + 1 ≤ k
 out_kept_fits m j n out k t is = out_fits m is.events out t is.journal_room k is.room is.book

@@ -118,25 +118,7 @@ cause_of_number n = get_or all_causes (n - 1) cause.TooManyBinds
 
 has_number : (c : Cause) → cause_of_number (cause_number c) ≡ c
 has_number cause.StackUnder = refl
-has_number cause.StackOver = refl
-has_number cause.FallsOff = refl
-has_number cause.BackJump = refl
-has_number cause.LoopMismatch = refl
-has_number cause.LoopDepth = refl
-has_number cause.StatesDiffer = refl
-has_number cause.DeadCode = refl
-has_number cause.SlotKind = refl
-has_number cause.SlotBusy = refl
-has_number cause.WrongThread = refl
-has_number cause.IllegalState = refl
-has_number cause.Structure = refl
-has_number cause.Nesting = refl
-has_number cause.Unbound = refl
-has_number cause.JoinEdges = refl
-has_number cause.TooManySteps = refl
-has_number cause.TooManyTasks = refl
-has_number cause.TooManyScopes = refl
-has_number cause.TooManyBinds = refl
+has_number _ = refl
 
 one_excess : (earlier : List Budgets) (code : List Instr) (c d : Cause) → IsLeastExcess earlier code c → IsLeastExcess earlier code d → c ≡ d
 one_excess earlier code c d a b = by (cases_lt (cause_number c) (cause_number d)) (cases_lt (cause_number d) (cause_number c))

@@ -14,10 +14,8 @@ module _ (m : Parts) (s : ℕ) where
   home_seen t = sym (home_is m t (get_or m.tree.tasks t None) refl)
 
   slot_seen : (x : Slot) → is_slot_of m.tree s x ≡ is_live_of (live_of m) s x
-  slot_seen Empty = refl
-  slot_seen (Own r) = refl
-  slot_seen (Lent r) = refl
   slot_seen (Sub t) = ap (is_in s) (home_seen t)
+  slot_seen _ = refl
 
   pub cleared_seen : (xs : List Slot) → slots_cleared m.tree s xs ≡ live_cleared (live_of m) s xs
   cleared_seen [] = refl

@@ -97,10 +97,8 @@ home_cancelled v s t = by (live_scope_at v s).cancelled
     by false = ap (λ o. (unwrap_or o no_live_task).scope) (map_at (live_raise s) v.tasks t) ∙ raised_home s (get_or v.tasks t None)
 
 of_cancelled : (v : Live) (s : ℕ) (x : Slot) → is_live_of (live_cancel v s) s x ≡ is_live_of v s x
-of_cancelled v s Empty = refl
-of_cancelled v s (Own r) = refl
-of_cancelled v s (Lent r) = refl
 of_cancelled v s (Sub t) = ap (is_in s) (home_cancelled v s t)
+of_cancelled v s _ = refl
 
 cleared_cancelled : (v : Live) (s : ℕ) (xs : List Slot) → live_cleared (live_cancel v s) s xs ≡ live_cleared v s xs
 cleared_cancelled v s [] = refl

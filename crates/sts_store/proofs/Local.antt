@@ -17,20 +17,7 @@ turns_entries f [] = refl
 turns_entries f (l ∷ ls) = either_entries (nat_le l.left 1) _ _ f refl refl
 
 pub local_entries : (code : List Instr) (i : Instr) (f : Frame) → (local code i f).entries ≡ f.entries
-local_entries code (Push k) f = refl
-local_entries code Pop f = refl
-local_entries code Dup f = refl
-local_entries code Swap f = refl
-local_entries code (Load x) f = refl
-local_entries code (Store x) f = refl
-local_entries code Add f = refl
-local_entries code Sub f = refl
-local_entries code Mul f = refl
-local_entries code Lt f = refl
-local_entries code Eq f = refl
 local_entries code (Div to) f = either_entries (int_eq (operand f 0) (pos 0)) _ _ f refl refl
-local_entries code (Jmp to) f = refl
-local_entries code (Jz to) f = refl
 local_entries code (Times n) f = either_entries (nat_eq (clipped n (operand f 0)) 0) _ _ f refl refl
 local_entries code Next f = turns_entries f f.loops
 local_entries code _ f = refl

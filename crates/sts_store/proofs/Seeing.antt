@@ -23,7 +23,7 @@ use Rattle.laws_live.specs.Waiting.{live_can_go}
 use Rattle.sts_store.specs.View.{scope_seen, task_seen}
 use Rattle.sts_store.proofs.ViewingLemmas.{task_is, scope_is, scope_there, words}
 use Rattle.sts_store.specs.Parts.{Parts, live_of, beside, stand_of, stand_in, unseen_of, can_go_on}
-use Rattle.sts_store.proofs.Views.{just, lives_is, lives_of}
+use Rattle.sts_store.proofs.Views.{just, lives_is, lives_of, some_not}
 
 -- ---- tasks
 
@@ -66,10 +66,6 @@ steps_seen m t = by (get_or m.tree.tasks t None) refl
 
 -- ---- scopes
 
--- a scope, by the record at its birth
-pub scope_by : (m : Parts) (s : ℕ) (o : Option (Scope Env)) → get_or m.tree.scopes s None ≡ o → live_scope_at (live_of m) s ≡ unwrap_or (option_map (scope_seen (beside m)) o) no_live_scope
-scope_by m s o e = ap (λ y. unwrap_or y no_live_scope) (scope_is (beside m) m.tree s ∙ ap (option_map (scope_seen (beside m))) e)
-
 -- a scope in the view is in the tree
 pub scope_stands : (m : Parts) (s : ℕ) → is_some (scope_in (live_of m) s) ≡ true → (c : Scope Env) × (get_or m.tree.scopes s None ≡ Some c)
 scope_stands m s stands = by (get_or m.tree.scopes s None) refl
@@ -79,6 +75,9 @@ scope_stands m s stands = by (get_or m.tree.scopes s None) refl
         let no : is_some (scope_in (live_of m) s) ≡ false = ap (λ (y : Option LiveScope). is_some y) (scope_is (beside m) m.tree s ∙ ap (option_map (scope_seen (beside m))) e) in
         cc
     by (Some c) e = (c, e)
+
+pub scope_is_some : (m : Parts) (s : ℕ) → is_some (scope_in (live_of m) s) ≡ true → get_or m.tree.scopes s None ≢ None
+scope_is_some m s stands = let p = scope_stands m s stands in some_not (get_or m.tree.scopes s None) p.0 p.1
 
 -- how many subtasks are in a state
 pub tally_is : (m : Parts) (s : ℕ) (c : Scope Env) (kind : Kind) → get_or m.tree.scopes s None ≡ Some c → count_of m.tree s c kind ≡ live_tally (live_of m) s kind
@@ -92,6 +91,10 @@ pub total_is : (m : Parts) (s : ℕ) (c : Scope Env) → get_or m.tree.scopes s 
 total_is m s c e = ap (λ (x : LiveScope). x.told.total) (scope_there (beside m) m.tree s c e)
 
 -- ---- the front of the ready list
+
+-- a task can go on if and only if it is in the list of those that can step
+pub going_is : (m now : Parts) (t : ℕ) → m ≡ now → has t m.tree.ready ≡ can_step m.tree t → can_go_on now t ≡ has t m.tree.ready
+going_is m now t same list = sym (ap (λ (x : Parts). can_go_on x t) same) ∙ sym (steps_seen m t) ∙ sym list
 
 pub front_has : (ks : List ℕ) (t : ℕ) → first_or ks None ≡ Some t → has t ks ≡ true
 front_has [] t e = cc

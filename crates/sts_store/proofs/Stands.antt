@@ -55,8 +55,7 @@ own_stand m t stand owned s e =
   where
     same_test : (at : Stand) → stands_at s at ≡ true → is_stand_at s at ≡ true
     same_test Free e = e
-    same_test (AtJoin r) e = e
-    same_test (AtClose r) e = e
+    same_test _ e = e
 
 -- a task's own scope remains its own after a cancel
 pub own_cancelled : (v : Live) (t s r : ℕ) → IsOwned v t r → IsOwned (live_cancel v s) t r

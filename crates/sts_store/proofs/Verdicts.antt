@@ -8,14 +8,8 @@ use Rattle.sts_code.specs.Facts.{is_await_all}
 
 pub ok_pushes : (joiner : Joiner) (told : Told) (n : ℕ) (v : ℤ) → result_told joiner told n ≡ verdict.Ok (Some v) → is_await_all joiner ≡ false
 ok_pushes AwaitAll told n v e = cc
-ok_pushes AllSucceed told n v e = refl
-ok_pushes AnySucceeds told n v e = refl
-ok_pushes AwaitOk told n v e = refl
-ok_pushes (Until p) told n v e = refl
+ok_pushes _ told n v e = refl
 
 pub failed_pushes : (joiner : Joiner) (told : Told) (n : ℕ) (c : ℤ) → result_told joiner told n ≡ verdict.Failed c → is_await_all joiner ≡ false
 failed_pushes AwaitAll told n c e = cc
-failed_pushes AllSucceed told n c e = refl
-failed_pushes AnySucceeds told n c e = refl
-failed_pushes AwaitOk told n c e = refl
-failed_pushes (Until p) told n c e = refl
+failed_pushes _ told n c e = refl

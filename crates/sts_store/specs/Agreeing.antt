@@ -1,14 +1,14 @@
 -- The changes of a forest, and those of its live view (this project's own).
-use Rattle.std.specs.Prelude.{◌≡◌, ℕ, List, [], ◌∷◌, ◌++◌, length, Bool, true, false, Some}
+use Rattle.std.specs.Prelude.{◌≡◌, ℕ, List, [], ◌∷◌, ◌++◌, length, Bool, true, Some}
 use Rattle.std.specs.Prelude.{None, ◌==◌, if◌then◌else◌, slice_index_or, ◌&&◌}
 use Rattle.laws_live.specs.Waiting.{live_can_go}
 use Rattle.sts_code.specs.declared.instr.Joiner.{Joiner}
 use Rattle.sts_model.specs.Told.{told}
 use Rattle.sts_model.specs.declared.event.End.{End}
 use Rattle.sts_model.specs.declared.event.Phase.{Phase}
-use Rattle.sts_model.specs.declared.event.Phase.TheVariants.{Opened}
 use Rattle.sts_model.specs.declared.event.Stand.{Stand}
-use Rattle.sts_model.specs.Live.{LiveScope, Alive}
+use Rattle.sts_model.specs.Live.{LiveScope, Alive, shown_scope}
+use Rattle.sts_model.specs.World.{fresh_scope}
 use Rattle.sts_joiners.specs.Tallied.{with_end}
 use Rattle.sts_tree.specs.Births.{births}
 use Rattle.sts_tree.specs.Forest.{Forest, any_lives, is_of, closed, opened, subtask}
@@ -91,16 +91,8 @@ pub record WordsAgree (E : Type 0) : Type 0 where
         scope_room = room;
       })
       ≡ record (view_of b f) {
-        scopes = (view_of b f).scopes ++ Some (record {
-          owner = owner;
-          joiner = joiner;
-          timed = timed;
-          phase = Opened;
-          cancelled = false;
-          expired = false;
-          environment = b.kept environment;
-          told = told joiner [];
-        }) ∷ [];
+        scopes = (view_of b f).scopes
+            ++ Some (shown_scope (fresh_scope owner joiner timed (b.kept environment))) ∷ [];
       }
   pub lives_is : (b : Beside E) (f : Forest E) (t : ℕ) → lives_in (view_of b f) t ≡ lives_at f t
   pub root_is : (b : Beside E) (f : Forest E) (t : ℕ) (x : Task) (end : End) → TaskAt f t x →

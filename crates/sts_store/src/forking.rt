@@ -2,6 +2,7 @@
 
 ghost use Rattle.std.specs.Prelude.{◌≡◌, ◌<◌, ◌≤◌, ◌+◌, ◌-◌, ◌^◌, ℕ, [], ◌∷◌, ◌++◌, length};
 ghost use Rattle.std.specs.Prelude.{true, is_some, Some, None, if◌then◌else◌};
+ghost use Rattle.sts_code.specs.declared.limits.TheConstants.{MAX_BIRTHS};
 ghost use Rattle.sts_code.specs.Program.{routine};
 ghost use Rattle.sts_model.specs.declared.event.Stand.TheVariants.{Free};
 ghost use Rattle.laws_live.specs.Effect.{live_fork};
@@ -19,7 +20,7 @@ use sts_records::Held;
 /// A place for the next birth, with its own state if it lives.
 fn place(frames: &mut Held<Running>, running: Running, lives: bool)
     requires room { 0 < frames.old.room }
-    requires births { length frames.old.slots < 1000000 }
+    requires births { length frames.old.slots < MAX_BIRTHS }
     ensures slots { frames.new.slots
         ≡ frames.old.slots ++ (if lives then Some running else None) ∷ [] }
     ensures room { frames.new.room
@@ -42,7 +43,7 @@ impl Store {
             ≤ length (frame_of self.old t).operands }
         requires task_room { 0 < (unseen_of self.old).task_room }
         requires frame_room { 0 < (unseen_of self.old).frame_room }
-        requires born { length (live_of self.old).tasks < 1000000 }
+        requires born { length (live_of self.old).tasks < MAX_BIRTHS }
         requires order { InOrder (live_of self.old) }
         ensures live { live_of self.new
             ≡ live_fork program.now (live_of self.old) t (frame_of self.old t) s function handle }

@@ -1,6 +1,7 @@
 //! Scopes open and expire.
 
 ghost use Rattle.std.specs.Prelude.{◌≡◌, ◌<◌, ◌+◌, ◌-◌, ◌^◌, ℕ, [], ◌∷◌, ◌++◌, length, true};
+ghost use Rattle.sts_code.specs.declared.limits.TheConstants.{MAX_BIRTHS};
 ghost use Rattle.laws_live.specs.Effect.{live_open};
 ghost use Rattle.laws_live.specs.Outside.{live_can_expire, live_expire};
 ghost use Rattle.laws_live.specs.Reading.{live_scope_at, lives_in};
@@ -19,7 +20,7 @@ impl Store {
         requires more { (frame_of self.old t).pc + 1 < 2 ^ 32 }
         requires entries { length (frame_of self.old t).entries < 16 }
         requires room { 0 < (unseen_of self.old).scope_room }
-        requires born { length (live_of self.old).scopes < 1000000 }
+        requires born { length (live_of self.old).scopes < MAX_BIRTHS }
         requires order { InOrder (live_of self.old) }
         ensures live { live_of self.new
             ≡ live_open (live_of self.old) t (frame_of self.old t) slot joiner timed }

@@ -1,6 +1,7 @@
 //! The store, and how it begins.
 
 ghost use Rattle.std.specs.Prelude.{◌≡◌, ◌<◌, ◌≤◌, ◌-◌, ◌∷◌, ℕ, [], Some, IfOk};
+ghost use Rattle.sts_code.specs.declared.limits.TheConstants.{MAX_STANDING};
 ghost use Rattle.sts_store.specs.Parts.{live_of, root_alone, unseen_of};
 ghost use Rattle.sts_model.specs.declared.event.Stand.TheVariants.{Free};
 
@@ -60,7 +61,7 @@ impl Store {
     /// Memory ran out.
     pub fn with_room(alloc: Global, room: Room, frame: Frame) -> Result<Store, AllocError>
         requires some { 0 < room.tasks }
-        requires few { room.tasks ≤ 65536 }
+        requires few { room.tasks ≤ MAX_STANDING }
         requires fresh { frame.entries ≡ [] }
         ensures live { IfOk result (λ m. live_of m ≡ root_alone frame) }
         ensures unseen { IfOk result (λ m. (key : ℕ) × (unseen_of m ≡ record {

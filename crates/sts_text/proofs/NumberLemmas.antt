@@ -1,5 +1,6 @@
 use Rattle.std.proofs.Common.{zero, suc, ◌-◌, ◌≡◌, ℕ, ◌<◌, ◌≤◌, ◌^◌, Bool, true, false, cond, List}
 use Rattle.std.proofs.Common.{[], ◌∷◌, length, get_or, arith, refl, drop, sym, ◌∙◌, ap, rules}
+use Rattle.std.proofs.lemmas.Bool.{and_parts}
 use Rattle.std.specs.Prelude.{◌↔◌, Option, Some, None, Result, Ok, Err, nat_le, ◌==◌, ◌&&◌, not, ℤ}
 use Rattle.std.specs.Prelude.{pos, neg_ℤ}
 use Rattle.std.specs.Result.{result_ok}
@@ -21,22 +22,14 @@ use Rattle.sts_text.specs.Number.{is_digits, has_leading_zero, digits_up_to, num
 pub own : IsNumeralModel (λ ds. list_all is_ascii_digit ds ≡ true) (digits_value 10)
 own = numerals_by_value _ (search rules)
 
-both : (a b : Bool) → (a && b) ≡ true → (a ≡ true) × (b ≡ true)
-both true true e = (refl, refl)
-both true false e = cc
-both false b e = cc
-
 digit_small : (c : ℕ) → is_ascii_digit c ≡ true → c < 128
 digit_small c e = grind (arith, nat_tests)
 
 pub ascii_digits : (ds : List ℕ) → list_all is_ascii_digit ds ≡ true → IsAscii ds
 ascii_digits [] e = IsAscii-nil
 ascii_digits (c ∷ cs) e =
-    let h = both (is_ascii_digit c) (list_all is_ascii_digit cs) e in
+    let h = and_parts (is_ascii_digit c) (list_all is_ascii_digit cs) e in
     IsAscii-cons c cs (digit_small c h.0) (ascii_digits cs h.1)
-
-pub digits_utf8 : (ds : List ℕ) → is_digits ds ≡ true → IsUtf8 ds
-digits_utf8 ds e = IsUtf8-from_ascii ds (ascii_digits ds (both (not (length ds == 0)) (list_all is_ascii_digit ds) e).1)
 
 some_digit : (n : ℕ) → not (n == 0) ≡ true → 0 < n
 some_digit n e = grind (arith, nat_tests)
@@ -47,7 +40,7 @@ at_ok_le (Err e) P n x limit z h p more = grind (arith, nat_tests, λ (q : x ≤
 
 pub parsed_negative : {E : Type 0} (bs : List ℕ) (r : Result ℤ E) → ParsesSigned w64 10 bs r → get_or bs 0 0 ≡ 45 → is_digits (drop 1 bs) ≡ true → result_ok r ≡ cond (nat_le (digits_value 10 (drop 1 bs)) (2 ^ 63)) (Some (neg_ℤ (pos (digits_value 10 (drop 1 bs))))) None
 parsed_negative bs r h m e =
-    let p = both (not (length (drop 1 bs) == 0)) (list_all is_ascii_digit (drop 1 bs)) e in
+    let p = and_parts (not (length (drop 1 bs) == 0)) (list_all is_ascii_digit (drop 1 bs)) e in
     at_ok_le r (list_all is_ascii_digit (drop 1 bs) ≡ true) (length (drop 1 bs)) (digits_value 10 (drop 1 bs)) (2 ^ 63) (neg_ℤ (pos (digits_value 10 (drop 1 bs)))) (parse_signed_minus own w64 bs r h m) p.1 (some_digit (length (drop 1 bs)) p.0)
 
 minus_ascii : (bs : List ℕ) → get_or bs 0 0 ≡ 45 → IsAscii (drop 1 bs) → IsAscii bs
@@ -55,7 +48,7 @@ minus_ascii [] m h = h
 minus_ascii (b ∷ bs) m h = IsAscii-cons b bs (omega arith) h
 
 pub minus_utf8 : (bs : List ℕ) → get_or bs 0 0 ≡ 45 → is_digits (drop 1 bs) ≡ true → IsUtf8 bs
-minus_utf8 bs m e = IsUtf8-from_ascii bs (minus_ascii bs m (ascii_digits (drop 1 bs) (both (not (length (drop 1 bs) == 0)) (list_all is_ascii_digit (drop 1 bs)) e).1))
+minus_utf8 bs m e = IsUtf8-from_ascii bs (minus_ascii bs m (ascii_digits (drop 1 bs) (and_parts (not (length (drop 1 bs) == 0)) (list_all is_ascii_digit (drop 1 bs)) e).1))
 
 some_if : (b : Bool) (x y : ℕ) → cond b (Some x) None ≡ Some y → (b ≡ true) × (x ≡ y)
 some_if true x y e = (refl, cc)
@@ -72,8 +65,8 @@ spells : (word : List ℕ) (n : ℕ) → numeral word ≡ Some n → (n < 2 ^ 32
 spells word n e =
     let p = none_or (has_leading_zero word) (digits_up_to (2 ^ 32 - 1) word) n e in
     let q = some_if (is_digits word && nat_le (digits_value 10 word) (2 ^ 32 - 1)) (digits_value 10 word) n p.1 in
-    let r = both (is_digits word) (nat_le (digits_value 10 word) (2 ^ 32 - 1)) q.0 in
-    let s = both (not (length word == 0)) (list_all is_ascii_digit word) r.0 in
+    let r = and_parts (is_digits word) (nat_le (digits_value 10 word) (2 ^ 32 - 1)) q.0 in
+    let s = and_parts (not (length word == 0)) (list_all is_ascii_digit word) r.0 in
     let small : digits_value 10 word < 2 ^ 32 = grind (arith, nat_tests, r.1) in
     let filled = some_digit (length word) s.0 in
     (omega (arith, q.1, small), sym (decimal-digits_value own word s.1 filled (alone word p.0 filled) (omega arith)) ∙ ap decimal q.1)

@@ -1,6 +1,7 @@
 -- If events are read, the text spells them.
 use Rattle.std.proofs.Common.{◌≡◌, ℕ, ◌+◌, ◌<◌, ◌≤◌, ◌^◌, Bool, true, false, cond, List, [], ◌∷◌}
 use Rattle.std.proofs.Common.{◌++◌, length, arith, refl, sym, ◌∙◌, ap, append_assoc, ◌⊎◌, inl, inr}
+use Rattle.std.proofs.lemmas.Bool.{and_parts}
 use Rattle.std.proofs.lemmas.Bool.Decides.{nat_tests}
 use Rattle.std.specs.Prelude.{◌&&◌, Result, Ok, Err, Option, Some, None, nat_lt, codes, IfOk}
 use Rattle.std.specs.List.{join_with_byte, flat_map, All}
@@ -27,11 +28,6 @@ use Rattle.sts_trace.proofs.Spelled.{word_of, event_parts, due_parts, outside_wo
 chosen : {A : Type 0} (b : Bool) (x y z : A) → cond b x y ≡ z → ((b ≡ true) × (x ≡ z)) ⊎ ((b ≡ false) × (y ≡ z))
 chosen true x y z e = inl (refl, e)
 chosen false x y z e = inr (refl, e)
-
-both : (a b : Bool) → (a && b) ≡ true → (a ≡ true) × (b ≡ true)
-both true true e = (refl, refl)
-both true false e = cc
-both false b e = cc
 
 ok_same : {A : Type 0} (x y : A) (r : Result A TraceError) → r ≡ Ok x → r ≡ Ok y → x ≡ y
 ok_same x y r a b = cc
@@ -97,9 +93,9 @@ due_said_found at (a ∷ b ∷ []) due h = cc
 due_said_found at (a ∷ b ∷ c ∷ []) due h = cc
 due_said_found at (a ∷ b ∷ c ∷ d ∷ []) due h = elim (chosen (bytes_eq a (codes "at") && (is_filled b && (is_outside_word c && is_filled d))) (numeral_at at b >>= λ n. event_of at c d >>= λ e. Ok (record { at = n; event = e })) (Err (BadLine at)) (Ok due) h) [
   | inl p ↦
-      let t = both (bytes_eq a (codes "at")) (is_filled b && (is_outside_word c && is_filled d)) p.0 in
-      let u = both (is_filled b) (is_outside_word c && is_filled d) t.1 in
-      let v = both (is_outside_word c) (is_filled d) u.1 in
+      let t = and_parts (bytes_eq a (codes "at")) (is_filled b && (is_outside_word c && is_filled d)) p.0 in
+      let u = and_parts (is_filled b) (is_outside_word c && is_filled d) t.1 in
+      let v = and_parts (is_outside_word c) (is_filled d) u.1 in
       let q = bind_ok (numeral_at at b) (λ n. event_of at c d >>= λ e. Ok (record { at = n; event = e })) due p.1 in
       let r = bind_ok (event_of at c d) (λ e. Ok (record { at = q.0; event = e })) due q.2 in
       let n = number_found at b q.0 q.1 in

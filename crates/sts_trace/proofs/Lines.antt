@@ -6,7 +6,7 @@ use Rattle.std.specs.Prelude.{◌==◌, Result, Ok, Err}
 use Rattle.sts_text.specs.Words.{is_newline, lines, is_filled}
 use Rattle.sts_text.proofs.WordLemmas.{HasPart, has_part}
 use Rattle.sts_trace.specs.declared.error.TraceError.{TraceError}
-use Rattle.sts_trace.specs.declared.error.TraceError.TheVariants.{BadLine, BadNumber, NoNewline}
+use Rattle.sts_trace.specs.declared.error.TraceError.TheVariants.{NoNewline}
 use Rattle.sts_trace.specs.declared.error.TraceError.TheVariants.{Memory}
 use Rattle.sts_trace.specs.Reading.{◌>>=◌, Fails, lines_read}
 
@@ -38,9 +38,7 @@ line_fault said front at text line after f e is = rw (cut said at text line afte
 
 fails_more : {A B : Type 0} (f : TraceError) (a : Result A TraceError) (b : Result B TraceError) → (a ≡ Err f → b ≡ Err f) → Fails f a → Fails f b
 fails_more Memory a b more h = h
-fails_more (BadLine at) a b more h = more h
-fails_more (BadNumber at) a b more h = more h
-fails_more NoNewline a b more h = more h
+fails_more _ a b more h = more h
 
 pub line_fails : {A : Type 0} (said : ℕ → List ℕ → Result A TraceError) (front : List A) (at : ℕ) (text line after : List ℕ) (f : TraceError) → lines text ≡ line ∷ lines after → Fails f (said at line) → Fails f (with_front front (lines_read said at (lines text)))
 line_fails said front at text line after f e h = fails_more f (said at line) (with_front front (lines_read said at (lines text))) (line_fault said front at text line after f e) h

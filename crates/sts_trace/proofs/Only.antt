@@ -1,6 +1,7 @@
 -- Whatever a text spells is read.
-use Rattle.std.proofs.Common.{◌≡◌, ℕ, ◌+◌, ◌<◌, ◌≤◌, ◌^◌, Bool, true, false, cond, List, [], ◌∷◌}
+use Rattle.std.proofs.Common.{◌≡◌, ℕ, ◌+◌, ◌<◌, ◌≤◌, ◌^◌, Bool, true, false, List, [], ◌∷◌}
 use Rattle.std.proofs.Common.{◌++◌, length, arith, refl, ◌∙◌, ap, append_assoc}
+use Rattle.std.proofs.lemmas.Bool.{cond-true, cond-false}
 use Rattle.std.proofs.lemmas.Bool.Decides.{nat_tests}
 use Rattle.std.specs.Prelude.{Result, Ok, Err, nat_lt, not, ◌&&◌, codes}
 use Rattle.std.specs.List.{flat_map, All, list_all}
@@ -34,14 +35,6 @@ event_read at (Step n) h = rw (number_read at n h) refl
 event_read at (Interrupt n) h = rw (number_read at n h) refl
 event_read at (Expire n) h = rw (number_read at n h) refl
 
-cond_true : {A : Type 0} (b : Bool) (x y : A) → b ≡ true → cond b x y ≡ x
-cond_true true x y e = refl
-cond_true false x y e = cc
-
-cond_false : {A : Type 0} (b : Bool) (x y : A) → b ≡ false → cond b x y ≡ y
-cond_false false x y e = refl
-cond_false true x y e = cc
-
 all_true : (a b c d : Bool) → a ≡ true → b ≡ true → c ≡ true → d ≡ true → (a && (b && (c && d))) ≡ true
 all_true a b c d p q r s = rw (p, q, r, s) refl
 
@@ -52,13 +45,13 @@ goes_on (Err k) f x e = cc
 event_line_only : (at : ℕ) (e : Event) → IsEvent e → event_line at (event_text e) ≡ Ok e
 event_line_only at e h =
     ap (event_said at) (event_fields e h)
-    ∙ cond_true (is_filled (decimal (number_of e))) (event_of at (word_of e) (decimal (number_of e))) (Err (BadLine at)) (number_filled (number_of e) h)
+    ∙ cond-true (is_filled (decimal (number_of e))) (event_of at (word_of e) (decimal (number_of e))) (Err (BadLine at)) (number_filled (number_of e) h)
     ∙ event_read at e h
 
 due_read : (at : ℕ) (a b c d : List ℕ) (n : ℕ) (e : Event) → (bytes_eq a (codes "at") && (is_filled b && (is_outside_word c && is_filled d))) ≡ true → numeral_at at b ≡ Ok n → event_of at c d ≡ Ok e → due_said at (a ∷ b ∷ c ∷ d ∷ []) ≡ Ok (record { at = n; event = e })
 due_read at a b c d n e t p q =
     let made : Event → Result Due TraceError = λ e. Ok (record { at = n; event = e }) in
-    cond_true (bytes_eq a (codes "at") && (is_filled b && (is_outside_word c && is_filled d))) (numeral_at at b >>= λ n. event_of at c d >>= λ e. Ok (record { at = n; event = e })) (Err (BadLine at)) t
+    cond-true (bytes_eq a (codes "at") && (is_filled b && (is_outside_word c && is_filled d))) (numeral_at at b >>= λ n. event_of at c d >>= λ e. Ok (record { at = n; event = e })) (Err (BadLine at)) t
     ∙ goes_on (numeral_at at b) (λ n. event_of at c d >>= λ e. Ok (record { at = n; event = e })) n p
     ∙ goes_on (event_of at c d) made e q
 
@@ -69,7 +62,7 @@ due_line_only at due k h =
     let number = decimal (number_of due.event) in
     let in_time : nat_lt 4096 at ≡ false = grind (arith, nat_tests) in
     let t = all_true (bytes_eq (codes "at") (codes "at")) (is_filled time) (is_outside_word word) (is_filled number) refl (number_filled due.at h.0) (outside_word due.event ∙ h.2) (number_filled (number_of due.event) h.1) in
-    cond_false (nat_lt 4096 at) (Err (BadLine at)) (due_said at (fields (due_text due))) in_time
+    cond-false (nat_lt 4096 at) (Err (BadLine at)) (due_said at (fields (due_text due))) in_time
     ∙ ap (due_said at) (due_fields due h.0 h.1)
     ∙ due_read at (codes "at") time word number due.at due.event t (number_read at due.at h.0) (event_read at due.event h.1)
 

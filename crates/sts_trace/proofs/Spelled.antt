@@ -1,6 +1,7 @@
 -- The fields of a line that is spelled as it should be.
 use Rattle.std.proofs.Common.{◌≡◌, ℕ, ◌<◌, ◌^◌, Bool, true, false, List, [], ◌∷◌, ◌++◌, arith, refl}
 use Rattle.std.proofs.Common.{◌∙◌, ap, append_assoc}
+use Rattle.std.proofs.lemmas.Bool.{and_parts}
 use Rattle.std.proofs.lemmas.Bool.Decides.{nat_tests}
 use Rattle.std.specs.Prelude.{◌&&◌, codes}
 use Rattle.std.specs.List.{All, list_all}
@@ -17,16 +18,11 @@ use Rattle.sts_trace.specs.declared.outside.Due.{Due}
 use Rattle.sts_trace.specs.Reading.{is_outside_word}
 use Rattle.sts_trace.specs.Spelling.{event_text, due_text, number_of, is_outside}
 
-both : (a b : Bool) → (a && b) ≡ true → (a ≡ true) × (b ≡ true)
-both true true e = (refl, refl)
-both true false e = cc
-both false b e = cc
-
 -- no byte of a word of digits separates
 digits_free : (p : ℕ → Bool) → ((b : ℕ) → is_ascii_digit b ≡ true → p b ≡ false) → (ds : List ℕ) → list_all is_ascii_digit ds ≡ true → All (λ b. p b ≡ false) ds
 digits_free p other [] e = All-nil (λ b. p b ≡ false)
 digits_free p other (d ∷ ds) e =
-    let h = both (is_ascii_digit d) (list_all is_ascii_digit ds) e in
+    let h = and_parts (is_ascii_digit d) (list_all is_ascii_digit ds) e in
     All-cons (λ b. p b ≡ false) d ds (other d h.0) (digits_free p other ds h.1)
 
 digit_no_space : (b : ℕ) → is_ascii_digit b ≡ true → is_space b ≡ false
@@ -52,8 +48,7 @@ word_of (Expire n) = codes "expire"
 
 pub event_parts : (e : Event) → event_text e ≡ word_of e ++ 32 ∷ decimal (number_of e)
 event_parts (Step n) = refl
-event_parts (Interrupt n) = refl
-event_parts (Expire n) = refl
+event_parts _ = refl
 
 number_alone : (n : ℕ) → n < 2 ^ 32 → fields (decimal n) ≡ decimal n ∷ []
 number_alone n h = slice_split_none is_space (decimal n) (number_no_space n h)
@@ -73,5 +68,4 @@ due_fields due h k =
 
 pub outside_word : (e : Event) → is_outside_word (word_of e) ≡ is_outside e
 outside_word (Step n) = refl
-outside_word (Interrupt n) = refl
-outside_word (Expire n) = refl
+outside_word _ = refl

@@ -165,6 +165,17 @@ module _ {E : Type 0} where
         owned = owned_seen one new e owned;
       }
 
+  -- a scope's marks are written, and its owner is settled
+  pub marked_tree : (f one two : Forest E) (s owner : ℕ) (c d : Scope E) → IsTree f → get_or f.scopes s None ≡ Some c → d.owner ≡ c.owner → owner ≡ c.owner → one ≡ with_scope f s d → seen two ≡ seen one → ((u : ℕ) → (u ≢ owner → has u one.ready ≡ can_step one u) → has u two.ready ≡ can_step two u) → IsTree two
+  marked_tree f one two s owner c d is at same own one_is e ready =
+      settled f one two owner is (ap (λ h. h.ready) one_is) (λ u ne. rw one_is (steps_scope f s u c d is.owned at (rw (← own) ne))) (rw one_is (owned_scope f s c d is.owned at same)) e ready
+
+  -- a task's flag is written, and the task is settled
+  pub flagged_tree : (f one two : Forest E) (t : ℕ) (x : Task) (flag : Bool) → IsTree f → get_or f.tasks t None ≡ Some x → one ≡ with_task f t (record x { flag = flag }) → seen two ≡ seen one → ((u : ℕ) → (u ≢ t → has u one.ready ≡ can_step one u) → has u two.ready ≡ can_step two u) → IsTree two
+  flagged_tree f one two t x flag is at one_is e ready =
+      let y : Task = record x { flag = flag } in
+      settled f one two t is (ap (λ h. h.ready) one_is) (λ u ne. rw one_is (steps_task f t u x y at refl refl ne)) (rw one_is (owned_task f t x y is.owned at (λ s l st. is.owned t s x at l st))) e ready
+
   -- after two tasks were settled
   pub settled_two : (f mid one two : Forest E) (t owner : ℕ) → IsTree f → mid.ready ≡ f.ready → ((u : ℕ) → u ≢ t → u ≢ owner → can_step mid u ≡ can_step f u) → Owned mid → seen one ≡ seen mid → ((u : ℕ) → (u ≢ t → has u mid.ready ≡ can_step mid u) → has u one.ready ≡ can_step one u) → seen two ≡ seen one → ((u : ℕ) → (u ≢ owner → has u one.ready ≡ can_step one u) → has u two.ready ≡ can_step two u) → IsTree two
   settled_two f mid one two t owner is list same owned seen1 ready1 seen2 ready2 =

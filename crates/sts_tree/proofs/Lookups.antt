@@ -54,18 +54,18 @@ no_middle : (front : List ℕ) (key : ℕ) (back : List ℕ) → [] ≡ front ++
 no_middle [] key back e = cc
 no_middle (x ∷ front) key back e = cc
 
--- the list of a living subtask
-pub lists_living : {E : Type 0} → (slots : List (Option TaskRecord)) (rows : List (Option (ScopeRecord E))) (ready : Ends) (room s t : ℕ) (front back : List ℕ) → Stored slots (families_of rows) ready room → births (lives_in s) 0 (tasks_of slots) ≡ front ++ t ∷ back → (list : Ends) × IsList (link_at slots 1) list (front ++ t ∷ back)
-lists_living {E} slots rows ready room s t front back i e = by (get_or rows s None) refl
+-- the list of a subtask's scope
+list_there : {E : Type 0} → (rows : List (Option (ScopeRecord E))) (s t : ℕ) (keys front back : List ℕ) (Is : Ends → List ℕ → Type 0) (list : ScopeRecord E → Ends) → (get_or rows s None ≡ None → keys ≡ []) → ((row : ScopeRecord E) → get_or rows s None ≡ Some row → Is (list row) keys) → keys ≡ front ++ t ∷ back → (l : Ends) × Is l (front ++ t ∷ back)
+list_there {E} rows s t keys front back Is list none some e = by (get_or rows s None) refl
   where
-    by : (o : Option (ScopeRecord E)) → get_or rows s None ≡ o → (list : Ends) × IsList (link_at slots 1) list (front ++ t ∷ back)
-    by None q = absurd (no_middle front t back (sym (no_living slots rows ready room s i q) ∙ e))
-    by (Some row) q = (row.living, rw (← e) (i.living s (family_of row) (family_at rows s row q)))
+    by : (o : Option (ScopeRecord E)) → get_or rows s None ≡ o → (l : Ends) × Is l (front ++ t ∷ back)
+    by None q = absurd (no_middle front t back (sym (none q) ∙ e))
+    by (Some row) q = (list row, rw (← e) (some row q))
 
--- the list of a subtask
+-- that of a living one
+pub lists_living : {E : Type 0} → (slots : List (Option TaskRecord)) (rows : List (Option (ScopeRecord E))) (ready : Ends) (room s t : ℕ) (front back : List ℕ) → Stored slots (families_of rows) ready room → births (lives_in s) 0 (tasks_of slots) ≡ front ++ t ∷ back → (list : Ends) × IsList (link_at slots 1) list (front ++ t ∷ back)
+lists_living slots rows ready room s t front back i = list_there rows s t _ front back (IsList (link_at slots 1)) (λ row. row.living) (no_living slots rows ready room s i) (λ row q. i.living s (family_of row) (family_at rows s row q))
+
+-- that of its forks
 pub lists_forks : {E : Type 0} → (slots : List (Option TaskRecord)) (rows : List (Option (ScopeRecord E))) (ready : Ends) (room s t : ℕ) (front back : List ℕ) → Stored slots (families_of rows) ready room → births (is_of s) 0 (tasks_of slots) ≡ front ++ t ∷ back → (list : Ends) × IsList (link_at slots 0) list (front ++ t ∷ back)
-lists_forks {E} slots rows ready room s t front back i e = by (get_or rows s None) refl
-  where
-    by : (o : Option (ScopeRecord E)) → get_or rows s None ≡ o → (list : Ends) × IsList (link_at slots 0) list (front ++ t ∷ back)
-    by None q = absurd (no_middle front t back (sym (no_subtasks slots rows ready room s i q) ∙ e))
-    by (Some row) q = (row.forks, rw (← e) (i.forks s (family_of row) (family_at rows s row q)))
+lists_forks slots rows ready room s t front back i = list_there rows s t _ front back (IsList (link_at slots 0)) (λ row. row.forks) (no_subtasks slots rows ready room s i) (λ row q. i.forks s (family_of row) (family_at rows s row q))

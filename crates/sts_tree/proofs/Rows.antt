@@ -35,6 +35,10 @@ module _ {E : Type 0} where
   pub own_row : (rows : List (Option (ScopeRecord E))) (s : ℕ) (r : ScopeRecord E) (x : Scope E) → get_or rows s None ≡ Some r → get_or (scopes_of rows) s None ≡ Some x → r.scope ≡ x
   own_row rows s r x is e = some_same r.scope x (sym (scope_at rows s r is) ∙ e)
 
+  -- a field of a scope is written
+  pub seen_field : (rows : List (Option (ScopeRecord E))) (s : ℕ) (r q : ScopeRecord E) (x y : Scope E) → get_or rows s None ≡ Some r → get_or (scopes_of rows) s None ≡ Some x → (r.scope ≡ x → q.scope ≡ y) → scopes_of (set rows s (Some q)) ≡ set (scopes_of rows) s (Some y)
+  seen_field rows s r q x y is e change = seen_row rows s q ∙ ap (λ z. set (scopes_of rows) s (Some z)) (change (own_row rows s r x is e))
+
   pub no_scope_there : (rows : List (Option (ScopeRecord E))) (s : ℕ) (x : Scope E) → get_or rows s None ≡ None → get_or (scopes_of rows) s None ≡ Some x → ⊥
   no_scope_there rows s x none is = let e = map_at scope_of rows s ∙ ap (option_map scope_of) none in cc
 

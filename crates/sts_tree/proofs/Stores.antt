@@ -114,6 +114,13 @@ own_task slots t r x is e = some_same r.task x (sym (task_at slots t r is) ∙ e
 pub seen_is : {E : Type 0} → (f : Forest E) (tasks : List (Option Task)) (ready : List ℕ) → f.tasks ≡ tasks → f.ready ≡ ready → f ≡ record f { tasks = tasks; ready = ready }
 seen_is f tasks ready e h = rw (← e, ← h) refl
 
+-- a field of a task is written
+pub field_seen : {E : Type 0} → (f : Forest E) (slots : List (Option TaskRecord)) (families : List (Option Family)) (ready : Ends) (room t : ℕ) (r q : TaskRecord) (x y : Task) → Stored slots families ready room → get_or slots t None ≡ Some r → q.links ≡ r.links → q.task.scope ≡ r.task.scope → q.task.lives ≡ r.task.lives → q.task.ready ≡ r.task.ready → get_or (tasks_of slots) t None ≡ Some x → (r.task ≡ x → q.task ≡ y) → f.tasks ≡ tasks_of (set slots t (Some q)) → f.ready ≡ ready_of (set slots t (Some q)) ready → f ≡ record f { tasks = set (tasks_of slots) t (Some y); ready = ready_of slots ready }
+field_seen f slots families ready room t r q x y i is links scope lives flag e change tasks keys =
+    let w = rewrites slots families ready room t r q i is links scope lives flag in
+    let task = change (own_task slots t r x is e) in
+    seen_is f _ _ (tasks ∙ w.tasks ∙ ap (λ z. set (tasks_of slots) t (Some z)) task) (keys ∙ w.keys_are)
+
 -- a record of the next birth: no record has its links
 pub record Fresh (slots new : List (Option TaskRecord)) (n : ℕ) : Type 0 where
   pub vacant : (m : ℕ) → link_at slots m n ≡ None

@@ -68,16 +68,6 @@ pub bindings_found : (links : List Link) (place : ℕ) (bound : Bound) (behind :
 bindings_found links place bound behind h e older =
     chain_link links (length links) place h ∙ rw (e, chain_within links place (length links) behind older (omega arith)) refl
 
-pub grows_same : (links : List Link) → Grows links links
-grows_same links = record { more = []; same = sym (simp append-nil) }
-
-pub grows_twice : (a b c : List Link) → Grows a b → Grows b c → Grows a c
-grows_twice a b c g h = record { more = g.more ++ h.more; same = rw (h.same, g.same) (append_assoc a g.more h.more) }
-
--- one more of a list, in reverse
-pub reverse_more : {X : Type 0} (xs : List X) (i : ℕ) (d : X) → i < length xs → reverse (take (i + 1) xs) ≡ get_or xs i d ∷ reverse (take i xs)
-reverse_more xs i d h = rw (take_more xs i d h, reverse-append) refl
-
 -- ---- reading a key from a link on
 
 pub read_past : (links : List Link) (n i k : ℕ) (at : Option ℕ) → at ≡ Some i → n ≤ i → read (chain links n at) k ≡ None

@@ -47,6 +47,12 @@ births_push s n m (x ∷ xs) y e =
 
 -- ---- standing
 
+none : (was b : Bool) (n : ℕ) → n + cond was 0 0 ≡ n + cond b 0 0
+none true true n = refl
+none true false n = refl
+none false true n = refl
+none false false n = refl
+
 apart : (s r : ℕ) (closed : List Bool) (b : Bool) → s < length closed → (t : Bool) → eqb r s ≡ t → cond (not (get_or (set closed s b) r true)) 1 0 + cond (get_or closed s true) 0 (cond t 1 0) ≡ cond (not (get_or closed r true)) 1 0 + cond b 0 (cond t 1 0)
 apart s r closed b h true e =
     let same : r ≡ s = eqb-true r s e in
@@ -59,22 +65,10 @@ apart s r closed b h true e =
     shut false false = refl
 apart s r closed b h false e =
     rw (get_or-set_other closed s r b true (eqb-false r s e)) (none (get_or closed s true) b _)
-  where
-    none : (was b : Bool) (n : ℕ) → n + cond was 0 0 ≡ n + cond b 0 0
-    none true true n = refl
-    none true false n = refl
-    none false true n = refl
-    none false false n = refl
 
 -- the count of one line, when a scope is closed or opened again
 one_stands : (s : ℕ) (closed : List Bool) (b : Bool) (o : Option ℕ) → s < length closed → cond (stands (set closed s b) o) 1 0 + cond (get_or closed s true) 0 (cond (is_in s o) 1 0) ≡ cond (stands closed o) 1 0 + cond b 0 (cond (is_in s o) 1 0)
-one_stands s closed b None h = none (get_or closed s true) b
-  where
-    none : (was b : Bool) → 1 + cond was 0 0 ≡ 1 + cond b 0 0
-    none true true = refl
-    none true false = refl
-    none false true = refl
-    none false false = refl
+one_stands s closed b None h = none (get_or closed s true) b 1
 one_stands s closed b (Some r) h = apart s r closed b h (eqb r s) refl
 
 sums : (was b : Bool) (a c d e f g : ℕ) → a + cond was 0 c ≡ d + cond b 0 c → e + cond was 0 f ≡ g + cond b 0 f → (a + e) + cond was 0 (c + f) ≡ (d + g) + cond b 0 (c + f)
@@ -85,13 +79,7 @@ sums false false a c d e f g h k = omega arith
 
 -- closing a scope takes its subtasks from those that count
 pub stands-set : (s : ℕ) (closed : List Bool) (b : Bool) (xs : List Line) → s < length closed → count_by (λ (x : Line). stands (set closed s b) x.scope) xs + cond (get_or closed s true) 0 (count_in s xs) ≡ count_by (λ (x : Line). stands closed x.scope) xs + cond b 0 (count_in s xs)
-stands-set s closed b [] h = none (get_or closed s true) b
-  where
-    none : (was b : Bool) → 0 + cond was 0 0 ≡ 0 + cond b 0 0
-    none true true = refl
-    none true false = refl
-    none false true = refl
-    none false false = refl
+stands-set s closed b [] h = none (get_or closed s true) b 0
 stands-set s closed b (x ∷ xs) h =
     rw (sum_by-cons (as_one (λ (l : Line). stands (set closed s b) l.scope)) x xs, sum_by-cons (as_one (λ (l : Line). stands closed l.scope)) x xs, sum_by-cons (as_one (λ (l : Line). is_in s l.scope)) x xs)
     (sums (get_or closed s true) b _ _ _ _ _ _ (one_stands s closed b x.scope h) (stands-set s closed b xs h))
@@ -126,10 +114,6 @@ pub and_le : (a b : Bool) → cond (a && b) 1 0 ≤ cond a 1 0
 and_le true true = omega arith
 and_le true false = omega arith
 and_le false b = omega arith
-
--- those that live are among the subtasks
-pub living_in : (s : ℕ) (xs : List Line) → count_by (lives_in s) xs ≤ count_in s xs
-living_in s xs = sum_by-le-sum_by (as_one (lives_in s)) (as_one (λ (x : Line). is_in s x.scope)) xs (λ x. and_le (is_in s x.scope) x.lives)
 
 stands_here : (closed : List Bool) (s r : ℕ) → get_or closed s true ≡ false → (t : Bool) → eqb r s ≡ t → cond t 1 0 ≤ cond (not (get_or closed r true)) 1 0
 stands_here closed s r e true f = let same : r ≡ s = eqb-true r s f in rw (same, e) (omega arith)

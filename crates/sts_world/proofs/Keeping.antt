@@ -26,12 +26,6 @@ kept_same a b fs ts n m e k = rw e k
 
 -- ---- bounds
 
-pub tasks_bound : (l : Lines) (fs : List Family) (ts : List Tallied) (n m : ℕ) → IsKept l fs ts n m → n ≤ length l.tasks
-tasks_bound l fs ts n m k = omega (arith, k.tasks, count_by-le-length (λ (x : Line). stands l.closed x.scope) l.tasks)
-
-pub scopes_bound : (l : Lines) (fs : List Family) (ts : List Tallied) (n m : ℕ) → IsKept l fs ts n m → m ≤ length l.closed
-scopes_bound l fs ts n m k = omega (arith, k.scopes, count_by-le-length not l.closed)
-
 -- ---- a scope is closed, or opened again
 
 pub less_tasks : (l : Lines) (fs : List Family) (ts : List Tallied) (n m s : ℕ) (b : Bool) → IsKept l fs ts n m → s < length l.closed → standing_tasks (record l { closed = set l.closed s b }) + cond (get_or l.closed s true) 0 (length (births s l.tasks)) ≡ n + cond b 0 (length (births s l.tasks))

@@ -1,6 +1,7 @@
 -- The used parts of a frame, and the whole frame.
 use Rattle.std.proofs.Common.{◌≡◌, ℕ, suc, ◌-◌, ◌≤◌, List, [], ◌∷◌, length, take, drop, reverse}
 use Rattle.std.proofs.Common.{replicate, get_or, Bool, true, false, refl, ap, arith, ◌∙◌, ◌&&◌, sym}
+use Rattle.std.proofs.lemmas.Bool.{and_parts}
 use Rattle.std.specs.List.{list_all}
 use Rattle.std.proofs.lemmas.List.{length-reverse, reverse-reverse, take_rest}
 use Rattle.std.proofs.Math.Seq.{take-length}
@@ -11,18 +12,12 @@ use Rattle.sts_model.specs.Misuse.{is_empty}
 
 one_empty : (x : Slot) → is_empty x ≡ true → x ≡ Empty
 one_empty Empty e = refl
-one_empty (Own s) e = cc
-one_empty (Lent s) e = cc
-one_empty (Sub s) e = cc
-
-both : (a b : Bool) → a && b ≡ true → (a ≡ true) × (b ≡ true)
-both true b e = (refl, e)
-both false b e = cc
+one_empty _ e = cc
 
 pub all_empty : (xs : List Slot) → list_all is_empty xs ≡ true → xs ≡ replicate (length xs) Empty
 all_empty [] e = refl
 all_empty (x ∷ xs) e =
-    let parts = both (is_empty x) (list_all is_empty xs) e in
+    let parts = and_parts (is_empty x) (list_all is_empty xs) e in
     rw (one_empty x parts.0) (ap (λ (ys : List Slot). Empty ∷ ys) (all_empty xs parts.1))
 
 -- all slots but the first are empty

@@ -1,9 +1,10 @@
 -- Scopes as they are kept, and the view of them.
 use Rattle.std.proofs.Common.{◌≡◌, ℕ, zero, suc, ◌<◌, ◌≤◌, List, [], ◌∷◌, ◌++◌, length, map, Bool}
 use Rattle.std.proofs.Common.{true, false, Option, Some, None, inl, inr, ◌⊎◌, refl, ap, sym, ◌∙◌}
-use Rattle.std.proofs.Common.{get_or, set, take, ◌+◌}
+use Rattle.std.proofs.Common.{get_or, set, take, ◌+◌, slice_index_or}
 use Rattle.std.proofs.lemmas.Bool.{cases_lt}
-use Rattle.std.proofs.lemmas.List.{get_or-map, get_or_past, map-set, map-append, length-map}
+use Rattle.std.proofs.lemmas.List.{get_or-map, get_or_past, get_or_default, map-set, map-append}
+use Rattle.std.proofs.lemmas.List.{length-map}
 use Rattle.sts_model.specs.declared.record.Task.{Task}
 use Rattle.sts_model.specs.declared.record.Scope.{Scope}
 use Rattle.sts_model.specs.World.{World, with_scope, no_scope, no_task}
@@ -48,10 +49,6 @@ shown_grown old new (x ∷ xs) h g =
 pub within_grown : (old new : List Link) (xs : List ScopeRecord) → AreWithin old xs → Grows old new → AreWithin new xs
 within_grown old new xs h g = λ s. within_more (length old) (length new) (get_or xs s no_record).front (h s) (grows_longer old new g)
 
-pub within_front : (links : List Link) (xs : List ScopeRecord) (o : Option ℕ) → AreWithin links xs → is_within (length links) (front_of xs o) ≡ true
-within_front links xs None h = refl
-within_front links xs (Some s) h = h s
-
 pub within_push : (links : List Link) (xs : List ScopeRecord) (x : ScopeRecord) → AreWithin links xs → is_within (length links) x.front ≡ true → AreWithin links (xs ++ x ∷ [])
 within_push links [] x h e zero = e
 within_push links [] x h e (suc s) = refl
@@ -65,6 +62,13 @@ shown_push old new xs x y h g e = rw (map-append (shown new), shown_grown old ne
 -- another record is another scope
 pub shown_set : (links : List Link) (tasks : List Task) (xs : List ScopeRecord) (s : ℕ) (x : ScopeRecord) (y : Scope) → shown links x ≡ y → record { tasks = tasks; scopes = map (shown links) (set xs s x) } ≡ with_scope (record { tasks = tasks; scopes = map (shown links) xs }) s y
 shown_set links tasks xs s x y e = rw (map-set (shown links) xs s x, e) refl
+
+-- one scope is changed, as it was found
+pub shown_changed : (links : List Link) (tasks : List Task) (xs : List ScopeRecord) (s : ℕ) (x y d : ScopeRecord) (change : Scope → Scope) → s < length xs → x ≡ slice_index_or xs s d → shown links y ≡ change (shown links x)
+    → record { tasks = tasks; scopes = map (shown links) (set xs s y) } ≡ with_scope (record { tasks = tasks; scopes = map (shown links) xs }) s (change (get_or (map (shown links) xs) s no_scope))
+shown_changed links tasks xs s x y d change bound found made =
+    let here : x ≡ slice_index_or xs s no_record = found ∙ get_or_default xs s d no_record bound in
+    shown_set links tasks xs s y _ (made ∙ ap change (ap (shown links) here ∙ sym (shown_at links xs s bound)))
 
 -- a task opens a scope, which gets the task's own bindings in front of those it inherited
 pub opened : (tasks : List Task) (old new : List Link) (xs : List ScopeRecord) (t s slot : ℕ) (joiner : Joiner) (timed : Bool) (front rest : Option ℕ) → AreWithin old xs → Grows old new → s ≡ length xs → rest ≡ front_of xs (get_or tasks t no_task).scope → bindings_of new front ≡ own_bindings (get_or tasks t no_task) ++ bindings_of old rest → record { tasks = set tasks t (record (get_or tasks t no_task) { frame = record (steps (get_or tasks t no_task).frame 0 []) { entries = entry.Scope s ∷ (get_or tasks t no_task).frame.entries; slots = set (get_or tasks t no_task).frame.slots slot (Own s) } }); scopes = map (shown new) (xs ++ record { owner = t; joiner = joiner; timed = timed; phase = Opened; cancelled = false; expired = false; completions = []; front = front } ∷ []) } ≡ open_scope (record { tasks = tasks; scopes = map (shown old) xs }) t (get_or tasks t no_task).frame slot joiner timed

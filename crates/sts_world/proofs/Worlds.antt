@@ -126,6 +126,22 @@ pub task_family : (w : World) (fs : List Family) (ts : List Tallied) (n m t s : 
 task_family w fs ts n m t s h living in_scope k =
     lives_at (lines w) fs ts n m t s (line no_task) k (rw length-map h) (alive w t h living ∙ rw in_scope refl)
 
+-- a living subtask of the scope, which has a family
+pub record IsSubtask (w : World) (fs : List Family) (t s : ℕ) : Type 0 where
+  pub born : t < length w.tasks
+  pub living : lives (task_at w t) ≡ true
+  pub in_scope : (task_at w t).scope ≡ Some s
+  pub bound : s < length fs
+  pub more : 0 < (get_or fs s no_family).living
+
+pub subtask_of : (w seen : World) (fs : List Family) (ts : List Tallied) (n m t s : ℕ) → w ≡ seen → t < length seen.tasks → lives (task_at seen t) ≡ true → (task_at seen t).scope ≡ Some s → IsKept (lines w) fs ts n m → IsSubtask w fs t s
+subtask_of w seen fs ts n m t s same born living in_scope kept =
+    let born_in : t < length w.tasks = rw same born in
+    let living_in : lives (task_at w t) ≡ true = rw same living in
+    let in_scope_in : (task_at w t).scope ≡ Some s = rw same in_scope in
+    let family = task_family w fs ts n m t s born_in living_in in_scope_in kept in
+    record { born = born_in; living = living_in; in_scope = in_scope_in; bound = family.0; more = family.1 }
+
 pub kept_task_end : (w v : World) (fs : List Family) (ts : List Tallied) (n m t s : ℕ) (f : Frame) (end : End) → v ≡ ended w t f end → t < length w.tasks → lives (task_at w t) ≡ true → (task_at w t).scope ≡ Some s → IsKept (lines w) fs ts n m → IsKept (lines v) (set fs s (with_death (get_or fs s no_family))) ts n m
 kept_task_end w v fs ts n m t s f end e h living in_scope k =
     rw (after_end w v t f end e, in_scope)

@@ -57,11 +57,5 @@ pub record IsShown (s : ScopeRecord) (scope : Scope) : Type 0 where
   pub completions : scope.completions ≡ s.completions
 
 -- the two scopes differ at most in the places of their environments
-pub record IsAlike (a b : ScopeRecord) : Type 0 where
-  pub owner : a.owner ≡ b.owner
-  pub joiner : a.joiner ≡ b.joiner
-  pub timed : a.timed ≡ b.timed
-  pub phase : a.phase ≡ b.phase
-  pub cancelled : a.cancelled ≡ b.cancelled
-  pub expired : a.expired ≡ b.expired
-  pub completions : a.completions ≡ b.completions
+abbrev pub IsAlike : ScopeRecord → ScopeRecord → Type 0
+IsAlike a b = IsShown b (shown [] a)

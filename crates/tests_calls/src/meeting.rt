@@ -3,14 +3,18 @@
 ghost use Rattle.std.specs.Prelude.{IfSome};
 
 use crate::outsides::Weather;
-use crate::paths::{PATHS, ending};
+use crate::paths::{PATHS, Path, ending};
 use crate::replayed::replays;
 use crate::texts::{DOUBLES, GREETED, LOOP, TIMED, WIDE, accepted};
+use std::alloc::Global;
+use std::process::Abort;
+use std::sync::Wait;
 use std::sync::atomic::{AtomicU64, Ordering};
 use std::test::Fail;
 use std::thread;
+use std::thread::Threads;
 use sts_model::{End, Event};
-use sts_pool::{Gate, Outside, run};
+use sts_pool::{Ending, Gate, Outside, run};
 
 /// How often a held worker looks whether it may go on.
 const LOOKS: u32 = 10_000_000;
@@ -201,18 +205,30 @@ impl Gate for Holding {
     }
 }
 
+/// Returns how a run by two workers ends, and how often a worker entered for the first subtask. The
+/// first to enter is held.
+fn held<R: Abort + Threads + Wait + Sync>(
+    rt: &R,
+    alloc: Global,
+    path: Path,
+    text: &str,
+) -> Result<(Ending, u64), Fail> {
+    let verified = accepted(alloc, text)?;
+    let holding = Holding {
+        entries: AtomicU64::new(0),
+    };
+    let ended = ending(rt, alloc, path, &verified, 2, &holding, Weather::Calm)?;
+    Ok((ended, holding.entries.load(Ordering::SeqCst)))
+}
+
 /// A subtask of two steps is worked on once: no other worker takes it while it is out, and the
 /// worker that took it does both.
 #[test]
 fn out_is_out(rt: HostRuntime) -> Result<(), Fail> {
-    let verified = accepted(rt.alloc(), TIMED)?;
     for path in PATHS {
-        let holding = Holding {
-            entries: AtomicU64::new(0),
-        };
-        let ended = ending(&rt, rt.alloc(), path, &verified, 2, &holding, Weather::Calm)?;
+        let (ended, entries) = held(&rt, rt.alloc(), path, TIMED)?;
         assert_eq!(rt; ended.end, End::Success(1), "{path:?}");
-        assert_eq!(rt; holding.entries.load(Ordering::SeqCst), 1, "{path:?}");
+        assert_eq!(rt; entries, 1, "{path:?}");
     }
     Ok(())
 }
@@ -222,15 +238,11 @@ fn out_is_out(rt: HostRuntime) -> Result<(), Fail> {
 /// again.
 #[test]
 fn a_long_subtask_is_out_once(rt: HostRuntime) -> Result<(), Fail> {
-    let verified = accepted(rt.alloc(), LOOP)?;
     for path in PATHS {
-        let holding = Holding {
-            entries: AtomicU64::new(0),
-        };
-        let ended = ending(&rt, rt.alloc(), path, &verified, 2, &holding, Weather::Calm)?;
+        let (ended, entries) = held(&rt, rt.alloc(), path, LOOP)?;
         assert_eq!(rt; ended.end, End::Success(10_000), "{path:?}");
         assert_eq!(rt; ended.steps, 50_011, "{path:?}");
-        assert_eq!(rt; holding.entries.load(Ordering::SeqCst), 2, "{path:?}");
+        assert_eq!(rt; entries, 2, "{path:?}");
     }
     Ok(())
 }

@@ -48,8 +48,5 @@ fn measure_each(rt: &HostRuntime) -> io::Result<()> {
 /// Times the tree at several numbers of subtasks. Returns the status: 1 if memory ran out, or nothing
 /// could be written.
 pub fn measure_all(rt: &HostRuntime) -> u8 {
-    match measure_each(rt) {
-        Ok(()) => 0,
-        Err(_) => 1,
-    }
+    u8::from(measure_each(rt).is_err())
 }

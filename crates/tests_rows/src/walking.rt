@@ -30,8 +30,5 @@ fn walk_each(rt: &HostRuntime) -> Result<()> {
 /// Walks each table that the file `tables` names. The first lines of `tables` define the notation.
 /// Returns the status: 1 if a file could not be read, or nothing could be written.
 pub fn walk_all(rt: &HostRuntime) -> u8 {
-    match walk_each(rt) {
-        Ok(()) => 0,
-        Err(_) => 1,
-    }
+    u8::from(walk_each(rt).is_err())
 }

@@ -1,17 +1,8 @@
-use Rattle.std.proofs.Common.{refl, sym, subst}
-use Rattle.std.proofs.lemmas.Result.{IfOk-weaker}
-use Rattle.sts_output.specs.Streams as streams
-use Rattle.sts_output.specs.Output.{failure_output}
-use Rattle.sts_output.specs.Taking.{IsTakenOf}
-use Rattle.look.specs.Ending as def
+use Rattle.look.proofs.Passing.{passed, unread}
 use Rattle.look.proofs.program.on_text.Goals as goal
 
 pub returns-in-Ok : goal.returns-in-Ok
-returns-in-Ok g c =
-    let file = g.S.Sources.held c.args.sources.now c.args.path.now in
-    let taken = subst (λ xs. IsTakenOf file streams.most_of_a_text xs) (sym c.as_slice.ensures.value) c.in-Ok.ensures in
-    IfOk-weaker c.explain.result _ _ (λ s h. (h.0, def.shown _ taken h.1, h.2)) c.explain.ensures
+returns-in-Ok g c = passed _ _ _ _ _ _ c.explain.result c.in-Ok.ensures c.as_slice.ensures.value c.explain.ensures
 
 pub returns-in-Err : goal.returns-in-Err
-returns-in-Err g c =
-    IfOk-weaker c.file_failed.result _ _ (λ s h. (failure_output h.0, def.failed h.0 refl, h.1)) c.file_failed.ensures
+returns-in-Err g c = unread _ _ _ _ c.file_failed.result c.file_failed.ensures

@@ -3,7 +3,7 @@ use Rattle.std.proofs.lemmas.Grind.{common_steps}
 use Rattle.serde_json.specs.View.{view}
 use Rattle.serde_json.specs.Written.{compact_text}
 use Rattle.look_cases.proofs.Answered.{filled_line}
-use Rattle.look_cases.proofs.Floats.{reply_plain}
+use Rattle.look_cases.proofs.FloatLemmas.{reply_plain}
 use Rattle.look_cases.proofs.replies.push_reply.Goals as goal
 
 pub returns : goal.returns

@@ -1,7 +1,7 @@
 use Rattle.std.proofs.Common.{◌<◌, ◌∙◌, ap, length, arith}
 use Rattle.sts_code.specs.declared.instr.Instr.TheVariants.{Ret}
 use Rattle.sts_budget.proofs.LaidStepLemmas.{any_default}
-use Rattle.look_refusal.specs.Search.{turns_of}
+use Rattle.sts_budget.specs.Handing.{turns_of}
 use Rattle.look_refusal.proofs.Leading.{loop_at}
 use Rattle.look_refusal.proofs.search.loop_from.Goals as goal
 

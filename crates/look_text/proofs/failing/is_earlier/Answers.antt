@@ -6,20 +6,12 @@ use Rattle.look_text.proofs.failing.is_earlier.Goals as goal
 
 pub returns-then-is_named : goal.returns-then-is_named
 returns-then-is_named c =
-    let o = c.args.outline.now in
-    let f = c.args.function in
-    let i = c.loop-earlier.earlier in
-    let word = c.args.word.now in
-    let small : i < f = omega arith in
-    let named : is_named (name_at o i) word ≡ true = ap (λ x. is_named x word) (sym c.name.ensures) ∙ sym c.is_named.ensures ∙ c.if-is_named.true in
-    sym (c.loop-earlier.invariant ∙ earlier_more o f i word true small named)
+    let small : c.loop-earlier.earlier < c.args.function = omega arith in
+    let named : is_named (name_at c.args.outline.now c.loop-earlier.earlier) c.args.word.now ≡ true = ap (λ x. is_named x c.args.word.now) (sym c.name.ensures) ∙ sym c.is_named.ensures ∙ c.if-is_named.true in
+    sym (c.loop-earlier.invariant ∙ earlier_more c.args.outline.now c.args.function c.loop-earlier.earlier c.args.word.now true small named)
 
 pub loop-earlier-preserved : goal.loop-earlier-preserved
 loop-earlier-preserved c =
-    let o = c.args.outline.now in
-    let f = c.args.function in
-    let i = c.loop-earlier.earlier in
-    let word = c.args.word.now in
-    let small : i < f = omega arith in
-    let named : is_named (name_at o i) word ≡ false = ap (λ x. is_named x word) (sym c.name.ensures) ∙ sym c.is_named.ensures ∙ c.if-is_named.false in
-    c.loop-earlier.invariant ∙ earlier_more o f i word false small named
+    let small : c.loop-earlier.earlier < c.args.function = omega arith in
+    let named : is_named (name_at c.args.outline.now c.loop-earlier.earlier) c.args.word.now ≡ false = ap (λ x. is_named x c.args.word.now) (sym c.name.ensures) ∙ sym c.is_named.ensures ∙ c.if-is_named.false in
+    c.loop-earlier.invariant ∙ earlier_more c.args.outline.now c.args.function c.loop-earlier.earlier c.args.word.now false small named

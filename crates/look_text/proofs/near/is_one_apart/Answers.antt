@@ -5,8 +5,6 @@ use Rattle.look_text.proofs.near.is_one_apart.Goals as goal
 
 pub returns-then-is_empty : goal.returns-then-is_empty
 returns-then-is_empty c =
-    let word = c.loop-word.word.now in
-    let known = c.loop-word.known.now in
-    let more : 0 < length word = grind (arith, common_steps, c.loop-word-test.true, c.loop-word-test.ensures, c.is_empty.ensures) in
-    let over : length known ≡ 0 = grind (arith, common_steps, c.if-is_empty.true, c.if-is_empty.ensures, c.is_empty-in-loop-word.ensures) in
-    sym (one_apart_over word known more over) ∙ c.loop-word.invariant
+    let more : 0 < length c.loop-word.word.now = grind (arith, common_steps, c.loop-word-test.true, c.loop-word-test.ensures, c.is_empty.ensures) in
+    let over : length c.loop-word.known.now ≡ 0 = grind (arith, common_steps, c.if-is_empty.true, c.if-is_empty.ensures, c.is_empty-in-loop-word.ensures) in
+    sym (one_apart_over c.loop-word.word.now c.loop-word.known.now more over) ∙ c.loop-word.invariant

@@ -1,26 +1,14 @@
-use Rattle.std.proofs.Common.{◌++◌, ◌∙◌, ap, sym, arith, append_assoc, take, drop, get_or, ◌+◌}
-use Rattle.std.specs.String.{string_bytes}
-use Rattle.sts_model.specs.Run as model
+use Rattle.std.proofs.Common.{◌∙◌, ap, arith, get_or}
 use Rattle.sts_model.specs.declared.event.Event.TheVariants.{Step}
 use Rattle.look_lines.proofs.WatchedLemmas.{watched_next}
-use Rattle.look_lines.specs.Watched.{Watched, after_event, watched}
-use Rattle.look_views.specs.Views as def
-use Rattle.look_views.proofs.Events.{views_next}
+use Rattle.look_lines.specs.Watched.{after_event}
+use Rattle.look_views.proofs.Events.{one_line_more}
 use Rattle.look_views.proofs.views.push_events.Goals as goal
 
 pub loop-i-preserved : goal.loop-i-preserved
 loop-i-preserved c =
-    let p = c.args.watch.now.program in
     let es = c.args.events.now in
-    let i = c.loop-i.i in
-    let e = get_or es i (Step 0) in
-    let rest = def.views_from p c.args.full (take (i + 1) es) (drop (i + 1) es) in
-    let here = λ (w : Watched). def.line (def.event_view c.args.full (i + 1) e (model.counts w.program w.state e) (after_event w e)) in
     record {
-      stands = c.in_ok-push_event.ensures.stands ∙ ap (λ w. after_event w e) c.loop-i.invariant.stands ∙ watched_next p es i (Step 0) (omega arith) (omega arith);
-      written =
-          ap (λ xs. xs ++ rest) (c.in_ok-push_event.ensures.written ∙ ap (λ w. string_bytes c.loop-i.out ++ here w) c.loop-i.invariant.stands)
-          ∙ append_assoc (string_bytes c.loop-i.out) (here (watched p (take i es))) rest
-          ∙ ap (λ xs. string_bytes c.loop-i.out ++ xs) (sym (views_next p c.args.full es i (Step 0) (omega arith) (omega arith)))
-          ∙ c.loop-i.invariant.written;
+      stands = c.in_ok-push_event.ensures.stands ∙ ap (λ w. after_event w (get_or es c.loop-i.i (Step 0))) c.loop-i.invariant.stands ∙ watched_next c.args.watch.now.program es c.loop-i.i (Step 0) (omega arith) (omega arith);
+      written = one_line_more c.args.watch.now.program c.args.full es c.loop-i.i (Step 0) _ _ _ _ (omega arith) (omega arith) c.loop-i.invariant.stands c.in_ok-push_event.ensures.written c.loop-i.invariant.written;
     }

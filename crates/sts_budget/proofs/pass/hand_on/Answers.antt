@@ -1,5 +1,6 @@
 use Rattle.std.proofs.Common.{◌≡◌, ◌<◌, ℕ, pos, length, get_or, min, false, sym, ap, ◌∙◌, subst}
-use Rattle.std.proofs.Common.{arith, ◌++◌}
+use Rattle.std.proofs.Common.{arith, ◌++◌, List, Bool}
+use Rattle.sts_code.specs.declared.instr.Instr.{Instr}
 use Rattle.sts_code.specs.declared.instr.Instr.TheVariants.{Push, Ret}
 use Rattle.sts_rules.specs.Around.{next_place}
 use Rattle.sts_code.specs.Program.{instr_at}
@@ -13,13 +14,18 @@ use Rattle.sts_budget.proofs.HandOn.{sent_spread, stopped_over, leads_in}
 use Rattle.sts_budget.proofs.LastTurns.{limit_small}
 use Rattle.sts_budget.proofs.pass.hand_on.Goals as goal
 
+-- an instruction of the code, which is not quiet
+not_quiet : (code : List Instr) (pc : ℕ) (b : Bool) → pc < length code → b ≡ is_quiet (get_or code pc (Push (pos 0))) → b ≡ false → (get_or code pc (Push (pos 0)) ≡ instr_at code pc) × (is_quiet (instr_at code pc) ≡ false)
+not_quiet code pc b within is isnt =
+    let at : get_or code pc (Push (pos 0)) ≡ instr_at code pc = any_default code pc _ Ret within in
+    (at, sym (ap is_quiet at) ∙ sym is ∙ isnt)
+
 pub values_of-values-requires : goal.values_of-values-requires
 values_of-values-requires g c = (omega (arith, c.requires.small), (omega (arith, c.requires.small), (c.requires.ready, (c.requires.fits, (c.requires.in_code, ap length c.as_slice.ensures.value ∙ c.requires.rows)))))
 
 pub send_on-requires : goal.send_on-requires
 send_on-requires g c =
-    let at : get_or c.args.pass.now.code.now c.args.pc (Push (pos 0)) ≡ instr_at c.args.pass.now.code.now c.args.pc = any_default c.args.pass.now.code.now c.args.pc _ Ret c.requires.in_code in
-    let quiet : is_quiet (instr_at c.args.pass.now.code.now c.args.pc) ≡ false = sym (ap is_quiet at) ∙ sym c.is_quiet.ensures ∙ c.if-is_quiet.false in
+    let (at, quiet) = not_quiet c.args.pass.now.code.now c.args.pc _ c.requires.in_code c.is_quiet.ensures c.if-is_quiet.false in
     let inside : (k d : ℕ) → k < length (targets (instr_at c.args.pass.now.code.now c.args.pc) ++ next_place c.args.pc (instr_at c.args.pass.now.code.now c.args.pc)) → get_or (targets (instr_at c.args.pass.now.code.now c.args.pc) ++ next_place c.args.pc (instr_at c.args.pass.now.code.now c.args.pc)) k d < length c.args.best.now.items = λ k d lt.
     (let h = leads_in c.args.pass.now.resource c.args.pass.now.earlier.now c.args.pass.now.code.now c.args.pass.now.layout.now c.requires.ready c.args.pc _ quiet (among_at (targets (instr_at c.args.pass.now.code.now c.args.pc) ++ next_place c.args.pc (instr_at c.args.pass.now.code.now c.args.pc)) k d lt) in
     omega (arith, c.requires.rows)) in
@@ -28,8 +34,7 @@ send_on-requires g c =
 
 pub returns-clause-spread : goal.returns-clause-spread
 returns-clause-spread g c = λ t.
-    (let at : get_or c.args.pass.now.code.now c.args.pc (Push (pos 0)) ≡ instr_at c.args.pass.now.code.now c.args.pc = any_default c.args.pass.now.code.now c.args.pc _ Ret c.requires.in_code in
-    let quiet : is_quiet (instr_at c.args.pass.now.code.now c.args.pc) ≡ false = sym (ap is_quiet at) ∙ sym c.is_quiet.ensures ∙ c.if-is_quiet.false in
+    (let (at, quiet) = not_quiet c.args.pass.now.code.now c.args.pc _ c.requires.in_code c.is_quiet.ensures c.if-is_quiet.false in
     let places = ap (λ j. targets j ++ next_place c.args.pc j) at in
     let values : (d : ℕ) → d < g.row.N → get_or c.values_of-values.result d 0 ≡ min (handed_value c.args.pass.now.resource c.args.pass.now.earlier.now c.args.pass.now.code.now c.args.pass.now.layout.now (read c.args.best.now.items) c.args.pc d) 18446744073709551615 = subst (λ rows. (d : ℕ) → d < g.row.N → get_or c.values_of-values.result d 0 ≡ min (handed_value c.args.pass.now.resource c.args.pass.now.earlier.now c.args.pass.now.code.now c.args.pass.now.layout.now (read rows) c.args.pc d) 18446744073709551615) c.as_slice.ensures.value c.values_of-values.ensures in
     let sent = subst (λ ps. IsSent c.values_of-values.result (λ q. depth_of c.args.pass.now.resource (names_in c.args.pass.now.layout.now q)) c.args.pass.now.most ps c.args.best.now.items c.send_on.new.best.items) places (c.send_on.ensures.sent t) in
@@ -37,8 +42,7 @@ returns-clause-spread g c = λ t.
 
 pub returns-clause-over : goal.returns-clause-over
 returns-clause-over g c = λ t.
-    (let at : get_or c.args.pass.now.code.now c.args.pc (Push (pos 0)) ≡ instr_at c.args.pass.now.code.now c.args.pc = any_default c.args.pass.now.code.now c.args.pc _ Ret c.requires.in_code in
-    let quiet : is_quiet (instr_at c.args.pass.now.code.now c.args.pc) ≡ false = sym (ap is_quiet at) ∙ sym c.is_quiet.ensures ∙ c.if-is_quiet.false in
+    (let (at, quiet) = not_quiet c.args.pass.now.code.now c.args.pc _ c.requires.in_code c.is_quiet.ensures c.if-is_quiet.false in
     let places = ap (λ j. targets j ++ next_place c.args.pc j) at in
     let values : (d : ℕ) → d < g.row.N → get_or c.values_of-values.result d 0 ≡ min (handed_value c.args.pass.now.resource c.args.pass.now.earlier.now c.args.pass.now.code.now c.args.pass.now.layout.now (read c.args.best.now.items) c.args.pc d) 18446744073709551615 = subst (λ rows. (d : ℕ) → d < g.row.N → get_or c.values_of-values.result d 0 ≡ min (handed_value c.args.pass.now.resource c.args.pass.now.earlier.now c.args.pass.now.code.now c.args.pass.now.layout.now (read rows) c.args.pc d) 18446744073709551615) c.as_slice.ensures.value c.values_of-values.ensures in
     let stopped = subst (λ ps. IsStopped c.values_of-values.result (λ q. depth_of c.args.pass.now.resource (names_in c.args.pass.now.layout.now q)) c.args.pass.now.most ps) places (c.send_on.ensures.over t) in

@@ -10,41 +10,26 @@ use Rattle.sts_pool.proofs.book.Book.check_in.Goals as goal
 
 pub push_steps-requires : goal.push_steps-requires
 push_steps-requires c =
-    let m = c.self.inside.machine in
-    let j = c.self.inside.journal in
-    let n = c.self.inside.outside in
-    let count = c.args.slice.count in
     let t = c.args.slice.task in
-    let out = c.self.inside.out.items in
     let put = c.put.ensures in
     rw c.count.ensures.value
-    (back_fits m c.put.new.self j n out _ count t c.args.slice.frame c.self.invariant put.program put.stands put.live put.steps (length-replicate count (event.Step t)))
+    (back_fits c.self.inside.machine c.put.new.self c.self.inside.journal c.self.inside.outside c.self.inside.out.items _ c.args.slice.count t c.args.slice.frame c.self.invariant put.program put.stands put.live put.steps (length-replicate c.args.slice.count (event.Step t)))
 
 pub invariant_of-self : goal.invariant_of-self
 invariant_of-self c =
-    let m = c.self.inside.machine in
-    let j = c.self.inside.journal in
-    let n = c.self.inside.outside in
-    let count = c.args.slice.count in
     let t = c.args.slice.task in
-    let out = c.self.inside.out.items in
     let put = c.put.ensures in
-    let recorded : IsRecorded j c.push_steps.new.self (steps_of count t) = rw (c.count.ensures.value, c.task-task.ensures) at c.push_steps.ensures in
-    let left : c.forget.new.out.items ≡ without t out = rw c.task-task.ensures at c.forget.ensures.items in
+    let recorded : IsRecorded c.self.inside.journal c.push_steps.new.self (steps_of c.args.slice.count t) = rw (c.count.ensures.value, c.task-task.ensures) at c.push_steps.ensures in
+    let left : c.forget.new.out.items ≡ without t c.self.inside.out.items = rw c.task-task.ensures at c.forget.ensures.items in
     rw (left, c.forget.ensures.capacity)
-    (back_kept m c.put.new.self j n out _ count t c.args.slice.frame c.self.invariant put.program put.stands put.live put.steps c.push_steps.new.self recorded)
+    (back_kept c.self.inside.machine c.put.new.self c.self.inside.journal c.self.inside.outside c.self.inside.out.items _ c.args.slice.count t c.args.slice.frame c.self.invariant put.program put.stands put.live put.steps c.push_steps.new.self recorded)
 
 pub returns-clause-journal : goal.returns-clause-journal
 returns-clause-journal c =
-    let m = c.self.inside.machine in
-    let j = c.self.inside.journal in
-    let n = c.self.inside.outside in
-    let count = c.args.slice.count in
     let t = c.args.slice.task in
-    let out = c.self.inside.out.items in
     let put = c.put.ensures in
-    let recorded : IsRecorded j c.push_steps.new.self (steps_of count t) = rw (c.count.ensures.value, c.task-task.ensures) at c.push_steps.ensures in
-    records m c.put.new.self j c.push_steps.new.self n n out c.forget.new.out.items _ c.args.self.now c.self.view_is recorded (all_steps count t m.steps c.put.new.self.steps put.steps) (none_outside count t n) put.stands
+    let recorded : IsRecorded c.self.inside.journal c.push_steps.new.self (steps_of c.args.slice.count t) = rw (c.count.ensures.value, c.task-task.ensures) at c.push_steps.ensures in
+    records c.self.inside.machine c.put.new.self c.self.inside.journal c.push_steps.new.self c.self.inside.outside c.self.inside.outside c.self.inside.out.items c.forget.new.out.items _ c.args.self.now c.self.view_is recorded (all_steps c.args.slice.count t c.self.inside.machine.steps c.put.new.self.steps put.steps) (none_outside c.args.slice.count t c.self.inside.outside) put.stands
 
 pub returns-clause-back : goal.returns-clause-back
 returns-clause-back c =

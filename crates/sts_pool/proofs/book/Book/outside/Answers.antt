@@ -1,35 +1,21 @@
-use Rattle.std.proofs.Common.{◌≡◌, ◌+◌, ◌≤◌, ap, sym, ◌∙◌}
-use Rattle.std.proofs.lemmas.Bool.{both_ways}
+use Rattle.std.proofs.Common.{◌≡◌, ◌+◌}
 use Rattle.sts_model.specs.Run.{after, counts}
 use Rattle.sts_machine.specs.Turned.{turned}
-use Rattle.sts_pool.specs.Book.{BookSeen}
-use Rattle.sts_pool.proofs.Kept.{event_fits, event_kept, few_entries, no_step, records, told}
+use Rattle.sts_pool.proofs.Kept.{event_fits, event_kept, few_more, no_step, records, told}
 use Rattle.sts_pool.proofs.OutsideLemmas.{one_outside}
 use Rattle.sts_pool.proofs.book.Book.outside.Goals as goal
 
 pub push-requires : goal.push-requires
 push-requires c =
-    let m = c.self.inside.machine in
-    let j = c.self.inside.journal in
-    let n = c.self.inside.outside in
-    let out = c.self.inside.out.items in
-    let seen = ap (λ (b : BookSeen). b.outside) c.self.view_is in
-    let other : n ≡ 4096 → ⊥ = λ e. both_ways _ c.if-is_full.false (c.is_full.ensures.1 (sym seen ∙ e)) in
-    let few : n + 1 ≤ 4096 = few_entries m j n out _ c.self.invariant other in
+    let few = few_more c.self.inside.machine c.self.inside.journal c.self.inside.outside c.self.inside.out.items _ c.args.self.now _ c.self.view_is c.self.invariant c.is_full.ensures.1 c.if-is_full.false in
     let turn = c.turn-turned.ensures in
-    event_fits m c.turn-turned.new.self j n out _ c.args.event c.self.invariant few c.requires turn.program turn.stands turn.live turn.steps
+    event_fits c.self.inside.machine c.turn-turned.new.self c.self.inside.journal c.self.inside.outside c.self.inside.out.items _ c.args.event c.self.invariant few c.requires turn.program turn.stands turn.live turn.steps
 
 pub invariant_of-self : goal.invariant_of-self
 invariant_of-self c =
-    let m = c.self.inside.machine in
-    let j = c.self.inside.journal in
-    let n = c.self.inside.outside in
-    let out = c.self.inside.out.items in
-    let seen = ap (λ (b : BookSeen). b.outside) c.self.view_is in
-    let other : n ≡ 4096 → ⊥ = λ e. both_ways _ c.if-is_full.false (c.is_full.ensures.1 (sym seen ∙ e)) in
-    let few : n + 1 ≤ 4096 = few_entries m j n out _ c.self.invariant other in
+    let few = few_more c.self.inside.machine c.self.inside.journal c.self.inside.outside c.self.inside.out.items _ c.args.self.now _ c.self.view_is c.self.invariant c.is_full.ensures.1 c.if-is_full.false in
     let turn = c.turn-turned.ensures in
-    event_kept m c.turn-turned.new.self j n out _ c.args.event c.self.invariant few c.requires turn.program turn.stands turn.live turn.steps c.push.new.self c.push.ensures
+    event_kept c.self.inside.machine c.turn-turned.new.self c.self.inside.journal c.self.inside.outside c.self.inside.out.items _ c.args.event c.self.invariant few c.requires turn.program turn.stands turn.live turn.steps c.push.new.self c.push.ensures
 
 pub returns-clause-turned : goal.returns-clause-turned
 returns-clause-turned c =

@@ -19,27 +19,17 @@ returns-then-is_among-clause-turned c =
 
 pub push-requires : goal.push-requires
 push-requires c =
-    let m = c.self.inside.machine in
-    let j = c.self.inside.journal in
-    let n = c.self.inside.outside in
-    let t = c.args.task in
-    let out = c.self.inside.out.items in
+    let absent : list_any (λ o. o == c.args.task) c.self.inside.out.items ≡ false = rw (← c.as_slice.ensures.value) (sym c.is_among.ensures ∙ c.if-is_among.false) in
+    let can : live_can_step c.self.inside.machine.program c.self.inside.machine.live c.args.task ≡ true = stepped_from _ (sym c.in-Stepped.is ∙ c.turn.ensures.answer) in
     let turn = c.turn.ensures in
-    let absent : list_any (λ o. o == t) out ≡ false = rw (← c.as_slice.ensures.value) (sym c.is_among.ensures ∙ c.if-is_among.false) in
-    let can : live_can_step m.program m.live t ≡ true = stepped_from _ (sym c.in-Stepped.is ∙ turn.answer) in
-    step_fits m c.turn.new.self j n out _ t c.self.invariant turn.program turn.stands turn.live turn.steps can absent
+    step_fits c.self.inside.machine c.turn.new.self c.self.inside.journal c.self.inside.outside c.self.inside.out.items _ c.args.task c.self.invariant turn.program turn.stands turn.live turn.steps can absent
 
 pub invariant_of-self-in-Stepped : goal.invariant_of-self-in-Stepped
 invariant_of-self-in-Stepped c =
-    let m = c.self.inside.machine in
-    let j = c.self.inside.journal in
-    let n = c.self.inside.outside in
-    let t = c.args.task in
-    let out = c.self.inside.out.items in
+    let absent : list_any (λ o. o == c.args.task) c.self.inside.out.items ≡ false = rw (← c.as_slice.ensures.value) (sym c.is_among.ensures ∙ c.if-is_among.false) in
+    let can : live_can_step c.self.inside.machine.program c.self.inside.machine.live c.args.task ≡ true = stepped_from _ (sym c.in-Stepped.is ∙ c.turn.ensures.answer) in
     let turn = c.turn.ensures in
-    let absent : list_any (λ o. o == t) out ≡ false = rw (← c.as_slice.ensures.value) (sym c.is_among.ensures ∙ c.if-is_among.false) in
-    let can : live_can_step m.program m.live t ≡ true = stepped_from _ (sym c.in-Stepped.is ∙ turn.answer) in
-    step_kept m c.turn.new.self j n out _ t c.self.invariant turn.program turn.stands turn.live turn.steps can absent c.push.new.self c.push.ensures
+    step_kept c.self.inside.machine c.turn.new.self c.self.inside.journal c.self.inside.outside c.self.inside.out.items _ c.args.task c.self.invariant turn.program turn.stands turn.live turn.steps can absent c.push.new.self c.push.ensures
 
 pub returns-in-Idle-clause-turned : goal.returns-in-Idle-clause-turned
 returns-in-Idle-clause-turned c =

@@ -12,21 +12,18 @@ expire-requires c =
 
 pub invariant_of-self : goal.invariant_of-self
 invariant_of-self c =
-    let m = the_view c.self.inside in
     let can = rw (← c.self.view_is) at c.requires in
-    let p = expiring m c.args.s can in
-    expire_store m c.args.s can c.expire.new.tree (c.expire.ensures p.0 p.1) c.self.invariant
+    let p = expiring (the_view c.self.inside) c.args.s can in
+    expire_store (the_view c.self.inside) c.args.s can c.expire.new.tree (c.expire.ensures p.0 p.1) c.self.invariant
 
 pub returns-clause-live : goal.returns-clause-live
 returns-clause-live c =
-    let m = the_view c.self.inside in
     let can = rw (← c.self.view_is) at c.requires in
-    let p = expiring m c.args.s can in
-    rw (← c.self.view_is) (expire_live m c.args.s can c.expire.new.tree (c.expire.ensures p.0 p.1))
+    let p = expiring (the_view c.self.inside) c.args.s can in
+    rw (← c.self.view_is) (expire_live (the_view c.self.inside) c.args.s can c.expire.new.tree (c.expire.ensures p.0 p.1))
 
 pub returns-clause-unseen : goal.returns-clause-unseen
 returns-clause-unseen c =
-    let m = the_view c.self.inside in
     let can = rw (← c.self.view_is) at c.requires in
-    let p = expiring m c.args.s can in
-    rw (← c.self.view_is) (expire_unseen m c.args.s can c.expire.new.tree (c.expire.ensures p.0 p.1))
+    let p = expiring (the_view c.self.inside) c.args.s can in
+    rw (← c.self.view_is) (expire_unseen (the_view c.self.inside) c.args.s can c.expire.new.tree (c.expire.ensures p.0 p.1))

@@ -1,5 +1,4 @@
 use Rattle.std.proofs.Common.{ap, ◌∙◌, rules, w64}
-use mir.Val.{SFits}
 use Rattle.std.proofs.lemmas.Int.{to_z-of_z}
 use Rattle.sts_model.specs.Effect.{named, value_or_zero}
 use Rattle.sts_model.specs.Misuse.{slot}
@@ -10,16 +9,12 @@ use Rattle.sts_store.proofs.store.Store.push_value.Goals as goal
 
 pub returns-clause-get : goal.returns-clause-get
 returns-clause-get c p =
-    let now = c.args.self.now in
-    let fits : SFits w64 c.value_or_zero.result = search rules in
-    let state = c.state-state.ensures ∙ ap (λ u. live_state (live_of now) u) (c.named.ensures ∙ ap (λ f. named (slot f c.args.handle)) c.frame-frame.ensures) in
-    let value = to_z-of_z w64 c.value_or_zero.result fits ∙ c.value_or_zero.ensures ∙ ap value_or_zero state in
-    went_on now _ c.args.t 0 c.frame-frame.result.now _ _ c.goes_with.ensures.live c.frame-frame.ensures value
+    let state = c.state-state.ensures ∙ ap (λ u. live_state (live_of c.args.self.now) u) (c.named.ensures ∙ ap (λ f. named (slot f c.args.handle)) c.frame-frame.ensures) in
+    let value = to_z-of_z w64 c.value_or_zero.result (search rules) ∙ c.value_or_zero.ensures ∙ ap value_or_zero state in
+    went_on c.args.self.now _ c.args.t 0 c.frame-frame.result.now _ _ c.goes_with.ensures.live c.frame-frame.ensures value
 
 pub returns-clause-except : goal.returns-clause-except
 returns-clause-except c p =
-    let now = c.args.self.now in
-    let fits : SFits w64 c.value_or_zero.result = search rules in
-    let state = c.state-state.ensures ∙ ap (λ u. live_state (live_of now) u) (c.named.ensures ∙ ap (λ f. named (slot f c.args.handle)) c.frame-frame.ensures) in
-    let value = to_z-of_z w64 c.value_or_zero.result fits ∙ c.value_or_zero.ensures ∙ ap value_or_zero state in
-    went_on now _ c.args.t 0 c.frame-frame.result.now _ _ c.goes_with.ensures.live c.frame-frame.ensures value
+    let state = c.state-state.ensures ∙ ap (λ u. live_state (live_of c.args.self.now) u) (c.named.ensures ∙ ap (λ f. named (slot f c.args.handle)) c.frame-frame.ensures) in
+    let value = to_z-of_z w64 c.value_or_zero.result (search rules) ∙ c.value_or_zero.ensures ∙ ap value_or_zero state in
+    went_on c.args.self.now _ c.args.t 0 c.frame-frame.result.now _ _ c.goes_with.ensures.live c.frame-frame.ensures value

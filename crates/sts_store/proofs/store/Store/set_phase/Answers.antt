@@ -1,16 +1,13 @@
-use Rattle.std.proofs.Common.{◌∙◌, ap, get_or, None}
+use Rattle.std.proofs.Common.{◌∙◌, ap}
 use Rattle.laws_live.specs.Reading.{with_live_phase}
 use Rattle.sts_store.specs.contracts.store.Store.{the_view}
 use Rattle.sts_store.specs.Parts.{live_of, unseen_of}
-use Rattle.sts_store.proofs.Seeing.{scope_stands}
-use Rattle.sts_store.proofs.Views.{some_not}
+use Rattle.sts_store.proofs.Seeing.{scope_stands, scope_is_some}
 use Rattle.sts_store.proofs.Phases.{phase_live, phase_unseen, phase_kept}
 use Rattle.sts_store.proofs.store.Store.set_phase.Goals as goal
 
 pub set_phase-requires : goal.set_phase-requires
-set_phase-requires c =
-    let p = scope_stands (the_view c.self.inside) c.args.s (rw (← c.self.view_is) at c.requires) in
-    some_not (get_or c.self.inside.tree.scopes c.args.s None) p.0 p.1
+set_phase-requires c = scope_is_some (the_view c.self.inside) c.args.s (rw (← c.self.view_is) at c.requires)
 
 pub invariant_of-self : goal.invariant_of-self
 invariant_of-self c =

@@ -1,13 +1,10 @@
-use Rattle.std.proofs.Common.{◌∙◌, get_or, None}
+use Rattle.std.proofs.Common.{◌∙◌}
 use Rattle.sts_store.specs.contracts.store.Store.{the_view}
-use Rattle.sts_store.proofs.Seeing.{scope_stands, tally_is}
-use Rattle.sts_store.proofs.Views.{some_not}
+use Rattle.sts_store.proofs.Seeing.{scope_stands, scope_is_some, tally_is}
 use Rattle.sts_store.proofs.store.Store.tally.Goals as goal
 
 pub count-requires : goal.count-requires
-count-requires c =
-    let p = scope_stands (the_view c.self.inside) c.args.s (rw (← c.self.view_is) at c.requires) in
-    some_not (get_or c.self.inside.tree.scopes c.args.s None) p.0 p.1
+count-requires c = scope_is_some (the_view c.self.inside) c.args.s (rw (← c.self.view_is) at c.requires)
 
 pub returns : goal.returns
 returns c =

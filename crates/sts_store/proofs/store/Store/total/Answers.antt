@@ -1,17 +1,14 @@
-use Rattle.std.proofs.Common.{◌∙◌, ap, sym, get_or, None, rules, w64}
+use Rattle.std.proofs.Common.{◌∙◌, ap, sym, rules, w64}
 use mir.Val.{SFits}
 use Rattle.std.proofs.lemmas.Int.{to_z-of_z}
 use Rattle.laws_live.specs.Reading.{live_scope_at}
 use Rattle.sts_store.specs.Parts.{live_of}
 use Rattle.sts_store.specs.contracts.store.Store.{the_view}
-use Rattle.sts_store.proofs.Seeing.{scope_stands, total_is}
-use Rattle.sts_store.proofs.Views.{some_not}
+use Rattle.sts_store.proofs.Seeing.{scope_stands, scope_is_some, total_is}
 use Rattle.sts_store.proofs.store.Store.total.Goals as goal
 
 pub total-requires : goal.total-requires
-total-requires c =
-    let p = scope_stands (the_view c.self.inside) c.args.s (rw (← c.self.view_is) at c.requires) in
-    some_not (get_or c.self.inside.tree.scopes c.args.s None) p.0 p.1
+total-requires c = scope_is_some (the_view c.self.inside) c.args.s (rw (← c.self.view_is) at c.requires)
 
 pub returns : goal.returns
 returns c =

@@ -1,18 +1,15 @@
-use Rattle.std.proofs.Common.{sym, ◌∙◌, ap, get_or, None}
+use Rattle.std.proofs.Common.{sym, ◌∙◌, ap}
 use Rattle.sts_model.specs.Told.{result_told}
 use Rattle.sts_model.specs.Live.{LiveScope}
 use Rattle.laws_live.specs.Reading.{live_count}
 use Rattle.sts_store.proofs.ViewingLemmas.{words, scope_there}
 use Rattle.sts_store.specs.contracts.store.Store.{the_view}
 use Rattle.sts_store.specs.Parts.{live_of, beside}
-use Rattle.sts_store.proofs.Seeing.{scope_stands}
-use Rattle.sts_store.proofs.Views.{some_not}
+use Rattle.sts_store.proofs.Seeing.{scope_stands, scope_is_some}
 use Rattle.sts_store.proofs.store.Store.verdict.Goals as goal
 
 pub result-requires : goal.result-requires
-result-requires c =
-    let p = scope_stands (the_view c.self.inside) c.args.s (rw (← c.self.view_is) at c.requires) in
-    some_not (get_or c.self.inside.tree.scopes c.args.s None) p.0 p.1
+result-requires c = scope_is_some (the_view c.self.inside) c.args.s (rw (← c.self.view_is) at c.requires)
 
 pub returns : goal.returns
 returns c =

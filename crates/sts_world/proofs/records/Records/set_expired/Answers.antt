@@ -1,13 +1,9 @@
-use Rattle.std.proofs.Common.{◌≡◌, ◌<◌, ◌∙◌, sym, ap, length, true, arith, slice_index_or}
-use Rattle.std.proofs.lemmas.List.{get_or_default}
+use Rattle.std.proofs.Common.{refl, arith, true}
 use Rattle.sts_model.specs.declared.record.Scope.{Scope}
-use Rattle.sts_world.specs.Scopes.{shown, no_record}
-use Rattle.sts_world.proofs.Scoping.{shown_at, shown_set}
+use Rattle.sts_world.proofs.Scoping.{shown_changed}
 use Rattle.sts_world.proofs.records.Records.set_expired.Goals as goal
 
 pub returns-then-s-len : goal.returns-then-s-len
 returns-then-s-len c =
-    let bound : c.args.s < length c.self.inside.scopes.items = omega (arith, c.self.inside.scopes.ok) in
-    let was = sym (shown_at c.self.inside.chains c.self.inside.scopes.items c.args.s bound) in
-    let here : c.index_mut.result.now ≡ slice_index_or c.self.inside.scopes.items c.args.s no_record = c.index_mut.ensures.value ∙ get_or_default c.self.inside.scopes.items c.args.s _ no_record bound in
-    rw (← c.self.view_is) (shown_set c.self.inside.chains c.self.inside.tasks.items c.self.inside.scopes.items c.args.s _ _ (ap (λ (x : Scope). record x { expired = true }) (ap (shown c.self.inside.chains) here ∙ was)))
+    rw (← c.self.view_is)
+    (shown_changed c.self.inside.chains c.self.inside.tasks.items c.self.inside.scopes.items c.args.s c.index_mut.result.now (record c.index_mut.result.now { expired = true }) _ (λ (x : Scope). record x { expired = true }) (omega (arith, c.self.inside.scopes.ok)) c.index_mut.ensures.value refl)

@@ -25,23 +25,21 @@ use Rattle.look_cases.specs.Case.{Case, case_of}
 use Rattle.look_cases.specs.Json.{integer, count_or_null}
 use Rattle.look_cases.specs.Lines.{IsReply, json, other}
 
-integer_plain : (z : ℤ) → has_float (integer z) ≡ false
+pub integer_plain : (z : ℤ) → has_float (integer z) ≡ false
 integer_plain (pos n) = refl
 integer_plain (negsuc n) = refl
 
-maybe_plain : (n : Option ℕ) → has_float (count_or_null n) ≡ false
+pub maybe_plain : (n : Option ℕ) → has_float (count_or_null n) ≡ false
 maybe_plain None = refl
 maybe_plain (Some n) = refl
 
-text_fault_plain : (e : AsmError) (c : Option CodeError) → has_float (def.text_fault e c) ≡ false
+pub text_fault_plain : (e : AsmError) (c : Option CodeError) → has_float (def.text_fault e c) ≡ false
 text_fault_plain e None = refl
 text_fault_plain e (Some failed) = refl
 
-trace_fault_plain : (e : TraceError) → has_float (def.trace_fault e) ≡ false
-trace_fault_plain (trace.BadLine n) = refl
-trace_fault_plain (trace.BadNumber n) = refl
+pub trace_fault_plain : (e : TraceError) → has_float (def.trace_fault e) ≡ false
 trace_fault_plain trace.NoNewline = refl
-trace_fault_plain trace.Memory = refl
+trace_fault_plain _ = refl
 
 budgets_plain : (rs : List Routine) (bs : List Budgets) → items_have_float (items_of (def.budget_list rs bs)) ≡ false
 budgets_plain [] bs = refl
@@ -52,7 +50,7 @@ verdict_plain : (p : Program) (text : List ℕ) (d : Data) → def.IsVerdict p t
 verdict_plain p text d (def.accepts budgets accepted told is) = ap has_float is ∙ or_from _ _ (budgets_plain p.routines budgets) refl
 verdict_plain p text d (def.refuses f pc c refusal is) = ap has_float is ∙ or_from _ _ (maybe_plain (def.line_of text f pc)) refl
 
-ended_plain : (end : End) (steps : ℕ) → has_float (def.ended end steps) ≡ false
+pub ended_plain : (end : End) (steps : ℕ) → has_float (def.ended end steps) ≡ false
 ended_plain (Success v) steps = or_from _ _ (integer_plain v) refl
 ended_plain (Failed c) steps = or_from _ _ (integer_plain c) refl
 
