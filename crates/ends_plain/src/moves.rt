@@ -6,7 +6,7 @@ ghost use Rattle.ends_plain.specs.Configs.{next as next_of, can as can_of, AreTh
 use crate::config::{Config, Setting};
 use crate::events::{expiries, interrupts, steps};
 use crate::hash::hash_of;
-use ends_search::machine::Machine;
+use ends_search::machine::StateMachine;
 use std::alloc::{AllocError, Global};
 use sts_model::Event;
 
@@ -28,7 +28,7 @@ fn events_of(alloc: Global, config: &Config, setting: &Setting) -> Result<Vec<Ev
     }
 }
 
-impl Machine for Config {
+impl StateMachine for Config {
     type Setting = Setting;
 
     ghost next = { next_of };

@@ -6,7 +6,7 @@ ghost use Rattle.ends_plain.specs.Listed.{AreEnds, IsEndOf};
 
 use crate::config::{Config, Found, Setting};
 use crate::ends::is_end_at;
-use ends_search::machine::Machine;
+use ends_search::machine::StateMachine;
 use rand::seq::IndexedRandom;
 use rand_core::SeedableRng;
 use rand_xoshiro::Xoshiro256PlusPlus;

@@ -8,7 +8,7 @@ use std::alloc::{AllocError, Global};
 use sts_model::Event;
 
 /// A state of a machine that events lead on.
-pub trait Machine: Drop {
+pub trait StateMachine: Drop {
     /// The part that all its states share.
     type Setting;
 

@@ -7,7 +7,7 @@ ghost use Rattle.ends_search.specs.Search.{IsSpace, IsKept, Grows, LeadsInto, Fo
 ghost use Rattle.ends_search.specs.Search.{CanAt, IsWay, state_at, states_of};
 
 use crate::index::Index;
-use crate::machine::Machine;
+use crate::machine::StateMachine;
 use crate::origin::Origin;
 use std::alloc::{AllocError, Global};
 use sts_model::Event;
@@ -41,7 +41,11 @@ pub struct Space<S> {
 }
 
 /// The state at a place, if it is kept whole. The first one is.
-fn whole<'s, S: Machine>(setting: &S::Setting, space: &'s Space<S>, place: usize) -> Option<&'s S>
+fn whole<'s, S: StateMachine>(
+    setting: &S::Setting,
+    space: &'s Space<S>,
+    place: usize,
+) -> Option<&'s S>
     requires within { place < length space.now.origins.items }
     requires space { IsSpace (S.next setting.now) (S.can setting.now)
         space.now.first space.now.origins.items space.now.closed
@@ -65,7 +69,7 @@ fn whole<'s, S: Machine>(setting: &S::Setting, space: &'s Space<S>, place: usize
 /// # Errors
 ///
 /// There is no memory.
-pub fn restored<S: Machine>(
+pub fn restored<S: StateMachine>(
     alloc: Global,
     setting: &S::Setting,
     space: &Space<S>,
@@ -90,7 +94,7 @@ pub fn restored<S: Machine>(
 }
 
 /// Is it the state at a place?
-fn is_at<S: Machine>(
+fn is_at<S: StateMachine>(
     alloc: Global,
     setting: &S::Setting,
     space: &Space<S>,
@@ -109,7 +113,7 @@ fn is_at<S: Machine>(
 }
 
 /// Is the state among those that were found?
-fn is_known<S: Machine>(
+fn is_known<S: StateMachine>(
     alloc: Global,
     setting: &S::Setting,
     space: &Space<S>,
@@ -136,7 +140,7 @@ fn is_known<S: Machine>(
 }
 
 /// Keeps a state whole if its hash says so, and returns its place.
-fn keep<S: Machine>(kept: &mut Vec<S>, state: S, hash: u64) -> Result<Option<u32>, AllocError>
+fn keep<S: StateMachine>(kept: &mut Vec<S>, state: S, hash: u64) -> Result<Option<u32>, AllocError>
     ensures grows { OnOk result (Grows kept.old.items kept.new.items) }
     ensures is_kept { IfOk result (λ mark. IsKept kept.new.items mark state) }
 {
@@ -152,7 +156,7 @@ fn keep<S: Machine>(kept: &mut Vec<S>, state: S, hash: u64) -> Result<Option<u32
 
 /// Adds a state, which an event leads to from the state at a place, unless it is there already.
 /// Returns `false` if there is no room for it.
-fn add<S: Machine>(
+fn add<S: StateMachine>(
     alloc: Global,
     setting: &S::Setting,
     space: &mut Space<S>,
@@ -196,7 +200,7 @@ fn add<S: Machine>(
 }
 
 /// The state after an event.
-fn after<S: Machine>(
+fn after<S: StateMachine>(
     alloc: Global,
     setting: &S::Setting,
     state: &S,
@@ -211,7 +215,7 @@ fn after<S: Machine>(
 
 /// Adds all states that an event leads to from the state at this place. Returns `false` if there is
 /// no room for one of them.
-fn expand<S: Machine>(
+fn expand<S: StateMachine>(
     alloc: Global,
     setting: &S::Setting,
     space: &mut Space<S>,
@@ -255,7 +259,7 @@ fn expand<S: Machine>(
 /// # Errors
 ///
 /// There is no memory.
-pub fn begin<S: Machine>(
+pub fn begin<S: StateMachine>(
     alloc: Global,
     setting: &S::Setting,
     first: S,
@@ -293,7 +297,7 @@ pub fn begin<S: Machine>(
 /// # Errors
 ///
 /// Memory ran out. The states found so far are given back to the allocator.
-pub fn advance<S: Machine>(
+pub fn advance<S: StateMachine>(
     alloc: Global,
     setting: &S::Setting,
     space: Space<S>,
@@ -325,7 +329,7 @@ pub fn advance<S: Machine>(
 /// # Errors
 ///
 /// There is no memory.
-pub fn trace<S: Machine>(
+pub fn trace<S: StateMachine>(
     alloc: Global,
     setting: &S::Setting,
     space: &Space<S>,

@@ -195,12 +195,14 @@ phase-cancel w s r = by (scope_at w s).cancelled
 
 -- a slot that names the scope or a subtask of it
 pub of_is : (w : World) (s : ℕ) (x : Slot) → is_closed (scope_at w s).phase ≡ false → is_live_of (live w) s x ≡ is_of w s x
+of_is w s slots.Empty still = refl
+of_is w s (slots.Own r) still = refl
+of_is w s (slots.Lent r) still = refl
 of_is w s (slots.Sub u) still = by (stands_in w (task_at w u).scope) refl
   where
     outside : (a : Bool) → is_in s (task_at w u).scope ≡ a → stands_in w (task_at w u).scope ≡ false → a ≡ false
     outside false e f = refl
     outside true e f = let h = stands_some w s (task_at w u).scope still e in cc
-of_is w s _ still = refl
 
     by : (b : Bool) → stands_in w (task_at w u).scope ≡ b → is_in s (live_task_at (live w) u).scope ≡ is_in s (task_at w u).scope
     by true e = ap (λ (task : LiveTask). is_in s task.scope) (task_is w u e)

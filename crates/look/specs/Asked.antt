@@ -10,7 +10,7 @@ use Rattle.clap.specs.declared.error.kind.ErrorKind.{ErrorKind}
 use Rattle.clap.specs.declared.error.kind.ErrorKind.TheVariants as kind
 use Rattle.sts_args.specs.declared.asked.LineError.{LineError}
 use Rattle.sts_args.specs.declared.asked.LineError.TheVariants as error
-use Rattle.look_lines.specs.declared.view.Wanted.{Wanted}
+use Rattle.look_lines.specs.declared.view.ViewOptions.{ViewOptions}
 use Rattle.look.specs.declared.asked.Asked.{Asked}
 use Rattle.look.specs.declared.asked.AskedView.{AskedView}
 use Rattle.look.specs.declared.asked.Asked.TheVariants as asked
@@ -64,7 +64,7 @@ said (asked.Cases file) = record {
 abbrev pub is_set : Text → List Row → Bool
 is_set id rows = is_true (first_of id rows)
 
-abbrev pub wanted_at : List Row → Wanted
+abbrev pub wanted_at : List Row → ViewOptions
 wanted_at rows = record { each = is_set (codes "each") rows; full = is_set (codes "full") rows }
 
 abbrev pub view_at : List Row → AskedView

@@ -6,7 +6,7 @@ use Rattle.clap.specs.Words.{Text, Row, all_of, first_of}
 use Rattle.sts_text.specs.Number.{digits_up_to}
 use Rattle.look_ends.specs.declared.wanted.Manner.{Manner}
 use Rattle.look_ends.specs.declared.wanted.Manner.TheVariants.{All, Sample}
-use Rattle.look_ends.specs.declared.wanted.Wanted.{Wanted}
+use Rattle.look_ends.specs.declared.wanted.EndsOptions.{EndsOptions}
 use Rattle.look.specs.declared.asked.AskedEnds.{AskedEnds}
 use Rattle.look.specs.declared.asked.Kept.{Kept}
 use Rattle.look.specs.declared.asked.TheConstants.{FIRST_SEED, MOST_STATES}
@@ -20,7 +20,7 @@ kept_words k = (k.number, k.file.now)
 
 -- which ends, and the one whose trace is kept
 pub record SaidEnds : Type 0 where
-  pub wanted : Wanted
+  pub wanted : EndsOptions
   pub kept : Option KeptWords
 
 abbrev pub said_ends : AskedEnds → SaidEnds
@@ -57,14 +57,14 @@ abbrev pub is_true : Option Text → Bool
 is_true None = false
 is_true (Some text) = bytes_eq text (codes "true")
 
-abbrev pub ends_wanted_by : List Row → ℕ → Manner → Wanted
+abbrev pub ends_wanted_by : List Row → ℕ → Manner → EndsOptions
 ends_wanted_by rows n manner = record {
   expiries = not (is_true (first_of (codes "no-expiries") rows));
   interrupts = n;
   manner = manner;
 }
 
-abbrev pub ends_wanted_at : List Row → Option Wanted
+abbrev pub ends_wanted_at : List Row → Option EndsOptions
 ends_wanted_at rows =
     option_and_then (λ n. option_map (λ m. ends_wanted_by rows n m) (manner_at rows))
     (number_at (codes "interrupts") 0 rows)

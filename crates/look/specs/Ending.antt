@@ -18,7 +18,7 @@ use Rattle.look_picture.specs.Picture.{IsPictureOf}
 use Rattle.look_refusal.specs.Output.{IsExplanation}
 use Rattle.look_run.specs.Output.{IsRunExplanation}
 use Rattle.look_lines.specs.View.{IsViewOf}
-use Rattle.look_lines.specs.declared.view.Wanted.{Wanted}
+use Rattle.look_lines.specs.declared.view.ViewOptions.{ViewOptions}
 use Rattle.look_views.specs.Views.{AreViewsOf}
 use Rattle.look_ends.specs.Listing.{IsOutcomeOf, Outcome}
 use Rattle.look.specs.Asked.{Asks, AsksForWords, IsMistaken}
@@ -68,7 +68,7 @@ abbrev pub IsOfEnds : AskedEnds → Type 0 → Option (List ℕ) → Output → 
 IsOfEnds ends spares file o = IsOfText (IsPrinted ends spares) file o
 
 -- the views of a run, as lines of JSON or not
-abbrev pub IsViewed : Bool → Wanted → List ℕ → List ℕ → Output → Type 0
+abbrev pub IsViewed : Bool → ViewOptions → List ℕ → List ℕ → Output → Type 0
 IsViewed true = AreViewsOf
 IsViewed false = IsViewOf
 

@@ -1,7 +1,7 @@
 //! The request of a command line.
 
-use look_ends::Wanted as EndsWanted;
-use look_lines::Wanted;
+use look_ends::EndsOptions;
+use look_lines::ViewOptions;
 
 /// As many states as a search keeps if no other number is asked for.
 pub const MOST_STATES: u32 = 300_000;
@@ -19,14 +19,14 @@ pub struct Kept<'a> {
 /// Which ends are to be found, and the one whose trace is kept, if one is named.
 #[derive(Clone, Copy, Debug)]
 pub struct AskedEnds<'a> {
-    pub wanted: EndsWanted,
+    pub wanted: EndsOptions,
     pub kept: Option<Kept<'a>>,
 }
 
 /// Which views, and whether they are lines of JSON.
 #[derive(Clone, Copy, Debug)]
 pub struct AskedView {
-    pub wanted: Wanted,
+    pub wanted: ViewOptions,
     pub json: bool,
 }
 

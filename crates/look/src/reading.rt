@@ -13,8 +13,8 @@ use crate::asked::{Asked, AskedEnds, AskedView, FIRST_SEED, Kept, MOST_STATES};
 use crate::command::program;
 use clap::error::ErrorKind;
 use clap::{ArgMatches, Error};
-use look_ends::{Manner, Wanted as EndsWanted};
-use look_lines::Wanted;
+use look_ends::{EndsOptions, Manner};
+use look_lines::ViewOptions;
 use std::alloc::{AllocError, Global};
 use sts_args::{LineError, text_of, told, trace_of, unknown};
 use sts_text::digits_up_to;
@@ -121,10 +121,10 @@ fn is_set(inner: &ArgMatches<'_>, id: &str) -> bool
 }
 
 /// Which views are asked for.
-fn wanted_of(inner: &ArgMatches<'_>) -> Wanted
+fn wanted_of(inner: &ArgMatches<'_>) -> ViewOptions
     ensures { result ≡ wanted_at (rows_of (found_of inner.now)) }
 {
-    Wanted {
+    ViewOptions {
         each: is_set(inner, "each"),
         full: is_set(inner, "full"),
     }
@@ -166,12 +166,12 @@ fn manner_of(inner: &ArgMatches<'_>) -> Option<Manner>
 }
 
 /// Which events may come, and which schedules are tried.
-fn ends_wanted(inner: &ArgMatches<'_>) -> Option<EndsWanted>
+fn ends_wanted(inner: &ArgMatches<'_>) -> Option<EndsOptions>
     ensures { result ≡ ends_wanted_at (rows_of (found_of inner.now)) }
 {
     let interrupts = number_of(inner, "interrupts", 0)?;
     let manner = manner_of(inner)?;
-    Some(EndsWanted {
+    Some(EndsOptions {
         expiries: !is_set(inner, "no-expiries"),
         interrupts,
         manner,

@@ -20,7 +20,7 @@ use Rattle.look_ends.specs.Lines.{found_at, found_lines, has_number, no_number_l
 use Rattle.look_ends.specs.Lines.{sampled_lines, schedules_line, states_line, unfinished_line}
 use Rattle.look_ends.specs.declared.wanted.Manner.{Manner}
 use Rattle.look_ends.specs.declared.wanted.Manner.TheVariants as manner
-use Rattle.look_ends.specs.declared.wanted.Wanted.{Wanted}
+use Rattle.look_ends.specs.declared.wanted.EndsOptions.{EndsOptions}
 
 -- ---- what is printed
 
@@ -71,7 +71,7 @@ sampled_outcome p o schedules seed number found times unfinished = record {
 
 -- ---- of a program
 
-abbrev pub setting : Program → Wanted → Setting
+abbrev pub setting : Program → EndsOptions → Setting
 setting p w = record { program = p; expiries = w.expiries; interrupts = w.interrupts }
 
 -- some place of the program has a cause, for which it is refused
@@ -116,13 +116,13 @@ ListsBy (manner.Sample schedules seed) g o number r = IsSampling g o schedules s
 -- ---- of a text
 
 -- the ends of the program, or the fault of a text that is none
-abbrev pub Lists : Result Program AsmError → List ℕ → Wanted → Option ℕ → Outcome → Type 0
+abbrev pub Lists : Result Program AsmError → List ℕ → EndsOptions → Option ℕ → Outcome → Type 0
 Lists (Ok p) text wanted number r =
     (o : Outline) × ((outlined text ≡ Ok o) × ListsBy wanted.manner (setting p wanted) o number r)
 Lists (Err e) text wanted number r = r ≡ alone (fault_output e text)
 
 -- the same, or that memory was refused
-abbrev pub IsOutcomeOf : Wanted → Option ℕ → List ℕ → Outcome → Type 0
+abbrev pub IsOutcomeOf : EndsOptions → Option ℕ → List ℕ → Outcome → Type 0
 IsOutcomeOf wanted number text r =
     Lists (judged text) text wanted number r ⊎ (r ≡ alone memory_output)
 

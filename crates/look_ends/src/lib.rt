@@ -12,5 +12,5 @@ mod writing;
 
 pub use listing::{Listing, listed};
 pub use progress::{Progress, Silent};
-pub use wanted::{Manner, Wanted};
+pub use wanted::{EndsOptions, Manner};
 pub use writing::{write_ends, write_ends_and_trace};

@@ -12,10 +12,10 @@ use crate::exploring::explored;
 use crate::lines::{Told, say_all, say_shares};
 use crate::progress::Progress;
 use crate::verdict::{Judged, verdict};
-use crate::wanted::{Manner, Wanted};
+use crate::wanted::{EndsOptions, Manner};
 use ends_plain::config::{Ends, Found, Setting};
 use ends_plain::sample::{Sample, Sampling, sample_ends};
-use look_refusal::{Output, text_fault};
+use look_refusal::{Explanation, text_fault};
 use std::alloc::{AllocError, Global};
 use std::marker::Model;
 use sts_asm::{Outline, assemble, outlined};
@@ -31,7 +31,7 @@ const LONGEST: usize = 100_000;
 /// What is printed, and the trace that is kept: that of the end whose number was asked for.
 #[derive(Drop)]
 pub struct Listing {
-    pub output: Output,
+    pub output: Explanation,
     pub trace: Vec<Event>,
 }
 
@@ -86,7 +86,7 @@ fn searched(
         STATUS_PART
     };
     Ok(Listing {
-        output: Output { bytes, status },
+        output: Explanation { bytes, status },
         trace: trace_of(alloc, number, found)?,
     })
 }
@@ -112,7 +112,7 @@ fn sampled(
     say_schedules(alloc, &mut bytes, schedules, seed)?;
     say_no_number(alloc, &mut bytes, number, found)?;
     Ok(Listing {
-        output: Output {
+        output: Explanation {
             bytes,
             status: STATUS_PART,
         },
@@ -171,7 +171,7 @@ fn of_program<P: Progress>(
     alloc: Global,
     outline: &Outline<'_>,
     program: Program,
-    wanted: Wanted,
+    wanted: EndsOptions,
     number: Option<u32>,
     progress: &mut P,
 ) -> Result<Listing, AllocError>
@@ -196,7 +196,7 @@ fn of_program<P: Progress>(
 }
 
 /// An output with no trace.
-fn alone(alloc: Global, output: Output) -> Listing
+fn alone(alloc: Global, output: Explanation) -> Listing
     ensures { result ≡ def.alone output }
 {
     Listing {
@@ -209,7 +209,7 @@ fn alone(alloc: Global, output: Output) -> Listing
 fn of_lines<P: Progress>(
     alloc: Global,
     outline: &Outline<'_>,
-    wanted: Wanted,
+    wanted: EndsOptions,
     number: Option<u32>,
     text: &[u8],
     progress: &mut P,
@@ -231,7 +231,7 @@ fn of_lines<P: Progress>(
 /// Memory was refused.
 pub fn listed<P: Progress>(
     alloc: Global,
-    wanted: Wanted,
+    wanted: EndsOptions,
     number: Option<u32>,
     text: &[u8],
     progress: &mut P,

@@ -11,7 +11,7 @@ pub enum Manner {
 
 /// Which events may come besides steps, and which schedules are tried.
 #[derive(Clone, Copy, Debug)]
-pub struct Wanted {
+pub struct EndsOptions {
     /// May scopes with a timeout expire?
     pub expiries: bool,
     /// How many interrupts may come from outside at most.

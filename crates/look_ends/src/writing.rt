@@ -8,7 +8,7 @@ ghost use Rattle.look_ends.specs.Listing as def;
 
 use crate::listing::listed;
 use crate::progress::Progress;
-use crate::wanted::Wanted;
+use crate::wanted::EndsOptions;
 use std::alloc::Global;
 use std::io;
 use std::io::Write;
@@ -25,7 +25,7 @@ use sts_trace::write_trace;
 /// A write failed.
 pub fn write_ends<P: Progress, W: Write>(
     alloc: Global,
-    wanted: Wanted,
+    wanted: EndsOptions,
     text: &[u8],
     progress: &mut P,
     out: &mut W,
@@ -57,7 +57,7 @@ fn traced<T: Write>(events: &[Event], trace: &mut T) -> io::Result<()>
 /// A write to `out` failed.
 pub fn write_ends_and_trace<P: Progress, T: Write, W: Write>(
     alloc: Global,
-    wanted: Wanted,
+    wanted: EndsOptions,
     number: u32,
     text: &[u8],
     progress: &mut P,

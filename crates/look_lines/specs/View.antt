@@ -14,7 +14,7 @@ use Rattle.sts_trace.specs.Spelling.{event_text}
 use Rattle.sts_output.specs.Output.{Output, memory_output, state_status, text_fault_output}
 use Rattle.sts_output.specs.Output.{trace_fault_output}
 use Rattle.sts_output.specs.Printed.{state_line, steps_line, ended}
-use Rattle.look_lines.specs.declared.view.Wanted.{Wanted}
+use Rattle.look_lines.specs.declared.view.ViewOptions.{ViewOptions}
 use Rattle.look_lines.specs.Lines.{only_if, scope_lines, task_lines}
 use Rattle.look_lines.specs.Watched.{Watched, watched}
 
@@ -57,22 +57,22 @@ abbrev pub each_output : Program → Bool → List Event → Output
 each_output p full events =
     record { bytes = view_each p full events; status = state_status (shown (after p events)) }
 
-abbrev pub view_output : Program → Wanted → List Event → Output
+abbrev pub view_output : Program → ViewOptions → List Event → Output
 view_output p wanted events =
     if wanted.each then each_output p wanted.full events else after_output p wanted.full events
 
 -- ---- of a text and a trace
 
-abbrev pub traced_output : Program → Wanted → Result (List Event) TraceError → Output
+abbrev pub traced_output : Program → ViewOptions → Result (List Event) TraceError → Output
 traced_output p wanted (Ok events) = view_output p wanted events
 traced_output p wanted (Err e) = trace_fault_output e
 
 -- a fault of the text comes before one of the trace
-abbrev pub text_output : Result Program AsmError → Wanted → List ℕ → Output
+abbrev pub text_output : Result Program AsmError → ViewOptions → List ℕ → Output
 text_output (Ok p) wanted trace = traced_output p wanted (trace_read trace)
 text_output (Err e) wanted trace = text_fault_output e
 
 -- what `look view` prints for a text and a trace, or that memory ran out
-abbrev pub IsViewOf : Wanted → List ℕ → List ℕ → Output → Type 0
+abbrev pub IsViewOf : ViewOptions → List ℕ → List ℕ → Output → Type 0
 IsViewOf wanted text trace output =
     (output ≡ text_output (judged text) wanted trace) ⊎ (output ≡ memory_output)

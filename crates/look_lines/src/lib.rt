@@ -10,5 +10,5 @@ mod watch;
 pub use of_text::{viewed, write_view};
 pub use scopes::{phase_word, scope_place};
 pub use tasks::{is_heard, name_of, stand_words, under_words};
-pub use view::{Wanted, after, event_words, lines};
+pub use view::{ViewOptions, after, event_words, lines};
 pub use watch::Watch;

@@ -6,7 +6,7 @@ ghost use Rattle.sts_trace.specs.Reading.{trace_read};
 ghost use Rattle.sts_output.specs.Output.{Output, Writes};
 ghost use Rattle.look_lines.specs.View as def;
 
-use crate::view::{Wanted, view};
+use crate::view::{ViewOptions, view};
 use std::alloc::{AllocError, Global};
 use std::io::Write;
 use sts_asm::assemble;
@@ -17,7 +17,7 @@ use sts_trace::read_trace;
 fn traced(
     alloc: Global,
     program: &Program,
-    wanted: Wanted,
+    wanted: ViewOptions,
     trace: &[u8],
 ) -> Result<Output, AllocError>
     ensures { IfOk result (λ o. o ≡ def.traced_output program.now wanted (trace_read trace.now)) }
@@ -35,7 +35,7 @@ fn traced(
 /// Memory ran out.
 pub fn viewed(
     alloc: Global,
-    wanted: Wanted,
+    wanted: ViewOptions,
     text: &[u8],
     trace: &[u8],
 ) -> Result<Output, AllocError>
@@ -56,7 +56,7 @@ pub fn viewed(
 /// A write failed.
 pub fn write_view<W: Write>(
     alloc: Global,
-    wanted: Wanted,
+    wanted: ViewOptions,
     text: &[u8],
     trace: &[u8],
     out: &mut W,

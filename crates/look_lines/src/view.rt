@@ -18,7 +18,7 @@ use sts_output::{Output, state_line, state_status, steps_line};
 
 /// The options of a view.
 #[derive(Clone, Copy, Debug, PartialEq, Eq)]
-pub struct Wanted {
+pub struct ViewOptions {
     /// After each event, not only after the last.
     pub each: bool,
     /// With operands, locals and bindings of living tasks, and all ends that joiners counted.
@@ -168,7 +168,7 @@ fn after_each(
 pub fn view(
     alloc: Global,
     program: &Program,
-    wanted: Wanted,
+    wanted: ViewOptions,
     events: &[Event],
 ) -> Result<Output, AllocError>
     ensures { IfOk result (λ o. o ≡ def.view_output program.now wanted events.now) }

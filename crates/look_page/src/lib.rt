@@ -14,7 +14,7 @@ ghost use Rattle.look_page.specs.Printed.{Prints};
 mod printing;
 
 use crate::printing::{Asked, print};
-use look_lines::Wanted;
+use look_lines::ViewOptions;
 use std::alloc::Global;
 use sts_output::{Mode, STATUS_OUTSIDE, TextMode};
 
@@ -105,7 +105,7 @@ pub extern "C" fn sts_view(
 {
     shown(
         alloc,
-        Asked::View(Wanted { each, full }),
+        Asked::View(ViewOptions { each, full }),
         text,
         trace,
         out,

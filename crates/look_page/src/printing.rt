@@ -4,7 +4,7 @@ ghost use Rattle.std.specs.Prelude.{IfOk, Some};
 ghost use Rattle.sts_output.specs.Output.{Output, Writes};
 ghost use Rattle.look_page.specs.Printed.{Prints};
 
-use look_lines::{Wanted, write_view};
+use look_lines::{ViewOptions, write_view};
 use look_picture::write_picture;
 use look_refusal::explain;
 use look_run::explain_run;
@@ -15,7 +15,7 @@ use sts_output::{TextMode, WriteFailed, play_text};
 #[derive(Clone, Copy)]
 pub(crate) enum Asked {
     Mode(TextMode),
-    View(Wanted),
+    View(ViewOptions),
     Explanation,
     RunExplanation,
     Picture,

@@ -9,7 +9,7 @@ use Rattle.sts_rules.specs.ControlPaths.{GoesTo, Among}
 use Rattle.sts_budget.specs.Structured.{Led, from_go, from_head, from_end, bound_of}
 use Rattle.sts_budget.specs.Sums.{FitsEntries, gain, base, last_turns}
 use Rattle.sts_budget.proofs.LaidStepLemmas.{any_default}
-use Rattle.look_refusal.specs.declared.search.Loop.{Loop}
+use Rattle.look_refusal.specs.declared.search.CostLoop.{CostLoop}
 use Rattle.look_refusal.specs.declared.search.Search.{Search}
 use Rattle.look_refusal.specs.declared.search.Spot.{Spot}
 use Rattle.look_refusal.specs.declared.shares.Shares.{Shares}
@@ -33,7 +33,7 @@ pub record IsUnderWay (s : Search) (t : Trail) (times : ℕ) (at to : Spot) (bef
   pub total : now.total + times * sum_in t at.place at.depth ≡ before.total + times * sum_in t to.place to.depth
 
 -- the places of a loop, and how many entries are open there
-pub record IsWithin (s : Search) (l : Loop) (at : Spot) : Type 0 where
+pub record IsWithin (s : Search) (l : CostLoop) (at : Spot) : Type 0 where
   pub behind : at.place ≡ l.end + 1
   pub at_end : at.depth ≤ (flow s).depth l.end
   pub at_turn : at.depth ≤ (flow s).depth (l.head + 1)
@@ -46,7 +46,7 @@ pub record IsWithin (s : Search) (l : Loop) (at : Spot) : Type 0 where
   pub round_behind : around s.code.now at.place ≡ around s.code.now l.head
 
 -- the beginning of a turn of a loop
-pub record IsTurn (s : Search) (l : Loop) (turn : Spot) : Type 0 where
+pub record IsTurn (s : Search) (l : CostLoop) (turn : Spot) : Type 0 where
   pub at_end : turn.depth ≤ (flow s).depth l.end
   pub at_head : turn.depth ≤ (flow s).depth l.head
   pub source_end : (flow s).source l.end turn.depth ≡ turn.depth
@@ -132,14 +132,14 @@ module _ (s : Search) (ready : IsReady s) (t : Trail) (trail : IsTrail s t) wher
       by (straight places e among turn) = let o : true ≡ false = sym turning ∙ turn in absurd (cc)
       by (looping p n e mate next turn) = next
 
-  pub loop_sum : (l : Loop) (at : Spot) (q : ℕ) → IsLoop s l → l.end ≡ q → IsSpot s at → (best_in t at.place at.depth).from ≡ Some q → sum_in t at.place at.depth ≡ sum_in t l.head at.depth + (flow s).added l.head at.depth + l.turns * (sum_in t q at.depth + (flow s).added q at.depth)
+  pub loop_sum : (l : CostLoop) (at : Spot) (q : ℕ) → IsLoop s l → l.end ≡ q → IsSpot s at → (best_in t at.place at.depth).from ≡ Some q → sum_in t at.place at.depth ≡ sum_in t l.head at.depth + (flow s).added l.head at.depth + l.turns * (sum_in t q at.depth + (flow s).added q at.depth)
   loop_sum l at q is end spot e =
       (from_is at q spot e).2
       ∙ ap (λ x. handed s (sum_in t) x at.depth) (sym (is.mate ∙ end))
       ∙ handed_loop s ready (sum_in t) l.head l.turns at.depth is.opens
       ∙ ap (λ x. sum_in t l.head at.depth + (flow s).added l.head at.depth + l.turns * (sum_in t x at.depth + (flow s).added x at.depth)) (is.mate ∙ end)
 
-  pub within_loop : (l : Loop) (at : Spot) (q : ℕ) → IsLoop s l → l.end ≡ q → IsSpot s at → (best_in t at.place at.depth).from ≡ Some q → ends_turn (instr_at s.code.now q) ≡ true → IsWithin s l at
+  pub within_loop : (l : CostLoop) (at : Spot) (q : ℕ) → IsLoop s l → l.end ≡ q → IsSpot s at → (best_in t at.place at.depth).from ≡ Some q → ends_turn (instr_at s.code.now q) ≡ true → IsWithin s l at
   within_loop l at q is end spot e turning =
       let f = from_is at q spot e in
       let fit : FitsEntries (paths s) (around s.code.now) (flow s) = fits_here s ready in
@@ -168,21 +168,21 @@ module _ (s : Search) (ready : IsReady s) (t : Trail) (trail : IsTrail s t) wher
       let m : times * n * 1 ≤ times * n * g = mul-le-mul_left (times * n) (omega arith) in
       omega arith
 
-  pub loop_total : (times q : ℕ) (l : Loop) (at to : Spot) (before now : Shares) → IsLoop s l → l.end ≡ q → IsUnderWay s t times at to before now → before.total + times * sum_in t to.place to.depth ≤ greatest_number → (best_in t at.place at.depth).from ≡ Some q → now.total + (times * sum_in t l.head at.depth + times * (flow s).added l.head at.depth + times * l.turns * (sum_in t q at.depth + (flow s).added q at.depth)) ≤ greatest_number
+  pub loop_total : (times q : ℕ) (l : CostLoop) (at to : Spot) (before now : Shares) → IsLoop s l → l.end ≡ q → IsUnderWay s t times at to before now → before.total + times * sum_in t to.place to.depth ≤ greatest_number → (best_in t at.place at.depth).from ≡ Some q → now.total + (times * sum_in t l.head at.depth + times * (flow s).added l.head at.depth + times * l.turns * (sum_in t q at.depth + (flow s).added q at.depth)) ≤ greatest_number
   loop_total times q l at to before now is end u fits e =
       let v = ap (λ x. times * x) (loop_sum l at q is end u.spot e) in
       let w = u.total in
       omega arith
 
   -- the beginning of the turn that the end of a loop leads back to
-  turn_is : (l : Loop) (d : ℕ) (end turn : Spot) → around s.code.now l.end ≡ l.head ∷ around s.code.now l.head → d ≤ (flow s).depth l.head → end.place ≡ l.end → end.depth ≡ d → IsBegin s end turn → turn ≡ record { place = l.head + 1; depth = d }
+  turn_is : (l : CostLoop) (d : ℕ) (end turn : Spot) → around s.code.now l.end ≡ l.head ∷ around s.code.now l.head → d ≤ (flow s).depth l.head → end.place ≡ l.end → end.depth ≡ d → IsBegin s end turn → turn ≡ record { place = l.head + 1; depth = d }
   turn_is l d end turn round low place depth b =
       let inner : around s.code.now end.place ≡ l.head ∷ around s.code.now l.head = ap (around s.code.now) place ∙ round in
       let m : min end.depth ((flow s).depth l.head) ≡ d = omega (arith, depth) in
       b.inside l.head (around s.code.now l.head) inner ∙ ap (λ x. record { place = l.head + 1; depth = x }) m
 
   -- the shares and the sum on the way over a loop
-  pub loop_step : (times many q : ℕ) (l : Loop) (at to end turn next : Spot) (before now v1 v2 after : Shares) → IsLoop s l → l.end ≡ q → IsUnderWay s t times at to before now → (best_in t at.place at.depth).from ≡ Some q → ends_turn (instr_at s.code.now q) ≡ true → many ≡ times * l.turns → IsStepBack (flow s) q at many now v1 end → IsWalkedBack s t many turn end v1 v2 → IsStepBack (flow s) l.head at times v2 after next → AreParts after → IsUnderWay s t times next to before after
+  pub loop_step : (times many q : ℕ) (l : CostLoop) (at to end turn next : Spot) (before now v1 v2 after : Shares) → IsLoop s l → l.end ≡ q → IsUnderWay s t times at to before now → (best_in t at.place at.depth).from ≡ Some q → ends_turn (instr_at s.code.now q) ≡ true → many ≡ times * l.turns → IsStepBack (flow s) q at many now v1 end → IsWalkedBack s t many turn end v1 v2 → IsStepBack (flow s) l.head at times v2 after next → AreParts after → IsUnderWay s t times next to before after
   loop_step times many q l at to end turn next before now v1 v2 after is end_is u e turning many_is last body first parts =
       let f = from_is at q u.spot e in
       let w = within_loop l at q is end_is u.spot e turning in
@@ -217,7 +217,7 @@ module _ (s : Search) (ready : IsReady s) (t : Trail) (trail : IsTrail s t) wher
       }
 
   -- its turns add nothing
-  pub skip_step : (times q : ℕ) (l : Loop) (at to next : Spot) (before now after : Shares) → IsLoop s l → l.end ≡ q → IsUnderWay s t times at to before now → (best_in t at.place at.depth).from ≡ Some q → ends_turn (instr_at s.code.now q) ≡ true → sum_in t q at.depth ≡ 0 → (flow s).added q at.depth ≡ 0 → IsStepBack (flow s) l.head at times now after next → AreParts after → IsUnderWay s t times next to before after
+  pub skip_step : (times q : ℕ) (l : CostLoop) (at to next : Spot) (before now after : Shares) → IsLoop s l → l.end ≡ q → IsUnderWay s t times at to before now → (best_in t at.place at.depth).from ≡ Some q → ends_turn (instr_at s.code.now q) ≡ true → sum_in t q at.depth ≡ 0 → (flow s).added q at.depth ≡ 0 → IsStepBack (flow s) l.head at times now after next → AreParts after → IsUnderWay s t times next to before after
   skip_step times q l at to next before now after is end_is u e turning none_before none_added first parts =
       let f = from_is at q u.spot e in
       let w = within_loop l at q is end_is u.spot e turning in
@@ -291,7 +291,7 @@ module _ (s : Search) (ready : IsReady s) (t : Trail) (trail : IsTrail s t) wher
 
   -- ---- out of a loop
 
-  pub turn_of : (l : Loop) (turn : Spot) → IsLoop s l → turn.place ≡ l.head + 1 → IsSpot s turn → IsTurn s l turn
+  pub turn_of : (l : CostLoop) (turn : Spot) → IsLoop s l → turn.place ≡ l.head + 1 → IsSpot s turn → IsTurn s l turn
   turn_of l turn is place spot =
       let fit : FitsEntries (paths s) (around s.code.now) (flow s) = fits_here s ready in
       let same = fit.same l.head l.turns is.opens in
@@ -307,7 +307,7 @@ module _ (s : Search) (ready : IsReady s) (t : Trail) (trail : IsTrail s t) wher
         round_end = ap (around s.code.now) (sym is.mate) ∙ g.5;
       }
 
-  pub out_step : (many : ℕ) (l : Loop) (turn end again at : Spot) (before v1 v2 after : Shares) → IsLoop s l → turn.place ≡ l.head + 1 → IsSpot s turn → many ≡ l.turns - 1 → IsStepBack (flow s) l.end turn many before v1 end → IsWalkedBack s t many again end v1 v2 → IsStepBack (flow s) l.head turn 1 v2 after at → AreParts after → IsWalkedBackOut s t l turn at before after
+  pub out_step : (many : ℕ) (l : CostLoop) (turn end again at : Spot) (before v1 v2 after : Shares) → IsLoop s l → turn.place ≡ l.head + 1 → IsSpot s turn → many ≡ l.turns - 1 → IsStepBack (flow s) l.end turn many before v1 end → IsWalkedBack s t many again end v1 v2 → IsStepBack (flow s) l.head turn 1 v2 after at → AreParts after → IsWalkedBackOut s t l turn at before after
   out_step many l turn end again at before v1 v2 after is place spot many_is last body first parts =
       let w = turn_of l turn is place spot in
       let end_depth : end.depth ≡ turn.depth = last.depth ∙ w.source_end in
@@ -328,7 +328,7 @@ module _ (s : Search) (ready : IsReady s) (t : Trail) (trail : IsTrail s t) wher
 
   -- ---- to the beginning
 
-  pub rest_inside : (l : Loop) (at : Spot) (ps : List ℕ) → IsLoop s l → around s.code.now at.place ≡ l.head ∷ ps → around s.code.now l.head ≡ ps → (x : ℕ) → x ≡ min at.depth ((flow s).depth l.head) → rest_in s t at ≡ base (paths s) (flow s) (sum_in t) (last_turns (around s.code.now l.head)) x + sum_in t l.head x + (flow s).added l.head x + (l.turns - 1) * (sum_in t l.end x + (flow s).added l.end x) + sum_in t at.place at.depth
+  pub rest_inside : (l : CostLoop) (at : Spot) (ps : List ℕ) → IsLoop s l → around s.code.now at.place ≡ l.head ∷ ps → around s.code.now l.head ≡ ps → (x : ℕ) → x ≡ min at.depth ((flow s).depth l.head) → rest_in s t at ≡ base (paths s) (flow s) (sum_in t) (last_turns (around s.code.now l.head)) x + sum_in t l.head x + (flow s).added l.head x + (l.turns - 1) * (sum_in t l.end x + (flow s).added l.end x) + sum_in t at.place at.depth
   rest_inside l at ps is round outer x x_is =
       ap (λ hs. base (paths s) (flow s) (sum_in t) (last_turns hs) at.depth + sum_in t at.place at.depth) round ∙ omega arith
       ∙ ap (λ y. base (paths s) (flow s) (sum_in t) (last_turns ps) y + sum_in t l.head y + (flow s).added l.head y + (bound_of ((paths s).shape l.head) - 1) * gain (paths s) (flow s) (sum_in t) l.head y + sum_in t at.place at.depth) (sym x_is)
@@ -364,26 +364,26 @@ module _ (s : Search) (ready : IsReady s) (t : Trail) (trail : IsTrail s t) wher
           let none : [] ≡ p ∷ around s.code.now p = sym round ∙ ap (λ (x : Spot). around s.code.now x.place) (b.inside p hs is) ∙ g.4 in
           absurd (cc)
 
-  pub turn_spot : (l : Loop) (at turn : Spot) → IsLoop s l → turn ≡ record { place = l.head + 1; depth = min at.depth ((flow s).depth l.head) } → IsSpot s turn
+  pub turn_spot : (l : CostLoop) (at turn : Spot) → IsLoop s l → turn ≡ record { place = l.head + 1; depth = min at.depth ((flow s).depth l.head) } → IsSpot s turn
   turn_spot l at turn is e =
       let fit : FitsEntries (paths s) (around s.code.now) (flow s) = fits_here s ready in
       let same = fit.same l.head l.turns is.opens in
       let g = ready.good.loop l.head l.turns is.opens in
       subst (IsSpot s) (sym e) (record { in_code = omega (arith, g.1, g.2); shallow = omega (arith, same.0) })
 
-  pub out_fits : (l : Loop) (at turn : Spot) (now v1 : Shares) (most : ℕ) → IsLoop s l → around s.code.now at.place ≡ l.head ∷ around s.code.now l.head → turn.depth ≡ min at.depth ((flow s).depth l.head) → v1.total ≡ now.total + 1 * sum_in t at.place at.depth → now.total + rest_in s t at ≤ most → looped s (sum_in t) l.head l.end (l.turns - 1) v1.total turn.depth ≤ most
+  pub out_fits : (l : CostLoop) (at turn : Spot) (now v1 : Shares) (most : ℕ) → IsLoop s l → around s.code.now at.place ≡ l.head ∷ around s.code.now l.head → turn.depth ≡ min at.depth ((flow s).depth l.head) → v1.total ≡ now.total + 1 * sum_in t at.place at.depth → now.total + rest_in s t at ≤ most → looped s (sum_in t) l.head l.end (l.turns - 1) v1.total turn.depth ≤ most
   out_fits l at turn now v1 most is round depth total fits =
       let r = rest_inside l at (around s.code.now l.head) is round refl turn.depth depth in
       omega arith
 
-  pub out_rest : (l : Loop) (at turn next : Spot) (now v1 v2 : Shares) → IsLoop s l → around s.code.now at.place ≡ l.head ∷ around s.code.now l.head → turn.depth ≡ min at.depth ((flow s).depth l.head) → v1.total ≡ now.total + 1 * sum_in t at.place at.depth → IsWalkedBackOut s t l turn next v1 v2 → v2.total + rest_in s t next ≡ now.total + rest_in s t at
+  pub out_rest : (l : CostLoop) (at turn next : Spot) (now v1 v2 : Shares) → IsLoop s l → around s.code.now at.place ≡ l.head ∷ around s.code.now l.head → turn.depth ≡ min at.depth ((flow s).depth l.head) → v1.total ≡ now.total + 1 * sum_in t at.place at.depth → IsWalkedBackOut s t l turn next v1 v2 → v2.total + rest_in s t next ≡ now.total + rest_in s t at
   out_rest l at turn next now v1 v2 is round depth total out =
       let r = rest_inside l at (around s.code.now l.head) is round refl turn.depth depth in
       let here : rest_in s t next ≡ base (paths s) (flow s) (sum_in t) (last_turns (around s.code.now l.head)) turn.depth + sum_in t l.head turn.depth = ap (λ x. base (paths s) (flow s) (sum_in t) (last_turns (around s.code.now x)) next.depth + sum_in t x next.depth) out.place ∙ ap (λ x. base (paths s) (flow s) (sum_in t) (last_turns (around s.code.now l.head)) x + sum_in t l.head x) out.depth in
       let all = out.total in
       omega arith
 
-  pub step_spot : (l : Loop) (times d : ℕ) (to end : Spot) (before after : Shares) → IsLoop s l → d ≤ (flow s).depth l.end → (flow s).source l.end to.depth ≡ d → IsStepBack (flow s) l.end to times before after end → IsSpot s end
+  pub step_spot : (l : CostLoop) (times d : ℕ) (to end : Spot) (before after : Shares) → IsLoop s l → d ≤ (flow s).depth l.end → (flow s).source l.end to.depth ≡ d → IsStepBack (flow s) l.end to times before after end → IsSpot s end
   step_spot l times d to end before after is low source step =
       let place = step.place in
       let depth : end.depth ≡ d = step.depth ∙ source in
@@ -391,10 +391,10 @@ module _ (s : Search) (ready : IsReady s) (t : Trail) (trail : IsTrail s t) wher
 
   -- ---- the numbers on the way over a loop fit
 
-  end_sum : (times many q : ℕ) (l : Loop) (at end : Spot) (now v1 : Shares) → IsLoop s l → l.end ≡ q → IsWithin s l at → IsStepBack (flow s) q at many now v1 end → sum_in t end.place end.depth ≡ sum_in t q at.depth
+  end_sum : (times many q : ℕ) (l : CostLoop) (at end : Spot) (now v1 : Shares) → IsLoop s l → l.end ≡ q → IsWithin s l at → IsStepBack (flow s) q at many now v1 end → sum_in t end.place end.depth ≡ sum_in t q at.depth
   end_sum times many q l at end now v1 is end_is w last = ap (λ x. sum_in t x end.depth) last.place ∙ ap (λ x. sum_in t q x) (last.depth ∙ ap (λ x. (flow s).source x at.depth) (sym end_is) ∙ w.source_end)
 
-  pub body_fits : (times q : ℕ) (l : Loop) (at to end : Spot) (before now v1 : Shares) → IsLoop s l → l.end ≡ q → IsUnderWay s t times at to before now → before.total + times * sum_in t to.place to.depth ≤ greatest_number → (best_in t at.place at.depth).from ≡ Some q → ends_turn (instr_at s.code.now q) ≡ true → IsStepBack (flow s) q at (times * l.turns) now v1 end → IsSpot s end × (v1.total + times * l.turns * sum_in t end.place end.depth ≤ greatest_number)
+  pub body_fits : (times q : ℕ) (l : CostLoop) (at to end : Spot) (before now v1 : Shares) → IsLoop s l → l.end ≡ q → IsUnderWay s t times at to before now → before.total + times * sum_in t to.place to.depth ≤ greatest_number → (best_in t at.place at.depth).from ≡ Some q → ends_turn (instr_at s.code.now q) ≡ true → IsStepBack (flow s) q at (times * l.turns) now v1 end → IsSpot s end × (v1.total + times * l.turns * sum_in t end.place end.depth ≤ greatest_number)
   body_fits times q l at to end before now v1 is end_is u fits e turning last =
       let w = within_loop l at q is end_is u.spot e turning in
       let total = loop_total times q l at to before now is end_is u fits e in
@@ -403,7 +403,7 @@ module _ (s : Search) (ready : IsReady s) (t : Trail) (trail : IsTrail s t) wher
       let fit : v1.total + times * l.turns * sum_in t q at.depth ≤ greatest_number = omega arith in
       (step_spot l (times * l.turns) at.depth at end now v1 is w.at_end w.source_end last', subst (λ x. v1.total + times * l.turns * x ≤ greatest_number) (sym (end_sum times (times * l.turns) q l at end now v1 is end_is w last)) fit)
 
-  pub head_fits : (times q : ℕ) (l : Loop) (at to end turn : Spot) (before now v1 v2 : Shares) → IsLoop s l → l.end ≡ q → IsUnderWay s t times at to before now → before.total + times * sum_in t to.place to.depth ≤ greatest_number → (best_in t at.place at.depth).from ≡ Some q → ends_turn (instr_at s.code.now q) ≡ true → IsStepBack (flow s) q at (times * l.turns) now v1 end → IsWalkedBack s t (times * l.turns) turn end v1 v2 → v2.total + times * (flow s).added l.head at.depth ≤ greatest_number
+  pub head_fits : (times q : ℕ) (l : CostLoop) (at to end turn : Spot) (before now v1 v2 : Shares) → IsLoop s l → l.end ≡ q → IsUnderWay s t times at to before now → before.total + times * sum_in t to.place to.depth ≤ greatest_number → (best_in t at.place at.depth).from ≡ Some q → ends_turn (instr_at s.code.now q) ≡ true → IsStepBack (flow s) q at (times * l.turns) now v1 end → IsWalkedBack s t (times * l.turns) turn end v1 v2 → v2.total + times * (flow s).added l.head at.depth ≤ greatest_number
   head_fits times q l at to end turn before now v1 v2 is end_is u fits e turning last body =
       let w = within_loop l at q is end_is u.spot e turning in
       let total = loop_total times q l at to before now is end_is u fits e in
@@ -429,7 +429,7 @@ module _ (s : Search) (ready : IsReady s) (t : Trail) (trail : IsTrail s t) wher
       (ready.good.nested turn.place head r.0 r.1).0
 
   -- the turn is one of the loop with the head that is found
-  pub turn_of_loop : (l : Loop) (at turn : Spot) (head : ℕ) (found d : Option ℕ) → l.head ≡ head → IsBegin s at turn → found ≡ get_or s.layout.now.heads.items turn.place d → found ≡ Some head → (turn ≡ record { place = l.head + 1; depth = min at.depth ((flow s).depth l.head) }) × (around s.code.now at.place ≡ l.head ∷ around s.code.now l.head)
+  pub turn_of_loop : (l : CostLoop) (at turn : Spot) (head : ℕ) (found d : Option ℕ) → l.head ≡ head → IsBegin s at turn → found ≡ get_or s.layout.now.heads.items turn.place d → found ≡ Some head → (turn ≡ record { place = l.head + 1; depth = min at.depth ((flow s).depth l.head) }) × (around s.code.now at.place ≡ l.head ∷ around s.code.now l.head)
   turn_of_loop l at turn head found d same b is told =
       let r = around_found s ready turn.place head found d (turn_in at turn b) is told in
       subst (λ h. (turn ≡ record { place = h + 1; depth = min at.depth ((flow s).depth h) }) × (around s.code.now at.place ≡ h ∷ around s.code.now h)) (sym same) (turn_inside at turn head r.0 b r.1)
@@ -438,7 +438,7 @@ module _ (s : Search) (ready : IsReady s) (t : Trail) (trail : IsTrail s t) wher
   pub turn_of_none : (at turn : Spot) (found d : Option ℕ) → IsBegin s at turn → found ≡ get_or s.layout.now.heads.items turn.place d → found ≡ None → (turn ≡ record { place = 0; depth = 0 }) × (around s.code.now at.place ≡ [])
   turn_of_none at turn found d b is told = turn_outside at turn b (around_missing s ready turn.place found d (turn_in at turn b) is told)
 
-  pub next_spot : (l : Loop) (at turn next : Spot) (v1 v2 : Shares) → IsLoop s l → turn ≡ record { place = l.head + 1; depth = min at.depth ((flow s).depth l.head) } → IsWalkedBackOut s t l turn next v1 v2 → IsSpot s next
+  pub next_spot : (l : CostLoop) (at turn next : Spot) (v1 v2 : Shares) → IsLoop s l → turn ≡ record { place = l.head + 1; depth = min at.depth ((flow s).depth l.head) } → IsWalkedBackOut s t l turn next v1 v2 → IsSpot s next
   next_spot l at turn next v1 v2 is turn_same out =
       let place = out.place in
       let depth : next.depth ≡ min at.depth ((flow s).depth l.head) = out.depth ∙ ap (λ (x : Spot). x.depth) turn_same in

@@ -12,8 +12,8 @@ use Rattle.sts_rules.specs.Causes.{least_cause}
 use Rattle.sts_rules.specs.Edges.{edges, follows, to_optional, moved, or_cause, with_slot, is_all_success, is_sub_of, joiner_of, succeeded, typing}
 use Rattle.sts_rules.specs.Flow.{Reaches, Leads, first, then}
 use Rattle.sts_rules.specs.TypeState.{TypeState, scope_in}
-use Rattle.look_refusal.specs.declared.ways.Origin.{Origin}
-use Rattle.look_refusal.specs.declared.ways.Origin.TheVariants.{Beginning, Edge, Turn}
+use Rattle.look_refusal.specs.declared.ways.WayOrigin.{WayOrigin}
+use Rattle.look_refusal.specs.declared.ways.WayOrigin.TheVariants.{Beginning, Edge, Turn}
 use Rattle.look_refusal.specs.Ways.{Arrives}
 use Rattle.look_refusal.proofs.WayLemmas.{leads_at}
 
@@ -77,7 +77,7 @@ pub reached_full : (p : Program) (f pc : ℕ) (s : TypeState) → Reaches (typin
 reached_full p f pc s first = refl
 reached_full p f pc s ((then) from before out r e l) = edge_full p f from before out pc s (reached_full p f from before r) e l
 
-pub arrived_full : (p : Program) (f to : ℕ) (o : Origin) (s : TypeState) → Arrives p f to o s → IsFull s
+pub arrived_full : (p : Program) (f to : ℕ) (o : WayOrigin) (s : TypeState) → Arrives p f to o s → IsFull s
 arrived_full p f to Beginning s h = ap (λ (x : TypeState). length x.slots) h.1
 arrived_full p f to (Edge from n) s h =
     edge_full p f from h.0 h.1.0 to s (reached_full p f from h.0 h.1.1.0) h.1.1.1 (leads_at h.1.0 n (to, s) h.1.1.2)

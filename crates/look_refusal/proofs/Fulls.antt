@@ -7,7 +7,7 @@ use Rattle.std.proofs.Math.Seq.{get_or-append_seam}
 use Rattle.sts_rules.specs.Around.{around}
 use Rattle.sts_budget.specs.Structured.{bound_of}
 use Rattle.sts_budget.specs.Sums.{gain, Stands}
-use Rattle.look_refusal.specs.declared.search.Loop.{Loop}
+use Rattle.look_refusal.specs.declared.search.CostLoop.{CostLoop}
 use Rattle.look_refusal.specs.declared.search.Search.{Search}
 use Rattle.look_refusal.specs.declared.trail.Trail.{Trail}
 use Rattle.look_refusal.specs.Search.{IsReady, IsLoop, paths, flow}
@@ -18,20 +18,20 @@ use Rattle.look_refusal.proofs.Tables.{fits_here, is_table}
 
 module _ (s : Search) (ready : IsReady s) (t : Trail) (trail : IsTrail s t) where
   -- inside a loop
-  pub full_looped : (l : Loop) → IsLoop s l → (pc : ℕ) (ps : List ℕ) → around s.code.now pc ≡ l.head ∷ ps → full_in s t pc ≡ looped s (sum_in t) l.head l.end (l.turns - 1) (full_in s t l.head) ((flow s).depth l.head) + sum_in t pc ((flow s).depth pc)
+  pub full_looped : (l : CostLoop) → IsLoop s l → (pc : ℕ) (ps : List ℕ) → around s.code.now pc ≡ l.head ∷ ps → full_in s t pc ≡ looped s (sum_in t) l.head l.end (l.turns - 1) (full_in s t l.head) ((flow s).depth l.head) + sum_in t pc ((flow s).depth pc)
   full_looped l is pc ps round =
       full_inside (paths s) (around s.code.now) ready.good (flow s) (fits_here s ready) (sum_in t) (is_table s ready t trail) pc l.head ps round
       ∙ ap (λ sh. full_in s t l.head + (flow s).added l.head ((flow s).depth l.head) + (bound_of sh - 1) * gain (paths s) (flow s) (sum_in t) l.head ((flow s).depth l.head) + sum_in t pc ((flow s).depth pc)) is.opens
       ∙ ap (λ q. full_in s t l.head + (flow s).added l.head ((flow s).depth l.head) + (l.turns - 1) * (sum_in t q ((flow s).depth l.head) + (flow s).added q ((flow s).depth l.head)) + sum_in t pc ((flow s).depth pc)) is.mate
 
-  pub full_by : (l : Loop) → IsLoop s l → (pc : ℕ) (ps : List ℕ) → around s.code.now pc ≡ l.head ∷ ps → (stands d : ℕ) → stands ≡ full_in s t l.head → d ≡ (flow s).depth l.head → full_in s t pc ≡ looped s (sum_in t) l.head l.end (l.turns - 1) stands d + sum_in t pc ((flow s).depth pc)
+  pub full_by : (l : CostLoop) → IsLoop s l → (pc : ℕ) (ps : List ℕ) → around s.code.now pc ≡ l.head ∷ ps → (stands d : ℕ) → stands ≡ full_in s t l.head → d ≡ (flow s).depth l.head → full_in s t pc ≡ looped s (sum_in t) l.head l.end (l.turns - 1) stands d + sum_in t pc ((flow s).depth pc)
   full_by l is pc ps round stands d stands_is d_is =
       full_looped l is pc ps round
       ∙ ap (λ x. looped s (sum_in t) l.head l.end (l.turns - 1) x ((flow s).depth l.head) + sum_in t pc ((flow s).depth pc)) (sym stands_is)
       ∙ ap (λ x. looped s (sum_in t) l.head l.end (l.turns - 1) stands x + sum_in t pc ((flow s).depth pc)) (sym d_is)
 
   -- the same, by the head that was found, its full sum and its depth
-  pub full_over : (l : Loop) → IsLoop s l → (pc head : ℕ) (ps : List ℕ) (stands d : ℕ) → around s.code.now pc ≡ head ∷ ps → l.head ≡ head → stands ≡ full_in s t head → d ≡ (flow s).depth head → full_in s t pc ≡ looped s (sum_in t) l.head l.end (l.turns - 1) stands d + sum_in t pc ((flow s).depth pc)
+  pub full_over : (l : CostLoop) → IsLoop s l → (pc head : ℕ) (ps : List ℕ) (stands d : ℕ) → around s.code.now pc ≡ head ∷ ps → l.head ≡ head → stands ≡ full_in s t head → d ≡ (flow s).depth head → full_in s t pc ≡ looped s (sum_in t) l.head l.end (l.turns - 1) stands d + sum_in t pc ((flow s).depth pc)
   full_over l is pc head ps stands d round same stands_is d_is =
       full_by l is pc ps (round ∙ ap (λ x. x ∷ ps) (sym same)) stands d (stands_is ∙ ap (λ x. full_in s t x) (sym same)) (d_is ∙ ap (flow s).depth (sym same))
 

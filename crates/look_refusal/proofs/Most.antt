@@ -11,7 +11,7 @@ use Rattle.sts_budget.specs.declared.change.Resource.TheVariants.{Steps, Tasks, 
 use Rattle.sts_budget.specs.Change.{own_of, depth_of}
 use Rattle.sts_budget.specs.Flowing.{flows, flows_by}
 use Rattle.sts_budget.specs.Known.{KnowsNames}
-use Rattle.sts_budget.specs.Layout.{Names}
+use Rattle.sts_budget.specs.Layout.{EntryNames}
 use Rattle.sts_budget.specs.Ready.{names_in}
 use Rattle.sts_budget.specs.Structured.{IsStructured}
 use Rattle.sts_budget.specs.Sums.{Sums}
@@ -32,7 +32,7 @@ use Rattle.sts_budget.proofs.FourKindLemmas.{counts_one, comes_names, to_sums, t
 use Rattle.sts_budget.proofs.FourKindLemmas.{from_sums, from_steps}
 use Rattle.sts_budget.proofs.PointLemmas.{end_counts_one}
 
-module _ (earlier : List Budgets) (code : List Instr) (round : ℕ → List ℕ) (good : IsStructured (skeleton earlier code) round) (names_at : ℕ → Names) (known : KnowsNames code (skeleton earlier code) round names_at) where
+module _ (earlier : List Budgets) (code : List Instr) (round : ℕ → List ℕ) (good : IsStructured (skeleton earlier code) round) (names_at : ℕ → EntryNames) (known : KnowsNames code (skeleton earlier code) round names_at) where
   -- the count at a point is one of the sums
   all_sums : (m : Measure) (pc : ℕ) (loops : Loops) (before : ℕ) (es : List OpenEntry) → Comes (skeleton earlier code) pc loops before es → Sums (skeleton earlier code) (flows_by m code names_at) (length (names_at pc)) pc loops (entries_sum m es)
   all_sums m pc loops before es r =

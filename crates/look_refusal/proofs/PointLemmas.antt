@@ -15,7 +15,7 @@ use Rattle.sts_budget.specs.Change.{own_of, limit_of, depth_of}
 use Rattle.sts_budget.specs.Flowing.{flows}
 use Rattle.sts_budget.specs.Known.{KnowsNames, NamesRight}
 use Rattle.sts_budget.specs.Laws.{PointsLieOnPaths}
-use Rattle.sts_budget.specs.Layout.{Names}
+use Rattle.sts_budget.specs.Layout.{EntryNames}
 use Rattle.sts_budget.specs.Ready.{names_in, IsLaidFor}
 use Rattle.sts_budget.specs.Structured.{IsStructured}
 use Rattle.sts_budget.specs.Sums.{Sums}
@@ -34,7 +34,7 @@ use Rattle.look_refusal.proofs.Most.{top_most, top_heavy, wide_heavy}
 use Rattle.sts_budget.proofs.PathLemmas.{lie_on_paths}
 use Rattle.sts_budget.proofs.PointLemmas.{stands, steps_come, end_counts_one}
 
-module _ (earlier : List Budgets) (code : List Instr) (round : ℕ → List ℕ) (good : IsStructured (skeleton earlier code) round) (names_at : ℕ → Names) (known : KnowsNames code (skeleton earlier code) round names_at) where
+module _ (earlier : List Budgets) (code : List Instr) (round : ℕ → List ℕ) (good : IsStructured (skeleton earlier code) round) (names_at : ℕ → EntryNames) (known : KnowsNames code (skeleton earlier code) round names_at) where
   pub weighs : (k : Resource) (pc : ℕ) (loops : Loops) (sum : ℕ) → ends_for k (instr_at code pc) ≡ true → Sums (skeleton earlier code) (flows k earlier code names_at) (depth_of k (names_at pc)) pc loops sum → Weighs k earlier code pc (own_of k + sum)
   weighs Steps pc loops sum may h =
       let w = steps_come earlier code round good names_at known pc loops sum h in

@@ -4,7 +4,7 @@ use Rattle.std.proofs.lemmas.Bool.{eqb-true, eqb-false}
 use Rattle.sts_rules.specs.ControlPaths.{Skeleton, Loops, GoesTo, Repeats, Among, go, skip}
 use Rattle.sts_budget.specs.Sums.{Flows}
 use Rattle.look_refusal.specs.declared.search.Spot.{Spot}
-use Rattle.look_refusal.specs.declared.search.Loop.{Loop}
+use Rattle.look_refusal.specs.declared.search.CostLoop.{CostLoop}
 use Rattle.look_refusal.specs.declared.search.Search.{Search}
 use Rattle.look_refusal.specs.declared.shares.Shares.{Shares}
 use Rattle.look_refusal.specs.Adding.{Adds, Steps, none, share, total}
@@ -13,16 +13,6 @@ use Rattle.look_refusal.specs.Walk.{Amounts, Extends, IsStretch, IsRaised, IsSte
 use Rattle.look_refusal.proofs.Extending.{plus, fold_of, nothing, extends_none, extends_step, extends_both, over_loop, to_last_turn}
 
 -- ---- what was added
-
-}
-  where
-    here : (x : ℕ) (b : Bool) → pc == x ≡ b → get_or (set before.places.items pc (get_or before.places.items pc 0 + times * amount)) x 0 ≡ get_or before.places.items x 0 + times * cond b amount 0
-    here x true e =
-        let same : pc ≡ x = eqb-true pc x e in
-        subst (λ y. get_or (set before.places.items pc (get_or before.places.items pc 0 + times * amount)) y 0 ≡ get_or before.places.items y 0 + times * amount) same (get_or-set_same before.places.items pc (get_or before.places.items pc 0 + times * amount) 0 within)
-    here x false e =
-        let ne : x ≢ pc = λ s. eqb-false pc x e (sym s) in
-        get_or-set_other before.places.items pc x (get_or before.places.items pc 0 + times * amount) 0 ne ∙ omega arith
 
 pub raised_none : (times : ℕ) (s : Shares) → IsRaised times nothing s s
 raised_none times s = record { long = refl; at = λ x. omega arith; all = omega arith }
@@ -74,7 +64,7 @@ body_as c f h e d turn end body p q r t way loops =
     (subst (λ x. Extends c f x (h + 1) loops end.depth end.place loops body) q
     (subst (λ x. Extends c f turn.depth x loops end.depth end.place loops body) p (way loops))))
 
-module _ (z : Search) (l : Loop) where
+module _ (z : Search) (l : CostLoop) where
   abbrev c : Skeleton
   c = paths z
 
@@ -145,6 +135,7 @@ module _ (z : Search) (l : Loop) where
               subst (λ x. Extends c f at.depth x loops turn.depth turn.place ((x, 1) ∷ loops) a) (sym first.place)
               (subst (λ x. Extends c f x h loops turn.depth turn.place ((h, 1) ∷ loops) a) (sym first.depth)
               (subst (λ x. Extends c f (f.source h turn.depth) h loops turn.depth x ((h, 1) ∷ loops) a) (sym begins) w))
+
 -- over a whole loop that makes no turn
 pub walked_skip : (c : Skeleton) (f : Flows) (h n times : ℕ) (to at : Spot) (s t : Shares) → c.shape h ≡ Repeats n → to.place ≡ c.mate h + 1 → to.depth ≤ f.depth to.place → IsStepBack f h to times s t at → IsWalked c f times at to s t
 walked_skip c f h n times to at s t shape behind low is =

@@ -8,7 +8,7 @@ use Rattle.sts_code.specs.Program.{Program}
 use Rattle.sts_rules.specs.Edges.{edges, typing}
 use Rattle.sts_rules.specs.Flow.{Reaches, Leads, first, then}
 use Rattle.sts_rules.specs.TypeState.{TypeState, entry}
-use Rattle.look_refusal.specs.declared.ways.Origin.TheVariants.{Beginning, Edge}
+use Rattle.look_refusal.specs.declared.ways.WayOrigin.TheVariants.{Beginning, Edge}
 use Rattle.look_refusal.specs.declared.ways.Way.{Way}
 use Rattle.look_refusal.specs.Ways.{IsWayTo, AreWays}
 

@@ -19,8 +19,8 @@ use Rattle.sts_rules.specs.declared.typing.TypedLoop.{TypedLoop}
 use Rattle.sts_list.specs.Spelling.{after_spaces, joiner_words, timed_words}
 use Rattle.sts_asm.specs.Outline.{Sentence, Outline}
 use Rattle.sts_asm.specs.Source.{sentence_at}
-use Rattle.look_refusal.specs.declared.ways.Origin.{Origin}
-use Rattle.look_refusal.specs.declared.ways.Origin.TheVariants.{Beginning, Edge, Turn}
+use Rattle.look_refusal.specs.declared.ways.WayOrigin.{WayOrigin}
+use Rattle.look_refusal.specs.declared.ways.WayOrigin.TheVariants.{Beginning, Edge, Turn}
 use Rattle.look_refusal.specs.declared.ways.Meeting.{Meeting}
 use Rattle.look_refusal.specs.declared.parts.Part.{Part}
 use Rattle.look_refusal.specs.declared.parts.Part.TheVariants.{Operands, Loops, Open, Slot}
@@ -138,7 +138,7 @@ place_name None pc = codes "place " ++ decimal pc
 place_name (Some s) pc = codes "line " ++ decimal s.line
 
 -- the line that a way comes from
-abbrev pub origin_words : Outline → Program → ℕ → Origin → List ℕ
+abbrev pub origin_words : Outline → Program → ℕ → WayOrigin → List ℕ
 origin_words o p f Beginning = codes "the beginning"
 origin_words o p f (Edge pc number) =
     place_name (sentence_at o f pc) pc ++ edge_words (instr_at (routine p f).code pc) number

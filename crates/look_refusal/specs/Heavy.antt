@@ -11,7 +11,7 @@ use Rattle.sts_budget.specs.declared.change.Resource.TheVariants as resource
 use Rattle.sts_budget.specs.Change.{own_of, limit_of, depth_of}
 use Rattle.sts_budget.specs.Flowing.{flows}
 use Rattle.sts_budget.specs.Known.{NamesRight}
-use Rattle.sts_budget.specs.Layout.{Names}
+use Rattle.sts_budget.specs.Layout.{EntryNames}
 use Rattle.look_refusal.specs.declared.heavy.Heavy.{Heavy}
 use Rattle.look_refusal.specs.Adding.{Adds, Steps, share, total}
 use Rattle.look_refusal.specs.Trail.{greatest_number}
@@ -45,7 +45,7 @@ pub record IsHeavy (p : Program) (f : ℕ) (k : Resource) (h : Heavy) : Type 0 w
   pub earlier : List Budgets
   pub long : length earlier ≡ f
   pub right : AreBudgets p earlier
-  pub names_at : ℕ → Names
+  pub names_at : ℕ → EntryNames
   pub named : NamesRight p f names_at
   pub loops : Loops
   pub steps : Steps

@@ -14,7 +14,7 @@ use Rattle.sts_budget.specs.Ready.{IsLaidFor, flows_in}
 use Rattle.sts_budget.specs.Sums.{Flows}
 use Rattle.look_refusal.specs.declared.search.Search.{Search}
 use Rattle.look_refusal.specs.declared.search.Spot.{Spot}
-use Rattle.look_refusal.specs.declared.search.Loop.{Loop}
+use Rattle.look_refusal.specs.declared.search.CostLoop.{CostLoop}
 
 -- the layout is right of the code
 abbrev pub IsReady : Search → Type 0
@@ -39,7 +39,7 @@ pub record IsSpot (s : Search) (at : Spot) : Type 0 where
   pub shallow : at.depth ≤ (flow s).depth at.place
 
 -- a loop of the code
-pub record IsLoop (s : Search) (l : Loop) : Type 0 where
+pub record IsLoop (s : Search) (l : CostLoop) : Type 0 where
   pub head : l.head < length s.code.now
   pub end : l.end < length s.code.now
   pub opens : (paths s).shape l.head ≡ Repeats l.turns

@@ -3,7 +3,7 @@ use Rattle.std.specs.Prelude.{◌≡◌, ℕ, ◌+◌, ◌-◌, ◌*◌, ◌≤�
 use Rattle.sts_rules.specs.Around.{around}
 use Rattle.sts_rules.specs.ControlPaths.{Skeleton, Loops}
 use Rattle.sts_budget.specs.Sums.{Flows, base, last_turns}
-use Rattle.look_refusal.specs.declared.search.Loop.{Loop}
+use Rattle.look_refusal.specs.declared.search.CostLoop.{CostLoop}
 use Rattle.look_refusal.specs.declared.search.Search.{Search}
 use Rattle.look_refusal.specs.declared.search.Spot.{Spot}
 use Rattle.look_refusal.specs.declared.shares.Shares.{Shares}
@@ -90,7 +90,7 @@ pub record IsWalkedBack (s : Search) (t : Trail) (times : ℕ) (at to : Spot) (b
   pub parts : AreParts after
 
 -- the turns of a loop before the last one, and its `times`, which were walked back
-pub record IsWalkedBackOut (s : Search) (t : Trail) (l : Loop) (turn at : Spot)
+pub record IsWalkedBackOut (s : Search) (t : Trail) (l : CostLoop) (turn at : Spot)
     (before after : Shares) : Type 0 where
   pub place : at.place ≡ l.head
   pub depth : at.depth ≡ turn.depth

@@ -6,8 +6,8 @@ use Rattle.sts_code.specs.Program.{Program, routine, instr_at}
 use Rattle.sts_rules.specs.Edges.{edges, back_of, typing}
 use Rattle.sts_rules.specs.Flow.{Reaches, Leads, IsClear}
 use Rattle.sts_rules.specs.TypeState.{TypeState, entry}
-use Rattle.look_refusal.specs.declared.ways.Origin.{Origin}
-use Rattle.look_refusal.specs.declared.ways.Origin.TheVariants.{Beginning, Edge, Turn}
+use Rattle.look_refusal.specs.declared.ways.WayOrigin.{WayOrigin}
+use Rattle.look_refusal.specs.declared.ways.WayOrigin.TheVariants.{Beginning, Edge, Turn}
 use Rattle.look_refusal.specs.declared.ways.Way.{Way}
 use Rattle.look_refusal.specs.declared.ways.Meeting.{Meeting}
 
@@ -15,7 +15,7 @@ use Rattle.look_refusal.specs.declared.ways.Meeting.{Meeting}
 -- first typestate. Along an edge of an instruction, by its number, it follows from a typestate that
 -- reaches that instruction. At the beginning of a loop's turn it may be the typestate in which the
 -- turn before ends.
-abbrev pub Arrives : Program → ℕ → ℕ → Origin → TypeState → Type 0
+abbrev pub Arrives : Program → ℕ → ℕ → WayOrigin → TypeState → Type 0
 Arrives p f to Beginning s = (to ≡ 0) × (s ≡ entry p f)
 Arrives p f to (Edge from number) s =
     (before : TypeState) × ((out : List (ℕ × TypeState))

@@ -8,7 +8,7 @@ ghost use Rattle.look_refusal.specs.Differences as def;
 ghost use Rattle.look_refusal.specs.Reading.{IsHeldIn};
 
 use crate::parts::{Part, is_same_part, part_name, part_words};
-use crate::ways::{Meeting, Origin};
+use crate::ways::{Meeting, WayOrigin};
 use look_text::say;
 use std::alloc::{AllocError, Global};
 use std::fmt::Write;
@@ -88,18 +88,18 @@ fn write_origin(
     outline: &Outline<'_>,
     program: &Program,
     function: u32,
-    origin: Origin,
+    origin: WayOrigin,
 ) -> Result<(), AllocError>
     ensures { OnOk result (string_bytes out.new
         ≡ string_bytes out.old ++ def.origin_words outline.now program.now function origin) }
 {
     match origin {
-        Origin::Beginning => write!(out, "the beginning"),
-        Origin::Edge(pc, number) => {
+        WayOrigin::Beginning => write!(out, "the beginning"),
+        WayOrigin::Edge(pc, number) => {
             write_place(out, outline.sentence(function, pc), pc)?;
             out.push_str(edge_words(instr_at(program, function, pc), number))
         }
-        Origin::Turn(pc) => {
+        WayOrigin::Turn(pc) => {
             write!(out, "the turn that ends at ")?;
             write_place(out, outline.sentence(function, pc), pc)
         }
@@ -111,7 +111,7 @@ fn origin_words(
     outline: &Outline<'_>,
     program: &Program,
     function: u32,
-    origin: Origin,
+    origin: WayOrigin,
 ) -> Result<String, AllocError>
     ensures { IfOk result (λ s. string_bytes s
         ≡ def.origin_words outline.now program.now function origin) }

@@ -31,12 +31,12 @@ use sts_verify::{VerifyError, verify};
 
 /// The output, and the status.
 #[derive(Drop)]
-pub struct Output {
+pub struct Explanation {
     pub bytes: Vec<u8>,
     pub status: u8,
 }
 
-impl Model for Output {
+impl Model for Explanation {
     ghost use Rattle.sts_output.specs.Output as cli;
 
     ghost Value = { cli.Output };
@@ -49,7 +49,7 @@ impl Model for Output {
 /// # Errors
 ///
 /// Memory ran out.
-pub fn text_fault(alloc: Global, error: AsmError, text: &[u8]) -> Result<Output, AllocError>
+pub fn text_fault(alloc: Global, error: AsmError, text: &[u8]) -> Result<Explanation, AllocError>
     ensures { (read : Result AnyProgram AsmError) → FailsAt error error.kind read
         → IfOk result (λ o. (read ≡ Err error) × (o ≡ def.fault_output error text.now)) }
 {
@@ -58,7 +58,7 @@ pub fn text_fault(alloc: Global, error: AsmError, text: &[u8]) -> Result<Output,
     }
     let mut bytes = Vec::new(alloc);
     fault_lines(alloc, &mut bytes, error, text)?;
-    Ok(Output { bytes, status: 3 })
+    Ok(Explanation { bytes, status: 3 })
 }
 
 /// Appends the differences of two ways that meet.
@@ -146,7 +146,7 @@ fn refused(
     function: u32,
     pc: u32,
     cause: Cause,
-) -> Result<Output, AllocError>
+) -> Result<Explanation, AllocError>
     requires { IsRefusal program.now function pc cause }
     ensures { IfOk result (λ o. def.IsRefused program.now outline.now o) }
 {
@@ -157,10 +157,14 @@ fn refused(
         alloc, &mut bytes, program, sentence, function, cause, remedy,
     )?;
     say_detail(alloc, &mut bytes, outline, program, function, pc, cause)?;
-    Ok(Output { bytes, status: 4 })
+    Ok(Explanation { bytes, status: 4 })
 }
 
-fn accepted(alloc: Global, outline: &Outline<'_>, program: &Program) -> Result<Output, AllocError>
+fn accepted(
+    alloc: Global,
+    outline: &Outline<'_>,
+    program: &Program,
+) -> Result<Explanation, AllocError>
     requires { IsAccepted program.now }
     ensures { IfOk result (λ o. def.IsVerdict program.now outline.now o) }
 {
@@ -168,10 +172,14 @@ fn accepted(alloc: Global, outline: &Outline<'_>, program: &Program) -> Result<O
     let mut bytes = Vec::new(alloc);
     say(&mut bytes, "accepted\n")?;
     note_lines(alloc, &mut bytes, outline, program, notes.as_slice())?;
-    Ok(Output { bytes, status: 0 })
+    Ok(Explanation { bytes, status: 0 })
 }
 
-fn verdict(alloc: Global, outline: &Outline<'_>, program: Program) -> Result<Output, AllocError>
+fn verdict(
+    alloc: Global,
+    outline: &Outline<'_>,
+    program: Program,
+) -> Result<Explanation, AllocError>
     ensures { IfOk result (λ o. def.IsVerdict program outline.now o) }
 {
     match verify(alloc, program) {
@@ -189,7 +197,7 @@ fn verdict(alloc: Global, outline: &Outline<'_>, program: Program) -> Result<Out
 }
 
 /// The explanation of a text, from the outline of its lines.
-fn of_lines(alloc: Global, outline: &Outline<'_>, text: &[u8]) -> Result<Output, AllocError>
+fn of_lines(alloc: Global, outline: &Outline<'_>, text: &[u8]) -> Result<Explanation, AllocError>
     requires { outlined_of text.now ≡ Ok outline.now }
     ensures { IfOk result (λ o. def.Explains (judged text.now) text.now o) }
 {
@@ -200,7 +208,7 @@ fn of_lines(alloc: Global, outline: &Outline<'_>, text: &[u8]) -> Result<Output,
 }
 
 #[tactic(auto, using(crate::proofs::FaultLemmas::outline_fault))]
-fn explanation(alloc: Global, text: &[u8]) -> Result<Output, AllocError>
+fn explanation(alloc: Global, text: &[u8]) -> Result<Explanation, AllocError>
     ensures { IfOk result (λ o. def.Explains (judged text.now) text.now o) }
 {
     match outlined(alloc, text) {

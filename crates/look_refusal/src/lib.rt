@@ -22,6 +22,6 @@ pub mod walk;
 pub mod ways;
 mod weights;
 
-pub use explaining::{Output, explain, text_fault};
+pub use explaining::{Explanation, explain, text_fault};
 pub use remedy::{Remedy, label_remedy};
 pub use sentences::remedy_sentence;

@@ -31,7 +31,7 @@ pub struct Spot {
 
 /// A loop: the places of its `times` and its `next`, and the limit for its turns.
 #[derive(Clone, Copy)]
-pub struct Loop {
+pub struct CostLoop {
     pub head: u32,
     pub end: u32,
     pub turns: u16,
@@ -118,13 +118,13 @@ pub(crate) fn leads_on(search: &Search<'_>, from: u32, to: u32) -> bool
 }
 
 /// The loop that opens at a place.
-pub(crate) fn loop_from(search: &Search<'_>, head: u32) -> Loop
+pub(crate) fn loop_from(search: &Search<'_>, head: u32) -> CostLoop
     requires ready { def.IsReady search.now }
     requires opens { def.OpensLoop search.now head }
     ensures head { result.head ≡ head }
     ensures right { def.IsLoop search.now result }
 {
-    Loop {
+    CostLoop {
         head,
         end: search.layout.mates[head as usize],
         turns: turns_of(search.code[head as usize]),
@@ -132,7 +132,7 @@ pub(crate) fn loop_from(search: &Search<'_>, head: u32) -> Loop
 }
 
 /// The loop that ends at a place.
-pub(crate) fn loop_to(search: &Search<'_>, end: u32) -> Loop
+pub(crate) fn loop_to(search: &Search<'_>, end: u32) -> CostLoop
     requires ready { def.IsReady search.now }
     requires in_code { end < length search.now.code.now }
     requires ends { def.ends_turn (instr_at search.now.code.now end) ≡ true }

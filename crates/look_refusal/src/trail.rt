@@ -7,7 +7,7 @@ ghost use Rattle.look_refusal.specs.Search as def;
 ghost use Rattle.look_refusal.specs.Trail as trails;
 
 use crate::search::{
-    Loop, Search, Spot, added_at, depth_at, depth_before, ends_turn, leads_on, loop_to,
+    CostLoop, Search, Spot, added_at, depth_at, depth_before, ends_turn, leads_on, loop_to,
 };
 use std::alloc::{AllocError, Global};
 
@@ -74,7 +74,7 @@ pub(crate) fn before(trail: &Trail, at: Spot) -> Option<u32>
 pub(crate) fn after_turns(
     search: &Search<'_>,
     trail: &Trail,
-    around: Loop,
+    around: CostLoop,
     turns: u128,
     depth: usize,
     before: u128,

@@ -5,7 +5,9 @@ ghost use Rattle.look_refusal.specs.Search as def;
 ghost use Rattle.look_refusal.specs.Trail as trails;
 ghost use Rattle.look_refusal.specs.Walk as walks;
 
-use crate::search::{Loop, Search, Spot, added_at, depth_before, ends_turn, loop_from, loop_to};
+use crate::search::{
+    CostLoop, Search, Spot, added_at, depth_before, ends_turn, loop_from, loop_to,
+};
 use crate::shares::{Shares, add};
 use crate::trail::{Trail, before, sum_at};
 
@@ -78,7 +80,7 @@ fn back(search: &Search<'_>, trail: &Trail, to: Spot, times: u128, shares: &mut 
 fn back_out(
     search: &Search<'_>,
     trail: &Trail,
-    around: Loop,
+    around: CostLoop,
     turn: Spot,
     shares: &mut Shares,
 ) -> Spot

@@ -16,7 +16,7 @@ use sts_types::{TypeState, edges, entry};
 
 /// The place or edge that a way comes from.
 #[derive(Clone, Copy, Debug, PartialEq, Eq)]
-pub enum Origin {
+pub enum WayOrigin {
     /// The beginning of the function.
     Beginning,
     /// The instruction at a place, along its edge of this number.
@@ -28,7 +28,7 @@ pub enum Origin {
 /// A way that arrives at a place, with the typestate there.
 #[derive(Drop)]
 pub struct Way {
-    pub origin: Origin,
+    pub origin: WayOrigin,
     pub state: TypeState,
 }
 
@@ -93,7 +93,7 @@ fn spread(
         for number in 0..edges.len() {
             let edge = &edges[number];
             let way = Way {
-                origin: Origin::Edge(pc, number),
+                origin: WayOrigin::Edge(pc, number),
                 state: edge.1.copy(),
             };
             keep(table, edge.0, way);
@@ -150,7 +150,7 @@ fn first_ways(
 {
     let mut table = none(alloc, last as usize + 1)?;
     let way = Way {
-        origin: Origin::Beginning,
+        origin: WayOrigin::Beginning,
         state: entry(program, function),
     };
     keep(&mut table, 0, way);
@@ -208,7 +208,7 @@ fn other_from(
         let edge = &edges[number];
         if edge.0 == to && !edge.1.is_same(told) {
             return Some(Way {
-                origin: Origin::Edge(from, number),
+                origin: WayOrigin::Edge(from, number),
                 state: edge.1.copy(),
             });
         }
@@ -271,7 +271,7 @@ fn turn_at(program: &Program, function: u32, pc: u32, table: &[Option<Way>]) -> 
         return None;
     }
     let other = Way {
-        origin: Origin::Turn(pc),
+        origin: WayOrigin::Turn(pc),
         state: last.state.copy(),
     };
     Some(Meeting {

@@ -11,7 +11,7 @@ ghost use Rattle.look_run.specs.Output as def;
 use crate::tasks::{Told, say_living, say_state};
 use crate::traces::trace_fault;
 use look_lines::{Watch, after};
-use look_refusal::{Output, text_fault};
+use look_refusal::{Explanation, text_fault};
 use std::alloc::{AllocError, Global};
 use std::io::Write;
 use sts_asm::{Outline, assemble, outlined};
@@ -20,7 +20,11 @@ use sts_output::{TakeError, WriteFailed, failed, state_status, written};
 use sts_trace::read_trace;
 
 /// The state of a watched machine, and each task that lives.
-fn of_watch(alloc: Global, outline: &Outline<'_>, watch: &Watch<'_>) -> Result<Output, AllocError>
+fn of_watch(
+    alloc: Global,
+    outline: &Outline<'_>,
+    watch: &Watch<'_>,
+) -> Result<Explanation, AllocError>
     ensures { IfOk result (λ o. o ≡ def.watched_output outline.now watch.now) }
 {
     let told = Told {
@@ -31,7 +35,7 @@ fn of_watch(alloc: Global, outline: &Outline<'_>, watch: &Watch<'_>) -> Result<O
     let mut bytes = Vec::new(alloc);
     say_state(alloc, &mut bytes, told, watch.world().records(), state)?;
     say_living(alloc, &mut bytes, told, watch.world())?;
-    Ok(Output {
+    Ok(Explanation {
         bytes,
         status: state_status(state),
     })
@@ -43,7 +47,7 @@ fn of_trace(
     outline: &Outline<'_>,
     program: &Program,
     trace: &[u8],
-) -> Result<Output, AllocError>
+) -> Result<Explanation, AllocError>
     ensures { IfOk result (λ o. o ≡ def.traced_output program.now outline.now trace.now
         (trace_read trace.now)) }
 {
@@ -62,7 +66,7 @@ fn of_lines(
     outline: &Outline<'_>,
     text: &[u8],
     trace: &[u8],
-) -> Result<Output, AllocError>
+) -> Result<Explanation, AllocError>
     requires { outlined_of text.now ≡ Ok outline.now }
     ensures { IfOk result (λ o. def.Explains (judged text.now) text.now trace.now o) }
 {
@@ -72,7 +76,7 @@ fn of_lines(
     }
 }
 
-fn explanation(alloc: Global, text: &[u8], trace: &[u8]) -> Result<Output, AllocError>
+fn explanation(alloc: Global, text: &[u8], trace: &[u8]) -> Result<Explanation, AllocError>
     ensures { IfOk result (λ o. def.Explains (judged text.now) text.now trace.now o) }
 {
     match outlined(alloc, text) {

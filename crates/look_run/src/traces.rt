@@ -8,7 +8,7 @@ ghost use Rattle.look_run.specs.Lines as def;
 ghost use Rattle.look_run.specs.Output.{trace_fault_output};
 
 use crate::sentences::trace_sentence;
-use look_refusal::Output;
+use look_refusal::Explanation;
 use look_text::say;
 use std::alloc::{AllocError, Global};
 use sts_trace::TraceError;
@@ -104,7 +104,7 @@ pub(crate) fn trace_fault(
     alloc: Global,
     text: &[u8],
     error: TraceError,
-) -> Result<Output, AllocError>
+) -> Result<Explanation, AllocError>
     ensures { IfOk result (λ o. (error ≢ Memory) × (o ≡ trace_fault_output text.now error)) }
 {
     if matches!(error, TraceError::Memory) {
@@ -112,5 +112,5 @@ pub(crate) fn trace_fault(
     }
     let mut bytes = Vec::new(alloc);
     say_fault(alloc, &mut bytes, text, error)?;
-    Ok(Output { bytes, status: 3 })
+    Ok(Explanation { bytes, status: 3 })
 }

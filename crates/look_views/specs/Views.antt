@@ -20,7 +20,7 @@ use Rattle.sts_trace.specs.declared.error.TraceError.{TraceError}
 use Rattle.sts_output.specs.Output.{Output, memory_output, state_status}
 use Rattle.sts_output.specs.Printed.{fault_word}
 use Rattle.look_lines.specs.Watched.{Watched, watched}
-use Rattle.look_lines.specs.declared.view.Wanted.{Wanted}
+use Rattle.look_lines.specs.declared.view.ViewOptions.{ViewOptions}
 use Rattle.look_cases.specs.Answer.{ended, running, text_fault, trace_fault}
 use Rattle.look_cases.specs.Json.{count, object_of}
 use Rattle.look_views.specs.Scope.{scopes}
@@ -94,7 +94,7 @@ each_output p full events = record {
   status = state_status (shown (after p events));
 }
 
-abbrev pub views_output : Program → Wanted → List Event → Output
+abbrev pub views_output : Program → ViewOptions → List Event → Output
 views_output p wanted events =
     if wanted.each then each_output p wanted.full events else after_output p wanted.full events
 
@@ -113,16 +113,16 @@ trace_line e = object_of (
     (codes "trace_fault", trace_fault e) ∷
     (codes "version", version) ∷ [])
 
-abbrev pub traced_output : Program → Wanted → Result (List Event) TraceError → Output
+abbrev pub traced_output : Program → ViewOptions → Result (List Event) TraceError → Output
 traced_output p wanted (Ok events) = views_output p wanted events
 traced_output p wanted (Err e) = faulty (trace_line e)
 
 -- a fault of the text comes before one of the trace
-abbrev pub text_output : Result Program AsmError → Wanted → List ℕ → Output
+abbrev pub text_output : Result Program AsmError → ViewOptions → List ℕ → Output
 text_output (Ok p) wanted trace = traced_output p wanted (trace_read trace)
 text_output (Err e) wanted trace = faulty (text_line e)
 
 -- what `look view --json` prints for a text and a trace, or that memory was refused
-abbrev pub AreViewsOf : Wanted → List ℕ → List ℕ → Output → Type 0
+abbrev pub AreViewsOf : ViewOptions → List ℕ → List ℕ → Output → Type 0
 AreViewsOf wanted text trace output =
     (output ≡ text_output (judged text) wanted trace) ⊎ (output ≡ memory_output)

@@ -14,7 +14,7 @@ ghost use Rattle.look_views.specs.Views as def;
 
 use crate::views::{VERSION, push_line, views};
 use look_cases::{text_fault, trace_fault};
-use look_lines::Wanted;
+use look_lines::ViewOptions;
 use serde_json::{Value, json};
 use std::alloc::{AllocError, Global};
 use std::io::Write;
@@ -72,7 +72,7 @@ fn faulty_trace(alloc: Global, error: TraceError) -> Result<Output, AllocError>
 fn traced(
     alloc: Global,
     program: &Program,
-    wanted: Wanted,
+    wanted: ViewOptions,
     trace: &[u8],
 ) -> Result<Output, AllocError>
     ensures { IfOk result (λ o. o ≡ def.traced_output program.now wanted (trace_read trace.now)) }
@@ -90,7 +90,7 @@ fn traced(
 /// Memory was refused.
 pub fn viewed(
     alloc: Global,
-    wanted: Wanted,
+    wanted: ViewOptions,
     text: &[u8],
     trace: &[u8],
 ) -> Result<Output, AllocError>
@@ -111,7 +111,7 @@ pub fn viewed(
 /// A write failed.
 pub fn write_views<W: Write>(
     alloc: Global,
-    wanted: Wanted,
+    wanted: ViewOptions,
     text: &[u8],
     trace: &[u8],
     out: &mut W,

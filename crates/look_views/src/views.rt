@@ -12,7 +12,7 @@ ghost use Rattle.look_views.specs.Views as def;
 use crate::runs::run;
 use crate::scopes::scopes;
 use crate::tasks::tasks;
-use look_lines::{Wanted, Watch, after, event_words};
+use look_lines::{ViewOptions, Watch, after, event_words};
 use serde_json::{Value, json};
 use std::alloc::{AllocError, Global};
 use std::fmt::Write;
@@ -182,7 +182,7 @@ fn after_each(
 pub(crate) fn views(
     alloc: Global,
     program: &Program,
-    wanted: Wanted,
+    wanted: ViewOptions,
     events: &[Event],
 ) -> Result<Output, AllocError>
     ensures { IfOk result (λ o. o ≡ def.views_output program.now wanted events.now) }

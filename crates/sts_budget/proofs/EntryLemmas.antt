@@ -14,7 +14,7 @@ use Rattle.sts_code.specs.declared.instr.Instr.TheVariants.{Total, Forget, Bind,
 use Rattle.sts_code.specs.declared.instr.Instr.TheVariants.{Bound, OrElse, Interrupted, Ret, Fail}
 use Rattle.sts_rules.specs.ControlPaths.{OpenEntry, OpenScope, OpenBinding}
 use Rattle.sts_rules.specs.Budget.{Measure, entry_sum, entries_sum, forked, entries_of}
-use Rattle.sts_budget.specs.Layout.{Names, names_after, HasScope, FitsNames}
+use Rattle.sts_budget.specs.Layout.{EntryNames, names_after, HasScope, FitsNames}
 use Rattle.sts_budget.specs.Change.{source_of, added_of, position_of, measured}
 
 abbrev pub name_of : OpenEntry → Option ℕ
@@ -22,7 +22,7 @@ name_of (OpenScope s subtasks) = Some s
 name_of OpenBinding = None
 
 -- the names of the open entries of a path
-abbrev pub names : List OpenEntry → Names
+abbrev pub names : List OpenEntry → EntryNames
 names es = map name_of es
 
 pub long : (es : List OpenEntry) → length (names es) ≡ length es
@@ -149,12 +149,12 @@ front_of m (Bind k) es d fits le = front_opened m OpenBinding es (length (names 
 front_of m Unbind es d fits le = front_closed m es d fits le
 front_of m _ es d fits le = sym (add-zero _)
 
-low_dropped : (ns : Names) (d : ℕ) → d ≤ length (drop 1 ns) → d ≤ length ns
+low_dropped : (ns : EntryNames) (d : ℕ) → d ≤ length (drop 1 ns) → d ≤ length ns
 low_dropped [] d le = le
 low_dropped (n ∷ ns) d le = omega arith
 
 -- it depends on no more entries than are open
-pub source_low : (m : Measure) (i : Instr) (ns : Names) (d : ℕ) → d ≤ length (names_after i ns) → source_of (measured m i ns) (length ns) d ≤ length ns
+pub source_low : (m : Measure) (i : Instr) (ns : EntryNames) (d : ℕ) → d ≤ length (names_after i ns) → source_of (measured m i ns) (length ns) d ≤ length ns
 source_low m (Open x j timed) ns d le = omega arith
 source_low m (Close x) ns d le = low_dropped ns d le
 source_low m (Bind k) ns d le = omega arith
@@ -162,7 +162,7 @@ source_low m Unbind ns d le = low_dropped ns d le
 source_low m _ ns d le = le
 
 -- and on the same ones among the first x
-pub source_kept : (m : Measure) (i : Instr) (ns : Names) (d x : ℕ) → x ≤ length ns → min (source_of (measured m i ns) (length ns) d) x ≡ min d x
+pub source_kept : (m : Measure) (i : Instr) (ns : EntryNames) (d x : ℕ) → x ≤ length ns → min (source_of (measured m i ns) (length ns) d) x ≡ min d x
 source_kept m (Open x j timed) ns d u le = omega arith
 source_kept m (Bind k) ns d u le = omega arith
 source_kept m _ ns d u le = refl

@@ -16,7 +16,7 @@ use Rattle.sts_rules.specs.declared.budget.Budgets.{Budgets}
 use Rattle.sts_rules.specs.Budget.{Measure, entries_sum, entries_of, skeleton, shape_of, steps_of}
 use Rattle.sts_rules.specs.Budget.{tasks_measure, scopes_measure, binds_measure, scopes_sum}
 use Rattle.sts_rules.specs.Budget.{binds_sum, Exceeds, PathExceeds}
-use Rattle.sts_budget.specs.Layout.{Names, names_after, FitsNames}
+use Rattle.sts_budget.specs.Layout.{EntryNames, names_after, FitsNames}
 use Rattle.sts_budget.specs.declared.change.Resource.{Resource}
 use Rattle.sts_budget.specs.declared.change.Resource.TheVariants.{Steps, Tasks, Scopes, Binds}
 use Rattle.sts_budget.specs.Change.{source_of, added_of, measured, own_of, limit_of, cause_of}
@@ -41,7 +41,7 @@ end_counts earlier pc Ret e = refl
 end_counts earlier pc Fail e = refl
 end_counts earlier pc _ e = absurd (cc)
 
-module _ (earlier : List Budgets) (code : List Instr) (round : ℕ → List ℕ) (good : IsStructured (skeleton earlier code) round) (names_at : ℕ → Names) (known : KnowsNames code (skeleton earlier code) round names_at) where
+module _ (earlier : List Budgets) (code : List Instr) (round : ℕ → List ℕ) (good : IsStructured (skeleton earlier code) round) (names_at : ℕ → EntryNames) (known : KnowsNames code (skeleton earlier code) round names_at) where
   abbrev c : Skeleton
   c = skeleton earlier code
 
@@ -77,7 +77,7 @@ module _ (earlier : List Budgets) (code : List Instr) (round : ℕ → List ℕ)
 
   -- ---- the names along a path
 
-  same_after : (pc : ℕ) (i : Instr) → instr_at code pc ≡ i → (ns : Names) → names_after i ns ≡ ns → names_after (instr_at code pc) ns ≡ ns
+  same_after : (pc : ℕ) (i : Instr) → instr_at code pc ≡ i → (ns : EntryNames) → names_after i ns ≡ ns → names_after (instr_at code pc) ns ≡ ns
   same_after pc i e ns same = ap (λ j. names_after j ns) e ∙ same
 
   follow_names : (pc : ℕ) (loops : Loops) (to : ℕ) (after : Loops) → IsInside c round good pc loops → Follows c pc loops to after → names_at to ≡ names_after (instr_at code pc) (names_at pc)

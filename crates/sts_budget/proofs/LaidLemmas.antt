@@ -25,7 +25,7 @@ use Rattle.sts_rules.specs.Edges.{typing}
 use Rattle.sts_rules.specs.Refusal.{IsWellTyped}
 use Rattle.sts_rules.specs.ControlPaths.{GoesTo, Repeats, EndsTurn, EndsPath, Among}
 use Rattle.sts_rules.specs.Budget.{skeleton, shape_of}
-use Rattle.sts_budget.specs.Layout.{Names, names_after, HasEntryRoom}
+use Rattle.sts_budget.specs.Layout.{EntryNames, names_after, HasEntryRoom}
 use Rattle.sts_budget.proofs.Sorts.{Sort, sort, is_times, is_next, is_end, goes_on, GoesOn}
 use Rattle.sts_budget.proofs.Sorts.{among_of, among_left, among_right}
 use Rattle.sts_budget.proofs.Forward.{among_cases}
@@ -67,7 +67,7 @@ writes_one to value d old = writes_more (to ∷ []) 0 to value d old old (omega 
 -- ---- one instruction
 
 -- there is room for the entry that an instruction opens
-has_room : (i : Instr) (s : TypeState) (ns : Names) → length ns ≡ length s.entries → is_nested i s ≡ false → HasEntryRoom i ns
+has_room : (i : Instr) (s : TypeState) (ns : EntryNames) → length ns ≡ length s.entries → is_nested i s ≡ false → HasEntryRoom i ns
 has_room (Open x j timed) s ns long e = (let lt = leb-false 16 (length s.entries) e in omega arith)
 has_room (Bind k) s ns long e = (let lt = leb-false 16 (length s.entries) e in omega arith)
 has_room _ s ns long e = tt
@@ -131,7 +131,7 @@ module _ (p : Program) (f : ℕ) (accepted : IsWellTyped p f) (some_code : 0 < l
   code = (routine p f).code
 
   -- the names in the only typestate of each place
-  abbrev pub names_here : ℕ → Names
+  abbrev pub names_here : ℕ → EntryNames
   names_here pc = elim (cases_lt pc (length (routine p f).code)) [ inl lt ↦ names (accepted pc lt).state.entries | inr ge ↦ [] ]
 
   pub names_right : NamesRight p f names_here
@@ -166,7 +166,7 @@ module _ (p : Program) (f : ℕ) (accepted : IsWellTyped p f) (some_code : 0 < l
           let o = opened p f accepted some_code bounds [] h n i in
           (o.end, (omega (arith, o.mate), subst (λ q. Among (targets (instr_at (routine p f).code o.end) ++ next_place o.end (instr_at (routine p f).code o.end)) (q + 1)) (sym o.mate) (subst (λ j. Among (targets j ++ next_place o.end j) (o.end + 1)) (sym o.is_end) (inl refl))))
 
-  pub fits_room : (k : ℕ) (heads : List (Option ℕ)) (table : List Names) → k < length (routine p f).code → IsRight p f heads table k → HasEntryRoom (instr_at (routine p f).code k) (get_or table k [])
+  pub fits_room : (k : ℕ) (heads : List (Option ℕ)) (table : List EntryNames) → k < length (routine p f).code → IsRight p f heads table k → HasEntryRoom (instr_at (routine p f).code k) (get_or table k [])
   fits_room k heads table lt r =
       let h = here p f accepted some_code bounds [] k lt in
       has_room (instr_at (routine p f).code k) h.clear.state (get_or table k []) (ap length (sym (r.name h.clear.state h.clear.alone.0)) ∙ long h.clear.state.entries) h.rules.nested
@@ -184,7 +184,7 @@ module _ (p : Program) (f : ℕ) (accepted : IsWellTyped p f) (some_code : 0 < l
       )
 
   -- the values that are written at the places after an instruction
-  pub right_value : (k to : ℕ) (heads : List (Option ℕ)) (mates : List ℕ) (table : List Names) → k < length (routine p f).code → IsLaid p f k heads mates table → Among (targets (instr_at (routine p f).code k) ++ next_place k (instr_at (routine p f).code k)) to
+  pub right_value : (k to : ℕ) (heads : List (Option ℕ)) (mates : List ℕ) (table : List EntryNames) → k < length (routine p f).code → IsLaid p f k heads mates table → Among (targets (instr_at (routine p f).code k) ++ next_place k (instr_at (routine p f).code k)) to
       → (head_after (instr_at (routine p f).code k) k heads ≡ first_of (around (routine p f).code to)) × ((s : TypeState) → Reaches (typing p f) to s → names s.entries ≡ names_after (instr_at (routine p f).code k) (get_or table k []))
   right_value k to heads mates table lt laid a = by (instr_at (routine p f).code k) refl (sort p (routine p f).code k (instr_at (routine p f).code k)) a
     where
@@ -230,7 +230,7 @@ module _ (p : Program) (f : ℕ) (accepted : IsWellTyped p f) (some_code : 0 < l
           )
 
   -- before the first place
-  pub laid_none : (heads : List (Option ℕ)) (mates : List ℕ) (table : List Names) → heads ≡ replicate (length (routine p f).code) None → mates ≡ replicate (length (routine p f).code) 0 → table ≡ replicate (length (routine p f).code) [] → IsLaid p f 0 heads mates table
+  pub laid_none : (heads : List (Option ℕ)) (mates : List ℕ) (table : List EntryNames) → heads ≡ replicate (length (routine p f).code) None → mates ≡ replicate (length (routine p f).code) 0 → table ≡ replicate (length (routine p f).code) [] → IsLaid p f 0 heads mates table
   laid_none heads mates table hs ms ns = record {
     heads_long = ap length hs ∙ length-replicate (length (routine p f).code) None;
     mates_long = ap length ms ∙ length-replicate (length (routine p f).code) 0;
@@ -246,7 +246,7 @@ module _ (p : Program) (f : ℕ) (accepted : IsWellTyped p f) (some_code : 0 < l
       }
 
   -- the loop round a place is open before it
-  pub head_before : (k : ℕ) (heads : List (Option ℕ)) (mates : List ℕ) (table : List Names) → k < length (routine p f).code → IsLaid p f k heads mates table → (h : ℕ) → get_or heads k None ≡ Some h → h < length heads
+  pub head_before : (k : ℕ) (heads : List (Option ℕ)) (mates : List ℕ) (table : List EntryNames) → k < length (routine p f).code → IsLaid p f k heads mates table → (h : ℕ) → get_or heads k None ≡ Some h → h < length heads
   head_before k heads mates table lt laid h e =
       let r = laid.right k lt (is_written k k (omega arith) lt) in
       by (around (routine p f).code k) refl (sym r.head ∙ e)
@@ -259,7 +259,7 @@ module _ (p : Program) (f : ℕ) (accepted : IsWellTyped p f) (some_code : 0 < l
       by (x ∷ xs) is z = let same : x ≡ h = cc in let less = good.lesser k x xs is in omega (arith, laid.heads_long)
 
   -- the loop that ends at a place is known there
-  mated_more : (k : ℕ) (heads : List (Option ℕ)) (mates : List ℕ) (table : List Names) → k < length (routine p f).code → IsLaid p f k heads mates table → (h n : ℕ) → instr_at (routine p f).code h ≡ Times n → (q : ℕ) → match_of (routine p f).code h ≡ Some q → q < k + 1 → get_or (mates_after (instr_at (routine p f).code k) k (get_or heads k None) mates) h 0 ≡ q
+  mated_more : (k : ℕ) (heads : List (Option ℕ)) (mates : List ℕ) (table : List EntryNames) → k < length (routine p f).code → IsLaid p f k heads mates table → (h n : ℕ) → instr_at (routine p f).code h ≡ Times n → (q : ℕ) → match_of (routine p f).code h ≡ Some q → q < k + 1 → get_or (mates_after (instr_at (routine p f).code k) k (get_or heads k None) mates) h 0 ≡ q
   mated_more k heads mates table lt laid h n i q m less = elim (is_next_instr (instr_at (routine p f).code k)) [ inl e ↦ at_next e | inr ne ↦ at_other ne ]
     where
       o : Opened p f accepted some_code bounds [] h n
@@ -294,7 +294,7 @@ module _ (p : Program) (f : ℕ) (accepted : IsWellTyped p f) (some_code : 0 < l
           ]
 
   -- one more place
-  pub laid_more : (k : ℕ) (heads heads' : List (Option ℕ)) (mates mates' : List ℕ) (table table' : List Names) → k < length (routine p f).code → IsLaid p f k heads mates table
+  pub laid_more : (k : ℕ) (heads heads' : List (Option ℕ)) (mates mates' : List ℕ) (table table' : List EntryNames) → k < length (routine p f).code → IsLaid p f k heads mates table
       → Writes (targets (instr_at (routine p f).code k) ++ next_place k (instr_at (routine p f).code k)) (head_after (instr_at (routine p f).code k) k heads) None heads heads'
       → Writes (targets (instr_at (routine p f).code k) ++ next_place k (instr_at (routine p f).code k)) (names_after (instr_at (routine p f).code k) (get_or table k [])) [] table table'
       → mates' ≡ mates_after (instr_at (routine p f).code k) k (get_or heads k None) mates

@@ -10,7 +10,7 @@ use Rattle.sts_rules.specs.Around.{next_place}
 use Rattle.sts_code.specs.Facts.{targets}
 use Rattle.sts_rules.specs.Refusal.{IsWellTyped}
 use Rattle.sts_rules.specs.ControlPaths.{Among}
-use Rattle.sts_budget.specs.Layout.{Names, names_after, HasEntryRoom}
+use Rattle.sts_budget.specs.Layout.{EntryNames, names_after, HasEntryRoom}
 use Rattle.sts_budget.specs.Laid.{Writes, IsLaid, head_after, mates_after}
 use Rattle.sts_budget.proofs.CheckedLemmas.{is_checked}
 use Rattle.sts_budget.proofs.LaidLemmas.{is_written, fits_room, leads_inside, head_before, laid_more}
@@ -27,7 +27,7 @@ among_at (x ∷ xs) zero d lt = inl refl
 among_at (x ∷ xs) (suc i) d lt = inr (among_at xs i d (omega arith))
 
 -- the stage of the pass: a place of a well-typed function, in a program that passed the checks
-pub record Stage (p : Program) (f k : ℕ) (code : List Instr) (heads : List (Option ℕ)) (mates : List ℕ) (table : List Names) : Type 0 where
+pub record Stage (p : Program) (f k : ℕ) (code : List Instr) (heads : List (Option ℕ)) (mates : List ℕ) (table : List EntryNames) : Type 0 where
   pub fine : program_fault p.routines ≡ None
   pub in_program : f < length p.routines
   pub typed : IsWellTyped p f
@@ -35,16 +35,16 @@ pub record Stage (p : Program) (f k : ℕ) (code : List Instr) (heads : List (Op
   pub within : k < length code
   pub laid : IsLaid p f k heads mates table
 
-pub inside_of : {p : Program} {f k : ℕ} {code : List Instr} {heads : List (Option ℕ)} {mates : List ℕ} {table : List Names} → Stage p f k code heads mates table → k < length (routine p f).code
+pub inside_of : {p : Program} {f k : ℕ} {code : List Instr} {heads : List (Option ℕ)} {mates : List ℕ} {table : List EntryNames} → Stage p f k code heads mates table → k < length (routine p f).code
 inside_of s = let e = ap length s.code_is in omega (arith, s.within)
 
-pub short : {p : Program} {f k : ℕ} {code : List Instr} {heads : List (Option ℕ)} {mates : List ℕ} {table : List Names} → Stage p f k code heads mates table → k < 4096
+pub short : {p : Program} {f k : ℕ} {code : List Instr} {heads : List (Option ℕ)} {mates : List ℕ} {table : List EntryNames} → Stage p f k code heads mates table → k < 4096
 short {p = p} {f = f} s = let c = is_checked p f s.fine s.in_program in omega (arith, inside_of s, c.short)
 
-pub instr_is : {p : Program} {f k : ℕ} {code : List Instr} {heads : List (Option ℕ)} {mates : List ℕ} {table : List Names} → Stage p f k code heads mates table → get_or code k (Push (pos 0)) ≡ instr_at (routine p f).code k
+pub instr_is : {p : Program} {f k : ℕ} {code : List Instr} {heads : List (Option ℕ)} {mates : List ℕ} {table : List EntryNames} → Stage p f k code heads mates table → get_or code k (Push (pos 0)) ≡ instr_at (routine p f).code k
 instr_is {k = k} {code = code} s = any_default code k (Push (pos 0)) Ret s.within ∙ ap (λ xs. get_or xs k Ret) s.code_is
 
-pub room : {p : Program} {f k : ℕ} {code : List Instr} {heads : List (Option ℕ)} {mates : List ℕ} {table : List Names} → Stage p f k code heads mates table → (ns d : Names) → ns ≡ get_or table k d → HasEntryRoom (get_or code k (Push (pos 0))) ns
+pub room : {p : Program} {f k : ℕ} {code : List Instr} {heads : List (Option ℕ)} {mates : List ℕ} {table : List EntryNames} → Stage p f k code heads mates table → (ns d : EntryNames) → ns ≡ get_or table k d → HasEntryRoom (get_or code k (Push (pos 0))) ns
 room {p = p} {f = f} {k = k} {heads = heads} {table = table} s ns d is =
     let c = is_checked p f s.fine s.in_program in
     let lt = inside_of s in
@@ -53,31 +53,31 @@ room {p = p} {f = f} {k = k} {heads = heads} {table = table} s ns d is =
     let n : get_or table k [] ≡ ns = any_default table k [] d (omega (arith, s.laid.names_long)) ∙ sym is in
     subst (λ i. HasEntryRoom i ns) (sym (instr_is s)) (subst (HasEntryRoom (instr_at (routine p f).code k)) n h)
 
-pub head_fits : {p : Program} {f k : ℕ} {code : List Instr} {heads : List (Option ℕ)} {mates : List ℕ} {table : List Names} → Stage p f k code heads mates table → (h : ℕ) → get_or heads k None ≡ Some h → h < length heads
+pub head_fits : {p : Program} {f k : ℕ} {code : List Instr} {heads : List (Option ℕ)} {mates : List ℕ} {table : List EntryNames} → Stage p f k code heads mates table → (h : ℕ) → get_or heads k None ≡ Some h → h < length heads
 head_fits {p = p} {f = f} {k = k} {heads = heads} {mates = mates} {table = table} s h e =
     let c = is_checked p f s.fine s.in_program in
     head_before p f s.typed c.some_code c.bounds k heads mates table (inside_of s) s.laid h e
 
-pub mate_fits : {p : Program} {f k : ℕ} {code : List Instr} {heads : List (Option ℕ)} {mates : List ℕ} {table : List Names} → Stage p f k code heads mates table → (o d : Option ℕ) → o ≡ get_or heads k d → IfSome o (λ h. h < length mates)
+pub mate_fits : {p : Program} {f k : ℕ} {code : List Instr} {heads : List (Option ℕ)} {mates : List ℕ} {table : List EntryNames} → Stage p f k code heads mates table → (o d : Option ℕ) → o ≡ get_or heads k d → IfSome o (λ h. h < length mates)
 mate_fits s None d e = search rules
 mate_fits {k = k} {heads = heads} s (Some h) d e =
     let same : get_or heads k None ≡ Some h = any_default heads k None d (omega (arith, s.laid.heads_long, inside_of s)) ∙ sym e in
     let lt = head_fits s h same in
     omega (arith, s.laid.heads_long, s.laid.mates_long)
 
-pub among_fit : {p : Program} {f k : ℕ} {code : List Instr} {heads : List (Option ℕ)} {mates : List ℕ} {table : List Names} → Stage p f k code heads mates table → (places : List ℕ) → places ≡ targets (get_or code k (Push (pos 0))) ++ next_place k (get_or code k (Push (pos 0))) → (to : ℕ) → Among places to → to < length table
+pub among_fit : {p : Program} {f k : ℕ} {code : List Instr} {heads : List (Option ℕ)} {mates : List ℕ} {table : List EntryNames} → Stage p f k code heads mates table → (places : List ℕ) → places ≡ targets (get_or code k (Push (pos 0))) ++ next_place k (get_or code k (Push (pos 0))) → (to : ℕ) → Among places to → to < length table
 among_fit {p = p} {f = f} {k = k} s places is to a =
     let c = is_checked p f s.fine s.in_program in
     let b = subst (λ ps. Among ps to) (is ∙ ap (λ i. targets i ++ next_place k i) (instr_is s)) a in
     let lt = (leads_inside p f s.typed c.some_code c.bounds k to (inside_of s) b).1 in
     omega (arith, s.laid.names_long)
 
-pub places_fit : {p : Program} {f k : ℕ} {code : List Instr} {heads : List (Option ℕ)} {mates : List ℕ} {table : List Names} → Stage p f k code heads mates table → (places : List ℕ) → places ≡ targets (get_or code k (Push (pos 0))) ++ next_place k (get_or code k (Push (pos 0))) → (q d : ℕ) → q < length places → get_or places q d < length (routine p f).code
+pub places_fit : {p : Program} {f k : ℕ} {code : List Instr} {heads : List (Option ℕ)} {mates : List ℕ} {table : List EntryNames} → Stage p f k code heads mates table → (places : List ℕ) → places ≡ targets (get_or code k (Push (pos 0))) ++ next_place k (get_or code k (Push (pos 0))) → (q d : ℕ) → q < length places → get_or places q d < length (routine p f).code
 places_fit s places is q d lt = let inside = among_fit s places is (get_or places q d) (among_at places q d lt) in omega (arith, s.laid.names_long)
 
-pub next_place_laid : {p : Program} {f k : ℕ} {code : List Instr} {heads : List (Option ℕ)} {mates : List ℕ} {table : List Names} → Stage p f k code heads mates table → (places : List ℕ) → places ≡ targets (get_or code k (Push (pos 0))) ++ next_place k (get_or code k (Push (pos 0)))
-    → (head : Option ℕ) → head ≡ head_after (get_or code k (Push (pos 0))) k heads → (after before d : Names) → after ≡ names_after (get_or code k (Push (pos 0))) before → before ≡ get_or table k d
-    → (heads' : List (Option ℕ)) (mates' : List ℕ) (table' : List Names) → Writes places head None heads heads' → Writes places after [] table table' → (end : Option ℕ) → end ≡ get_or heads k None → mates' ≡ mates_after (get_or code k (Push (pos 0))) k end mates → IsLaid p f (k + 1) heads' mates' table'
+pub next_place_laid : {p : Program} {f k : ℕ} {code : List Instr} {heads : List (Option ℕ)} {mates : List ℕ} {table : List EntryNames} → Stage p f k code heads mates table → (places : List ℕ) → places ≡ targets (get_or code k (Push (pos 0))) ++ next_place k (get_or code k (Push (pos 0)))
+    → (head : Option ℕ) → head ≡ head_after (get_or code k (Push (pos 0))) k heads → (after before d : EntryNames) → after ≡ names_after (get_or code k (Push (pos 0))) before → before ≡ get_or table k d
+    → (heads' : List (Option ℕ)) (mates' : List ℕ) (table' : List EntryNames) → Writes places head None heads heads' → Writes places after [] table table' → (end : Option ℕ) → end ≡ get_or heads k None → mates' ≡ mates_after (get_or code k (Push (pos 0))) k end mates → IsLaid p f (k + 1) heads' mates' table'
 next_place_laid {p = p} {f = f} {k = k} {heads = heads} {mates = mates} {table = table} s places places_is head head_is after before d after_is before_is heads' mates' table' wh wn end end_is mates_is =
     let c = is_checked p f s.fine s.in_program in
     let i = instr_is s in
@@ -92,7 +92,7 @@ next_place_laid {p = p} {f = f} {k = k} {heads = heads} {mates = mates} {table =
     mates_at
 
 -- before the first place
-pub begin : (p : Program) (f : ℕ) → program_fault p.routines ≡ None → f < length p.routines → IsWellTyped p f → (code : List Instr) → code ≡ (routine p f).code → (heads : List (Option ℕ)) (mates : List ℕ) (table : List Names) → heads ≡ replicate (length code) None → mates ≡ replicate (length code) 0 → table ≡ replicate (length code) [] → IsLaid p f 0 heads mates table
+pub begin : (p : Program) (f : ℕ) → program_fault p.routines ≡ None → f < length p.routines → IsWellTyped p f → (code : List Instr) → code ≡ (routine p f).code → (heads : List (Option ℕ)) (mates : List ℕ) (table : List EntryNames) → heads ≡ replicate (length code) None → mates ≡ replicate (length code) 0 → table ≡ replicate (length code) [] → IsLaid p f 0 heads mates table
 begin p f fine in_program typed code is heads mates table hs ms ns =
     let c = is_checked p f fine in_program in
     let n = ap length is in

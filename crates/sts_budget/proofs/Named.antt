@@ -32,7 +32,7 @@ use Rattle.sts_rules.specs.Refusal.{IsWellTyped}
 use Rattle.sts_rules.specs.ControlPaths.{GoesTo, Repeats, EndsPath, Skeleton, Among}
 use Rattle.sts_rules.specs.declared.budget.Budgets.{Budgets}
 use Rattle.sts_rules.specs.Budget.{skeleton, shape_of}
-use Rattle.sts_budget.specs.Layout.{Names, names_after, HasScope, FitsNames}
+use Rattle.sts_budget.specs.Layout.{EntryNames, names_after, HasScope, FitsNames}
 use Rattle.sts_budget.proofs.Allowed.{allowed, not_false, neither}
 use Rattle.sts_budget.proofs.TypedLemmas.{IsEdge, over_go, into_loop, past_loop, over_next, edge_at, here}
 use Rattle.sts_budget.proofs.TypedLemmas.{times_at, next_at, goes_at, within_code, opened, ended}
@@ -90,7 +90,7 @@ fits_names p (Close x) s ordered legal right own = some_entry (is_scope_in x) s.
 fits_names p Unbind s ordered legal right own = some_entry is_binding s.entries (unbinds s ordered).0
 fits_names p _ s ordered legal right own = tt
 
-dropped : (ns : Names) → length ns ≤ length (drop 1 ns) + 1
+dropped : (ns : EntryNames) → length ns ≤ length (drop 1 ns) + 1
 dropped [] = omega arith
 dropped (n ∷ ns) = omega arith
 
@@ -133,7 +133,7 @@ module _ (p : Program) (f : ℕ) (accepted : IsWellTyped p f) (some_code : 0 < l
       by pc s pos first = absurd (omega arith)
       by pc s pos (then from before out r e l) = at from pc before s (edge_at p f accepted some_code bounds earlier from before out pc s e l)
 
-  module _ (names_at : ℕ → Names) (right : NamesRight p f names_at) where
+  module _ (names_at : ℕ → EntryNames) (right : NamesRight p f names_at) where
     -- the names at a place are those of its typestate
     at_place : (pc : ℕ) (lt : pc < length (routine p f).code) → names (accepted pc lt).state.entries ≡ names_at pc
     at_place pc lt = right pc (accepted pc lt).state (accepted pc lt).alone.0

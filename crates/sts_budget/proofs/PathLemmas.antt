@@ -12,7 +12,7 @@ use Rattle.sts_rules.specs.Budget.{IsBudget, skeleton, shape_of, steps_of, budge
 use Rattle.sts_rules.specs.Budget.{entries_sum, entries_of, forked, tasks_measure, scopes_measure}
 use Rattle.sts_rules.specs.Budget.{binds_measure}
 use Rattle.sts_budget.specs.Laws.{PointsLieOnPaths, PointsAreWithin, ChildrenArePart}
-use Rattle.sts_budget.specs.Layout.{Names, HasScope, FitsNames}
+use Rattle.sts_budget.specs.Layout.{EntryNames, HasScope, FitsNames}
 use Rattle.sts_budget.specs.Change.{position_of}
 use Rattle.sts_budget.proofs.StructuredLemmas.{at_points, comes_inside}
 use Rattle.sts_budget.proofs.EntryLemmas.{names, front, front_all, front_forked, length_forked, long}
@@ -22,7 +22,7 @@ use Rattle.sts_budget.proofs.Named.{knows_names}
 use Rattle.sts_budget.proofs.LaidLemmas.{names_here, names_right}
 use Rattle.sts_budget.proofs.CheckedLemmas.{is_checked}
 
-position_low : (x : ℕ) (ns : Names) → HasScope x ns → position_of x ns < length ns
+position_low : (x : ℕ) (ns : EntryNames) → HasScope x ns → position_of x ns < length ns
 position_low x [] h = absurd h
 position_low x (None ∷ ns) (inl e) = absurd (cc)
 position_low x (None ∷ ns) (inr h) = let r = position_low x ns h in omega arith

@@ -13,7 +13,7 @@ use Rattle.sts_budget.specs.declared.layout.Layout.{Layout}
 use Rattle.sts_budget.specs.Flowing.{flows, flows_by}
 use Rattle.sts_budget.specs.Known.{KnowsNames, NamesRight}
 use Rattle.sts_budget.specs.Laid.{IsLaidOut, IsRight, listed}
-use Rattle.sts_budget.specs.Layout.{Names}
+use Rattle.sts_budget.specs.Layout.{EntryNames}
 use Rattle.sts_budget.specs.Ready.{names_in, IsLaidFor}
 use Rattle.sts_budget.specs.Structured.{IsStructured}
 use Rattle.sts_budget.specs.Sums.{Sums}
@@ -24,7 +24,7 @@ use Rattle.sts_budget.proofs.LaidLemmas.{is_written}
 use Rattle.sts_budget.proofs.ReadyLemmas.{is_ready}
 use Rattle.sts_budget.proofs.TypedLemmas.{fits}
 
-module _ (earlier : List Budgets) (code : List Instr) (round : ℕ → List ℕ) (good : IsStructured (skeleton earlier code) round) (names_at : ℕ → Names) (known : KnowsNames code (skeleton earlier code) round names_at) where
+module _ (earlier : List Budgets) (code : List Instr) (round : ℕ → List ℕ) (good : IsStructured (skeleton earlier code) round) (names_at : ℕ → EntryNames) (known : KnowsNames code (skeleton earlier code) round names_at) where
   pub stands : (m : Measure) (pc : ℕ) (loops : Loops) (sum : ℕ) → Sums (skeleton earlier code) (flows_by m code names_at) (length (names_at pc)) pc loops sum → (before : ℕ) × ((es : List OpenEntry) × (Comes (skeleton earlier code) pc loops before es × (entries_sum m es ≡ sum)))
   stands m pc loops sum h =
       let w = from_sums earlier code round good names_at known m (length (names_at pc)) pc loops sum h in

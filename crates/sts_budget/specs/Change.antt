@@ -16,7 +16,7 @@ use Rattle.sts_budget.specs.declared.change.Resource.{Resource}
 use Rattle.sts_budget.specs.declared.change.Resource.TheVariants.{Steps, Tasks, Scopes, Binds}
 use Rattle.sts_budget.specs.declared.change.SumChange.{SumChange}
 use Rattle.sts_budget.specs.declared.change.SumChange.TheVariants.{Rises, Opens, Adds}
-use Rattle.sts_budget.specs.Layout.{Names}
+use Rattle.sts_budget.specs.Layout.{EntryNames}
 
 -- the number of entries that the sum over the first d depends on; n entries are open before the
 -- instruction
@@ -31,12 +31,12 @@ added_of (Opens own) n d = if nat_lt n d then own else 0
 added_of (Adds position amount) n d = if nat_lt position d then amount else 0
 
 -- the position from the outermost of the innermost scope in this slot
-abbrev pub position_of : ℕ → Names → ℕ
+abbrev pub position_of : ℕ → EntryNames → ℕ
 position_of slot [] = 0
 position_of slot (None ∷ ns) = position_of slot ns
 position_of slot (Some s ∷ ns) = if s == slot then length ns else position_of slot ns
 
-abbrev pub measured : Measure → Instr → Names → SumChange
+abbrev pub measured : Measure → Instr → EntryNames → SumChange
 measured m (Open slot joiner timed) ns = Opens m.scope
 measured m (Bind key) ns = Opens m.binding
 measured m (Fork slot function handle) ns = Adds (position_of slot ns) (m.subtask function)
@@ -55,13 +55,13 @@ measure_of Scopes earlier = scopes_measure earlier
 measure_of Binds earlier = binds_measure earlier
 
 -- steps are summed over no entry
-abbrev pub change_of : Resource → List Budgets → Instr → Names → SumChange
+abbrev pub change_of : Resource → List Budgets → Instr → EntryNames → SumChange
 change_of Steps earlier i ns = Rises (steps_of earlier i)
 change_of Tasks earlier i ns = measured (tasks_measure earlier) i ns
 change_of Scopes earlier i ns = measured (scopes_measure earlier) i ns
 change_of Binds earlier i ns = measured (binds_measure earlier) i ns
 
-abbrev pub depth_of : Resource → Names → ℕ
+abbrev pub depth_of : Resource → EntryNames → ℕ
 depth_of Steps ns = 0
 depth_of _ ns = length ns
 

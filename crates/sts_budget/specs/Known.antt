@@ -7,11 +7,11 @@ use Rattle.sts_rules.specs.Flow.{Reaches}
 use Rattle.sts_rules.specs.TypeState.{TypeState}
 use Rattle.sts_rules.specs.Edges.{typing}
 use Rattle.sts_rules.specs.ControlPaths.{GoesTo, Repeats, EndsTurn, Skeleton, Among}
-use Rattle.sts_budget.specs.Layout.{Names, names_after, FitsNames}
+use Rattle.sts_budget.specs.Layout.{EntryNames, names_after, FitsNames}
 use Rattle.sts_budget.specs.TypedNames.{names}
 
 -- the names of the open entries at each place fit the instructions and the jumps
-pub record KnowsNames (code : List Instr) (c : Skeleton) (round : ℕ → List ℕ) (names_at : ℕ → Names)
+pub record KnowsNames (code : List Instr) (c : Skeleton) (round : ℕ → List ℕ) (names_at : ℕ → EntryNames)
     : Type 0 where
   pub empty : names_at 0 ≡ []
   pub over_go : (pc to : ℕ) (places : List ℕ) → c.shape pc ≡ GoesTo places → Among places to
@@ -25,6 +25,6 @@ pub record KnowsNames (code : List Instr) (c : Skeleton) (round : ℕ → List �
       → length (names_at h) ≤ length (names_at pc)
 
 -- each typestate that reaches a place has the names of the place
-abbrev pub NamesRight : Program → ℕ → (ℕ → Names) → Type 0
+abbrev pub NamesRight : Program → ℕ → (ℕ → EntryNames) → Type 0
 NamesRight p f names_at =
     (pc : ℕ) (s : TypeState) → Reaches (typing p f) pc s → names s.entries ≡ names_at pc

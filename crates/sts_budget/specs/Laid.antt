@@ -13,7 +13,7 @@ use Rattle.sts_code.specs.Facts.{targets}
 use Rattle.sts_rules.specs.Edges.{typing}
 use Rattle.sts_rules.specs.ControlPaths.{Among}
 use Rattle.sts_budget.specs.declared.layout.Layout.{Layout}
-use Rattle.sts_budget.specs.Layout.{Names, names_after}
+use Rattle.sts_budget.specs.Layout.{EntryNames, names_after}
 use Rattle.sts_budget.specs.TypedNames.{names}
 
 -- one value is written at these places
@@ -33,7 +33,7 @@ head_after Next pc heads = get_or heads (unwrap_or (get_or heads pc None) 0) Non
 head_after _ pc heads = get_or heads pc None
 
 -- what the tables say of a place
-pub record IsRight (p : Program) (f : ℕ) (heads : List (Option ℕ)) (table : List Names) (pc : ℕ)
+pub record IsRight (p : Program) (f : ℕ) (heads : List (Option ℕ)) (table : List EntryNames) (pc : ℕ)
     : Type 0 where
   pub head : get_or heads pc None ≡ first_of (around (routine p f).code pc)
   pub name : (s : TypeState) → Reaches (typing p f) pc s → names s.entries ≡ get_or table pc []
@@ -48,7 +48,7 @@ IsWritten code k pc =
 
 -- the tables after the places below k
 pub record IsLaid (p : Program) (f k : ℕ) (heads : List (Option ℕ)) (mates : List ℕ)
-    (table : List Names) : Type 0 where
+    (table : List EntryNames) : Type 0 where
   pub heads_long : length heads ≡ length (routine p f).code
   pub mates_long : length mates ≡ length (routine p f).code
   pub names_long : length table ≡ length (routine p f).code
@@ -63,22 +63,22 @@ mates_after Next pc (Some h) mates = slice_set mates h pc
 mates_after _ pc head mates = mates
 
 -- the names at each place, by the lists of the places
-abbrev pub listed : List Names → List ℕ → List Names
+abbrev pub listed : List EntryNames → List ℕ → List EntryNames
 listed lists which = map (λ i. get_or lists i []) which
 
 -- each place has one of the lists
-abbrev pub AreListed : List Names → List ℕ → Type 0
+abbrev pub AreListed : List EntryNames → List ℕ → Type 0
 AreListed lists which = (pc : ℕ) → get_or which pc 0 < length lists
 
 -- the list i is that after the instruction, and `list` is that before it; the lists so far are kept
-pub record IsListAfter (instr : Instr) (list i : ℕ) (old new : List Names) : Type 0 where
+pub record IsListAfter (instr : Instr) (list i : ℕ) (old new : List EntryNames) : Type 0 where
   pub kept : (k : ℕ) → k < length old → get_or new k [] ≡ get_or old k []
   pub more : length old ≤ length new
   pub inside : i < length new
   pub after : get_or new i [] ≡ names_after instr (get_or old list [])
 
 -- no list is longer than this limit, which is the most that can be open
-abbrev pub IsDeepest : List Names → ℕ → Type 0
+abbrev pub IsDeepest : List EntryNames → ℕ → Type 0
 IsDeepest lists deepest = ((k : ℕ) → length (get_or lists k []) ≤ deepest) × (deepest ≤ MAX_ENTRIES)
 
 -- the tables of the whole function

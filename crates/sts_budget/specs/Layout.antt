@@ -8,11 +8,11 @@ use Rattle.sts_code.specs.declared.instr.Instr.TheVariants.{Case, Bind, Unbind, 
 
 -- the names of the open entries, the innermost first: a scope's name is its slot, and a binding has
 -- none
-abbrev pub Names : Type 0
-Names = List (Option ℕ)
+abbrev pub EntryNames : Type 0
+EntryNames = List (Option ℕ)
 
 -- the names after an instruction
-abbrev pub names_after : Instr → Names → Names
+abbrev pub names_after : Instr → EntryNames → EntryNames
 names_after (Open slot joiner timed) ns = Some slot ∷ ns
 names_after (Bind key) ns = None ∷ ns
 names_after (Close slot) ns = drop 1 ns
@@ -39,19 +39,19 @@ goes_straight_on Fail = false
 goes_straight_on _ = true
 
 -- is there a scope in this slot among them?
-abbrev pub HasScope : ℕ → Names → Type 0
+abbrev pub HasScope : ℕ → EntryNames → Type 0
 HasScope slot [] = ⊥
 HasScope slot (n ∷ ns) = (n ≡ Some slot) ⊎ HasScope slot ns
 
 -- a close has an entry to close, and a fork an open scope in its slot
-abbrev pub FitsNames : Instr → Names → Type 0
+abbrev pub FitsNames : Instr → EntryNames → Type 0
 FitsNames (Close slot) ns = 0 < length ns
 FitsNames Unbind ns = 0 < length ns
 FitsNames (Fork slot function handle) ns = HasScope slot ns
 FitsNames _ ns = Unit {0}
 
 -- there is room for the entry that an instruction opens
-abbrev pub HasEntryRoom : Instr → Names → Type 0
+abbrev pub HasEntryRoom : Instr → EntryNames → Type 0
 HasEntryRoom (Open slot joiner timed) ns = length ns < MAX_ENTRIES
 HasEntryRoom (Bind key) ns = length ns < MAX_ENTRIES
 HasEntryRoom _ ns = Unit {0}

@@ -13,12 +13,12 @@ use Rattle.sts_budget.specs.Change.{ForksEarlier}
 use Rattle.sts_budget.specs.Flowing.{flows}
 use Rattle.sts_budget.specs.Known.{KnowsNames}
 use Rattle.sts_budget.specs.Laid.{first_of, listed, AreListed}
-use Rattle.sts_budget.specs.Layout.{Names}
+use Rattle.sts_budget.specs.Layout.{EntryNames}
 use Rattle.sts_budget.specs.Structured.{IsStructured, Led}
 use Rattle.sts_budget.specs.Sums.{Flows}
 
 -- the names at a place
-abbrev pub names_in : Layout → ℕ → Names
+abbrev pub names_in : Layout → ℕ → EntryNames
 names_in l pc = get_or (listed l.lists.items l.which.items) pc []
 
 -- the `times` of the innermost loop around a place

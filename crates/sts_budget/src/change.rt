@@ -4,7 +4,7 @@ ghost use Rattle.std.specs.Prelude.{◌≡◌, ◌<◌, ◌≤◌, ◌+◌, leng
 ghost use Rattle.sts_rules.specs.Budget as budget;
 ghost use Rattle.sts_budget.specs.Change as def;
 
-use crate::layout::Names;
+use crate::layout::EntryNames;
 use sts_code::{Instr, MAX_ENTRIES};
 use sts_rules::Budgets;
 
@@ -51,7 +51,7 @@ pub fn added_of(change: SumChange, depth: usize, d: usize) -> u64
 }
 
 /// The position, from the outermost, of the innermost scope in this slot.
-fn position_of(slot: u8, names: &Names) -> usize
+fn position_of(slot: u8, names: &EntryNames) -> usize
     ensures { result ≡ def.position_of slot names.now }
 {
     let len = names.len();
@@ -109,7 +109,7 @@ fn binding_of(resource: Resource, earlier: &[Budgets]) -> u64
     }
 }
 
-fn measured(resource: Resource, earlier: &[Budgets], instr: Instr, names: &Names) -> SumChange
+fn measured(resource: Resource, earlier: &[Budgets], instr: Instr, names: &EntryNames) -> SumChange
     requires { def.ForksEarlier (length earlier.now) instr }
     ensures { result ≡ def.measured (def.measure_of resource earlier.now) instr names.now }
 {
@@ -125,7 +125,12 @@ fn measured(resource: Resource, earlier: &[Budgets], instr: Instr, names: &Names
 }
 
 /// How the instruction changes the sums of this resource, if the open entries have these names.
-pub fn change_of(resource: Resource, earlier: &[Budgets], instr: Instr, names: &Names) -> SumChange
+pub fn change_of(
+    resource: Resource,
+    earlier: &[Budgets],
+    instr: Instr,
+    names: &EntryNames,
+) -> SumChange
     requires { def.ForksEarlier (length earlier.now) instr }
     ensures { result ≡ def.change_of resource earlier.now instr names.now }
 {
@@ -136,7 +141,7 @@ pub fn change_of(resource: Resource, earlier: &[Budgets], instr: Instr, names: &
 }
 
 /// The number of entries that the sums of this resource go over.
-pub fn depth_of(resource: Resource, names: &Names) -> usize
+pub fn depth_of(resource: Resource, names: &EntryNames) -> usize
     ensures value { result ≡ def.depth_of resource names.now }
     ensures bound { result ≤ MAX_ENTRIES }
 {

@@ -19,7 +19,7 @@ use sts_rules::filled;
 
 /// The names of the open entries at a place, the innermost on top. A scope's name is its slot; a
 /// binding has none.
-pub type Names = Stack<Option<u8>, 16>;
+pub type EntryNames = Stack<Option<u8>, 16>;
 
 /// The open entries at each place of a function.
 #[derive(Drop)]
@@ -29,7 +29,7 @@ pub struct Layout {
     /// The `next` that ends the loop of a `times`.
     pub mates: Vec<u32>,
     /// The lists of names that places refer to: a new list for each entry that opens or closes.
-    pub lists: Vec<Names>,
+    pub lists: Vec<EntryNames>,
     /// Which of the lists each place has.
     pub which: Vec<usize>,
     /// The greatest length of the lists: no place has more open entries.
@@ -37,7 +37,7 @@ pub struct Layout {
 }
 
 /// A copy, which takes no memory.
-fn copy_of(names: &Names) -> Names
+fn copy_of(names: &EntryNames) -> EntryNames
     ensures { result ≡ names.now }
 {
     let mut copy = Stack::new();
@@ -49,7 +49,7 @@ fn copy_of(names: &Names) -> Names
 }
 
 /// The names after an instruction.
-fn names_after(instr: Instr, names: &Names) -> Names
+fn names_after(instr: Instr, names: &EntryNames) -> EntryNames
     requires { def.HasEntryRoom instr names.now }
     ensures { result ≡ def.names_after instr names.now }
 {
@@ -74,7 +74,7 @@ fn keeps_names(instr: Instr) -> bool
 }
 
 /// The list of the names after an instruction: the same, or a new one at the end.
-fn list_after(lists: &mut Vec<Names>, instr: Instr, list: usize) -> Result<usize, AllocError>
+fn list_after(lists: &mut Vec<EntryNames>, instr: Instr, list: usize) -> Result<usize, AllocError>
     requires listed { list < length lists.old.items }
     requires room { def.HasEntryRoom instr (get_or lists.old.items list []) }
     ensures { IfOk result (λ i. IsListAfter instr list i lists.old.items lists.new.items) }
@@ -89,7 +89,7 @@ fn list_after(lists: &mut Vec<Names>, instr: Instr, list: usize) -> Result<usize
 }
 
 /// The greatest length of the lists.
-fn deepest_of(lists: &[Names]) -> usize
+fn deepest_of(lists: &[EntryNames]) -> usize
     ensures { IsDeepest lists.now result }
 {
     let mut deepest = 0;
@@ -100,7 +100,7 @@ fn deepest_of(lists: &[Names]) -> usize
 }
 
 /// The names of the open entries at a place.
-pub fn names_at(layout: &Layout, pc: usize) -> &Names
+pub fn names_at(layout: &Layout, pc: usize) -> &EntryNames
     requires in_code { pc < length layout.now.which.items }
     requires listed { AreListed layout.now.lists.items layout.now.which.items }
     ensures { result.now ≡ get_or (listed layout.now.lists.items layout.now.which.items) pc [] }

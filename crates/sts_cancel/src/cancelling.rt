@@ -1,8 +1,8 @@
 //! Interrupts and expiries from outside, and cancels that a joiner asks for.
 
 ghost use Rattle.std.specs.Prelude.{◌≡◌, ◌≢◌, Some, None, true, slice_index_or};
-ghost use Rattle.sts_tree.specs.declared.record.Task.{Task as AnyTask};
-ghost use Rattle.sts_tree.specs.declared.record.Scope.{Scope as AnyScope};
+ghost use Rattle.sts_tree.specs.declared.record.TaskNode.{TaskNode as AnyTask};
+ghost use Rattle.sts_tree.specs.declared.record.ScopeNode.{ScopeNode as AnyScope};
 ghost use Rattle.sts_tree.specs.Steps.{seen, with_task};
 ghost use Rattle.sts_cancel.specs.Cancelling as cancelling;
 

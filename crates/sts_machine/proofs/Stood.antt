@@ -4,7 +4,7 @@ use Rattle.std.proofs.Common.{◌≡◌, ℕ, suc, List, [], ◌∷◌, length, 
 use Rattle.std.proofs.lemmas.Bool.Decides.{nat_tests}
 use Rattle.std.specs.Prelude.{option_map, unwrap_or, ◌==◌}
 use Rattle.sts_code.specs.Program.{Program}
-use Rattle.sts_tree.specs.declared.record.Task.{Task}
+use Rattle.sts_tree.specs.declared.record.TaskNode.{TaskNode}
 use Rattle.sts_rules.specs.declared.budget.Budgets.{Budgets}
 use Rattle.sts_code.specs.declared.instr.Instr.{Instr}
 use Rattle.sts_code.specs.declared.instr.Instr.TheVariants.{Join, Close}
@@ -25,7 +25,7 @@ use Rattle.sts_machine.proofs.Changing.{inside, lives_quiet, changes-quiet, as_a
 
 -- ---- as many tasks are said to stand somewhere as were born
 
-born_from : {E : Type 0} (b : Beside E) (n : ℕ) (xs : List (Option Task)) → length (map (option_map stand_of) xs) ≡ length (tasks_from b n xs)
+born_from : {E : Type 0} (b : Beside E) (n : ℕ) (xs : List (Option TaskNode)) → length (map (option_map stand_of) xs) ≡ length (tasks_from b n xs)
 born_from b n [] = refl
 born_from b n (x ∷ xs) = ap suc (born_from b (suc n) xs)
 

@@ -3,7 +3,7 @@ use Rattle.std.proofs.Common.{◌≡◌, ℕ, zero, suc, List, [], ◌∷◌, le
 use Rattle.std.specs.Prelude.{is_some, count_by}
 use Rattle.sts_env.specs.Environments.{Records, IsWhole, keys_of}
 use Rattle.sts_tree.specs.Forest.{root}
-use Rattle.sts_tree.specs.declared.record.Task.{Task}
+use Rattle.sts_tree.specs.declared.record.TaskNode.{TaskNode}
 use Rattle.std.specs.Prelude.{filter_map, replicate, slice_index_or}
 use Rattle.std.specs.List.{list_any}
 use Rattle.sts_model.specs.Environment.{bound_of}
@@ -51,8 +51,8 @@ module _ (frame : Frame) (fresh : frame.entries ≡ []) where
   pub root_store : (m : Parts) → m.tree.tasks ≡ Some root ∷ [] → m.tree.scopes ≡ [] → m.frames.slots ≡ Some (root_running frame) ∷ [] → IsStore m
   root_store m tasks scopes slots =
       record {
-        born = ap (λ (l : List (Option Running)). length l) slots ∙ sym (ap (λ (l : List (Option Task)). length l) tasks);
-        alive = λ t. ap (λ (l : List (Option Running)). is_some (get_or l t None)) slots ∙ by t ∙ sym (ap (λ (l : List (Option Task)). lives_of (get_or l t None)) tasks);
+        born = ap (λ (l : List (Option Running)). length l) slots ∙ sym (ap (λ (l : List (Option TaskNode)). length l) tasks);
+        alive = λ t. ap (λ (l : List (Option Running)). is_some (get_or l t None)) slots ∙ by t ∙ sym (ap (λ (l : List (Option TaskNode)). lives_of (get_or l t None)) tasks);
         shared = rw (slots, scopes, tasks) (record { own = λ _. []; outside = λ _. []; shares = root_shares m.chains });
       }
     where

@@ -7,7 +7,7 @@ use Rattle.sts_env.specs.Environments.{Records, IsWhole, keys_of, list_of, NotIn
 use Rattle.sts_env.specs.declared.env.Env.{Env}
 use Rattle.sts_env.specs.Sharing.{IsUnshared}
 use Rattle.sts_env.proofs.UnsharedLemmas.{front_is_unshared}
-use Rattle.sts_tree.specs.declared.record.Scope.{Scope}
+use Rattle.sts_tree.specs.declared.record.ScopeNode.{ScopeNode}
 use Rattle.sts_tree.proofs.HoldingLemmas.{map_at}
 use Rattle.sts_model.specs.Misuse.{is_binding, innermost}
 use Rattle.sts_model.specs.Local.{operand, steps}
@@ -84,7 +84,7 @@ module _ (m : Parts) (is : IsStore m) (t : ℕ) (r q : Running) (d : Records) (a
   held_of : (u : ℕ) (l : Running) → get_or m.frames.slots u None ≡ Some l → get_or (holders m) u None ≡ Some (holder_of l)
   held_of u l e = map_at holder_of m.frames.slots u ∙ ap (option_map holder_of) e
 
-  kept_of : (s : ℕ) (k : Scope Env) → get_or m.tree.scopes s None ≡ Some k → get_or (keepers m) s None ≡ Some (keeper_of k)
+  kept_of : (s : ℕ) (k : ScopeNode Env) → get_or m.tree.scopes s None ≡ Some k → get_or (keepers m) s None ≡ Some (keeper_of k)
   kept_of s k e = map_at keeper_of m.tree.scopes s ∙ ap (option_map keeper_of) e
 
   pub whole_here : IsWhole m.chains r.env

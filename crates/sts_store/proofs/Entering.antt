@@ -8,7 +8,7 @@ use Rattle.sts_env.specs.Environments.{list_of}
 use Rattle.sts_code.specs.declared.instr.Joiner.{Joiner}
 use Rattle.sts_env.specs.declared.env.Env.{Env}
 use Rattle.sts_tree.specs.Forest.{Forest, opened}
-use Rattle.sts_tree.specs.declared.record.Scope.{Scope}
+use Rattle.sts_tree.specs.declared.record.ScopeNode.{ScopeNode}
 use Rattle.sts_tree.proofs.HoldingLemmas.{map_at, inside_of}
 use Rattle.sts_model.specs.Local.{steps}
 use Rattle.sts_model.specs.Misuse.{is_binding}
@@ -52,11 +52,11 @@ abbrev pub entered : Frame → ℕ → ℕ → Frame
 entered f x s = record (steps f 0 []) { entries = entry.Scope s ∷ f.entries; slots = slice_set f.slots x (Own s) }
 
 -- the tree with a scope more
-abbrev pub with_opened : Forest Env → Scope Env → List ℕ → ℕ → Forest Env
+abbrev pub with_opened : Forest Env → ScopeNode Env → List ℕ → ℕ → Forest Env
 with_opened f c keys room = record f { scopes = f.scopes ++ Some c ∷ []; scope_keys = keys; scope_room = room }
 
 -- the parts with a scope more, and its opener's frame
-abbrev pub with_scope_more : Parts → ℕ → Running → Frame → Scope Env → List ℕ → ℕ → Parts
+abbrev pub with_scope_more : Parts → ℕ → Running → Frame → ScopeNode Env → List ℕ → ℕ → Parts
 with_scope_more m t r f c keys room = with_running (record m { tree = with_opened m.tree c keys room }) t (record r { frame = f }) m.chains
 
 -- ---- what is seen

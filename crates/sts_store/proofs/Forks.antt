@@ -7,8 +7,8 @@ use Rattle.sts_code.specs.Program.{Program, routine}
 use Rattle.sts_env.specs.Environments.{Records, list_of}
 use Rattle.sts_env.specs.declared.env.Env.{Env}
 use Rattle.sts_tree.specs.Forest.{Forest, subtask}
-use Rattle.sts_tree.specs.declared.record.Task.{Task}
-use Rattle.sts_tree.specs.declared.record.Scope.{Scope}
+use Rattle.sts_tree.specs.declared.record.TaskNode.{TaskNode}
+use Rattle.sts_tree.specs.declared.record.ScopeNode.{ScopeNode}
 use Rattle.sts_tree.proofs.HoldingLemmas.{map_at, inside_of}
 use Rattle.sts_records.specs.Holes.{Holes}
 use Rattle.sts_model.specs.Effect.{forked}
@@ -46,7 +46,7 @@ last : {X : Type 0} (xs : List X) (y d : X) → get_or (xs ++ y ∷ []) (length 
 last [] y d = refl
 last (x ∷ xs) y d = last xs y d
 
-length_from : {E : Type 0} (b : Beside E) (n : ℕ) (xs : List (Option Task)) → length (tasks_from b n xs) ≡ length xs
+length_from : {E : Type 0} (b : Beside E) (n : ℕ) (xs : List (Option TaskNode)) → length (tasks_from b n xs) ≡ length xs
 length_from b n [] = refl
 length_from b n (x ∷ xs) = ap suc (length_from b (suc n) xs)
 
@@ -66,7 +66,7 @@ alive_if lives alive = cond lives (Some alive) None
 abbrev pub fresh_alive : Records → Running → Alive
 fresh_alive c child = record { frame = child.frame; flag = false; environment = list_of c child.env }
 
-module _ (m : Parts) (is : IsStore m) (s : ℕ) (c : Scope Env) (at : get_or m.tree.scopes s None ≡ Some c) (child : Running) (lives : Bool) (keys : List ℕ) (room : ℕ) (h : Holes Running) (slots : h.slots ≡ m.frames.slots ++ born_if lives child ∷ []) where
+module _ (m : Parts) (is : IsStore m) (s : ℕ) (c : ScopeNode Env) (at : get_or m.tree.scopes s None ≡ Some c) (child : Running) (lives : Bool) (keys : List ℕ) (room : ℕ) (h : Holes Running) (slots : h.slots ≡ m.frames.slots ++ born_if lives child ∷ []) where
   -- the parts with a subtask more
   abbrev pub more : Parts
   more = record m { tree = with_subtask m.tree s lives keys room; frames = h }
@@ -82,7 +82,7 @@ module _ (m : Parts) (is : IsStore m) (s : ℕ) (c : Scope Env) (at : get_or m.t
   old_seen : view_of (beside more) m.tree ≡ live_of m
   old_seen = ap (λ l. record { tasks = l; scopes = (live_of m).scopes; root_end = m.root_end }) (tasks_same (beside m) (beside more) m.tree same)
     where
-      same : (u : ℕ) (x : Task) → get_or m.tree.tasks u None ≡ Some x → x.lives ≡ true → Same (beside m) (beside more) u
+      same : (u : ℕ) (x : TaskNode) → get_or m.tree.tasks u None ≡ Some x → x.lives ≡ true → Same (beside m) (beside more) u
       same u x e l =
           let less = inside_of m.tree.tasks u (λ none. let never : Some x ≡ None = sym e ∙ none in cc) in
           let b = is.born in
@@ -166,7 +166,7 @@ alive_same : (cancelled : Bool) (a b : Alive) → a ≡ b → alive_if (not canc
 alive_same true a b e = refl
 alive_same false a b e = ap (λ x. Some x) e
 
-module _ (m : Parts) (is : IsStore m) (order : InOrder (live_of m)) (t s : ℕ) (c : Scope Env) (at : get_or m.tree.scopes s None ≡ Some c) (child : Running) (keys : List ℕ) (room : ℕ) (h : Holes Running) (slots : h.slots ≡ m.frames.slots ++ born_if (not c.cancelled) child ∷ []) (l : Lived m t) (g : Forest Env) (same : seen g ≡ seen (with_subtask m.tree s (not c.cancelled) keys room)) where
+module _ (m : Parts) (is : IsStore m) (order : InOrder (live_of m)) (t s : ℕ) (c : ScopeNode Env) (at : get_or m.tree.scopes s None ≡ Some c) (child : Running) (keys : List ℕ) (room : ℕ) (h : Holes Running) (slots : h.slots ≡ m.frames.slots ++ born_if (not c.cancelled) child ∷ []) (l : Lived m t) (g : Forest Env) (same : seen g ≡ seen (with_subtask m.tree s (not c.cancelled) keys room)) where
   pub still_there : get_or h.slots t None ≡ Some l.run
   still_there =
       let less = inside_of m.frames.slots t (λ none. let runs = l.runs in let never : Some l.run ≡ None = sym runs ∙ none in cc) in

@@ -8,8 +8,8 @@ use Rattle.std.specs.Prelude.{option_map, is_some, unwrap_or, count_by}
 use Rattle.sts_env.specs.declared.env.Env.{Env}
 use Rattle.sts_tree.specs.Births.{births, drop_if}
 use Rattle.sts_tree.specs.Forest.{any_lives, closed, is_of}
-use Rattle.sts_tree.specs.declared.record.Task.{Task}
-use Rattle.sts_tree.specs.declared.record.Scope.{Scope}
+use Rattle.sts_tree.specs.declared.record.TaskNode.{TaskNode}
+use Rattle.sts_tree.specs.declared.record.ScopeNode.{ScopeNode}
 use Rattle.sts_tree.proofs.ClosedLemmas.{drop_at}
 use Rattle.sts_tree.proofs.HoldingLemmas.{map_at}
 use Rattle.sts_model.specs.Living.{is_in}
@@ -57,7 +57,7 @@ counted s es first =
 
 -- ---- where the tasks stand that are left
 
-stands_gone : (b : Beside Env) (s n : ℕ) (xs : List (Option Task)) → map (option_map stand_of) (map (drop_if (is_of s)) xs) ≡ stands_left s (tasks_from b n xs) (map (option_map stand_of) xs)
+stands_gone : (b : Beside Env) (s n : ℕ) (xs : List (Option TaskNode)) → map (option_map stand_of) (map (drop_if (is_of s)) xs) ≡ stands_left s (tasks_from b n xs) (map (option_map stand_of) xs)
 stands_gone b s n [] = refl
 stands_gone b s n (None ∷ xs) = ap (λ l. None ∷ l) (stands_gone b s (suc n) xs)
 stands_gone b s n (Some x ∷ xs) = by (is_in s x.scope) (stands_gone b s (suc n) xs)
@@ -90,13 +90,13 @@ module _ (m : Parts) (t s : ℕ) (k : Leaves m t s) where
   own : IsOwned (live_of m) t s
   own = innermost_own (live_of m) t s k.order (ap (λ o. is_some (unwrap_or o no_live_task).alive) k.lived.seen) k.first
 
-  pub scope : (c : Scope Env) × (get_or m.tree.scopes s None ≡ Some c)
+  pub scope : (c : ScopeNode Env) × (get_or m.tree.scopes s None ≡ Some c)
   scope = scope_stands m s own.stands
 
   pub none_left : any_lives m.tree.tasks s ≡ false
   none_left = sym (words.any_is (beside m) m.tree s) ∙ k.none
 
-  pub free : stand_in (unseen_of m) t ≡ Free → (c : Scope Env) (x : Task) → get_or m.tree.scopes s None ≡ Some c → get_or m.tree.tasks c.owner None ≡ Some x → x.stand ≡ Free
+  pub free : stand_in (unseen_of m) t ≡ Free → (c : ScopeNode Env) (x : TaskNode) → get_or m.tree.scopes s None ≡ Some c → get_or m.tree.tasks c.owner None ≡ Some x → x.stand ≡ Free
   free stands c x there task =
       let mine : c.owner ≡ t = sym (ap (λ (d : LiveScope). d.owner) (scope_there (beside m) m.tree s c there)) ∙ own.owner in
       sym (stand_is m t x (subst (λ i. get_or m.tree.tasks i None ≡ Some x) mine task)) ∙ stands
@@ -118,11 +118,11 @@ module _ (m : Parts) (t s : ℕ) (k : Leaves m t s) where
   lives_on : (u : ℕ) → lives_at (closed m.tree s) u ≡ lives_at m.tree u
   lives_on u = ap lives_of (drop_at (is_of s) m.tree.tasks u) ∙ by (get_or m.tree.tasks u None) refl
     where
-      by2 : (x : Task) → get_or m.tree.tasks u None ≡ Some x → (b : Bool) → is_of s x ≡ b → lives_of (drop_if (is_of s) (Some x)) ≡ lives_of (Some x)
+      by2 : (x : TaskNode) → get_or m.tree.tasks u None ≡ Some x → (b : Bool) → is_of s x ≡ b → lives_of (drop_if (is_of s) (Some x)) ≡ lives_of (Some x)
       by2 x at true e = rw e (sym (none_lives m.tree.tasks s u x none_left at e))
       by2 x at false e = rw e refl
 
-      by : (o : Option Task) → get_or m.tree.tasks u None ≡ o → lives_of (drop_if (is_of s) o) ≡ lives_of o
+      by : (o : Option TaskNode) → get_or m.tree.tasks u None ≡ o → lives_of (drop_if (is_of s) o) ≡ lives_of o
       by None at = refl
       by (Some x) at = by2 x at (is_of s x) refl
 
@@ -131,7 +131,7 @@ module _ (m : Parts) (t s : ℕ) (k : Leaves m t s) where
   homes_left = map (option_map home_of) (map (drop_if (is_of s)) m.tree.tasks)
 
   -- a living task is no subtask of it
-  apart : (u : ℕ) (x : Task) → get_or m.tree.tasks u None ≡ Some x → x.lives ≡ true → is_of s x ≡ false
+  apart : (u : ℕ) (x : TaskNode) → get_or m.tree.tasks u None ≡ Some x → x.lives ≡ true → is_of s x ≡ false
   apart u x at lives = by (is_of s x) refl
     where
       by : (b : Bool) → is_of s x ≡ b → is_of s x ≡ false
@@ -148,7 +148,7 @@ module _ (m : Parts) (t s : ℕ) (k : Leaves m t s) where
       here : nat_eq s s ≡ true
       here = grind (arith, nat_tests)
 
-      by : (o : Option Task) → get_or m.tree.tasks u None ≡ o → (home_at homes_left u ≡ home_at (homes m) u) × (home_at (homes m) u ≢ Some s)
+      by : (o : Option TaskNode) → get_or m.tree.tasks u None ≡ o → (home_at homes_left u ≡ home_at (homes m) u) × (home_at (homes m) u ≢ Some s)
       by None at = let no : lives_at m.tree u ≡ false = ap lives_of at in let never : true ≡ false = sym lives ∙ no in cc
       by (Some x) at =
           let other = apart u x at (sym (ap lives_of at) ∙ lives) in

@@ -5,7 +5,7 @@ use Rattle.std.specs.Prelude.{option_map, is_some}
 use Rattle.sts_env.specs.Environments.{Records}
 use Rattle.sts_env.specs.declared.env.Env.{Env}
 use Rattle.sts_tree.specs.Forest.{Forest}
-use Rattle.sts_tree.specs.declared.record.Task.{Task}
+use Rattle.sts_tree.specs.declared.record.TaskNode.{TaskNode}
 use Rattle.sts_tree.proofs.HoldingLemmas.{unseen, map_at}
 use Rattle.sts_tree.specs.Steps.{unmarked, seen, with_task}
 use Rattle.sts_tree.specs.Reading.{lives_at}
@@ -49,17 +49,17 @@ by_marks p mark same (None ∷ xs) = ap (λ l. None ∷ l) (by_marks p mark same
 by_marks p mark same (Some x ∷ xs) = ap (λ z. Some z ∷ map (option_map p) (map (option_map mark) xs)) (same x) ∙ ap (λ l. Some (p x) ∷ l) (by_marks p mark same xs)
 
 -- the reading of each task, whatever its mark
-read_seen : {Y : Type 0} (p : Task → Y) → ((x : Task) → p (unmarked x) ≡ p x) → (f g : Forest Env) → seen f ≡ seen g → map (option_map p) f.tasks ≡ map (option_map p) g.tasks
+read_seen : {Y : Type 0} (p : TaskNode → Y) → ((x : TaskNode) → p (unmarked x) ≡ p x) → (f g : Forest Env) → seen f ≡ seen g → map (option_map p) f.tasks ≡ map (option_map p) g.tasks
 read_seen p same f g e = sym (by_marks p unmarked same f.tasks) ∙ ap (λ (h : Forest Env). map (option_map p) h.tasks) e ∙ by_marks p unmarked same g.tasks
 
-born_unmarked : (xs : List (Option Task)) → length (map (option_map unmarked) xs) ≡ length xs
+born_unmarked : (xs : List (Option TaskNode)) → length (map (option_map unmarked) xs) ≡ length xs
 born_unmarked [] = refl
 born_unmarked (x ∷ xs) = ap suc (born_unmarked xs)
 
 lives_unmarked : (f : Forest Env) (t : ℕ) → lives_at (seen f) t ≡ lives_at f t
 lives_unmarked f t = ap lives_of (map_at unmarked f.tasks t) ∙ by (get_or f.tasks t None)
   where
-    by : (o : Option Task) → lives_of (option_map unmarked o) ≡ lives_of o
+    by : (o : Option TaskNode) → lives_of (option_map unmarked o) ≡ lives_of o
     by None = refl
     by (Some x) = refl
 
@@ -95,7 +95,7 @@ rest_seen m f g e =
 -- ---- a task's record in the tree
 
 -- a task's record is written, with the same scope, and it lives or not as before
-pub kept_task : (m : Parts) (t : ℕ) (x y : Task) → IsStore m → get_or m.tree.tasks t None ≡ Some x → y.scope ≡ x.scope → y.lives ≡ x.lives → IsStore (record m { tree = with_task m.tree t y })
+pub kept_task : (m : Parts) (t : ℕ) (x y : TaskNode) → IsStore m → get_or m.tree.tasks t None ≡ Some x → y.scope ≡ x.scope → y.lives ≡ x.lives → IsStore (record m { tree = with_task m.tree t y })
 kept_task m t x y is at home lives =
     record {
       born = is.born ∙ sym (length-set m.tree.tasks t (Some y));
@@ -103,7 +103,7 @@ kept_task m t x y is at home lives =
       shared = rw (unseen home_of m.tree.tasks t x y at home) is.shared;
     }
   where
-    still : (xs : List (Option Task)) (k u : ℕ) → get_or xs k None ≡ Some x → lives_of (get_or (set xs k (Some y)) u None) ≡ lives_of (get_or xs u None)
+    still : (xs : List (Option TaskNode)) (k u : ℕ) → get_or xs k None ≡ Some x → lives_of (get_or (set xs k (Some y)) u None) ≡ lives_of (get_or xs u None)
     still [] k u e = refl
     still (o ∷ xs) zero zero e = lives ∙ sym (ap lives_of e)
     still (o ∷ xs) zero (suc u) e = refl
@@ -111,5 +111,5 @@ kept_task m t x y is at home lives =
     still (o ∷ xs) (suc k) (suc u) e = still xs k u e
 
 -- the same scope is recorded for it
-pub same_stand : (m : Parts) (t : ℕ) (x y : Task) → get_or m.tree.tasks t None ≡ Some x → y.stand ≡ x.stand → unseen_of (record m { tree = with_task m.tree t y }) ≡ unseen_of m
+pub same_stand : (m : Parts) (t : ℕ) (x y : TaskNode) → get_or m.tree.tasks t None ≡ Some x → y.stand ≡ x.stand → unseen_of (record m { tree = with_task m.tree t y }) ≡ unseen_of m
 same_stand m t x y at same = ap (λ l. record (unseen_of m) { stands = l }) (unseen stand_of m.tree.tasks t x y at same)

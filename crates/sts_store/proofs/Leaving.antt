@@ -6,8 +6,8 @@ use Rattle.std.specs.Prelude.{option_map, unwrap_or}
 use Rattle.sts_env.specs.Environments.{list_of}
 use Rattle.sts_env.specs.declared.env.Env.{Env}
 use Rattle.sts_tree.specs.Forest.{Forest}
-use Rattle.sts_tree.specs.declared.record.Task.{Task}
-use Rattle.sts_tree.specs.declared.record.Scope.{Scope}
+use Rattle.sts_tree.specs.declared.record.TaskNode.{TaskNode}
+use Rattle.sts_tree.specs.declared.record.ScopeNode.{ScopeNode}
 use Rattle.sts_tree.proofs.HoldingLemmas.{unseen, map_at, inside_of}
 use Rattle.sts_records.specs.Holes.{Holes}
 use Rattle.sts_model.specs.declared.event.End.{End}
@@ -44,7 +44,7 @@ pub record Ends (f g : Forest Env) (t : ℕ) : Type 0 where
   pub scope_room : g.scope_room ≡ f.scope_room
 
 -- its record is written, as that of one which lives no longer
-ends_task : (f : Forest Env) (t : ℕ) (x y : Task) → get_or f.tasks t None ≡ Some x → y.lives ≡ false → y.scope ≡ x.scope → y.stand ≡ x.stand → Ends f (with_task f t y) t
+ends_task : (f : Forest Env) (t : ℕ) (x y : TaskNode) → get_or f.tasks t None ≡ Some x → y.lives ≡ false → y.scope ≡ x.scope → y.stand ≡ x.stand → Ends f (with_task f t y) t
 ends_task f t x y at dead home stand =
     record {
       born = length-set f.tasks t (Some y);
@@ -60,7 +60,7 @@ ends_task f t x y at dead home stand =
     }
 
 -- and then a scope's record, with the same owner and environment
-ends_scope : (f g : Forest Env) (t s : ℕ) (c d : Scope Env) → Ends f g t → get_or g.scopes s None ≡ Some c → keeper_of d ≡ keeper_of c → Ends f (with_scope g s d) t
+ends_scope : (f g : Forest Env) (t s : ℕ) (c d : ScopeNode Env) → Ends f g t → get_or g.scopes s None ≡ Some c → keeper_of d ≡ keeper_of c → Ends f (with_scope g s d) t
 ends_scope f g t s c d e at same =
     record {
       born = e.born;
@@ -93,7 +93,7 @@ ends_raised f g t s e =
       scope_room = e.scope_room;
     }
 
-ends_cancel : (f g : Forest Env) (t s : ℕ) (c : Scope Env) → Ends f g t → get_or g.scopes s None ≡ Some c → Ends f (cancel g s c) t
+ends_cancel : (f g : Forest Env) (t s : ℕ) (c : ScopeNode Env) → Ends f g t → get_or g.scopes s None ≡ Some c → Ends f (cancel g s c) t
 ends_cancel f g t s c e at = by c.cancelled
   where
     by : (b : Bool) → Ends f (cond b g (raise_all (with_scope g s (record c { cancelled = true })) s)) t
@@ -120,14 +120,14 @@ ends_seen m g h t same e =
 
 -- ---- the word itself
 
-ends_told : (f : Forest Env) (t : ℕ) (x : Task) (end : End) → get_or f.tasks t None ≡ Some x → Ends f (ended f t x end) t
+ends_told : (f : Forest Env) (t : ℕ) (x : TaskNode) (end : End) → get_or f.tasks t None ≡ Some x → Ends f (ended f t x end) t
 ends_told f t x end at = by x.scope
   where
-    by3 : (s : ℕ) (c : Scope Env) → get_or f.scopes s None ≡ Some c → (b : Bool) → Ends f (cond b (gone f t x) (told f t x end s c)) t
+    by3 : (s : ℕ) (c : ScopeNode Env) → get_or f.scopes s None ≡ Some c → (b : Bool) → Ends f (cond b (gone f t x) (told f t x end s c)) t
     by3 s c there true = ends_task f t x (record x { lives = false }) at refl refl refl
     by3 s c there false = ends_scope f (with_task f t (record x { lives = false; state = Some end })) t s c (told_scope c end) (ends_task f t x (record x { lives = false; state = Some end }) at refl refl refl) there refl
 
-    by2 : (s : ℕ) (o : Option (Scope Env)) → get_or f.scopes s None ≡ o → Ends f (told_in f t x end s o) t
+    by2 : (s : ℕ) (o : Option (ScopeNode Env)) → get_or f.scopes s None ≡ o → Ends f (told_in f t x end s o) t
     by2 s None there = ends_task f t x (record x { lives = false }) at refl refl refl
     by2 s (Some c) there = by3 s c there c.cancelled
 
@@ -135,7 +135,7 @@ ends_told f t x end at = by x.scope
     by None = ends_task f t x (record x { lives = false }) at refl refl refl
     by (Some s) = by2 s (get_or f.scopes s None) refl
 
-pub ends_finished : (f : Forest Env) (t : ℕ) (x : Task) (end : End) → get_or f.tasks t None ≡ Some x → Ends f (finished f t x end) t
+pub ends_finished : (f : Forest Env) (t : ℕ) (x : TaskNode) (end : End) → get_or f.tasks t None ≡ Some x → Ends f (finished f t x end) t
 ends_finished f t x end at = by x.scope refl (asks_ended f x end) refl
   where
     by : (o : Option ℕ) → x.scope ≡ o → (b : Bool) → asks_ended f x end ≡ b → Ends f (finished f t x end) t
@@ -181,7 +181,7 @@ unframed m t g room end e = ap (λ l. record { tasks = l; scopes = (view_of b g)
     d : Beside Env
     d = beside (with_ended m t g room b.root_end)
 
-    same : (u : ℕ) (x : Task) → get_or g.tasks u None ≡ Some x → x.lives ≡ true → Same b d u
+    same : (u : ℕ) (x : TaskNode) → get_or g.tasks u None ≡ Some x → x.lives ≡ true → Same b d u
     same u x at lives =
         let ne : u ≢ t = λ q. let yes : lives_at g t ≡ true = ap (lives_at g) (sym q) ∙ ap lives_of at ∙ lives in let never : true ≡ false = sym yes ∙ e.dead in cc in
         let kept = get_or-set_other m.frames.slots t u None None ne in

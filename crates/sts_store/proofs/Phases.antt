@@ -2,7 +2,7 @@
 use Rattle.std.proofs.Common.{◌≡◌, ℕ, [], Some, None, refl, ◌∙◌, get_or, true, false, ◌||◌, not}
 use Rattle.sts_env.specs.declared.env.Env.{Env}
 use Rattle.sts_tree.specs.Forest.{Forest}
-use Rattle.sts_tree.specs.declared.record.Scope.{Scope}
+use Rattle.sts_tree.specs.declared.record.ScopeNode.{ScopeNode}
 use Rattle.sts_tree.specs.Steps.{with_scope, seen}
 use Rattle.sts_model.specs.declared.event.Phase.{Phase}
 use Rattle.sts_model.specs.declared.event.Phase.TheVariants.{Attempted}
@@ -18,7 +18,7 @@ use Rattle.sts_store.specs.Stored.{IsStore}
 use Rattle.sts_store.proofs.Keeping.{live_seen, store_seen, rest_seen}
 use Rattle.sts_store.proofs.Scoping.{kept_scope}
 
-module _ (m : Parts) (s : ℕ) (c : Scope Env) (at : get_or m.tree.scopes s None ≡ Some c) (phase : Phase) (f : Forest Env) (same : seen f ≡ seen (with_scope m.tree s (record c { phase = phase }))) where
+module _ (m : Parts) (s : ℕ) (c : ScopeNode Env) (at : get_or m.tree.scopes s None ≡ Some c) (phase : Phase) (f : Forest Env) (same : seen f ≡ seen (with_scope m.tree s (record c { phase = phase }))) where
   pub phase_live : live_of (record m { tree = f }) ≡ with_live_phase (live_of m) s phase
   phase_live = live_seen m f (with_scope m.tree s (record c { phase = phase })) same ∙ words.phase (beside m) m.tree s c phase at
 

@@ -4,8 +4,8 @@ use Rattle.std.proofs.lemmas.List.{length-map, get_or-set_same}
 use Rattle.std.specs.Prelude.{option_map, unwrap_or}
 use Rattle.sts_env.specs.declared.env.Env.{Env}
 use Rattle.sts_tree.specs.Forest.{Forest, lives_in}
-use Rattle.sts_tree.specs.declared.record.Task.{Task}
-use Rattle.sts_tree.specs.declared.record.Scope.{Scope}
+use Rattle.sts_tree.specs.declared.record.TaskNode.{TaskNode}
+use Rattle.sts_tree.specs.declared.record.ScopeNode.{ScopeNode}
 use Rattle.sts_tree.proofs.HoldingLemmas.{unseen, map_at, inside_of}
 use Rattle.sts_tree.specs.Steps.{with_scope, seen}
 use Rattle.sts_cancel.specs.Cancelling.{raise, raise_all, cancel, expire}
@@ -24,10 +24,10 @@ use Rattle.sts_store.proofs.Keeping.{live_seen, store_seen, rest_seen}
 -- ---- a scope that stands
 
 -- a test that the default scope doesn't pass is passed only by scopes that aren't closed
-pub standing_by : (m : Parts) (s : ℕ) (test : LiveScope → Bool) → test no_live_scope ≡ false → test (live_scope_at (live_of m) s) ≡ true → (c : Scope Env) × (get_or m.tree.scopes s None ≡ Some c)
+pub standing_by : (m : Parts) (s : ℕ) (test : LiveScope → Bool) → test no_live_scope ≡ false → test (live_scope_at (live_of m) s) ≡ true → (c : ScopeNode Env) × (get_or m.tree.scopes s None ≡ Some c)
 standing_by m s test none e = by (get_or m.tree.scopes s None) refl
   where
-    by : (o : Option (Scope Env)) → get_or m.tree.scopes s None ≡ o → (c : Scope Env) × (get_or m.tree.scopes s None ≡ Some c)
+    by : (o : Option (ScopeNode Env)) → get_or m.tree.scopes s None ≡ o → (c : ScopeNode Env) × (get_or m.tree.scopes s None ≡ Some c)
     by None at =
         let is : live_scope_at (live_of m) s ≡ no_live_scope = ap (λ q. unwrap_or q no_live_scope) (scope_is (beside m) m.tree s ∙ ap (option_map (scope_seen (beside m))) at) in
         let never : true ≡ false = sym e ∙ ap test is ∙ none in
@@ -37,13 +37,13 @@ standing_by m s test none e = by (get_or m.tree.scopes s None) refl
 -- ---- a scope's record
 
 -- it is written, with the same owner and environment
-pub kept_scope : (m : Parts) (s : ℕ) (c d : Scope Env) → IsStore m → get_or m.tree.scopes s None ≡ Some c → keeper_of d ≡ keeper_of c → IsStore (record m { tree = with_scope m.tree s d })
+pub kept_scope : (m : Parts) (s : ℕ) (c d : ScopeNode Env) → IsStore m → get_or m.tree.scopes s None ≡ Some c → keeper_of d ≡ keeper_of c → IsStore (record m { tree = with_scope m.tree s d })
 kept_scope m s c d is at same = record { born = is.born; alive = is.alive; shared = rw (unseen keeper_of m.tree.scopes s c d at same) is.shared }
 
 -- ---- flags
 
 -- what no flag changes
-pub raised_read : {Y : Type 0} (p : Task → Y) → ((x : Task) → p (record x { flag = true }) ≡ p x) → (s : ℕ) (xs : List (Option Task)) → map (option_map p) (map (option_map (raise s)) xs) ≡ map (option_map p) xs
+pub raised_read : {Y : Type 0} (p : TaskNode → Y) → ((x : TaskNode) → p (record x { flag = true }) ≡ p x) → (s : ℕ) (xs : List (Option TaskNode)) → map (option_map p) (map (option_map (raise s)) xs) ≡ map (option_map p) xs
 raised_read p same s [] = refl
 raised_read p same s (None ∷ xs) = ap (λ l. None ∷ l) (raised_read p same s xs)
 raised_read p same s (Some x ∷ xs) =
@@ -54,7 +54,7 @@ raised_read p same s (Some x ∷ xs) =
     by false = refl
 
 -- it lives as it did
-pub raised_lives : (s : ℕ) (o : Option Task) → lives_of (option_map (raise s) o) ≡ lives_of o
+pub raised_lives : (s : ℕ) (o : Option TaskNode) → lives_of (option_map (raise s) o) ≡ lives_of o
 raised_lives s None = refl
 raised_lives s (Some x) = by (lives_in s x)
   where
@@ -75,14 +75,14 @@ rest_raised m s = ap (λ l. record (unseen_of m) { stands = l }) (raised_read st
 
 -- ---- a cancel, an expiry
 
-pub kept_cancel : (m : Parts) (s : ℕ) (c : Scope Env) → IsStore m → get_or m.tree.scopes s None ≡ Some c → IsStore (record m { tree = cancel m.tree s c })
+pub kept_cancel : (m : Parts) (s : ℕ) (c : ScopeNode Env) → IsStore m → get_or m.tree.scopes s None ≡ Some c → IsStore (record m { tree = cancel m.tree s c })
 kept_cancel m s c is at = by c.cancelled
   where
     by : (b : Bool) → IsStore (record m { tree = cond b m.tree (raise_all (with_scope m.tree s (record c { cancelled = true })) s) })
     by true = is
     by false = kept_raised (record m { tree = with_scope m.tree s (record c { cancelled = true }) }) s (kept_scope m s c (record c { cancelled = true }) is at refl)
 
-pub rest_cancel : (m : Parts) (s : ℕ) (c : Scope Env) → unseen_of (record m { tree = cancel m.tree s c }) ≡ unseen_of m
+pub rest_cancel : (m : Parts) (s : ℕ) (c : ScopeNode Env) → unseen_of (record m { tree = cancel m.tree s c }) ≡ unseen_of m
 rest_cancel m s c = by c.cancelled
   where
     by : (b : Bool) → unseen_of (record m { tree = cond b m.tree (raise_all (with_scope m.tree s (record c { cancelled = true })) s) }) ≡ unseen_of m
@@ -90,7 +90,7 @@ rest_cancel m s c = by c.cancelled
     by false = rest_raised (record m { tree = with_scope m.tree s (record c { cancelled = true }) }) s
 
 -- a scope, once the tree has cancelled it
-module _ (m : Parts) (s : ℕ) (c : Scope Env) (at : get_or m.tree.scopes s None ≡ Some c) (f : Forest Env) (same : seen f ≡ seen (cancel m.tree s c)) where
+module _ (m : Parts) (s : ℕ) (c : ScopeNode Env) (at : get_or m.tree.scopes s None ≡ Some c) (f : Forest Env) (same : seen f ≡ seen (cancel m.tree s c)) where
   pub cancel_live : live_of (record m { tree = f }) ≡ live_cancel (live_of m) s
   cancel_live = live_seen m f (cancel m.tree s c) same ∙ cancelled_is (beside m) m.tree s c at
 
@@ -101,20 +101,20 @@ module _ (m : Parts) (s : ℕ) (c : Scope Env) (at : get_or m.tree.scopes s None
   cancel_store is = store_seen m f (cancel m.tree s c) same (kept_cancel m s c is at)
 
 -- the scope as it is once it is marked
-pub written : (m : Parts) (s : ℕ) (c d : Scope Env) → get_or m.tree.scopes s None ≡ Some c → get_or (with_scope m.tree s d).scopes s None ≡ Some d
+pub written : (m : Parts) (s : ℕ) (c d : ScopeNode Env) → get_or m.tree.scopes s None ≡ Some c → get_or (with_scope m.tree s d).scopes s None ≡ Some d
 written m s c d at = get_or-set_same m.tree.scopes s (Some d) None (inside_of m.tree.scopes s (λ none. let never : Some c ≡ None = sym at ∙ none in cc))
 
-pub kept_expire : (m : Parts) (s : ℕ) (c : Scope Env) → IsStore m → get_or m.tree.scopes s None ≡ Some c → IsStore (record m { tree = expire m.tree s c })
+pub kept_expire : (m : Parts) (s : ℕ) (c : ScopeNode Env) → IsStore m → get_or m.tree.scopes s None ≡ Some c → IsStore (record m { tree = expire m.tree s c })
 kept_expire m s c is at =
-    let d : Scope Env = record c { expired = true } in
+    let d : ScopeNode Env = record c { expired = true } in
     kept_cancel (record m { tree = with_scope m.tree s d }) s d (kept_scope m s c d is at refl) (written m s c d at)
 
-pub rest_expire : (m : Parts) (s : ℕ) (c : Scope Env) → unseen_of (record m { tree = expire m.tree s c }) ≡ unseen_of m
-rest_expire m s c = let d : Scope Env = record c { expired = true } in rest_cancel (record m { tree = with_scope m.tree s d }) s d
+pub rest_expire : (m : Parts) (s : ℕ) (c : ScopeNode Env) → unseen_of (record m { tree = expire m.tree s c }) ≡ unseen_of m
+rest_expire m s c = let d : ScopeNode Env = record c { expired = true } in rest_cancel (record m { tree = with_scope m.tree s d }) s d
 
 -- a scope that may expire, once the tree has done so
 module _ (m : Parts) (s : ℕ) (can : live_can_expire (live_scope_at (live_of m) s) ≡ true) where
-  pub expiring : (c : Scope Env) × (get_or m.tree.scopes s None ≡ Some c)
+  pub expiring : (c : ScopeNode Env) × (get_or m.tree.scopes s None ≡ Some c)
   expiring = standing_by m s live_can_expire refl can
 
   pub expire_live : (f : Forest Env) → seen f ≡ seen (expire m.tree s expiring.0) → live_of (record m { tree = f }) ≡ live_expire (live_of m) s

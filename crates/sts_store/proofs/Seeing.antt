@@ -8,8 +8,8 @@ use Rattle.std.specs.Prelude.{option_map, is_some, unwrap_or}
 use Rattle.sts_code.specs.declared.instr.Kind.{Kind}
 use Rattle.sts_code.specs.declared.instr.Kind.TheVariants.{S, F, U}
 use Rattle.sts_env.specs.declared.env.Env.{Env}
-use Rattle.sts_tree.specs.declared.record.Task.{Task}
-use Rattle.sts_tree.specs.declared.record.Scope.{Scope}
+use Rattle.sts_tree.specs.declared.record.TaskNode.{TaskNode}
+use Rattle.sts_tree.specs.declared.record.ScopeNode.{ScopeNode}
 use Rattle.sts_tree.specs.Births.{births}
 use Rattle.sts_tree.specs.Forest.{is_of}
 use Rattle.sts_tree.proofs.HoldingLemmas.{map_at, key_seen}
@@ -28,37 +28,37 @@ use Rattle.sts_store.proofs.Views.{just, lives_is, lives_of, some_not}
 -- ---- tasks
 
 -- the state of a task, by the record at its birth
-pub state_is : (m : Parts) (t : ℕ) (o : Option Task) → get_or m.tree.tasks t None ≡ o → live_state (live_of m) t ≡ (elim o [ None ↦ None | Some x ↦ x.state ])
+pub state_is : (m : Parts) (t : ℕ) (o : Option TaskNode) → get_or m.tree.tasks t None ≡ o → live_state (live_of m) t ≡ (elim o [ None ↦ None | Some x ↦ x.state ])
 state_is m t o e = ap (λ y. (unwrap_or y no_live_task).state) (task_is (beside m) m.tree t ∙ ap (option_map (task_seen (beside m) t)) e) ∙ by o
   where
-    by : (x : Option Task) → (unwrap_or (option_map (task_seen (beside m) t) x) no_live_task).state ≡ (elim x [ None ↦ None | Some z ↦ z.state ])
+    by : (x : Option TaskNode) → (unwrap_or (option_map (task_seen (beside m) t) x) no_live_task).state ≡ (elim x [ None ↦ None | Some z ↦ z.state ])
     by None = refl
     by (Some x) = refl
 
 -- the scope that a task is a subtask of
-abbrev pub scope_of : Option Task → Option ℕ
+abbrev pub scope_of : Option TaskNode → Option ℕ
 scope_of o = elim o [ None ↦ None | Some x ↦ x.scope ]
 
 -- the scope of a task, by the record at its birth
-pub home_is : (m : Parts) (t : ℕ) (o : Option Task) → get_or m.tree.tasks t None ≡ o → (live_task_at (live_of m) t).scope ≡ scope_of o
+pub home_is : (m : Parts) (t : ℕ) (o : Option TaskNode) → get_or m.tree.tasks t None ≡ o → (live_task_at (live_of m) t).scope ≡ scope_of o
 home_is m t o e = ap (λ y. (unwrap_or y no_live_task).scope) (task_is (beside m) m.tree t ∙ ap (option_map (task_seen (beside m) t)) e) ∙ by o
   where
-    by : (x : Option Task) → (unwrap_or (option_map (task_seen (beside m) t) x) no_live_task).scope ≡ scope_of x
+    by : (x : Option TaskNode) → (unwrap_or (option_map (task_seen (beside m) t) x) no_live_task).scope ≡ scope_of x
     by None = refl
     by (Some x) = refl
 
 -- the scope that is recorded for a task
-pub stand_is : (m : Parts) (t : ℕ) (x : Task) → get_or m.tree.tasks t None ≡ Some x → stand_in (unseen_of m) t ≡ x.stand
+pub stand_is : (m : Parts) (t : ℕ) (x : TaskNode) → get_or m.tree.tasks t None ≡ Some x → stand_in (unseen_of m) t ≡ x.stand
 stand_is m t x e = ap (λ o. unwrap_or o Free) (map_at stand_of m.tree.tasks t ∙ ap (option_map stand_of) e)
 
 -- a task that can step in the tree can in the view
 pub steps_seen : (m : Parts) (t : ℕ) → can_step m.tree t ≡ can_go_on m t
 steps_seen m t = by (get_or m.tree.tasks t None) refl
   where
-    by : (o : Option Task) → get_or m.tree.tasks t None ≡ o → can_step m.tree t ≡ can_go_on m t
+    by : (o : Option TaskNode) → get_or m.tree.tasks t None ≡ o → can_step m.tree t ≡ can_go_on m t
     by None e =
         let dead : lives_in (live_of m) t ≡ false = lives_is m t ∙ ap lives_of e in
-        ap (λ (o : Option Task). elim o [ None ↦ false | Some x ↦ x.lives && can_go m.tree x.flag x.stand ]) e
+        ap (λ (o : Option TaskNode). elim o [ None ↦ false | Some x ↦ x.lives && can_go m.tree x.flag x.stand ]) e
         ∙ sym (ap (λ l. l && live_can_go (live_of m) t (stand_in (unseen_of m) t)) dead)
     by (Some x) e =
         sym (words.step_is (beside m) m.tree t x e)
@@ -67,10 +67,10 @@ steps_seen m t = by (get_or m.tree.tasks t None) refl
 -- ---- scopes
 
 -- a scope in the view is in the tree
-pub scope_stands : (m : Parts) (s : ℕ) → is_some (scope_in (live_of m) s) ≡ true → (c : Scope Env) × (get_or m.tree.scopes s None ≡ Some c)
+pub scope_stands : (m : Parts) (s : ℕ) → is_some (scope_in (live_of m) s) ≡ true → (c : ScopeNode Env) × (get_or m.tree.scopes s None ≡ Some c)
 scope_stands m s stands = by (get_or m.tree.scopes s None) refl
   where
-    by : (o : Option (Scope Env)) → get_or m.tree.scopes s None ≡ o → (c : Scope Env) × (get_or m.tree.scopes s None ≡ Some c)
+    by : (o : Option (ScopeNode Env)) → get_or m.tree.scopes s None ≡ o → (c : ScopeNode Env) × (get_or m.tree.scopes s None ≡ Some c)
     by None e =
         let no : is_some (scope_in (live_of m) s) ≡ false = ap (λ (y : Option LiveScope). is_some y) (scope_is (beside m) m.tree s ∙ ap (option_map (scope_seen (beside m))) e) in
         cc
@@ -80,14 +80,14 @@ pub scope_is_some : (m : Parts) (s : ℕ) → is_some (scope_in (live_of m) s) �
 scope_is_some m s stands = let p = scope_stands m s stands in some_not (get_or m.tree.scopes s None) p.0 p.1
 
 -- how many subtasks are in a state
-pub tally_is : (m : Parts) (s : ℕ) (c : Scope Env) (kind : Kind) → get_or m.tree.scopes s None ≡ Some c → count_of m.tree s c kind ≡ live_tally (live_of m) s kind
+pub tally_is : (m : Parts) (s : ℕ) (c : ScopeNode Env) (kind : Kind) → get_or m.tree.scopes s None ≡ Some c → count_of m.tree s c kind ≡ live_tally (live_of m) s kind
 tally_is m s c S e = sym (ap (λ (x : LiveScope). x.told.successes) (scope_there (beside m) m.tree s c e))
 tally_is m s c F e = sym (ap (λ (x : LiveScope). x.told.failures) (scope_there (beside m) m.tree s c e))
 tally_is m s c U e =
     sym (ap (λ n. n - ((live_scope_at (live_of m) s).told.successes + (live_scope_at (live_of m) s).told.failures)) (words.count_is (beside m) m.tree s)
     ∙ ap (λ (x : LiveScope). length (births (is_of s) 0 m.tree.tasks) - (x.told.successes + x.told.failures)) (scope_there (beside m) m.tree s c e))
 
-pub total_is : (m : Parts) (s : ℕ) (c : Scope Env) → get_or m.tree.scopes s None ≡ Some c → (live_scope_at (live_of m) s).told.total ≡ c.tally.told.total
+pub total_is : (m : Parts) (s : ℕ) (c : ScopeNode Env) → get_or m.tree.scopes s None ≡ Some c → (live_scope_at (live_of m) s).told.total ≡ c.tally.told.total
 total_is m s c e = ap (λ (x : LiveScope). x.told.total) (scope_there (beside m) m.tree s c e)
 
 -- ---- the front of the ready list
@@ -110,7 +110,7 @@ none_has (k ∷ ks) t e = cc
 pub task_key : (m : Parts) (t : ℕ) → key_at m.tree.tasks m.tree.task_keys t ≡ key_at (live_of m).tasks m.tree.task_keys t
 task_key m t = sym (ap (λ (o : Option LiveTask). cond (is_some o) (Some (get_or m.tree.task_keys t 0)) None) (task_is (beside m) m.tree t) ∙ by (get_or m.tree.tasks t None))
   where
-    by : (o : Option Task) → cond (is_some (option_map (task_seen (beside m) t) o)) (Some (get_or m.tree.task_keys t 0)) None ≡ cond (is_some o) (Some (get_or m.tree.task_keys t 0)) None
+    by : (o : Option TaskNode) → cond (is_some (option_map (task_seen (beside m) t) o)) (Some (get_or m.tree.task_keys t 0)) None ≡ cond (is_some o) (Some (get_or m.tree.task_keys t 0)) None
     by None = refl
     by (Some x) = refl
 

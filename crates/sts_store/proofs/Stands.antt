@@ -5,8 +5,8 @@ use Rattle.std.proofs.lemmas.List.{map-set, set-get_or}
 use Rattle.std.specs.Prelude.{option_map, is_some, unwrap_or}
 use Rattle.sts_env.specs.declared.env.Env.{Env}
 use Rattle.sts_tree.specs.Forest.{Forest}
-use Rattle.sts_tree.specs.declared.record.Scope.{Scope}
-use Rattle.sts_tree.specs.declared.record.Task.{Task}
+use Rattle.sts_tree.specs.declared.record.ScopeNode.{ScopeNode}
+use Rattle.sts_tree.specs.declared.record.TaskNode.{TaskNode}
 use Rattle.sts_model.specs.declared.event.Stand.{Stand}
 use Rattle.sts_model.specs.declared.event.Stand.TheVariants.{Free, AtJoin, AtClose}
 use Rattle.sts_model.specs.Live.{Live, LiveScope}
@@ -39,7 +39,7 @@ module _ (m : Parts) (is : IsStore m) (t : ℕ) (l : Lived m t) (stand : Stand) 
       ∙ ap (λ stands. record (unseen_of m) { stands = stands }) (map-set (option_map stand_of) m.tree.tasks t (Some (record l.task { stand = stand })))
 
 -- to record the same scope for a task again changes nothing
-pub said_again : (m : Parts) (t : ℕ) (x : Task) (stand : Stand) → get_or m.tree.tasks t None ≡ Some x → x.stand ≡ stand → stood_unseen (unseen_of m) t stand ≡ unseen_of m
+pub said_again : (m : Parts) (t : ℕ) (x : TaskNode) (stand : Stand) → get_or m.tree.tasks t None ≡ Some x → x.stand ≡ stand → stood_unseen (unseen_of m) t stand ≡ unseen_of m
 said_again m t x stand there is =
     let stands = (unseen_of m).stands in
     let here : get_or stands t None ≡ Some stand = get_or-map (option_map stand_of) m.tree.tasks t None ∙ ap (option_map stand_of) there ∙ ap Some is in
@@ -47,7 +47,7 @@ said_again m t x stand there is =
     ∙ ap (λ stands. record (unseen_of m) { stands = stands }) (set-get_or stands t None)
 
 -- a scope that belongs to the task in the view belongs to it in the tree
-pub own_stand : (m : Parts) (t : ℕ) (stand : Stand) → ((s : ℕ) → is_stand_at s stand ≡ true → IsOwned (live_of m) t s) → (s : ℕ) → stands_at s stand ≡ true → (c : Scope Env) × (get_or m.tree.scopes s None ≡ Some c) × (c.owner ≡ t)
+pub own_stand : (m : Parts) (t : ℕ) (stand : Stand) → ((s : ℕ) → is_stand_at s stand ≡ true → IsOwned (live_of m) t s) → (s : ℕ) → stands_at s stand ≡ true → (c : ScopeNode Env) × (get_or m.tree.scopes s None ≡ Some c) × (c.owner ≡ t)
 own_stand m t stand owned s e =
     let o = owned s (same_test stand e) in
     let p = scope_stands m s o.stands in

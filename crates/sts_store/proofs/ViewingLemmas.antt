@@ -17,8 +17,8 @@ use Rattle.sts_joiners.specs.Tallied.{with_end}
 use Rattle.sts_tree.specs.Births.{drop_if, births}
 use Rattle.sts_tree.specs.Forest.{Forest, closed, is_of, opened, subtask, asks, lives_in}
 use Rattle.sts_tree.specs.Forest.{any_lives}
-use Rattle.sts_tree.specs.declared.record.Task.{Task}
-use Rattle.sts_tree.specs.declared.record.Scope.{Scope}
+use Rattle.sts_tree.specs.declared.record.TaskNode.{TaskNode}
+use Rattle.sts_tree.specs.declared.record.ScopeNode.{ScopeNode}
 use Rattle.sts_tree.proofs.HoldingLemmas.{map_at, inside_of}
 use Rattle.sts_tree.specs.Ending as ending
 use Rattle.sts_tree.specs.Ending.{gone, ended, asks_in, asks_told}
@@ -56,7 +56,7 @@ either false false c d = refl
 module _ {E : Type 0} (b : Beside E) where
   -- ---- the tasks by birth
 
-  task_from : (n : ℕ) (xs : List (Option Task)) (k : ℕ) → get_or (tasks_from b n xs) k None ≡ option_map (task_seen b (n + k)) (get_or xs k None)
+  task_from : (n : ℕ) (xs : List (Option TaskNode)) (k : ℕ) → get_or (tasks_from b n xs) k None ≡ option_map (task_seen b (n + k)) (get_or xs k None)
   task_from n [] k = refl
   task_from n (o ∷ xs) zero = rw (zero_more n) refl
   task_from n (o ∷ xs) (suc k) = rw (suc_more n k) (task_from (suc n) xs k)
@@ -64,28 +64,28 @@ module _ {E : Type 0} (b : Beside E) where
   pub task_is : (f : Forest E) (t : ℕ) → task_in (view_of b f) t ≡ option_map (task_seen b t) (get_or f.tasks t None)
   task_is f t = let z = from_zero t in rw z at (task_from 0 f.tasks t)
 
-  set_from : (n : ℕ) (xs : List (Option Task)) (k : ℕ) (y : Task) → tasks_from b n (set xs k (Some y)) ≡ set (tasks_from b n xs) k (Some (task_seen b (n + k) y))
+  set_from : (n : ℕ) (xs : List (Option TaskNode)) (k : ℕ) (y : TaskNode) → tasks_from b n (set xs k (Some y)) ≡ set (tasks_from b n xs) k (Some (task_seen b (n + k) y))
   set_from n [] k y = refl
   set_from n (o ∷ xs) zero y = rw (zero_more n) refl
   set_from n (o ∷ xs) (suc k) y = rw (suc_more n k) (ap (λ l. option_map (task_seen b n) o ∷ l) (set_from (suc n) xs k y))
 
-  set_is : (xs : List (Option Task)) (k : ℕ) (y : Task) → tasks_from b 0 (set xs k (Some y)) ≡ set (tasks_from b 0 xs) k (Some (task_seen b k y))
+  set_is : (xs : List (Option TaskNode)) (k : ℕ) (y : TaskNode) → tasks_from b 0 (set xs k (Some y)) ≡ set (tasks_from b 0 xs) k (Some (task_seen b k y))
   set_is xs k y = let z = from_zero k in rw z at (set_from 0 xs k y)
 
-  map_from : (n : ℕ) (g : Option Task → Option Task) (h : Option LiveTask → Option LiveTask) → ((m : ℕ) (o : Option Task) → option_map (task_seen b m) (g o) ≡ h (option_map (task_seen b m) o)) → (xs : List (Option Task)) → tasks_from b n (map g xs) ≡ map h (tasks_from b n xs)
+  map_from : (n : ℕ) (g : Option TaskNode → Option TaskNode) (h : Option LiveTask → Option LiveTask) → ((m : ℕ) (o : Option TaskNode) → option_map (task_seen b m) (g o) ≡ h (option_map (task_seen b m) o)) → (xs : List (Option TaskNode)) → tasks_from b n (map g xs) ≡ map h (tasks_from b n xs)
   map_from n g h same [] = refl
   map_from n g h same (o ∷ xs) = rw (same n o, map_from (suc n) g h same xs) refl
 
-  more_from : (n : ℕ) (xs : List (Option Task)) (o : Option Task) → tasks_from b n (xs ++ o ∷ []) ≡ tasks_from b n xs ++ option_map (task_seen b (n + length xs)) o ∷ []
+  more_from : (n : ℕ) (xs : List (Option TaskNode)) (o : Option TaskNode) → tasks_from b n (xs ++ o ∷ []) ≡ tasks_from b n xs ++ option_map (task_seen b (n + length xs)) o ∷ []
   more_from n [] o = rw (zero_more n) refl
   more_from n (x ∷ xs) o = rw (suc_more n (length xs)) (ap (λ l. option_map (task_seen b n) x ∷ l) (more_from (suc n) xs o))
 
-  pub more_is : (xs : List (Option Task)) (y : Task) → tasks_from b 0 (xs ++ Some y ∷ []) ≡ tasks_from b 0 xs ++ Some (task_seen b (length xs) y) ∷ []
+  pub more_is : (xs : List (Option TaskNode)) (y : TaskNode) → tasks_from b 0 (xs ++ Some y ∷ []) ≡ tasks_from b 0 xs ++ Some (task_seen b (length xs) y) ∷ []
   more_is xs y = let z = from_zero (length xs) in rw z at (more_from 0 xs (Some y))
 
   -- ---- one task, one scope
 
-  pub view_task : (f : Forest E) (t : ℕ) (x y : Task) (change : LiveTask → LiveTask) → TaskAt f t x → task_seen b t y ≡ change (task_seen b t x) → view_of b (with_task f t y) ≡ with_live_task (view_of b f) t change
+  pub view_task : (f : Forest E) (t : ℕ) (x y : TaskNode) (change : LiveTask → LiveTask) → TaskAt f t x → task_seen b t y ≡ change (task_seen b t x) → view_of b (with_task f t y) ≡ with_live_task (view_of b f) t change
   view_task f t x y change is same =
       ap (λ l. record { tasks = l; scopes = map (option_map (scope_seen b)) f.scopes; root_end = b.root_end })
       (set_is f.tasks t y ∙ ap (λ o. set (tasks_from b 0 f.tasks) t o) (ap (λ z. Some z) same ∙ sym (ap (option_map change) (task_is f t ∙ ap (option_map (task_seen b t)) is))))
@@ -93,12 +93,12 @@ module _ {E : Type 0} (b : Beside E) where
   pub scope_is : (f : Forest E) (s : ℕ) → scope_in (view_of b f) s ≡ option_map (scope_seen b) (get_or f.scopes s None)
   scope_is f s = map_at (scope_seen b) f.scopes s
 
-  pub view_scope : (f : Forest E) (s : ℕ) (c d : Scope E) (change : LiveScope → LiveScope) → ScopeAt f s c → scope_seen b d ≡ change (scope_seen b c) → view_of b (with_scope f s d) ≡ with_live_scope (view_of b f) s change
+  pub view_scope : (f : Forest E) (s : ℕ) (c d : ScopeNode E) (change : LiveScope → LiveScope) → ScopeAt f s c → scope_seen b d ≡ change (scope_seen b c) → view_of b (with_scope f s d) ≡ with_live_scope (view_of b f) s change
   view_scope f s c d change is same =
       ap (λ l. record { tasks = tasks_from b 0 f.tasks; scopes = l; root_end = b.root_end })
       (map-set (option_map (scope_seen b)) f.scopes s (Some d) ∙ ap (λ o. set (map (option_map (scope_seen b)) f.scopes) s o) (ap (λ z. Some z) same ∙ sym (ap (option_map change) (scope_is f s ∙ ap (option_map (scope_seen b)) is))))
 
-  flag_seen : (n : ℕ) (x : Task) (flag : Bool) → alive_of b n (record x { flag = flag }) ≡ option_map (λ (alive : Alive). record alive { flag = flag }) (alive_of b n x)
+  flag_seen : (n : ℕ) (x : TaskNode) (flag : Bool) → alive_of b n (record x { flag = flag }) ≡ option_map (λ (alive : Alive). record alive { flag = flag }) (alive_of b n x)
   flag_seen n x flag = by x.lives refl
     where
       by : (a : Bool) → x.lives ≡ a → alive_of b n (record x { flag = flag }) ≡ option_map (λ (alive : Alive). record alive { flag = flag }) (alive_of b n x)
@@ -107,7 +107,7 @@ module _ {E : Type 0} (b : Beside E) where
 
   -- ---- a cancel
 
-  raise_seen : (s n : ℕ) (x : Task) → task_seen b n (raise s x) ≡ live_raise s (task_seen b n x)
+  raise_seen : (s n : ℕ) (x : TaskNode) → task_seen b n (raise s x) ≡ live_raise s (task_seen b n x)
   raise_seen s n x = by (is_in s x.scope) x.lives refl refl
     where
       by : (a l : Bool) → is_in s x.scope ≡ a → x.lives ≡ l → task_seen b n (raise s x) ≡ live_raise s (task_seen b n x)
@@ -115,7 +115,7 @@ module _ {E : Type 0} (b : Beside E) where
       by true false e f = rw (e, f) refl
       by false l e f = rw e refl
 
-  raise_option : (s n : ℕ) (o : Option Task) → option_map (task_seen b n) (option_map (raise s) o) ≡ option_map (live_raise s) (option_map (task_seen b n) o)
+  raise_option : (s n : ℕ) (o : Option TaskNode) → option_map (task_seen b n) (option_map (raise s) o) ≡ option_map (live_raise s) (option_map (task_seen b n) o)
   raise_option s n None = refl
   raise_option s n (Some x) = ap (λ z. Some z) (raise_seen s n x)
 
@@ -124,10 +124,10 @@ module _ {E : Type 0} (b : Beside E) where
       ap (λ l. record { tasks = l; scopes = map (option_map (scope_seen b)) f.scopes; root_end = b.root_end })
       (map_from 0 (option_map (raise s)) (option_map (live_raise s)) (raise_option s) f.tasks)
 
-  pub scope_there : (f : Forest E) (s : ℕ) (c : Scope E) → ScopeAt f s c → live_scope_at (view_of b f) s ≡ scope_seen b c
+  pub scope_there : (f : Forest E) (s : ℕ) (c : ScopeNode E) → ScopeAt f s c → live_scope_at (view_of b f) s ≡ scope_seen b c
   scope_there f s c is = ap (λ o. unwrap_or o no_live_scope) (scope_is f s ∙ ap (option_map (scope_seen b)) is)
 
-  pub cancelled_is : (f : Forest E) (s : ℕ) (c : Scope E) → ScopeAt f s c → view_of b (cancel f s c) ≡ live_cancel (view_of b f) s
+  pub cancelled_is : (f : Forest E) (s : ℕ) (c : ScopeNode E) → ScopeAt f s c → view_of b (cancel f s c) ≡ live_cancel (view_of b f) s
   cancelled_is f s c is =
       by c.cancelled refl ∙ sym (ap (λ a. cond a (view_of b f) (live_marked (view_of b f) s)) (ap (λ (d : LiveScope). d.cancelled) (scope_there f s c is)))
     where
@@ -142,7 +142,7 @@ module _ {E : Type 0} (b : Beside E) where
 
   -- ---- a close
 
-  drop_seen : (s n : ℕ) (o : Option Task) → option_map (task_seen b n) (drop_if (is_of s) o) ≡ without s (option_map (task_seen b n) o)
+  drop_seen : (s n : ℕ) (o : Option TaskNode) → option_map (task_seen b n) (drop_if (is_of s) o) ≡ without s (option_map (task_seen b n) o)
   drop_seen s n None = refl
   drop_seen s n (Some x) = by (is_in s x.scope) refl
     where
@@ -156,7 +156,7 @@ module _ {E : Type 0} (b : Beside E) where
 
   -- ---- what isn't seen
 
-  unmarked_from : (n : ℕ) (xs : List (Option Task)) → tasks_from b n (map (option_map unmarked) xs) ≡ tasks_from b n xs
+  unmarked_from : (n : ℕ) (xs : List (Option TaskNode)) → tasks_from b n (map (option_map unmarked) xs) ≡ tasks_from b n xs
   unmarked_from n [] = refl
   unmarked_from n (None ∷ xs) = ap (λ l. None ∷ l) (unmarked_from (suc n) xs)
   unmarked_from n (Some x ∷ xs) = ap (λ l. Some (task_seen b n x) ∷ l) (unmarked_from (suc n) xs)
@@ -167,29 +167,29 @@ module _ {E : Type 0} (b : Beside E) where
   pub same_view : (f g : Forest E) → seen f ≡ seen g → view_of b f ≡ view_of b g
   same_view f g e = sym (view_seen f) ∙ ap (view_of b) e ∙ view_seen g
 
-  kept_from : (n : ℕ) (xs : List (Option Task)) (k : ℕ) (x y : Task) → get_or xs k None ≡ Some x → ((m : ℕ) → task_seen b m y ≡ task_seen b m x) → tasks_from b n (set xs k (Some y)) ≡ tasks_from b n xs
+  kept_from : (n : ℕ) (xs : List (Option TaskNode)) (k : ℕ) (x y : TaskNode) → get_or xs k None ≡ Some x → ((m : ℕ) → task_seen b m y ≡ task_seen b m x) → tasks_from b n (set xs k (Some y)) ≡ tasks_from b n xs
   kept_from n [] k x y is same = refl
   kept_from n (o ∷ xs) zero x y is same = rw (is, same n) refl
   kept_from n (o ∷ xs) (suc k) x y is same = ap (λ l. option_map (task_seen b n) o ∷ l) (kept_from (suc n) xs k x y is same)
 
-  pub unseen_task : (f : Forest E) (t : ℕ) (x y : Task) → TaskAt f t x → ((m : ℕ) → task_seen b m y ≡ task_seen b m x) → view_of b (with_task f t y) ≡ view_of b f
+  pub unseen_task : (f : Forest E) (t : ℕ) (x y : TaskNode) → TaskAt f t x → ((m : ℕ) → task_seen b m y ≡ task_seen b m x) → view_of b (with_task f t y) ≡ view_of b f
   unseen_task f t x y is same =
       ap (λ l. record { tasks = l; scopes = map (option_map (scope_seen b)) f.scopes; root_end = b.root_end }) (kept_from 0 f.tasks t x y is same)
 
   pub lives_same : (f : Forest E) (t : ℕ) → reading.lives_in (view_of b f) t ≡ lives_at f t
   lives_same f t = ap (λ o. is_some (unwrap_or o no_live_task).alive) (task_is f t) ∙ by (get_or f.tasks t None)
     where
-      by2 : (x : Task) (a : Bool) → x.lives ≡ a → is_some (alive_of b t x) ≡ x.lives
+      by2 : (x : TaskNode) (a : Bool) → x.lives ≡ a → is_some (alive_of b t x) ≡ x.lives
       by2 x true e = rw e refl
       by2 x false e = rw e refl
 
-      by : (o : Option Task) → is_some (unwrap_or (option_map (task_seen b t) o) no_live_task).alive ≡ (elim o [ None ↦ false | Some x ↦ x.lives ])
+      by : (o : Option TaskNode) → is_some (unwrap_or (option_map (task_seen b t) o) no_live_task).alive ≡ (elim o [ None ↦ false | Some x ↦ x.lives ])
       by None = refl
       by (Some x) = by2 x x.lives refl
 
   -- ---- subtasks
 
-  any_from : (s n : ℕ) (xs : List (Option Task)) → list_any (is_live_living s) (tasks_from b n xs) ≡ is_some (first_or (births (lives_in s) n xs) None)
+  any_from : (s n : ℕ) (xs : List (Option TaskNode)) → list_any (is_live_living s) (tasks_from b n xs) ≡ is_some (first_or (births (lives_in s) n xs) None)
   any_from s n [] = refl
   any_from s n (None ∷ xs) = any_from s (suc n) xs
   any_from s n (Some x ∷ xs) = by (is_in s x.scope) x.lives refl refl (any_from s (suc n) xs)
@@ -199,7 +199,7 @@ module _ {E : Type 0} (b : Beside E) where
       by true false e f r = rw (e, f) r
       by false l e f r = rw e r
 
-  count_from : (s n : ℕ) (xs : List (Option Task)) → length (filter_map (subtask_in s) (enumerate_from n (tasks_from b n xs))) ≡ length (births (is_of s) n xs)
+  count_from : (s n : ℕ) (xs : List (Option TaskNode)) → length (filter_map (subtask_in s) (enumerate_from n (tasks_from b n xs))) ≡ length (births (is_of s) n xs)
   count_from s n [] = refl
   count_from s n (None ∷ xs) = rw add-one (count_from s (suc n) xs)
   count_from s n (Some x ∷ xs) = by (is_in s x.scope) refl (count_from s (suc n) xs)
@@ -213,15 +213,15 @@ module _ {E : Type 0} (b : Beside E) where
   over_seen : (f : Forest E) (s : ℕ) → ((live_scope_at (view_of b f) s).expired || (live_scope_at (view_of b f) s).cancelled) ≡ is_over f s
   over_seen f s = ap (λ o. (unwrap_or o no_live_scope).expired || (unwrap_or o no_live_scope).cancelled) (scope_is f s) ∙ by (get_or f.scopes s None)
     where
-      by : (o : Option (Scope E)) → ((unwrap_or (option_map (scope_seen b) o) no_live_scope).expired || (unwrap_or (option_map (scope_seen b) o) no_live_scope).cancelled) ≡ (elim o [ None ↦ false | Some c ↦ c.expired || c.cancelled ])
+      by : (o : Option (ScopeNode E)) → ((unwrap_or (option_map (scope_seen b) o) no_live_scope).expired || (unwrap_or (option_map (scope_seen b) o) no_live_scope).cancelled) ≡ (elim o [ None ↦ false | Some c ↦ c.expired || c.cancelled ])
       by None = refl
       by (Some c) = refl
 
-  own_flag : (f : Forest E) (t : ℕ) (x : Task) → TaskAt f t x → x.lives ≡ true → (alive_at (view_of b f) t).flag ≡ x.flag
+  own_flag : (f : Forest E) (t : ℕ) (x : TaskNode) → TaskAt f t x → x.lives ≡ true → (alive_at (view_of b f) t).flag ≡ x.flag
   own_flag f t x is lives =
       ap (λ o. (unwrap_or (unwrap_or o no_live_task).alive no_alive).flag) (task_is f t ∙ ap (option_map (task_seen b t)) is) ∙ (rw lives refl)
 
-  go_seen : (f : Forest E) (t : ℕ) (x : Task) (stand : Stand) → TaskAt f t x → x.lives ≡ true → live_can_go (view_of b f) t stand ≡ can_go f x.flag stand
+  go_seen : (f : Forest E) (t : ℕ) (x : TaskNode) (stand : Stand) → TaskAt f t x → x.lives ≡ true → live_can_go (view_of b f) t stand ≡ can_go f x.flag stand
   go_seen f t x Free is lives = refl
   go_seen f t x (AtClose s) is lives = ap not (any_from s 0 f.tasks)
   go_seen f t x (AtJoin s) is lives =
@@ -230,11 +230,11 @@ module _ {E : Type 0} (b : Beside E) where
       ∙ ap (λ a. is_over f s || not a || (alive_at (view_of b f) t).flag) (any_from s 0 f.tasks)
       ∙ ap (λ a. is_over f s || not (any_lives f.tasks s) || a) (own_flag f t x is lives)
 
-  pub steps_same : (f : Forest E) (t : ℕ) (x : Task) → TaskAt f t x → (reading.lives_in (view_of b f) t && live_can_go (view_of b f) t x.stand) ≡ can_step f t
+  pub steps_same : (f : Forest E) (t : ℕ) (x : TaskNode) → TaskAt f t x → (reading.lives_in (view_of b f) t && live_can_go (view_of b f) t x.stand) ≡ can_step f t
   steps_same f t x is =
-      ap (λ l. l && live_can_go (view_of b f) t x.stand) (lives_same f t ∙ ap (λ (o : Option Task). elim o [ None ↦ false | Some z ↦ z.lives ]) is)
+      ap (λ l. l && live_can_go (view_of b f) t x.stand) (lives_same f t ∙ ap (λ (o : Option TaskNode). elim o [ None ↦ false | Some z ↦ z.lives ]) is)
       ∙ by x.lives refl
-      ∙ sym (ap (λ (o : Option Task). elim o [ None ↦ false | Some z ↦ z.lives && can_go f z.flag z.stand ]) is)
+      ∙ sym (ap (λ (o : Option TaskNode). elim o [ None ↦ false | Some z ↦ z.lives && can_go f z.flag z.stand ]) is)
     where
       by : (a : Bool) → x.lives ≡ a → (x.lives && live_can_go (view_of b f) t x.stand) ≡ (x.lives && can_go f x.flag x.stand)
       by true e = ap (λ c. x.lives && c) (go_seen f t x x.stand is e)
@@ -243,21 +243,21 @@ module _ {E : Type 0} (b : Beside E) where
 -- ---- the end of a task
 
 module _ {E : Type 0} where
-  bare_from : (b : Beside E) (o : Option End) (n : ℕ) (xs : List (Option Task)) → tasks_from (record b { root_end = o }) n xs ≡ tasks_from b n xs
+  bare_from : (b : Beside E) (o : Option End) (n : ℕ) (xs : List (Option TaskNode)) → tasks_from (record b { root_end = o }) n xs ≡ tasks_from b n xs
   bare_from b o n [] = refl
   bare_from b o n (x ∷ xs) = ap (λ l. option_map (task_seen b n) x ∷ l) (bare_from b o (suc n) xs)
 
   pub rooted : (b : Beside E) (o : Option End) (f : Forest E) → view_of (record b { root_end = o }) f ≡ record (view_of b f) { root_end = o }
   rooted b o f = ap (λ l. record { tasks = l; scopes = map (option_map (scope_seen b)) f.scopes; root_end = o }) (bare_from b o 0 f.tasks)
 
-  pub gone_seen : (b : Beside E) (f : Forest E) (t : ℕ) (x : Task) (end : End) → TaskAt f t x → view_of (at_end b t end) (gone f t x) ≡ live_ended (view_of b f) t end
+  pub gone_seen : (b : Beside E) (f : Forest E) (t : ℕ) (x : TaskNode) (end : End) → TaskAt f t x → view_of (at_end b t end) (gone f t x) ≡ live_ended (view_of b f) t end
   gone_seen b f t x end is =
       rooted b (at_end b t end).root_end (gone f t x)
       ∙ ap (λ (v : Live). record v { root_end = (at_end b t end).root_end }) (view_task b f t x (record x { lives = false }) (λ task. record task { alive = None }) is refl)
 
-  pub told_seen : (b : Beside E) (f : Forest E) (t s : ℕ) (x : Task) (c : Scope E) (end : End) → TaskAt f t x → ScopeAt f s c → view_of (at_end b t end) (ending.told f t x end s c) ≡ live_told (live_ended (view_of b f) t end) t s end
+  pub told_seen : (b : Beside E) (f : Forest E) (t s : ℕ) (x : TaskNode) (c : ScopeNode E) (end : End) → TaskAt f t x → ScopeAt f s c → view_of (at_end b t end) (ending.told f t x end s c) ≡ live_told (live_ended (view_of b f) t end) t s end
   told_seen b f t s x c end is there =
-      let y : Task = record x { lives = false; state = Some end } in
+      let y : TaskNode = record x { lives = false; state = Some end } in
       let inside = inside_of f.tasks t (λ n. let q : Some x ≡ None = sym is ∙ n in cc) in
       let here : TaskAt (gone f t x) t (record x { lives = false }) = get_or-set_same f.tasks t (Some (record x { lives = false })) None inside in
       let twice : with_task (gone f t x) t y ≡ with_task f t y = ap (λ l. record f { tasks = l }) (set_again f.tasks t (Some (record x { lives = false })) (Some y)) in
@@ -269,17 +269,17 @@ module _ {E : Type 0} where
 
   -- ---- and what comes of it
 
-  pub root_seen : (b : Beside E) (f : Forest E) (t : ℕ) (x : Task) (end : End) → TaskAt f t x → x.scope ≡ None → view_of (at_end b t end) (ended f t x end) ≡ live_tell (live_ended (view_of b f) t end) t None end
+  pub root_seen : (b : Beside E) (f : Forest E) (t : ℕ) (x : TaskNode) (end : End) → TaskAt f t x → x.scope ≡ None → view_of (at_end b t end) (ended f t x end) ≡ live_tell (live_ended (view_of b f) t end) t None end
   root_seen b f t x end is scope = ap (λ o. view_of (at_end b t end) (ending.ended_in f t x end o)) scope ∙ gone_seen b f t x end is
 
-  pub end_seen : (b : Beside E) (f : Forest E) (t s : ℕ) (x : Task) (c : Scope E) (end : End) → TaskAt f t x → x.scope ≡ Some s → ScopeAt f s c → view_of (at_end b t end) (decided f t x end s c) ≡ live_tell (live_ended (view_of b f) t end) t (Some s) end
+  pub end_seen : (b : Beside E) (f : Forest E) (t s : ℕ) (x : TaskNode) (c : ScopeNode E) (end : End) → TaskAt f t x → x.scope ≡ Some s → ScopeAt f s c → view_of (at_end b t end) (decided f t x end s c) ≡ live_tell (live_ended (view_of b f) t end) t (Some s) end
   end_seen b f t s x c end is scope there =
       ap (λ o. view_of (at_end b t end) (word (asks_in f end o) (ending.ended_in f t x end o))) scope
       ∙ ap (λ o. view_of (at_end b t end) (word (asks_told end o) (ending.told_in f t x end s o))) there
       ∙ by c.cancelled refl
       ∙ sym (ap (λ a. cond a (live_ended (view_of b f) t end) (live_decide (live_told (live_ended (view_of b f) t end) t s end) s)) old)
     where
-      d : Scope E
+      d : ScopeNode E
       d = record c { tally = with_end c.tally end }
 
       word : Bool → Forest E → Forest E
@@ -312,7 +312,7 @@ module _ {E : Type 0} where
 
   -- ---- an expiry
 
-  pub expired_seen : (b : Beside E) (f : Forest E) (s : ℕ) (c : Scope E) → ScopeAt f s c → view_of b (expire f s c) ≡ live_cancel (with_live_scope (view_of b f) s (λ scope. record scope { expired = true })) s
+  pub expired_seen : (b : Beside E) (f : Forest E) (s : ℕ) (c : ScopeNode E) → ScopeAt f s c → view_of b (expire f s c) ≡ live_cancel (with_live_scope (view_of b f) s (λ scope. record scope { expired = true })) s
   expired_seen b f s c is =
       let inside = inside_of f.scopes s (λ n. let q : Some c ≡ None = sym is ∙ n in cc) in
       let here : ScopeAt (with_scope f s (record c { expired = true })) s (record c { expired = true }) = get_or-set_same f.scopes s (Some (record c { expired = true })) None inside in

@@ -7,8 +7,8 @@ use Rattle.std.specs.Borrow.{Bor}
 use Rattle.sts_env.specs.Environments.{Records, list_of}
 use Rattle.sts_env.specs.declared.env.Env.{Env}
 use Rattle.sts_tree.specs.Forest.{Forest}
-use Rattle.sts_tree.specs.declared.record.Task.{Task}
-use Rattle.sts_tree.specs.declared.record.Scope.{Scope}
+use Rattle.sts_tree.specs.declared.record.TaskNode.{TaskNode}
+use Rattle.sts_tree.specs.declared.record.ScopeNode.{ScopeNode}
 use Rattle.sts_tree.specs.Reading.{lives_at}
 use Rattle.sts_model.specs.Live.{LiveTask, Alive}
 use Rattle.sts_model.specs.declared.record.Frame.{Frame}
@@ -30,7 +30,7 @@ some_not o x e none = cc
 abbrev pub changed : (Alive → Alive) → LiveTask → LiveTask
 changed change task = record task { alive = option_map change task.alive }
 
-abbrev task_with : Task → Option Alive → LiveTask
+abbrev task_with : TaskNode → Option Alive → LiveTask
 task_with x alive = record { scope = x.scope; state = x.state; alive = alive }
 
 abbrev alive_with : Frame → Bool → List Bound → Alive
@@ -47,12 +47,12 @@ pub record Same {E : Type 0} (b d : Beside E) (u : ℕ) : Type 0 where
 abbrev pub kept_alive : {E : Type 0} → Beside E → ℕ → Bool → Alive
 kept_alive b t flag = record { frame = b.frame t; flag = flag; environment = b.bindings t }
 
-length_from : {E : Type 0} (b : Beside E) (n : ℕ) (xs : List (Option Task)) → length (tasks_from b n xs) ≡ length xs
+length_from : {E : Type 0} (b : Beside E) (n : ℕ) (xs : List (Option TaskNode)) → length (tasks_from b n xs) ≡ length xs
 length_from b n [] = refl
 length_from b n (x ∷ xs) = ap suc (length_from b (suc n) xs)
 
 module _ {E : Type 0} (b d : Beside E) where
-  seen_same : (u : ℕ) (x : Task) → (x.lives ≡ true → Same b d u) → task_seen d u x ≡ task_seen b u x
+  seen_same : (u : ℕ) (x : TaskNode) → (x.lives ≡ true → Same b d u) → task_seen d u x ≡ task_seen b u x
   seen_same u x same = by x.lives refl
     where
       by : (l : Bool) → x.lives ≡ l → task_seen d u x ≡ task_seen b u x
@@ -64,7 +64,7 @@ module _ {E : Type 0} (b d : Beside E) where
           ap (λ l. task_with x (cond l (Some (kept_alive d u x.flag)) None)) e
           ∙ sym (ap (λ l. task_with x (cond l (Some (kept_alive b u x.flag)) None)) e)
 
-  seen_changed : (t : ℕ) (x : Task) (change : Alive → Alive) → ((flag : Bool) → kept_alive d t flag ≡ change (kept_alive b t flag)) → task_seen d t x ≡ changed change (task_seen b t x)
+  seen_changed : (t : ℕ) (x : TaskNode) (change : Alive → Alive) → ((flag : Bool) → kept_alive d t flag ≡ change (kept_alive b t flag)) → task_seen d t x ≡ changed change (task_seen b t x)
   seen_changed t x change same = by x.lives
     where
       by : (l : Bool) → task_with x (cond l (Some (kept_alive d t x.flag)) None) ≡ changed change (task_with x (cond l (Some (kept_alive b t x.flag)) None))
@@ -72,10 +72,10 @@ module _ {E : Type 0} (b d : Beside E) where
       by false = refl
 
   -- the tasks look the same if no living task differs
-  pub tasks_same : (f : Forest E) → ((u : ℕ) (x : Task) → get_or f.tasks u None ≡ Some x → x.lives ≡ true → Same b d u) → tasks_from d 0 f.tasks ≡ tasks_from b 0 f.tasks
+  pub tasks_same : (f : Forest E) → ((u : ℕ) (x : TaskNode) → get_or f.tasks u None ≡ Some x → x.lives ≡ true → Same b d u) → tasks_from d 0 f.tasks ≡ tasks_from b 0 f.tasks
   tasks_same f same = ext_get_or None _ _ (length_from d 0 f.tasks ∙ sym (length_from b 0 f.tasks)) (λ u less. task_is d f u ∙ by u (get_or f.tasks u None) refl ∙ sym (task_is b f u))
     where
-      by : (u : ℕ) (o : Option Task) → get_or f.tasks u None ≡ o → option_map (task_seen d u) o ≡ option_map (task_seen b u) o
+      by : (u : ℕ) (o : Option TaskNode) → get_or f.tasks u None ≡ o → option_map (task_seen d u) o ≡ option_map (task_seen b u) o
       by u None e = refl
       by u (Some x) e = ap (λ z. Some z) (seen_same u x (same u x e))
 
@@ -89,11 +89,11 @@ module _ {E : Type 0} (b d : Beside E) where
       new : Option LiveTask
       new = option_map (changed change) (get_or old t None)
 
-      at_t : (o : Option Task) → option_map (task_seen d t) o ≡ option_map (changed change) (option_map (task_seen b t) o)
+      at_t : (o : Option TaskNode) → option_map (task_seen d t) o ≡ option_map (changed change) (option_map (task_seen b t) o)
       at_t None = refl
       at_t (Some x) = ap (λ z. Some z) (seen_changed t x change here)
 
-      other : (u : ℕ) → u ≢ t → (o : Option Task) → option_map (task_seen d u) o ≡ option_map (task_seen b u) o
+      other : (u : ℕ) → u ≢ t → (o : Option TaskNode) → option_map (task_seen d u) o ≡ option_map (task_seen b u) o
       other u ne None = refl
       other u ne (Some x) = ap (λ z. Some z) (seen_same u x (λ e. there u ne))
 
@@ -108,7 +108,7 @@ module _ {E : Type 0} (b d : Beside E) where
           other u ne (get_or f.tasks u None) ∙ sym (task_is b f u) ∙ sym (get_or-set_other old t u new None ne)
 
   -- the scopes look the same if none keeps another environment
-  pub scopes_same : (cs : List (Option (Scope E))) → ((s : ℕ) (c : Scope E) → get_or cs s None ≡ Some c → d.kept c.environment ≡ b.kept c.environment) → map (option_map (scope_seen d)) cs ≡ map (option_map (scope_seen b)) cs
+  pub scopes_same : (cs : List (Option (ScopeNode E))) → ((s : ℕ) (c : ScopeNode E) → get_or cs s None ≡ Some c → d.kept c.environment ≡ b.kept c.environment) → map (option_map (scope_seen d)) cs ≡ map (option_map (scope_seen b)) cs
   scopes_same [] same = refl
   scopes_same (None ∷ cs) same = ap (λ l. None ∷ l) (scopes_same cs (λ s. same (suc s)))
   scopes_same (Some c ∷ cs) same =
@@ -124,7 +124,7 @@ alive_of c flag r = record { frame = r.frame; flag = flag; environment = list_of
 -- its records, and what is seen of it
 pub record Lived (m : Parts) (t : ℕ) : Type 0 where
   pub run : Running
-  pub task : Task
+  pub task : TaskNode
   pub runs : get_or m.frames.slots t None ≡ Some run
   pub stands : get_or m.tree.tasks t None ≡ Some task
   pub lives : task.lives ≡ true
@@ -136,14 +136,14 @@ pub running_is : (m : Parts) (t : ℕ) (r : Running) → get_or m.frames.slots t
 running_is m t r e = ap (λ o. unwrap_or o no_running) e
 
 -- what is seen of a task that lives
-task_seen_is : (m : Parts) (t : ℕ) (x : Task) (r : Running) → get_or m.tree.tasks t None ≡ Some x → x.lives ≡ true → get_or m.frames.slots t None ≡ Some r → task_in (live_of m) t ≡ Some (task_with x (Some (alive_of m.chains x.flag r)))
+task_seen_is : (m : Parts) (t : ℕ) (x : TaskNode) (r : Running) → get_or m.tree.tasks t None ≡ Some x → x.lives ≡ true → get_or m.frames.slots t None ≡ Some r → task_in (live_of m) t ≡ Some (task_with x (Some (alive_of m.chains x.flag r)))
 task_seen_is m t x r stands lives runs =
     task_is (beside m) m.tree t ∙ ap (option_map (task_seen (beside m) t)) stands
     ∙ ap (λ l. Some (task_with x (cond l (Some (alive_of m.chains x.flag (running_at m t))) None))) lives
     ∙ ap (λ q. Some (task_with x (Some (alive_of m.chains x.flag q)))) (running_is m t r runs)
 
 -- does a task live?
-abbrev pub lives_of : Option Task → Bool
+abbrev pub lives_of : Option TaskNode → Bool
 lives_of o = elim o [ None ↦ false | Some x ↦ x.lives ]
 
 -- a task lives in the view if and only if it lives in the tree
@@ -156,7 +156,7 @@ lived m is t lives = by (get_or m.tree.tasks t None) refl (get_or m.frames.slots
     tree : lives_at m.tree t ≡ true
     tree = sym (lives_is m t) ∙ lives
 
-    by : (x : Option Task) → get_or m.tree.tasks t None ≡ x → (o : Option Running) → get_or m.frames.slots t None ≡ o → Lived m t
+    by : (x : Option TaskNode) → get_or m.tree.tasks t None ≡ x → (o : Option Running) → get_or m.frames.slots t None ≡ o → Lived m t
     by None e o f = let no : lives_at m.tree t ≡ false = ap lives_of e in let yes : lives_at m.tree t ≡ true = tree in cc
     by (Some x) e None f =
         let no : is_some (get_or m.frames.slots t None) ≡ false = ap (λ (y : Option Running). is_some y) f in
@@ -189,7 +189,7 @@ with_running m t q c = record m { frames = record m.frames { slots = set m.frame
 -- bindings elsewhere stay as they are
 pub record Elsewhere (m : Parts) (t : ℕ) (c : Records) : Type 0 where
   pub tasks : (u : ℕ) (l : Running) → u ≢ t → get_or m.frames.slots u None ≡ Some l → list_of c l.env ≡ list_of m.chains l.env
-  pub scopes : (s : ℕ) (k : Scope Env) → get_or m.tree.scopes s None ≡ Some k → list_of c k.environment ≡ list_of m.chains k.environment
+  pub scopes : (s : ℕ) (k : ScopeNode Env) → get_or m.tree.scopes s None ≡ Some k → list_of c k.environment ≡ list_of m.chains k.environment
 
 pub nowhere : (m : Parts) (t : ℕ) → Elsewhere m t m.chains
 nowhere m t = record { tasks = λ u l ne e. refl; scopes = λ s k e. refl }

@@ -12,8 +12,8 @@ use Rattle.sts_model.specs.World.{fresh_scope}
 use Rattle.sts_joiners.specs.Tallied.{with_end}
 use Rattle.sts_tree.specs.Births.{births}
 use Rattle.sts_tree.specs.Forest.{Forest, any_lives, is_of, closed, opened, subtask}
-use Rattle.sts_tree.specs.declared.record.Task.{Task}
-use Rattle.sts_tree.specs.declared.record.Scope.{Scope}
+use Rattle.sts_tree.specs.declared.record.TaskNode.{TaskNode}
+use Rattle.sts_tree.specs.declared.record.ScopeNode.{ScopeNode}
 use Rattle.sts_tree.specs.Ending.{asks_ended, ended, gone}
 use Rattle.sts_tree.specs.Ending as ending
 use Rattle.sts_tree.specs.Reading.{lives_at}
@@ -30,15 +30,15 @@ abbrev pub at_end : {E : Type 0} → Beside E → ℕ → End → Beside E
 at_end b t end = record b { root_end = if t == 0 then Some end else b.root_end }
 
 -- the forest has this task at this birth
-abbrev pub TaskAt : {E : Type 0} → Forest E → ℕ → Task → Type 0
+abbrev pub TaskAt : {E : Type 0} → Forest E → ℕ → TaskNode → Type 0
 TaskAt f t x = slice_index_or f.tasks t None ≡ Some x
 
 -- the forest has this scope at this birth
-abbrev pub ScopeAt : {E : Type 0} → Forest E → ℕ → Scope E → Type 0
+abbrev pub ScopeAt : {E : Type 0} → Forest E → ℕ → ScopeNode E → Type 0
 ScopeAt f s c = slice_index_or f.scopes s None ≡ Some c
 
 -- a task of s has ended, and the scope is cancelled if its joiner asks for it
-abbrev pub decided : {E : Type 0} → Forest E → ℕ → Task → End → ℕ → Scope E → Forest E
+abbrev pub decided : {E : Type 0} → Forest E → ℕ → TaskNode → End → ℕ → ScopeNode E → Forest E
 decided f t x end s c =
     if asks_ended f x end
     then cancel (ended f t x end) s (record c { tally = with_end c.tally end })
@@ -48,25 +48,25 @@ decided f t x end s c =
 -- is the same
 pub record WordsAgree (E : Type 0) : Type 0 where
   pub same : (b : Beside E) (f g : Forest E) → seen f ≡ seen g → view_of b f ≡ view_of b g
-  pub flag : (b : Beside E) (f : Forest E) (t : ℕ) (x : Task) (flag : Bool) → TaskAt f t x →
+  pub flag : (b : Beside E) (f : Forest E) (t : ℕ) (x : TaskNode) (flag : Bool) → TaskAt f t x →
       view_of b (with_task f t (record x { flag = flag }))
       ≡ with_alive (view_of b f) t (λ (alive : Alive). record alive { flag = flag })
-  pub stand : (b : Beside E) (f : Forest E) (t : ℕ) (x : Task) (stand : Stand) → TaskAt f t x →
+  pub stand : (b : Beside E) (f : Forest E) (t : ℕ) (x : TaskNode) (stand : Stand) → TaskAt f t x →
       view_of b (with_task f t (record x { stand = stand })) ≡ view_of b f
-  pub phase : (b : Beside E) (f : Forest E) (s : ℕ) (c : Scope E) (phase : Phase) →
+  pub phase : (b : Beside E) (f : Forest E) (s : ℕ) (c : ScopeNode E) (phase : Phase) →
       ScopeAt f s c → view_of b (with_scope f s (record c { phase = phase }))
       ≡ with_live_phase (view_of b f) s phase
-  pub cancel_is : (b : Beside E) (f : Forest E) (s : ℕ) (c : Scope E) → ScopeAt f s c →
+  pub cancel_is : (b : Beside E) (f : Forest E) (s : ℕ) (c : ScopeNode E) → ScopeAt f s c →
       view_of b (cancel f s c) ≡ live_cancel (view_of b f) s
-  pub expire_is : (b : Beside E) (f : Forest E) (s : ℕ) (c : Scope E) → ScopeAt f s c →
+  pub expire_is : (b : Beside E) (f : Forest E) (s : ℕ) (c : ScopeNode E) → ScopeAt f s c →
       view_of b (expire f s c)
       ≡ live_cancel (with_live_scope (view_of b f) s
       (λ (scope : LiveScope). record scope { expired = true })) s
   pub close_is : (b : Beside E) (f : Forest E) (s : ℕ) →
       view_of b (closed f s) ≡ live_gone (view_of b f) s
-  pub gone_is : (b : Beside E) (f : Forest E) (t : ℕ) (x : Task) (end : End) → TaskAt f t x →
+  pub gone_is : (b : Beside E) (f : Forest E) (t : ℕ) (x : TaskNode) (end : End) → TaskAt f t x →
       view_of (at_end b t end) (gone f t x) ≡ live_ended (view_of b f) t end
-  pub told_is : (b : Beside E) (f : Forest E) (t s : ℕ) (x : Task) (c : Scope E) (end : End) →
+  pub told_is : (b : Beside E) (f : Forest E) (t s : ℕ) (x : TaskNode) (c : ScopeNode E) (end : End) →
       TaskAt f t x → ScopeAt f s c → view_of (at_end b t end) (ending.told f t x end s c)
       ≡ live_told (live_ended (view_of b f) t end) t s end
   pub fork_is : (b : Beside E) (f : Forest E) (s : ℕ) (lives : Bool) (keys : List ℕ) (room : ℕ) →
@@ -95,10 +95,10 @@ pub record WordsAgree (E : Type 0) : Type 0 where
             ++ Some (shown_scope (fresh_scope owner joiner timed (b.kept environment))) ∷ [];
       }
   pub lives_is : (b : Beside E) (f : Forest E) (t : ℕ) → lives_in (view_of b f) t ≡ lives_at f t
-  pub root_is : (b : Beside E) (f : Forest E) (t : ℕ) (x : Task) (end : End) → TaskAt f t x →
+  pub root_is : (b : Beside E) (f : Forest E) (t : ℕ) (x : TaskNode) (end : End) → TaskAt f t x →
       x.scope ≡ None → view_of (at_end b t end) (ended f t x end)
       ≡ live_tell (live_ended (view_of b f) t end) t None end
-  pub end_is : (b : Beside E) (f : Forest E) (t s : ℕ) (x : Task) (c : Scope E) (end : End) →
+  pub end_is : (b : Beside E) (f : Forest E) (t s : ℕ) (x : TaskNode) (c : ScopeNode E) (end : End) →
       TaskAt f t x → x.scope ≡ Some s → ScopeAt f s c →
       view_of (at_end b t end) (decided f t x end s c)
       ≡ live_tell (live_ended (view_of b f) t end) t (Some s) end
@@ -106,5 +106,5 @@ pub record WordsAgree (E : Type 0) : Type 0 where
       live_any_lives (view_of b f) s ≡ any_lives f.tasks s
   pub count_is : (b : Beside E) (f : Forest E) (s : ℕ) →
       live_count (view_of b f) s ≡ length (births (is_of s) 0 f.tasks)
-  pub step_is : (b : Beside E) (f : Forest E) (t : ℕ) (x : Task) → TaskAt f t x →
+  pub step_is : (b : Beside E) (f : Forest E) (t : ℕ) (x : TaskNode) → TaskAt f t x →
       (lives_in (view_of b f) t && live_can_go (view_of b f) t x.stand) ≡ can_step f t

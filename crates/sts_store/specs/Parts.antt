@@ -5,7 +5,7 @@ use Rattle.std.specs.Prelude.{Bool, false, ◌&&◌, slice_index_or, slice_set}
 use Rattle.sts_env.specs.Environments.{Records, list_of}
 use Rattle.sts_env.specs.declared.env.Env.{Env}
 use Rattle.sts_tree.specs.Forest.{Forest}
-use Rattle.sts_tree.specs.declared.record.Task.{Task}
+use Rattle.sts_tree.specs.declared.record.TaskNode.{TaskNode}
 use Rattle.sts_records.specs.Holes.{Holes}
 use Rattle.sts_model.specs.declared.event.End.{End}
 use Rattle.sts_model.specs.declared.event.Stand.{Stand}
@@ -67,7 +67,7 @@ root_alone frame =
 
 -- ---- what the view doesn't show
 
-abbrev pub stand_of : Task → Stand
+abbrev pub stand_of : TaskNode → Stand
 stand_of x = x.stand
 
 -- the scope that is recorded for each task, the keys that births were given, and how many more fit

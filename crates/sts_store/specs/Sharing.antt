@@ -5,8 +5,8 @@ use Rattle.std.specs.Prelude.{◌≡◌, ◌≢◌, ℕ, List, [], ◌∷◌, �
 use Rattle.std.specs.Prelude.{Option, Some, None, option_map, ◌==◌, if◌then◌else◌, slice_index_or}
 use Rattle.sts_env.specs.Environments.{Records, IsWhole, keys_of, NotIn}
 use Rattle.sts_env.specs.declared.env.Env.{Env}
-use Rattle.sts_tree.specs.declared.record.Task.{Task}
-use Rattle.sts_tree.specs.declared.record.Scope.{Scope}
+use Rattle.sts_tree.specs.declared.record.TaskNode.{TaskNode}
+use Rattle.sts_tree.specs.declared.record.ScopeNode.{ScopeNode}
 use Rattle.sts_model.specs.declared.record.Entry.{Entry}
 use Rattle.sts_model.specs.declared.record.Entry.TheVariants as entry
 use Rattle.sts_model.specs.Misuse.{is_binding}
@@ -26,10 +26,10 @@ pub record Keeper : Type 0 where
 abbrev pub holder_of : Running → Holder
 holder_of r = record { env = r.env; entries = r.frame.entries }
 
-abbrev pub keeper_of : Scope Env → Keeper
+abbrev pub keeper_of : ScopeNode Env → Keeper
 keeper_of x = record { owner = x.owner; kept = x.environment }
 
-abbrev pub home_of : Task → Option ℕ
+abbrev pub home_of : TaskNode → Option ℕ
 home_of x = x.scope
 
 abbrev pub holders : Parts → List (Option Holder)

@@ -7,14 +7,14 @@ use Rattle.sts_links.specs.declared.links.Ends.{Ends}
 use Rattle.sts_tree.specs.Births.{births}
 use Rattle.sts_tree.specs.Stored.{task_of, tasks_of, link_at}
 use Rattle.sts_tree.specs.Forest.{ready_of, Family, IsForest, is_of, lives_in}
-use Rattle.sts_tree.specs.declared.record.Task.{Task}
+use Rattle.sts_tree.specs.declared.record.TaskNode.{TaskNode}
 use Rattle.sts_tree.specs.declared.record.TaskRecord.{TaskRecord}
 use Rattle.sts_tree.proofs.BirthLemmas.{births_few}
 use Rattle.sts_tree.proofs.ForkLemmas.{added}
 use Rattle.sts_tree.proofs.Stores.{Stored, fresh, rekeyed, ready_is}
 
 -- a subtask was appended
-pub record Added (slots new : List (Option TaskRecord)) (families : List (Option Family)) (ready : Ends) (room s : ℕ) (g : Family) (y : Task) : Type 0 where
+pub record Added (slots new : List (Option TaskRecord)) (families : List (Option Family)) (ready : Ends) (room s : ℕ) (g : Family) (y : TaskNode) : Type 0 where
   pub is : Stored new (set families s (Some g)) ready (room - 1)
   pub tasks : tasks_of new ≡ tasks_of slots ++ Some y ∷ []
   pub keys_are : ready_of new ready ≡ ready_of slots ready

@@ -11,7 +11,7 @@ use Rattle.sts_model.specs.Living.{is_in}
 use Rattle.sts_tree.specs.Births.{births, drop_if, has, remove_each}
 use Rattle.sts_tree.specs.Stored.{tasks_of, link_of, link_at}
 use Rattle.sts_tree.specs.Forest.{ready_of, Family, IsForest, is_of, lives_in}
-use Rattle.sts_tree.specs.declared.record.Task.{Task}
+use Rattle.sts_tree.specs.declared.record.TaskNode.{TaskNode}
 use Rattle.sts_tree.specs.declared.record.TaskRecord.{TaskRecord}
 use Rattle.sts_tree.proofs.BirthLemmas.{not_in}
 use Rattle.sts_tree.proofs.ForkLemmas.{one_scope, not_lives_of, lives_of, other_scope}
@@ -220,12 +220,12 @@ link_kept s m k slots h = ap (link_of m) (drop_at (of_record s) slots k ∙ by (
     by (Some r) e = rw (h r e) refl
 
 -- a list without a subtask of s
-list_kept : (s m : ℕ) (slots : List (Option TaskRecord)) (list : Ends) (keys : List ℕ) → ((k : ℕ) (x : Task) → (NotIn k keys → ⊥) → get_or (tasks_of slots) k None ≡ Some x → is_of s x ≡ false) → IsList (link_at slots m) list keys → IsList (link_at (map (drop_if (of_record s)) slots) m) list keys
+list_kept : (s m : ℕ) (slots : List (Option TaskRecord)) (list : Ends) (keys : List ℕ) → ((k : ℕ) (x : TaskNode) → (NotIn k keys → ⊥) → get_or (tasks_of slots) k None ≡ Some x → is_of s x ≡ false) → IsList (link_at slots m) list keys → IsList (link_at (map (drop_if (of_record s)) slots) m) list keys
 list_kept s m slots list keys h is =
     list_stays (link_at slots m) (link_at (map (drop_if (of_record s)) slots) m) list keys
     (λ k inside. link_kept s m k slots (λ r at. h k r.task inside (Rattle.sts_tree.proofs.Stores.task_at slots k r at))) is
 
-by_test : (p : Task → Bool) (s : ℕ) (tasks : List (Option Task)) → ((x : Task) → p x ≡ true → is_of s x ≡ false) → (k : ℕ) (x : Task) → (NotIn k (births p 0 tasks) → ⊥) → get_or tasks k None ≡ Some x → is_of s x ≡ false
+by_test : (p : TaskNode → Bool) (s : ℕ) (tasks : List (Option TaskNode)) → ((x : TaskNode) → p x ≡ true → is_of s x ≡ false) → (k : ℕ) (x : TaskNode) → (NotIn k (births p 0 tasks) → ⊥) → get_or tasks k None ≡ Some x → is_of s x ≡ false
 by_test p s tasks h k x inside at = by (p x) refl
   where
     by : (b : Bool) → p x ≡ b → is_of s x ≡ false
@@ -238,7 +238,7 @@ pub record Closes (slots new : List (Option TaskRecord)) (families : List (Optio
   pub tasks : tasks_of new ≡ map (drop_if (is_of s)) (tasks_of slots)
   pub keys_are : ready_of new ready ≡ ready_of slots ready
 
-pub closes : (slots new : List (Option TaskRecord)) (families : List (Option Family)) (ready : Ends) (room s : ℕ) → Stored slots families ready room → ((t : ℕ) (x : Task) → get_or (tasks_of slots) t None ≡ Some x → is_of s x ≡ true → has t (ready_of slots ready) ≡ false) → new ≡ remove_each (births (is_of s) 0 (tasks_of slots)) slots → Closes slots new families ready room s
+pub closes : (slots new : List (Option TaskRecord)) (families : List (Option Family)) (ready : Ends) (room s : ℕ) → Stored slots families ready room → ((t : ℕ) (x : TaskNode) → get_or (tasks_of slots) t None ≡ Some x → is_of s x ≡ true → has t (ready_of slots ready) ≡ false) → new ≡ remove_each (births (is_of s) 0 (tasks_of slots)) slots → Closes slots new families ready room s
 closes slots new families ready room s i waits same =
     let all : IsForest (link_at dropped) (map (drop_if (is_of s)) (tasks_of slots)) (set families s None) ready (ready_of slots ready) (room + length (births (is_of s) 0 (tasks_of slots))) =
     record {
@@ -266,7 +266,7 @@ closes slots new families ready room s i waits same =
     lives_other : (r : ℕ) → r ≢ s → births (lives_in r) 0 (map (drop_if (is_of s)) (tasks_of slots)) ≡ births (lives_in r) 0 (tasks_of slots)
     lives_other r ne = births_dropped (lives_in r) (is_of s) 0 (tasks_of slots) (λ x e. one_scope s r x (λ h. ne (sym h)) (lives_of r x e))
 
-    waiting : (k : ℕ) (x : Task) → (NotIn k (ready_of slots ready) → ⊥) → get_or (tasks_of slots) k None ≡ Some x → is_of s x ≡ false
+    waiting : (k : ℕ) (x : TaskNode) → (NotIn k (ready_of slots ready) → ⊥) → get_or (tasks_of slots) k None ≡ Some x → is_of s x ≡ false
     waiting k x inside at = by (is_of s x) refl
       where
         by : (b : Bool) → is_of s x ≡ b → is_of s x ≡ false
@@ -276,5 +276,5 @@ closes slots new families ready room s i waits same =
     own : (r : ℕ) (o : Option ℕ) → o ≡ Some r → is_in s o ≡ false → r ≢ s
     own r o e f same = let t : is_in s o ≡ true = rw (e, same) (Rattle.sts_tree.proofs.ForkLemmas.own_scope s) in cc
 
-    home : (t r : ℕ) (x : Task) → (get_or (tasks_of slots) t None ≡ Some x) × (is_of s x ≡ false) → x.scope ≡ Some r → get_or (set families s None) r None ≢ None
+    home : (t r : ℕ) (x : TaskNode) → (get_or (tasks_of slots) t None ≡ Some x) × (is_of s x ≡ false) → x.scope ≡ Some r → get_or (set families s None) r None ≢ None
     home t r x at e none = i.homes t r x at.0 e (sym (get_or-set_other families s r None None (own r x.scope e at.1)) ∙ none)

@@ -6,14 +6,14 @@ use Rattle.sts_links.specs.declared.links.Ends.{Ends}
 use Rattle.sts_model.specs.Living.{is_in}
 use Rattle.sts_tree.specs.Births.{births, has}
 use Rattle.sts_tree.specs.Forest.{is_of, lives_in, Family, IsForest}
-use Rattle.sts_tree.specs.declared.record.Task.{Task}
+use Rattle.sts_tree.specs.declared.record.TaskNode.{TaskNode}
 use Rattle.sts_tree.proofs.BirthLemmas.{OneLess, births_less, births_kept}
 use Rattle.sts_tree.proofs.Counts.{count_kept}
 use Rattle.sts_tree.proofs.ForkLemmas.{own_scope, one_scope, not_lives_of, living_apart, stays_some}
 use Rattle.sts_tree.proofs.StepLemmas.{at_set}
 
 -- the living subtasks without this one
-pub leaves : (tasks : List (Option Task)) (t s : ℕ) (x y : Task) → get_or tasks t None ≡ Some x → x.scope ≡ Some s → x.lives ≡ true → y.lives ≡ false → OneLess (births (lives_in s) 0 tasks) (births (lives_in s) 0 (set tasks t (Some y))) t
+pub leaves : (tasks : List (Option TaskNode)) (t s : ℕ) (x y : TaskNode) → get_or tasks t None ≡ Some x → x.scope ≡ Some s → x.lives ≡ true → y.lives ≡ false → OneLess (births (lives_in s) 0 tasks) (births (lives_in s) 0 (set tasks t (Some y))) t
 leaves tasks t s x y is scope lives ends =
     let zero : 0 + t ≡ t = omega arith in
     let here : lives_in s x ≡ true = rw (scope, lives, own_scope s) refl in
@@ -24,7 +24,7 @@ leaves tasks t s x y is scope lives ends =
     no_and true = refl
     no_and false = refl
 
-pub ended : (at new : ℕ → ℕ → Option Link) (tasks : List (Option Task)) (families : List (Option Family)) (ready : Ends) (keys : List ℕ) (room t s : ℕ) (x y : Task) (f g : Family) (living : Ends) → IsForest at tasks families ready keys room → get_or tasks t None ≡ Some x → x.scope ≡ Some s → y.scope ≡ x.scope → y.ready ≡ x.ready → get_or families s None ≡ Some f → g ≡ record f { living = living } → (o : OneLess (births (lives_in s) 0 tasks) (births (lives_in s) 0 (set tasks t (Some y))) t) → BecomesList at new 1 living (o.front ++ o.back) → IsForest new (set tasks t (Some y)) (set families s (Some g)) ready keys room
+pub ended : (at new : ℕ → ℕ → Option Link) (tasks : List (Option TaskNode)) (families : List (Option Family)) (ready : Ends) (keys : List ℕ) (room t s : ℕ) (x y : TaskNode) (f g : Family) (living : Ends) → IsForest at tasks families ready keys room → get_or tasks t None ≡ Some x → x.scope ≡ Some s → y.scope ≡ x.scope → y.ready ≡ x.ready → get_or families s None ≡ Some f → g ≡ record f { living = living } → (o : OneLess (births (lives_in s) 0 tasks) (births (lives_in s) 0 (set tasks t (Some y))) t) → BecomesList at new 1 living (o.front ++ o.back) → IsForest new (set tasks t (Some y)) (set families s (Some g)) ready keys room
 ended at new tasks families ready keys room t s x y f g living i is scope same_scope flag there same o list =
     let of : (r : ℕ) → births (is_of r) 0 (set tasks t (Some y)) ≡ births (is_of r) 0 tasks = λ r. births_kept (is_of r) 0 tasks t x y is (ap (is_in r) same_scope) in
     let own_x : is_of s x ≡ true = rw scope (own_scope s) in
@@ -60,7 +60,7 @@ ended at new tasks families ready keys room t s x y f g living i is scope same_s
     }
 
 -- the joiner was told of fewer ends than there are subtasks
-pub spare : (at : ℕ → ℕ → Option Link) (tasks : List (Option Task)) (families : List (Option Family)) (ready : Ends) (keys : List ℕ) (room t s : ℕ) (x y : Task) (f : Family) → IsForest at tasks families ready keys room → get_or tasks t None ≡ Some x → y.scope ≡ x.scope → get_or families s None ≡ Some f → OneLess (births (lives_in s) 0 tasks) (births (lives_in s) 0 (set tasks t (Some y))) t → f.ends + length (births (lives_in s) 0 (set tasks t (Some y))) < length (births (is_of s) 0 (set tasks t (Some y)))
+pub spare : (at : ℕ → ℕ → Option Link) (tasks : List (Option TaskNode)) (families : List (Option Family)) (ready : Ends) (keys : List ℕ) (room t s : ℕ) (x y : TaskNode) (f : Family) → IsForest at tasks families ready keys room → get_or tasks t None ≡ Some x → y.scope ≡ x.scope → get_or families s None ≡ Some f → OneLess (births (lives_in s) 0 tasks) (births (lives_in s) 0 (set tasks t (Some y))) t → f.ends + length (births (lives_in s) 0 (set tasks t (Some y))) < length (births (is_of s) 0 (set tasks t (Some y)))
 spare at tasks families ready keys room t s x y f i is same_scope there o =
     let of : births (is_of s) 0 (set tasks t (Some y)) ≡ births (is_of s) 0 tasks = births_kept (is_of s) 0 tasks t x y is (ap (is_in s) same_scope) in
     let told = rw o.all_are at (i.told s f there) in

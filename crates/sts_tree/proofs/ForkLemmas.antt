@@ -9,7 +9,7 @@ use Rattle.sts_links.proofs.ChainLemmas.{without_link}
 use Rattle.sts_model.specs.Living.{is_in}
 use Rattle.sts_tree.specs.Births.{births, has}
 use Rattle.sts_tree.specs.Forest.{is_of, lives_in, Family, IsForest}
-use Rattle.sts_tree.specs.declared.record.Task.{Task}
+use Rattle.sts_tree.specs.declared.record.TaskNode.{TaskNode}
 use Rattle.sts_tree.proofs.BirthLemmas.{births_apart, not_in}
 use Rattle.sts_tree.proofs.Counts.{count_more}
 use Rattle.sts_tree.proofs.HoldingLemmas.{inside_of}
@@ -23,31 +23,31 @@ pub other_scope : (r s : ℕ) → r ≢ s → is_in r (Some s) ≡ false
 other_scope r s ne = grind (arith, nat_tests)
 
 -- a subtask of one scope is of no other
-pub one_scope : (r s : ℕ) (x : Task) → r ≢ s → is_of s x ≡ true → is_of r x ≡ false
+pub one_scope : (r s : ℕ) (x : TaskNode) → r ≢ s → is_of s x ≡ true → is_of r x ≡ false
 one_scope r s x ne e = by x.scope e
   where
     by : (o : Option ℕ) → is_in s o ≡ true → is_in r o ≡ false
     by None q = refl
     by (Some u) q = let same : u ≡ s = grind (arith, nat_tests) in rw same (other_scope r s ne)
 
-pub lives_of : (s : ℕ) (x : Task) → lives_in s x ≡ true → is_of s x ≡ true
+pub lives_of : (s : ℕ) (x : TaskNode) → lives_in s x ≡ true → is_of s x ≡ true
 lives_of s x e = by (is_of s x) refl
   where
     by : (b : Bool) → is_of s x ≡ b → is_of s x ≡ true
     by true q = q
     by false q = let f : false ≡ true = rw q at e in cc
 
-pub not_lives_of : (s : ℕ) (x : Task) → is_of s x ≡ false → lives_in s x ≡ false
+pub not_lives_of : (s : ℕ) (x : TaskNode) → is_of s x ≡ false → lives_in s x ≡ false
 not_lives_of s x e = rw e refl
 
 -- the subtasks of two scopes
-pub scopes_apart : (r s : ℕ) (tasks : List (Option Task)) → r ≢ s → AreApart (births (is_of r) 0 tasks) (births (is_of s) 0 tasks)
+pub scopes_apart : (r s : ℕ) (tasks : List (Option TaskNode)) → r ≢ s → AreApart (births (is_of r) 0 tasks) (births (is_of s) 0 tasks)
 scopes_apart r s tasks ne = births_apart (is_of r) (is_of s) tasks (λ x e. one_scope r s x ne e)
 
-pub living_apart : (r s : ℕ) (tasks : List (Option Task)) → r ≢ s → AreApart (births (lives_in r) 0 tasks) (births (lives_in s) 0 tasks)
+pub living_apart : (r s : ℕ) (tasks : List (Option TaskNode)) → r ≢ s → AreApart (births (lives_in r) 0 tasks) (births (lives_in s) 0 tasks)
 living_apart r s tasks ne = births_apart (lives_in r) (lives_in s) tasks (λ x e. not_lives_of r x (one_scope r s x ne (lives_of s x e)))
 
-unborn : (p : Task → Bool) (tasks : List (Option Task)) → NotIn (length tasks) (births p 0 tasks)
+unborn : (p : TaskNode → Bool) (tasks : List (Option TaskNode)) → NotIn (length tasks) (births p 0 tasks)
 unborn p tasks = not_in p tasks (length tasks) (λ x e. let n : get_or tasks (length tasks) None ≡ None = get_or_past tasks (length tasks) None (omega arith) in cc)
 
 pub some_eq : (a b : ℕ) → Some a ≡ Some b → a ≡ b
@@ -67,11 +67,11 @@ stays_some xs i j x y is h = by (nat_eq j i) refl
     by false q e = let s : j ≢ i = grind (arith, nat_tests) in h (sym (get_or-set_other xs i j (Some y) None s) ∙ e)
 
 -- a list of some layer, through both appends
-carry : (at one two new : ℕ → ℕ → Option Link) (tasks : List (Option Task)) (s : ℕ) (lives : Bool) (forks living : Ends) → Adds at one two new tasks s (length tasks) lives forks living → (m : ℕ) (list : Ends) (ks : List ℕ) → IsList (at m) list ks → (m ≡ 0 → AreApart ks (births (is_of s) 0 tasks ++ one_if true (length tasks))) → (m ≡ 1 → AreApart ks (births (lives_in s) 0 tasks ++ one_if lives (length tasks))) → IsList (new m) list ks
+carry : (at one two new : ℕ → ℕ → Option Link) (tasks : List (Option TaskNode)) (s : ℕ) (lives : Bool) (forks living : Ends) → Adds at one two new tasks s (length tasks) lives forks living → (m : ℕ) (list : Ends) (ks : List ℕ) → IsList (at m) list ks → (m ≡ 0 → AreApart ks (births (is_of s) 0 tasks ++ one_if true (length tasks))) → (m ≡ 1 → AreApart ks (births (lives_in s) 0 tasks ++ one_if lives (length tasks))) → IsList (new m) list ks
 carry at one two new tasks s lives forks living a m list ks is first second =
     a.lived.others m list ks (a.forked.others m list ks (fresh_list (at m) (one m) (length tasks) list ks (a.vacant m) (λ k ne. a.others m k ne) is) first) second
 
-pub added : (at one two new : ℕ → ℕ → Option Link) (tasks : List (Option Task)) (families : List (Option Family)) (ready : Ends) (keys : List ℕ) (room s : ℕ) (f g : Family) (y : Task) (forks living : Ends) → IsForest at tasks families ready keys room → get_or families s None ≡ Some f → 0 < room → length tasks < 1000000 → y.scope ≡ Some s → y.ready ≡ false → g ≡ record f { forks = forks; fork_count = f.fork_count + 1; living = living } → Adds at one two new tasks s (length tasks) y.lives forks living → IsForest new (tasks ++ Some y ∷ []) (set families s (Some g)) ready keys (room - 1)
+pub added : (at one two new : ℕ → ℕ → Option Link) (tasks : List (Option TaskNode)) (families : List (Option Family)) (ready : Ends) (keys : List ℕ) (room s : ℕ) (f g : Family) (y : TaskNode) (forks living : Ends) → IsForest at tasks families ready keys room → get_or families s None ≡ Some f → 0 < room → length tasks < 1000000 → y.scope ≡ Some s → y.ready ≡ false → g ≡ record f { forks = forks; fork_count = f.fork_count + 1; living = living } → Adds at one two new tasks s (length tasks) y.lives forks living → IsForest new (tasks ++ Some y ∷ []) (set families s (Some g)) ready keys (room - 1)
 added at one two new tasks families ready keys room s f g y forks living i is some fits scope flag same a =
     let n : ℕ = length tasks in
     let own : is_of s y ≡ true = rw scope (own_scope s) in

@@ -9,7 +9,7 @@ use Rattle.sts_model.specs.Living.{is_in}
 use Rattle.sts_tree.specs.Births.{births}
 use Rattle.sts_tree.specs.Stored.{task_of, tasks_of, link_at}
 use Rattle.sts_tree.specs.Forest.{is_of, lives_in, families_of, family_of}
-use Rattle.sts_tree.specs.declared.record.Task.{Task}
+use Rattle.sts_tree.specs.declared.record.TaskNode.{TaskNode}
 use Rattle.sts_tree.specs.declared.record.TaskRecord.{TaskRecord}
 use Rattle.sts_tree.specs.declared.record.ScopeRecord.{ScopeRecord}
 use Rattle.sts_tree.proofs.BirthLemmas.{births_none}
@@ -19,7 +19,7 @@ use Rattle.sts_tree.proofs.Rows.{family_at}
 use Rattle.sts_tree.proofs.Stores.{Stored}
 
 -- a scope without a record has no subtasks
-none_of_scope : {E : Type 0} → (slots : List (Option TaskRecord)) (rows : List (Option (ScopeRecord E))) (ready : Ends) (room s : ℕ) → Stored slots (families_of rows) ready room → get_or rows s None ≡ None → (k : ℕ) (x : Task) → get_or (tasks_of slots) k None ≡ Some x → is_of s x ≡ false
+none_of_scope : {E : Type 0} → (slots : List (Option TaskRecord)) (rows : List (Option (ScopeRecord E))) (ready : Ends) (room s : ℕ) → Stored slots (families_of rows) ready room → get_or rows s None ≡ None → (k : ℕ) (x : TaskNode) → get_or (tasks_of slots) k None ≡ Some x → is_of s x ≡ false
 none_of_scope slots rows ready room s i none k x at = by x.scope (λ r e. i.homes k r x at e)
   where
     family : get_or (families_of rows) s None ≡ None

@@ -8,7 +8,7 @@ use Rattle.sts_model.specs.Living.{is_in}
 use Rattle.sts_tree.specs.Births.{births}
 use Rattle.sts_tree.specs.Stored.{tasks_of, link_at}
 use Rattle.sts_tree.specs.Forest.{ready_of, Family, IsForest, lives_in, families_of, family_of}
-use Rattle.sts_tree.specs.declared.record.Task.{Task}
+use Rattle.sts_tree.specs.declared.record.TaskNode.{TaskNode}
 use Rattle.sts_tree.specs.declared.record.TaskRecord.{TaskRecord}
 use Rattle.sts_tree.specs.declared.record.ScopeRecord.{ScopeRecord}
 use Rattle.sts_tree.proofs.BirthLemmas.{OneLess}
@@ -49,7 +49,7 @@ living_with slots families ready room t s r q f i is links there o =
     rw (← o.all_are) (list_stays (link_at slots 1) (link_at (set slots t (Some q)) 1) f.living (births (lives_in s) 0 (tasks_of slots)) (λ k _. relinked slots t r q is links 1 k) (i.living s f there))
 
 -- and after
-pub record EndsIn (slots new : List (Option TaskRecord)) (families : List (Option Family)) (ready : Ends) (room t s : ℕ) (g : Family) (y : Task) : Type 0 where
+pub record EndsIn (slots new : List (Option TaskRecord)) (families : List (Option Family)) (ready : Ends) (room t s : ℕ) (g : Family) (y : TaskNode) : Type 0 where
   pub is : Stored new (set families s (Some g)) ready room
   pub tasks : tasks_of new ≡ set (tasks_of slots) t (Some y)
   pub keys_are : ready_of new ready ≡ ready_of slots ready

@@ -3,7 +3,7 @@ use Rattle.std.proofs.Common.{◌≡◌, ◌≢◌, ℕ, List, [], ◌∷◌, �
 use Rattle.std.proofs.lemmas.List.{map-set, map-append}
 use Rattle.std.specs.Prelude.{option_map}
 use Rattle.sts_tree.specs.Forest.{Forest, family_of, scope_of, families_of, scopes_of}
-use Rattle.sts_tree.specs.declared.record.Scope.{Scope}
+use Rattle.sts_tree.specs.declared.record.ScopeNode.{ScopeNode}
 use Rattle.sts_tree.specs.declared.record.ScopeRecord.{ScopeRecord}
 use Rattle.sts_tree.proofs.HoldingLemmas.{map_at, unseen}
 
@@ -28,18 +28,18 @@ module _ {E : Type 0} where
   pub scope_at : (rows : List (Option (ScopeRecord E))) (s : ℕ) (r : ScopeRecord E) → get_or rows s None ≡ Some r → get_or (scopes_of rows) s None ≡ Some r.scope
   scope_at rows s r is = map_at scope_of rows s ∙ ap (option_map scope_of) is
 
-  some_same : (a b : Scope E) → Some a ≡ Some b → a ≡ b
+  some_same : (a b : ScopeNode E) → Some a ≡ Some b → a ≡ b
   some_same a b e = cc
 
   -- the scope that was read is the record's
-  pub own_row : (rows : List (Option (ScopeRecord E))) (s : ℕ) (r : ScopeRecord E) (x : Scope E) → get_or rows s None ≡ Some r → get_or (scopes_of rows) s None ≡ Some x → r.scope ≡ x
+  pub own_row : (rows : List (Option (ScopeRecord E))) (s : ℕ) (r : ScopeRecord E) (x : ScopeNode E) → get_or rows s None ≡ Some r → get_or (scopes_of rows) s None ≡ Some x → r.scope ≡ x
   own_row rows s r x is e = some_same r.scope x (sym (scope_at rows s r is) ∙ e)
 
   -- a field of a scope is written
-  pub seen_field : (rows : List (Option (ScopeRecord E))) (s : ℕ) (r q : ScopeRecord E) (x y : Scope E) → get_or rows s None ≡ Some r → get_or (scopes_of rows) s None ≡ Some x → (r.scope ≡ x → q.scope ≡ y) → scopes_of (set rows s (Some q)) ≡ set (scopes_of rows) s (Some y)
+  pub seen_field : (rows : List (Option (ScopeRecord E))) (s : ℕ) (r q : ScopeRecord E) (x y : ScopeNode E) → get_or rows s None ≡ Some r → get_or (scopes_of rows) s None ≡ Some x → (r.scope ≡ x → q.scope ≡ y) → scopes_of (set rows s (Some q)) ≡ set (scopes_of rows) s (Some y)
   seen_field rows s r q x y is e change = seen_row rows s q ∙ ap (λ z. set (scopes_of rows) s (Some z)) (change (own_row rows s r x is e))
 
-  pub no_scope_there : (rows : List (Option (ScopeRecord E))) (s : ℕ) (x : Scope E) → get_or rows s None ≡ None → get_or (scopes_of rows) s None ≡ Some x → ⊥
+  pub no_scope_there : (rows : List (Option (ScopeRecord E))) (s : ℕ) (x : ScopeNode E) → get_or rows s None ≡ None → get_or (scopes_of rows) s None ≡ Some x → ⊥
   no_scope_there rows s x none is = let e = map_at scope_of rows s ∙ ap (option_map scope_of) none in cc
 
   -- a scope with lists has a record
@@ -57,5 +57,5 @@ module _ {E : Type 0} where
   more_scopes rows q = map-append (option_map scope_of) rows (Some q ∷ [])
 
   -- the whole value, if its scopes are known
-  pub scopes_are : (f : Forest E) (scopes : List (Option (Scope E))) → f.scopes ≡ scopes → f ≡ record f { scopes = scopes }
+  pub scopes_are : (f : Forest E) (scopes : List (Option (ScopeNode E))) → f.scopes ≡ scopes → f ≡ record f { scopes = scopes }
   scopes_are f scopes e = rw (← e) refl

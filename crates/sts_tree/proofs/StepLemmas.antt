@@ -9,14 +9,14 @@ use Rattle.sts_links.proofs.ChainLemmas.{list_stays, without_link}
 use Rattle.sts_model.specs.Living.{is_in}
 use Rattle.sts_tree.specs.Births.{births, has, without}
 use Rattle.sts_tree.specs.Forest.{is_of, lives_in, Family, IsForest, no_family}
-use Rattle.sts_tree.specs.declared.record.Task.{Task}
+use Rattle.sts_tree.specs.declared.record.TaskNode.{TaskNode}
 use Rattle.sts_tree.proofs.BirthLemmas.{births_kept, births_none, births_more}
 use Rattle.sts_tree.proofs.Counts.{count_kept}
 use Rattle.sts_tree.proofs.HoldingLemmas.{inside_of}
 use Rattle.sts_tree.proofs.KeyLemmas.{has_new, has_old, without_other, without_own}
 
 -- the same links
-pub moved : (at new : ℕ → ℕ → Option Link) (tasks : List (Option Task)) (families : List (Option Family)) (ready : Ends) (keys : List ℕ) (room : ℕ) → ((m k : ℕ) → new m k ≡ at m k) → IsForest at tasks families ready keys room → IsForest new tasks families ready keys room
+pub moved : (at new : ℕ → ℕ → Option Link) (tasks : List (Option TaskNode)) (families : List (Option Family)) (ready : Ends) (keys : List ℕ) (room : ℕ) → ((m k : ℕ) → new m k ≡ at m k) → IsForest at tasks families ready keys room → IsForest new tasks families ready keys room
 moved at new tasks families ready keys room same i =
     record {
       forks = λ s f is. list_stays (at 0) (new 0) f.forks _ (λ k _. same 0 k) (i.forks s f is);
@@ -30,10 +30,10 @@ moved at new tasks families ready keys room same i =
       born = i.born;
     }
 
-same_of : (s : ℕ) (x y : Task) → y.scope ≡ x.scope → is_of s y ≡ is_of s x
+same_of : (s : ℕ) (x y : TaskNode) → y.scope ≡ x.scope → is_of s y ≡ is_of s x
 same_of s x y e = ap (is_in s) e
 
-same_living : (s : ℕ) (x y : Task) → y.scope ≡ x.scope → y.lives ≡ x.lives → lives_in s y ≡ lives_in s x
+same_living : (s : ℕ) (x y : TaskNode) → y.scope ≡ x.scope → y.lives ≡ x.lives → lives_in s y ≡ lives_in s x
 same_living s x y e f = rw (e, f) refl
 
 -- what is read after a task was written
@@ -55,7 +55,7 @@ at_set {T} xs t x y P is here others u z e = by (nat_eq u t) refl
 
 -- a task is written that keeps its scope and whether it lives; only the ready list and the links of
 -- its layer may change
-pub changed : (at new : ℕ → ℕ → Option Link) (tasks : List (Option Task)) (families : List (Option Family)) (ready ready2 : Ends) (keys keys2 : List ℕ) (room t : ℕ) (x y : Task) → IsForest at tasks families ready keys room → ((m : ℕ) (list : Ends) (ks : List ℕ) → m < 2 → IsList (at m) list ks → IsList (new m) list ks) → get_or tasks t None ≡ Some x → y.scope ≡ x.scope → ((s : ℕ) → lives_in s y ≡ lives_in s x) → IsList (new 2) ready2 keys2 → y.ready ≡ has t keys2 → ((k : ℕ) → k ≢ t → has k keys2 ≡ has k keys) → IsForest new (set tasks t (Some y)) families ready2 keys2 room
+pub changed : (at new : ℕ → ℕ → Option Link) (tasks : List (Option TaskNode)) (families : List (Option Family)) (ready ready2 : Ends) (keys keys2 : List ℕ) (room t : ℕ) (x y : TaskNode) → IsForest at tasks families ready keys room → ((m : ℕ) (list : Ends) (ks : List ℕ) → m < 2 → IsList (at m) list ks → IsList (new m) list ks) → get_or tasks t None ≡ Some x → y.scope ≡ x.scope → ((s : ℕ) → lives_in s y ≡ lives_in s x) → IsList (new 2) ready2 keys2 → y.ready ≡ has t keys2 → ((k : ℕ) → k ≢ t → has k keys2 ≡ has k keys) → IsForest new (set tasks t (Some y)) families ready2 keys2 room
 changed at new tasks families ready ready2 keys keys2 room t x y i lists is scope lives list flag others =
     let of : (s : ℕ) → births (is_of s) 0 (set tasks t (Some y)) ≡ births (is_of s) 0 tasks = λ s. births_kept (is_of s) 0 tasks t x y is (same_of s x y scope) in
     let living : (s : ℕ) → births (lives_in s) 0 (set tasks t (Some y)) ≡ births (lives_in s) 0 tasks = λ s. births_kept (lives_in s) 0 tasks t x y is (lives s) in
@@ -72,7 +72,7 @@ changed at new tasks families ready ready2 keys keys2 room t x y i lists is scop
     }
 
 -- a field of a task
-pub retasked : (at new : ℕ → ℕ → Option Link) (tasks : List (Option Task)) (families : List (Option Family)) (ready : Ends) (keys : List ℕ) (room t : ℕ) (x y : Task) → IsForest at tasks families ready keys room → ((m k : ℕ) → new m k ≡ at m k) → get_or tasks t None ≡ Some x → y.scope ≡ x.scope → y.lives ≡ x.lives → y.ready ≡ x.ready → IsForest new (set tasks t (Some y)) families ready keys room
+pub retasked : (at new : ℕ → ℕ → Option Link) (tasks : List (Option TaskNode)) (families : List (Option Family)) (ready : Ends) (keys : List ℕ) (room t : ℕ) (x y : TaskNode) → IsForest at tasks families ready keys room → ((m k : ℕ) → new m k ≡ at m k) → get_or tasks t None ≡ Some x → y.scope ≡ x.scope → y.lives ≡ x.lives → y.ready ≡ x.ready → IsForest new (set tasks t (Some y)) families ready keys room
 retasked at new tasks families ready keys room t x y i same is scope lives flag =
     changed at new tasks families ready ready keys keys room t x y i
     (λ m list ks less q. list_stays (at m) (new m) list ks (λ k _. same m k) q)
@@ -81,14 +81,14 @@ retasked at new tasks families ready keys room t x y i same is scope lives flag 
     (flag ∙ i.flags t x is) (λ k ne. refl)
 
 -- one more in the ready list
-pub readied : (at new : ℕ → ℕ → Option Link) (tasks : List (Option Task)) (families : List (Option Family)) (ready ready2 : Ends) (keys : List ℕ) (room t : ℕ) (x : Task) → IsForest at tasks families ready keys room → get_or tasks t None ≡ Some x → BecomesList at new 2 ready2 (keys ++ t ∷ []) → IsForest new (set tasks t (Some (record x { ready = true }))) families ready2 (keys ++ t ∷ []) room
+pub readied : (at new : ℕ → ℕ → Option Link) (tasks : List (Option TaskNode)) (families : List (Option Family)) (ready ready2 : Ends) (keys : List ℕ) (room t : ℕ) (x : TaskNode) → IsForest at tasks families ready keys room → get_or tasks t None ≡ Some x → BecomesList at new 2 ready2 (keys ++ t ∷ []) → IsForest new (set tasks t (Some (record x { ready = true }))) families ready2 (keys ++ t ∷ []) room
 readied at new tasks families ready ready2 keys room t x i is list =
     changed at new tasks families ready ready2 keys (keys ++ t ∷ []) room t x (record x { ready = true }) i
     (λ m l ks less q. list.others m l ks q (λ e. absurd (omega (arith, e))))
     is refl (λ s. refl) list.is_list (sym (has_new t keys)) (λ k ne. has_old k t keys ne)
 
 -- one fewer
-pub unreadied : (at new : ℕ → ℕ → Option Link) (tasks : List (Option Task)) (families : List (Option Family)) (ready ready2 : Ends) (keys : List ℕ) (room t : ℕ) (x : Task) → IsForest at tasks families ready keys room → get_or tasks t None ≡ Some x → BecomesList at new 2 ready2 (without t keys) → IsForest new (set tasks t (Some (record x { ready = false }))) families ready2 (without t keys) room
+pub unreadied : (at new : ℕ → ℕ → Option Link) (tasks : List (Option TaskNode)) (families : List (Option Family)) (ready ready2 : Ends) (keys : List ℕ) (room t : ℕ) (x : TaskNode) → IsForest at tasks families ready keys room → get_or tasks t None ≡ Some x → BecomesList at new 2 ready2 (without t keys) → IsForest new (set tasks t (Some (record x { ready = false }))) families ready2 (without t keys) room
 unreadied at new tasks families ready ready2 keys room t x i is list =
     changed at new tasks families ready ready2 keys (without t keys) room t x (record x { ready = false }) i
     (λ m l ks less q. list.others m l ks q (λ e. absurd (omega (arith, e))))
@@ -119,9 +119,9 @@ at_more {T} xs y P here others u z e = by (nat_lt u (length xs)) (nat_eq u (leng
         cc
 
 -- a new scope
-pub opened_one : (at : ℕ → ℕ → Option Link) (tasks : List (Option Task)) (families : List (Option Family)) (ready : Ends) (keys : List ℕ) (room : ℕ) → IsForest at tasks families ready keys room → IsForest at tasks (families ++ Some no_family ∷ []) ready keys room
+pub opened_one : (at : ℕ → ℕ → Option Link) (tasks : List (Option TaskNode)) (families : List (Option Family)) (ready : Ends) (keys : List ℕ) (room : ℕ) → IsForest at tasks families ready keys room → IsForest at tasks (families ++ Some no_family ∷ []) ready keys room
 opened_one at tasks families ready keys room i =
-    let none : (u : ℕ) (x : Task) → get_or tasks u None ≡ Some x → is_of (length families) x ≡ false = λ u x is. by x.scope (λ s e. i.homes u s x is e) in
+    let none : (u : ℕ) (x : TaskNode) → get_or tasks u None ≡ Some x → is_of (length families) x ≡ false = λ u x is. by x.scope (λ s e. i.homes u s x is e) in
     let of : births (is_of (length families)) 0 tasks ≡ [] = births_none (is_of (length families)) 0 tasks none in
     let living : births (lives_in (length families)) 0 tasks ≡ [] = births_none (lives_in (length families)) 0 tasks (λ u x is. rw (none u x is) refl) in
     record {
@@ -153,7 +153,7 @@ apart_more xs (y ∷ ys) zs a b = (a.0, apart_more xs ys zs a.1 b)
 abbrev pub one_if : Bool → ℕ → List ℕ
 one_if wanted t = cond wanted (t ∷ []) []
 
-pub one_of : (p : Task → Bool) (tasks : List (Option Task)) (y : Task) → births p 0 (tasks ++ Some y ∷ []) ≡ births p 0 tasks ++ one_if (p y) (length tasks)
+pub one_of : (p : TaskNode → Bool) (tasks : List (Option TaskNode)) (y : TaskNode) → births p 0 (tasks ++ Some y ∷ []) ≡ births p 0 tasks ++ one_if (p y) (length tasks)
 one_of p tasks y = let e : 0 + length tasks ≡ length tasks = omega arith in births_more p 0 tasks (Some y) ∙ (rw e refl)
 
 pub length_one : (b : Bool) (t : ℕ) → length (one_if b t) ≤ 1
@@ -169,7 +169,7 @@ no_more xs b t e = rw (e, append-nil xs) refl
 
 -- A new subtask of s first gets links of its own. Then it is appended to the list of subtasks, and,
 -- if it lives, to the list of living ones.
-pub record Adds (at one two new : ℕ → ℕ → Option Link) (tasks : List (Option Task)) (s n : ℕ) (lives : Bool) (forks living : Ends) : Type 0 where
+pub record Adds (at one two new : ℕ → ℕ → Option Link) (tasks : List (Option TaskNode)) (s n : ℕ) (lives : Bool) (forks living : Ends) : Type 0 where
   pub vacant : (m : ℕ) → at m n ≡ None
   pub others : (m k : ℕ) → k ≢ n → one m k ≡ at m k
   pub forked : BecomesList one two 0 forks (births (is_of s) 0 tasks ++ one_if true n)

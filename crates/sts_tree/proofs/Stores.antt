@@ -9,8 +9,8 @@ use Rattle.sts_links.proofs.ChainLemmas.{without_link, list_stays}
 use Rattle.sts_tree.specs.Stored.{task_of, tasks_of, link_of, link_at}
 use Rattle.sts_tree.specs.Births.{has, without}
 use Rattle.sts_tree.specs.Forest.{Forest, ready_of, Family, IsForest}
-use Rattle.sts_tree.specs.declared.record.Scope.{Scope}
-use Rattle.sts_tree.specs.declared.record.Task.{Task}
+use Rattle.sts_tree.specs.declared.record.ScopeNode.{ScopeNode}
+use Rattle.sts_tree.specs.declared.record.TaskNode.{TaskNode}
 use Rattle.sts_tree.specs.declared.record.TaskRecord.{TaskRecord}
 use Rattle.sts_tree.proofs.HoldingLemmas.{map_at, inside_of, no_link}
 use Rattle.sts_tree.proofs.KeyLemmas.{has_not, Split}
@@ -41,11 +41,11 @@ relinked slots t r q is same m k = by (nat_eq k t) refl
 pub task_at : (slots : List (Option TaskRecord)) (t : ℕ) (r : TaskRecord) → get_or slots t None ≡ Some r → get_or (tasks_of slots) t None ≡ Some r.task
 task_at slots t r is = map_at task_of slots t ∙ ap (option_map task_of) is
 
-some_same : (a b : Task) → Some a ≡ Some b → a ≡ b
+some_same : (a b : TaskNode) → Some a ≡ Some b → a ≡ b
 some_same a b e = cc
 
 -- a task that is seen has a record
-pub record_at : (slots : List (Option TaskRecord)) (t : ℕ) (x : Task) → get_or (tasks_of slots) t None ≡ Some x → (r : TaskRecord) × (get_or slots t None ≡ Some r) × (r.task ≡ x)
+pub record_at : (slots : List (Option TaskRecord)) (t : ℕ) (x : TaskNode) → get_or (tasks_of slots) t None ≡ Some x → (r : TaskRecord) × (get_or slots t None ≡ Some r) × (r.task ≡ x)
 record_at slots t x is = by (get_or slots t None) refl (sym (map_at task_of slots t) ∙ is)
   where
     by : (o : Option TaskRecord) → get_or slots t None ≡ o → option_map task_of o ≡ Some x → (r : TaskRecord) × (get_or slots t None ≡ Some r) × (r.task ≡ x)
@@ -64,7 +64,7 @@ pub rekeyed : (slots : List (Option TaskRecord)) (families : List (Option Family
 rekeyed slots families ready keys room i = rw (ready_is slots ready keys i.is_ready) i
 
 -- what a write of one record leaves
-pub record Writes (slots new : List (Option TaskRecord)) (families : List (Option Family)) (ready ready2 : Ends) (room t : ℕ) (task : Task) (keys : List ℕ) : Type 0 where
+pub record Writes (slots new : List (Option TaskRecord)) (families : List (Option Family)) (ready ready2 : Ends) (room t : ℕ) (task : TaskNode) (keys : List ℕ) : Type 0 where
   pub is : Stored new families ready2 room
   pub tasks : tasks_of new ≡ set (tasks_of slots) t (Some task)
   pub keys_are : ready_of new ready2 ≡ keys
@@ -107,15 +107,15 @@ drops slots new families ready ready2 room t r q i is same tasks list =
     record { is = rekeyed new families ready2 (without t (ready_of slots ready)) room stored; tasks = e; keys_are = ready_is new ready2 (without t (ready_of slots ready)) two.is_ready }
 
 -- the task that was read is the record's
-pub own_task : (slots : List (Option TaskRecord)) (t : ℕ) (r : TaskRecord) (x : Task) → get_or slots t None ≡ Some r → get_or (tasks_of slots) t None ≡ Some x → r.task ≡ x
+pub own_task : (slots : List (Option TaskRecord)) (t : ℕ) (r : TaskRecord) (x : TaskNode) → get_or slots t None ≡ Some r → get_or (tasks_of slots) t None ≡ Some x → r.task ≡ x
 own_task slots t r x is e = some_same r.task x (sym (task_at slots t r is) ∙ e)
 
 -- the whole value, if tasks and ready list are known
-pub seen_is : {E : Type 0} → (f : Forest E) (tasks : List (Option Task)) (ready : List ℕ) → f.tasks ≡ tasks → f.ready ≡ ready → f ≡ record f { tasks = tasks; ready = ready }
+pub seen_is : {E : Type 0} → (f : Forest E) (tasks : List (Option TaskNode)) (ready : List ℕ) → f.tasks ≡ tasks → f.ready ≡ ready → f ≡ record f { tasks = tasks; ready = ready }
 seen_is f tasks ready e h = rw (← e, ← h) refl
 
 -- a field of a task is written
-pub field_seen : {E : Type 0} → (f : Forest E) (slots : List (Option TaskRecord)) (families : List (Option Family)) (ready : Ends) (room t : ℕ) (r q : TaskRecord) (x y : Task) → Stored slots families ready room → get_or slots t None ≡ Some r → q.links ≡ r.links → q.task.scope ≡ r.task.scope → q.task.lives ≡ r.task.lives → q.task.ready ≡ r.task.ready → get_or (tasks_of slots) t None ≡ Some x → (r.task ≡ x → q.task ≡ y) → f.tasks ≡ tasks_of (set slots t (Some q)) → f.ready ≡ ready_of (set slots t (Some q)) ready → f ≡ record f { tasks = set (tasks_of slots) t (Some y); ready = ready_of slots ready }
+pub field_seen : {E : Type 0} → (f : Forest E) (slots : List (Option TaskRecord)) (families : List (Option Family)) (ready : Ends) (room t : ℕ) (r q : TaskRecord) (x y : TaskNode) → Stored slots families ready room → get_or slots t None ≡ Some r → q.links ≡ r.links → q.task.scope ≡ r.task.scope → q.task.lives ≡ r.task.lives → q.task.ready ≡ r.task.ready → get_or (tasks_of slots) t None ≡ Some x → (r.task ≡ x → q.task ≡ y) → f.tasks ≡ tasks_of (set slots t (Some q)) → f.ready ≡ ready_of (set slots t (Some q)) ready → f ≡ record f { tasks = set (tasks_of slots) t (Some y); ready = ready_of slots ready }
 field_seen f slots families ready room t r q x y i is links scope lives flag e change tasks keys =
     let w = rewrites slots families ready room t r q i is links scope lives flag in
     let task = change (own_task slots t r x is e) in

@@ -8,7 +8,7 @@ use Rattle.sts_model.specs.declared.event.End.{End}
 use Rattle.sts_model.specs.declared.event.End.TheVariants.{Success, Failed}
 use Rattle.sts_tree.specs.Births.{births}
 use Rattle.sts_tree.specs.Forest.{is_of, lives_in, Family, IsForest}
-use Rattle.sts_tree.specs.declared.record.Task.{Task}
+use Rattle.sts_tree.specs.declared.record.TaskNode.{TaskNode}
 use Rattle.sts_tree.proofs.ForkLemmas.{stays_some}
 use Rattle.sts_tree.proofs.StepLemmas.{at_set}
 
@@ -16,7 +16,7 @@ pub one_told : (tally : Tallied) (end : End) → ends_told (with_end tally end) 
 one_told tally (Success v) = omega arith
 one_told tally (Failed c) = omega arith
 
-pub told_one : (at : ℕ → ℕ → Option Link) (tasks : List (Option Task)) (families : List (Option Family)) (ready : Ends) (keys : List ℕ) (room s : ℕ) (f g : Family) → IsForest at tasks families ready keys room → get_or families s None ≡ Some f → g.forks ≡ f.forks → g.fork_count ≡ f.fork_count → g.living ≡ f.living → g.ends + length (births (lives_in s) 0 tasks) ≤ length (births (is_of s) 0 tasks) → IsForest at tasks (set families s (Some g)) ready keys room
+pub told_one : (at : ℕ → ℕ → Option Link) (tasks : List (Option TaskNode)) (families : List (Option Family)) (ready : Ends) (keys : List ℕ) (room s : ℕ) (f g : Family) → IsForest at tasks families ready keys room → get_or families s None ≡ Some f → g.forks ≡ f.forks → g.fork_count ≡ f.fork_count → g.living ≡ f.living → g.ends + length (births (lives_in s) 0 tasks) ≤ length (births (is_of s) 0 tasks) → IsForest at tasks (set families s (Some g)) ready keys room
 told_one at tasks families ready keys room s f g i there forks count living fits =
     let counts = i.counts s f there in
     record {

@@ -14,17 +14,17 @@ use Rattle.sts_model.specs.declared.event.Phase.TheVariants.{Opened}
 use Rattle.sts_model.specs.declared.event.Stand.TheVariants.{Free}
 use Rattle.sts_tree.specs.Births.{births, drop_if, has}
 use Rattle.sts_tree.specs.Stored.{link_at, walk}
-use Rattle.sts_tree.specs.declared.record.Task.{Task}
+use Rattle.sts_tree.specs.declared.record.TaskNode.{TaskNode}
 use Rattle.sts_tree.specs.declared.record.TaskRecord.{TaskRecord}
-use Rattle.sts_tree.specs.declared.record.Scope.{Scope}
+use Rattle.sts_tree.specs.declared.record.ScopeNode.{ScopeNode}
 use Rattle.sts_tree.specs.declared.record.ScopeRecord.{ScopeRecord}
 
 -- The tasks and scopes by birth, with a hole for each that no longer counts. The ready list is in
 -- its order. Each birth keeps the key that it was given. The room is the number of records that
 -- still fit.
 pub record Forest (E : Type 0) : Type 0 where
-  pub tasks : List (Option Task)
-  pub scopes : List (Option (Scope E))
+  pub tasks : List (Option TaskNode)
+  pub scopes : List (Option (ScopeNode E))
   pub ready : List ℕ
   pub task_keys : List ℕ
   pub scope_keys : List ℕ
@@ -32,10 +32,10 @@ pub record Forest (E : Type 0) : Type 0 where
   pub scope_room : ℕ
 
 -- is the task a subtask of the scope s, and does it live?
-abbrev pub is_of : ℕ → Task → Bool
+abbrev pub is_of : ℕ → TaskNode → Bool
 is_of s task = is_in s task.scope
 
-abbrev pub lives_in : ℕ → Task → Bool
+abbrev pub lives_in : ℕ → TaskNode → Bool
 lives_in s task = is_in s task.scope && task.lives
 
 -- the lists of a scope, and how many ends its joiner was told of
@@ -53,17 +53,17 @@ family_of r = record {
   ends = ends_told r.scope.tally;
 }
 
-abbrev pub scope_of : {E : Type 0} → ScopeRecord E → Scope E
+abbrev pub scope_of : {E : Type 0} → ScopeRecord E → ScopeNode E
 scope_of r = r.scope
 
 abbrev pub families_of : {E : Type 0} → List (Option (ScopeRecord E)) → List (Option Family)
 families_of rows = map (option_map family_of) rows
 
-abbrev pub scopes_of : {E : Type 0} → List (Option (ScopeRecord E)) → List (Option (Scope E))
+abbrev pub scopes_of : {E : Type 0} → List (Option (ScopeRecord E)) → List (Option (ScopeNode E))
 scopes_of rows = map (option_map scope_of) rows
 
 -- does a subtask of s live?
-abbrev pub any_lives : List (Option Task) → ℕ → Bool
+abbrev pub any_lives : List (Option TaskNode) → ℕ → Bool
 any_lives tasks s = is_some (first_or (births (lives_in s) 0 tasks) None)
 
 -- the ready list
@@ -73,7 +73,7 @@ ready_of slots ready = walk (link_at slots 2) (length slots) ready.first
 -- the lists by index are those of the tasks, in order of birth; the ready list has the tasks that
 -- are marked as ready
 pub record IsForest (at : ℕ → ℕ → Option Link)
-    (tasks : List (Option Task)) (families : List (Option Family))
+    (tasks : List (Option TaskNode)) (families : List (Option Family))
     (ready : Ends) (keys : List ℕ) (room : ℕ) : Type 0 where
   pub forks : (s : ℕ) (f : Family) → slice_index_or families s None ≡ Some f
       → IsList (at 0) f.forks (births (is_of s) 0 tasks)
@@ -84,8 +84,8 @@ pub record IsForest (at : ℕ → ℕ → Option Link)
   pub told : (s : ℕ) (f : Family) → slice_index_or families s None ≡ Some f
       → f.ends + length (births (lives_in s) 0 tasks) ≤ f.fork_count
   pub is_ready : IsList (at 2) ready keys
-  pub flags : (t : ℕ) (x : Task) → slice_index_or tasks t None ≡ Some x → x.ready ≡ has t keys
-  pub homes : (t s : ℕ) (x : Task) → slice_index_or tasks t None ≡ Some x → x.scope ≡ Some s
+  pub flags : (t : ℕ) (x : TaskNode) → slice_index_or tasks t None ≡ Some x → x.ready ≡ has t keys
+  pub homes : (t s : ℕ) (x : TaskNode) → slice_index_or tasks t None ≡ Some x → x.scope ≡ Some s
       → slice_index_or families s None ≢ None
   pub few : count_by is_some tasks + room ≤ 65536
   pub born : length tasks ≤ 1000000
@@ -93,7 +93,7 @@ pub record IsForest (at : ℕ → ℕ → Option Link)
 -- ---- the calls
 
 -- a new scope
-abbrev pub opened : {E : Type 0} → ℕ → Joiner → Bool → E → Scope E
+abbrev pub opened : {E : Type 0} → ℕ → Joiner → Bool → E → ScopeNode E
 opened owner joiner timed environment =
     record {
       owner = owner;
@@ -106,7 +106,7 @@ opened owner joiner timed environment =
     }
 
 -- a new subtask of s
-abbrev pub subtask : ℕ → Bool → Task
+abbrev pub subtask : ℕ → Bool → TaskNode
 subtask s lives = record {
   scope = Some s;
   flag = false;
@@ -117,7 +117,7 @@ subtask s lives = record {
 }
 
 -- the root task, ready
-abbrev pub root : Task
+abbrev pub root : TaskNode
 root = record { scope = None; flag = false; lives = true; state = None; stand = Free; ready = true }
 
 -- the lists of a scope without subtasks
@@ -131,11 +131,11 @@ no_family = record {
 
 -- the joiner of a scope was told of fewer ends than the scope has subtasks that don't live
 abbrev pub HasSpare : {E : Type 0} → Forest E → ℕ → Type 0
-HasSpare {E} f s = (c : Scope E) → slice_index_or f.scopes s None ≡ Some c
+HasSpare {E} f s = (c : ScopeNode E) → slice_index_or f.scopes s None ≡ Some c
     → ends_told c.tally + length (births (lives_in s) 0 f.tasks) < length (births (is_of s) 0 f.tasks)
 
 -- does its joiner ask to cancel after it is told of this end?
-abbrev pub asks : {E : Type 0} → Scope E → End → Bool
+abbrev pub asks : {E : Type 0} → ScopeNode E → End → Bool
 asks c end = cancels_told c.tally.joiner (with_end c.tally end).told
 
 -- neither a scope nor its subtasks count any longer

@@ -5,7 +5,7 @@ use Rattle.std.proofs.Common.{◌∙◌}
 use Rattle.sts_records.specs.Holes.{Holes}
 use Rattle.sts_links.specs.Lists.{after_of}
 use Rattle.sts_links.specs.declared.links.Link.{Link}
-use Rattle.sts_tree.specs.declared.record.Task.{Task}
+use Rattle.sts_tree.specs.declared.record.TaskNode.{TaskNode}
 use Rattle.sts_tree.specs.declared.record.TaskRecord.{TaskRecord}
 
 abbrev pub no_link : Link
@@ -19,11 +19,11 @@ link_of l (Some r) = if nat_lt l 3 then Some (slice_index_or r.links l no_link) 
 abbrev pub link_at : List (Option TaskRecord) → ℕ → ℕ → Option Link
 link_at slots l k = link_of l (slice_index_or slots k None)
 
-abbrev pub task_of : TaskRecord → Task
+abbrev pub task_of : TaskRecord → TaskNode
 task_of r = r.task
 
 -- the tasks by birth, without their links
-abbrev pub tasks_of : List (Option TaskRecord) → List (Option Task)
+abbrev pub tasks_of : List (Option TaskRecord) → List (Option TaskNode)
 tasks_of slots = map (option_map task_of) slots
 
 -- the same tasks under the same keys, and the same room

@@ -1,7 +1,7 @@
 //! The end of a task, without the ready list.
 
 ghost use Rattle.std.specs.Prelude.{◌≡◌, Some, None, true, slice_index_or};
-ghost use Rattle.sts_tree.specs.declared.record.Task.{Task as AnyTask};
+ghost use Rattle.sts_tree.specs.declared.record.TaskNode.{TaskNode as AnyTask};
 ghost use Rattle.sts_tree.specs.Ending as ending;
 
 use crate::forest::Forest;

@@ -7,9 +7,9 @@ ghost use Rattle.sts_records.specs.Holes.{key_at};
 ghost use Rattle.sts_tree.specs.Births.{has, remove_each, without};
 ghost use Rattle.sts_tree.specs.Stored.{link_at, SameTasks};
 ghost use Rattle.sts_links.specs.Lists.{AreDistinct, IsList, NotIn, BecomesList};
-ghost use Rattle.sts_tree.specs.declared.record.Task.{Task as AnyTask};
+ghost use Rattle.sts_tree.specs.declared.record.TaskNode.{TaskNode as AnyTask};
 
-use crate::record::{Scope, ScopeRecord, Task, TaskRecord};
+use crate::record::{ScopeNode, ScopeRecord, TaskNode, TaskRecord};
 use crate::tasks::Tasks;
 use std::alloc::{AllocError, Global};
 use std::marker::Model;
@@ -105,7 +105,7 @@ impl<E: Drop> Forest<E> {
     ghost use Rattle.sts_tree.specs.Births.{births};
     ghost use Rattle.sts_links.specs.Lists.{first_or};
     ghost use Rattle.sts_joiners.specs.Tallied.{ends_told, with_end};
-    ghost use Rattle.sts_tree.specs.declared.record.Scope.{Scope as AnyScope};
+    ghost use Rattle.sts_tree.specs.declared.record.ScopeNode.{ScopeNode as AnyScope};
 
     /// The root task alone, ready, with room for `tasks` tasks and `scopes` scopes. No later call
     /// can answer that memory ran out.
@@ -130,7 +130,7 @@ impl<E: Drop> Forest<E> {
         let mut held = Held::with_room(alloc, tasks)?;
         let scopes = Held::with_room(alloc, scopes)?;
         let birth = held.push(TaskRecord {
-            task: Task {
+            task: TaskNode {
                 scope: None,
                 flag: false,
                 lives: true,
@@ -154,7 +154,7 @@ impl<E: Drop> Forest<E> {
     }
 
     /// The task of a birth, if its record exists.
-    pub fn task(&self, t: u32) -> Option<&Task>
+    pub fn task(&self, t: u32) -> Option<&TaskNode>
         ensures value { option_copied result ≡ slice_index_or self.now.tasks t None }
         ensures home { (x : AnyTask) (s : ℕ) → slice_index_or self.now.tasks t None ≡ Some x →
             x.scope ≡ Some s → slice_index_or self.now.scopes s None ≢ None }
@@ -166,7 +166,7 @@ impl<E: Drop> Forest<E> {
     }
 
     /// The scope of a birth, if its record exists.
-    pub fn scope(&self, s: u32) -> Option<&Scope<E>>
+    pub fn scope(&self, s: u32) -> Option<&ScopeNode<E>>
         ensures { option_copied result ≡ slice_index_or self.now.scopes s None }
     {
         match self.scopes.get(s as usize) {
@@ -252,7 +252,7 @@ impl<E: Drop> Forest<E> {
         } }
         ensures keys { (key : ℕ) × (self.new.scope_keys ≡ self.old.scope_keys ++ key ∷ []) }
     {
-        let scope = Scope {
+        let scope = ScopeNode {
             owner,
             timed,
             phase: Phase::Opened,
@@ -284,7 +284,7 @@ impl<E: Drop> Forest<E> {
         ensures keys { (key : ℕ) × (self.new.task_keys ≡ self.old.task_keys ++ key ∷ []) }
     {
         let birth = self.tasks.held.push(TaskRecord {
-            task: Task {
+            task: TaskNode {
                 scope: Some(s),
                 flag: false,
                 lives,

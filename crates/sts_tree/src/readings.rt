@@ -6,22 +6,22 @@ ghost use Rattle.std.specs.List.{list_any};
 ghost use Rattle.sts_tree.specs.Births.{births};
 ghost use Rattle.sts_tree.specs.Forest.{any_lives, is_of, lives_in};
 ghost use Rattle.sts_records.specs.Holes.{key_at};
-ghost use Rattle.sts_tree.specs.declared.record.Task.{Task as AnyTask};
+ghost use Rattle.sts_tree.specs.declared.record.TaskNode.{TaskNode as AnyTask};
 ghost use Rattle.sts_links.specs.Lists.{first_or};
 ghost use Rattle.sts_model.specs.Told.{result_told};
 ghost use Rattle.sts_tree.specs.Reading.{count_of, lives_at};
 ghost use Rattle.sts_tree.specs.Steps as steps;
 
-use crate::record::{Scope, Task};
+use crate::record::{ScopeNode, TaskNode};
 use crate::tree::Tree;
 use sts_code::{Joiner, Kind};
 use sts_model::{End, Phase, Verdict};
 
 impl<E: Drop> Tree<E> {
-    ghost use Rattle.sts_tree.specs.declared.record.Scope.{Scope as AnyScope};
+    ghost use Rattle.sts_tree.specs.declared.record.ScopeNode.{ScopeNode as AnyScope};
 
     /// The task of a birth, if it still counts.
-    pub fn task(&self, t: u32) -> Option<&Task>
+    pub fn task(&self, t: u32) -> Option<&TaskNode>
         ensures value { option_copied result ≡ slice_index_or self.now.tasks t None }
         ensures home { (x : AnyTask) (s : ℕ) → slice_index_or self.now.tasks t None ≡ Some x →
             x.scope ≡ Some s → slice_index_or self.now.scopes s None ≢ None }
@@ -30,7 +30,7 @@ impl<E: Drop> Tree<E> {
     }
 
     /// The scope of a birth, if it isn't closed.
-    pub fn scope(&self, s: u32) -> Option<&Scope<E>>
+    pub fn scope(&self, s: u32) -> Option<&ScopeNode<E>>
         ensures { option_copied result ≡ slice_index_or self.now.scopes s None }
     {
         self.forest.scope(s)

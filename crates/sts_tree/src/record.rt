@@ -6,7 +6,7 @@ use sts_model::{End, Phase, Stand};
 
 /// A task that still counts. It names others by birth number.
 #[derive(Clone, Copy, Debug)]
-pub struct Task {
+pub struct TaskNode {
     /// The scope that it is a subtask of; the root has none.
     pub scope: Option<u32>,
     pub flag: bool,
@@ -22,13 +22,13 @@ pub struct Task {
 /// ready ones.
 #[derive(Clone, Copy)]
 pub(crate) struct TaskRecord {
-    pub(crate) task: Task,
+    pub(crate) task: TaskNode,
     pub(crate) links: [Link; 3],
 }
 
 /// A scope that isn't closed.
 #[derive(Drop)]
-pub struct Scope<E> {
+pub struct ScopeNode<E> {
     pub owner: u32,
     pub timed: bool,
     pub phase: Phase,
@@ -41,7 +41,7 @@ pub struct Scope<E> {
 /// A scope with the lists of its subtasks.
 #[derive(Drop)]
 pub(crate) struct ScopeRecord<E> {
-    pub(crate) scope: Scope<E>,
+    pub(crate) scope: ScopeNode<E>,
     pub(crate) forks: Ends,
     pub(crate) fork_count: u32,
     pub(crate) living: Ends,

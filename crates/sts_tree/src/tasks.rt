@@ -3,7 +3,7 @@
 ghost use Rattle.std.specs.Prelude.{◌≡◌, ◌≢◌, ◌+◌, ◌-◌, ◌<◌, ◌++◌, [], ◌∷◌, length};
 ghost use Rattle.std.specs.Prelude.{Option, Some, None, true, slice_index_or};
 
-use crate::record::{Task, TaskRecord};
+use crate::record::{TaskNode, TaskRecord};
 use sts_links::{Link, Links};
 use sts_records::Held;
 

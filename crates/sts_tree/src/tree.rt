@@ -4,7 +4,7 @@ ghost use Rattle.std.specs.Prelude.{◌≡◌, ◌≢◌, ℕ, ◌∷◌, ◌++�
 ghost use Rattle.std.specs.Prelude.{Some, None, true, false, not, slice_index_or};
 ghost use Rattle.sts_tree.specs.Births.{has};
 ghost use Rattle.sts_tree.specs.Forest.{any_lives, closed, opened, root, subtask};
-ghost use Rattle.sts_tree.specs.declared.record.Task.{Task as AnyTask};
+ghost use Rattle.sts_tree.specs.declared.record.TaskNode.{TaskNode as AnyTask};
 ghost use Rattle.sts_links.specs.Lists.{AreDistinct, first_or};
 ghost use Rattle.sts_model.specs.declared.event.Stand.TheVariants.{Free};
 ghost use Rattle.sts_tree.specs.Ending.{asks_ended, ended};
@@ -39,7 +39,7 @@ impl<E> Model for Tree<E> {
 }
 
 impl<E: Drop> Tree<E> {
-    ghost use Rattle.sts_tree.specs.declared.record.Scope.{Scope as AnyScope};
+    ghost use Rattle.sts_tree.specs.declared.record.ScopeNode.{ScopeNode as AnyScope};
 
     /// The root task alone, which can step, with room for `tasks` tasks and `scopes` scopes. No
     /// later call can answer that memory ran out.

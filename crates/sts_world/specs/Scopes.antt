@@ -5,11 +5,11 @@ use Rattle.sts_code.specs.declared.instr.Joiner.TheVariants.{AwaitAll}
 use Rattle.sts_model.specs.declared.event.Phase.TheVariants.{Closed}
 use Rattle.sts_model.specs.declared.record.Scope.{Scope}
 use Rattle.sts_world.specs.Chains.{bindings_of, is_within}
-use Rattle.sts_world.specs.declared.chains.Link.{Link}
+use Rattle.sts_world.specs.declared.chains.BindingLink.{BindingLink}
 use Rattle.sts_world.specs.declared.scope.ScopeRecord.{ScopeRecord}
 
 -- the scope, with its environment spelled out
-abbrev pub shown : List Link → ScopeRecord → Scope
+abbrev pub shown : List BindingLink → ScopeRecord → Scope
 shown links s =
     record {
       owner = s.owner;
@@ -42,7 +42,7 @@ front_of scopes None = None
 front_of scopes (Some s) = (slice_index_or scopes s no_record).front
 
 -- each scope's environment has only links that exist
-abbrev pub AreWithin : List Link → List ScopeRecord → Type 0
+abbrev pub AreWithin : List BindingLink → List ScopeRecord → Type 0
 AreWithin links scopes =
     (s : ℕ) → is_within (length links) (slice_index_or scopes s no_record).front ≡ true
 

@@ -12,7 +12,7 @@ use sts_model::{Bound, Entry, Frame};
 
 /// A binding, and the place of the next older link.
 #[derive(Clone, Copy, Debug, PartialEq, Eq)]
-pub struct Link {
+pub struct BindingLink {
     pub bound: Bound,
     pub behind: Option<usize>,
 }
@@ -20,15 +20,15 @@ pub struct Link {
 /// The links of all environments, by place. An environment is the place of its innermost binding's
 /// link, and no link is ever changed or taken out.
 #[derive(Drop)]
-pub struct Chains {
-    links: Vec<Link>,
+pub struct BindingChains {
+    links: Vec<BindingLink>,
 }
 
-impl Model for Chains {
+impl Model for BindingChains {
     ghost use Rattle.std.specs.Prelude.{List};
-    ghost use Rattle.sts_world.specs.declared.chains.Link.{Link};
+    ghost use Rattle.sts_world.specs.declared.chains.BindingLink.{BindingLink};
 
-    ghost Value = { List Link };
+    ghost Value = { List BindingLink };
 
     ghost view = { λ c. c.links.items };
 }
@@ -43,12 +43,12 @@ fn is_older(front: Option<usize>, place: usize) -> bool
     }
 }
 
-impl Chains {
+impl BindingChains {
     /// No links yet.
-    pub fn new(alloc: Global) -> Chains
+    pub fn new(alloc: Global) -> BindingChains
         ensures { result ≡ [] }
     {
-        Chains {
+        BindingChains {
             links: Vec::new(alloc),
         }
     }
@@ -82,7 +82,7 @@ impl Chains {
         ensures older { result ≡ true → is_within place behind ≡ true }
     {
         match self.links.get(place) {
-            Some(link) => *link == Link { bound, behind } && is_older(behind, place),
+            Some(link) => *link == BindingLink { bound, behind } && is_older(behind, place),
             None => false,
         }
     }
@@ -100,7 +100,7 @@ impl Chains {
             return Ok(hint);
         }
         let place = self.links.len();
-        self.links.push(Link { bound, behind })?;
+        self.links.push(BindingLink { bound, behind })?;
         Ok(place)
     }
 
@@ -162,12 +162,12 @@ impl Chains {
     }
 }
 
-impl Chains {
+impl BindingChains {
     /// If the answer is true, the two environments have the same bindings.
     pub fn same_bindings(
         &self,
         front: Option<usize>,
-        other: &Chains,
+        other: &BindingChains,
         front_there: Option<usize>,
     ) -> bool
         ensures { result ≡ true → bindings_of self.now front ≡ bindings_of other.now front_there }
@@ -197,10 +197,10 @@ impl Chains {
     }
 
     /// The same once more.
-    pub fn copied(&self, alloc: Global) -> Result<Chains, AllocError>
+    pub fn copied(&self, alloc: Global) -> Result<BindingChains, AllocError>
         ensures { IfOk result (λ c. c ≡ self.now) }
     {
-        Ok(Chains {
+        Ok(BindingChains {
             links: Vec::from_slice(alloc, self.links.as_slice())?,
         })
     }

@@ -12,7 +12,7 @@ ghost use Rattle.sts_world.specs.Kept.{births as births_of};
 ghost use Rattle.sts_world.specs.Lines.{line, lines};
 ghost use Rattle.sts_world.specs.Raising.{raise_at as raise_one, raise_each as raise_all};
 
-use crate::chains::Chains;
+use crate::chains::BindingChains;
 use crate::records::Records;
 use crate::scope::{ScopeRecord, front_of};
 use crate::task::TaskRecord;
@@ -160,7 +160,7 @@ impl Records {
         Ok(Records {
             tasks,
             scopes: Vec::new(alloc),
-            chains: Chains::new(alloc),
+            chains: BindingChains::new(alloc),
         })
     }
 

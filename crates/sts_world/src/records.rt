@@ -11,7 +11,7 @@ ghost use Rattle.sts_model.specs.World as def;
 ghost use Rattle.sts_world.specs.Lends.{lends_task};
 ghost use Rattle.sts_world.specs.Scopes.{IsShown, shown};
 
-use crate::chains::Chains;
+use crate::chains::BindingChains;
 use crate::scope::{ScopeRecord, front_of, same_scope};
 use crate::task::TaskRecord;
 use std::alloc::{AllocError, Global};
@@ -26,7 +26,7 @@ use sts_same::same::same_slices;
 pub struct Records {
     pub(crate) tasks: Vec<TaskRecord>,
     pub(crate) scopes: Vec<ScopeRecord>,
-    pub(crate) chains: Chains,
+    pub(crate) chains: BindingChains,
 }
 
 impl Model for Records {
@@ -278,7 +278,12 @@ impl Records {
 }
 
 /// Scopes with their environments, compared.
-fn same_scopes(a: &[ScopeRecord], here: &Chains, b: &[ScopeRecord], there: &Chains) -> bool
+fn same_scopes(
+    a: &[ScopeRecord],
+    here: &BindingChains,
+    b: &[ScopeRecord],
+    there: &BindingChains,
+) -> bool
     ensures { result ≡ true → map (shown here.now) a.now ≡ map (shown there.now) b.now }
 {
     if a.len() != b.len() {

@@ -15,7 +15,7 @@ ghost use Rattle.sts_world.specs.Chains.{bindings_of, is_within, Grows};
 ghost use Rattle.sts_model.specs.declared.record.Entry.TheVariants as entries;
 ghost use Rattle.sts_model.specs.declared.record.Slot.TheVariants.{Empty, Own, Lent};
 
-use crate::chains::Chains;
+use crate::chains::BindingChains;
 use crate::held::{HeldFrame, copy_held, resting, resting_entry, same_held};
 use crate::reading::own_value;
 use std::alloc::{AllocError, Global};
@@ -224,7 +224,7 @@ impl TaskRecord {
     /// Memory ran out; links may have been added.
     pub fn environment(
         &self,
-        chains: &mut Chains,
+        chains: &mut BindingChains,
         rest: Option<usize>,
     ) -> Result<Option<usize>, AllocError>
         requires { is_within (length chains.old) rest ≡ true }

@@ -7,7 +7,7 @@ use Rattle.ends_search.proofs.search.add.Goals as goal
 pub returns-then-branch-clause-there : goal.returns-then-branch-clause-there
 returns-then-branch-clause-there g c _ =
     let s = c.args.space.now in
-    let next = g.S.Machine.next c.args.setting.now in
+    let next = g.S.StateMachine.next c.args.setting.now in
     let states = states_of next s.first s.origins.items in
     let within : c.args.origin.parent < length states = omega (arith, c.requires.within, c.requires.space.searched.traced.as_many) in
     let known = c.in_ok-is_known.ensures c.if-branch.true in
@@ -17,15 +17,15 @@ pub returns-clause-space : goal.returns-clause-space
 returns-clause-space g c =
     let s = c.args.space.now in
     rw (c.in_ok-push.ensures.items, c.in_ok-push-2.ensures.items)
-    (space_more (g.S.Machine.next c.args.setting.now) (g.S.Machine.can c.args.setting.now) s.first s.origins.items s.closed s.kept.items s.marks.items c.args.origin c.args.state c.keep.new.kept.items c.in_ok-mark.mark
+    (space_more (g.S.StateMachine.next c.args.setting.now) (g.S.StateMachine.can c.args.setting.now) s.first s.origins.items s.closed s.kept.items s.marks.items c.args.origin c.args.state c.keep.new.kept.items c.in_ok-mark.mark
     c.requires.space c.requires.within c.requires.can c.requires.comes c.in_ok-mark.ensures.grows c.in_ok-mark.ensures.is_kept)
 
 pub returns-clause-grows : goal.returns-clause-grows
 returns-clause-grows g c =
     let s = c.args.space.now in
-    rw c.in_ok-push-2.ensures.items (grows_more (g.S.Machine.next c.args.setting.now) s.first s.origins.items c.args.origin (omega (arith, c.requires.within)))
+    rw c.in_ok-push-2.ensures.items (grows_more (g.S.StateMachine.next c.args.setting.now) s.first s.origins.items c.args.origin (omega (arith, c.requires.within)))
 
 pub returns-clause-there : goal.returns-clause-there
 returns-clause-there g c _ =
     let s = c.args.space.now in
-    rw c.in_ok-push-2.ensures.items (follows_there (g.S.Machine.next c.args.setting.now) s.first s.origins.items c.args.origin (omega (arith, c.requires.within)) (omega (arith, c.requires.within, c.requires.space.searched.traced.as_many)))
+    rw c.in_ok-push-2.ensures.items (follows_there (g.S.StateMachine.next c.args.setting.now) s.first s.origins.items c.args.origin (omega (arith, c.requires.within)) (omega (arith, c.requires.within, c.requires.space.searched.traced.as_many)))

@@ -5,8 +5,8 @@ use Rattle.ends_search.proofs.search.advance.Goals as goal
 
 pub loop-preserved : goal.loop-preserved
 loop-preserved g c =
-    let next = g.S.Machine.next c.args.setting.now in
-    let can = g.S.Machine.can c.args.setting.now in
+    let next = g.S.StateMachine.next c.args.setting.now in
+    let can = g.S.StateMachine.can c.args.setting.now in
     let i = c.loop.invariant in
     let d = c.in_ok-expand.ensures in
     let old = c.loop.space in

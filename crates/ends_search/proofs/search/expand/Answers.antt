@@ -8,7 +8,7 @@ use Rattle.ends_search.proofs.search.expand.Goals as goal
 
 pub add-requires-clause-within : goal.add-requires-clause-within
 add-requires-clause-within g c =
-    let next = g.S.Machine.next c.args.setting.now in
+    let next = g.S.StateMachine.next c.args.setting.now in
     let old = c.args.space.now in
     let mid = c.loop-event.space in
     let i = c.loop-event.invariant in
@@ -17,7 +17,7 @@ add-requires-clause-within g c =
 
 pub add-requires-clause-can : goal.add-requires-clause-can
 add-requires-clause-can g c =
-    let next = g.S.Machine.next c.args.setting.now in
+    let next = g.S.StateMachine.next c.args.setting.now in
     let old = c.args.space.now in
     let mid = c.loop-event.space in
     let states = states_of next old.first old.origins.items in
@@ -25,12 +25,12 @@ add-requires-clause-can g c =
     let within : c.args.place < length states = omega (arith, c.requires.within, c.requires.space.searched.traced.as_many) in
     let x = c.in_ok-state.state in
     let less : c.loop-event.event-index < length c.deref-event-items.result.now = omega arith in
-    can_at (g.S.Machine.can c.args.setting.now) states (states_of next mid.first mid.origins.items) c.args.place x c.deref-event-items.result.now c.loop-event.event-index _ within
+    can_at (g.S.StateMachine.can c.args.setting.now) states (states_of next mid.first mid.origins.items) c.args.place x c.deref-event-items.result.now c.loop-event.event-index _ within
     (c.in_ok-state.ensures ∙ get_or_default states c.args.place old.first x within) (rw c.deref-event-items.ensures.value c.in_ok-events.ensures.only) i.3 less
 
 pub add-requires-clause-comes : goal.add-requires-clause-comes
 add-requires-clause-comes g c =
-    let next = g.S.Machine.next c.args.setting.now in
+    let next = g.S.StateMachine.next c.args.setting.now in
     let old = c.args.space.now in
     let mid = c.loop-event.space in
     let olds = states_of next old.first old.origins.items in
@@ -43,7 +43,7 @@ add-requires-clause-comes g c =
 
 pub loop-event-preserved : goal.loop-event-preserved
 loop-event-preserved g c =
-    let next = g.S.Machine.next c.args.setting.now in
+    let next = g.S.StateMachine.next c.args.setting.now in
     let old = c.args.space.now in
     let mid = c.loop-event.space in
     let new = c.add.new.space in
@@ -63,7 +63,7 @@ loop-event-preserved g c =
 
 pub returns-clause-all : goal.returns-clause-all
 returns-clause-all g c _ =
-    let next = g.S.Machine.next c.args.setting.now in
+    let next = g.S.StateMachine.next c.args.setting.now in
     let old = c.args.space.now in
     let mid = c.loop-event.space in
     let states = states_of next old.first old.origins.items in
@@ -72,12 +72,12 @@ returns-clause-all g c _ =
     let x = c.in_ok-state.state in
     let all : c.loop-event.event-index ≡ length c.deref-event-items.result.now = omega arith in
     let spread = rw all at i.4 in
-    leads next (g.S.Machine.can c.args.setting.now) states (states_of next mid.first mid.origins.items) c.args.place c.deref-event-items.result.now x within
+    leads next (g.S.StateMachine.can c.args.setting.now) states (states_of next mid.first mid.origins.items) c.args.place c.deref-event-items.result.now x within
     (c.in_ok-state.ensures ∙ get_or_default states c.args.place old.first x within) (rw c.deref-event-items.ensures.value c.in_ok-events.ensures.all) spread
 
 pub returns-then-not-there-clause-grows : goal.returns-then-not-there-clause-grows
 returns-then-not-there-clause-grows g c =
-    let next = g.S.Machine.next c.args.setting.now in
+    let next = g.S.StateMachine.next c.args.setting.now in
     let old = c.args.space.now in
     let mid = c.loop-event.space in
     let new = c.add.new.space in

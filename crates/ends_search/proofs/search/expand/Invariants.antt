@@ -5,11 +5,11 @@ use Rattle.ends_search.proofs.search.expand.Given as goal
 
 abbrev pub invariant-loop-event : goal.invariant-loop-event
 invariant-loop-event g l =
-    let next = g.S.Machine.next l.setting in
+    let next = g.S.StateMachine.next l.setting in
     let s = l.space in
     let old = states_of next l.fn.space.first l.fn.space.origins.items in
     let new = states_of next s.first s.origins.items in
-    IsSpace next (g.S.Machine.can l.setting) s.first s.origins.items s.closed s.kept.items s.marks.items
+    IsSpace next (g.S.StateMachine.can l.setting) s.first s.origins.items s.closed s.kept.items s.marks.items
     × (s.first ≡ l.fn.space.first)
     × (s.closed ≡ l.fn.space.closed)
     × Grows old new

@@ -8,8 +8,8 @@ use Rattle.ends_search.proofs.search.trace.Goals as goal
 pub loop-at-preserved : goal.loop-at-preserved
 loop-at-preserved g c =
     let s = c.args.space.now in
-    let next = g.S.Machine.next c.args.setting.now in
-    let can = g.S.Machine.can c.args.setting.now in
+    let next = g.S.StateMachine.next c.args.setting.now in
+    let can = g.S.StateMachine.can c.args.setting.now in
     let i = c.loop-at.invariant in
     let states = states_of next s.first s.origins.items in
     let traced = c.requires.space.searched.traced in
@@ -25,8 +25,8 @@ loop-at-preserved g c =
 pub returns : goal.returns
 returns g c =
     let s = c.args.space.now in
-    let next = g.S.Machine.next c.args.setting.now in
-    let can = g.S.Machine.can c.args.setting.now in
+    let next = g.S.StateMachine.next c.args.setting.now in
+    let can = g.S.StateMachine.can c.args.setting.now in
     let way = c.loop-at.invariant.1 in
     let at : c.loop-at.at ≡ 0 = omega (arith, c.loop-at-test.false) in
     let first : state_at next s.first s.origins.items c.loop-at.at ≡ s.first = rw at (starts next s.first s.origins.items s.first) in

@@ -1,7 +1,7 @@
 use Rattle.std.proofs.Common.{◌+◌, sym, subst, List, Option}
 use Rattle.sts_rules.specs.TypeState.{TypeState}
 use Rattle.look_refusal.specs.declared.ways.Way.{Way}
-use Rattle.look_refusal.specs.declared.ways.Origin.TheVariants.{Beginning}
+use Rattle.look_refusal.specs.declared.ways.WayOrigin.TheVariants.{Beginning}
 use Rattle.look_refusal.specs.Ways as def
 use Rattle.look_refusal.proofs.WayLemmas.{kept_ways, first_way, no_ways}
 use Rattle.look_refusal.proofs.MeetingLemmas.{begin_spread, spread_on}

@@ -1,6 +1,6 @@
 use Rattle.std.proofs.Common.{◌+◌, sym, subst, take, List, Option}
 use Rattle.look_refusal.specs.declared.ways.Way.{Way}
-use Rattle.look_refusal.specs.declared.ways.Origin.TheVariants.{Edge}
+use Rattle.look_refusal.specs.declared.ways.WayOrigin.TheVariants.{Edge}
 use Rattle.look_refusal.specs.Ways as def
 use Rattle.look_refusal.proofs.WayLemmas.{spread_keeps}
 use Rattle.look_refusal.proofs.MeetingLemmas.{keeps_on, keep_more, one_more, edge_past, all_spread}

@@ -1,5 +1,5 @@
 use Rattle.std.proofs.Common.{◌≡◌, true, sym, ◌∙◌, ap, subst, arith}
-use Rattle.sts_tree.specs.declared.record.Task.{Task}
+use Rattle.sts_tree.specs.declared.record.TaskNode.{TaskNode}
 use Rattle.sts_model.specs.contracts.event.StandPartialEq.TheImpl as stand_eq
 use Rattle.sts_model.specs.declared.event.Stand.{Stand}
 use Rattle.sts_tree.proofs.SeeingLemmas.{copied}
@@ -24,4 +24,4 @@ returns c = λ same.
     let now = copied c.task.result c.unwrap.result l.task c.unwrap.ensures (c.task.ensures.value ∙ l.stands) in
     let here = same_stand c.unwrap.result.now.stand c.args.stand (sym c.eq.ensures ∙ same) in
     subst (λ (p : Parts). stood_unseen (unseen_of p) c.args.t c.args.stand ≡ unseen_of p) c.self.view_is
-    (said_again m c.args.t l.task c.args.stand l.stands (sym (ap (λ (x : Task). x.stand) now) ∙ here))
+    (said_again m c.args.t l.task c.args.stand l.stands (sym (ap (λ (x : TaskNode). x.stand) now) ∙ here))

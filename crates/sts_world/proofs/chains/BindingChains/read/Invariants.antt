@@ -1,7 +1,7 @@
 use Rattle.std.proofs.Common.{◌≡◌, ◌≤◌, length}
 use Rattle.sts_model.specs.Environment as scoped
 use Rattle.sts_world.specs.Chains.{chain, bindings_of}
-use Rattle.sts_world.proofs.chains.Chains.read.Given as goal
+use Rattle.sts_world.proofs.chains.BindingChains.read.Given as goal
 
 -- the rest has the answer
 abbrev pub invariant-loop-at : goal.invariant-loop-at

@@ -1,6 +1,6 @@
 use Rattle.std.proofs.Common.{◌≡◌, ◌≤◌, length}
 use Rattle.sts_world.specs.Chains.{chain, bindings_of}
-use Rattle.sts_world.proofs.chains.Chains.same_bindings.Given as goal
+use Rattle.sts_world.proofs.chains.BindingChains.same_bindings.Given as goal
 
 -- if the rests are the same, so are the whole ones
 abbrev pub invariant-loop-at : goal.invariant-loop-at

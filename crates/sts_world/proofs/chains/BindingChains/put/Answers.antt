@@ -1,6 +1,6 @@
 use Rattle.std.proofs.Common.{◌≡◌, length, arith}
 use Rattle.sts_world.proofs.Chaining.{bindings_found, bindings_put}
-use Rattle.sts_world.proofs.chains.Chains.put.Goals as goal
+use Rattle.sts_world.proofs.chains.BindingChains.put.Goals as goal
 
 pub returns-then-is_at-clause-list : goal.returns-then-is_at-clause-list
 returns-then-is_at-clause-list c = bindings_found c.args.self.now c.args.hint c.args.bound c.args.behind (c.is_at.ensures.within c.if-is_at.true) (c.is_at.ensures.link c.if-is_at.true) (c.is_at.ensures.older c.if-is_at.true)

@@ -3,7 +3,7 @@ use Rattle.std.proofs.Common.{not, true, refl, rules, ◌≡◌, ◌<◌, ◌∙
 use Rattle.std.proofs.lemmas.List.{get_or_default}
 use Rattle.sts_world.specs.Chains.{link_at, no_link}
 use Rattle.sts_world.proofs.Chaining.{same_front, both_none}
-use Rattle.sts_world.proofs.chains.Chains.same_bindings.Goals as goal
+use Rattle.sts_world.proofs.chains.BindingChains.same_bindings.Goals as goal
 
 twice : not (not true) ≡ true
 twice = refl

@@ -4,9 +4,9 @@ use Rattle.std.proofs.lemmas.Int.{to_z-of_z}
 use Rattle.std.proofs.lemmas.List.{get_or_default}
 use Rattle.sts_model.specs.Environment.{read}
 use Rattle.sts_world.specs.Chains.{bindings_of, chain, link_at, no_link}
-use Rattle.sts_world.specs.declared.chains.Link.{Link}
+use Rattle.sts_world.specs.declared.chains.BindingLink.{BindingLink}
 use Rattle.sts_world.proofs.Chaining.{read_past, read_none, read_here, read_next}
-use Rattle.sts_world.proofs.chains.Chains.read.Goals as goal
+use Rattle.sts_world.proofs.chains.BindingChains.read.Goals as goal
 
 pub returns-then-place-younger : goal.returns-then-place-younger
 returns-then-place-younger c = rw (← c.self.view_is) (sym (read_past c.self.inside.links.items c.loop-at.younger c.in-Some.place c.args.k c.loop-at.at c.in-Some.is c.if-place-younger.true) ∙ c.loop-at.invariant.rest)
@@ -19,10 +19,10 @@ returns-then-link-k c =
     let bound : c.in-Some.place < length c.self.inside.links.items = omega (arith, c.loop-at.invariant.within) in
     let link : c.index-link.result.now ≡ link_at c.self.inside.links.items c.in-Some.place = c.index-link.ensures ∙ get_or_default c.self.inside.links.items c.in-Some.place _ no_link bound in
     let fits : SFits w64 c.index-link.result.now.bound.value = search rules in
-    ap Some (to_z-of_z w64 _ fits ∙ ap (λ (l : Link). l.bound.value) link)
-    ∙ sym (read_here c.self.inside.links.items c.loop-at.younger c.in-Some.place c.args.k c.loop-at.at c.in-Some.is c.if-place-younger.false (sym (ap (λ (l : Link). l.bound.key) link) ∙ c.if-link-k.true))
+    ap Some (to_z-of_z w64 _ fits ∙ ap (λ (l : BindingLink). l.bound.value) link)
+    ∙ sym (read_here c.self.inside.links.items c.loop-at.younger c.in-Some.place c.args.k c.loop-at.at c.in-Some.is c.if-place-younger.false (sym (ap (λ (l : BindingLink). l.bound.key) link) ∙ c.if-link-k.true))
     ∙ c.loop-at.invariant.rest
-    ∙ ap (λ (ls : List Link). read (bindings_of ls c.args.front) c.args.k) c.self.view_is
+    ∙ ap (λ (ls : List BindingLink). read (bindings_of ls c.args.front) c.args.k) c.self.view_is
 
 pub loop-at-preserved : goal.loop-at-preserved
 loop-at-preserved c =
@@ -30,7 +30,7 @@ loop-at-preserved c =
     let link : c.index-link.result.now ≡ link_at c.self.inside.links.items c.in-Some.place = c.index-link.ensures ∙ get_or_default c.self.inside.links.items c.in-Some.place _ no_link bound in
     record {
       within = omega arith;
-      rest = ap (λ (l : Link). read (chain c.self.inside.links.items c.in-Some.place l.behind) c.args.k) link
-          ∙ sym (read_next c.self.inside.links.items c.loop-at.younger c.in-Some.place c.args.k c.loop-at.at c.in-Some.is c.if-place-younger.false (λ e. c.if-link-k.false (ap (λ (l : Link). l.bound.key) link ∙ e)))
+      rest = ap (λ (l : BindingLink). read (chain c.self.inside.links.items c.in-Some.place l.behind) c.args.k) link
+          ∙ sym (read_next c.self.inside.links.items c.loop-at.younger c.in-Some.place c.args.k c.loop-at.at c.in-Some.is c.if-place-younger.false (λ e. c.if-link-k.false (ap (λ (l : BindingLink). l.bound.key) link ∙ e)))
           ∙ c.loop-at.invariant.rest;
     }

@@ -1,7 +1,7 @@
 use Rattle.std.proofs.Common.{◌≡◌, ◌++◌, length, take, reverse, filter_map, true}
 use Rattle.sts_model.specs.Environment as scoped
 use Rattle.sts_world.specs.Chains.{bindings_of, is_within, Grows}
-use Rattle.sts_world.proofs.chains.Chains.extend.Given as goal
+use Rattle.sts_world.proofs.chains.BindingChains.extend.Given as goal
 
 -- the bindings so far, outermost first, are in front
 abbrev pub invariant-loop-entry : goal.invariant-loop-entry
