@@ -10,7 +10,7 @@ use Rattle.std.proofs.Math.Seq.{get_or-append_seam, take-append_seam}
 use Rattle.sts_code.specs.Checks.{program_fault}
 use Rattle.sts_code.specs.Program.{Program, routine}
 use Rattle.sts_code.specs.declared.instr.Instr.{Instr}
-use Rattle.sts_code.specs.declared.instr.Instr.TheVariants.{Open, Fork}
+use Rattle.sts_code.specs.declared.instr.Instr.TheVariants.{Open, Fork, Close}
 use Rattle.sts_rules.specs.declared.budget.Budgets.{Budgets}
 use Rattle.sts_model.specs.declared.event.Event.{Event}
 use Rattle.sts_rules.specs.declared.typing.Cause.TheVariants.{TooManySteps, TooManyTasks}
@@ -126,6 +126,8 @@ module _ (p : Program) (checked : program_fault p.routines ≡ None) (accepted :
       rw (h, k) refl
 
   some_step : (es : List Budgets) (i : Instr) → 0 < steps_of es i
+  some_step es (Fork x g h) = omega arith
+  some_step es (Close x) = omega arith
   some_step es _ = omega arith
 
   has_place_for : (events : List Event) (w : World) → length w.tasks + length w.scopes ≤ taken p events + 1 → Good (AreTyped p) p budgets_of w (taken p events) → Also Timely w → (t : ℕ) (i : Instr) → lives (task_at w t) ≡ true → instr_at p (task_at w t).frame ≡ Some i → HasPlaceFor w (task_at w t).frame i

@@ -156,8 +156,8 @@ pub record RoomAddsUp (p : Program) (budgets : List Budgets) (w : World) : Type 
 abbrev pub RoomIsSlack : Type 0
 RoomIsSlack = Costs (λ p budgets events w. RoomAddsUp p budgets w)
 
--- beside this many tasks, scopes and bindings, the budgets leave room for the scope, the binding or
--- the task that this instruction of a frame makes; a fork must be in a scope of its own
+-- the budgets leave room for one more scope, binding or task, if the instruction makes one. A fork
+-- must be in a scope of its own
 abbrev pub HasRoomBeside : Budgets → (tasks scopes binds : ℕ) → Frame → Instr → Type 0
 HasRoomBeside b tasks scopes binds f (Open x joiner timed) = scopes < b.scopes
 HasRoomBeside b tasks scopes binds f (Bind key) = binds < b.binds

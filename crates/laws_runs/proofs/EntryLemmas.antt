@@ -159,8 +159,8 @@ enters-join w t s failed timeout interrupted =
 enters-decide : (w : World) (s : ℕ) → Enters w (decide w s)
 enters-decide w s = cond_both (cancels (scope_at w s).joiner (ends (scope_at w s))) (cancel w s) w (λ (v : World). Enters w v) (λ e. enters-cancel w s) (λ e. enters-refl w)
 
--- what holds of a world, and of it after a scope's joiner was told and decided, holds after any end
--- is told
+-- a fact of a world, also once a joiner has got an end and decided, is one after each end that is
+-- reported
 pub tell_both : (w : World) (t : ℕ) (o : Option ℕ) (end : End) (P : World → Type 0) → P w → ((s : ℕ) → P (decide (with_scope w s (told (scope_at w s) t end)) s)) → P (tell w t o end)
 tell_both w t None end P none some = none
 tell_both w t (Some s) end P none some =

@@ -134,8 +134,8 @@ pub record IsSubtask (w : World) (fs : List Family) (t s : ℕ) : Type 0 where
   pub bound : s < length fs
   pub more : 0 < (get_or fs s no_family).living
 
-pub subtask_of : (w seen : World) (fs : List Family) (ts : List Tallied) (n m t s : ℕ) → w ≡ seen → t < length seen.tasks → lives (task_at seen t) ≡ true → (task_at seen t).scope ≡ Some s → IsKept (lines w) fs ts n m → IsSubtask w fs t s
-subtask_of w seen fs ts n m t s same born living in_scope kept =
+pub subtask_there : (w seen : World) (fs : List Family) (ts : List Tallied) (n m t s : ℕ) → w ≡ seen → t < length seen.tasks → lives (task_at seen t) ≡ true → (task_at seen t).scope ≡ Some s → IsKept (lines w) fs ts n m → IsSubtask w fs t s
+subtask_there w seen fs ts n m t s same born living in_scope kept =
     let born_in : t < length w.tasks = rw same born in
     let living_in : lives (task_at w t) ≡ true = rw same living in
     let in_scope_in : (task_at w t).scope ≡ Some s = rw same in_scope in

@@ -16,111 +16,71 @@ static WORKERS: [u32; 4] = [1, 2, 8, 16];
 
 /// A text, the events from outside, the ends that it may have, and the number of its steps, if that
 /// is the same in each run.
-struct Run {
-    text: &'static str,
-    weather: Weather,
-    ends: &'static [End],
-    steps: Option<u64>,
-}
+struct Run(&'static str, Weather, &'static [End], Option<u64>);
 
 static RUNS: [Run; 13] = [
-    Run {
-        text: SEVEN,
-        weather: Weather::Calm,
-        ends: &[End::Success(7)],
-        steps: Some(2),
-    },
-    Run {
-        text: DOUBLES,
-        weather: Weather::Calm,
-        ends: &[End::Success(42)],
-        steps: Some(20),
-    },
-    Run {
-        text: THOUSAND,
-        weather: Weather::Calm,
-        ends: &[End::Success(5)],
-        steps: Some(8004),
-    },
-    Run {
-        text: BOUND,
-        weather: Weather::Calm,
-        ends: &[End::Success(6)],
-        steps: Some(10),
-    },
-    Run {
-        text: LOOPED,
-        weather: Weather::Calm,
-        ends: &[End::Success(1)],
-        steps: Some(15),
-    },
-    Run {
-        text: TURNS,
-        weather: Weather::Calm,
-        ends: &[End::Success(0)],
-        steps: Some(500_034),
-    },
-    Run {
-        text: TIMED,
-        weather: Weather::Due {
+    Run(SEVEN, Weather::Calm, &[End::Success(7)], Some(2)),
+    Run(DOUBLES, Weather::Calm, &[End::Success(42)], Some(20)),
+    Run(THOUSAND, Weather::Calm, &[End::Success(5)], Some(8004)),
+    Run(BOUND, Weather::Calm, &[End::Success(6)], Some(10)),
+    Run(LOOPED, Weather::Calm, &[End::Success(1)], Some(15)),
+    Run(TURNS, Weather::Calm, &[End::Success(0)], Some(500_034)),
+    Run(
+        TIMED,
+        Weather::Due {
             idle: 0,
             at: 1,
             scope: 0,
         },
-        ends: &[End::Success(2)],
-        steps: Some(6),
-    },
+        &[End::Success(2)],
+        Some(6),
+    ),
     // five entries that are idle and the first step are six
-    Run {
-        text: TIMED,
-        weather: Weather::Due {
+    Run(
+        TIMED,
+        Weather::Due {
             idle: 5,
             at: 6,
             scope: 0,
         },
-        ends: &[End::Success(2)],
-        steps: Some(6),
-    },
+        &[End::Success(2)],
+        Some(6),
+    ),
     // it comes while the subtask makes its own steps; a close that waits takes one step more
-    Run {
-        text: LATE,
-        weather: Weather::Due {
+    Run(
+        LATE,
+        Weather::Due {
             idle: 0,
             at: 70_000,
             scope: 0,
         },
-        ends: &[End::Success(2)],
-        steps: None,
-    },
-    Run {
-        text: TIMED,
-        weather: Weather::Gust { task: 0 },
-        ends: &[End::Failed(0)],
-        steps: None,
-    },
+        &[End::Success(2)],
+        None,
+    ),
+    Run(TIMED, Weather::Gust { task: 0 }, &[End::Failed(0)], None),
     // events that are due when the root ends are recorded after its last step
-    Run {
-        text: SEVEN,
-        weather: Weather::Due {
+    Run(
+        SEVEN,
+        Weather::Due {
             idle: 0,
             at: 2,
             scope: 0,
         },
-        ends: &[End::Success(7)],
-        steps: Some(2),
-    },
-    Run {
-        text: DOUBLES,
-        weather: Weather::Storm { task: 77 },
-        ends: &[End::Success(42)],
-        steps: Some(20),
-    },
-    Run {
-        text: DOUBLES,
-        weather: Weather::Storm { task: 0 },
-        ends: &[End::Success(42), End::Failed(0)],
-        steps: None,
-    },
+        &[End::Success(7)],
+        Some(2),
+    ),
+    Run(
+        DOUBLES,
+        Weather::Storm { task: 77 },
+        &[End::Success(42)],
+        Some(20),
+    ),
+    Run(
+        DOUBLES,
+        Weather::Storm { task: 0 },
+        &[End::Success(42), End::Failed(0)],
+        None,
+    ),
 ];
 
 /// Runs a text with this number of workers, and writes its journal.
@@ -131,13 +91,13 @@ fn ends<R: Abort + Threads + Wait + Sync>(
     workers: u32,
 ) -> Result<(), Fail> {
     assert!(rt; 1 <= workers && workers <= 16);
-    let name = row.text;
+    let name = row.0;
     let verified = accepted(alloc, name)?;
-    let report = run(rt, alloc, &verified, workers, &Open, row.weather)?;
+    let report = run(rt, alloc, &verified, workers, &Open, row.1)?;
     let entries = report.journal.len() as u64;
     assert_eq!(rt;
         entries,
-        report.steps.saturating_add(row.weather.entries()),
+        report.steps.saturating_add(row.1.entries()),
         "{workers} workers tell {name:?}"
     );
     Ok(())
@@ -151,14 +111,14 @@ fn ends_on<R: Abort + Threads + Wait + Sync>(
     row: &Run,
     workers: u32,
 ) -> Result<(), Fail> {
-    let name = row.text;
+    let name = row.0;
     let verified = accepted(alloc, name)?;
-    let ended = ending(rt, alloc, path, &verified, workers, &Open, row.weather)?;
+    let ended = ending(rt, alloc, path, &verified, workers, &Open, row.1)?;
     assert!(rt;
-        row.ends.contains(&ended.end),
+        row.2.contains(&ended.end),
         "{workers} workers end {name:?}, {path:?}"
     );
-    let steps = row.steps.unwrap_or(ended.steps);
+    let steps = row.3.unwrap_or(ended.steps);
     assert_eq!(rt;
         ended.steps,
         steps,

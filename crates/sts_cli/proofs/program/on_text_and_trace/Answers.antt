@@ -6,7 +6,7 @@ use Rattle.sts_output.specs.Taking.{IsTakenOf}
 use Rattle.sts_cli.proofs.Ends.{of_text_and_trace}
 use Rattle.sts_cli.proofs.program.on_text_and_trace.Goals as goal
 
--- what was taken is handed on as a slice
+-- the bytes are handed on as a slice
 handed : {file : Option (List ℕ)} {most : ℕ} {xs ys : List ℕ} → ys ≡ xs → IsTakenOf file most xs → IsTakenOf file most ys
 handed {file} {most} e taken = subst (λ zs. IsTakenOf file most zs) (sym e) taken
 
