@@ -33,6 +33,7 @@ It also reports:
 - a picture that isn't what its script draws;
 - a crate that uses proofs of another one from a file that isn't called `*Lemmas`;
 - floors of ARCHITECTURE.md that don't fit crates.txt;
+- help or a document that names another number of states for a search of ends than the programs have;
 - a file of `vectors` that isn't what the tables of rows make it (checks/vectors.py);
 - a decision of a crate's README.md that DECISIONS.md doesn't list;
 - a README.md of a crate that doesn't name its edits, the crates that it uses, or those that use it.
@@ -490,6 +491,18 @@ def versions():
         fail("crates/look/src/command.rt doesn't say what VERSION says")
 
 
+def states_of_searches():
+    """Fails if help, docs/LOOK.md or docs/PAGE.md name another number of states for a search of ends than `look` and the page have."""
+    for path, constant, shown in (
+        ("crates/look/src/asked.rt", r"MOST_STATES: u32", (("crates/look/src/command.rt", "stops when it has N states ({})"), ("docs/LOOK.md", "(default {})"))),
+        ("page/page.js", "STATES_AT_ONCE", (("docs/PAGE.md", "with `--most {}`"),)),
+        ("page/page.js", "STATES_ON_REQUEST", (("docs/PAGE.md", "with `--most {}`"),)),
+    ):
+        number = re.search(rf"const {constant} = ([\d_]+);", read(path))[1].replace("_", "")
+        for other, words in shown:
+            if words.format(number) not in read(other):
+                fail(f"{other} doesn't say what {path} has: {words.format(number)}")
+
 
 def proofs_of_others():
     """Fails if a crate uses proofs of another crate of the repository from a file that isn't called `*Lemmas`."""
@@ -531,6 +544,7 @@ def main():
     jdk_instructions()
     proofs_of_others()
     versions()
+    states_of_searches()
     floors()
     neighbours()
     shown_contracts("docs/PROOFS.md")

@@ -49,33 +49,46 @@ class Calls {
     return this.call("sts_explain_run", [], [text, trace]);
   }
 
-  call(name, flags, texts) {
+  // At most so many states are kept.
+  ends(text, most) {
+    return this.call("sts_ends", [most], [text]);
+  }
+
+  // Also the trace of the end of this number.
+  endsAndTrace(text, most, number) {
+    return this.call("sts_ends_and_trace", [most, number], [text], ["text", "trace"]);
+  }
+
+  // The status, and each output by its name.
+  call(name, words, texts, outputs = ["text"]) {
     try {
-      return this.answer(name, flags, texts.map((text) => new TextEncoder().encode(text)));
+      return this.answer(name, words, texts.map((text) => new TextEncoder().encode(text)), outputs);
     } catch (error) {
       this.begin();
       throw error;
     }
   }
 
-  answer(name, flags, texts) {
+  answer(name, words, texts, outputs) {
     const given = texts.map((bytes) => [this.put(bytes), BigInt(bytes.length)]);
-    const size = this.take(8);
-    const answer = this.ask(name, [...flags, ...given.flat()], size, FIRST_ROOM);
-    for (const [at] of [...given, [size]]) {
-      this.exports.give_back(at);
-    }
-    return answer;
+    const printed = this.ask(name, [...words, ...given.flat()], outputs.map(() => FIRST_ROOM));
+    given.forEach(([at]) => this.exports.give_back(at));
+    return { status: printed.status, ...Object.fromEntries(outputs.map((output, k) => [output, printed.texts[k]])) };
   }
 
-  // Asks with room for so many bytes of what is printed, and again where there are more.
-  ask(name, words, size, length) {
-    const room = this.take(length);
-    const status = this.exports[name](...words, room, BigInt(length), size);
-    const printed = Number(new DataView(this.exports.memory.buffer).getBigUint64(Number(size), true));
-    const text = new TextDecoder().decode(this.bytes(room, Math.min(printed, length)));
-    this.exports.give_back(room);
-    return printed <= length ? { status, text } : this.ask(name, words, size, printed);
+  // Asks with room for so many bytes of each output, and again if an output has more.
+  ask(name, words, lengths) {
+    const rooms = lengths.map((length) => [this.take(length), BigInt(length), this.take(8)]);
+    const status = this.exports[name](...words, ...rooms.flat());
+    const sizes = rooms.map(([, , size]) => this.number(size));
+    const texts = rooms.map(([at], k) => new TextDecoder().decode(this.bytes(at, Math.min(sizes[k], lengths[k]))));
+    rooms.forEach(([at, , size]) => [at, size].forEach((it) => this.exports.give_back(it)));
+    const isWhole = sizes.every((size, k) => size <= lengths[k]);
+    return isWhole ? { status, texts } : this.ask(name, words, sizes.map((size, k) => Math.max(size, lengths[k])));
+  }
+
+  number(at) {
+    return Number(new DataView(this.exports.memory.buffer).getBigUint64(Number(at), true));
   }
 
   put(bytes) {

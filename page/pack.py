@@ -49,12 +49,13 @@ def table(lines):
     return "<table>\n" + row(head, "th") + "".join(row(it, "td") for it in rows) + "</table>"
 
 
-def legend(title):
-    """Returns the tables of the section of docs/LOOK.md that has this title."""
+def legend(told):
+    """Returns the tables of the section of docs/LOOK.md that has this title; after a comma, of those that begin with a word."""
+    title, _, first = told.partition(", ")
     section = re.search(rf"^## {re.escape(title)}\n(.*?)(?=^## |\Z)", read(LOOK), re.M | re.S)
-    tables = re.findall(r"(?:^\|.*\n)+", section[1], re.M) if section else []
+    tables = re.findall(rf"^\| {first}.*\n(?:^\|.*\n)+", section[1], re.M) if section else []
     if not tables:
-        sys.exit(f"pack.py: docs/LOOK.md has no table under: {title}")
+        sys.exit(f"pack.py: docs/LOOK.md has no table under: {told}")
     return "\n".join(map(table, tables))
 
 

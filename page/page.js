@@ -7,7 +7,15 @@ const element = (id) => document.getElementById(id);
 // The status of a fault of a text or a trace, and the status if memory ran out.
 const HAS_NO_RUN = [3, 6];
 
+// The status of a search that stopped before it saw all schedules.
+const STOPPED = 5;
+
+// How many states a search for ends keeps at most: after each change of the text, and if the page is asked for more.
+const STATES_AT_ONCE = 1000;
+const STATES_ON_REQUEST = 20000;
+
 let calls = null;
+let mostStates = STATES_AT_ONCE; // of the search whose ends are shown
 let marked = null; // the line of the text that is marked
 let parts = []; // what stands before the first event and after each
 let place = 0; // how many events are to be shown
@@ -90,6 +98,40 @@ function judge() {
   layLines();
   element("verdict").textContent = verdict(text);
   element("listing").replaceChildren(...listed(calls.list(text).text).map(listingLine));
+}
+
+// ---- the ends
+
+function endLine(line) {
+  const number = endOf(line);
+  if (number === null) {
+    return made("li", {}, line);
+  }
+  const node = made("button", { className: "end", onclick: guarded(() => playEnd(number)), title: "play its trace" }, line);
+  node.dataset.end = number;
+  return made("li", {}, node);
+}
+
+function showEnds(found) {
+  element("ends").replaceChildren(...linesOf(found.text).map(endLine));
+  element("more").hidden = found.status !== STOPPED || mostStates === STATES_ON_REQUEST;
+}
+
+function findEnds(most) {
+  mostStates = most;
+  showEnds(calls.ends(element("text").value, most));
+}
+
+// Shows the lines and the trace of one search.
+function playEnd(number) {
+  const found = calls.endsAndTrace(element("text").value, mostStates, number);
+  showEnds(found);
+  element("ends").querySelector(`[data-end="${number}"]`)?.focus();
+  if (!HAS_NO_RUN.includes(found.status)) {
+    element("trace").value = found.trace;
+    place = linesOf(found.trace).length;
+    run();
+  }
 }
 
 // ---- the run
@@ -190,6 +232,7 @@ function guarded(act) {
 function change() {
   judge();
   run();
+  findEnds(STATES_AT_ONCE);
 }
 
 function choose() {
@@ -208,6 +251,8 @@ function connect() {
   element("text").onblur = guarded(revealMark);
   element("trace").oninput = guarded(run);
   element("full").onchange = guarded(run);
+  element("more").textContent = `Search ${STATES_ON_REQUEST} states`;
+  element("more").onclick = guarded(() => findEnds(STATES_ON_REQUEST));
   element("first").onclick = guarded(() => move(0));
   element("back").onclick = guarded(() => move(at - 1));
   element("forward").onclick = guarded(() => move(at + 1));

@@ -64,6 +64,12 @@ function lineOf(explanation) {
   return named && Number(named[1]);
 }
 
+// The number of the end that a line is about, or null if it is about none.
+function endOf(line) {
+  const named = /^(\d+) after \d+ events: /.exec(line);
+  return named && Number(named[1]);
+}
+
 // The lines of a listing, with `NAME PC` for those that are instructions: after a line `func NAME ..` they are numbered from
 // 0, and a label is none.
 function listed(listing) {

@@ -3,6 +3,9 @@
 
 - each call answers what `sts` and `look` print, with their status: over every example and every beginning of its trace, and
   over texts and traces with faults, refused texts, and runs that fault;
+- the ends of the programs of checks/ends.rows are those that were worked out by hand. The page shows what `look ends` prints. A
+  click on an end plays the trace that `look ends --trace` writes, and `sts` comes to that end by it. A search stops after
+  1,000 states, and on request after 20,000;
 - texts are explained as the rows of checks/look_rows say, and the line that is named is marked and in view;
 - every example is played by the page's own buttons, after each event of its trace. There is a button for each event that
   counts there and no other, as `look view --each` says. Next to the listing is a number for each task that lives, at its
@@ -24,9 +27,12 @@ import subprocess
 import sys
 import tempfile
 
+import time
+
 import browser
 
 sys.path.append(os.path.join(os.path.dirname(os.path.dirname(os.path.realpath(__file__))), "checks"))
+import ends  # noqa: E402
 import look_rows  # noqa: E402
 
 HERE = os.path.dirname(os.path.realpath(__file__))
@@ -67,6 +73,18 @@ WRITTEN = [
     ("step 0\nstep 0", "step 0\nstep 0\n"),
     ("step 0\n ", "step 0\n \n"),
 ]
+# The bounds of a search, as page.js has them.
+AT_ONCE, ON_REQUEST = 1000, 20000
+# Two subtasks race to be the first success: the value is 5 or 4, and nothing else can happen.
+RACE = (
+    "func give 1\nload 0\nret\nend\nfunc main 0\nopen s0 any\npush 5\nfork s0 give _\npush 4\nfork s0 give _\njoin s0 bad - intr\nclose s0\n"
+    "ret\nbad:\nclose s0\nfail\nintr:\npush 0\nclose s0\nfail\nend\n"
+)
+# Ten subtasks of four steps have far more states than any search here may keep.
+MANY_STATES = "func kid 0\npush 1\ninterrupted\nadd\nret\nend\nfunc main 0\nopen s0 all\n" + "fork s0 kid _\n" * 10 + (
+    "join s0 bad - intr\nclose s0\nret\nbad:\nclose s0\nfail\nintr:\npush 0\nclose s0\nfail\nend\n"
+)
+PATIENCE = 10  # seconds that a search of the page may take at most
 # A text whose longest path ends in line 10.
 TOO_LONG = "func main 0\npush 499\ntimes 499\npush 2001\ntimes 2001\nnext\nnext\npush 0\npush 0\nret\nend\n"
 
@@ -100,6 +118,15 @@ class Programs:
 
     def draw(self, text, trace):
         return self.says(self.look, "draw", [text, trace])
+
+    def ends(self, text, most=AT_ONCE):
+        return self.says(self.look, "ends", [text], "--most", str(most))
+
+    def ends_and_trace(self, text, number, most=AT_ONCE):
+        """Returns also the trace of the end of this number."""
+        with tempfile.NamedTemporaryFile("r") as trace:
+            printed = self.says(self.look, "ends", [text], "--most", str(most), "--trace", str(number), trace.name)
+            return [*printed, trace.read()]
 
     def heads(self, text, trace):
         """Returns the lines that tell each event, and whether it counted."""
@@ -144,6 +171,10 @@ class Page:
         told = f"((it) => [it.status, it.text])(calls.{name}({', '.join(map(json.dumps, words))}))"
         return self.chromium.value(told)
 
+    def ends_and_trace(self, text, number, most=AT_ONCE):
+        words = ", ".join(map(json.dumps, (text, most, number)))
+        return self.chromium.value(f"((it) => [it.status, it.text, it.trace])(calls.endsAndTrace({words}))")
+
     def click(self, selector):
         """Clicks, and returns whether there is such an element."""
         found = f"document.querySelector({json.dumps(selector)})"
@@ -176,6 +207,10 @@ class Page:
     def shown(self):
         """Returns the lines of tasks and scopes, as they are shown."""
         return "".join(self.each("#stands .words", "it.textContent + '\\n'"))
+
+    def ends(self):
+        """Returns the lines of ends, as they are shown."""
+        return "".join(self.each("#ends li", "it.textContent + '\\n'"))
 
     def buttons(self):
         """Returns the events that have a button next to a task or a scope."""
@@ -216,6 +251,22 @@ def same_calls(page, programs, name, text, traces):
             yield f"view of {name} after {events}, {option}", page.call("view", text, trace, {option: True}) == viewed
 
 
+def same_ends(page, programs, name, text):
+    """Yields whether the calls for the ends of a text answer what `look ends` prints, and the trace that it writes."""
+    printed = programs.ends(text)
+    yield f"ends of {name}", page.call("ends", text, AT_ONCE) == printed
+    yield f"ends of {name} in 2 states", page.call("ends", text, 2) == programs.ends(text, 2)
+    for number in range(len(ends_of(printed[1])) + 2):
+        found = page.ends_and_trace(text, number)
+        yield f"ends of {name} with trace {number}", found == programs.ends_and_trace(text, number)
+
+
+def ends_of(printed):
+    """Returns the ends that lines of ends name, by their numbers."""
+    found = [ends.LINE.fullmatch(it) for it in printed.splitlines()]
+    return {it[1]: it[3] for it in found if it}
+
+
 def beginnings(trace):
     lines = trace.splitlines(keepends=True)
     return ["".join(lines[:count]) for count in range(len(lines) + 1)]
@@ -225,8 +276,10 @@ def all_calls(page, programs):
     for path in EXAMPLES:
         traces = beginnings(read(f"{path[:-4]}.trace"))
         yield from same_calls(page, programs, os.path.basename(path), read(path), traces)
+        yield from same_ends(page, programs, os.path.basename(path), read(path))
     for number, (text, trace) in enumerate(ODD):
         yield from same_calls(page, programs, f"odd text {number}", text, [trace])
+        yield from same_ends(page, programs, f"odd text {number}", text)
 
 
 def rows():
@@ -241,6 +294,63 @@ def explanations(page):
     yield "there are rows of explanations", len(found) > 20
     for text, lines, status in found:
         yield f"explanation {lines!r}", page.call("explain", text) == [status, lines]
+
+
+def ends_by_hand(page):
+    """Yields whether a call finds the ends of each program of checks/ends.rows, without interrupts."""
+    asked = [(text, found) for _, text, words, found in ends.rows() if words == ends.options("timed" in text, 0)]
+    yield "there are programs with their ends", len(asked) > 30
+    for text, found in asked:
+        status, printed = page.call("ends", text, ON_REQUEST)
+        is_right = sorted(ends_of(printed).values()) == sorted(ends.by_line(text, it) for it in found)
+        yield f"the ends of {text!r}", status == 0 and is_right
+
+
+def end_played(page, programs, what, text, number, end):
+    """Clicks the line of an end, and yields whether its trace is played, which leads to this end."""
+    trace = programs.ends_and_trace(text, number)[2]
+    yield f"{what}: a click on end {number}", page.click(f'#ends [data-end="{number}"]')
+    yield f"{what}: the lines after it", page.ends() == programs.ends(text)[1]
+    yield f"{what}: the trace of end {number}", page.written("trace") == trace
+    yield f"{what}: its end", ends.by_line(text, programs.says(programs.sts, "plain", [text, trace])[1].splitlines()[0]) == end
+    yield from stands(page, programs, f"{what}: after end {number}", text, trace, trace)
+
+
+def all_ends_played(page, programs):
+    """Yields whether the page lists the ends of each example, also after an edit, and plays each."""
+    for number, path in enumerate(EXAMPLES):
+        page.choose(number)
+        yield f"{NAMES[number]}: its ends", page.ends() == programs.ends(read(path))[1]
+        for place, end in ends_of(page.ends()).items():
+            yield from end_played(page, programs, NAMES[number], read(path), place, end)
+    page.write("text", RACE)
+    yield "the two ends of a race", sorted(ends_of(page.ends()).values()) == ["success 4", "success 5"]
+    yield "its last line", bool(re.fullmatch(r"\d+ states, all schedules", page.ends().splitlines()[-1]))
+    for place, end in ends_of(page.ends()).items():
+        yield from end_played(page, programs, "a race", RACE, place, end)
+        yield f"the end that is shown: {end}", page.shown().startswith(f"{end}\n")
+    for text, _ in ODD:
+        page.write("text", text)
+        yield f"the ends of {text[:40]!r}", page.ends() == programs.ends(text)[1]
+        for place, end in ends_of(page.ends()).items():
+            yield from end_played(page, programs, repr(text[:40]), text, place, end)
+
+
+def searches_stopped(page, programs):
+    """Yields whether a search stops early, says so, and goes further on request, and whether the browser stays usable."""
+    more = "element('more').checkVisibility()"
+    page.write("text", RACE)
+    yield "a whole search needs no more states", page.chromium.value(more) is False
+    begun = time.monotonic()
+    page.write("text", MANY_STATES)
+    yield "a search stops", page.ends() == "stopped at 1000 states, not all schedules\n"
+    yield "more states are offered", page.chromium.value(more) is True and page.text_of("more") == "Search 20000 states"
+    page.click("#more")
+    yield "it stops later", page.ends() == "stopped at 20000 states, not all schedules\n"
+    yield "both are done in time", time.monotonic() - begun < PATIENCE
+    yield "no more states are offered", page.chromium.value(more) is False
+    page.write("text", RACE)
+    yield "another text is searched", page.ends() == programs.ends(RACE)[1]
 
 
 def stands(page, programs, what, text, trace, whole):
@@ -411,10 +521,11 @@ def place_kept(page, programs):
 
 def legends(page):
     """Yields whether the words and marks are explained as docs/LOOK.md explains them, once they are opened."""
-    tables = re.findall(r"^(\| (?:Line|Drawn) \|.*\n)\|.*\n((?:\|.*\n)+)", read(LOOK_PAGE), re.M)
+    tables = re.findall(r"^(\| (?:Line|Drawn|Printed) \|.*\n)\|.*\n((?:\|.*\n)+)", read(LOOK_PAGE), re.M)
     lines = [line for head, body in tables for line in [head.strip(), *body.splitlines()]]
     wanted = [[it.strip().replace("`", "") for it in line.strip("|").split("|")] for line in lines]
-    yield "the words and marks", page.each(".legend tr", "[...it.children].map((cell) => cell.textContent)") == wanted
+    shown = page.each(".legend tr", "[...it.children].map((cell) => cell.textContent)")
+    yield "the words and marks", sorted(shown) == sorted(wanted)
     for word in ("unheard", "may-expire", "waits close"):
         yield f"{word} is explained", any(word in it[0] for it in wanted)
     yield "they are closed", set(page.each(".legend table", "it.checkVisibility()")) == {False}
@@ -448,6 +559,11 @@ def keyboard(page):
     page.chromium.press("Enter", 13)
     yield "a column by the keyboard", page.text_of("head") == "after 1 step 0"
     yield "the focus stays on it", page.each(".columns :focus", "it.textContent") == ["1"]
+    page.write("text", RACE)
+    page.chromium.value("document.querySelector('#ends [data-end=\"2\"]').focus()")
+    page.chromium.press("Enter", 13)
+    yield "an end by the keyboard", page.shown().startswith(f"{ends_of(page.ends())['2']}\n")
+    yield "the focus stays on the end", page.each("#ends :focus", "it.dataset.end") == ["2"]
 
 
 def names(page):
@@ -477,7 +593,10 @@ def tried(path, programs):
         print(chromium.ask("Browser.getVersion")["product"])
         yield from all_calls(page, programs)
         yield from explanations(page)
+        yield from ends_by_hand(page)
         yield from all_played(page, programs)
+        yield from all_ends_played(page, programs)
+        yield from searches_stopped(page, programs)
         yield from faults_told(page, programs)
         yield from as_written(page, programs)
         yield from verdicts(page, programs)

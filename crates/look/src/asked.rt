@@ -4,7 +4,7 @@ use look_ends::EndsOptions;
 use look_lines::ViewOptions;
 
 /// As many states as a search keeps if no other number is asked for.
-pub const MOST_STATES: u32 = 300_000;
+pub const MOST_STATES: u32 = 1_000_000;
 
 /// The seed of random schedules if no other one is asked for.
 pub const FIRST_SEED: u32 = 1;

@@ -140,7 +140,7 @@ fn ends<'a>(alloc: Global) -> Result<Command<'a>, AllocError>
     ensures app { IfOk result (λ c. app_of c ≡ def.ends) }
     ensures local { IfOk result (λ c. (out-Command c).has_globals ≡ false) }
 {
-    let most = option(alloc, "most", "N", "stops when it has N states (300000)");
+    let most = option(alloc, "most", "N", "stops when it has N states (1000000)");
     let sample = option(alloc, "sample", "N", "tries N random schedules, not all");
     let seed = option(
         alloc,

@@ -8,11 +8,14 @@ ghost use Rattle.look_picture.specs.Picture.{IsPictureOf};
 ghost use Rattle.look_refusal.specs.Output.{IsExplanation};
 ghost use Rattle.look_run.specs.Output.{IsRunExplanation};
 ghost use Rattle.look_lines.specs.View.{IsViewOf};
+ghost use Rattle.look_page.specs.Ends.{HandsEnds, IsListing};
 ghost use Rattle.look_page.specs.Handed.{Hands, IsHanded};
 ghost use Rattle.look_page.specs.Printed.{Prints};
 
+mod ending;
 mod printing;
 
+use crate::ending::ending;
 use crate::printing::{Asked, print};
 use look_lines::ViewOptions;
 use std::alloc::Global;
@@ -151,4 +154,49 @@ pub extern "C" fn sts_draw(
         (record { status = result; size = size.new; before = out.old; after = out.new }) }
 {
     shown(alloc, Asked::Picture, text, trace, out, size)
+}
+
+/// Every end that a text can come to, as `look ends --most N` prints them, handed over as by
+/// `sts_verify`.
+#[unsafe(no_mangle)]
+pub extern "C" fn sts_ends(
+    alloc: Global,
+    most: u32,
+    text: &[u8],
+    out: &mut [u8],
+    size: &mut usize,
+) -> u8
+    ensures { Hands (IsListing most text.now)
+        (record { status = result; size = size.new; before = out.old; after = out.new }) }
+{
+    shown(alloc, Asked::Ends(most), text, &[], out, size)
+}
+
+/// What `look ends --most N --trace K` prints, handed over as by `sts_verify`, and in the same way
+/// the trace that it writes, to `trace` and `trace_size`: that of the end of this number.
+#[unsafe(no_mangle)]
+pub extern "C" fn sts_ends_and_trace(
+    alloc: Global,
+    most: u32,
+    number: u32,
+    text: &[u8],
+    out: &mut [u8],
+    size: &mut usize,
+    trace: &mut [u8],
+    trace_size: &mut usize,
+) -> u8
+    ensures { HandsEnds most number text.now
+        (record { status = result; size = size.new; before = out.old; after = out.new })
+        (record { status = result; size = trace_size.new; before = trace.old; after = trace.new }) }
+{
+    match ending(alloc, most, number, text) {
+        Ok(end) => {
+            hand(end.trace.as_slice(), end.status, trace, trace_size);
+            hand(end.printed.as_slice(), end.status, out, size)
+        }
+        Err(_) => {
+            hand(&[], STATUS_OUTSIDE, trace, trace_size);
+            hand(OUT_OF_MEMORY, STATUS_OUTSIDE, out, size)
+        }
+    }
 }

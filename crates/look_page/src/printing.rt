@@ -4,6 +4,8 @@ ghost use Rattle.std.specs.Prelude.{IfOk, Some};
 ghost use Rattle.sts_output.specs.Output.{Output, Writes};
 ghost use Rattle.look_page.specs.Printed.{Prints};
 
+use crate::ending::wanted;
+use look_ends::{Silent, write_ends};
 use look_lines::{ViewOptions, write_view};
 use look_picture::write_picture;
 use look_refusal::explain;
@@ -19,6 +21,8 @@ pub(crate) enum Asked {
     Explanation,
     RunExplanation,
     Picture,
+    /// Every end, with at most this number of states.
+    Ends(u32),
 }
 
 /// Writes it, and gives the status.
@@ -42,5 +46,6 @@ pub(crate) fn print(
         Asked::Explanation => explain(alloc, text, printed),
         Asked::RunExplanation => explain_run(alloc, text, trace, printed),
         Asked::Picture => write_picture(alloc, text, trace, printed),
+        Asked::Ends(most) => write_ends(alloc, wanted(most), text, &mut Silent, printed),
     }
 }
