@@ -50,7 +50,7 @@ fn spelled(alloc: Global, listing: Listing) -> Result<Ending, AllocError>
 /// # Errors
 ///
 /// Memory ran out.
-pub(crate) fn ending(
+pub(crate) fn traced(
     alloc: Global,
     most: u32,
     number: u32,

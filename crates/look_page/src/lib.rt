@@ -15,7 +15,7 @@ ghost use Rattle.look_page.specs.Printed.{Prints};
 mod ending;
 mod printing;
 
-use crate::ending::ending;
+use crate::ending::traced;
 use crate::printing::{Asked, print};
 use look_lines::ViewOptions;
 use std::alloc::Global;
@@ -189,7 +189,7 @@ pub extern "C" fn sts_ends_and_trace(
         (record { status = result; size = size.new; before = out.old; after = out.new })
         (record { status = result; size = trace_size.new; before = trace.old; after = trace.new }) }
 {
-    match ending(alloc, most, number, text) {
+    match traced(alloc, most, number, text) {
         Ok(end) => {
             hand(end.trace.as_slice(), end.status, trace, trace_size);
             hand(end.printed.as_slice(), end.status, out, size)
