@@ -3,7 +3,7 @@ use Rattle.std.proofs.Common.{◌≡◌, ℕ, ◌+◌, ◌<◌, ◌≤◌, ◌^�
 use Rattle.std.proofs.Common.{◌++◌, length, arith, refl, ◌∙◌, ap, append_assoc}
 use Rattle.std.proofs.lemmas.Bool.{cond-true, cond-false}
 use Rattle.std.proofs.lemmas.Bool.Decides.{nat_tests}
-use Rattle.std.specs.Prelude.{Result, Ok, Err, nat_lt, not, ◌&&◌, codes}
+use Rattle.std.specs.Prelude.{Result, Ok, Err, Option, Some, None, IfSome, nat_lt, not, ◌&&◌, codes}
 use Rattle.std.specs.List.{flat_map, All, list_all}
 use Rattle.std.specs.Fmt.{decimal}
 use Rattle.std.specs.Str.{bytes_eq}
@@ -18,7 +18,7 @@ use Rattle.sts_model.specs.declared.event.Event.TheVariants.{Step, Interrupt, Ex
 use Rattle.sts_trace.specs.declared.outside.Due.{Due}
 use Rattle.sts_trace.specs.declared.error.TraceError.{TraceError}
 use Rattle.sts_trace.specs.declared.error.TraceError.TheVariants.{BadLine}
-use Rattle.sts_trace.specs.Reading.{◌>>=◌, Gives, numeral_at, event_of, event_said, event_line}
+use Rattle.sts_trace.specs.Reading.{◌>>=◌, Gives, bytes_of, numeral_at, event_of, event_said, event_line}
 use Rattle.sts_trace.specs.Reading.{is_outside_word, due_said, due_line, lines_read, trace_read}
 use Rattle.sts_trace.specs.Reading.{outside_read}
 use Rattle.sts_trace.specs.Spelling.{event_text, trace_text, due_text, outside_text, number_of}
@@ -42,11 +42,19 @@ goes_on : {A B : Type 0} (r : Result A TraceError) (f : A → Result B TraceErro
 goes_on (Ok y) f x e = let same : y ≡ x = cc in ap f same
 goes_on (Err k) f x e = cc
 
-event_line_only : (at : ℕ) (e : Event) → IsEvent e → event_line at (event_text e) ≡ Ok e
+pub event_line_only : (at : ℕ) (e : Event) → IsEvent e → event_line at (event_text e) ≡ Ok e
 event_line_only at e h =
     ap (event_said at) (event_fields e h)
     ∙ cond-true (is_filled (decimal (number_of e))) (event_of at (word_of e) (decimal (number_of e))) (Err (BadLine at)) (number_filled (number_of e) h)
     ∙ event_read at e h
+
+-- a line that is known to be a step
+pub step_read : (at : ℕ) (task : Option ℕ) (line : List ℕ) (n : ℕ) → task ≡ Some n → IfSome task (λ m. m < 2 ^ 32) → event_line at (bytes_of task line) ≡ Ok (Step n)
+step_read at None line n e h = cc
+step_read at (Some m) line n e h =
+    let same : m ≡ n = cc in
+    let ok : ℕ → Result Event TraceError = λ k. Ok (Step k) in
+    event_line_only at (Step m) h ∙ ap ok same
 
 due_read : (at : ℕ) (a b c d : List ℕ) (n : ℕ) (e : Event) → (bytes_eq a (codes "at") && (is_filled b && (is_outside_word c && is_filled d))) ≡ true → numeral_at at b ≡ Ok n → event_of at c d ≡ Ok e → due_said at (a ∷ b ∷ c ∷ d ∷ []) ≡ Ok (record { at = n; event = e })
 due_read at a b c d n e t p q =

@@ -9,6 +9,7 @@ use Rattle.sts_model.specs.declared.event.Event.TheVariants.{Step, Interrupt, Ex
 use Rattle.sts_text.specs.Number.{numeral}
 use Rattle.sts_text.specs.Words.{lines, fields, is_filled}
 use Rattle.sts_trace.specs.declared.outside.Due.{Due}
+use Rattle.sts_trace.specs.Spelling.{event_text}
 use Rattle.sts_trace.specs.declared.error.TraceError.{TraceError}
 use Rattle.sts_trace.specs.declared.error.TraceError.TheVariants.{BadLine, BadNumber, NoNewline}
 use Rattle.sts_trace.specs.declared.error.TraceError.TheVariants.{Memory}
@@ -50,6 +51,11 @@ abbrev pub event_said : ℕ → List (List ℕ) → Result Event TraceError
 event_said at (word ∷ number ∷ []) =
     if is_filled number then event_of at word number else Err (BadLine at)
 event_said at _ = Err (BadLine at)
+
+-- the bytes of a line: a step of this task, or these
+abbrev pub bytes_of : Option ℕ → List ℕ → List ℕ
+bytes_of None line = line
+bytes_of (Some n) line = event_text (Step n)
 
 -- what line `at` of a trace says
 abbrev pub event_line : ℕ → List ℕ → Result Event TraceError

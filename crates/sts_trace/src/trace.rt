@@ -1,16 +1,19 @@
 //! Reading traces.
 
-ghost use Rattle.std.specs.Prelude.{◌≡◌, ◌∷◌, [], List, IfOk, Ok};
+ghost use Rattle.std.specs.Prelude.{◌≡◌, ◌<◌, ◌^◌, ◌∷◌, [], List, length, IfOk, IfSome, Ok};
+ghost use Rattle.std.specs.Prelude.{MatchOption};
 ghost use Rattle.std.specs.List.{All};
 ghost use Rattle.sts_model.specs.declared.event.Event.{Event};
-ghost use Rattle.sts_trace.specs.Spelling.{IsEvent, trace_text};
-ghost use Rattle.sts_trace.specs.Reading.{Gives, event_line, event_said, trace_read};
+ghost use Rattle.sts_model.specs.declared.event.Event.TheVariants.{Step};
+ghost use Rattle.sts_trace.specs.Spelling.{IsEvent, event_text, trace_text};
+ghost use Rattle.sts_text.specs.Words.{lines};
+ghost use Rattle.sts_trace.specs.Reading.{Gives, bytes_of, event_line, event_said, trace_read};
 
 use crate::error::TraceError;
 use crate::fields::event_of;
 use std::alloc::Global;
 use sts_model::Event;
-use sts_text::{cut_at_newline, cut_at_space};
+use sts_text::{cut_at_newline, cut_at_space, numeral};
 
 // Reads a line of two fields.
 fn event_said(at: u64, word: &[u8], number: &[u8]) -> Result<Event, TraceError>
@@ -36,6 +39,52 @@ fn event_line(at: u64, line: &[u8]) -> Result<Event, TraceError>
     event_said(at, word, number)
 }
 
+// The task of the step that the first line is, and the text after that line.
+#[inline(always)]
+#[tactic(auto, using(crate::proofs::Steps::step_first))]
+fn first_step(text: &[u8]) -> Option<(u32, &[u8])>
+    ensures lines { IfSome result (λ s. lines text.now ≡ event_text (Step s.0) ∷ lines s.1.now) }
+    ensures shorter { IfSome result (λ s. length s.1.now < length text.now) }
+{
+    let [b's', b't', b'e', b'p', b' ', rest @ ..] = text else {
+        return None;
+    };
+    let (number, after) = cut_at_newline(rest)?;
+    let task = numeral(number)?;
+    Some((task, after))
+}
+
+// The first line with the text after it, or `None` if the text has no newline. A step gives its
+// task in place of its bytes: most lines are steps, and are found without a search for a space.
+#[inline(always)]
+fn first_line(text: &[u8]) -> Option<(&[u8], Option<u32>, &[u8])>
+    ensures lines { MatchOption result (lines text.now ≡ text.now ∷ [])
+        (λ cut. lines text.now ≡ bytes_of cut.1 cut.0.now ∷ lines cut.2.now) }
+    ensures shorter { IfSome result (λ cut. length cut.2.now < length text.now) }
+    ensures small { IfSome result (λ cut. IfSome cut.1 (λ n. n < 2 ^ 32)) }
+{
+    if let Some((task, after)) = first_step(text) {
+        return Some((&[], Some(task), after));
+    }
+    match cut_at_newline(text) {
+        Some((line, after)) => Some((line, None, after)),
+        None => None,
+    }
+}
+
+// Reads line `at`, a step of this task or these bytes.
+#[inline(always)]
+#[tactic(auto, using(crate::proofs::Only::step_read))]
+fn event_in(at: u64, task: Option<u32>, line: &[u8]) -> Result<Event, TraceError>
+    requires small { IfSome task (λ n. n < 2 ^ 32) }
+    ensures { Gives (λ e. e) result (event_line at (bytes_of task line.now)) }
+{
+    match task {
+        Some(task) => Ok(Event::Step(task)),
+        None => event_line(at, line),
+    }
+}
+
 // A function of its own, since the further clauses of `read_trace` are laws about its result.
 #[tactic(auto, using(crate::proofs::Lines::reads))]
 fn read_events(alloc: Global, text: &[u8]) -> Result<Vec<Event>, TraceError>
@@ -44,8 +93,8 @@ fn read_events(alloc: Global, text: &[u8]) -> Result<Vec<Event>, TraceError>
     let mut events = Vec::new(alloc);
     let mut rest = text;
     let mut at: u64 = 1;
-    while let Some((line, after)) = cut_at_newline(rest) {
-        let event = event_line(at, line)?;
+    while let Some((line, task, after)) = first_line(rest) {
+        let event = event_in(at, task, line)?;
         events.push(event)?;
         rest = after;
         at += 1;
