@@ -208,7 +208,7 @@ fn of_lines(alloc: Global, outline: &Outline<'_>, text: &[u8]) -> Result<Explana
 }
 
 #[tactic(auto, using(crate::proofs::FaultLemmas::outline_fault))]
-fn explanation(alloc: Global, text: &[u8]) -> Result<Explanation, AllocError>
+fn explained(alloc: Global, text: &[u8]) -> Result<Explanation, AllocError>
     ensures { IfOk result (λ o. def.Explains (judged text.now) text.now o) }
 {
     match outlined(alloc, text) {
@@ -229,7 +229,7 @@ pub fn explain<W: Write>(alloc: Global, text: &[u8], out: &mut W) -> Result<u8, 
     ensures { IfOk result (λ s. (o : cli.Output) × def.IsExplanation text.now o
         × cli.Writes (W.contents out.old) (W.contents out.new) s o) }
 {
-    match explanation(alloc, text) {
+    match explained(alloc, text) {
         Ok(output) => written(out, output.bytes.as_slice(), output.status),
         Err(_) => failed(TakeError::Memory, out),
     }

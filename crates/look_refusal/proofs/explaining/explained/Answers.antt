@@ -6,7 +6,7 @@ use Rattle.sts_code.specs.Program.{Program}
 use Rattle.sts_output.specs.Output.{Output}
 use Rattle.look_refusal.specs.Output as def
 use Rattle.look_refusal.proofs.FaultLemmas.{outline_fault}
-use Rattle.look_refusal.proofs.explaining.explanation.Goals as goal
+use Rattle.look_refusal.proofs.explaining.explained.Goals as goal
 
 pub returns-in-Err : goal.returns-in-Err
 returns-in-Err c =
