@@ -1,3 +1,9 @@
+pub mod ApartLemmas
+pub mod EarlierLemmas
 pub mod EventLemmas
-pub mod WayLemmas
+pub mod FuelLemmas
 pub mod ListedLemmas
+pub mod OthersLemmas
+pub mod OwnLemmas
+pub mod ReachLemmas
+pub mod WayLemmas

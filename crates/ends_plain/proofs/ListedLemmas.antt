@@ -11,11 +11,12 @@ use Rattle.ends_search.specs.Search.{IsWay, Covers}
 use Rattle.ends_plain.specs.declared.config.Config.{Config}
 use Rattle.ends_plain.specs.declared.config.Found.{Found}
 use Rattle.ends_plain.specs.declared.config.Setting.{Setting}
-use Rattle.ends_plain.specs.Configs.{next, can, start}
+use Rattle.ends_plain.specs.Configs.{next, can, tries, start}
 use Rattle.ends_plain.specs.Ends.{is_end, AreAll}
 use Rattle.ends_plain.specs.Listed.{ends_of, AreShown, AreEnds, HasShown, IsEndOf, IsShownBy}
 use Rattle.ends_plain.proofs.EventLemmas.{split}
-use Rattle.ends_plain.proofs.WayLemmas.{position_after, allowed, reaches}
+use Rattle.ends_plain.proofs.WayLemmas.{position_after, allowed}
+use Rattle.ends_plain.proofs.ReachLemmas.{reaches, way_of_tries}
 
 sole : {X : Type 0} (x e : X) (k : ℕ) → k < 1 → slice_index_or (x ∷ []) k e ≡ e → e ≡ x
 sole x e zero less i = sym i
@@ -32,10 +33,10 @@ shown_more g first found f all here e c = by (Contains-append_cases found (f ∷
 at_same : (states : List Config) (k : ℕ) (x d : Config) → k < length states → x ≡ slice_index_or states k x → slice_index_or states k d ≡ x
 at_same states k x d less is = get_or_default states k d x less ∙ sym is
 
-pub shown_here : (g : Setting) (first x y : Config) (f : Found) → IsWay (next g) (can g) first f.trace.items y → x ≡ y → f.end ≡ shown x.position → is_end f.end ≡ true → IsShownBy g first f
+pub shown_here : (g : Setting) (first x y : Config) (f : Found) → IsWay (next g) (tries g) first f.trace.items y → x ≡ y → f.end ≡ shown x.position → is_end f.end ≡ true → IsShownBy g first f
 shown_here g first x y f way is shows ends = record {
   config = x;
-  way = subst (λ z. IsWay (next g) (can g) first f.trace.items z) (sym is) way;
+  way = subst (λ z. IsWay (next g) (tries g) first f.trace.items z) (sym is) way;
   shows = sym shows;
   ends = ends;
 }
@@ -94,15 +95,15 @@ ends_more g found f all here e c = by (Contains-append_cases found (f ∷ []) e 
 pub sound : (g : Setting) (first : Config) (found : List Found) → first ≡ start g → AreShown g first found → AreEnds g found
 sound g first found begins all f c =
     let here = all f c in
-    let way : IsWay (next g) (can g) (start g) f.trace.items here.config = subst (λ x. IsWay (next g) (can g) x f.trace.items here.config) begins here.way in
-    end_of_way g here.config f way here.shows here.ends
+    let way : IsWay (next g) (tries g) (start g) f.trace.items here.config = subst (λ x. IsWay (next g) (tries g) x f.trace.items here.config) begins here.way in
+    end_of_way g here.config f (way_of_tries g (start g) here.config f.trace.items way) here.shows here.ends
 
-pub complete : (g : Setting) (states : List Config) (ends : List PlainState) → Covers (next g) (can g) (start g) states → HasShown states (length states) ends → AreAll g.program g.expiries g.interrupts ends
+pub complete : (g : Setting) (states : List Config) (ends : List PlainState) → Covers (next g) (tries g) (start g) states → HasShown states (length states) ends → AreAll g.program g.expiries g.interrupts ends
 complete g states ends covers has events end h =
     let s = start g in
-    let r = reaches g events s h.allowed in
-    let there = covers r.way r.can_all in
+    let r = reaches g events s (record { events = []; leads = refl }) h.allowed in
+    let there = covers r.way r.tried_all in
     let x = fold (next g) s r.way in
-    let shows : shown (slice_index_or states there.0 x).position ≡ end = ap (λ (y : Config). shown y.position) there.2 ∙ ap shown r.position ∙ h.comes in
+    let shows : shown (slice_index_or states there.0 x).position ≡ end = ap (λ (y : Config). shown y.position) there.2 ∙ r.shows ∙ h.comes in
     let ends_there : is_end (shown (slice_index_or states there.0 x).position) ≡ true = rw shows h.ends in
     rw shows at (has there.0 x there.1 ends_there)

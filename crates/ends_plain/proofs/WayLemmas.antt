@@ -1,5 +1,5 @@
--- Each way to a search's state is a list of allowed events. Each list of allowed events is such a
--- way, once the events that change nothing are left out.
+-- Each way by events that can come is a list of allowed events. An allowed event that can't come
+-- changes nothing.
 use Rattle.std.proofs.Common.{◌≡◌, ℕ, ◌+◌, ◌<◌, List, [], ◌∷◌, ◌++◌, fold, refl, ap, sym, ◌∙◌, arith, subst, count_by, cond}
 use Rattle.std.proofs.Common.{Bool, true, false}
 use Rattle.std.specs.Prelude.{◌&&◌}
@@ -73,34 +73,25 @@ other_false true b e f = e
 other_false false b e f = cc
 
 -- one event is allowed: an expiry if these may come, an interrupt while one is left
-IsFirst : Setting → ℕ → Event → Type 0
+pub IsFirst : Setting → ℕ → Event → Type 0
 IsFirst g left (event.Step t) = Unit {0}
 IsFirst g left (event.Interrupt t) = 0 < left
 IsFirst g left (event.Expire s) = g.expiries ≡ true
 
-idle : (g : Setting) (left : ℕ) (s : State) (e : Event) → IsFirst g left e → can_come g left s e ≡ false → apply g.program s e ≡ s
+pub idle : (g : Setting) (left : ℕ) (s : State) (e : Event) → IsFirst g left e → can_come g left s e ≡ false → apply g.program s e ≡ s
 unfolding IsFirst
 idle g left (Faulted kind t f pc) e h i = refl
 idle g left (Running w) (event.Step t) h i = idle_step g.program w t i
 idle g left (Running w) (event.Interrupt t) h i = ap Running (idle_interrupt w t (other_false (ltb 0 left) (lives (task_at w t)) i (lt-ltb 0 left h)))
 idle g left (Running w) (event.Expire s) h i = ap Running (idle_expire w s (other_false g.expiries (can_expire (scope_at w s)) i h))
 
--- ---- so each list that is allowed leads where some way leads
-
--- a way of the search to this state
-pub record Reaches (g : Setting) (c : Config) (s : State) : Type 0 where
-  pub way : List Event
-  pub can_all : CanAll (next g) (can g) c way
-  pub position : (fold (next g) c way).position ≡ s
-
-go : (g : Setting) (c : Config) (e : Event) (s : State) → can g c e ≡ true → Reaches g (next g c e) s → Reaches g c s
-go g c e s h r = record { way = e ∷ r.way; can_all = (h, r.can_all); position = r.position }
+-- ---- what is allowed after the first event
 
 not_expiries : (g : Setting) → (b : Bool) → g.expiries ≡ b → (b ≡ false → ⊥) → g.expiries ≡ true
 not_expiries g true e h = e
 not_expiries g false e h = absurd (h refl)
 
-first_of_all : (g : Setting) (left : ℕ) (e : Event) (es : List Event) → IsAllowed g.expiries left (e ∷ es) → IsFirst g left e
+pub first_of_all : (g : Setting) (left : ℕ) (e : Event) (es : List Event) → IsAllowed g.expiries left (e ∷ es) → IsFirst g left e
 unfolding IsFirst
 first_of_all g left (event.Step t) es h = tt
 first_of_all g left (event.Interrupt t) es h = omega (arith, h.interrupts, counted is_interrupt (event.Interrupt t) es)
@@ -111,25 +102,14 @@ no_expiry : (e : Event) (es : List Event) → count_by is_expiry (e ∷ es) ≡ 
 no_expiry e es h = omega (arith, h, counted is_expiry e es)
 
 -- the rest is allowed after an event that came
-rest_after : (g : Setting) (left : ℕ) (e : Event) (es : List Event) → IsAllowed g.expiries left (e ∷ es) → IsAllowed g.expiries (left_after left e) es
+pub rest_after : (g : Setting) (left : ℕ) (e : Event) (es : List Event) → IsAllowed g.expiries left (e ∷ es) → IsAllowed g.expiries (left_after left e) es
 rest_after g left (event.Step t) es h = record { interrupts = omega (arith, h.interrupts, counted is_interrupt (event.Step t) es); expiries = λ e. no_expiry (event.Step t) es (h.expiries e) }
 rest_after g left (event.Interrupt t) es h = record { interrupts = omega (arith, h.interrupts, counted is_interrupt (event.Interrupt t) es); expiries = λ e. no_expiry (event.Interrupt t) es (h.expiries e) }
 rest_after g left (event.Expire s) es h = record { interrupts = omega (arith, h.interrupts, counted is_interrupt (event.Expire s) es); expiries = λ e. no_expiry (event.Expire s) es (h.expiries e) }
 
 -- and after one that is left out
-rest_without : (g : Setting) (left : ℕ) (e : Event) (es : List Event) → IsAllowed g.expiries left (e ∷ es) → IsAllowed g.expiries left es
+pub rest_without : (g : Setting) (left : ℕ) (e : Event) (es : List Event) → IsAllowed g.expiries left (e ∷ es) → IsAllowed g.expiries left es
 rest_without g left e es h = record { interrupts = omega (arith, h.interrupts, counted is_interrupt e es); expiries = λ f. no_expiry e es (h.expiries f) }
-
-pub reaches : (g : Setting) (events : List Event) (c : Config) → IsAllowed g.expiries c.left events → Reaches g c (fold (apply g.program) c.position events)
-reaches g [] c h = record { way = []; can_all = tt; position = refl }
-reaches g (e ∷ es) c h = by (can g c e) refl (reaches g es (next g c e) (rest_after g c.left e es h)) (reaches g es c (rest_without g c.left e es h))
-  where
-    by : (b : Bool) → can g c e ≡ b → Reaches g (next g c e) (fold (apply g.program) (apply g.program c.position e) es) → Reaches g c (fold (apply g.program) c.position es)
-        → Reaches g c (fold (apply g.program) (apply g.program c.position e) es)
-    by true f with_it without = go g c e (fold (apply g.program) (apply g.program c.position e) es) f with_it
-    by false f with_it without =
-        let same : apply g.program c.position e ≡ c.position = idle g c.left c.position e (first_of_all g c.left e es h) f in
-        subst (λ s. Reaches g c (fold (apply g.program) s es)) (sym same) without
 
 -- ---- a way and one event more
 

@@ -1,5 +1,6 @@
 -- A search's states, and what events do to them (this project's own).
-use Rattle.std.specs.Prelude.{◌≡◌, ℕ, ◌-◌, List, Bool, true, false, ◌&&◌, nat_lt, if◌then◌else◌}
+use Rattle.std.specs.Prelude.{◌≡◌, ℕ, ◌-◌, List, Bool, true, false, Option, Some, None, ◌&&◌}
+use Rattle.std.specs.Prelude.{◌==◌, nat_lt, if◌then◌else◌}
 use Rattle.std.specs.List.{Contains}
 use Rattle.sts_model.specs.declared.event.Event.{Event}
 use Rattle.sts_model.specs.declared.event.Event.TheVariants as event
@@ -12,6 +13,7 @@ use Rattle.sts_model.specs.Run.{apply}
 use Rattle.ends_plain.specs.declared.config.Config.{Config}
 use Rattle.ends_plain.specs.declared.config.Setting.{Setting}
 use Rattle.ends_plain.specs.Ends.{is_interrupt}
+use Rattle.ends_plain.specs.Own.{own_step_of}
 
 -- the number of interrupts that are left after an event
 abbrev pub left_after : ℕ → Event → ℕ
@@ -44,6 +46,20 @@ can_come g left (Running w) (event.Expire s) = expires_now g.expiries w (event.E
 
 abbrev pub can : Setting → Config → Event → Bool
 can g c e = can_come g c.left c.position e
+
+abbrev pub is_step_of : ℕ → Event → Bool
+is_step_of t (event.Step u) = u == t
+is_step_of t (event.Interrupt u) = false
+is_step_of t (event.Expire s) = false
+
+-- the own step of this task alone, or all that can come if there is no such task
+abbrev pub is_tried : Option ℕ → Setting → ℕ → State → Event → Bool
+is_tried None g left s e = can_come g left s e
+is_tried (Some t) g left s e = is_step_of t e
+
+-- the events that the search goes on with
+abbrev pub tries : Setting → Config → Event → Bool
+tries g c e = is_tried (own_step_of g.program c.position) g c.left c.position e
 
 -- the events are those that pass the test
 pub record AreThose (test : Event → Bool) (events : List Event) : Type 0 where

@@ -2,3 +2,4 @@ pub mod Configs
 pub mod Ends
 pub mod Explored
 pub mod Listed
+pub mod Own

@@ -3,7 +3,7 @@
 ghost use Rattle.std.specs.Prelude.{◌≡◌, true, false, IfOk, length};
 ghost use Rattle.std.specs.List.{Contains};
 ghost use Rattle.ends_search.specs.Search.{IsSpace, states_of};
-ghost use Rattle.ends_plain.specs.Configs.{next, can};
+ghost use Rattle.ends_plain.specs.Configs.{next, tries};
 ghost use Rattle.ends_plain.specs.Ends.{is_end};
 ghost use Rattle.ends_plain.specs.Listed.{ends_of, AreShown, HasShown};
 
@@ -45,7 +45,7 @@ pub fn list(
     setting: &Setting,
     space: &Space<Config>,
 ) -> Result<Vec<Found>, AllocError>
-    requires { IsSpace (next setting.now) (can setting.now) space.now.first
+    requires { IsSpace (next setting.now) (tries setting.now) space.now.first
         space.now.origins.items space.now.closed space.now.kept.items space.now.marks.items }
     ensures shown { IfOk result (λ found. AreShown setting.now space.now.first found.items) }
     ensures all { IfOk result (λ found.

@@ -7,4 +7,5 @@ pub mod events;
 pub mod exploration;
 pub mod hash;
 pub mod moves;
+pub mod own;
 pub mod sample;

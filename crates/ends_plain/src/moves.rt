@@ -1,17 +1,23 @@
 //! The plain machine as a machine that is searched.
 
-ghost use Rattle.std.specs.Prelude.{◌≡◌, true, IfOk};
-ghost use Rattle.ends_plain.specs.Configs.{next as next_of, can as can_of, AreThose, can_come};
+ghost use Rattle.std.specs.Prelude.{◌≡◌, true, IfOk, [], ◌∷◌};
+ghost use Rattle.ends_plain.specs.Configs.{next as next_of, tries, AreThose, can_come, is_tried};
+ghost use Rattle.ends_plain.specs.Own.{own_step_of};
 
 use crate::config::{Config, Setting};
 use crate::events::{expiries, interrupts, steps};
 use crate::hash::hash_of;
+use crate::own::own_task;
 use ends_search::machine::StateMachine;
 use std::alloc::{AllocError, Global};
 use sts_model::Event;
 
 /// All events that can come.
-fn events_of(alloc: Global, config: &Config, setting: &Setting) -> Result<Vec<Event>, AllocError>
+pub fn events_of(
+    alloc: Global,
+    config: &Config,
+    setting: &Setting,
+) -> Result<Vec<Event>, AllocError>
     ensures { IfOk result (λ es.
         AreThose (can_come setting.now config.now.left config.now.position) es.items) }
 {
@@ -28,15 +34,46 @@ fn events_of(alloc: Global, config: &Config, setting: &Setting) -> Result<Vec<Ev
     }
 }
 
+/// The first task that can take an own step, if there is one.
+fn own_step(config: &Config, setting: &Setting) -> Option<u32>
+    ensures { result ≡ own_step_of setting.now.program config.now.position }
+{
+    match config.position.world() {
+        None => None,
+        Some(world) => own_task(world, &setting.program),
+    }
+}
+
+/// One event.
+fn only(alloc: Global, event: Event) -> Result<Vec<Event>, AllocError>
+    ensures { IfOk result (λ es. es.items ≡ event ∷ []) }
+{
+    let mut events = Vec::new(alloc);
+    events.push(event)?;
+    Ok(events)
+}
+
+/// The events that the search goes on with: an own step alone, or else all that can come.
+fn tried(alloc: Global, config: &Config, setting: &Setting) -> Result<Vec<Event>, AllocError>
+    ensures { IfOk result (λ es. AreThose
+        (is_tried (own_step_of setting.now.program config.now.position) setting.now
+        config.now.left config.now.position) es.items) }
+{
+    match own_step(config, setting) {
+        Some(t) => only(alloc, Event::Step(t)),
+        None => events_of(alloc, config, setting),
+    }
+}
+
 impl StateMachine for Config {
     type Setting = Setting;
 
     ghost next = { next_of };
 
-    ghost can = { can_of };
+    ghost can = { tries };
 
     fn events(&self, alloc: Global, setting: &Setting) -> Result<Vec<Event>, AllocError> {
-        events_of(alloc, self, setting)
+        tried(alloc, self, setting)
     }
 
     fn apply(&mut self, alloc: Global, setting: &Setting, event: Event) -> Result<(), AllocError> {

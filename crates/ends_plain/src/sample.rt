@@ -6,7 +6,7 @@ ghost use Rattle.ends_plain.specs.Listed.{AreEnds, IsEndOf};
 
 use crate::config::{Config, Found, Setting};
 use crate::ends::is_end_at;
-use ends_search::machine::StateMachine;
+use crate::moves::events_of;
 use rand::seq::IndexedRandom;
 use rand_core::SeedableRng;
 use rand_xoshiro::Xoshiro256PlusPlus;
@@ -56,7 +56,7 @@ fn walk(
         if is_end_at(end) {
             return Ok(Some(Found { end, trace }));
         }
-        let events = config.events(alloc, setting)?;
+        let events = events_of(alloc, &config, setting)?;
         let Some(event) = chosen(rng, events.as_slice()) else {
             return Ok(None);
         };

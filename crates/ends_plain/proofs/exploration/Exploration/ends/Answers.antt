@@ -2,7 +2,7 @@ use Rattle.std.proofs.Common.{◌≡◌, ◌∙◌, length, arith, subst}
 use Rattle.ends_search.specs.Search.{Covers, states_of}
 use Rattle.ends_search.proofs.SearchLemmas.{covers}
 use Rattle.ends_search.proofs.StateLemmas.{begins_so}
-use Rattle.ends_plain.specs.Configs.{next, can, start}
+use Rattle.ends_plain.specs.Configs.{next, tries, start}
 use Rattle.ends_plain.proofs.ListedLemmas.{sound, complete}
 use Rattle.ends_plain.proofs.exploration.Exploration.ends.Goals as goal
 
@@ -22,6 +22,6 @@ returns-clause-complete c whole =
     let s = c.self.invariant.space.searched in
     let as_many : length x.space.origins.items ≡ length states = s.traced.as_many in
     let all : x.space.closed ≡ length states = grind (arith, as_many) in
-    let covered : Covers (next g) (can g) (start g) states =
-    subst (λ f. Covers (next g) (can g) f states) c.self.invariant.begins (covers (next g) (can g) x.space.first states (begins_so (next g) x.space.first x.space.origins.items s.some) (rw all at s.closed_below)) in
+    let covered : Covers (next g) (tries g) (start g) states =
+    subst (λ f. Covers (next g) (tries g) f states) c.self.invariant.begins (covers (next g) (tries g) x.space.first states (begins_so (next g) x.space.first x.space.origins.items s.some) (rw all at s.closed_below)) in
     rw (← c.self.view_is) (complete g states _ covered (rw as_many at c.in_ok-found.ensures.all))
