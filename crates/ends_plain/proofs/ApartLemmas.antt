@@ -1,5 +1,5 @@
--- A task's frame is its own: what is asked of a state with another frame in its place, except of
--- the task itself, has the same answer, and what is written there is written beside it.
+-- A task's frame is its own. With another frame of one task, the state answers the same about other
+-- tasks and scopes, and changes of them leave that frame there.
 use Rattle.std.proofs.Common.{◌≡◌, ℕ, zero, suc, ◌+◌, ◌<◌, List, [], ◌∷◌, ◌++◌, Bool, true, false, Option, Some, None}
 use Rattle.std.proofs.Common.{refl, sym, ◌∙◌, ap, length, arith, get_or, set, cond, ◌&&◌, ◌||◌, not, count_by, map}
 use Rattle.std.proofs.Common.{length-set, get_or-set_other}
@@ -67,7 +67,7 @@ value_framed read g here (x ∷ xs) zero (suc u) = refl
 value_framed read g here (x ∷ xs) (suc t) zero = refl
 value_framed read g here (x ∷ xs) (suc t) (suc u) = value_framed read g here xs t u
 
--- another task is written beside it
+-- another task is changed
 set_framed : (g : Frame) (y : Task) (xs : List Task) (t u : ℕ) → (u ≡ t → ⊥) → set (framed xs t g) u y ≡ framed (set xs u y) t g
 unfolding framed
 set_framed g y [] t u apart = refl

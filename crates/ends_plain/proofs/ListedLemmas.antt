@@ -36,7 +36,7 @@ at_same states k x d less is = get_or_default states k d x less ∙ sym is
 pub shown_here : (g : Setting) (first x y : Config) (f : Found) → IsWay (next g) (tries g) first f.trace.items y → x ≡ y → f.end ≡ shown x.position → is_end f.end ≡ true → IsShownBy g first f
 shown_here g first x y f way is shows ends = record {
   config = x;
-  way = subst (λ z. IsWay (next g) (tries g) first f.trace.items z) (sym is) way;
+  way = way_of_tries g first x f.trace.items (subst (λ z. IsWay (next g) (tries g) first f.trace.items z) (sym is) way);
   shows = sym shows;
   ends = ends;
 }
@@ -95,8 +95,8 @@ ends_more g found f all here e c = by (Contains-append_cases found (f ∷ []) e 
 pub sound : (g : Setting) (first : Config) (found : List Found) → first ≡ start g → AreShown g first found → AreEnds g found
 sound g first found begins all f c =
     let here = all f c in
-    let way : IsWay (next g) (tries g) (start g) f.trace.items here.config = subst (λ x. IsWay (next g) (tries g) x f.trace.items here.config) begins here.way in
-    end_of_way g here.config f (way_of_tries g (start g) here.config f.trace.items way) here.shows here.ends
+    let way : IsWay (next g) (can g) (start g) f.trace.items here.config = subst (λ x. IsWay (next g) (can g) x f.trace.items here.config) begins here.way in
+    end_of_way g here.config f way here.shows here.ends
 
 pub complete : (g : Setting) (states : List Config) (ends : List PlainState) → Covers (next g) (tries g) (start g) states → HasShown states (length states) ends → AreAll g.program g.expiries g.interrupts ends
 complete g states ends covers has events end h =

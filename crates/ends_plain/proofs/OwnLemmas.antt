@@ -1,5 +1,4 @@
--- An own step can come earlier: before any events of others it leads to the same state, and without
--- it the others' events lead to a state that shows the same.
+-- An own step leads to the same state before another event as after it.
 use Rattle.std.proofs.Common.{◌≡◌, ℕ, zero, suc, ◌+◌, ◌-◌, ◌<◌, ◌≤◌, List, [], ◌∷◌, ◌++◌, Bool, true, false, Option, Some, None}
 use Rattle.std.proofs.Common.{refl, sym, ◌∙◌, ap, subst, length, arith, get_or, set, cond, ◌&&◌, ◌||◌, not, fold, find, drop, get_or-set_same}
 use Rattle.std.specs.Prelude.{ℤ, pos, nat_lt, nat_le, is_none, is_some, unwrap_or, ◌==◌, slice_get, filter_map}

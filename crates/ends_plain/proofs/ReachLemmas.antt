@@ -1,5 +1,5 @@
--- Each list of allowed events leads to a state that shows an end only if a way of the search leads to
--- a state that shows it: own steps come first, and events that change nothing are left out.
+-- What a list of allowed events leads to, some way of the search shows, too. Own steps come first
+-- there, and events that change nothing are left out.
 use Rattle.std.proofs.Common.{◌≡◌, ℕ, zero, suc, ◌<◌, ◌≤◌, ◌+◌, List, [], ◌∷◌, length, fold, refl, ap, sym, ◌∙◌, arith, Bool, true, false, Option, Some, None, find, cond, count_by, subst}
 use Rattle.std.specs.Prelude.{◌==◌}
 use Rattle.std.specs.List.{range_with_len}

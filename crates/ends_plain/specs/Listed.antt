@@ -8,7 +8,7 @@ use Rattle.ends_search.specs.Search.{IsWay}
 use Rattle.ends_plain.specs.declared.config.Config.{Config}
 use Rattle.ends_plain.specs.declared.config.Found.{Found}
 use Rattle.ends_plain.specs.declared.config.Setting.{Setting}
-use Rattle.ends_plain.specs.Configs.{next, tries}
+use Rattle.ends_plain.specs.Configs.{next, can}
 use Rattle.ends_plain.specs.Ends.{is_end, IsEnd}
 
 abbrev pub ends_of : List Found → List PlainState
@@ -24,7 +24,7 @@ AreEnds g found = (f : Found) → Contains found f → IsEndOf g f
 -- its trace leads from the first state to one that shows the end
 pub record IsShownBy (g : Setting) (first : Config) (f : Found) : Type 0 where
   pub config : Config
-  pub way : IsWay (next g) (tries g) first f.trace.items config
+  pub way : IsWay (next g) (can g) first f.trace.items config
   pub shows : shown config.position ≡ f.end
   pub ends : is_end f.end ≡ true
 

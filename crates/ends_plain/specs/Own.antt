@@ -1,5 +1,5 @@
--- Own steps: those of which no other task and nothing from outside can notice when they come (this
--- project's own). While a task can take one, a search takes only that step.
+-- Own steps: no other task and no outside event can notice when they come (this project's own). While
+-- a task can take one, the search goes on with that step alone.
 use Rattle.std.specs.Prelude.{ℕ, length, Bool, true, false, Option, Some, None}
 use Rattle.std.specs.Prelude.{nat_lt, is_none, find, ◌&&◌}
 use Rattle.std.specs.List.{range_with_len}

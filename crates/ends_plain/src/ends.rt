@@ -8,6 +8,7 @@ ghost use Rattle.ends_plain.specs.Ends.{is_end};
 ghost use Rattle.ends_plain.specs.Listed.{ends_of, AreShown, HasShown};
 
 use crate::config::{Config, Found, Setting};
+use crate::shorter::shortened;
 use ends_search::search::{Space, restored, trace};
 use std::alloc::{AllocError, Global};
 use sts_plain::PlainState;
@@ -58,7 +59,8 @@ pub fn list(
         let end = config.position.state();
         if is_new(&found, end) {
             let trace = trace(alloc, setting, space, k)?;
-            found.push(Found { end, trace })?;
+            let one = shortened(alloc, setting, &space.first, Found { end, trace })?;
+            found.push(one)?;
         }
     }
     Ok(found)

@@ -25,7 +25,7 @@ pub fn steps(alloc: Global, program: &Program, world: &World) -> Result<Vec<Even
 }
 
 /// May this task be interrupted?
-fn may_interrupt(left: u32, world: &World, t: u32) -> bool
+pub fn may_interrupt(left: u32, world: &World, t: u32) -> bool
     ensures { result ≡ interrupts_now left world.now (event.Interrupt t) }
 {
     left > 0 && world.records().lives(t)

@@ -9,3 +9,4 @@ pub mod hash;
 pub mod moves;
 pub mod own;
 pub mod sample;
+pub mod shorter;

@@ -1,4 +1,4 @@
-//! Own steps: those of which nobody else can notice when they come.
+//! Own steps: nobody else can notice when they come.
 
 ghost use Rattle.std.specs.Prelude.{◌≡◌};
 ghost use Rattle.ends_plain.specs.Own as def;
@@ -22,7 +22,7 @@ fn is_own(frame: &Frame, instr: Instr) -> bool
 }
 
 /// Does the task live, and is its next step its own and no fault?
-fn has_own_step(world: &World, program: &Program, t: u32) -> bool
+pub fn has_own_step(world: &World, program: &Program, t: u32) -> bool
     ensures { result ≡ def.has_own_step program.now world.now t }
 {
     if !world.records().lives(t) {

@@ -6,7 +6,7 @@ use Rattle.ends_plain.specs.declared.config.Found.{Found}
 use Rattle.ends_plain.specs.Configs.{next}
 use Rattle.ends_plain.specs.Listed.{ends_of}
 use Rattle.ends_plain.proofs.ListedLemmas.{shown_more, shown_here, has_pushed, has_skipped}
-use Rattle.ends_plain.proofs.ends.list.Goals.{then-is_new+in_ok-trace+in_ok-push, else-is_new}
+use Rattle.ends_plain.proofs.ends.list.Goals.{then-is_new+in_ok-trace+in_ok-one+in_ok-push, else-is_new}
 use Rattle.ends_plain.proofs.ends.list.Goals as goal
 
 pub loop-k-preserved : goal.loop-k-preserved
@@ -20,11 +20,12 @@ loop-k-preserved c =
     let within : k < length states = omega (arith, c.requires.searched.traced.as_many) in
     let is : x ≡ slice_index_or states k x = c.in_ok-config.ensures ∙ get_or_default states k s.first x within in
     elim c.if-is_new.branch [
-      | then-is_new+in_ok-trace+in_ok-push w ↦
+      | then-is_new+in_ok-trace+in_ok-one+in_ok-push w ↦
           let f : Found = record { end = c.state-end.result; trace = w.in_ok-trace.trace } in
+          let one = w.in_ok-one.one in
           rw (w.found-is, w.in_ok-push.ensures.items) (
-            shown_more g s.first found f c.loop-k.invariant.0 (shown_here g s.first x (slice_index_or states k s.first) f w.in_ok-trace.ensures c.in_ok-config.ensures c.state-end.ensures (c.is_new.ensures.yes w.if-is_new.true)),
-            has_pushed states k x found f within is c.loop-k.invariant.1 c.state-end.ensures,
+            shown_more g s.first found one c.loop-k.invariant.0 (w.in_ok-one.ensures.shown (shown_here g s.first x (slice_index_or states k s.first) f w.in_ok-trace.ensures c.in_ok-config.ensures c.state-end.ensures (c.is_new.ensures.yes w.if-is_new.true))),
+            has_pushed states k x found one within is c.loop-k.invariant.1 (w.in_ok-one.ensures.end ∙ c.state-end.ensures),
           )
       | else-is_new w ↦
           let old = c.is_new.ensures.no w.if-is_new.false in
