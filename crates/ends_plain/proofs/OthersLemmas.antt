@@ -157,14 +157,14 @@ apart-join w t g u f s failed timeout interrupted apart alive =
     let answer : Verdict = result_of scope.joiner (ends scope) (subtask_count w s) in
     let change : Task → Task = λ (x : Task). record x { frame = goes f interrupted 0 []; flag = false } in
     rw (any_lives_apart w t g s, subtask_count_apart w t g s) (
-      apart-cond t g scope.expired (joined v u s (goes f timeout 0 [])) (joined w u s (goes f timeout 0 []))
-      (cond (scope.cancelled || not (any_lives w s)) (join_verdict answer v u s f failed) (with_task (with_phase v s Attempted) u (change (task_at v u))))
-      (cond (scope.cancelled || not (any_lives w s)) (join_verdict answer w u s f failed) (with_task (with_phase w s Attempted) u (change (task_at w u))))
-      (apart-joined w t g u s (goes f timeout 0 []) apart alive)
-      (apart-cond t g (scope.cancelled || not (any_lives w s)) (join_verdict answer v u s f failed) (join_verdict answer w u s f failed)
-      (with_task (with_phase v s Attempted) u (change (task_at v u))) (with_task (with_phase w s Attempted) u (change (task_at w u)))
-      (apart-verdict answer w t g u s f failed apart alive)
-      (apart-change (with_phase w s Attempted) t g u change apart alive))
+    apart-cond t g scope.expired (joined v u s (goes f timeout 0 [])) (joined w u s (goes f timeout 0 []))
+    (cond (scope.cancelled || not (any_lives w s)) (join_verdict answer v u s f failed) (with_task (with_phase v s Attempted) u (change (task_at v u))))
+    (cond (scope.cancelled || not (any_lives w s)) (join_verdict answer w u s f failed) (with_task (with_phase w s Attempted) u (change (task_at w u))))
+    (apart-joined w t g u s (goes f timeout 0 []) apart alive)
+    (apart-cond t g (scope.cancelled || not (any_lives w s)) (join_verdict answer v u s f failed) (join_verdict answer w u s f failed)
+    (with_task (with_phase v s Attempted) u (change (task_at v u))) (with_task (with_phase w s Attempted) u (change (task_at w u)))
+    (apart-verdict answer w t g u s f failed apart alive)
+    (apart-change (with_phase w s Attempted) t g u change apart alive))
     )
 
 -- a close after the cancel
@@ -386,9 +386,9 @@ interrupt_apart w t g u alive =
     let v = with_frame w t g in
     let flagged : World = with_task v u (record (task_at v u) { flag = true }) in
     apart-is t g (interrupt v u) (cond (lives (task_at w u)) flagged v) (interrupt w u) (ap (λ (b : Bool). cond b flagged v) (value_apart lives w t g u (λ x. refl))) (
-      apart-cond t g (lives (task_at w u)) flagged (with_task w u (record (task_at w u) { flag = true })) v w
-      (record { same = flag_apart w t g u; alive = flagged_alive w.tasks u t ∙ alive })
-      (record { same = refl; alive = alive })
+    apart-cond t g (lives (task_at w u)) flagged (with_task w u (record (task_at w u) { flag = true })) v w
+    (record { same = flag_apart w t g u; alive = flagged_alive w.tasks u t ∙ alive })
+    (record { same = refl; alive = alive })
     )
 
 expire_apart : (w : World) (t : ℕ) (g : Frame) (s : ℕ) → lives (task_at w t) ≡ true → Apart t g (expire (with_frame w t g) s) (expire w s)
