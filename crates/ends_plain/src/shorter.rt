@@ -8,7 +8,7 @@ use crate::config::{Config, Found, Setting};
 use crate::ends::is_end_at;
 use crate::events::may_interrupt;
 use crate::own::has_own_step;
-use ends_search::machine::Machine;
+use ends_search::machine::StateMachine;
 use std::alloc::{AllocError, Global};
 use sts_model::Event;
 use sts_plain::can_step;
