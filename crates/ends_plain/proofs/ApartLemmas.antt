@@ -1,16 +1,13 @@
 -- A task's frame is its own. With another frame of one task, the state answers the same about other
 -- tasks and scopes, and changes of them leave that frame there.
 use Rattle.std.proofs.Common.{◌≡◌, ℕ, zero, suc, ◌+◌, ◌<◌, List, [], ◌∷◌, ◌++◌, Bool, true, false, Option, Some, None}
-use Rattle.std.proofs.Common.{refl, sym, ◌∙◌, ap, length, arith, get_or, set, cond, ◌&&◌, ◌||◌, not, count_by, map}
+use Rattle.std.proofs.Common.{refl, sym, ◌∙◌, ap, length, arith, get_or, set, cond, ◌||◌, not, count_by}
 use Rattle.std.proofs.Common.{length-set, get_or-set_other}
 use Rattle.std.specs.List.{list_any}
 use Rattle.std.specs.Prelude.{◌-◌}
-use Rattle.std.proofs.lemmas.List.{get_or_append_left}
 use Rattle.std.proofs.lemmas.List.Sums.{sum_by-cons}
 use Rattle.sts_code.specs.declared.instr.Kind.{Kind}
 use Rattle.sts_code.specs.declared.instr.Kind.TheVariants.{S, F, U}
-use Rattle.sts_model.specs.declared.event.End.{End}
-use Rattle.sts_model.specs.declared.record.Bound.{Bound}
 use Rattle.sts_model.specs.declared.record.Frame.{Frame}
 use Rattle.sts_model.specs.declared.record.Scope.{Scope}
 use Rattle.sts_model.specs.declared.record.Slot.{Slot}
@@ -21,7 +18,7 @@ use Rattle.sts_model.specs.Living.{lives, is_in, is_subtask, is_living_subtask, 
 use Rattle.sts_model.specs.Living.{parent, scope_of, sub_state, completion_of}
 use Rattle.sts_model.specs.Cancelling.{raise, raised, marked, cancel}
 use Rattle.sts_model.specs.Environment.{environment_of, own_bindings}
-use Rattle.sts_model.specs.Standing.{standing_tasks, is_standing_task, stands_in, is_standing_scope}
+use Rattle.sts_model.specs.Standing.{standing_tasks, is_standing_task, stands_in}
 use Rattle.sts_model.specs.Effect.{tally, is_of, cleared}
 
 -- a living task was born

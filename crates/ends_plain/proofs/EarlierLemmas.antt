@@ -1,6 +1,6 @@
 -- The own step of a task is taken first. If it comes later in a list of events, it is left out
 -- there. The rest of the list leads to a state that shows the same.
-use Rattle.std.proofs.Common.{◌≡◌, ℕ, zero, suc, ◌+◌, ◌-◌, ◌<◌, ◌≤◌, List, [], ◌∷◌, ◌++◌, Bool, true, false, Option, Some, None}
+use Rattle.std.proofs.Common.{◌≡◌, ℕ, ◌+◌, ◌-◌, ◌<◌, ◌≤◌, List, [], ◌∷◌, Bool, true, false}
 use Rattle.std.proofs.Common.{refl, sym, ◌∙◌, ap, subst, length, arith, get_or, set, cond, fold, count_by}
 use Rattle.std.specs.Prelude.{◌==◌}
 use Rattle.std.specs.List.{sum_by}
@@ -9,16 +9,14 @@ use Rattle.std.proofs.lemmas.List.Sums.{sum_by-set, sum_by-cons}
 use Rattle.sts_code.specs.Program.{Program, routine}
 use Rattle.sts_model.specs.declared.event.Event.{Event}
 use Rattle.sts_model.specs.declared.event.Event.TheVariants as event
-use Rattle.sts_model.specs.declared.event.Fault.{Fault}
 use Rattle.sts_model.specs.declared.record.Frame.{Frame}
 use Rattle.sts_model.specs.declared.record.Task.{Task}
-use Rattle.sts_model.specs.declared.event.End.{End}
 use Rattle.sts_model.specs.World.{World, State, Running, Faulted, task_at, no_task, with_frame, code}
 use Rattle.sts_model.specs.Run.{apply, step}
 use Rattle.laws_runs.proofs.RunLemmas.{fault-fold}
 use Rattle.ends_plain.specs.Configs.{is_step_of}
 use Rattle.ends_plain.specs.Own.{has_own_step}
-use Rattle.ends_plain.proofs.ApartLemmas.{alive_born, value_apart}
+use Rattle.ends_plain.proofs.ApartLemmas.{alive_born}
 use Rattle.ends_plain.proofs.FuelLemmas.{frame_fuel}
 use Rattle.ends_plain.proofs.OwnLemmas.{OwnStep, own_step, goes_on, IsRun, run_on, Swaps, swaps}
 

@@ -1,7 +1,7 @@
 -- Own steps of a task end: each makes its fuel smaller.
 use Rattle.std.proofs.Common.{◌≡◌, ℕ, zero, suc, ◌+◌, ◌-◌, ◌*◌, ◌<◌, ◌≤◌, List, [], ◌∷◌, Bool, true, false, Option, Some, None}
-use Rattle.std.proofs.Common.{refl, sym, ◌∙◌, ap, subst, length, arith, get_or, cond, ◌||◌, not, find, drop}
-use Rattle.std.specs.Prelude.{ℤ, pos, negsuc, nat_le, is_none, is_some, unwrap_or, ◌==◌, slice_get, slice_set, slice_range, min}
+use Rattle.std.proofs.Common.{refl, ◌∙◌, ap, length, arith, cond, not, find, drop}
+use Rattle.std.specs.Prelude.{ℤ, pos, negsuc, nat_le, is_none, is_some, unwrap_or, ◌==◌, slice_get, slice_set, slice_range}
 use Rattle.std.specs.List.{range_with_len, sum_by}
 use Rattle.std.specs.Int.{int_wrapping_div, w64}
 use Rattle.std.specs.Ordering.{int_eq}

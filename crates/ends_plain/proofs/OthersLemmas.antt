@@ -1,7 +1,7 @@
 -- What another task does, and what comes from outside, neither reads nor changes a task's frame.
-use Rattle.std.proofs.Common.{◌≡◌, ℕ, zero, suc, ◌+◌, ◌<◌, List, [], ◌∷◌, ◌++◌, Bool, true, false, Option, Some, None}
-use Rattle.std.proofs.Common.{refl, sym, ◌∙◌, ap, subst, length, arith, get_or, set, cond, ◌&&◌, ◌||◌, not, drop, get_or-set_other}
-use Rattle.std.specs.Prelude.{ℤ, pos, nat_lt, nat_le, unwrap_or, is_some, is_none, slice_set}
+use Rattle.std.proofs.Common.{◌≡◌, ℕ, zero, suc, ◌+◌, List, [], ◌∷◌, ◌++◌, Bool, true, false, Option, Some, None}
+use Rattle.std.proofs.Common.{refl, sym, ◌∙◌, ap, subst, length, get_or, set, cond, ◌&&◌, ◌||◌, not, drop, get_or-set_other}
+use Rattle.std.specs.Prelude.{pos, nat_lt, unwrap_or, is_some, is_none, slice_set}
 use Rattle.std.proofs.lemmas.List.{get_or_append_left}
 use Rattle.sts_code.specs.Program.{Program, routine}
 use Rattle.sts_code.specs.declared.instr.Instr.{Instr}
@@ -12,8 +12,7 @@ use Rattle.sts_model.specs.declared.event.End.TheVariants.{Success, Failed}
 use Rattle.sts_model.specs.declared.event.Event.{Event}
 use Rattle.sts_model.specs.declared.event.Event.TheVariants as event
 use Rattle.sts_model.specs.declared.event.Fault.{Fault}
-use Rattle.sts_model.specs.declared.event.Phase.{Phase}
-use Rattle.sts_model.specs.declared.event.Phase.TheVariants.{Opened, Attempted, Joined, Closing, Closed}
+use Rattle.sts_model.specs.declared.event.Phase.TheVariants.{Attempted, Joined, Closing, Closed}
 use Rattle.sts_model.specs.declared.event.Stand.{Stand}
 use Rattle.sts_model.specs.declared.event.Stand.TheVariants.{Free, AtJoin, AtClose}
 use Rattle.sts_model.specs.declared.event.Verdict.{Verdict}
@@ -25,14 +24,14 @@ use Rattle.sts_model.specs.declared.record.Scope.{Scope}
 use Rattle.sts_model.specs.declared.record.Slot.{Slot}
 use Rattle.sts_model.specs.declared.record.Slot.TheVariants.{Empty, Own, Lent, Sub}
 use Rattle.sts_model.specs.declared.record.Task.{Task}
-use Rattle.sts_model.specs.World.{World, State, Running, Faulted, task_at, scope_at, no_task, with_task, with_scope, with_frame, instr_at}
+use Rattle.sts_model.specs.World.{World, State, Running, Faulted, task_at, scope_at, no_task, fresh_scope, with_task, with_scope, with_frame, instr_at}
 use Rattle.sts_model.specs.Living.{lives, is_living_subtask, any_lives, subtask_count, scope_of, sub_state, ends}
 use Rattle.sts_model.specs.Local.{steps, goes, truth, operand}
 use Rattle.sts_model.specs.Joining.{cancels, result_of}
-use Rattle.sts_model.specs.Cancelling.{raise, raised, marked, cancel}
+use Rattle.sts_model.specs.Cancelling.{raised, marked, cancel}
 use Rattle.sts_model.specs.Environment.{environment_of, read}
 use Rattle.sts_model.specs.Effect.{with_phase, open_scope, fork_task, subtask_of, forked, joined, join_verdict, join_scope}
-use Rattle.sts_model.specs.Effect.{closed, close_scope, cleared, told, decide, complete, tell, ended, end_task, take_flag, effect}
+use Rattle.sts_model.specs.Effect.{closed, close_scope, cleared, told, decide, complete, tell, ended, end_task, effect}
 use Rattle.sts_model.specs.Effect.{named, case_target, value_or_zero, tally}
 use Rattle.sts_model.specs.Misuse.{slot, at_own, at_sub, misjoins, has_no_room, is_illegal, breaks_structure, is_unbound, misuse}
 use Rattle.sts_model.specs.Misuse.{fault_of, fault_at, is_opened, is_readable, has_succeeded, has_failed, is_crowded}
@@ -105,19 +104,7 @@ apart-cancel w t g s alive = record { same = cancel_apart w t g s; alive = by (s
 
 -- a scope more
 abbrev with_new : World → ℕ → Joiner → Bool → List Bound → World
-with_new w u joiner timed environment =
-    record w {
-      scopes = w.scopes ++ record {
-        owner = u;
-        joiner = joiner;
-        timed = timed;
-        phase = Opened;
-        cancelled = false;
-        expired = false;
-        completions = [];
-        environment = environment;
-      } ∷ [];
-    }
+with_new w u joiner timed environment = record w { scopes = w.scopes ++ fresh_scope u joiner timed environment ∷ [] }
 
 abbrev entered : World → Frame → ℕ → Frame
 entered w f x = record (steps f 0 []) { entries = entry.Scope (length w.scopes) ∷ f.entries; slots = slice_set f.slots x (Own (length w.scopes)) }

@@ -1,20 +1,15 @@
 -- An own step leads to the same state before another event as after it.
-use Rattle.std.proofs.Common.{◌≡◌, ℕ, zero, suc, ◌+◌, ◌-◌, ◌<◌, ◌≤◌, List, [], ◌∷◌, ◌++◌, Bool, true, false, Option, Some, None}
-use Rattle.std.proofs.Common.{refl, sym, ◌∙◌, ap, subst, length, arith, get_or, set, cond, ◌&&◌, ◌||◌, not, fold, find, drop, get_or-set_same}
-use Rattle.std.specs.Prelude.{ℤ, pos, nat_lt, nat_le, is_none, is_some, unwrap_or, ◌==◌, slice_get, filter_map}
-use Rattle.std.specs.List.{range_with_len, sum_by}
+use Rattle.std.proofs.Common.{◌≡◌, ℕ, ◌+◌, ◌-◌, ◌<◌, List, [], ◌∷◌, ◌++◌, Bool, true, false, Option, Some, None}
+use Rattle.std.proofs.Common.{refl, sym, ◌∙◌, ap, subst, cond, ◌&&◌, ◌||◌, get_or-set_same}
+use Rattle.std.specs.Prelude.{pos, nat_le, is_none, unwrap_or, ◌==◌, filter_map}
 use Rattle.std.specs.Int.{int_wrapping_div, w64}
 use Rattle.std.specs.Ordering.{int_eq}
-use Rattle.std.proofs.lemmas.Bool.{ltb-true, and_parts, or_parts}
-use Rattle.std.proofs.lemmas.Bool.Decides.{nat_tests}
+use Rattle.std.proofs.lemmas.Bool.{and_parts, or_parts}
 use Rattle.std.proofs.lemmas.List.{set-get_or}
-use Rattle.std.proofs.lemmas.List.Sums.{sum_by-set}
-use Rattle.std.proofs.lemmas.Option.{slice_get_within}
-use Rattle.sts_code.specs.Loops.{match_of, is_balanced}
+use Rattle.sts_code.specs.Loops.{match_of}
 use Rattle.sts_code.specs.Program.{Program}
 use Rattle.sts_code.specs.declared.instr.Instr.{Instr}
 use Rattle.sts_code.specs.declared.instr.Instr.TheVariants as instr
-use Rattle.sts_model.specs.declared.event.End.{End}
 use Rattle.sts_model.specs.declared.event.Event.{Event}
 use Rattle.sts_model.specs.declared.event.Event.TheVariants as event
 use Rattle.sts_model.specs.declared.event.Fault.{Fault}
@@ -23,12 +18,11 @@ use Rattle.sts_model.specs.declared.record.Bound.{Bound}
 use Rattle.sts_model.specs.declared.record.Entry.TheVariants as entry
 use Rattle.sts_model.specs.declared.record.Frame.{Frame}
 use Rattle.sts_model.specs.declared.record.Loop.{Loop}
-use Rattle.sts_model.specs.declared.record.Slot.TheVariants.{Empty}
 use Rattle.sts_model.specs.declared.record.Task.{Task}
 use Rattle.sts_model.specs.Environment.{environment_of, own_bindings, bound_of, read}
 use Rattle.sts_model.specs.World.{World, State, Running, Faulted, task_at, no_task, with_frame, code, instr_at}
 use Rattle.sts_model.specs.Living.{lives, parent}
-use Rattle.sts_model.specs.Local.{local, operand, goes, steps, clipped, enters, turns}
+use Rattle.sts_model.specs.Local.{operand, goes, steps, clipped, turns}
 use Rattle.sts_model.specs.Effect.{effect}
 use Rattle.sts_model.specs.Misuse.{misuse, fault_at, fault_of, breaks_loop, misuses_operand, lacks_operands, overflows}
 use Rattle.sts_model.specs.Misuse.{has_wrong_slot, misjoins, has_no_room}

@@ -4,24 +4,23 @@ use Rattle.std.proofs.Common.{◌≡◌, ℕ, zero, suc, ◌<◌, ◌≤◌, ◌
 use Rattle.std.specs.Prelude.{◌==◌}
 use Rattle.std.specs.List.{range_with_len}
 use Rattle.std.proofs.Math.Dec.{ltb}
-use Rattle.std.proofs.lemmas.Bool.{ltb-true, ltb-false}
+use Rattle.std.proofs.lemmas.Bool.{ltb-true}
 use Rattle.std.proofs.lemmas.Bool.Decides.{nat_tests}
 use Rattle.sts_code.specs.Program.{Program}
 use Rattle.sts_model.specs.declared.event.Event.{Event}
 use Rattle.sts_model.specs.declared.event.Event.TheVariants as event
-use Rattle.sts_model.specs.declared.record.Frame.{Frame}
 use Rattle.sts_model.specs.declared.record.Task.{Task}
-use Rattle.sts_model.specs.World.{World, State, Running, Faulted, task_at, with_frame}
+use Rattle.sts_model.specs.World.{World, State, Running, Faulted, with_frame}
 use Rattle.sts_model.specs.Run.{apply, step}
 use Rattle.sts_plain.specs.Seen.{shown, ended_or_running}
 use Rattle.ends_search.specs.Search.{CanAll, IsWay}
 use Rattle.ends_plain.specs.declared.config.Config.{Config}
 use Rattle.ends_plain.specs.declared.config.Setting.{Setting}
 use Rattle.ends_plain.specs.Ends.{IsAllowed, is_interrupt, is_expiry}
-use Rattle.ends_plain.specs.Configs.{next, can, can_come, is_step_of, is_tried, tries}
-use Rattle.ends_plain.specs.Own.{has_own_step, own_task, own_step_of}
+use Rattle.ends_plain.specs.Configs.{next, can, can_come, is_tried, tries}
+use Rattle.ends_plain.specs.Own.{has_own_step, own_step_of}
 use Rattle.ends_plain.proofs.ApartLemmas.{value_apart}
-use Rattle.ends_plain.proofs.OwnLemmas.{OwnStep, own_step, goes_on, IsRun, run_on}
+use Rattle.ends_plain.proofs.OwnLemmas.{own_step, goes_on, IsRun, run_on}
 use Rattle.ends_plain.proofs.EarlierLemmas.{IsOutward, is_step, without, without_shorter, without_counts, shows_same, fuel, fuel_less}
 use Rattle.ends_plain.proofs.WayLemmas.{idle, first_of_all, rest_after, rest_without}
 

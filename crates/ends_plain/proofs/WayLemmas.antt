@@ -1,6 +1,6 @@
 -- Each way by events that can come is a list of allowed events. An allowed event that can't come
 -- changes nothing.
-use Rattle.std.proofs.Common.{◌≡◌, ℕ, ◌+◌, ◌<◌, List, [], ◌∷◌, ◌++◌, fold, refl, ap, sym, ◌∙◌, arith, subst, count_by, cond}
+use Rattle.std.proofs.Common.{◌≡◌, ℕ, ◌+◌, ◌<◌, List, [], ◌∷◌, ◌++◌, fold, refl, ap, ◌∙◌, arith, count_by, cond}
 use Rattle.std.proofs.Common.{Bool, true, false}
 use Rattle.std.specs.Prelude.{◌&&◌}
 use Rattle.std.proofs.lemmas.List.Sums.{sum_by-cons}
