@@ -9,7 +9,8 @@ use Rattle.sts_budget.specs.Table.{Passes}
 use Rattle.look_refusal.specs.declared.search.Search.{Search}
 use Rattle.look_refusal.specs.declared.trail.Best.{Best}
 use Rattle.look_refusal.specs.declared.trail.Trail.{Trail}
-use Rattle.look_refusal.specs.Search.{paths, flow, ends_turn, turns_of, LeadsOn}
+use Rattle.sts_budget.specs.Handing.{turns_of}
+use Rattle.look_refusal.specs.Search.{paths, flow, ends_turn, LeadsOn}
 
 -- the greatest number of 128 bits
 abbrev pub greatest_number : ℕ
