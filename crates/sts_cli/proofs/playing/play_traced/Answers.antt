@@ -2,7 +2,8 @@ use Rattle.std.proofs.Common.{inr, refl}
 use Rattle.std.proofs.KnownBytes.{Appends-nil}
 use Rattle.std.proofs.lemmas.Result.{IfOk-weaker}
 use Rattle.sts_output.specs.Output.{memory_output}
-use Rattle.sts_cli.specs.Running.{alone, whole}
+use Rattle.sts_output.specs.Streams.{whole}
+use Rattle.sts_cli.specs.Running.{alone}
 use Rattle.sts_cli.proofs.playing.play_traced.Goals as goal
 
 pub returns : goal.returns
