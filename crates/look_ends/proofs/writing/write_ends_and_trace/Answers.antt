@@ -2,7 +2,8 @@ use Rattle.std.proofs.Common.{inr, refl}
 use Rattle.std.proofs.KnownBytes.{Appends-nil}
 use Rattle.std.proofs.lemmas.Result.{IfOk-weaker}
 use Rattle.sts_output.specs.Output.{memory_output}
-use Rattle.look_ends.specs.Listing.{alone, whole}
+use Rattle.sts_output.specs.Streams.{whole}
+use Rattle.look_ends.specs.Listing.{alone}
 use Rattle.look_ends.proofs.writing.write_ends_and_trace.Goals as goal
 
 pub returns : goal.returns
