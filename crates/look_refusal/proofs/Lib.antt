@@ -11,6 +11,7 @@ pub mod Instrs
 pub mod Leading
 pub mod MeetingLemmas
 pub mod Most
+pub mod Noting
 pub mod PartLemmas
 pub mod PointLemmas
 pub mod Reading

@@ -2,6 +2,7 @@ pub mod Adding
 pub mod Differences
 pub mod Found
 pub mod Heavy
+pub mod Leads
 pub mod Lines
 pub mod Output
 pub mod Reading

@@ -10,6 +10,7 @@ pub mod earlier;
 mod explaining;
 pub mod heavy;
 pub mod laws;
+pub mod leads;
 mod lines;
 pub mod parts;
 mod remedy;
