@@ -30,9 +30,10 @@ FAULTS = {
 }
 
 # A book: (subtasks forked, whether the root waits, whether the run has ended, units left of each subtask, tasks that are
-# claimed or out). The numbers of `Waits`: (awake, tries). A worker: `L` goes to the lock, `G` claimed a task and passes
-# the gate, `O` is out with a slice, `S` sleeps, `W` was woken and comes to the lock, `D` has decided to sleep with no lock
-# (a fault), `E` has ended. A state: (book, numbers, workers, whether the run may still be stopped).
+# claimed or out). The numbers of `Waits`: (awake, tries). A worker: `F` comes to the lock for the first time, `L` goes to
+# the lock, `G` claimed a task and passes the gate, `O` is out with a slice, `S` sleeps, `W` was woken and comes to the
+# lock, `D` has decided to sleep with no lock (a fault), `E` has ended. A state: (book, numbers, workers, whether the run may
+# still be stopped).
 
 
 def can_step(book, task):
@@ -104,6 +105,11 @@ class Rule:
     def rises(self, numbers):
         return (numbers[0] + (self.fault != "counts"), numbers[1])
 
+    def leaves(self, numbers):
+        """Returns whether a worker leaves the tasks to another one that is awake."""
+        awake, tries = numbers
+        return tries == 0 and (awake > 1 or self.fault == "leaves")
+
     def find(self, book, numbers, workers, i):
         """Yields what comes of a worker that looks for a task under the lock."""
         awake, tries = numbers
@@ -111,7 +117,7 @@ class Rule:
             yield book, numbers, put(workers if self.fault == "end" else all_woken(workers), i, ("E",))
             return
         left = free(book)
-        if not left or (tries == 0 and (awake > 1 or self.fault == "leaves")):
+        if not left or self.leaves(numbers):
             if self.fault == "late":
                 yield book, numbers, put(workers, i, ("D",))
             else:
@@ -134,15 +140,18 @@ class Rule:
         if not left:
             yield from self.find(book, numbers, workers, i)
 
-    def after(self, book, numbers, workers, i, task):
+    def after(self, book, numbers, workers, i, task, may_leave=False):
         """Yields the states after the turns of a task and after the worker's next move."""
         for turned, is_step in turns(book, task):
-            yield from (self.slices if is_step else self.find)(turned, numbers, workers, i)
+            goes_on = is_step and not (may_leave and self.leaves(numbers))
+            yield from (self.slices if goes_on else self.find)(turned, numbers, workers, i)
 
     def of_worker(self, book, numbers, workers, i):
         """Yields what comes of the next hold of a worker."""
         at, *task = workers[i]
-        if at == "L":
+        if at == "F":
+            yield from self.find(book, (numbers[0], TRIES), workers, i)
+        elif at == "L":
             yield from self.find(book, numbers, workers, i)
         elif at == "W":
             yield from self.find(book, self.rises(numbers), workers, i)
@@ -156,8 +165,8 @@ class Rule:
             back = without(book, *task)
             done = [turn(back, *task)] if task != [ROOT] and can_step(back, *task) else []
             for book in [back, *done]:
-                for tries in {numbers[1], TRIES}:
-                    yield from self.after(book, (numbers[0] + 1, tries), workers, i, *task)
+                for tries in {max(0, numbers[1] - 1), TRIES}:
+                    yield from self.after(book, (numbers[0] + 1, tries), workers, i, *task, may_leave=True)
 
     def moves(self, state):
         book, numbers, workers, may_stop = state
@@ -174,13 +183,13 @@ def is_bad(state):
     places = {it[0] for it in workers}
     if "S" not in places:
         return False
-    is_idle = not places & {"L", "W", "G", "D"}
+    is_idle = not places & {"F", "L", "W", "G", "D"}
     return places <= {"S", "E"} or (is_idle and numbers[1] > 0 and bool(free(book)))
 
 
 def search(rule, kids, may_stop):
     """Returns how many states there are, and a bad one if there is one."""
-    first = ((0, False, False, (UNITS,) * kids, frozenset()), (WORKERS, TRIES), (("L",),) * WORKERS, may_stop)
+    first = ((0, False, False, (UNITS,) * kids, frozenset()), (WORKERS, TRIES), (("F",),) * WORKERS, may_stop)
     before, todo = {first: []}, [first]
     while todo:
         state = todo.pop()

@@ -26,14 +26,14 @@
 //! `checks/waits.py` searches every schedule of three workers for a state that contradicts this.
 
 /// A slice with at least this many instructions was long enough to justify waking another worker.
-const WORTH: u32 = 512;
+const WORTH: u32 = 256;
 
-/// Several workers may claim tasks until this many were claimed. After that only one does, until a
-/// slice is long enough.
+/// Several workers may work until this many tasks were claimed or short slices came back. After
+/// that only one does, until a slice is long enough.
 const TRIES: u32 = 64;
 
-/// How many workers are awake with no slice out, and how many tasks may still be claimed by several
-/// at once.
+/// How many workers are awake with no slice out, and how many claims and short slices are left to
+/// several workers at once.
 #[derive(Clone, Copy, Drop)]
 pub(crate) struct Waits {
     awake: u32,
@@ -62,6 +62,11 @@ impl Waits {
         self.tries > 0
     }
 
+    /// A worker has reached the lock for the first time.
+    pub(crate) fn comes(&mut self) {
+        self.tries = TRIES;
+    }
+
     /// A worker claimed a task.
     pub(crate) fn claims(&mut self) {
         self.tries = self.tries.saturating_sub(1);
@@ -75,9 +80,10 @@ impl Waits {
     /// A worker is back with a slice in which it did `done` instructions.
     pub(crate) fn back(&mut self, done: u32) {
         self.awake = self.awake.saturating_add(1);
-        if done >= WORTH {
-            self.tries = TRIES;
-        }
+        self.tries = match done {
+            WORTH.. => TRIES,
+            _ => self.tries.saturating_sub(1),
+        };
     }
 
     /// A worker is about to sleep.

@@ -185,7 +185,8 @@ impl<'p, O: Outside, B: Runs<O>> Pool<'p, O, B> {
     }
 
     /// Takes slices, does their local instructions with no lock held, and gives them back. It does
-    /// the step after each slice, until the task can't step; then it finds another.
+    /// the step after each slice, until the task can't step, or short slices show that another
+    /// worker does better alone. Then it finds another task, or sleeps.
     fn slices<'b, R: Wait, G: Gate>(
         &'b self,
         rt: &R,
@@ -207,7 +208,7 @@ impl<'p, O: Outside, B: Runs<O>> Pool<'p, O, B> {
             guard = self.locked(rt);
             guard.take_back(slice, done);
             most = turns_after(done, most);
-            if guard.stop || !guard.turns(task, most) {
+            if guard.stop || !guard.turns(task, most) || guard.waits.leaves() {
                 break;
             }
         }
@@ -226,6 +227,7 @@ impl<'p, O: Outside, B: Runs<O>> Pool<'p, O, B> {
     fn work<R: Wait, G: Gate>(&self, rt: &R, gate: &G, worker: u32) {
         let mut guard = self.locked(rt);
         guard.came = guard.came.saturating_add(1);
+        guard.waits.comes();
         let mut next = self.find(rt, guard);
         for _ in rt.forever() {
             let Some(task) = next else {
