@@ -7,11 +7,12 @@ use crate::paths::{PATHS, ending};
 use crate::texts::{LOOPS, SHORT_THEN_LONG, accepted};
 use std::sync::atomic::{AtomicU64, Ordering};
 use std::test::Fail;
+use std::thread;
 use sts_model::{End, Event};
 use sts_pool::{Gate, Outside};
 
 /// How often a worker that is held looks whether it may go on.
-const LOOKS: u32 = 1_000_000_000;
+const LOOKS: u32 = 10_000_000;
 
 /// Gives no event, and notes the most that the journal has grown between two questions.
 #[derive(Drop)]
@@ -83,6 +84,7 @@ impl Gate for Both {
             if self.has_second(1 - subtask) {
                 return;
             }
+            thread::yield_now();
         }
         self.missed.store(1, Ordering::SeqCst);
     }
@@ -135,6 +137,7 @@ impl Gate for Return {
             if self.has_other.load(Ordering::SeqCst) != 0 {
                 return;
             }
+            thread::yield_now();
         }
         self.missed.store(1, Ordering::SeqCst);
     }
