@@ -13,7 +13,7 @@ use crate::lines::{Told, say_all, say_shares};
 use crate::progress::Progress;
 use crate::verdict::{Judged, verdict};
 use crate::wanted::{EndsOptions, Manner};
-use ends_plain::config::{Ends, Found, Setting};
+use ends_plain::config::{EndsFound, Found, Setting};
 use ends_plain::sample::{Sample, Sampling, sample_ends};
 use look_refusal::{Explanation, text_fault};
 use std::alloc::{AllocError, Global};
@@ -69,7 +69,7 @@ fn searched(
     told: Told<'_, '_, '_>,
     is_refused: bool,
     number: Option<u32>,
-    ends: &Ends,
+    ends: &EndsFound,
 ) -> Result<Listing, AllocError>
     ensures { IfOk result (λ l. l ≡ def.searched_outcome told.entry.program.now
         told.entry.outline.now is_refused number ends.now.found.items ends.now.states ends.now.whole) }
