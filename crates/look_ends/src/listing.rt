@@ -36,9 +36,9 @@ pub struct Listing {
 }
 
 impl Model for Listing {
-    ghost use Rattle.look_ends.specs.Listing.{Outcome};
+    ghost use Rattle.look_ends.specs.Listing.{Listing};
 
-    ghost Value = { Outcome };
+    ghost Value = { Listing };
 
     ghost view = { λ l. record { output = l.output; trace = l.trace.items } };
 }
@@ -71,8 +71,9 @@ fn searched(
     number: Option<u32>,
     ends: &EndsFound,
 ) -> Result<Listing, AllocError>
-    ensures { IfOk result (λ l. l ≡ def.searched_outcome told.entry.program.now
-        told.entry.outline.now is_refused number ends.now.found.items ends.now.states ends.now.whole) }
+    ensures { IfOk result (λ l. l ≡ def.searched_listing told.entry.program.now
+        told.entry.outline.now is_refused number ends.now.found.items ends.now.states
+        ends.now.whole) }
 {
     let found = ends.found.as_slice();
     let mut bytes = Vec::new(alloc);
@@ -100,7 +101,7 @@ fn sampled(
     number: Option<u32>,
     sample: &Sample,
 ) -> Result<Listing, AllocError>
-    ensures { IfOk result (λ l. l ≡ def.sampled_outcome told.entry.program.now
+    ensures { IfOk result (λ l. l ≡ def.sampled_listing told.entry.program.now
         told.entry.outline.now schedules seed number sample.now.found.items sample.now.times.items
         sample.now.unfinished) }
 {
