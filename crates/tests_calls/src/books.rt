@@ -1,7 +1,7 @@
 //! Two books, act by act: what each answers, and what it has recorded at the end.
 
 use crate::texts::{SEVEN, TIMED, TURNS, accepted};
-use std::alloc::Global;
+use std::alloc::{AllocError, Global};
 use std::process::Abort;
 use std::test::Fail;
 use sts_machine::Turned::{Idle, Stepped};
@@ -15,6 +15,8 @@ use sts_verify::Verified;
 enum Which {
     First,
     Second,
+    /// The first book, and then the second one.
+    Each,
 }
 
 /// The book from which a slice was taken.
@@ -27,7 +29,10 @@ enum Whose {
 /// A call on a book, and its answer.
 #[derive(Clone, Copy, Debug)]
 enum Act {
-    Turn(u32, Turned),
+    /// A turn of a task, which is idle.
+    Idle(u32),
+    /// So many turns of a task, each of which is a step.
+    Steps(u32, u32),
     Interrupt(u32, Turned),
     Expire(u32, Turned),
     /// A slice is taken out, and this is its task, if there is one.
@@ -46,10 +51,10 @@ struct Desk<'p> {
     slice: Option<Slice<'p>>,
 }
 
-/// How a book's root has ended, and its journal.
+/// How a book's root has ended, and its journal: each event with how often it comes in a row.
 struct Record {
     end: Option<End>,
-    journal: &'static [Event],
+    journal: &'static [(Event, u32)],
 }
 
 /// The texts of two books, the calls on them in turn, and what they have recorded then.
@@ -75,16 +80,16 @@ static ROWS: [Row; 6] = [
         acts: &[
             (Which::First, Act::Out(Some(0))),
             (Which::First, Act::Out(None)),
-            (Which::First, Act::Turn(0, Idle)),
+            (Which::First, Act::Idle(0)),
             (Which::First, Act::Interrupt(0, Stepped)),
             (Which::First, Act::Local(0, 0)),
             (Which::First, Act::Local(5, 1)),
             (Which::First, Act::In(Whose::Own, true)),
-            (Which::First, Act::Turn(0, Stepped)),
+            (Which::First, Act::Steps(0, 1)),
         ],
         of_first: Record {
             end: Some(End::Success(7)),
-            journal: &[Event::Interrupt(0), Event::Step(0), Event::Step(0)],
+            journal: &[(Event::Interrupt(0), 1), (Event::Step(0), 2)],
         },
         of_second: NOTHING,
     },
@@ -99,14 +104,14 @@ static ROWS: [Row; 6] = [
             (Which::Second, Act::Out(Some(0))),
             (Which::Second, Act::In(Whose::Others, true)),
             (Which::Second, Act::In(Whose::Own, false)),
-            (Which::Second, Act::Turn(0, Stepped)),
+            (Which::Second, Act::Steps(0, 1)),
             (Which::Second, Act::In(Whose::Own, false)),
-            (Which::First, Act::Turn(0, Idle)),
+            (Which::First, Act::Idle(0)),
         ],
         of_first: NOTHING,
         of_second: Record {
             end: Some(End::Success(7)),
-            journal: &[Event::Step(0), Event::Step(0)],
+            journal: &[(Event::Step(0), 2)],
         },
     },
     Row {
@@ -114,12 +119,9 @@ static ROWS: [Row; 6] = [
         first: SEVEN,
         second: TURNS,
         acts: &[
-            (Which::First, Act::Out(Some(0))),
-            (Which::Second, Act::Out(Some(0))),
-            (Which::First, Act::In(Whose::Others, false)),
-            (Which::Second, Act::In(Whose::Others, false)),
-            (Which::First, Act::In(Whose::Own, true)),
-            (Which::Second, Act::In(Whose::Own, true)),
+            (Which::Each, Act::Out(Some(0))),
+            (Which::Each, Act::In(Whose::Others, false)),
+            (Which::Each, Act::In(Whose::Own, true)),
         ],
         of_first: NOTHING,
         of_second: NOTHING,
@@ -129,17 +131,14 @@ static ROWS: [Row; 6] = [
         first: SEVEN,
         second: SEVEN,
         acts: &[
-            (Which::First, Act::Turn(0, Stepped)),
-            (Which::First, Act::Out(Some(0))),
-            (Which::Second, Act::Out(Some(0))),
-            (Which::First, Act::In(Whose::Others, false)),
-            (Which::Second, Act::In(Whose::Others, false)),
-            (Which::First, Act::In(Whose::Own, true)),
-            (Which::Second, Act::In(Whose::Own, true)),
+            (Which::First, Act::Steps(0, 1)),
+            (Which::Each, Act::Out(Some(0))),
+            (Which::Each, Act::In(Whose::Others, false)),
+            (Which::Each, Act::In(Whose::Own, true)),
         ],
         of_first: Record {
             end: None,
-            journal: &[Event::Step(0)],
+            journal: &[(Event::Step(0), 1)],
         },
         of_second: NOTHING,
     },
@@ -148,30 +147,21 @@ static ROWS: [Row; 6] = [
         first: TIMED,
         second: TIMED,
         acts: &[
-            (Which::First, Act::Turn(0, Stepped)),
-            (Which::First, Act::Turn(0, Stepped)),
+            (Which::First, Act::Steps(0, 2)),
             (Which::First, Act::Out(Some(1))),
             (Which::First, Act::Local(9, 1)),
             (Which::First, Act::Expire(0, Stepped)),
             (Which::First, Act::In(Whose::Own, true)),
-            (Which::First, Act::Turn(1, Stepped)),
-            (Which::First, Act::Turn(0, Stepped)),
-            (Which::First, Act::Turn(0, Stepped)),
-            (Which::First, Act::Turn(0, Stepped)),
-            (Which::First, Act::Turn(0, Stepped)),
+            (Which::First, Act::Steps(1, 1)),
+            (Which::First, Act::Steps(0, 4)),
         ],
         of_first: Record {
             end: Some(End::Success(2)),
             journal: &[
-                Event::Step(0),
-                Event::Step(0),
-                Event::Expire(0),
-                Event::Step(1),
-                Event::Step(1),
-                Event::Step(0),
-                Event::Step(0),
-                Event::Step(0),
-                Event::Step(0),
+                (Event::Step(0), 2),
+                (Event::Expire(0), 1),
+                (Event::Step(1), 2),
+                (Event::Step(0), 4),
             ],
         },
         of_second: NOTHING,
@@ -181,40 +171,32 @@ static ROWS: [Row; 6] = [
         first: TIMED,
         second: TIMED,
         acts: &[
-            (Which::First, Act::Turn(0, Stepped)),
-            (Which::First, Act::Turn(0, Stepped)),
-            (Which::First, Act::Turn(0, Idle)),
-            (Which::First, Act::Turn(9, Idle)),
+            (Which::First, Act::Steps(0, 2)),
+            (Which::First, Act::Idle(0)),
+            (Which::First, Act::Idle(9)),
             (Which::First, Act::Interrupt(9, Idle)),
             (Which::First, Act::Expire(4, Idle)),
-            (Which::First, Act::Turn(1, Stepped)),
-            (Which::First, Act::Turn(1, Stepped)),
+            (Which::First, Act::Steps(1, 2)),
             (Which::First, Act::Interrupt(1, Idle)),
-            (Which::First, Act::Turn(1, Idle)),
-            (Which::First, Act::Turn(0, Stepped)),
-            (Which::First, Act::Turn(0, Stepped)),
+            (Which::First, Act::Idle(1)),
+            (Which::First, Act::Steps(0, 2)),
             (Which::First, Act::Expire(0, Idle)),
-            (Which::First, Act::Turn(0, Stepped)),
-            (Which::First, Act::Turn(0, Stepped)),
+            (Which::First, Act::Steps(0, 2)),
             (Which::First, Act::Interrupt(0, Idle)),
-            (Which::First, Act::Turn(0, Idle)),
+            (Which::First, Act::Idle(0)),
         ],
         of_first: Record {
             end: Some(End::Success(1)),
             journal: &[
-                Event::Step(0),
-                Event::Step(0),
-                Event::Interrupt(9),
-                Event::Expire(4),
-                Event::Step(1),
-                Event::Step(1),
-                Event::Interrupt(1),
-                Event::Step(0),
-                Event::Step(0),
-                Event::Expire(0),
-                Event::Step(0),
-                Event::Step(0),
-                Event::Interrupt(0),
+                (Event::Step(0), 2),
+                (Event::Interrupt(9), 1),
+                (Event::Expire(4), 1),
+                (Event::Step(1), 2),
+                (Event::Interrupt(1), 1),
+                (Event::Step(0), 2),
+                (Event::Expire(0), 1),
+                (Event::Step(0), 2),
+                (Event::Interrupt(0), 1),
             ],
         },
         of_second: NOTHING,
@@ -247,7 +229,12 @@ fn give_back<'p, R: Abort>(
 /// Does one act, and compares what is answered.
 fn does<'p, R: Abort>(rt: &R, desk: &mut Desk<'p>, other: &mut Desk<'p>, act: Act) {
     match act {
-        Act::Turn(task, want) => assert_eq!(rt; desk.book.turn(task), want),
+        Act::Idle(task) => assert_eq!(rt; desk.book.turn(task), Idle),
+        Act::Steps(task, turns) => {
+            for _ in 0..turns {
+                assert_eq!(rt; desk.book.turn(task), Stepped);
+            }
+        }
         Act::Interrupt(task, want) => {
             assert_eq!(rt; desk.book.outside(Event::Interrupt(task)), Ok(want));
         }
@@ -274,9 +261,32 @@ fn does<'p, R: Abort>(rt: &R, desk: &mut Desk<'p>, other: &mut Desk<'p>, act: Ac
     }
 }
 
-fn recorded<R: Abort>(rt: &R, book: &Book<'_>, record: &Record, name: &str) {
+/// Returns the events of a journal, one by one.
+fn one_by_one(alloc: Global, journal: &[(Event, u32)]) -> Result<Vec<Event>, AllocError> {
+    let mut events = Vec::new(alloc);
+    for (event, times) in journal {
+        for _ in 0..*times {
+            events.push(*event)?;
+        }
+    }
+    Ok(events)
+}
+
+fn recorded<R: Abort>(
+    rt: &R,
+    alloc: Global,
+    book: &Book<'_>,
+    record: &Record,
+    name: &str,
+) -> Result<(), AllocError> {
+    let journal = one_by_one(alloc, record.journal)?;
     assert_eq!(rt; book.root_end(), record.end, "the root's end, where {name}");
-    assert_eq!(rt; book.journal(), record.journal, "the journal, where {name}");
+    assert_eq!(rt;
+        book.journal(),
+        journal.as_slice(),
+        "the journal, where {name}"
+    );
+    Ok(())
 }
 
 fn start<'p>(alloc: Global, verified: &'p Verified) -> Result<Desk<'p>, Fail> {
@@ -300,10 +310,14 @@ fn plays<'p, R: Abort>(
         match which {
             Which::First => does(rt, &mut first, &mut second, *act),
             Which::Second => does(rt, &mut second, &mut first, *act),
+            Which::Each => {
+                does(rt, &mut first, &mut second, *act);
+                does(rt, &mut second, &mut first, *act);
+            }
         }
     }
-    recorded(rt, &first.book, &row.of_first, row.name);
-    recorded(rt, &second.book, &row.of_second, row.name);
+    recorded(rt, alloc, &first.book, &row.of_first, row.name)?;
+    recorded(rt, alloc, &second.book, &row.of_second, row.name)?;
     Ok(())
 }
 
