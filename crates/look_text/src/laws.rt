@@ -1,5 +1,5 @@
-//! The laws of the lines that an explanation names: those of instructions, functions and labels; and
-//! of the word that it names as the wrong one.
+//! The laws of the lines that an explanation names: those of instructions, functions and labels. Two
+//! more laws are about the word that it names as the wrong one.
 
 ghost use Rattle.look_text.specs.Places.{LinesSayInstructions, FunctionsSayInstructions};
 ghost use Rattle.look_text.specs.Places.{LinesStandInText};
