@@ -17,7 +17,7 @@ use Rattle.sts_asm.specs.declared.mnemonic.Mnemonic.{Mnemonic}
 use Rattle.sts_asm.specs.declared.mnemonic.Mnemonic.TheVariants as m
 use Rattle.sts_asm.specs.Fault.{◌>>=◌}
 use Rattle.sts_asm.specs.Line.{operated, with_number, with_slot, with_target}
-use Rattle.sts_asm.specs.Marks.{label_in, function_in}
+use Rattle.sts_asm.specs.Marks.{label_in}
 use Rattle.sts_asm.specs.Operand.{Read, wanted, looked_up, number_at, slot, slot_at, handle, handle_at}
 use Rattle.sts_asm.specs.Operand.{named, target_at, function_at, maybe_target_at, until_count_at}
 use Rattle.sts_asm.specs.Operand.{until_value_at, until_at, joiners, joiner_at, timed_at, kinds_counted}
@@ -61,19 +61,13 @@ pub named_fits : (b : Bool) (word : List ℕ) → b ≡ is_some (cond {A = Optio
 named_fits true word = refl
 named_fits false word = refl
 
-target_word : {X : Type 0} (s : Expected) (next : ℕ → List (List ℕ) → Result X AsmKind) → ((word : List ℕ) → fits s word ≡ is_name word)
+-- the name of a label or of a function; before names are known, each counts as known
+name_word : {X : Type 0} (s : Expected) (next : ℕ → List (List ℕ) → Result X AsmKind) → ((word : List ℕ) → fits s word ≡ is_name word)
     → ((kind : AsmKind) → Allows (λ ws. target_at None ws >>= λ x. next x.0 x.1) kind []) → ((word : List ℕ) → StopsFrom (after s word) (next 0))
     → StopsFrom s (λ ws. target_at None ws >>= λ x. next x.0 x.1)
-target_word s next fit allowed rest =
+name_word s next fit allowed rest =
     spelled s named BadOperands (λ name. next 0) (λ ws. target_at None ws >>= λ x. next x.0 x.1) allowed (λ word. fit word ∙ named_fits (is_name word) word)
     (λ word more. handed_on BadOperands (named word) more (λ name. wanted UnknownLabel (label_in None name.0) name.1) (λ x. next x.0 x.1)) (λ word name. rest word)
-
-function_word : {X : Type 0} (s : Expected) (next : ℕ → List (List ℕ) → Result X AsmKind) → ((word : List ℕ) → fits s word ≡ is_name word)
-    → ((kind : AsmKind) → Allows (λ ws. function_at None ws >>= λ x. next x.0 x.1) kind []) → ((word : List ℕ) → StopsFrom (after s word) (next 0))
-    → StopsFrom s (λ ws. function_at None ws >>= λ x. next x.0 x.1)
-function_word s next fit allowed rest =
-    spelled s named BadOperands (λ name. next 0) (λ ws. function_at None ws >>= λ x. next x.0 x.1) allowed (λ word. fit word ∙ named_fits (is_name word) word)
-    (λ word more. handed_on BadOperands (named word) more (λ name. wanted UnknownLabel (function_in None name.0) name.1) (λ x. next x.0 x.1)) (λ word name. rest word)
 
 maybe_word : {X : Type 0} (s : Expected) (next : Option ℕ → List (List ℕ) → Result X AsmKind) → ((word : List ℕ) → fits s word ≡ (bytes_eq word (codes "-") || is_name word))
     → ((kind : AsmKind) → Allows (λ ws. maybe_target_at None ws >>= λ x. next x.0 x.1) kind []) → ((word : List ℕ) (to : Option ℕ) → StopsFrom (after s word) (next to))
@@ -109,7 +103,7 @@ slotted : (build : ℕ → Instr) → StopsFrom w.Slot (λ ws. slot_at ws >>= λ
 slotted build = slot_word w.Slot (λ x. finished (build x)) (λ word. refl) (allows (λ ws. slot_at ws >>= λ x. finished (build x.0) x.1) (codes "s0" ∷ []) (build 0) refl) (λ word x. nothing (build x))
 
 targeted : (build : ℕ → Instr) → StopsFrom w.Label (λ ws. target_at None ws >>= λ x. finished (build x.0) x.1)
-targeted build = target_word w.Label (λ x. finished (build x)) (λ word. refl) (allows (λ ws. target_at None ws >>= λ x. finished (build x.0) x.1) (codes "a" ∷ []) (build 0) refl) (λ word. nothing (build 0))
+targeted build = name_word w.Label (λ x. finished (build x)) (λ word. refl) (allows (λ ws. target_at None ws >>= λ x. finished (build x.0) x.1) (codes "a" ∷ []) (build 0) refl) (λ word. nothing (build 0))
 
 push : StopsFrom w.Value (operated None m.Push)
 push = spelled w.Value number BadNumber (λ v. finished (i.Push v)) (operated None m.Push) (allows (operated None m.Push) (codes "0" ∷ []) _ refl) (λ word. refl) (λ word more. refl) (λ word v. nothing (i.Push v))
@@ -207,7 +201,7 @@ forked = slot_word w.ForkSlot at_function (λ word. refl) (allows (operated None
     last s f = spelled w.Handle handle BadOperands (λ h. finished (i.Fork s f h)) (λ ws. handle_at ws >>= λ h. finished (i.Fork s f h.0) h.1) (allows (λ ws. handle_at ws >>= λ h. finished (i.Fork s f h.0) h.1) (codes "s0" ∷ []) _ refl) (λ word. refl) (λ word more. refl) (λ word h. nothing (i.Fork s f h))
 
     function : (s : ℕ) → StopsFrom w.Function (λ ws. function_at None ws >>= λ f. (handle_at f.1 >>= λ h. finished (i.Fork s f.0 h.0) h.1))
-    function s = function_word w.Function (λ f ws. handle_at ws >>= λ h. finished (i.Fork s f h.0) h.1) (λ word. refl) (allows (λ ws. function_at None ws >>= λ f. (handle_at f.1 >>= λ h. finished (i.Fork s f.0 h.0) h.1)) (codes "a" ∷ codes "s0" ∷ []) _ refl) (λ word. last s 0)
+    function s = name_word w.Function (λ f ws. handle_at ws >>= λ h. finished (i.Fork s f h.0) h.1) (λ word. refl) (allows (λ ws. function_at None ws >>= λ f. (handle_at f.1 >>= λ h. finished (i.Fork s f.0 h.0) h.1)) (codes "a" ∷ codes "s0" ∷ []) _ refl) (λ word. last s 0)
 
 joined : StopsFrom w.JoinSlot (operated None m.Join)
 joined =
@@ -215,7 +209,7 @@ joined =
     (λ word. refl) (allows (operated None m.Join) (codes "s0" ∷ codes "a" ∷ codes "a" ∷ codes "a" ∷ []) _ refl) (λ word s. failed s)
   where
     interrupted : (s : ℕ) (f t : Option ℕ) → StopsFrom w.JoinInterrupted (λ ws. target_at None ws >>= λ r. finished (i.Join s f t r.0) r.1)
-    interrupted s f t = target_word w.JoinInterrupted (λ r. finished (i.Join s f t r)) (λ word. refl) (allows (λ ws. target_at None ws >>= λ r. finished (i.Join s f t r.0) r.1) (codes "a" ∷ []) _ refl) (λ word. nothing (i.Join s f t 0))
+    interrupted s f t = name_word w.JoinInterrupted (λ r. finished (i.Join s f t r)) (λ word. refl) (allows (λ ws. target_at None ws >>= λ r. finished (i.Join s f t r.0) r.1) (codes "a" ∷ []) _ refl) (λ word. nothing (i.Join s f t 0))
 
     timeout : (s : ℕ) (f : Option ℕ) → StopsFrom w.JoinTimeout (λ ws. maybe_target_at None ws >>= λ t. (target_at None t.1 >>= λ r. finished (i.Join s f t.0 r.0) r.1))
     timeout s f = maybe_word w.JoinTimeout (λ t ws. target_at None ws >>= λ r. finished (i.Join s f t r.0) r.1) (λ word. refl) (allows (λ ws. maybe_target_at None ws >>= λ t. (target_at None t.1 >>= λ r. finished (i.Join s f t.0 r.0) r.1)) (codes "a" ∷ codes "a" ∷ []) _ refl) (λ word t. interrupted s f t)
@@ -231,10 +225,10 @@ cased =
     (allows (operated None m.Case) (codes "s0" ∷ codes "a" ∷ codes "a" ∷ []) _ refl) (λ word h. success h)
   where
     failed : (h s : ℕ) → StopsFrom w.CaseFailed (λ ws. target_at None ws >>= λ f. finished (i.Case h s f.0) f.1)
-    failed h s = target_word w.CaseFailed (λ f. finished (i.Case h s f)) (λ word. refl) (allows (λ ws. target_at None ws >>= λ f. finished (i.Case h s f.0) f.1) (codes "a" ∷ []) _ refl) (λ word. nothing (i.Case h s 0))
+    failed h s = name_word w.CaseFailed (λ f. finished (i.Case h s f)) (λ word. refl) (allows (λ ws. target_at None ws >>= λ f. finished (i.Case h s f.0) f.1) (codes "a" ∷ []) _ refl) (λ word. nothing (i.Case h s 0))
 
     success : (h : ℕ) → StopsFrom w.CaseSuccess (λ ws. target_at None ws >>= λ s. (target_at None s.1 >>= λ f. finished (i.Case h s.0 f.0) f.1))
-    success h = target_word w.CaseSuccess (λ s ws. target_at None ws >>= λ f. finished (i.Case h s f.0) f.1) (λ word. refl) (allows (λ ws. target_at None ws >>= λ s. (target_at None s.1 >>= λ f. finished (i.Case h s.0 f.0) f.1)) (codes "a" ∷ codes "a" ∷ []) _ refl) (λ word. failed h 0)
+    success h = name_word w.CaseSuccess (λ s ws. target_at None ws >>= λ f. finished (i.Case h s f.0) f.1) (λ word. refl) (allows (λ ws. target_at None ws >>= λ s. (target_at None s.1 >>= λ f. finished (i.Case h s.0 f.0) f.1)) (codes "a" ∷ codes "a" ∷ []) _ refl) (λ word. failed h 0)
 
 tallied : StopsFrom w.TallySlot (operated None m.Tally)
 tallied = slot_word w.TallySlot (λ s ws. kind_at ws >>= λ k. finished (i.Tally s k.0) k.1) (λ word. refl) (allows (operated None m.Tally) (codes "s0" ∷ codes "S" ∷ []) _ refl) (λ word s. state s)
