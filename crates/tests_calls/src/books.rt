@@ -6,6 +6,7 @@ use std::process::Abort;
 use std::test::Fail;
 use sts_machine::Turned::{Idle, Stepped};
 use sts_machine::{Slice, Turned};
+use sts_model::Event::{Expire, Interrupt, Step};
 use sts_model::{End, Event};
 use sts_pool::Book;
 use sts_verify::Verified;
@@ -89,7 +90,7 @@ static ROWS: [Row; 6] = [
         ],
         of_first: Record {
             end: Some(End::Success(7)),
-            journal: &[(Event::Interrupt(0), 1), (Event::Step(0), 2)],
+            journal: &[(Interrupt(0), 1), (Step(0), 2)],
         },
         of_second: NOTHING,
     },
@@ -111,7 +112,7 @@ static ROWS: [Row; 6] = [
         of_first: NOTHING,
         of_second: Record {
             end: Some(End::Success(7)),
-            journal: &[(Event::Step(0), 2)],
+            journal: &[(Step(0), 2)],
         },
     },
     Row {
@@ -138,7 +139,7 @@ static ROWS: [Row; 6] = [
         ],
         of_first: Record {
             end: None,
-            journal: &[(Event::Step(0), 1)],
+            journal: &[(Step(0), 1)],
         },
         of_second: NOTHING,
     },
@@ -157,12 +158,7 @@ static ROWS: [Row; 6] = [
         ],
         of_first: Record {
             end: Some(End::Success(2)),
-            journal: &[
-                (Event::Step(0), 2),
-                (Event::Expire(0), 1),
-                (Event::Step(1), 2),
-                (Event::Step(0), 4),
-            ],
+            journal: &[(Step(0), 2), (Expire(0), 1), (Step(1), 2), (Step(0), 4)],
         },
         of_second: NOTHING,
     },
@@ -188,15 +184,15 @@ static ROWS: [Row; 6] = [
         of_first: Record {
             end: Some(End::Success(1)),
             journal: &[
-                (Event::Step(0), 2),
-                (Event::Interrupt(9), 1),
-                (Event::Expire(4), 1),
-                (Event::Step(1), 2),
-                (Event::Interrupt(1), 1),
-                (Event::Step(0), 2),
-                (Event::Expire(0), 1),
-                (Event::Step(0), 2),
-                (Event::Interrupt(0), 1),
+                (Step(0), 2),
+                (Interrupt(9), 1),
+                (Expire(4), 1),
+                (Step(1), 2),
+                (Interrupt(1), 1),
+                (Step(0), 2),
+                (Expire(0), 1),
+                (Step(0), 2),
+                (Interrupt(0), 1),
             ],
         },
         of_second: NOTHING,
@@ -236,10 +232,10 @@ fn does<'p, R: Abort>(rt: &R, desk: &mut Desk<'p>, other: &mut Desk<'p>, act: Ac
             }
         }
         Act::Interrupt(task, want) => {
-            assert_eq!(rt; desk.book.outside(Event::Interrupt(task)), Ok(want));
+            assert_eq!(rt; desk.book.outside(Interrupt(task)), Ok(want));
         }
         Act::Expire(scope, want) => {
-            assert_eq!(rt; desk.book.outside(Event::Expire(scope)), Ok(want));
+            assert_eq!(rt; desk.book.outside(Expire(scope)), Ok(want));
         }
         Act::Out(want) => {
             let slice = desk.book.check_out();
