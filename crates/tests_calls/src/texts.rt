@@ -17,14 +17,21 @@ pub const DOUBLES: &str = "\
     intr:\npush 0\nclose s0\nfail\nend\n\
 ";
 
+/// A scope with a timeout, and one subtask of this text.
+macro_rules! timed {
+    ($kid:literal) => {
+        concat!(
+            $kid,
+            "func main 0\nopen s0 awaitall timed\nfork s0 kid _\njoin s0 - late intr\n\
+            close s0\npush 1\nret\n\
+            late:\nclose s0\npush 2\nret\n\
+            intr:\npush 0\nclose s0\nfail\nend\n"
+        )
+    };
+}
+
 /// A scope with a timeout, and one subtask.
-pub const TIMED: &str = "\
-    func kid 0\npush 0\nret\nend\n\
-    func main 0\nopen s0 awaitall timed\nfork s0 kid _\njoin s0 - late intr\n\
-    close s0\npush 1\nret\n\
-    late:\nclose s0\npush 2\nret\n\
-    intr:\npush 0\nclose s0\nfail\nend\n\
-";
+pub const TIMED: &str = timed!("func kid 0\npush 0\nret\nend\n");
 
 /// A thousand scopes in a row, each with one subtask.
 pub const THOUSAND: &str = "\
@@ -79,14 +86,10 @@ pub const LOOP: &str = "\
 ";
 
 /// A scope with a timeout, and one subtask that makes two hundred thousand steps.
-pub const LATE: &str = "\
-    func kid 0\npush 4\ntimes 4\npush 10000\ntimes 10000\nload 0\npush 1\nadd\nstore 0\nnext\nnext\n\
-    load 0\nret\nend\n\
-    func main 0\nopen s0 awaitall timed\nfork s0 kid _\njoin s0 - late intr\n\
-    close s0\npush 1\nret\n\
-    late:\nclose s0\npush 2\nret\n\
-    intr:\npush 0\nclose s0\nfail\nend\n\
-";
+pub const LATE: &str = timed!(
+    "func kid 0\npush 4\ntimes 4\npush 10000\ntimes 10000\nload 0\npush 1\nadd\nstore 0\nnext\nnext\n\
+    load 0\nret\nend\n"
+);
 
 /// Two subtasks. `main` gives 1 if it was interrupted before its first step. It gives 10 more if it
 /// was interrupted while it waited for them, or before it asks once more behind the `close`.
