@@ -116,24 +116,7 @@ fn say_head(alloc: Global, out: &mut Vec<u8>, place: usize, one: &Found) -> Resu
     say(out, " events")
 }
 
-/// `K after N events: END`
-fn say_found(
-    alloc: Global,
-    out: &mut Vec<u8>,
-    told: Told<'_, '_, '_>,
-    place: usize,
-    one: &Found,
-) -> Result<(), AllocError>
-    requires { place + 1 < 2 ^ 64 }
-    ensures { OnOk result (out.new.items ≡ out.old.items
-        ++ def.found_line told.entry.program.now told.entry.outline.now place one.now) }
-{
-    say_head(alloc, out, place, one)?;
-    say(out, ": ")?;
-    say_end(alloc, out, told, one.end)
-}
-
-/// The lines of the ends, numbered from 1.
+/// The lines of the ends, numbered from 1: `K after N events: END`.
 ///
 /// # Errors
 ///
@@ -148,7 +131,9 @@ pub(crate) fn say_all(
         ++ def.found_lines told.entry.program.now told.entry.outline.now found.now 0) }
 {
     for k in 0..found.len() {
-        say_found(alloc, out, told, k, &found[k])?;
+        say_head(alloc, out, k, &found[k])?;
+        say(out, ": ")?;
+        say_end(alloc, out, told, found[k].end)?;
     }
     Ok(())
 }
