@@ -61,8 +61,7 @@ struct Record {
 /// The texts of two books, the calls on them in turn, and what they have recorded then.
 struct Row {
     name: &'static str,
-    first: &'static str,
-    second: &'static str,
+    texts: (&'static str, &'static str),
     acts: &'static [(Which, Act)],
     of_first: Record,
     of_second: Record,
@@ -76,8 +75,7 @@ const NOTHING: Record = Record {
 static ROWS: [Row; 6] = [
     Row {
         name: "a task that is out takes an interrupt and no turn",
-        first: SEVEN,
-        second: SEVEN,
+        texts: (SEVEN, SEVEN),
         acts: &[
             (Which::First, Act::Out(Some(0))),
             (Which::First, Act::Out(None)),
@@ -96,8 +94,7 @@ static ROWS: [Row; 6] = [
     },
     Row {
         name: "a slice of the other book is taken where the task is out at the same frame",
-        first: SEVEN,
-        second: SEVEN,
+        texts: (SEVEN, SEVEN),
         acts: &[
             (Which::First, Act::Out(Some(0))),
             (Which::First, Act::Local(9, 1)),
@@ -117,8 +114,7 @@ static ROWS: [Row; 6] = [
     },
     Row {
         name: "a slice of another program",
-        first: SEVEN,
-        second: TURNS,
+        texts: (SEVEN, TURNS),
         acts: &[
             (Which::Each, Act::Out(Some(0))),
             (Which::Each, Act::In(Whose::Others, false)),
@@ -129,8 +125,7 @@ static ROWS: [Row; 6] = [
     },
     Row {
         name: "a slice at another frame of the same program",
-        first: SEVEN,
-        second: SEVEN,
+        texts: (SEVEN, SEVEN),
         acts: &[
             (Which::First, Act::Steps(0, 1)),
             (Which::Each, Act::Out(Some(0))),
@@ -145,8 +140,7 @@ static ROWS: [Row; 6] = [
     },
     Row {
         name: "a scope expires while a subtask of it is out",
-        first: TIMED,
-        second: TIMED,
+        texts: (TIMED, TIMED),
         acts: &[
             (Which::First, Act::Steps(0, 2)),
             (Which::First, Act::Out(Some(1))),
@@ -164,8 +158,7 @@ static ROWS: [Row; 6] = [
     },
     Row {
         name: "a task that waits, and tasks and scopes unborn, ended and closed",
-        first: TIMED,
-        second: TIMED,
+        texts: (TIMED, TIMED),
         acts: &[
             (Which::First, Act::Steps(0, 2)),
             (Which::First, Act::Idle(0)),
@@ -318,8 +311,8 @@ fn plays<'p, R: Abort>(
 }
 
 fn holds<R: Abort>(rt: &R, alloc: Global, row: &Row) -> Result<(), Fail> {
-    let one = accepted(alloc, row.first)?;
-    let other = accepted(alloc, row.second)?;
+    let one = accepted(alloc, row.texts.0)?;
+    let other = accepted(alloc, row.texts.1)?;
     plays(rt, alloc, row, &one, &other)
 }
 

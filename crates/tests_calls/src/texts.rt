@@ -51,13 +51,24 @@ pub const BOUND: &str = "\
     intr:\npush 0\nclose s0\nunbind\nfail\nend\n\
 ";
 
+/// So many subtasks of one scope, which a loop forks.
+macro_rules! looped {
+    ($count:literal) => {
+        concat!(
+            "func kid 0\npush 0\nret\nend\n",
+            "func main 0\nopen s0 awaitall\npush ",
+            $count,
+            "\ntimes ",
+            $count,
+            "\nfork s0 kid _\nnext\njoin s0 - - intr\n\
+            close s0\npush 1\nret\n\
+            intr:\npush 0\nclose s0\nfail\nend\n"
+        )
+    };
+}
+
 /// Two subtasks that a loop forks.
-pub const LOOPED: &str = "\
-    func kid 0\npush 0\nret\nend\n\
-    func main 0\nopen s0 awaitall\npush 2\ntimes 2\nfork s0 kid _\nnext\njoin s0 - - intr\n\
-    close s0\npush 1\nret\n\
-    intr:\npush 0\nclose s0\nfail\nend\n\
-";
+pub const LOOPED: &str = looped!("2");
 
 /// A hundred thousand scopes in a row, each without a subtask.
 pub const TURNS: &str = "\
@@ -100,13 +111,8 @@ pub const GREETED: &str = "\
     intr:\nclose s0\nload 0\npush 10\nadd\nret\nend\n\
 ";
 
-/// Sixteen subtasks of one scope.
-pub const WIDE: &str = "\
-    func kid 0\npush 0\nret\nend\n\
-    func main 0\nopen s0 awaitall\npush 16\ntimes 16\nfork s0 kid _\nnext\njoin s0 - - intr\n\
-    close s0\npush 1\nret\n\
-    intr:\npush 0\nclose s0\nfail\nend\n\
-";
+/// Sixteen subtasks that a loop forks.
+pub const WIDE: &str = looped!("16");
 
 /// A hundred scopes in a row, each with one short subtask (1 to 100), and then two subtasks with
 /// two hundred thousand steps each (101 and 102).
