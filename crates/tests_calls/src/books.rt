@@ -1,4 +1,4 @@
-//! Two books, act by act: what each answers, and what it has recorded at the end.
+//! One book or two, act by act: what each answers, and what it has recorded at the end.
 
 use crate::texts::{SEVEN, TIMED, TURNS, accepted};
 use std::alloc::{AllocError, Global};
@@ -58,8 +58,16 @@ struct Record {
     journal: &'static [(Event, u32)],
 }
 
+/// The text of a book, the calls on it in turn, and what it has recorded then.
+struct Alone {
+    name: &'static str,
+    text: &'static str,
+    acts: &'static [Act],
+    record: Record,
+}
+
 /// The texts of two books, the calls on them in turn, and what they have recorded then.
-struct Row {
+struct Pair {
     name: &'static str,
     texts: (&'static str, &'static str),
     acts: &'static [(Which, Act)],
@@ -72,27 +80,79 @@ const NOTHING: Record = Record {
     journal: &[],
 };
 
-static ROWS: [Row; 6] = [
-    Row {
+static ALONE: [Alone; 3] = [
+    Alone {
         name: "a task that is out takes an interrupt and no turn",
-        texts: (SEVEN, SEVEN),
+        text: SEVEN,
         acts: &[
-            (Which::First, Act::Out(Some(0))),
-            (Which::First, Act::Out(None)),
-            (Which::First, Act::Idle(0)),
-            (Which::First, Act::Interrupt(0, Stepped)),
-            (Which::First, Act::Local(0, 0)),
-            (Which::First, Act::Local(5, 1)),
-            (Which::First, Act::In(Whose::Own, true)),
-            (Which::First, Act::Steps(0, 1)),
+            Act::Out(Some(0)),
+            Act::Out(None),
+            Act::Idle(0),
+            Act::Interrupt(0, Stepped),
+            Act::Local(0, 0),
+            Act::Local(5, 1),
+            Act::In(Whose::Own, true),
+            Act::Steps(0, 1),
         ],
-        of_first: Record {
+        record: Record {
             end: Some(End::Success(7)),
             journal: &[(Interrupt(0), 1), (Step(0), 2)],
         },
-        of_second: NOTHING,
     },
-    Row {
+    Alone {
+        name: "a scope expires while a subtask of it is out",
+        text: TIMED,
+        acts: &[
+            Act::Steps(0, 2),
+            Act::Out(Some(1)),
+            Act::Local(9, 1),
+            Act::Expire(0, Stepped),
+            Act::In(Whose::Own, true),
+            Act::Steps(1, 1),
+            Act::Steps(0, 4),
+        ],
+        record: Record {
+            end: Some(End::Success(2)),
+            journal: &[(Step(0), 2), (Expire(0), 1), (Step(1), 2), (Step(0), 4)],
+        },
+    },
+    Alone {
+        name: "a task that waits, and tasks and scopes unborn, ended and closed",
+        text: TIMED,
+        acts: &[
+            Act::Steps(0, 2),
+            Act::Idle(0),
+            Act::Idle(9),
+            Act::Interrupt(9, Idle),
+            Act::Expire(4, Idle),
+            Act::Steps(1, 2),
+            Act::Interrupt(1, Idle),
+            Act::Idle(1),
+            Act::Steps(0, 2),
+            Act::Expire(0, Idle),
+            Act::Steps(0, 2),
+            Act::Interrupt(0, Idle),
+            Act::Idle(0),
+        ],
+        record: Record {
+            end: Some(End::Success(1)),
+            journal: &[
+                (Step(0), 2),
+                (Interrupt(9), 1),
+                (Expire(4), 1),
+                (Step(1), 2),
+                (Interrupt(1), 1),
+                (Step(0), 2),
+                (Expire(0), 1),
+                (Step(0), 2),
+                (Interrupt(0), 1),
+            ],
+        },
+    },
+];
+
+static PAIRS: [Pair; 3] = [
+    Pair {
         name: "a slice of the other book is taken where the task is out at the same frame",
         texts: (SEVEN, SEVEN),
         acts: &[
@@ -112,7 +172,7 @@ static ROWS: [Row; 6] = [
             journal: &[(Step(0), 2)],
         },
     },
-    Row {
+    Pair {
         name: "a slice of another program",
         texts: (SEVEN, TURNS),
         acts: &[
@@ -123,7 +183,7 @@ static ROWS: [Row; 6] = [
         of_first: NOTHING,
         of_second: NOTHING,
     },
-    Row {
+    Pair {
         name: "a slice at another frame of the same program",
         texts: (SEVEN, SEVEN),
         acts: &[
@@ -135,58 +195,6 @@ static ROWS: [Row; 6] = [
         of_first: Record {
             end: None,
             journal: &[(Step(0), 1)],
-        },
-        of_second: NOTHING,
-    },
-    Row {
-        name: "a scope expires while a subtask of it is out",
-        texts: (TIMED, TIMED),
-        acts: &[
-            (Which::First, Act::Steps(0, 2)),
-            (Which::First, Act::Out(Some(1))),
-            (Which::First, Act::Local(9, 1)),
-            (Which::First, Act::Expire(0, Stepped)),
-            (Which::First, Act::In(Whose::Own, true)),
-            (Which::First, Act::Steps(1, 1)),
-            (Which::First, Act::Steps(0, 4)),
-        ],
-        of_first: Record {
-            end: Some(End::Success(2)),
-            journal: &[(Step(0), 2), (Expire(0), 1), (Step(1), 2), (Step(0), 4)],
-        },
-        of_second: NOTHING,
-    },
-    Row {
-        name: "a task that waits, and tasks and scopes unborn, ended and closed",
-        texts: (TIMED, TIMED),
-        acts: &[
-            (Which::First, Act::Steps(0, 2)),
-            (Which::First, Act::Idle(0)),
-            (Which::First, Act::Idle(9)),
-            (Which::First, Act::Interrupt(9, Idle)),
-            (Which::First, Act::Expire(4, Idle)),
-            (Which::First, Act::Steps(1, 2)),
-            (Which::First, Act::Interrupt(1, Idle)),
-            (Which::First, Act::Idle(1)),
-            (Which::First, Act::Steps(0, 2)),
-            (Which::First, Act::Expire(0, Idle)),
-            (Which::First, Act::Steps(0, 2)),
-            (Which::First, Act::Interrupt(0, Idle)),
-            (Which::First, Act::Idle(0)),
-        ],
-        of_first: Record {
-            end: Some(End::Success(1)),
-            journal: &[
-                (Step(0), 2),
-                (Interrupt(9), 1),
-                (Expire(4), 1),
-                (Step(1), 2),
-                (Interrupt(1), 1),
-                (Step(0), 2),
-                (Expire(0), 1),
-                (Step(0), 2),
-                (Interrupt(0), 1),
-            ],
         },
         of_second: NOTHING,
     },
@@ -215,8 +223,8 @@ fn give_back<'p, R: Abort>(
     }
 }
 
-/// Does one act, and compares what is answered.
-fn does<'p, R: Abort>(rt: &R, desk: &mut Desk<'p>, other: &mut Desk<'p>, act: Act) {
+/// Does one act, and compares what is answered. The other book's slice may be there, too.
+fn does<'p, R: Abort>(rt: &R, desk: &mut Desk<'p>, others: &mut Option<Slice<'p>>, act: Act) {
     match act {
         Act::Idle(task) => assert_eq!(rt; desk.book.turn(task), Idle),
         Act::Steps(task, turns) => {
@@ -244,8 +252,8 @@ fn does<'p, R: Abort>(rt: &R, desk: &mut Desk<'p>, other: &mut Desk<'p>, act: Ac
             desk.slice = give_back(rt, &mut desk.book, slice, taken);
         }
         Act::In(Whose::Others, taken) => {
-            let slice = other.slice.take();
-            other.slice = give_back(rt, &mut desk.book, slice, taken);
+            let slice = others.take();
+            *others = give_back(rt, &mut desk.book, slice, taken);
         }
     }
 }
@@ -285,11 +293,27 @@ fn start<'p>(alloc: Global, verified: &'p Verified) -> Result<Desk<'p>, Fail> {
     })
 }
 
+/// Does the acts of a row with a book of this program.
+fn plays_alone<'p, R: Abort>(
+    rt: &R,
+    alloc: Global,
+    row: &Alone,
+    verified: &'p Verified,
+) -> Result<(), Fail> {
+    let mut desk = start(alloc, verified)?;
+    let mut no_slice = None;
+    for act in row.acts {
+        does(rt, &mut desk, &mut no_slice, *act);
+    }
+    recorded(rt, alloc, &desk.book, &row.record, row.name)?;
+    Ok(())
+}
+
 /// Does the acts of a row with a book of each of these programs.
 fn plays<'p, R: Abort>(
     rt: &R,
     alloc: Global,
-    row: &Row,
+    row: &Pair,
     one: &'p Verified,
     other: &'p Verified,
 ) -> Result<(), Fail> {
@@ -297,11 +321,11 @@ fn plays<'p, R: Abort>(
     let mut second = start(alloc, other)?;
     for (which, act) in row.acts {
         match which {
-            Which::First => does(rt, &mut first, &mut second, *act),
-            Which::Second => does(rt, &mut second, &mut first, *act),
+            Which::First => does(rt, &mut first, &mut second.slice, *act),
+            Which::Second => does(rt, &mut second, &mut first.slice, *act),
             Which::Each => {
-                does(rt, &mut first, &mut second, *act);
-                does(rt, &mut second, &mut first, *act);
+                does(rt, &mut first, &mut second.slice, *act);
+                does(rt, &mut second, &mut first.slice, *act);
             }
         }
     }
@@ -310,16 +334,21 @@ fn plays<'p, R: Abort>(
     Ok(())
 }
 
-fn holds<R: Abort>(rt: &R, alloc: Global, row: &Row) -> Result<(), Fail> {
-    let one = accepted(alloc, row.texts.0)?;
-    let other = accepted(alloc, row.texts.1)?;
-    plays(rt, alloc, row, &one, &other)
+#[test]
+fn a_book_answers_and_records(rt: HostRuntime) -> Result<(), Fail> {
+    for row in &ALONE {
+        let verified = accepted(rt.alloc(), row.text)?;
+        plays_alone(&rt, rt.alloc(), row, &verified)?;
+    }
+    Ok(())
 }
 
 #[test]
-fn books_answer_and_record(rt: HostRuntime) -> Result<(), Fail> {
-    for row in &ROWS {
-        holds(&rt, rt.alloc(), row)?;
+fn two_books_answer_and_record(rt: HostRuntime) -> Result<(), Fail> {
+    for row in &PAIRS {
+        let one = accepted(rt.alloc(), row.texts.0)?;
+        let other = accepted(rt.alloc(), row.texts.1)?;
+        plays(&rt, rt.alloc(), row, &one, &other)?;
     }
     Ok(())
 }
