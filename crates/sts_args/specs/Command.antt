@@ -2,15 +2,11 @@
 use Rattle.std.specs.Prelude.{true, codes, Some}
 use Rattle.clap.specs.Words.{App, Rule, Text, new_app, new_rule, with_rule, with_subcommand}
 
--- a word that has to be there
-abbrev pub word_rule : Text → Rule
-word_rule name = record (new_rule name) { required = true }
-
 abbrev pub file_rule : Rule
-file_rule = word_rule (codes "FILE")
+file_rule = record (new_rule (codes "FILE")) { required = true }
 
 abbrev pub trace_rule : Rule
-trace_rule = word_rule (codes "TRACE")
+trace_rule = record (new_rule (codes "TRACE")) { required = true }
 
 -- an option that takes one value
 abbrev pub option_rule : Text → Rule

@@ -1,38 +1,30 @@
 //! The commands that the program knows, in the form that `clap` takes.
 
 ghost use Rattle.std.specs.Prelude.{◌≡◌, IfOk, codes, false};
-ghost use Rattle.clap.specs.Words.{app_of, new_app, rule_of, with_rule};
+ghost use Rattle.clap.specs.Words.{app_of, new_app, rule_of, with_rule, with_subcommand};
 ghost use Rattle.clap.specs.declared.builder.Command.TheViews.{out-Command};
 ghost use Rattle.sts_args.specs.Command as def;
 
 use clap::{Arg, Command};
 use std::alloc::{AllocError, Global};
 
-/// A word that has to be there.
-fn word<'a>(alloc: Global, name: &'a str, help: &'a str) -> Arg<'a>
-    ensures rule { rule_of result ≡ def.word_rule name.entry.now }
-    ensures local { result.global ≡ false }
-{
-    Arg::new(alloc, name).required(true).help(help)
-}
-
 /// The text file that each command takes first.
 fn file<'a>(alloc: Global) -> Arg<'a>
     ensures rule { rule_of result ≡ def.file_rule }
     ensures local { result.global ≡ false }
 {
-    word(alloc, "FILE", "the text of a program")
+    Arg::new(alloc, "FILE")
+        .required(true)
+        .help("the text of a program")
 }
 
 fn trace<'a>(alloc: Global) -> Arg<'a>
     ensures rule { rule_of result ≡ def.trace_rule }
     ensures local { result.global ≡ false }
 {
-    word(
-        alloc,
-        "TRACE",
-        "a trace: lines `step N`, `interrupt N` and `expire N`",
-    )
+    Arg::new(alloc, "TRACE")
+        .required(true)
+        .help("a trace: lines `step N`, `interrupt N` and `expire N`")
 }
 
 /// An option that takes one value.
@@ -140,6 +132,32 @@ fn bare<'a>(alloc: Global) -> Command<'a>
         .subcommand_required(true)
 }
 
+/// Adds a command that takes one text file.
+fn with_file<'a>(
+    alloc: Global,
+    command: Command<'a>,
+    name: &'a str,
+    about: &'a str,
+) -> Result<Command<'a>, AllocError>
+    ensures { IfOk result (λ c. app_of c ≡ with_subcommand (app_of command.entry)
+        (with_rule (new_app name.entry.now) def.file_rule).top) }
+{
+    command.subcommand(on_file(alloc, name, about)?)
+}
+
+/// Adds a command that takes a text file and a trace.
+fn with_trace<'a>(
+    alloc: Global,
+    command: Command<'a>,
+    name: &'a str,
+    about: &'a str,
+) -> Result<Command<'a>, AllocError>
+    ensures { IfOk result (λ c. app_of c ≡ with_subcommand (app_of command.entry)
+        (with_rule (with_rule (new_app name.entry.now) def.file_rule) def.trace_rule).top) }
+{
+    command.subcommand(on_trace(alloc, name, about)?)
+}
+
 /// The whole program.
 ///
 /// # Errors
@@ -148,26 +166,29 @@ fn bare<'a>(alloc: Global) -> Command<'a>
 pub fn program<'a>(alloc: Global) -> Result<Command<'a>, AllocError>
     ensures { IfOk result (λ c. app_of c ≡ def.program) }
 {
-    bare(alloc)
-        .subcommand(on_file(
-            alloc,
-            "verify",
-            "Checks that no run can fault; prints budgets, or the refused instruction",
-        )?)?
-        .subcommand(on_file(
-            alloc,
-            "list",
-            "Prints the program as the assembler understands it",
-        )?)?
-        .subcommand(on_trace(
-            alloc,
-            "plain",
-            "Runs a trace and checks every instruction; prints the result and the steps",
-        )?)?
-        .subcommand(on_trace(
-            alloc,
-            "replay",
-            "Verifies, then runs a trace without checks; prints the same, or the refusal",
-        )?)?
-        .subcommand(run(alloc)?)
+    let command = with_file(
+        alloc,
+        bare(alloc),
+        "verify",
+        "Checks that no run can fault; prints budgets, or the refused instruction",
+    )?;
+    let command = with_file(
+        alloc,
+        command,
+        "list",
+        "Prints the program as the assembler understands it",
+    )?;
+    let command = with_trace(
+        alloc,
+        command,
+        "plain",
+        "Runs a trace and checks every instruction; prints the result and the steps",
+    )?;
+    let command = with_trace(
+        alloc,
+        command,
+        "replay",
+        "Verifies, then runs a trace without checks; prints the same, or the refusal",
+    )?;
+    command.subcommand(run(alloc)?)
 }
