@@ -71,7 +71,7 @@ pub struct Found {
 /// The ends that were found, each once, among `states` states. If `whole` is true, these are the
 /// ends of all schedules.
 #[derive(Drop)]
-pub struct Ends {
+pub struct EndsFound {
     pub found: Vec<Found>,
     pub states: usize,
     pub whole: bool,

@@ -4,7 +4,7 @@ ghost use Rattle.std.specs.Prelude.{◌≡◌, true, IfOk};
 ghost use Rattle.ends_plain.specs.Ends.{AreAll};
 ghost use Rattle.ends_plain.specs.Listed.{ends_of, AreEnds};
 
-use crate::config::{Config, Ends, Setting};
+use crate::config::{Config, EndsFound, Setting};
 use crate::ends::list;
 use ends_search::search::{Space, advance, begin};
 use std::alloc::{AllocError, Global};
@@ -81,14 +81,14 @@ impl Exploration {
     /// # Errors
     ///
     /// There is no memory.
-    pub fn ends(&self, alloc: Global) -> Result<Ends, AllocError>
+    pub fn ends(&self, alloc: Global) -> Result<EndsFound, AllocError>
         ensures sound { IfOk result (λ r. AreEnds self.now r.found.items) }
         ensures complete { IfOk result (λ r. r.whole ≡ true →
             AreAll self.now.program self.now.expiries self.now.interrupts
             (ends_of r.found.items)) }
     {
         let found = list(alloc, &self.setting, &self.space)?;
-        Ok(Ends {
+        Ok(EndsFound {
             found,
             states: self.space.origins.len(),
             whole: self.space.closed == self.space.origins.len(),

@@ -40,10 +40,5 @@ pub fn own_task(world: &World, program: &Program) -> Option<u32>
     ensures { result ≡ def.own_task program.now world.now }
 {
     let born = world.records().tasks_born() as u32;
-    for t in 0..born {
-        if has_own_step(world, program, t) {
-            return Some(t);
-        }
-    }
-    None
+    (0..born).find(|t| has_own_step(world, program, *t))
 }

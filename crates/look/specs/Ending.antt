@@ -20,7 +20,7 @@ use Rattle.look_run.specs.Output.{IsRunExplanation}
 use Rattle.look_lines.specs.View.{IsViewOf}
 use Rattle.look_lines.specs.declared.view.ViewOptions.{ViewOptions}
 use Rattle.look_views.specs.Views.{AreViewsOf}
-use Rattle.look_ends.specs.Listing.{IsOutcomeOf, Outcome}
+use Rattle.look_ends.specs.Listing.{IsListingOf, Listing}
 use Rattle.look.specs.Asked.{Asks, AsksForWords, IsMistaken}
 use Rattle.look.specs.declared.asked.Asked.{Asked}
 use Rattle.look.specs.declared.asked.Asked.TheVariants as asked
@@ -58,8 +58,8 @@ Spares same file (Some kept) = Differ (same kept.file.now file)
 
 -- what is printed of the ends of a text, or that memory or the trace's file failed
 pub data IsPrinted (ends : AskedEnds) (spares : Type 0) (text : List ℕ) (o : Output) : Type 0 where
-  listed : spares → (r : Outcome)
-      → IsOutcomeOf ends.wanted (option_map (λ k. k.number) ends.kept) text r → o ≡ r.output
+  listed : spares → (r : Listing)
+      → IsListingOf ends.wanted (option_map (λ k. k.number) ends.kept) text r → o ≡ r.output
       → IsPrinted ends spares text o
   without_file : (e : TakeError) → o ≡ failure_output e → IsPrinted ends spares text o
 

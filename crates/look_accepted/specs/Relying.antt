@@ -1,6 +1,7 @@
 -- The rules that JDK 25 doesn't share, and the instructions that rely on one (this project's own).
 use Rattle.std.specs.Prelude.{◌≡◌, ℕ, ◌+◌, ◌==◌, List, [], ◌∷◌, length, Bool, false, Option, Some}
 use Rattle.std.specs.Prelude.{None, nat_le, if◌then◌else◌}
+use Rattle.std.specs.Option.{option_and_then}
 use Rattle.sts_code.specs.Program.{Program, routine, instr_at}
 use Rattle.sts_code.specs.declared.instr.Instr.{Instr}
 use Rattle.sts_code.specs.declared.instr.Instr.TheVariants.{Fork, Join, Get, Except, Total}
@@ -26,8 +27,7 @@ second_in _ = None
 
 -- JDK 25 lets `join` be called once, even if it was interrupted (API `join()`)
 abbrev pub second_join : Option TypedScope → Option Reliance
-second_join None = None
-second_join (Some scope) = second_in scope.phase
+second_join scope = option_and_then (λ (s : TypedScope). second_in s.phase) scope
 
 -- ---- a read after a timeout
 
@@ -38,8 +38,7 @@ late_in _ = None
 -- JDK 25 gives the owner no value and no exception after a timeout, until it closes the scope (API
 -- `Subtask.get()`, `Subtask.exception()`)
 abbrev pub late_read : Option TypedScope → Option Reliance
-late_read None = None
-late_read (Some scope) = late_in scope.phase
+late_read scope = option_and_then (λ (s : TypedScope). late_in s.phase) scope
 
 abbrev pub late_subtask : TypeState → SlotKind → Option Reliance
 late_subtask s (Sub x known) = late_read (scope_in s.entries x)

@@ -1,5 +1,5 @@
 -- What is answered to a case (this project's own; docs/CASES.md has the schema).
-use Rattle.std.specs.Prelude.{◌≡◌, ℕ, true, false, List, [], ◌∷◌, Option, Some, None}
+use Rattle.std.specs.Prelude.{◌≡◌, ℕ, true, false, List, [], ◌∷◌, ◌++◌, Option, Some, None}
 use Rattle.std.specs.Prelude.{Result, Ok, Err, codes, option_map}
 use Rattle.serde_json.specs.Data.{Data, Items, null, boolean, string, array}
 use Rattle.serde_json.specs.View.{items_of}
@@ -147,38 +147,28 @@ run p text (plain.Fault kind task f pc) steps = object_of (
 abbrev pub version : Data
 version = count 1
 
+-- the fields of an answer, between the number of its case and the version
+abbrev pub answer_of : ℕ → List (List ℕ × Data) → Data
+answer_of n fields = object_of (
+    (codes "case", count n) ∷ (fields ++ ((codes "version", version) ∷ [])))
+
 -- a line that says no case
 abbrev pub no_case : ℕ → Data
-no_case n = object_of (
-    (codes "case", count n) ∷
-    (codes "error", string (codes "no case")) ∷
-    (codes "version", version) ∷ [])
+no_case n = answer_of n ((codes "error", string (codes "no case")) ∷ [])
 
 abbrev pub faulty_text : ℕ → Data → Data
-faulty_text n fault = object_of (
-    (codes "case", count n) ∷
-    (codes "text_fault", fault) ∷
-    (codes "version", version) ∷ [])
+faulty_text n fault = answer_of n ((codes "text_fault", fault) ∷ [])
 
 abbrev pub judged_only : ℕ → Data → Data
-judged_only n verdict = object_of (
-    (codes "case", count n) ∷
-    (codes "verdict", verdict) ∷
-    (codes "version", version) ∷ [])
+judged_only n verdict = answer_of n ((codes "verdict", verdict) ∷ [])
 
 abbrev pub faulty_trace : ℕ → Data → Data → Data
-faulty_trace n fault verdict = object_of (
-    (codes "case", count n) ∷
-    (codes "trace_fault", fault) ∷
-    (codes "verdict", verdict) ∷
-    (codes "version", version) ∷ [])
+faulty_trace n fault verdict =
+    answer_of n ((codes "trace_fault", fault) ∷ (codes "verdict", verdict) ∷ [])
 
 abbrev pub judged_and_run : ℕ → Data → Data → Data
-judged_and_run n state verdict = object_of (
-    (codes "case", count n) ∷
-    (codes "run", state) ∷
-    (codes "verdict", verdict) ∷
-    (codes "version", version) ∷ [])
+judged_and_run n state verdict =
+    answer_of n ((codes "run", state) ∷ (codes "verdict", verdict) ∷ [])
 
 abbrev pub read_answer : ℕ → Program → List ℕ → Result (List Event) TraceError → Data → Data
 read_answer n p text (Ok events) verdict =

@@ -10,7 +10,7 @@ ghost use Rattle.sts_asm.specs.Fault.{FailsAt};
 ghost use Rattle.sts_asm.specs.declared.fault.AsmError.{AsmError};
 ghost use Rattle.sts_trace.specs.Reading.{trace_read};
 ghost use Rattle.look_cases.specs.Answer as def;
-ghost use Rattle.look_cases.specs.Case.{seen};
+ghost use Rattle.look_cases.specs.Case.{Case as AnyCase, seen};
 
 use crate::faults::{text_fault, trace_fault};
 use crate::reading::Case;
@@ -22,9 +22,9 @@ use std::alloc::{AllocError, Global};
 use sts_asm::{AsmError, assemble};
 use sts_code::Program;
 use sts_model::Event;
-use sts_rules::Cause;
+use sts_output::{Refusal, judge};
 use sts_trace::read_trace;
-use sts_verify::{Verified, VerifyError, verify};
+use sts_verify::Verified;
 
 /// The version of the answers.
 const VERSION: u64 = 1;
@@ -99,17 +99,15 @@ fn of_accepted(
 fn of_refused(
     alloc: Global,
     number: u64,
-    program: &Program,
-    function: u32,
-    pc: u32,
-    cause: Cause,
+    refusal: &Refusal,
     case: Case<'_>,
 ) -> Result<Value, AllocError>
-    requires { IsRefusal program.now function pc cause }
-    ensures { IfOk result (λ v. def.Answers number (seen case.entry) (Ok program.now) (view v)) }
+    requires { IsRefusal refusal.now.program refusal.now.function refusal.now.pc refusal.now.cause }
+    ensures { IfOk result (λ v. def.Answers number (seen case.entry) (Ok refusal.now.program)
+        (view v)) }
 {
-    let verdict = refused(alloc, program, case.text, function, pc, cause)?;
-    of_program(alloc, number, program, case, verdict)
+    let verdict = refused(alloc, case.text, refusal)?;
+    of_program(alloc, number, &refusal.program, case, verdict)
 }
 
 /// Returns the answer of a text that spells a program.
@@ -121,29 +119,16 @@ fn judged_program(
 ) -> Result<Value, AllocError>
     ensures { IfOk result (λ v. def.Answers number (seen case.entry) (Ok program) (view v)) }
 {
-    match verify(alloc, program) {
+    match judge(alloc, program)? {
         Ok(verified) => of_accepted(alloc, number, &verified, case),
-        Err(VerifyError::Memory(_)) => Err(AllocError),
-        Err(
-            VerifyError::Refused {
-                program,
-                function,
-                pc,
-                cause,
-            },
-        ) => of_refused(alloc, number, &program, function, pc, cause, case),
+        Err(refusal) => of_refused(alloc, number, &refusal, case),
     }
 }
 
 /// Returns the answer of a text with a fault.
-fn faulty_text(
-    alloc: Global,
-    number: u64,
-    error: AsmError,
-    case: Case<'_>,
-) -> Result<Value, AllocError>
-    ensures { (read : Result AnyProgram AsmError) → FailsAt error error.kind read
-        → IfOk result (λ v. def.Answers number (seen case.entry) read (view v)) }
+fn faulty_text(alloc: Global, number: u64, error: AsmError) -> Result<Value, AllocError>
+    ensures { (c : AnyCase) (read : Result AnyProgram AsmError) → FailsAt error error.kind read
+        → IfOk result (λ v. def.Answers number c read (view v)) }
 {
     let fault = text_fault(alloc, error)?;
     json!(in alloc; {"case": number, "text_fault": fault, "version": VERSION})
@@ -168,6 +153,6 @@ pub fn answer(alloc: Global, number: u64, case: Option<Case<'_>>) -> Result<Valu
     };
     match assemble(alloc, case.text) {
         Ok(program) => judged_program(alloc, number, program, case),
-        Err(error) => faulty_text(alloc, number, error, case),
+        Err(error) => faulty_text(alloc, number, error),
     }
 }

@@ -15,16 +15,11 @@ use Rattle.look_text.specs.Lines.{place_words}
 
 -- ---- an end
 
--- `task 1 in kid, line 3: close s0`, the words as they are in the text
-abbrev pub task_place : Program → Outline → ℕ → ℕ → ℕ → List ℕ
-task_place p o t f pc =
-    codes "task " ++ decimal t ++ codes " in " ++ (routine p f).name
-    ++ place_words (sentence_at o f pc)
-
--- `fault Structure, task 1 in kid, line 3: close s0`
+-- `fault Structure, task 1 in kid, line 3: close s0`, the last words as they are in the text
 abbrev pub fault_words : Program → Outline → Fault → ℕ → ℕ → ℕ → List ℕ
 fault_words p o kind t f pc =
-    codes "fault " ++ fault_word kind ++ codes ", " ++ task_place p o t f pc ++ codes "\n"
+    codes "fault " ++ fault_word kind ++ codes ", task " ++ decimal t ++ codes " in "
+    ++ (routine p f).name ++ place_words (sentence_at o f pc) ++ codes "\n"
 
 -- `success V`, `failed C` or a fault
 abbrev pub end_words : Program → Outline → PlainState → List ℕ

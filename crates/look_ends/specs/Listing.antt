@@ -25,12 +25,12 @@ use Rattle.look_ends.specs.declared.wanted.EndsOptions.{EndsOptions}
 -- ---- what is printed
 
 -- what is printed, and the events of the trace that is kept
-pub record Outcome : Type 0 where
+pub record Listing : Type 0 where
   pub output : Output
   pub trace : List Event
 
 -- this output, and no trace
-abbrev pub alone : Output → Outcome
+abbrev pub alone : Output → Listing
 alone o = record { output = o; trace = [] }
 
 abbrev pub events_of : Option Found → List Event
@@ -47,8 +47,8 @@ abbrev pub status_of : Bool → Option ℕ → List Found → ℕ
 status_of whole number found = if whole && has_number number found then 0 else 5
 
 -- a line for each end, then what is to be said of all of them
-abbrev pub searched_outcome : Program → Outline → Bool → Option ℕ → List Found → ℕ → Bool → Outcome
-searched_outcome p o is_refused number found states whole = record {
+abbrev pub searched_listing : Program → Outline → Bool → Option ℕ → List Found → ℕ → Bool → Listing
+searched_listing p o is_refused number found states whole = record {
   output = record {
     bytes = found_lines p o found 0 ++ (refused_line is_refused whole found
         ++ (states_line whole states ++ no_number_line number found));
@@ -58,9 +58,9 @@ searched_outcome p o is_refused number found states whole = record {
 }
 
 -- what is printed of random schedules, with the number of times that each end came
-abbrev pub sampled_outcome : Program → Outline → ℕ → ℕ → Option ℕ → List Found → List ℕ → ℕ
-    → Outcome
-sampled_outcome p o schedules seed number found times unfinished = record {
+abbrev pub sampled_listing : Program → Outline → ℕ → ℕ → Option ℕ → List Found → List ℕ → ℕ
+    → Listing
+sampled_listing p o schedules seed number found times unfinished = record {
   output = record {
     bytes = sampled_lines p o found times schedules 0 ++ (unfinished_line unfinished
         ++ (schedules_line schedules seed ++ no_number_line number found));
@@ -89,7 +89,7 @@ IsVerdict p false = IsAccepted p
 -- a listing of ends that were searched for: each of them is one, after the trace that comes with
 -- it. If it says that it is of all schedules, each end that a list of allowed events leads to is
 -- there, however long the list is.
-pub record IsSearch (g : Setting) (o : Outline) (number : Option ℕ) (r : Outcome) : Type 0 where
+pub record IsSearch (g : Setting) (o : Outline) (number : Option ℕ) (r : Listing) : Type 0 where
   pub found : List Found
   pub states : ℕ
   pub whole : Bool
@@ -97,37 +97,37 @@ pub record IsSearch (g : Setting) (o : Outline) (number : Option ℕ) (r : Outco
   pub sound : AreEnds g found
   pub complete : whole ≡ true → AreAll g.program g.expiries g.interrupts (ends_of found)
   pub verdict : IsVerdict g.program is_refused
-  pub printed : r ≡ searched_outcome g.program o is_refused number found states whole
+  pub printed : r ≡ searched_listing g.program o is_refused number found states whole
 
 -- a listing of the ends of random schedules: each of them is one, after the trace that comes with
 -- it
 pub record IsSampling (g : Setting) (o : Outline) (schedules seed : ℕ) (number : Option ℕ)
-    (r : Outcome) : Type 0 where
+    (r : Listing) : Type 0 where
   pub found : List Found
   pub times : List ℕ
   pub unfinished : ℕ
   pub sound : AreEnds g found
-  pub printed : r ≡ sampled_outcome g.program o schedules seed number found times unfinished
+  pub printed : r ≡ sampled_listing g.program o schedules seed number found times unfinished
 
-abbrev pub ListsBy : Manner → Setting → Outline → Option ℕ → Outcome → Type 0
+abbrev pub ListsBy : Manner → Setting → Outline → Option ℕ → Listing → Type 0
 ListsBy (manner.All most) g o number r = IsSearch g o number r
 ListsBy (manner.Sample schedules seed) g o number r = IsSampling g o schedules seed number r
 
 -- ---- of a text
 
 -- the ends of the program, or the fault of a text that is none
-abbrev pub Lists : Result Program AsmError → List ℕ → EndsOptions → Option ℕ → Outcome → Type 0
+abbrev pub Lists : Result Program AsmError → List ℕ → EndsOptions → Option ℕ → Listing → Type 0
 Lists (Ok p) text wanted number r =
     (o : Outline) × ((outlined text ≡ Ok o) × ListsBy wanted.manner (setting p wanted) o number r)
 Lists (Err e) text wanted number r = r ≡ alone (fault_output e text)
 
 -- the same, or that memory was refused
-abbrev pub IsOutcomeOf : EndsOptions → Option ℕ → List ℕ → Outcome → Type 0
-IsOutcomeOf wanted number text r =
+abbrev pub IsListingOf : EndsOptions → Option ℕ → List ℕ → Listing → Type 0
+IsListingOf wanted number text r =
     Lists (judged text) text wanted number r ⊎ (r ≡ alone memory_output)
 
 -- ---- what is written
 
 -- the trace that is kept is written to its file, and the output to the stream
-abbrev pub ListingWrites : Written → ℕ → Outcome → Type 0
+abbrev pub ListingWrites : Written → ℕ → Listing → Type 0
 ListingWrites w status r = WritesBoth w status r.trace r.output

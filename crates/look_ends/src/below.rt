@@ -120,23 +120,6 @@ pub(crate) fn has_number(number: Option<u32>, found: &[Found]) -> bool
     }
 }
 
-/// Says that no end has this number, if none has.
-fn say_unless_there(
-    alloc: Global,
-    out: &mut Vec<u8>,
-    number: u32,
-    found: &[Found],
-) -> Result<(), AllocError>
-    ensures { OnOk result (out.new.items ≡ out.old.items
-        ++ def.unless_there number found.now) }
-{
-    if is_number(found, number) {
-        return Ok(());
-    }
-    let line = format!(in alloc; "no end has number {number}\n")?;
-    say(out, line.as_str())
-}
-
 /// Says that no end has the number that is asked for, if none has.
 pub(crate) fn say_no_number(
     alloc: Global,
@@ -146,8 +129,12 @@ pub(crate) fn say_no_number(
 ) -> Result<(), AllocError>
     ensures { OnOk result (out.new.items ≡ out.old.items ++ def.no_number_line number found.now) }
 {
-    match number {
-        None => Ok(()),
-        Some(k) => say_unless_there(alloc, out, k, found),
+    let Some(k) = number else {
+        return Ok(());
+    };
+    if is_number(found, k) {
+        return Ok(());
     }
+    let line = format!(in alloc; "no end has number {k}\n")?;
+    say(out, line.as_str())
 }

@@ -21,24 +21,6 @@ pub(crate) struct Told<'p, 'o, 't> {
     pub(crate) outline: &'o Outline<'t>,
 }
 
-/// `task T in NAME, line L: WORDS`
-fn say_task(
-    alloc: Global,
-    out: &mut Vec<u8>,
-    told: Told<'_, '_, '_>,
-    task: u32,
-    function: u32,
-    pc: u32,
-) -> Result<(), AllocError>
-    ensures { OnOk result (out.new.items ≡ out.old.items
-        ++ def.task_place told.entry.program.now told.entry.outline.now task function pc) }
-{
-    let name = name_of(told.program, function);
-    let head = format!(in alloc; "task {task} in {name}")?;
-    say(out, head.as_str())?;
-    say_place(alloc, out, told.outline.sentence(function, pc))
-}
-
 /// `fault KIND, task T in NAME, line L: WORDS`
 fn say_fault(
     alloc: Global,
@@ -52,10 +34,11 @@ fn say_fault(
     ensures { OnOk result (out.new.items ≡ out.old.items
         ++ def.fault_words told.entry.program.now told.entry.outline.now kind task function pc) }
 {
-    say(out, "fault ")?;
-    say(out, printed::fault_word(kind))?;
-    say(out, ", ")?;
-    say_task(alloc, out, told, task, function, pc)?;
+    let word = printed::fault_word(kind);
+    let name = name_of(told.program, function);
+    let head = format!(in alloc; "fault {word}, task {task} in {name}")?;
+    say(out, head.as_str())?;
+    say_place(alloc, out, told.outline.sentence(function, pc))?;
     say(out, "\n")
 }
 
@@ -116,24 +99,7 @@ fn say_head(alloc: Global, out: &mut Vec<u8>, place: usize, one: &Found) -> Resu
     say(out, " events")
 }
 
-/// `K after N events: END`
-fn say_found(
-    alloc: Global,
-    out: &mut Vec<u8>,
-    told: Told<'_, '_, '_>,
-    place: usize,
-    one: &Found,
-) -> Result<(), AllocError>
-    requires { place + 1 < 2 ^ 64 }
-    ensures { OnOk result (out.new.items ≡ out.old.items
-        ++ def.found_line told.entry.program.now told.entry.outline.now place one.now) }
-{
-    say_head(alloc, out, place, one)?;
-    say(out, ": ")?;
-    say_end(alloc, out, told, one.end)
-}
-
-/// The lines of the ends, numbered from 1.
+/// The lines of the ends, numbered from 1: `K after N events: END`.
 ///
 /// # Errors
 ///
@@ -148,7 +114,9 @@ pub(crate) fn say_all(
         ++ def.found_lines told.entry.program.now told.entry.outline.now found.now 0) }
 {
     for k in 0..found.len() {
-        say_found(alloc, out, told, k, &found[k])?;
+        say_head(alloc, out, k, &found[k])?;
+        say(out, ": ")?;
+        say_end(alloc, out, told, found[k].end)?;
     }
     Ok(())
 }

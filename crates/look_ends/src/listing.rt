@@ -13,7 +13,7 @@ use crate::lines::{Told, say_all, say_shares};
 use crate::progress::Progress;
 use crate::verdict::{Judged, verdict};
 use crate::wanted::{EndsOptions, Manner};
-use ends_plain::config::{Ends, Found, Setting};
+use ends_plain::config::{EndsFound, Found, Setting};
 use ends_plain::sample::{Sample, Sampling, sample_ends};
 use look_refusal::{Explanation, text_fault};
 use std::alloc::{AllocError, Global};
@@ -36,9 +36,9 @@ pub struct Listing {
 }
 
 impl Model for Listing {
-    ghost use Rattle.look_ends.specs.Listing.{Outcome};
+    ghost use Rattle.look_ends.specs.Listing.{Listing};
 
-    ghost Value = { Outcome };
+    ghost Value = { Listing };
 
     ghost view = { λ l. record { output = l.output; trace = l.trace.items } };
 }
@@ -69,10 +69,11 @@ fn searched(
     told: Told<'_, '_, '_>,
     is_refused: bool,
     number: Option<u32>,
-    ends: &Ends,
+    ends: &EndsFound,
 ) -> Result<Listing, AllocError>
-    ensures { IfOk result (λ l. l ≡ def.searched_outcome told.entry.program.now
-        told.entry.outline.now is_refused number ends.now.found.items ends.now.states ends.now.whole) }
+    ensures { IfOk result (λ l. l ≡ def.searched_listing told.entry.program.now
+        told.entry.outline.now is_refused number ends.now.found.items ends.now.states
+        ends.now.whole) }
 {
     let found = ends.found.as_slice();
     let mut bytes = Vec::new(alloc);
@@ -100,7 +101,7 @@ fn sampled(
     number: Option<u32>,
     sample: &Sample,
 ) -> Result<Listing, AllocError>
-    ensures { IfOk result (λ l. l ≡ def.sampled_outcome told.entry.program.now
+    ensures { IfOk result (λ l. l ≡ def.sampled_listing told.entry.program.now
         told.entry.outline.now schedules seed number sample.now.found.items sample.now.times.items
         sample.now.unfinished) }
 {

@@ -30,7 +30,7 @@ pub fn write_ends<P: Progress, W: Write>(
     progress: &mut P,
     out: &mut W,
 ) -> Result<u8, WriteFailed>
-    ensures { IfOk result (λ s. (o : def.Outcome) × def.IsOutcomeOf wanted None text.now o
+    ensures { IfOk result (λ s. (o : def.Listing) × def.IsListingOf wanted None text.now o
         × cli.Writes (W.contents out.old) (W.contents out.new) s o.output) }
 {
     match listed(alloc, wanted, None, text, progress) {
@@ -65,7 +65,7 @@ pub fn write_ends_and_trace<P: Progress, T: Write, W: Write>(
     out: &mut W,
     unwritten: &mut Option<io::Error>,
 ) -> Result<u8, WriteFailed>
-    ensures { IfOk result (λ s. (o : def.Outcome) × def.IsOutcomeOf wanted (Some number) text.now o
+    ensures { IfOk result (λ s. (o : def.Listing) × def.IsListingOf wanted (Some number) text.now o
         × def.ListingWrites (record {
           trace_old = T.contents trace.old;
           trace_new = T.contents trace.new;

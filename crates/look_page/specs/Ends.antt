@@ -2,7 +2,7 @@
 use Rattle.std.specs.Prelude.{◌≡◌, ℕ, List, true, None, Some}
 use Rattle.sts_output.specs.Output.{Output}
 use Rattle.sts_trace.specs.Spelling.{trace_text}
-use Rattle.look_ends.specs.Listing.{IsOutcomeOf, Outcome}
+use Rattle.look_ends.specs.Listing.{IsListingOf, Listing}
 use Rattle.look_ends.specs.declared.wanted.Manner.TheVariants.{All}
 use Rattle.look_ends.specs.declared.wanted.EndsOptions.{EndsOptions}
 use Rattle.look_page.specs.Handed.{IsHanded, Received}
@@ -13,12 +13,12 @@ ends_wanted most = record { expiries = true; interrupts = 0; manner = All most }
 
 -- what it prints
 abbrev pub IsListing : ℕ → List ℕ → Output → Type 0
-IsListing most text o = (r : Outcome) × IsOutcomeOf (ends_wanted most) None text r × (o ≡ r.output)
+IsListing most text o = (r : Listing) × IsListingOf (ends_wanted most) None text r × (o ≡ r.output)
 
--- one room gets the lines that `look ends --most N --trace K` prints, and another one the trace that
--- it writes: both are of one outcome
+-- one room gets the lines that `look ends --most N --trace K` prints, and another one the trace
+-- that it writes: both are of one listing
 pub record HandsEnds (most number : ℕ) (text : List ℕ) (lines trace : Received) : Type 0 where
-  pub outcome : Outcome
-  pub found : IsOutcomeOf (ends_wanted most) (Some number) text outcome
-  pub printed : IsHanded outcome.output.bytes outcome.output.status lines
-  pub written : IsHanded (trace_text outcome.trace) outcome.output.status trace
+  pub listing : Listing
+  pub found : IsListingOf (ends_wanted most) (Some number) text listing
+  pub printed : IsHanded listing.output.bytes listing.output.status lines
+  pub written : IsHanded (trace_text listing.trace) listing.output.status trace

@@ -2,7 +2,7 @@
 
 ghost use Rattle.std.specs.Prelude.{◌≡◌, IfOk, Some};
 ghost use Rattle.sts_trace.specs.Spelling.{trace_text};
-ghost use Rattle.look_ends.specs.Listing.{IsOutcomeOf, Outcome};
+ghost use Rattle.look_ends.specs.Listing.{IsListingOf, Listing};
 ghost use Rattle.look_page.specs.Ends.{ends_wanted};
 
 use look_ends::{EndsOptions, Listing, Manner, Silent, listed};
@@ -56,7 +56,8 @@ pub(crate) fn traced(
     number: u32,
     text: &[u8],
 ) -> Result<Ending, AllocError>
-    ensures { IfOk result (λ e. (r : Outcome) × IsOutcomeOf (ends_wanted most) (Some number) text.now r
+    ensures { IfOk result (λ e. (r : Listing)
+        × IsListingOf (ends_wanted most) (Some number) text.now r
         × (e.printed.items ≡ r.output.bytes) × (e.status ≡ r.output.status)
         × (e.trace.items ≡ trace_text r.trace)) }
 {

@@ -4,7 +4,7 @@ use Rattle.std.proofs.Common.{length, drop, get_or}
 use Rattle.std.specs.Prelude.{option_map, if◌then◌else◌, is_some, IfSome, slice_get, codes, ◌≤◌}
 use Rattle.std.specs.Option.{option_or}
 use Rattle.std.proofs.lemmas.List.{drop_more}
-use Rattle.std.proofs.lemmas.Option.{slice_get_cases, get_or_from_slice_get}
+use Rattle.std.proofs.lemmas.Option.{slice_get_cases}
 use Rattle.sts_asm.specs.Line.{mnemonic_of}
 use Rattle.sts_asm.specs.Marks.{Names}
 use Rattle.sts_asm.specs.Outline.{Sentence, Draft, Outline}
@@ -62,22 +62,15 @@ stops_at names lines i s small is left some =
 
 -- ---- functions
 
-none_past : {X : Type 0} (xs : List X) (n : ℕ) → slice_get xs n ≡ None → length xs ≤ n
-none_past {X} xs n e = by (slice_get_cases xs n).1
-  where
-    by : ((x : X) × (n < length xs) × (slice_get xs n ≡ Some x) × (get_or xs n x ≡ x)) ⊎ ((length xs ≤ n) × (slice_get xs n ≡ None)) → length xs ≤ n
-    by (inl h) = let no : None ≡ Some h.0 = sym e ∙ h.2 in cc
-    by (inr h) = h.0
-
 draft_at : (drafts : List Draft) (f : ℕ) → f < length drafts → (d : Draft) × ((slice_get drafts f ≡ Some d) × (drop f drafts ≡ d ∷ drop (f + 1) drafts))
-draft_at drafts f small = of_read (slice_get drafts f) refl
+draft_at drafts f small = by (slice_get_cases drafts f).1
   where
     both : {a b : ℕ} → a < b → b ≤ a → ⊥
     both less more = omega (arith, less, more)
 
-    of_read : (o : Option Draft) → slice_get drafts f ≡ o → (d : Draft) × ((slice_get drafts f ≡ Some d) × (drop f drafts ≡ d ∷ drop (f + 1) drafts))
-    of_read None e = absurd (both small (none_past drafts f e))
-    of_read (Some d) e = (d, (e, drop_more drafts f d small ∙ ap (λ (x : Draft). x ∷ drop (f + 1) drafts) (get_or_from_slice_get drafts f d d e)))
+    by : ((d : Draft) × (f < length drafts) × (slice_get drafts f ≡ Some d) × (get_or drafts f d ≡ d)) ⊎ ((length drafts ≤ f) × (slice_get drafts f ≡ None)) → (d : Draft) × ((slice_get drafts f ≡ Some d) × (drop f drafts ≡ d ∷ drop (f + 1) drafts))
+    by (inl h) = (h.0, (h.2, drop_more drafts f h.0 small ∙ ap (λ (x : Draft). x ∷ drop (f + 1) drafts) h.3))
+    by (inr h) = absurd (both small h.0)
 
 stop_of : (o : Outline) (f : ℕ) (d : Draft) → slice_get o.done f ≡ Some d → lines_stop (names_at o f) (sentences_of (slice_get o.done f)) ≡ lines_stop (record { labels = d.labels; functions = o.functions }) d.code
 stop_of o f d e = ap (λ (x : Option Draft). lines_stop (record { labels = labels_of x; functions = o.functions }) (sentences_of x)) e

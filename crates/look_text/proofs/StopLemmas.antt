@@ -14,6 +14,14 @@ use Rattle.look_text.specs.WrongWord.{Allows, IsWrong, wrong, missing, Stops}
 abbrev pub StopsFrom : {X : Type 0} → Expected → (List (List ℕ) → Result X AsmKind) → Type 0
 StopsFrom {X} s read = (kind : AsmKind) (words : List (List ℕ)) → read words ≡ Err kind → Stops read kind words (stop s words)
 
+-- reading fails after this word, whatever follows
+abbrev pub FailsAfter : {X : Type 0} → (List (List ℕ) → Result X AsmKind) → List ℕ → Type 0
+FailsAfter {X} read word = (kind : AsmKind) × ((more : List (List ℕ)) → read (word ∷ more) ≡ Err kind)
+
+-- after this word, which is expected, reading goes on by `next`, and stops where that is not as expected
+abbrev pub GoesOnAfter : {X : Type 0} → Expected → (List (List ℕ) → Result X AsmKind) → List ℕ → Type 0
+GoesOnAfter {X} s read word = (next : List (List ℕ) → Result X AsmKind) × (((more : List (List ℕ)) → read (word ∷ more) ≡ next more) × StopsFrom (after s word) next)
+
 pub same_kind : {X : Type 0} (a b : AsmKind) (r : Result X AsmKind) → r ≡ Err a → r ≡ Err b → a ≡ b
 same_kind a b r e f = cc
 
@@ -51,9 +59,7 @@ one_on {X} s read kind word words allowed bad good e = by (fits s word) refl
         wrong word words refl allowed (λ more. h.1 more ∙ ap (λ (k : AsmKind). Err k) same)
 
 pub one : {X : Type 0} (s : Expected) (read : List (List ℕ) → Result X AsmKind) → ((kind : AsmKind) → Allows read kind [])
-    → ((word : List ℕ) → fits s word ≡ false → (kind : AsmKind) × ((more : List (List ℕ)) → read (word ∷ more) ≡ Err kind))
-    → ((word : List ℕ) → fits s word ≡ true → (next : List (List ℕ) → Result X AsmKind) × (((more : List (List ℕ)) → read (word ∷ more) ≡ next more) × StopsFrom (after s word) next))
-    → StopsFrom s read
+    → ((word : List ℕ) → fits s word ≡ false → FailsAfter read word) → ((word : List ℕ) → fits s word ≡ true → GoesOnAfter s read word) → StopsFrom s read
 one s read allowed bad good kind [] e = missing refl (allowed kind)
 one s read allowed bad good kind (word ∷ words) e =
     one_on s read kind word words (allowed kind) (bad word) (λ q. let g = good word q in (g.0, (g.1.0, λ h. g.1.1 kind words h))) e
@@ -66,14 +72,14 @@ pub spelled : {A X : Type 0} (s : Expected) (f : List ℕ → Option A) (kind : 
     → StopsFrom s read
 spelled {A} {X} s f kind next read allowed same reads rest = one s read allowed bad good
   where
-    bad : (word : List ℕ) → fits s word ≡ false → (k : AsmKind) × ((more : List (List ℕ)) → read (word ∷ more) ≡ Err k)
+    bad : (word : List ℕ) → fits s word ≡ false → FailsAfter read word
     bad word q = let none : f word ≡ None = none_of (f word) (sym (same word) ∙ q) in (kind, λ more. reads word more ∙ rw none refl)
 
-    by : (word : List ℕ) (o : Option A) → f word ≡ o → fits s word ≡ true → (n : List (List ℕ) → Result X AsmKind) × (((more : List (List ℕ)) → read (word ∷ more) ≡ n more) × StopsFrom (after s word) n)
+    by : (word : List ℕ) (o : Option A) → f word ≡ o → fits s word ≡ true → GoesOnAfter s read word
     by word None h q = let no : false ≡ true = sym (ap (λ (o : Option A). is_some o) h) ∙ sym (same word) ∙ q in absurd (cc)
     by word (Some a) h q = (next a, ((λ more. reads word more ∙ rw h refl), rest word a))
 
-    good : (word : List ℕ) → fits s word ≡ true → (n : List (List ℕ) → Result X AsmKind) × (((more : List (List ℕ)) → read (word ∷ more) ≡ n more) × StopsFrom (after s word) n)
+    good : (word : List ℕ) → fits s word ≡ true → GoesOnAfter s read word
     good word q = by word (f word) refl q
 
 -- nothing more

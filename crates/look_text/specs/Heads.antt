@@ -6,10 +6,14 @@ use Rattle.sts_text.specs.Words.{lines}
 use Rattle.sts_asm.specs.Outline.{Outline}
 use Rattle.sts_asm.specs.Source.{outlined, name_at, words_of, words_at}
 
+-- is this the first of the words?
+abbrev pub begins_with : List (List ℕ) → List ℕ → Bool
+begins_with [] keyword = false
+begins_with (word ∷ rest) keyword = bytes_eq word keyword
+
 -- do these words begin a function?
 abbrev pub is_head : List (List ℕ) → Bool
-is_head [] = false
-is_head (word ∷ rest) = bytes_eq word (codes "func")
+is_head words = begins_with words (codes "func")
 
 -- the numbers of the lines that begin a function; the first of these lines has this number
 abbrev pub heads_from : ℕ → List (List ℕ) → List ℕ

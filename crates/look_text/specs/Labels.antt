@@ -7,6 +7,7 @@ use Rattle.sts_text.specs.Words.{lines}
 use Rattle.sts_asm.specs.Marks.{Mark}
 use Rattle.sts_asm.specs.Outline.{Sentence, Draft, Outline, label_of}
 use Rattle.sts_asm.specs.Source.{outlined, sentences_of, words_of}
+use Rattle.look_text.specs.Heads.{begins_with}
 
 -- is this the name?
 abbrev pub is_named : Option (List ℕ) → List ℕ → Bool
@@ -15,8 +16,7 @@ is_named (Some name) word = bytes_eq name word
 
 -- do these words end a function?
 abbrev pub is_end : List (List ℕ) → Bool
-is_end [] = false
-is_end (word ∷ rest) = bytes_eq word (codes "end")
+is_end words = begins_with words (codes "end")
 
 -- do they give this label?
 abbrev pub gives : List (List ℕ) → List ℕ → Bool

@@ -1,6 +1,6 @@
 -- What each fault of a text says, and what is expected at each place, in a sentence (this
 -- project's own).
-use Rattle.std.specs.Prelude.{ℕ, List, [], ◌∷◌, Bool, codes, Option, Some, None, is_some}
+use Rattle.std.specs.Prelude.{ℕ, List, [], ◌∷◌, Bool, true, codes, Option, Some, None, is_some}
 use Rattle.std.specs.Prelude.{if◌then◌else◌}
 use Rattle.std.specs.Str.{bytes_eq}
 use Rattle.sts_code.specs.declared.checking.CodeCause.{CodeCause}
@@ -16,24 +16,29 @@ use Rattle.look_text.specs.Wanted.{begins_line}
 use Rattle.look_text.specs.declared.wanted.Expected.{Expected}
 use Rattle.look_text.specs.declared.wanted.Expected.TheVariants as wanted
 
--- why functions are no program, C1 to C7; the sentence for a bad range is that of an instruction
-abbrev pub code_sentence : CodeCause → List ℕ
-code_sentence code.TooManyFunctions = codes "there are more than 64 functions"
-code_sentence code.TooLong = codes "the function has more than 4096 instructions"
-code_sentence code.BadTarget = codes "no instruction follows this label"
-code_sentence code.LaterFunction = codes "fork only a function that is written above this one"
-code_sentence code.NoMain = codes "the text must end with a function main 0, without needs"
-code_sentence code.BadRange = codes "a number here is out of its range"
-code_sentence code.DuplicateName = codes "an earlier function has the same name"
-
--- like `code_sentence`, and by the function: its arguments, if there is one, and whether it has the
+-- what is out of its range, by the function: its arguments, if there is one, and whether it has the
 -- instruction
-abbrev pub check_sentence : CodeCause → Option ℕ → Bool → List ℕ
-check_sentence code.BadRange args has_instr =
+abbrev pub range_sentence : Option ℕ → Bool → List ℕ
+range_sentence args has_instr =
     if takes_too_many args then codes "a function takes at most 8 arguments"
-    else (if has_instr then code_sentence code.BadRange
+    else (if has_instr then codes "a number here is out of its range"
     else codes "the function has no instruction: add ret or fail before its end")
-check_sentence cause args has_instr = code_sentence cause
+
+-- why functions are no program, C1 to C7
+abbrev pub check_sentence : CodeCause → Option ℕ → Bool → List ℕ
+check_sentence code.TooManyFunctions args has_instr = codes "there are more than 64 functions"
+check_sentence code.TooLong args has_instr = codes "the function has more than 4096 instructions"
+check_sentence code.BadTarget args has_instr = codes "no instruction follows this label"
+check_sentence code.LaterFunction args has_instr =
+    codes "fork only a function that is written above this one"
+check_sentence code.NoMain args has_instr =
+    codes "the text must end with a function main 0, without needs"
+check_sentence code.BadRange args has_instr = range_sentence args has_instr
+check_sentence code.DuplicateName args has_instr = codes "an earlier function has the same name"
+
+-- the sentence of an instruction, where the functions of the text were not read
+abbrev pub code_sentence : CodeCause → List ℕ
+code_sentence cause = check_sentence cause None true
 
 -- by the functions of a text, if they were read
 abbrev pub checked_sentence : Option Outline → CodeError → List ℕ

@@ -6,14 +6,21 @@ ghost use Rattle.look_text.specs.Heads as def;
 use sts_asm::words_at;
 use sts_text::{Words, cut_at_newline};
 
-fn is_head<'a>(words: Words<'a>) -> bool
-    ensures { result ≡ def.is_head words.entry }
+/// Is this the first of the words?
+pub(crate) fn begins_with<'a>(words: Words<'a>, keyword: &[u8]) -> bool
+    ensures { result ≡ def.begins_with words.entry keyword.now }
 {
     let mut words = words;
     match words.word() {
         None => false,
-        Some(word) => word == b"func".as_slice(),
+        Some(word) => word == keyword,
     }
+}
+
+fn is_head<'a>(words: Words<'a>) -> bool
+    ensures { result ≡ def.is_head words.entry }
+{
+    begins_with(words, b"func")
 }
 
 /// The number of functions to pass over after a line.

@@ -7,17 +7,14 @@ ghost use Rattle.sts_asm.specs.Source.{sentences_of};
 ghost use Rattle.sts_asm.specs.Outline.{label_of};
 ghost use Rattle.look_text.specs.Labels as def;
 
+use crate::heads::begins_with;
 use sts_asm::{Outline, Sentence, label_of, words_at};
 use sts_text::{Words, cut_at_newline};
 
 fn is_end<'a>(words: Words<'a>) -> bool
     ensures { result ≡ def.is_end words.entry }
 {
-    let mut words = words;
-    match words.word() {
-        None => false,
-        Some(word) => word == b"end".as_slice(),
-    }
+    begins_with(words, b"end")
 }
 
 fn is_label(word: &[u8], name: &[u8]) -> bool

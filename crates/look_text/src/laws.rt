@@ -1,9 +1,12 @@
-//! The laws of the lines that an explanation names: those of instructions, functions and labels.
+//! The laws of the lines that an explanation names: those of instructions, functions and labels. Two
+//! more laws are about the word that it names as the wrong one.
 
 ghost use Rattle.look_text.specs.Places.{LinesSayInstructions, FunctionsSayInstructions};
 ghost use Rattle.look_text.specs.Places.{LinesStandInText};
 ghost use Rattle.look_text.specs.Heads.{HeadsBeginFunctions};
 ghost use Rattle.look_text.specs.Labels.{BehindNamesNone};
+ghost use Rattle.look_text.specs.Names.{UnknownNamesStop};
+ghost use Rattle.look_text.specs.WrongWord.{OperandsStop};
 
 /// A law: each instruction of the program that a text spells has a line in the text. The words of
 /// that line spell the instruction, and a refusal names that line. The function itself does
@@ -34,4 +37,18 @@ pub fn heads_begin_functions()
 /// them. The function itself does nothing.
 pub fn labels_behind_name_no_instruction()
     ensures { BehindNamesNone }
+{}
+
+/// A law: the first word of a line that isn't what is expected there is the word where the
+/// assembler finds the fault of an operand. The words before it allow a line without this fault;
+/// with the word no line does. The function itself does nothing.
+pub fn operands_stop()
+    ensures { OperandsStop }
+{}
+
+/// A law: the first word of a text that names nothing is the word where the assembler finds an
+/// unknown name. The words before it allow a line without this fault; with the word no line does.
+/// The function itself does nothing.
+pub fn unknown_names_stop()
+    ensures { UnknownNamesStop }
 {}

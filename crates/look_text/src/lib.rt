@@ -2,8 +2,8 @@
 //!
 //! `lines` says where a fault of the text is and what is wrong, with the wrong word or byte in its
 //! place. `wanted` has what is expected at each place of a line. `names` finds a name that isn't in
-//! the text. The laws in `stops` say that the reported word is the one where the assembler's
-//! reading fails. Those in `laws` tie the lines to their instructions.
+//! the text. The laws in `laws` tie the lines to their instructions, and the reported word to the
+//! one where the assembler's reading fails.
 #![tactic(auto)]
 
 mod checks;
@@ -17,7 +17,6 @@ mod lines;
 pub mod names;
 mod near;
 mod sentences;
-pub mod stops;
 pub mod wanted;
 mod wrong;
 

@@ -14,9 +14,23 @@ use sts_asm::{AsmKind, Outline, words_at};
 use sts_code::{CodeCause, CodeError};
 use sts_text::Words;
 
-/// Why functions are no program, C1 to C7. The sentence for a bad range is that of an instruction.
-fn code_sentence(code: CodeCause) -> &'static str
-    ensures { result.now ≡ def.code_sentence code }
+/// What is out of its range, by the function: its arguments, if there is one, and whether it has
+/// the instruction.
+fn range_sentence(args: Option<u8>, has_instr: bool) -> &'static str
+    ensures { result.now ≡ def.range_sentence args has_instr }
+{
+    if takes_too_many(args) {
+        "a function takes at most 8 arguments"
+    } else if has_instr {
+        "a number here is out of its range"
+    } else {
+        "the function has no instruction: add ret or fail before its end"
+    }
+}
+
+/// Why functions are no program, C1 to C7.
+fn check_sentence(code: CodeCause, args: Option<u8>, has_instr: bool) -> &'static str
+    ensures { result.now ≡ def.check_sentence code args has_instr }
 {
     match code {
         CodeCause::TooManyFunctions => "there are more than 64 functions",
@@ -24,28 +38,16 @@ fn code_sentence(code: CodeCause) -> &'static str
         CodeCause::BadTarget => "no instruction follows this label",
         CodeCause::LaterFunction => "fork only a function that is written above this one",
         CodeCause::NoMain => "the text must end with a function main 0, without needs",
-        CodeCause::BadRange => "a number here is out of its range",
+        CodeCause::BadRange => range_sentence(args, has_instr),
         CodeCause::DuplicateName => "an earlier function has the same name",
     }
 }
 
-/// The sentence of a check, by its function: its arguments, if there is one, and whether it has the
-/// instruction.
-fn check_sentence(code: CodeCause, args: Option<u8>, has_instr: bool) -> &'static str
-    ensures { result.now ≡ def.check_sentence code args has_instr }
+/// The sentence of an instruction, where the functions of the text were not read.
+fn code_sentence(code: CodeCause) -> &'static str
+    ensures { result.now ≡ def.code_sentence code }
 {
-    match code {
-        CodeCause::BadRange => {
-            if takes_too_many(args) {
-                "a function takes at most 8 arguments"
-            } else if has_instr {
-                code_sentence(code)
-            } else {
-                "the function has no instruction: add ret or fail before its end"
-            }
-        }
-        _ => code_sentence(code),
-    }
+    check_sentence(code, None, true)
 }
 
 /// The sentence of a failed check, which depends on the functions of the text if they were read.
