@@ -10,7 +10,7 @@ ghost use Rattle.sts_asm.specs.Fault.{FailsAt};
 ghost use Rattle.sts_asm.specs.declared.fault.AsmError.{AsmError};
 ghost use Rattle.sts_trace.specs.Reading.{trace_read};
 ghost use Rattle.look_cases.specs.Answer as def;
-ghost use Rattle.look_cases.specs.Case.{Case as AnyCase, seen};
+ghost use Rattle.look_cases.specs.Case.{seen};
 
 use crate::faults::{text_fault, trace_fault};
 use crate::reading::Case;
@@ -126,9 +126,14 @@ fn judged_program(
 }
 
 /// Returns the answer of a text with a fault.
-fn faulty_text(alloc: Global, number: u64, error: AsmError) -> Result<Value, AllocError>
-    ensures { (c : AnyCase) (read : Result AnyProgram AsmError) → FailsAt error error.kind read
-        → IfOk result (λ v. def.Answers number c read (view v)) }
+fn faulty_text(
+    alloc: Global,
+    number: u64,
+    error: AsmError,
+    case: Case<'_>,
+) -> Result<Value, AllocError>
+    ensures { (read : Result AnyProgram AsmError) → FailsAt error error.kind read
+        → IfOk result (λ v. def.Answers number (seen case.entry) read (view v)) }
 {
     let fault = text_fault(alloc, error)?;
     json!(in alloc; {"case": number, "text_fault": fault, "version": VERSION})
@@ -153,6 +158,6 @@ pub fn answer(alloc: Global, number: u64, case: Option<Case<'_>>) -> Result<Valu
     };
     match assemble(alloc, case.text) {
         Ok(program) => judged_program(alloc, number, program, case),
-        Err(error) => faulty_text(alloc, number, error),
+        Err(error) => faulty_text(alloc, number, error, case),
     }
 }
