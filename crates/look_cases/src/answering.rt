@@ -22,9 +22,9 @@ use std::alloc::{AllocError, Global};
 use sts_asm::{AsmError, assemble};
 use sts_code::Program;
 use sts_model::Event;
-use sts_output::{Refusal, judge};
+use sts_rules::Cause;
 use sts_trace::read_trace;
-use sts_verify::Verified;
+use sts_verify::{Verified, VerifyError, verify};
 
 /// The version of the answers.
 const VERSION: u64 = 1;
@@ -99,15 +99,17 @@ fn of_accepted(
 fn of_refused(
     alloc: Global,
     number: u64,
-    refusal: &Refusal,
+    program: &Program,
+    function: u32,
+    pc: u32,
+    cause: Cause,
     case: Case<'_>,
 ) -> Result<Value, AllocError>
-    requires { IsRefusal refusal.now.program refusal.now.function refusal.now.pc refusal.now.cause }
-    ensures { IfOk result (λ v. def.Answers number (seen case.entry) (Ok refusal.now.program)
-        (view v)) }
+    requires { IsRefusal program.now function pc cause }
+    ensures { IfOk result (λ v. def.Answers number (seen case.entry) (Ok program.now) (view v)) }
 {
-    let verdict = refused(alloc, case.text, refusal)?;
-    of_program(alloc, number, &refusal.program, case, verdict)
+    let verdict = refused(alloc, program, case.text, function, pc, cause)?;
+    of_program(alloc, number, program, case, verdict)
 }
 
 /// Returns the answer of a text that spells a program.
@@ -119,9 +121,17 @@ fn judged_program(
 ) -> Result<Value, AllocError>
     ensures { IfOk result (λ v. def.Answers number (seen case.entry) (Ok program) (view v)) }
 {
-    match judge(alloc, program)? {
+    match verify(alloc, program) {
         Ok(verified) => of_accepted(alloc, number, &verified, case),
-        Err(refusal) => of_refused(alloc, number, &refusal, case),
+        Err(VerifyError::Memory(_)) => Err(AllocError),
+        Err(
+            VerifyError::Refused {
+                program,
+                function,
+                pc,
+                cause,
+            },
+        ) => of_refused(alloc, number, &program, function, pc, cause, case),
     }
 }
 

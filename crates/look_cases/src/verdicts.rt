@@ -2,6 +2,7 @@
 
 ghost use Rattle.std.specs.Prelude.{◌≡◌, ℕ, IfOk, List, length};
 ghost use Rattle.serde_json.specs.View.{view, items_view, items_of};
+ghost use Rattle.sts_rules.specs.Refusal.{IsRefusal};
 ghost use Rattle.sts_asm.specs.Source.{outlined as outlined_of};
 ghost use Rattle.look_cases.specs.Answer as def;
 
@@ -9,10 +10,9 @@ use crate::faults::count_or_null;
 use serde_json::{Value, json};
 use std::alloc::{AllocError, Global};
 use sts_asm::{AsmKind, outlined};
-use sts_code::{Function, name_of};
-use sts_output::Refusal;
+use sts_code::{Function, Program, name_of};
 use sts_output::verify::all_budgets;
-use sts_rules::Budgets;
+use sts_rules::{Budgets, Cause};
 use sts_verify::Verified;
 
 /// Returns the number of the line with an instruction, or null at the end of a function.
@@ -97,18 +97,24 @@ pub(crate) fn accepted(alloc: Global, verified: &Verified) -> Result<Value, Allo
 /// # Errors
 ///
 /// Memory was refused.
-pub(crate) fn refused(alloc: Global, text: &[u8], refusal: &Refusal) -> Result<Value, AllocError>
-    ensures { IfOk result (λ v. view v ≡ def.refused refusal.now.program text.now
-        refusal.now.function refusal.now.pc refusal.now.cause) }
+pub(crate) fn refused(
+    alloc: Global,
+    program: &Program,
+    text: &[u8],
+    function: u32,
+    pc: u32,
+    cause: Cause,
+) -> Result<Value, AllocError>
+    ensures { IfOk result (λ v. view v ≡ def.refused program.now text.now function pc cause) }
 {
-    let number = refusal.cause.number();
+    let number = cause.number();
     let cause = format!(in alloc; "V{number}")?;
-    let line = count_or_null(line_of(alloc, text, refusal.function, refusal.pc)?);
+    let line = count_or_null(line_of(alloc, text, function, pc)?);
     json!(in alloc; {
         "accepted": false,
         "cause": cause,
-        "function": name_of(&refusal.program, refusal.function),
+        "function": name_of(program, function),
         "line": line,
-        "place": refusal.pc
+        "place": pc
     })
 }

@@ -19,7 +19,6 @@ use Rattle.sts_plain.specs.declared.misstep.PlainState.{PlainState}
 use Rattle.sts_plain.specs.declared.misstep.PlainState.TheVariants as plain
 use Rattle.sts_trace.specs.Reading.{trace_read}
 use Rattle.sts_trace.specs.declared.error.TraceError.{TraceError}
-use Rattle.sts_output.specs.declared.refusal.Refusal.{Refusal}
 use Rattle.sts_output.specs.declared.mode.Mode.{Mode}
 use Rattle.sts_output.specs.declared.mode.Mode.TheVariants as mode
 use Rattle.sts_output.specs.declared.taking.TakeError.{TakeError}
@@ -89,11 +88,6 @@ list_output (Err e) = text_fault_output e
 
 abbrev pub refused_output : Program → ℕ → ℕ → Cause → Output
 refused_output p f pc c = record { bytes = refused_line p f pc c; status = 4 }
-
--- the program is this one, with the first place that has a cause, and the lowest-numbered cause
--- there
-abbrev pub IsRefusalOf : Program → Refusal → Type 0
-IsRefusalOf p r = (r.program ≡ p) × IsRefusal p r.function r.pc r.cause
 
 -- the output for a refused program: it names the first place with a cause, and the
 -- lowest-numbered cause there

@@ -32,7 +32,7 @@ pub use placeholders::placeholder;
 pub use printed::{state_line, steps_line};
 pub use process_words::{WordsError, words};
 pub use reasons::{Named, outside_reason, text_reason, trace_reason};
-pub use refusal::{Refusal, accepted, judge, verified_of};
+pub use refusal::{accepted, verified_of};
 pub use sinks::{Sinks, made};
 pub use sources::{Host, Sources, file};
 pub use taking::{TakeError, bytes_of, take};

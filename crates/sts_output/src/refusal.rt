@@ -1,4 +1,4 @@
-//! The refusal of a program, and its output.
+//! The output for the refusal of a program.
 
 ghost use Rattle.std.specs.Prelude.{◌≡◌, IfOk, MatchResult};
 ghost use Rattle.sts_output.specs.Output as def;
@@ -12,56 +12,17 @@ use sts_code::Program;
 use sts_rules::Cause;
 use sts_verify::{Verified, VerifyError, verify};
 
-/// A program that is refused, the place with a cause, and the cause.
-#[derive(Drop)]
-pub struct Refusal {
-    pub program: Program,
-    pub function: u32,
-    pub pc: u32,
-    pub cause: Cause,
-}
-
-/// Verifies a program, and returns it with its budgets or with its refusal.
-///
-/// # Errors
-///
-/// Memory ran out.
-pub fn judge(alloc: Global, program: Program) -> Result<Result<Verified, Refusal>, AllocError>
-    ensures { IfOk result (λ judged.
-        MatchResult judged (λ verified. verified ≡ program) (def.IsRefusalOf program)) }
-{
-    match verify(alloc, program) {
-        Ok(verified) => Ok(Ok(verified)),
-        Err(VerifyError::Memory(_)) => Err(AllocError),
-        Err(
-            VerifyError::Refused {
-                program,
-                function,
-                pc,
-                cause,
-            },
-        ) => Ok(Err(Refusal {
-            program,
-            function,
-            pc,
-            cause,
-        })),
-    }
-}
-
-fn refused(alloc: Global, refusal: &Refusal) -> Result<Output, AllocError>
-    ensures { IfOk result (λ o. o ≡ def.refused_output refusal.now.program refusal.now.function
-        refusal.now.pc refusal.now.cause) }
+fn refused(
+    alloc: Global,
+    program: &Program,
+    function: u32,
+    pc: u32,
+    cause: Cause,
+) -> Result<Output, AllocError>
+    ensures { IfOk result (λ o. o ≡ def.refused_output program.now function pc cause) }
 {
     let mut text = String::new(alloc);
-    printed::refused_line(
-        alloc,
-        &mut text,
-        &refusal.program,
-        refusal.function,
-        refusal.pc,
-        refusal.cause,
-    )?;
+    printed::refused_line(alloc, &mut text, program, function, pc, cause)?;
     Ok(Output { text, status: 4 })
 }
 
@@ -73,9 +34,17 @@ fn refused(alloc: Global, refusal: &Refusal) -> Result<Output, AllocError>
 pub fn verified_of(alloc: Global, program: Program) -> Result<Verified, ModeError>
     ensures { Gives result (λ verified. verified ≡ program) (def.IsRefused program) }
 {
-    match judge(alloc, program)? {
+    match verify(alloc, program) {
         Ok(verified) => Ok(verified),
-        Err(refusal) => Err(ModeError::Shown(refused(alloc, &refusal)?)),
+        Err(VerifyError::Memory(_)) => Err(ModeError::Memory),
+        Err(
+            VerifyError::Refused {
+                program,
+                function,
+                pc,
+                cause,
+            },
+        ) => Err(ModeError::Shown(refused(alloc, &program, function, pc, cause)?)),
     }
 }
 

@@ -8,11 +8,12 @@ use Rattle.look_cases.proofs.answering.judged_program.Goals as goal
 pub returns-in-Ok : goal.returns-in-Ok
 returns-in-Ok c =
     IfOk-weaker c.of_accepted.result _ _
-    (λ v h. subst (λ p. Answers c.args.number (seen c.args.case) (Ok p) (view v)) c.in-Ok.ensures h)
+    (λ v h. subst (λ p. Answers c.args.number (seen c.args.case) (Ok p) (view v)) c.in-Ok.ensures.0 h)
     c.of_accepted.ensures
 
-pub returns-in-Err : goal.returns-in-Err
-returns-in-Err c =
+pub returns : goal.returns
+returns c =
+    let told = rw c.in-Err-Refused.field-0-is at c.in-Err-Refused.ensures in
     IfOk-weaker c.of_refused.result _ _
-    (λ v h. subst (λ p. Answers c.args.number (seen c.args.case) (Ok p) (view v)) c.in-Err.ensures.0 h)
+    (λ v h. subst (λ p. Answers c.args.number (seen c.args.case) (Ok p) (view v)) told.0 h)
     c.of_refused.ensures

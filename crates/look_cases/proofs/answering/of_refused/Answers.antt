@@ -6,5 +6,5 @@ use Rattle.look_cases.proofs.answering.of_refused.Goals as goal
 pub returns : goal.returns
 returns c =
     IfOk-weaker c.of_program.result _ _
-    (λ v h. (view c.in_ok-verdict.verdict, refuses c.args.refusal.now.function c.args.refusal.now.pc c.args.refusal.now.cause c.requires c.in_ok-verdict.ensures, h))
+    (λ v h. (view c.in_ok-verdict.verdict, refuses c.args.function c.args.pc c.args.cause c.requires c.in_ok-verdict.ensures, h))
     c.of_program.ensures
