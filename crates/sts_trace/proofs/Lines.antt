@@ -1,5 +1,5 @@
 -- Reading line by line: the effect of one line on the result.
-use Rattle.std.proofs.Common.{◌≡◌, ℕ, ◌+◌, ◌<◌, ◌≤◌, true, false, cond, List, [], ◌∷◌, ◌++◌, length}
+use Rattle.std.proofs.Common.{◌≡◌, ℕ, ◌+◌, ◌<◌, true, false, cond, List, [], ◌∷◌, ◌++◌, length}
 use Rattle.std.proofs.Common.{arith, refl, sym, ap, append_assoc, append-nil}
 use Rattle.std.proofs.lemmas.Bool.Decides.{nat_tests}
 use Rattle.std.specs.Prelude.{◌==◌, Result, Ok, Err}
@@ -14,14 +14,6 @@ use Rattle.sts_trace.specs.Reading.{◌>>=◌, Fails, lines_read}
 abbrev pub with_front : {A : Type 0} → List A → Result (List A) TraceError → Result (List A) TraceError
 with_front front (Ok values) = Ok (front ++ values)
 with_front front (Err e) = Err e
-
--- the values so far, with those of the rest, are what the whole text says; each line has taken a
--- byte
-abbrev pub ReadsOn : {A : Type 0} → (ℕ → List ℕ → Result A TraceError) → List A → ℕ → List ℕ → List ℕ → Result (List A) TraceError → Type 0
-ReadsOn said values at rest text whole = record {
-  read : with_front values (lines_read said at (lines rest)) ≡ whole;
-  count : at + length rest ≤ length text + 1;
-}
 
 read_more : {A : Type 0} (said : ℕ → List ℕ → Result A TraceError) (at : ℕ) (line : List ℕ) (ps : List (List ℕ)) → HasPart ps → lines_read said at (line ∷ ps) ≡ (said at line >>= λ x. lines_read said (at + 1) ps >>= λ xs. Ok (x ∷ xs))
 unfolding lines_read
