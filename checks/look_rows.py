@@ -3,7 +3,8 @@
 
 The files `.rows` have the notation of the tables in crates/tests_rows/data, with these questions:
 - `? explain` asks for the explanation of the text above; `? explain TRACE` for that of its run;
-- `? view [--each] [--full] [--living] [--json] TRACE` and `? draw TRACE` ask for what these commands print, and `? ends OPTIONS` for the ends.
+- `? view [--each] [--full] [--living] [--json] TRACE` and `? draw [--events A..B] TRACE` ask for what these commands print, and
+  `? ends OPTIONS` for the ends.
 A TRACE is short (`0*5`), or `trace LINES`. A remark `# ---- GROUP` begins a group, and one above a text is the row's name.
 
 pictures.json has runs, and the picture of each. `sizes` are the width and the height of the picture and of its grid, and
@@ -57,7 +58,7 @@ def tables():
             elif rest.split()[:1] == ["ends"] and kind == "? ":
                 words, trace = rest.split(), None
             elif kind == "? ":
-                asked = re.fullmatch(r"(explain|view|draw)((?: --\w+)*)(?: (.*))?", rest)
+                asked = re.fullmatch(r"(explain|view|draw)((?: --\w+(?: \d+\.\.\d+)?)*)(?: (.*))?", rest)
                 words, trace = [asked[1], *asked[2].split()], None if asked[3] is None else rows.trace(asked[3], {})
             elif kind == "= ":
                 status, _, short = rest.partition(" ")

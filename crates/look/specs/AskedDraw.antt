@@ -1,5 +1,5 @@
 -- Which events `draw` is asked for (this project's own).
-use Rattle.std.specs.Prelude.{ℕ, Bool, ◌==◌, ◌&&◌, nat_le, drop, slice_index, Option, Some}
+use Rattle.std.specs.Prelude.{ℕ, Bool, List, ◌==◌, ◌&&◌, nat_le, drop, slice_index, Option, Some}
 use Rattle.std.specs.Prelude.{None, if◌then◌else◌, codes, option_map, option_and_then}
 use Rattle.std.specs.List.{after_first, before_first}
 use Rattle.clap.specs.Words.{Text, Row, first_of}

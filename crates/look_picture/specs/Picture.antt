@@ -79,9 +79,9 @@ columns_from p skipped done (e ∷ es) =
     (length done + 1) e (counts p (after p done) e)
     ++ columns_from p skipped (done ++ e ∷ []) es
 
--- the column before the first event that has one
+-- the column before the first event that has one; nothing changed there
 abbrev pub first_column : Watched → List ℕ
-first_column m = cells m.program m.last m.last (column 0)
+first_column m = standing m m (column 0) false (shown m.state)
 
 -- the column before the first event, and one after each; the first ones are skipped
 abbrev pub columns : Program → ℕ → List Event → List ℕ

@@ -20,10 +20,17 @@ shown_events (Some window) n = record {
 abbrev pub columns : Drawn → ℕ
 columns d = d.last - d.before
 
+-- one event is left out
+unfoldable pub one_left_out : ℕ → List ℕ
+one_left_out n = codes " (event " ++ (decimal n ++ codes " left out)\n")
+
 -- the events from one number to another are left out
-unfoldable pub left_out_words : ℕ → ℕ → List ℕ
-left_out_words first last =
+unfoldable pub some_left_out : ℕ → ℕ → List ℕ
+some_left_out first last =
     codes " (events " ++ (decimal first ++ (codes " to " ++ (decimal last ++ codes " left out)\n")))
+
+abbrev pub left_out_words : ℕ → ℕ → List ℕ
+left_out_words first last = if first == last then one_left_out first else some_left_out first last
 
 abbrev pub earlier_words : ℕ → List ℕ
 earlier_words before = if before == 0 then [] else left_out_words 1 before

@@ -192,8 +192,7 @@ fn first_column(out: &mut String, watch: &Watch<'_>) -> Result<(), AllocError>
     ensures { OnOk result (string_bytes out.new
         ≡ string_bytes out.old ++ def.first_column watch.now) }
 {
-    let world = watch.world();
-    cells(out, watch.program(), world, world, column(0))
+    standing(out, watch, watch, column(0), false)
 }
 
 /// Draws the column before the first event and one after each, but skips the first events. Answers

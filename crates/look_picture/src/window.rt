@@ -59,12 +59,31 @@ pub fn shown_events(window: Option<Window>, events: usize) -> Drawn
     }
 }
 
+/// Says that one event is left out.
+fn one_left_out(out: &mut String, n: usize) -> Result<(), AllocError>
+    ensures { OnOk result (string_bytes out.new
+        ≡ string_bytes out.old ++ def.one_left_out n) }
+{
+    writeln!(out, " (event {n} left out)")
+}
+
 /// Says that the events from one number to another are left out.
+fn some_left_out(out: &mut String, first: usize, last: usize) -> Result<(), AllocError>
+    ensures { OnOk result (string_bytes out.new
+        ≡ string_bytes out.old ++ def.some_left_out first last) }
+{
+    writeln!(out, " (events {first} to {last} left out)")
+}
+
 fn left_out_words(out: &mut String, first: usize, last: usize) -> Result<(), AllocError>
     ensures { OnOk result (string_bytes out.new
         ≡ string_bytes out.old ++ def.left_out_words first last) }
 {
-    writeln!(out, " (events {first} to {last} left out)")
+    if first == last {
+        one_left_out(out, first)
+    } else {
+        some_left_out(out, first, last)
+    }
 }
 
 /// Says that the first events are left out.
