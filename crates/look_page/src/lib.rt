@@ -103,7 +103,8 @@ pub extern "C" fn sts_view(
     out: &mut [u8],
     size: &mut usize,
 ) -> u8
-    ensures { Hands (IsViewOf (record { each = each; full = full; living = false }) text.now trace.now)
+    ensures { Hands
+        (IsViewOf (record { each = each; full = full; living = false }) text.now trace.now)
         (record { status = result; size = size.new; before = out.old; after = out.new }) }
 {
     shown(
