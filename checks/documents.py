@@ -32,7 +32,7 @@ It also reports:
 - an instruction that the table of the API in JDK.md lacks, or a word in its place that is none;
 - a picture that isn't what its script draws;
 - a crate that uses proofs of another one from a file that isn't called `*Lemmas`;
-- floors of ARCHITECTURE.md that don't fit crates.txt;
+- floors of ARCHITECTURE.md that don't fit crates.txt, or a page crates/README.md that has other crates or other floors;
 - help or a document that names another number of states for a search of ends than the programs have;
 - a file of `vectors` that isn't what the tables of rows make it (checks/vectors.py);
 - a decision of a crate's README.md that DECISIONS.md doesn't list;
@@ -52,7 +52,7 @@ from stack_code import OPERANDS
 
 ROOT = os.path.dirname(os.path.dirname(os.path.realpath(__file__)))
 FOLDER = "crates/tests_rows/data"
-DOCUMENTS = ["README.md", "CONTRIBUTING.md", "examples/README.md", "jdk/README.md", *(f"docs/{it}" for it in sorted(os.listdir(f"{ROOT}/docs")) if it.endswith(".md"))]
+DOCUMENTS = ["README.md", "CONTRIBUTING.md", "crates/README.md", "examples/README.md", "jdk/README.md", *(f"docs/{it}" for it in sorted(os.listdir(f"{ROOT}/docs")) if it.endswith(".md"))]
 PATTERN = re.compile(r"In \[(?:\w+)\]\(\.\./(examples/(?:patterns/)?\w+\.sts)\):")
 PART = 10  # lines of a longer program that a document shows
 STATUS = {"success": 0, "failed": 1, "error": 3, "refused": 4, "fault": 5, "running": 5}
@@ -310,12 +310,16 @@ def named_in(text):
 
 
 def floors():
-    """Fails if the table of floors doesn't have each crate once, or a crate uses one of a higher floor."""
+    """Fails if the table of floors or crates/README.md doesn't have each crate once, or a crate uses one of a higher floor."""
     table = re.search(r"^\| Floor \|.*?\n\n", read("docs/ARCHITECTURE.md"), re.M | re.S)[0]
-    rows = [named_in(line.strip("|").split("|")[1]) for line in table.splitlines()[2:] if line]
+    names, rows = zip(*((cells[0].strip(), named_in(cells[1])) for cells in (line.strip("|").split("|") for line in table.splitlines()[2:] if line)))
     floor = {it: number for number, row in enumerate(rows) for it in row}
     if sorted(it for row in rows for it in row) != sorted(crates()):
         fail(f"the table of floors doesn't have each crate once: {sorted(set(floor) ^ set(crates()))}")
+    shown = re.findall(r"^\| (\w.*?) \| \[`(\w+)`\]\((\w+)/README\.md\) \| ", read("crates/README.md"), re.M)
+    expected = [(names[number], it, it) for it, number in floor.items()]
+    if sorted(shown) != sorted(expected):
+        fail(f"crates/README.md doesn't have each crate once, with its floor: {sorted(set(shown) ^ set(expected))}")
     for name, others in crates().items():
         for it in others:
             if floor[it] > floor[name]:

@@ -18,9 +18,8 @@ import sys
 
 ROOT = os.path.dirname(os.path.dirname(os.path.realpath(__file__)))
 MOST = f"{ROOT}/checks/prose.most"
-CLEAN = ["*.md", "docs/*.md", "jdk/*.md", "examples/**/*.md", "examples/**/*.sts", "crates/*/README.md"]
-TREE = ["*.md", "docs/*.md", "jdk/*.md", "examples/**/*.md", "examples/**/*.sts", "crates/*/README.md", "crates/*/src/**/*.rt",
-        "crates/*/specs/**/*.antt", "crates/*/proofs/**/*.antt"]
+CLEAN = ["*.md", "docs/*.md", "jdk/*.md", "examples/**/*.md", "examples/**/*.sts", "crates/README.md", "crates/*/README.md"]
+TREE = [*CLEAN, "crates/*/src/**/*.rt", "crates/*/specs/**/*.antt", "crates/*/proofs/**/*.antt"]
 COMMENT = {".rt": r"\s*//[/!]?(?: |$)", ".antt": r"\s*--(?: |$)", ".sts": r"[^;]*;(?: |$)"}
 WORDS, LINES, WIDTH, CELL = 30, 6, 100, 200  # words a sentence; lines a paragraph; characters a line; characters a cell
 
