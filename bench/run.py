@@ -139,6 +139,7 @@ GROWING = [
     ("sts replay TRACE", ("loop", "fan_out")),
     ("sts run --workers 1", ("fan_out", "wide")),
     ("look view TRACE", ("row", "many_chains")),
+    ("look view TRACE --living", ("row",)),
     ("look view TRACE --each", ("turns",)),
     ("look explain", ("straight", "scopes", "unequal", "heavy")),
     ("look explain TRACE", ("row", "many_chains")),

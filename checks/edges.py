@@ -175,7 +175,9 @@ def words_of_look(look):
     first = "running\nsteps 0\ntask 0 under - in main at 0 ready\n"
     each = f"{first}after 1 step 0\n{last}"
     both = f"{first}  operands\n  locals\n  bound\nafter 1 step 0\n{full}"
-    for more, printed in ([], last), (["--full"], full), (["--each"], each), (["--each", "--full"], both):
+    none = "not shown: 0 tasks that don't live, 0 closed scopes\n"
+    living = [(["--living"], f"{last}{none}"), (["--living", "--full"], f"{full}{none}"), (["--each", "--living"], f"{first}{none}after 1 step 0\n{last}{none}")]
+    for more, printed in ([], last), (["--full"], full), (["--each"], each), (["--each", "--full"], both), *living:
         for words in (["view", "text", "trace", *more], ["view", *more, "text", "trace"], ["view", "text", *more, "trace"]):
             yield f"{words}", look.says(*words), (5, printed, "")
     for words in (["view", "text", "trace"], ["explain", "text", "trace"], ["draw", "text", "trace"], ["ends", "text"], ["cases", "text"]):
@@ -184,10 +186,33 @@ def words_of_look(look):
     yield from mistaken(look, [[], ["view", "text"], ["explain"], ["draw", "text"], ["view", "text", "trace", "--eech"], ["verify", "text"], [""]])
     ends = (["--most"], ["--most", "x"], ["--interrupts", "4294967296"], ["--trace", "1"], ["--trace", "x", "made"], ["trace"])
     yield from mistaken(look, [["ends"], ["cases"], *(["ends", "text", *it] for it in ends)])
+    yield from windows(look)
     yield "no trace is made", look.names(), ["text", "trace"]
     yield from helped(look, COMMANDS_OF_LOOK, is_printed=True)
     for words in (["--version"], ["-V"]):
         yield f"{words}", look.says(*words), (0, f"look {of_repository('VERSION')}", "")
+
+
+# Events that can't be drawn, and some that can, with the words of the title that say which of two are left out.
+NO_WINDOWS = ["", "1", "1..", "..2", "..", "1.2", "1...2", "1..2..3", "2..1", "0..1", "0..0", "1..0", "a..b", "1..b", "a..2", "-1..2", "+1..2", " 1..2",
+              "1 ..2", "1..2 ", "1-2", "1,2", "1..4294967296", "4294967296..4294967296", "1..18446744073709551617"]
+WINDOWS = [("1..2", ""), ("1..1", " (event 2 left out)\n"), ("2..2", " (event 1 left out)\n"), ("01..002", ""), ("2..4294967295", " (event 1 left out)\n"),
+           ("4294967295..4294967295", " (events 1 to 2 left out)\n"), ("3..3", " (events 1 to 2 left out)\n")]
+
+
+def windows(look):
+    """Tries events that `draw` is asked for."""
+    look.has(text=SEVEN, trace=TWICE)
+    for words in NO_WINDOWS:
+        told = look.names_all(["draw", "text", "trace", f"--events={words}"], ["`--events` takes A..B", "numbers from 1 to 4294967295"])
+        yield f"the events {words!r}", told, (2, "", [])
+    yield from mistaken(look, [["draw", "text", "trace", *it] for it in (["--events"], ["--events", "1..2", "--events", "1..2"], ["--events", "1", "2"])])
+    yield "events of `view`", look.names_all(["view", "text", "trace", "--events", "1..2"], ["'--events'", "Usage"]), (2, "", [])
+    for words, left_out in WINDOWS:
+        ended = (5, "running\n steps 1\n") if words == "1..1" else (0, "success 7\n steps 2\n")
+        for line in (["draw", "text", "trace", "--events", words], ["draw", f"--events={words}", "text", "trace"]):
+            status, printed, told = look.says(*line)
+            yield f"{line}", (status, printed.split("<title>")[1].split("</title>")[0], told), (ended[0], ended[1] + left_out, "")
 
 
 def mistaken(program, lines):

@@ -3,13 +3,16 @@
 
 The files `.rows` have the notation of the tables in crates/tests_rows/data, with these questions:
 - `? explain` asks for the explanation of the text above; `? explain TRACE` for that of its run;
-- `? view [--each] [--full] TRACE` and `? draw TRACE` ask for what these commands print, and `? ends OPTIONS` for the ends.
+- `? view [--each] [--full] [--living] [--json] TRACE` and `? draw [--events A..B] TRACE` ask for what these commands print, and
+  `? ends OPTIONS` for the ends.
 A TRACE is short (`0*5`), or `trace LINES`. A remark `# ---- GROUP` begins a group, and one above a text is the row's name.
 
 pictures.json has runs, and the picture of each. `sizes` are the width and the height of the picture and of its grid, and
 `foot` is where the legend begins. An element is `CLASS X Y WORDS` for a mark, `fork X FROM TO`, `number X N EVENT`,
-`idle X N EVENT`, or `value X Y WORDS` and other texts. The style and the legend are texts that were chosen; they are not
-compared. In a text, a trace and `stands`, ` / ` is between two lines.
+`idle X N EVENT`, or `value X Y WORDS` and other texts. An element with `of each` stands for these elements of each event from
+`first` to `last`: N is its number, and X its column, of which the first is at `at`. `events` is a window, if one is asked for, and
+`left_out` says in the heading which events aren't drawn. The style and the legend are texts that were chosen; they are not
+compared. In a text, a trace, `stands` and `left_out`, ` / ` is between two lines.
 The last line is `N passed, M failed`, of rows.
 """
 import glob
@@ -55,7 +58,7 @@ def tables():
             elif rest.split()[:1] == ["ends"] and kind == "? ":
                 words, trace = rest.split(), None
             elif kind == "? ":
-                asked = re.fullmatch(r"(explain|view|draw)((?: --\w+)*)(?: (.*))?", rest)
+                asked = re.fullmatch(r"(explain|view|draw)((?: --\w+(?: \d+\.\.\d+)?)*)(?: (.*))?", rest)
                 words, trace = [asked[1], *asked[2].split()], None if asked[3] is None else rows.trace(asked[3], {})
             elif kind == "= ":
                 status, _, short = rest.partition(" ")
@@ -94,16 +97,27 @@ def element(short):
     return f"<path class='{kind}' d='M{x} {y}{SHAPES[kind]}'><title>{words}</title></path>\n"
 
 
+def elements(row):
+    """Yields the elements of a row in their short form."""
+    for it in row["elements"]:
+        if isinstance(it, str):
+            yield it
+            continue
+        for n in range(it["first"], it["last"] + 1):
+            at = {"X": str(it["at"] + 24 * (n - it["first"])), "N": str(n)}
+            yield from (" ".join(at.get(word, word) for word in short.split(" ")) for short in it["of each"])
+
+
 def picture(row):
     """Returns the picture of a row, without its style and its legend."""
     wide, high, grid_wide, grid_high = row["sizes"]
-    state = f"{row['state']}\n steps {row['steps']}\n"
+    state = f"{row['state']}\n steps {row['steps']}\n{lines(row.get('left_out', ''))}"
     described = f"{row['state']}\nsteps {row['steps']}\n{lines(row['stands'])}"
     return (
         f"<svg xmlns='http://www.w3.org/2000/svg' class='sts-run' role='img' viewBox='0 0 {wide} {high}' width='{wide}' height='{high}'>\n"
         f"<title>{state}</title>\n<desc>{described}</desc>\n"
         f"<rect fill='url(#sts-grid)' x='208' y='46' width='{grid_wide}' height='{grid_high}'/>\n"
-        f"<text class='heading' x='12' y='22'>{state}</text>\n{''.join(map(element, row['elements']))}"
+        f"<text class='heading' x='12' y='22'>{state}</text>\n{''.join(map(element, elements(row)))}"
         f"<g transform='translate(12 {row['foot']})'>\n</g>\n</svg>\n"
     )
 
@@ -120,7 +134,9 @@ def tried(look):
         yield f"{where}: {group}, {name}", asks(look, words, text, trace), (status, printed)
     with open(f"{HERE}/look_rows/pictures.json") as file:
         for row in json.load(file):
-            status, printed = asks(look, ["draw"], lines(row["text"]).encode(), lines(row["trace"]).encode())
+            window = ["--events", row["events"]] if "events" in row else []
+            trace = rows.meant(row["trace"], {}) if row["trace"] else b""
+            status, printed = asks(look, ["draw", *window], lines(row["text"]).encode(), trace)
             yield f"the picture of {row['name']}", (status, without_style(printed.decode())), (row["status"], picture(row))
 
 

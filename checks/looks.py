@@ -1,16 +1,20 @@
 #!/usr/bin/env python3
 """Runs the built program `look` over the examples.  usage: looks.py [LOOK [STS]]
 
-- docs/LOOK.md shows what `view` or `explain` prints for a beginning of a trace, and what `explain` prints for a text
-  or an example;
+- docs/LOOK.md shows what `view` or `explain` prints for a beginning of a trace, what `explain` prints for a text or an
+  example, and the title of a window that `draw` shows;
 - `explain` of each example says that it is accepted, and where it relies on a rule that JDK 25 doesn't share;
 - `view` of each beginning of each example's trace begins with what `plain` of `sts` prints, with its status;
 - `explain` of each of these says the state of the run, with that status. For each task that lives in `view`, and for no
   other, it says the line of its place, and which living subtasks it waits for;
 - `view --each` of the whole trace is `view` of each beginning in turn, after a line `after N EVENT` for each event,
   with `--full` and without;
+- `view --living` is `view` without the tasks that have ended or never started and without the scopes that are closed, and
+  says how many these are, also with `--full` and `--each`;
 - `draw` of each example is well formed, and has the same bytes a second time. It has the status and the heading of
   `plain`, a lane for each task, and a column for each event that `view --each` shows;
+- `draw --events` of the first half of an example's events is `draw` of these events, but says which others there are. Of
+  the other half it has the columns that the whole picture has;
 - the stored pictures are what `draw` prints.
 The last line is `N passed, M failed`, of comparisons.
 """
@@ -29,11 +33,14 @@ ROOT = os.path.dirname(os.path.dirname(os.path.realpath(__file__)))
 sys.path.insert(0, os.path.join(ROOT, "docs", "pictures"))
 import drawn  # noqa: E402
 LOOK, STS = (os.path.join(ROOT, "crates", name, "out", name) for name in ("look", "sts"))
-SHOWN = re.compile(r"After the first (\d+) events of \[(\w+)\].*?:\n\n((?:    .*\n)+)")
+SHOWN = re.compile(r"After the first (\d+) events of \[(\w+)\]\S*?(?:, `(--\w+)` .*?)?:\n\n((?:    .*\n)+)")
 TOLD = re.compile(r"This is printed after the first (\d+) events of \[(\w+)\].*?:\n\n((?:    .*\n)+)")
+TITLED = re.compile(r"For the (\d+) events of \[(\w+)\]\S*, `--events (\S+)` gives this title:\n\n((?:    .*\n)+)")
 EXPLAINED = re.compile(r"\n\n((?:    .*\n)+)\n`explain` prints:\n\n((?:    .*\n)+)")
 EXAMPLE = re.compile(r"`\./look explain (examples/\S+)` prints:\n\n((?:    .*\n)+)")
 LIVING = re.compile(r"task (\d+) under (\S+) in (\S+) at (\d+) (ready|waits (?:join|close) (\d+))(?: interrupted)?")
+CLOSED = re.compile(r"scope .* closed(?: timed)?(?: cancelled)?(?: expired)?")
+SVG = "{http://www.w3.org/2000/svg}"
 
 
 def says(*words):
@@ -87,6 +94,20 @@ def by_lines(source, viewed):
     return "".join(f"{line}\n" for line in told)
 
 
+def only_living(viewed):
+    """Returns what `view --living` has to print, from what `view` prints."""
+    kept, others, is_kept = [], {"task": 0, "scope": 0}, True
+    for line in viewed.split("\n")[:-1]:
+        kind = line.split(" ")[0]
+        if kind in others:
+            is_kept = bool(LIVING.fullmatch(line) if kind == "task" else not CLOSED.fullmatch(line))
+            others[kind] += not is_kept
+        kept += [line] if is_kept else []
+    tasks = "1 task that doesn't live" if others["task"] == 1 else f"{others['task']} tasks that don't live"
+    scopes = "1 closed scope" if others["scope"] == 1 else f"{others['scope']} closed scopes"
+    return "".join(f"{line}\n" for line in [*kept, f"not shown: {tasks}, {scopes}"])
+
+
 def example(look, sts, folder, text):
     """Yields each comparison of an example, and whether it holds."""
     name, trace = os.path.basename(text), text[:-4] + ".trace"
@@ -96,11 +117,14 @@ def example(look, sts, folder, text):
         each, heads = parts(says(look, "view", text, trace, "--each", *words)[1])
         right = [f"after {n} {event.rstrip()}" for n, event in enumerate(events, 1)]
         yield f"heads of {name}", [it.rstrip().removesuffix(" idle") for it in heads] == right
+        living = says(look, "view", text, trace, "--each", "--living", *words)[1]
+        yield f"living tasks and open scopes of {name}", parts(living) == (list(map(only_living, each)), heads)
         for count, path in enumerate(beginnings(folder, events)):
             status, printed = says(look, "view", text, path, *words)
             ended, plain = says(sts, "plain", text, path)
             yield f"{name} after {count}", status == ended and printed.startswith(plain)
             yield f"{name} after {count}, each", each[count:count + 1] == [printed]
+            yield f"{name} after {count}, living", says(look, "view", text, path, "--living", *words) == (status, only_living(printed))
             if not words:
                 yield f"{name} after {count}, by lines", says(look, "explain", text, path) == (status, by_lines(source, printed))
 
@@ -110,7 +134,7 @@ def of_class(picture, name):
     return [it for it in picture if it.get("class", "").split()[:1] == [name]]
 
 
-def drawing(look, sts, text):
+def drawing(look, sts, folder, text):
     """Yields each comparison of an example's picture, and whether it holds."""
     name, trace = os.path.basename(text), text[:-4] + ".trace"
     status, printed = says(look, "draw", text, trace)
@@ -123,7 +147,7 @@ def drawing(look, sts, text):
     except ElementTree.ParseError as fault:
         yield f"{name} drawn: {fault}", False
         return
-    title, described = (picture.find("{http://www.w3.org/2000/svg}" + it).text for it in ("title", "desc"))
+    title, described = (picture.find(SVG + it).text for it in ("title", "desc"))
     yield f"{name} drawn, status", status == ended
     yield f"{name} drawn, title", title.split() == plain.split()
     yield f"{name} drawn, description", described == last
@@ -133,6 +157,39 @@ def drawing(look, sts, text):
     yield f"{name} drawn, idle", len(idle) == sum(it.endswith(" idle\n") for it in heads)
     yield f"{name} drawn, steps", len(of_class(picture, "step")) == int(plain.split()[-1])
     yield f"{name} drawn twice", says(look, "draw", text, trace) == (status, printed)
+    yield from halves(look, folder, text, picture)
+
+
+def in_columns(picture, skipped):
+    """Returns the elements of a picture that are right of its first column and of that many more, with their places from there."""
+    found, first = [], 232 + 24 * skipped
+    for it in picture:
+        place = re.match(r"M(\d+) (.*)", it.get("d") or f"M{it.get('x') or 0} {it.get('y')}")
+        if it.get("class") and int(place[1]) >= first:
+            found.append((it.tag, it.get("class"), int(place[1]) - first, place[2], *it.itertext()))
+    return found
+
+
+def left_out(first, last):
+    """Returns what a picture says of events that it leaves out."""
+    return f" (event {first} left out)\n" if first == last else f" (events {first} to {last} left out)\n"
+
+
+def halves(look, folder, text, picture):
+    """Yields whether the first events of an example, and the others, are drawn as they have to be, and whether all are."""
+    name, trace = os.path.basename(text), text[:-4] + ".trace"
+    with open(trace) as steps:
+        events = steps.readlines()
+    half, count = len(events) // 2, len(events)
+    *_, path = beginnings(folder, events[:half])
+    status, printed = says(look, "draw", text, trace, "--events", f"1..{half}")
+    later = left_out(half + 1, count)
+    yield f"{name}, its first half", printed.count(later) == 2
+    yield f"{name}, its first half drawn", (status, printed.replace(later, "")) == says(look, "draw", text, path)
+    other = ElementTree.fromstring(says(look, "draw", text, trace, "--events", f"{half + 1}..{count}")[1])
+    yield f"{name}, its other half drawn", in_columns(other, 0) == in_columns(picture, half)
+    yield f"{name}, its other half", other.find(SVG + "title").text == picture.find(SVG + "title").text + left_out(1, half)
+    yield f"{name}, all its events", says(look, "draw", text, trace, "--events", f"1..{count}") == says(look, "draw", text, trace)
 
 
 def shown(look, folder):
@@ -144,11 +201,23 @@ def shown(look, folder):
 
 
 def shown_of(look, folder, command, page):
-    for count, name, block in page:
+    for count, name, *options, block in page:
         text = os.path.join(ROOT, "examples", f"{name}.sts")
         with open(os.path.join(ROOT, "examples", f"{name}.trace")) as file:
             *_, path = beginnings(folder, file.readlines()[:int(count)])
-        yield f"{command} of {name} in LOOK.md", says(look, command, text, path)[1] == dedented(block)
+        yield f"{command} of {name} in LOOK.md", says(look, command, text, path, *filter(None, options))[1] == dedented(block)
+
+
+def titled(look):
+    """Yields whether LOOK.md shows the title of a window."""
+    page = TITLED.findall(read("docs/LOOK.md"))
+    yield "LOOK.md shows a title", page != []
+    for count, name, window, block in page:
+        text = os.path.join(ROOT, "examples", f"{name}.sts")
+        with open(text[:-4] + ".trace") as file:
+            yield f"the events of {name}", len(file.readlines()) == int(count)
+        drawn_now = says(look, "draw", text, text[:-4] + ".trace", "--events", window)[1]
+        yield f"the title of {name} in LOOK.md", ElementTree.fromstring(drawn_now).find(SVG + "title").text == dedented(block)
 
 
 def dedented(block):
@@ -177,9 +246,10 @@ def tried(look, sts):
     with tempfile.TemporaryDirectory() as folder:
         yield from shown(look, folder)
         yield from explained(look, folder)
+        yield from titled(look)
         for text in sorted(glob.glob(os.path.join(ROOT, "examples", "*.sts"))):
             yield from example(look, sts, folder, text)
-            yield from drawing(look, sts, text)
+            yield from drawing(look, sts, folder, text)
     yield "the stored pictures", list(drawn.stale(look)) == []
 
 

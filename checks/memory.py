@@ -136,6 +136,11 @@ VIEWS = [
         f"{SCOPE} may-expire / "
         f"after 4 expire 0 / running / steps 3 / task 0 under - in main at 2 ready / {EXPIRED} / {SCOPE} cancelled expired",
     ),
+    (
+        ["--living"],
+        f"running / steps 3 / task 0 under - in main at 2 ready / {EXPIRED} / {SCOPE} cancelled expired / "
+        "not shown: 0 tasks that don't live, 0 closed scopes",
+    ),
 ]
 TOLD = "running / task 0 in main, line 8: join s0 - late intr (ready) / task 1 in kid, line 3: ret (ready)"
 EXPLAINED = [
@@ -225,7 +230,8 @@ def looks(look):
     for name, of_text, answer, status in EXPLAINED:
         yield Case(f"explain: {name}", ["explain", "text"], lines(of_text), None, lines(answer), status)
     yield Case("explain: a run", ["explain", "text", "trace"], text, trace, lines(TOLD), 5)
-    yield Case("draw", ["draw", "text", "trace"], text, trace, picture(look, text, trace), 5)
+    for more in ([], ["--events", "2..3"]):
+        yield Case(" ".join(["draw", *more]), ["draw", "text", "trace", *more], text, trace, picture(look, more, text, trace), 5)
     for more in ([], ["--trace", "1", "journal"]):
         yield Case(" ".join(["ends", *more]), ["ends", "text", *more], lines(SEVEN), None, lines(ENDS_OF_SEVEN), 0)
     yield Case("cases", ["cases", "text"], f"{CASE}\n".encode(), None, f"{ANSWER}\n".encode(), 0)
@@ -235,10 +241,10 @@ def looks(look):
         yield Case(f"look: {name}", words, None, None, b"", status)
 
 
-def picture(look, text, trace):
+def picture(look, more, text, trace):
     """What `look draw` writes for a text and a trace if nothing is refused; if that is no picture, what it never writes."""
     with tempfile.TemporaryDirectory() as folder:
-        case = Case("draw", ["draw", "text", "trace"], text, trace, None, 5)
+        case = Case("draw", ["draw", "text", "trace", *more], text, trace, None, 5)
         refusing = Refusing(look, "", folder)
         refusing.put(case)
         (written, _), _ = refusing.run(case, "")

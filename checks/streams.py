@@ -137,8 +137,9 @@ def unwritten(program, look, folder):
     journal, workers = os.path.join(folder, "journal"), ["--workers", "2"]
     printing = [["verify", SUM], ["list", SUM], ["plain", SUM, TRACE], ["replay", SUM, TRACE], []]
     runs = [["run", SUM, *workers], ["run", DEADLINE, *workers, "--outside", DUE]]
+    parts = [["view", SUM, TRACE, "--living"], ["draw", SUM, TRACE, "--events", "2..3"]]
     for what, around in broken("stdout"):
-        for name, commands in (program, [*printing, *runs]), (look, looks(SUM, TRACE)):
+        for name, commands in (program, [*printing, *runs]), (look, [*looks(SUM, TRACE), *parts]):
             for words in commands:
                 yield f"{words}, output {what}", answer(name, words, **around), FAILED
         yield f"a run, output {what}", answer(program, ["run", SUM, *workers, "--trace", journal], **around), FAILED

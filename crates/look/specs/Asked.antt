@@ -11,17 +11,20 @@ use Rattle.clap.specs.declared.error.kind.ErrorKind.TheVariants as kind
 use Rattle.sts_args.specs.declared.asked.LineError.{LineError}
 use Rattle.sts_args.specs.declared.asked.LineError.TheVariants as error
 use Rattle.look_lines.specs.declared.view.ViewOptions.{ViewOptions}
+use Rattle.look_picture.specs.declared.window.Window.{Window}
 use Rattle.look.specs.declared.asked.Asked.{Asked}
 use Rattle.look.specs.declared.asked.AskedView.{AskedView}
 use Rattle.look.specs.declared.asked.Asked.TheVariants as asked
+use Rattle.look.specs.AskedDraw.{window_at}
 use Rattle.look.specs.AskedEnds.{SaidEnds, ends_at, is_true, said_ends}
 use Rattle.look.specs.Command.{program}
 
--- what a line says: the command, its files in order, and the options of `view` and of `ends`
+-- what a line says: the command, its files in order, and the options of `view`, `draw` and `ends`
 pub record Said : Type 0 where
   pub name : Text
   pub files : List Text
   pub view : Option AskedView
+  pub draw : Option (Option Window)
   pub ends : Option SaidEnds
 
 -- the file that is named, if one is
@@ -34,30 +37,35 @@ said (asked.View file trace view) = record {
   name = codes "view";
   files = file.now ∷ trace.now ∷ [];
   view = Some view;
+  draw = None;
   ends = None;
 }
 said (asked.Explain file trace) = record {
   name = codes "explain";
   files = file.now ∷ named trace;
   view = None;
+  draw = None;
   ends = None;
 }
-said (asked.Draw file trace) = record {
+said (asked.Draw file trace window) = record {
   name = codes "draw";
   files = file.now ∷ trace.now ∷ [];
   view = None;
+  draw = Some window;
   ends = None;
 }
 said (asked.Ends file ends) = record {
   name = codes "ends";
   files = file.now ∷ [];
   view = None;
+  draw = None;
   ends = Some (said_ends ends);
 }
 said (asked.Cases file) = record {
   name = codes "cases";
   files = file.now ∷ [];
   view = None;
+  draw = None;
   ends = None;
 }
 
@@ -65,7 +73,11 @@ abbrev pub is_set : Text → List Row → Bool
 is_set id rows = is_true (first_of id rows)
 
 abbrev pub wanted_at : List Row → ViewOptions
-wanted_at rows = record { each = is_set (codes "each") rows; full = is_set (codes "full") rows }
+wanted_at rows = record {
+  each = is_set (codes "each") rows;
+  full = is_set (codes "full") rows;
+  living = is_set (codes "living") rows;
+}
 
 abbrev pub view_at : List Row → AskedView
 view_at rows = record { wanted = wanted_at rows; json = is_set (codes "json") rows }
@@ -73,12 +85,15 @@ view_at rows = record { wanted = wanted_at rows; json = is_set (codes "json") ro
 abbrev pub is_view : Text → Bool
 is_view name = bytes_eq name (codes "view")
 
+abbrev pub is_draw : Text → Bool
+is_draw name = bytes_eq name (codes "draw")
+
 abbrev pub is_ends : Text → Bool
 is_ends name = bytes_eq name (codes "ends")
 
 -- does a command need a trace?
 abbrev pub wants_trace : Text → Bool
-wants_trace name = is_view name || bytes_eq name (codes "draw")
+wants_trace name = is_view name || is_draw name
 
 -- does a command take one file alone?
 abbrev pub takes_one : Text → Bool
@@ -97,6 +112,7 @@ given (name, rows) = record {
   name = name;
   files = files_at name rows;
   view = if is_view name then Some (view_at rows) else None;
+  draw = if is_draw name then window_at rows else None;
   ends = if is_ends name then ends_at rows else None;
 }
 
@@ -126,12 +142,17 @@ ids_of name = if wants_trace name then codes "FILE" ∷ codes "TRACE" ∷ [] els
 abbrev pub has_numbers : Text → List Row → Bool
 has_numbers name rows = if is_ends name then is_some (ends_at rows) else true
 
+-- the option of `draw` has the form of a window
+abbrev pub has_window : Text → List Row → Bool
+has_window name rows = if is_draw name then is_some (window_at rows) else true
+
 -- the words name a command of the program, all files that it has to be given, and the numbers that
 -- its options need
 abbrev pub is_whole : Option (Text × List Row) → Bool
 is_whole None = false
 is_whole (Some (name, rows)) = is_command name
-    && (list_all (λ id. is_some (first_of id rows)) (ids_of name) && has_numbers name rows)
+    && (list_all (λ id. is_some (first_of id rows)) (ids_of name)
+    && (has_window name rows && has_numbers name rows))
 
 -- the message for an error of `clap` of this kind: the words of help or of the version, or a mistake
 abbrev pub TellsKind : ErrorKind → LineError → Type 0

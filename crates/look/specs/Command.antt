@@ -9,8 +9,9 @@ abbrev pub flag_rule : Text → Rule
 flag_rule name = record (new_rule name) { long = Some name; action = Some SetTrue }
 
 abbrev pub view : App
-view = with_rule (with_rule (with_rule (with_rule (with_rule (new_app (codes "view")) file_rule)
-    trace_rule) (flag_rule (codes "each"))) (flag_rule (codes "full"))) (flag_rule (codes "json"))
+view = with_rule (with_rule (with_rule (with_rule (with_rule (with_rule (new_app (codes "view"))
+    file_rule) trace_rule) (flag_rule (codes "each"))) (flag_rule (codes "full")))
+    (flag_rule (codes "living"))) (flag_rule (codes "json"))
 
 -- a trace that may be left out
 abbrev pub maybe_trace_rule : Rule
@@ -20,7 +21,8 @@ abbrev pub explain : App
 explain = with_rule (with_rule (new_app (codes "explain")) file_rule) maybe_trace_rule
 
 abbrev pub draw : App
-draw = with_rule (with_rule (new_app (codes "draw")) file_rule) trace_rule
+draw = with_rule (with_rule (with_rule (new_app (codes "draw")) file_rule) trace_rule)
+    (option_rule (codes "events"))
 
 -- the number and the file of a trace that is kept
 abbrev pub kept_rule : Rule

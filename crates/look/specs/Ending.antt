@@ -76,7 +76,7 @@ IsViewed false = IsViewOf
 abbrev pub Shows : Showing → List ℕ → List ℕ → Output → Type 0
 Shows (showing.View view) = IsViewed view.json view.wanted
 Shows showing.Run = IsRunExplanation
-Shows showing.Picture = IsPictureOf
+Shows (showing.Picture window) = IsPictureOf window
 
 -- what is wrong with a file's text, or the state of its run after the trace, if one is named
 abbrev pub IsExplained : Files → Option (List ℕ) → Option (Bor Text) → Output → Type 0
@@ -88,8 +88,8 @@ abbrev pub IsShown : Asked → Files → SameFile → Output → Type 0
 IsShown (asked.View file trace view) files same o =
     IsOfTexts (IsViewed view.json view.wanted) (files file.now) (files trace.now) o
 IsShown (asked.Explain file trace) files same o = IsExplained files (files file.now) trace o
-IsShown (asked.Draw file trace) files same o =
-    IsOfTexts IsPictureOf (files file.now) (files trace.now) o
+IsShown (asked.Draw file trace window) files same o =
+    IsOfTexts (IsPictureOf window) (files file.now) (files trace.now) o
 IsShown (asked.Ends file ends) files same o =
     IsOfEnds ends (Spares same file.now ends.kept) (files file.now) o
 IsShown (asked.Cases file) files same o = IsOfStream IsRepliesTo (files file.now) o

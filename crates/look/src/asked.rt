@@ -2,6 +2,7 @@
 
 use look_ends::EndsOptions;
 use look_lines::ViewOptions;
+use look_picture::Window;
 
 /// As many states as a search keeps if no other number is asked for.
 pub const MOST_STATES: u32 = 1_000_000;
@@ -49,10 +50,11 @@ pub enum Asked<'a> {
     Cases {
         file: &'a str,
     },
-    /// A run as a picture.
+    /// A run as a picture, or a window of it.
     Draw {
         file: &'a str,
         trace: &'a str,
+        window: Option<Window>,
     },
     /// Every end that a program can come to.
     Ends {

@@ -44,6 +44,11 @@ fn view<'a>(alloc: Global) -> Result<Command<'a>, AllocError>
         "full",
         "also the operands, locals and bindings of living tasks, and the ends that joiners got",
     );
+    let living = flag(
+        alloc,
+        "living",
+        "only the tasks that live and the open scopes, and how many others there are",
+    );
     let json = flag(alloc, "json", "as lines of JSON, one for each view");
     on_trace(
         alloc,
@@ -52,6 +57,7 @@ fn view<'a>(alloc: Global) -> Result<Command<'a>, AllocError>
     )?
     .arg(each)?
     .arg(full)?
+    .arg(living)?
     .arg(json)
 }
 
@@ -76,18 +82,6 @@ fn explain<'a>(alloc: Global) -> Result<Command<'a>, AllocError>
     .arg(maybe_trace(alloc))
 }
 
-/// The command `draw`.
-fn draw<'a>(alloc: Global) -> Result<Command<'a>, AllocError>
-    ensures app { IfOk result (λ c. app_of c ≡ def.draw) }
-    ensures local { IfOk result (λ c. (out-Command c).has_globals ≡ false) }
-{
-    on_trace(
-        alloc,
-        "draw",
-        "Prints the run of a trace as an SVG picture, a lane for each task, a column for each event",
-    )
-}
-
 /// An option that takes one value.
 fn option<'a>(alloc: Global, name: &'a str, value: &'a str, help: &'a str) -> Arg<'a>
     ensures rule { rule_of result ≡ option_rule name.entry.now }
@@ -97,6 +91,25 @@ fn option<'a>(alloc: Global, name: &'a str, value: &'a str, help: &'a str) -> Ar
         .long(name)
         .value_name(value)
         .help(help)
+}
+
+/// The command `draw`.
+fn draw<'a>(alloc: Global) -> Result<Command<'a>, AllocError>
+    ensures app { IfOk result (λ c. app_of c ≡ def.draw) }
+    ensures local { IfOk result (λ c. (out-Command c).has_globals ≡ false) }
+{
+    let events = option(
+        alloc,
+        "events",
+        "A..B",
+        "draws the events from line A to line B of the trace (the last 2000)",
+    );
+    on_trace(
+        alloc,
+        "draw",
+        "Prints the run of a trace as an SVG picture, a lane for each task, a column for each event",
+    )?
+    .arg(events)
 }
 
 /// The option that keeps the trace of an end.

@@ -8,6 +8,7 @@ pub mod dashed;
 pub mod program;
 pub mod reading;
 pub mod terminal;
+pub mod window;
 
 use crate::program::start;
 use crate::terminal::Terminal;

@@ -13,7 +13,7 @@ use crate::reading::line;
 use look_cases::write_answers;
 use look_ends::{Progress, write_ends, write_ends_and_trace};
 use look_lines::write_view;
-use look_picture::write_picture;
+use look_picture::{Window, write_picture};
 use look_refusal::explain;
 use look_run::explain_run;
 use look_views::write_views;
@@ -35,7 +35,7 @@ const NAME: &str = "look";
 enum Showing {
     View(AskedView),
     Run,
-    Picture,
+    Picture(Option<Window>),
 }
 
 impl Showing {
@@ -43,7 +43,11 @@ impl Showing {
     fn note(self, status: u8, text: Named<'_>, trace: Named<'_>, notes: &mut Notes) {
         match self {
             Showing::Run => {}
-            Showing::View(_) | Showing::Picture => notes.status(status, text, Events::Trace(trace)),
+            Showing::View(_) | Showing::Picture(_) => notes.status(
+                status,
+                text,
+                Events::Trace(trace),
+            ),
         }
     }
 }
@@ -80,7 +84,7 @@ fn show<W: Write>(
     match showing {
         Showing::View(view) => show_view(alloc, view, text, trace, out),
         Showing::Run => explain_run(alloc, text, trace, out),
-        Showing::Picture => write_picture(alloc, text, trace, out),
+        Showing::Picture(window) => write_picture(alloc, window, text, trace, out),
     }
 }
 
@@ -262,9 +266,19 @@ fn on_line<S: Sources + Sinks, P: Progress, W: Write>(
             notes,
         ),
         Asked::Explain { file, trace } => on_explain(alloc, sources, file, trace, out, notes),
-        Asked::Draw { file, trace } => {
-            on_texts(alloc, sources, Showing::Picture, file, trace, out, notes)
-        }
+        Asked::Draw {
+            file,
+            trace,
+            window,
+        } => on_texts(
+            alloc,
+            sources,
+            Showing::Picture(window),
+            file,
+            trace,
+            out,
+            notes,
+        ),
         Asked::Ends { file, ends } => on_ends(alloc, sources, file, ends, progress, out, notes),
         Asked::Cases { file } => on_cases(alloc, sources, file, out, notes),
     }

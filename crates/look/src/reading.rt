@@ -6,15 +6,18 @@ ghost use Rattle.clap.specs.declared.error.kind.ErrorKind.TheVariants as kind;
 ghost use Rattle.sts_args.specs.Refused.{BlamesUnless};
 ghost use Rattle.look.specs.Asked.{Asks, IsGiven, IsLineOf, Refuses, TellsKind, is_set, is_whole};
 ghost use Rattle.look.specs.Asked.{view_at, wanted_at};
+ghost use Rattle.look.specs.AskedDraw.{window_at};
 ghost use Rattle.look.specs.AskedEnds.{ends_at, ends_wanted_at, kept_of, kept_words, manner_at};
 ghost use Rattle.look.specs.AskedEnds.{number_at, said_ends};
 
 use crate::asked::{Asked, AskedEnds, AskedView, FIRST_SEED, Kept, MOST_STATES};
 use crate::command::program;
+use crate::window::window_of;
 use clap::error::ErrorKind;
 use clap::{ArgMatches, Error};
 use look_ends::{EndsOptions, Manner};
 use look_lines::ViewOptions;
+use look_picture::Window;
 use std::alloc::{AllocError, Global};
 use sts_args::{LineError, text_of, told, trace_of, unknown};
 use sts_text::digits_up_to;
@@ -22,6 +25,10 @@ use sts_text::digits_up_to;
 /// The error for an option whose value is no number.
 const NO_NUMBER: &str =
     "error: N, S and K of `ends` are numbers from 0 to 4294967295\n\nFor more information, try '--help'.\n";
+
+/// The error for a window that isn't written as one.
+const NO_WINDOW: &str =
+    "error: `--events` takes A..B, from line A to line B of the trace: numbers from 1 to 4294967295, B not below A\n\nFor more information, try '--help'.\n";
 
 /// The words of the version, which were asked for.
 fn version(error: &Error, alloc: Global) -> LineError
@@ -95,11 +102,18 @@ fn asked_of<'a>(
                 Ok(Asked::Explain { file, trace })
             } else if name == "draw" {
                 let trace = trace_of(alloc, inner)?;
-                Ok(Asked::Draw { file, trace })
+                match asked_window(inner) {
+                    Some(window) => Ok(Asked::Draw {
+                        file,
+                        trace,
+                        window,
+                    }),
+                    None => Err(usage(alloc, NO_WINDOW)),
+                }
             } else if name == "ends" {
                 match asked_ends(inner) {
                     Some(ends) => Ok(Asked::Ends { file, ends }),
-                    None => Err(no_number(alloc)),
+                    None => Err(usage(alloc, NO_NUMBER)),
                 }
             } else if name == "cases" {
                 Ok(Asked::Cases { file })
@@ -127,6 +141,7 @@ fn wanted_of(inner: &ArgMatches<'_>) -> ViewOptions
     ViewOptions {
         each: is_set(inner, "each"),
         full: is_set(inner, "full"),
+        living: is_set(inner, "living"),
     }
 }
 
@@ -137,6 +152,16 @@ fn view_of(inner: &ArgMatches<'_>) -> AskedView
     AskedView {
         wanted: wanted_of(inner),
         json: is_set(inner, "json"),
+    }
+}
+
+/// The events that `draw` is asked for, if any are; nothing if they aren't written as `A..B`.
+fn asked_window(inner: &ArgMatches<'_>) -> Option<Option<Window>>
+    ensures { result ≡ window_at (rows_of (found_of inner.now)) }
+{
+    match text_of(inner, "events") {
+        None => Some(None),
+        Some(text) => Some(Some(window_of(text.as_bytes())?)),
     }
 }
 
@@ -207,11 +232,11 @@ fn asked_ends<'a>(inner: &ArgMatches<'a>) -> Option<AskedEnds<'a>>
     Some(AskedEnds { wanted, kept })
 }
 
-/// The error for an option that has no number.
-fn no_number(alloc: Global) -> LineError
+/// The error for an option whose value is mistaken.
+fn usage(alloc: Global, message: &str) -> LineError
     ensures { (whole : Bool) → whole ≡ false → BlamesUnless whole result }
 {
-    match NO_NUMBER.to_string(alloc) {
+    match message.to_string(alloc) {
         Ok(text) => LineError::Usage(text),
         Err(AllocError) => LineError::Memory,
     }

@@ -1,7 +1,7 @@
--- The lines of a state: one for each task and each scope that was ever born, and more on request
--- (this project's own).
+-- The lines of a state: one for each task and each scope that was ever born, or only for those that
+-- live and are open, and more on request (this project's own).
 use Rattle.std.specs.Prelude.{ℕ, ℤ, pos, ◌+◌, Bool, true, List, ◌∷◌, [], ◌++◌, reverse, Option}
-use Rattle.std.specs.Prelude.{Some, None, is_some, codes, ◌&&◌, if◌then◌else◌}
+use Rattle.std.specs.Prelude.{Some, None, is_some, codes, not, ◌&&◌, ◌==◌, if◌then◌else◌, count_by}
 use Rattle.std.specs.List.{flat_map}
 use Rattle.std.specs.Ordering.{int_eq}
 use Rattle.std.specs.Fmt.{decimal, signed_decimal}
@@ -16,7 +16,7 @@ use Rattle.sts_model.specs.declared.record.Completion.{Completion}
 use Rattle.sts_model.specs.declared.record.Scope.{Scope}
 use Rattle.sts_model.specs.declared.record.Task.{Task}
 use Rattle.sts_model.specs.Environment.{environment_of, read}
-use Rattle.sts_model.specs.Living.{lives, sub_state}
+use Rattle.sts_model.specs.Living.{lives, is_closed, sub_state}
 use Rattle.sts_model.specs.Outside.{can_expire}
 use Rattle.sts_model.specs.Waiting.{can_step, stand_at}
 use Rattle.sts_model.specs.World.{World, task_at, scope_at}
@@ -170,3 +170,52 @@ scope_block full s scope =
 abbrev pub scope_lines : Bool → World → List Scope → ℕ → List ℕ
 scope_lines full w [] s = []
 scope_lines full w (x ∷ xs) s = scope_block full s (scope_at w s) ++ scope_lines full w xs (s + 1)
+
+-- ---- only what lives or is open
+
+-- the lines of a task if it lives
+abbrev pub living_block : Program → Bool → World → ℕ → List ℕ
+living_block p full w t = if lives (task_at w t) then task_block p full w t else []
+
+-- the lines of the living tasks among these, numbered from t on
+abbrev pub living_tasks : Program → Bool → World → List Task → ℕ → List ℕ
+living_tasks p full w [] t = []
+living_tasks p full w (x ∷ xs) t = living_block p full w t ++ living_tasks p full w xs (t + 1)
+
+-- the lines of a scope unless it is closed
+abbrev pub open_block : Bool → World → ℕ → List ℕ
+open_block full w s =
+    if is_closed (scope_at w s).phase then [] else scope_block full s (scope_at w s)
+
+-- the lines of the scopes among these that aren't closed, numbered from s on
+abbrev pub open_scopes : Bool → World → List Scope → ℕ → List ℕ
+open_scopes full w [] s = []
+open_scopes full w (x ∷ xs) s = open_block full w s ++ open_scopes full w xs (s + 1)
+
+-- the number of tasks that don't live
+abbrev pub resting : List Task → ℕ
+resting tasks = count_by (λ task. not (lives task)) tasks
+
+-- the number of scopes that are closed
+abbrev pub closed : List Scope → ℕ
+closed scopes = count_by (λ (scope : Scope). is_closed scope.phase) scopes
+
+abbrev pub resting_words : ℕ → List ℕ
+resting_words n = if n == 1 then codes " task that doesn't live" else codes " tasks that don't live"
+
+abbrev pub closed_words : ℕ → List ℕ
+closed_words n = if n == 1 then codes " closed scope" else codes " closed scopes"
+
+-- how many tasks and scopes have no line
+abbrev pub others_line : ℕ → ℕ → List ℕ
+others_line tasks scopes =
+    codes "not shown: " ++ decimal tasks ++ resting_words tasks ++ codes ", " ++ decimal scopes
+    ++ ended (closed_words scopes)
+
+abbrev pub others : World → List ℕ
+others w = others_line (resting w.tasks) (closed w.scopes)
+
+-- the tasks that live and the scopes that are open, and how many others there are
+abbrev pub living_lines : Program → Bool → World → List ℕ
+living_lines p full w =
+    living_tasks p full w w.tasks 0 ++ (open_scopes full w w.scopes 0 ++ others w)

@@ -15,7 +15,7 @@ use Rattle.sts_output.specs.Output.{Output, memory_output, state_status, text_fa
 use Rattle.sts_output.specs.Output.{trace_fault_output}
 use Rattle.sts_output.specs.Printed.{state_line, steps_line, ended}
 use Rattle.look_lines.specs.declared.view.ViewOptions.{ViewOptions}
-use Rattle.look_lines.specs.Lines.{only_if, scope_lines, task_lines}
+use Rattle.look_lines.specs.Lines.{living_lines, only_if, scope_lines, task_lines}
 use Rattle.look_lines.specs.Watched.{Watched, watched}
 
 -- the state of the machine and the steps that it took, then each task and each scope; after a fault
@@ -25,9 +25,20 @@ lines_of full m =
     state_line m.program (shown m.state) ++ (steps_line m.steps
     ++ (task_lines m.program full m.last m.last.tasks 0 ++ scope_lines full m.last m.last.scopes 0))
 
+-- after the state and the steps only the tasks that live and the scopes that are open, and how many
+-- others there are
+abbrev pub living_lines_of : Bool → Watched → List ℕ
+living_lines_of full m =
+    state_line m.program (shown m.state)
+    ++ (steps_line m.steps ++ living_lines m.program full m.last)
+
+abbrev pub view_lines : ViewOptions → Watched → List ℕ
+view_lines wanted m =
+    if wanted.living then living_lines_of wanted.full m else lines_of wanted.full m
+
 -- the lines of the state after these events
-abbrev pub view_after : Program → Bool → List Event → List ℕ
-view_after p full events = lines_of full (watched p events)
+abbrev pub view_after : Program → ViewOptions → List Event → List ℕ
+view_after p wanted events = view_lines wanted (watched p events)
 
 -- `after N EVENT` for the N-th event; `idle` if it doesn't count
 abbrev pub event_line : ℕ → Event → Bool → List ℕ
@@ -36,30 +47,32 @@ event_line n e is_counted =
     ++ ended (only_if (not is_counted) (codes " idle"))
 
 -- an event and the state after it, if these events came before
-abbrev pub event_block : Program → Bool → List Event → Event → List ℕ
-event_block p full done e =
-    event_line (length done + 1) e (counts p (after p done) e) ++ view_after p full (done ++ e ∷ [])
+abbrev pub event_block : Program → ViewOptions → List Event → Event → List ℕ
+event_block p wanted done e =
+    event_line (length done + 1) e (counts p (after p done) e)
+    ++ view_after p wanted (done ++ e ∷ [])
 
-abbrev pub views_from : Program → Bool → List Event → List Event → List ℕ
-views_from p full done [] = []
-views_from p full done (e ∷ es) = event_block p full done e ++ views_from p full (done ++ e ∷ []) es
+abbrev pub views_from : Program → ViewOptions → List Event → List Event → List ℕ
+views_from p wanted done [] = []
+views_from p wanted done (e ∷ es) =
+    event_block p wanted done e ++ views_from p wanted (done ++ e ∷ []) es
 
 -- the state before the first event, and after each
-abbrev pub view_each : Program → Bool → List Event → List ℕ
-view_each p full events = view_after p full [] ++ views_from p full [] events
+abbrev pub view_each : Program → ViewOptions → List Event → List ℕ
+view_each p wanted events = view_after p wanted [] ++ views_from p wanted [] events
 
 -- the status is that of the last state: 0 if the root succeeded, 1 if it failed, otherwise 5
-abbrev pub after_output : Program → Bool → List Event → Output
-after_output p full events =
-    record { bytes = view_after p full events; status = state_status (shown (after p events)) }
+abbrev pub after_output : Program → ViewOptions → List Event → Output
+after_output p wanted events =
+    record { bytes = view_after p wanted events; status = state_status (shown (after p events)) }
 
-abbrev pub each_output : Program → Bool → List Event → Output
-each_output p full events =
-    record { bytes = view_each p full events; status = state_status (shown (after p events)) }
+abbrev pub each_output : Program → ViewOptions → List Event → Output
+each_output p wanted events =
+    record { bytes = view_each p wanted events; status = state_status (shown (after p events)) }
 
 abbrev pub view_output : Program → ViewOptions → List Event → Output
 view_output p wanted events =
-    if wanted.each then each_output p wanted.full events else after_output p wanted.full events
+    if wanted.each then each_output p wanted events else after_output p wanted events
 
 -- ---- of a text and a trace
 

@@ -3,6 +3,7 @@
 ghost use Rattle.std.specs.Prelude.{◌≡◌, ◌++◌, OnOk};
 ghost use Rattle.std.specs.List.{flat_map};
 ghost use Rattle.std.specs.String.{string_bytes};
+ghost use Rattle.sts_model.specs.Living as living;
 ghost use Rattle.sts_model.specs.World as model;
 ghost use Rattle.look_lines.specs.Lines as def;
 
@@ -106,6 +107,38 @@ pub fn scope_lines(out: &mut String, full: bool, records: &Records) -> Result<()
 {
     for s in 0..records.scopes_born() {
         scope_block(out, full, records, s as u32)?;
+    }
+    Ok(())
+}
+
+/// Is the scope closed?
+pub(crate) fn is_closed(records: &Records, s: u32) -> bool
+    ensures { result ≡ living.is_closed (model.scope_at records.now s).phase }
+{
+    matches!(records.phase(s), Phase::Closed)
+}
+
+fn open_block(out: &mut String, full: bool, records: &Records, s: u32) -> Result<(), AllocError>
+    ensures { OnOk result (string_bytes out.new
+        ≡ string_bytes out.old ++ def.open_block full records.now s) }
+{
+    if !is_closed(records, s) {
+        scope_block(out, full, records, s)?;
+    }
+    Ok(())
+}
+
+/// The lines of all scopes that aren't closed. In full they show all ends that the joiners counted.
+///
+/// # Errors
+///
+/// Memory ran out; `out` may then have a part of them.
+pub fn open_scopes(out: &mut String, full: bool, records: &Records) -> Result<(), AllocError>
+    ensures { OnOk result (string_bytes out.new
+        ≡ string_bytes out.old ++ def.open_scopes full records.now records.now.scopes 0) }
+{
+    for s in 0..records.scopes_born() {
+        open_block(out, full, records, s as u32)?;
     }
     Ok(())
 }

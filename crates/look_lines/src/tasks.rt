@@ -277,3 +277,40 @@ pub fn task_lines(
     }
     Ok(())
 }
+
+fn living_block(
+    out: &mut String,
+    program: &Program,
+    full: bool,
+    world: &World,
+    t: u32,
+) -> Result<(), AllocError>
+    requires { t < length world.now.tasks }
+    ensures { OnOk result (string_bytes out.new
+        ≡ string_bytes out.old ++ def.living_block program.now full world.now t) }
+{
+    if world.records().lives(t) {
+        task_block(out, program, full, world, t)?;
+    }
+    Ok(())
+}
+
+/// The lines of all tasks that live. In full they show the own state of each.
+///
+/// # Errors
+///
+/// Memory ran out; `out` may then have a part of them.
+pub fn living_tasks(
+    out: &mut String,
+    program: &Program,
+    full: bool,
+    world: &World,
+) -> Result<(), AllocError>
+    ensures { OnOk result (string_bytes out.new
+        ≡ string_bytes out.old ++ def.living_tasks program.now full world.now world.now.tasks 0) }
+{
+    for t in 0..world.records().tasks_born() {
+        living_block(out, program, full, world, t as u32)?;
+    }
+    Ok(())
+}

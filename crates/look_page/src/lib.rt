@@ -2,7 +2,7 @@
 //! into memory.
 #![tactic(auto)]
 
-ghost use Rattle.std.specs.Prelude.{[]};
+ghost use Rattle.std.specs.Prelude.{[], Some, false};
 ghost use Rattle.sts_output.specs.Output.{IsOutputOf};
 ghost use Rattle.look_picture.specs.Picture.{IsPictureOf};
 ghost use Rattle.look_refusal.specs.Output.{IsExplanation};
@@ -10,7 +10,7 @@ ghost use Rattle.look_run.specs.Output.{IsRunExplanation};
 ghost use Rattle.look_lines.specs.View.{IsViewOf};
 ghost use Rattle.look_page.specs.Ends.{HandsEnds, IsListing};
 ghost use Rattle.look_page.specs.Handed.{Hands, IsHanded};
-ghost use Rattle.look_page.specs.Printed.{Prints};
+ghost use Rattle.look_page.specs.Printed.{Prints, all_events};
 
 mod ending;
 mod printing;
@@ -103,12 +103,17 @@ pub extern "C" fn sts_view(
     out: &mut [u8],
     size: &mut usize,
 ) -> u8
-    ensures { Hands (IsViewOf (record { each = each; full = full }) text.now trace.now)
+    ensures { Hands
+        (IsViewOf (record { each = each; full = full; living = false }) text.now trace.now)
         (record { status = result; size = size.new; before = out.old; after = out.new }) }
 {
     shown(
         alloc,
-        Asked::View(ViewOptions { each, full }),
+        Asked::View(ViewOptions {
+            each,
+            full,
+            living: false,
+        }),
         text,
         trace,
         out,
@@ -141,7 +146,7 @@ pub extern "C" fn sts_explain_run(
     shown(alloc, Asked::RunExplanation, text, trace, out, size)
 }
 
-/// What `look draw` prints, handed over as by `sts_verify`.
+/// What `look draw` prints with all events drawn, handed over as by `sts_verify`.
 #[unsafe(no_mangle)]
 pub extern "C" fn sts_draw(
     alloc: Global,
@@ -150,7 +155,7 @@ pub extern "C" fn sts_draw(
     out: &mut [u8],
     size: &mut usize,
 ) -> u8
-    ensures { Hands (IsPictureOf text.now trace.now)
+    ensures { Hands (IsPictureOf (Some all_events) text.now trace.now)
         (record { status = result; size = size.new; before = out.old; after = out.new }) }
 {
     shown(alloc, Asked::Picture, text, trace, out, size)

@@ -7,11 +7,17 @@ ghost use Rattle.look_page.specs.Printed.{Prints};
 use crate::ending::wanted;
 use look_ends::{Silent, write_ends};
 use look_lines::{ViewOptions, write_view};
-use look_picture::write_picture;
+use look_picture::{Window, write_picture};
 use look_refusal::explain;
 use look_run::explain_run;
 use std::alloc::Global;
 use sts_output::{TextMode, WriteFailed, play_text};
+
+/// The events from the first to the last that a trace may have.
+const ALL_EVENTS: Window = Window {
+    first: 1,
+    last: u32::MAX,
+};
 
 /// The request of a caller.
 #[derive(Clone, Copy)]
@@ -45,7 +51,7 @@ pub(crate) fn print(
         Asked::View(wanted) => write_view(alloc, wanted, text, trace, printed),
         Asked::Explanation => explain(alloc, text, printed),
         Asked::RunExplanation => explain_run(alloc, text, trace, printed),
-        Asked::Picture => write_picture(alloc, text, trace, printed),
+        Asked::Picture => write_picture(alloc, Some(ALL_EVENTS), text, trace, printed),
         Asked::Ends(most) => write_ends(alloc, wanted(most), text, &mut Silent, printed),
     }
 }

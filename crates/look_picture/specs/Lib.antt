@@ -4,4 +4,5 @@ pub mod Marks
 pub mod Picture
 pub mod Place
 pub mod Style
+pub mod Windows
 pub mod Writing

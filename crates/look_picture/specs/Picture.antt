@@ -1,5 +1,5 @@
 -- A run as a picture: a lane for each task, a column for each event (this project's own).
-use Rattle.std.specs.Prelude.{◌≡◌, ◌⊎◌, ℕ, ◌+◌, ◌*◌, Bool, true, false, if◌then◌else◌, List, ◌∷◌, [], ◌++◌, length, codes, Result, Ok, Err}
+use Rattle.std.specs.Prelude.{◌≡◌, ◌⊎◌, ℕ, ◌+◌, ◌-◌, ◌*◌, Bool, true, false, if◌then◌else◌, List, ◌∷◌, [], ◌++◌, length, take, drop, codes, Result, Ok, Err, Option}
 use Rattle.std.specs.Fmt.{decimal}
 use Rattle.sts_code.specs.Program.{Program}
 use Rattle.sts_model.specs.declared.event.Event.{Event}
@@ -23,6 +23,10 @@ use Rattle.look_picture.specs.Brackets.{scope_cells}
 use Rattle.look_picture.specs.Lanes.{lane_names, task_cells}
 use Rattle.look_picture.specs.Place.{column, height, lane, width}
 use Rattle.look_picture.specs.Style.{legend, style}
+use Rattle.look_picture.specs.Windows.{left_out, shown_events}
+use Rattle.look_picture.specs.Windows as windows
+use Rattle.look_picture.specs.declared.window.Drawn.{Drawn}
+use Rattle.look_picture.specs.declared.window.Window.{Window}
 use Rattle.look_picture.specs.Writing.{mark_at, text_end, text_start}
 
 -- ---- a column
@@ -56,37 +60,41 @@ abbrev pub number_end : ℕ → List ℕ → List ℕ
 number_end n idle = idle ++ codes "</title>" ++ decimal n ++ codes "</text>\n"
 
 -- the event's number above the lanes, struck if it doesn't count
-abbrev pub number : ℕ → Event → Bool → List ℕ
-number n e is_counted =
-    text_start (number_class is_counted) (column n) 44
+abbrev pub number : ℕ → ℕ → Event → Bool → List ℕ
+number at n e is_counted =
+    text_start (number_class is_counted) (column at) 44
     ++ (codes "<title>" ++ (event_text e ++ number_end n (idle_word is_counted)))
 
--- the column of the n-th event, from what was seen before it and what is seen after it
-abbrev pub event_column : Watched → Watched → ℕ → Event → Bool → List ℕ
-event_column before m n e is_counted =
-    number n e is_counted ++ (standing before m (column n) is_counted (shown m.state)
-    ++ stepped (column n) e is_counted)
+-- the n-th event in this column, from what was seen before it and what is seen after it
+abbrev pub event_column : Watched → Watched → ℕ → ℕ → Event → Bool → List ℕ
+event_column before m at n e is_counted =
+    number at n e is_counted ++ (standing before m (column at) is_counted (shown m.state)
+    ++ stepped (column at) e is_counted)
 
--- the columns of these events, if those came before
-abbrev pub columns_from : Program → List Event → List Event → List ℕ
-columns_from p done [] = []
-columns_from p done (e ∷ es) =
-    event_column (watched p done) (watched p (done ++ e ∷ [])) (length done + 1) e (counts p (after p done) e)
-    ++ columns_from p (done ++ e ∷ []) es
+-- the columns of these events, if those came before; the first ones have none
+abbrev pub columns_from : Program → ℕ → List Event → List Event → List ℕ
+columns_from p skipped done [] = []
+columns_from p skipped done (e ∷ es) =
+    event_column (watched p done) (watched p (done ++ e ∷ [])) (length done + 1 - skipped)
+    (length done + 1) e (counts p (after p done) e)
+    ++ columns_from p skipped (done ++ e ∷ []) es
 
--- the column before the first event
+-- the column before the first event that has one; nothing changed there
 abbrev pub first_column : Watched → List ℕ
-first_column m = cells m.program m.last m.last (column 0)
+first_column m = standing m m (column 0) false (shown m.state)
 
--- the column before the first event, and one after each
-abbrev pub columns : Program → List Event → List ℕ
-columns p events = first_column (watched p []) ++ columns_from p [] events
+-- the column before the first event, and one after each; the first ones are skipped
+abbrev pub columns : Program → ℕ → List Event → List ℕ
+columns p skipped events =
+    first_column (watched p (take skipped events))
+    ++ columns_from p skipped (take skipped events) (drop skipped events)
 
 -- ---- what stands round them
 
--- the state of the run, and the steps that it took
-abbrev pub heading : Watched → List ℕ
-heading m = state_line m.program (shown m.state) ++ (codes " " ++ steps_line m.steps)
+-- the state of the run, the steps that it took, and which events are left out
+abbrev pub heading : Watched → Drawn → List ℕ
+heading m d =
+    state_line m.program (shown m.state) ++ (codes " " ++ (steps_line m.steps ++ left_out d))
 
 unfoldable pub svg_start : ℕ → ℕ → List ℕ
 svg_start wide high =
@@ -113,8 +121,8 @@ abbrev pub description : Watched → List ℕ
 description m = description_start ++ (standing_lines m ++ description_end)
 
 -- the size, the state of the run, and all tasks and scopes
-abbrev pub head : Watched → ℕ → List ℕ
-head m events = sized m events ++ (heading m ++ description m)
+abbrev pub head : Watched → Drawn → List ℕ
+head m d = sized m (windows.columns d) ++ (heading m d ++ description m)
 
 -- the style, and the grid behind the lanes
 abbrev pub grid : List ℕ → ℕ → ℕ → List ℕ
@@ -122,11 +130,15 @@ grid style wide high =
     style ++ (codes "<rect fill='url(#sts-grid)' x='208' y='46' width='" ++ (decimal wide
     ++ (codes "' height='" ++ (decimal high ++ codes "'/>\n"))))
 
+-- the style, and the grid behind these many columns and lanes
+abbrev pub grid_of : ℕ → ℕ → List ℕ
+grid_of columns tasks = grid style (24 * columns + 24) (52 * tasks)
+
 -- the grid, and the state of the run above it
-abbrev pub backdrop : Watched → ℕ → List ℕ
-backdrop m events =
-    grid style (24 * events + 24) (52 * length m.last.tasks)
-    ++ (text_start (codes "heading") 12 22 ++ (heading m ++ text_end))
+abbrev pub backdrop : Watched → Drawn → List ℕ
+backdrop m d =
+    grid_of (windows.columns d) (length m.last.tasks)
+    ++ (text_start (codes "heading") 12 22 ++ (heading m d ++ text_end))
 
 -- what the marks mean, from this height on
 abbrev pub legend_at : ℕ → List ℕ → List ℕ
@@ -140,28 +152,36 @@ abbrev pub below : Watched → List ℕ
 below m = lane_names m.program m.last m.last.tasks 0 ++ foot (length m.last.tasks)
 
 -- these columns between the head, the grid and the legend
-abbrev pub framed : Watched → ℕ → List ℕ → List ℕ
-framed m events columns = head m events ++ (backdrop m events ++ (columns ++ below m))
+abbrev pub framed : Watched → Drawn → List ℕ → List ℕ
+framed m d columns = head m d ++ (backdrop m d ++ (columns ++ below m))
 
-unfoldable pub picture : Program → List Event → List ℕ
-picture p events = framed (watched p events) (length events) (columns p events)
+unfoldable pub picture : Program → Drawn → List Event → List ℕ
+picture p d events = framed (watched p events) d (columns p d.before events)
 
--- the status is that of the last state: 0 if the root succeeded, 1 if it failed, otherwise 5
-abbrev pub picture_output : Program → List Event → Output
-picture_output p events = record { bytes = picture p events; status = state_status (shown (after p events)) }
+-- the picture of a run of these events; the status is that of the last state: 0 if the root
+-- succeeded, 1 if it failed, otherwise 5
+abbrev pub drawn_output : Program → Drawn → List Event → Output
+drawn_output p d events =
+    record { bytes = picture p d events; status = state_status (shown (after p events)) }
+
+-- the picture of a run up to the last event that is shown
+abbrev pub picture_output : Program → Option Window → List Event → Output
+picture_output p window events =
+    drawn_output p (shown_events window (length events))
+    (take (shown_events window (length events)).last events)
 
 -- ---- of a text and a trace
 
-abbrev pub traced_output : Program → Result (List Event) TraceError → Output
-traced_output p (Ok events) = picture_output p events
-traced_output p (Err e) = trace_fault_output e
+abbrev pub traced_output : Program → Option Window → Result (List Event) TraceError → Output
+traced_output p window (Ok events) = picture_output p window events
+traced_output p window (Err e) = trace_fault_output e
 
 -- a fault of the text comes before one of the trace
-abbrev pub text_output : Result Program AsmError → List ℕ → Output
-text_output (Ok p) trace = traced_output p (trace_read trace)
-text_output (Err e) trace = text_fault_output e
+abbrev pub text_output : Result Program AsmError → Option Window → List ℕ → Output
+text_output (Ok p) window trace = traced_output p window (trace_read trace)
+text_output (Err e) window trace = text_fault_output e
 
 -- what `look draw` prints for a text and a trace, or that memory ran out
-abbrev pub IsPictureOf : List ℕ → List ℕ → Output → Type 0
-IsPictureOf text trace output =
-    (output ≡ text_output (judged text) trace) ⊎ (output ≡ memory_output)
+abbrev pub IsPictureOf : Option Window → List ℕ → List ℕ → Output → Type 0
+IsPictureOf window text trace output =
+    (output ≡ text_output (judged text) window trace) ⊎ (output ≡ memory_output)

@@ -8,7 +8,9 @@ mod of_text;
 pub mod picture;
 pub mod place;
 mod style;
+pub mod window;
 pub mod writing;
 
 pub use of_text::write_picture;
 pub use style::{LEGEND, STYLE};
+pub use window::Window;

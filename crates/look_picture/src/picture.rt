@@ -1,6 +1,6 @@
 //! A run as a picture: a lane for each task, a column for each event.
 
-ghost use Rattle.std.specs.Prelude.{◌≡◌, ◌++◌, ◌<◌, ◌≤◌, ◌^◌, [], OnOk, IfOk, length, false};
+ghost use Rattle.std.specs.Prelude.{◌≡◌, ◌++◌, ◌<◌, ◌≤◌, ◌^◌, OnOk, IfOk, length, take, drop, false};
 ghost use Rattle.std.specs.String.{string_bytes};
 ghost use Rattle.sts_code.specs.declared.limits.TheConstants.{MAX_BIRTHS};
 ghost use Rattle.sts_model.specs.Run as run;
@@ -13,8 +13,9 @@ use crate::lanes::{lane_names, task_cells};
 use crate::marks::Mark;
 use crate::place::{column, height, lane, width};
 use crate::style::{legend, style};
+use crate::window::{Drawn, Window, left_out, shown_events};
 use crate::writing::{mark_end, mark_start, text_end, text_start};
-use look_lines::{Watch, event_words, lines};
+use look_lines::{Watch, after, event_words, lines};
 use std::alloc::{AllocError, Global};
 use std::fmt::Write;
 use sts_code::Program;
@@ -107,108 +108,124 @@ fn number_end(out: &mut String, n: usize, idle: &str) -> Result<(), AllocError>
 }
 
 /// The event's number above the lanes.
-fn number(out: &mut String, n: usize, event: Event, is_counted: bool) -> Result<(), AllocError>
+fn number(
+    out: &mut String,
+    at: usize,
+    n: usize,
+    event: Event,
+    is_counted: bool,
+) -> Result<(), AllocError>
     ensures { OnOk result (string_bytes out.new
-        ≡ string_bytes out.old ++ def.number n event is_counted) }
+        ≡ string_bytes out.old ++ def.number at n event is_counted) }
 {
-    text_start(out, number_class(is_counted), column(n), 44)?;
+    text_start(out, number_class(is_counted), column(at), 44)?;
     write!(out, "<title>")?;
     event_words(out, event)?;
     number_end(out, n, idle_word(is_counted))
 }
 
-/// The column of the n-th event.
+/// The n-th event in a column.
 fn event_column(
     out: &mut String,
     before: &Watch<'_>,
     watch: &Watch<'_>,
+    at: usize,
     n: usize,
     event: Event,
     is_counted: bool,
 ) -> Result<(), AllocError>
     ensures { OnOk result (string_bytes out.new ≡ string_bytes out.old
-        ++ def.event_column before.now watch.now n event is_counted) }
+        ++ def.event_column before.now watch.now at n event is_counted) }
 {
-    number(out, n, event, is_counted)?;
-    standing(out, before, watch, column(n), is_counted)?;
-    stepped(out, column(n), event, is_counted)
+    number(out, at, n, event, is_counted)?;
+    standing(out, before, watch, column(at), is_counted)?;
+    stepped(out, column(at), event, is_counted)
 }
 
-/// Applies the n-th event to two machines in the same state, and draws its column.
+/// Applies the n-th event to two machines in the same state, and draws it in a column.
 fn event_step(
     alloc: Global,
     out: &mut String,
     before: &mut Watch<'_>,
     watch: &mut Watch<'_>,
+    at: usize,
     n: usize,
     event: Event,
 ) -> Result<(), AllocError>
     ensures behind { OnOk result (before.new ≡ after_event before.old event) }
     ensures stands { OnOk result (watch.new ≡ after_event watch.old event) }
     ensures drawn { OnOk result (string_bytes out.new ≡ string_bytes out.old
-        ++ def.event_column before.old (after_event watch.old event) n event
+        ++ def.event_column before.old (after_event watch.old event) at n event
         (run.counts before.old.program before.old.state event)) }
 {
     let is_counted = before.counts(event);
     watch.apply(alloc, event)?;
-    event_column(out, before, watch, n, event, is_counted)?;
+    event_column(out, before, watch, at, n, event, is_counted)?;
     before.apply(alloc, event)
 }
 
-/// Applies the first of these events, in order, to two machines, and draws the column of each.
+/// Applies these events but the first ones, in order, to two machines, and draws a column for each.
 fn event_columns(
     alloc: Global,
     out: &mut String,
     before: &mut Watch<'_>,
     watch: &mut Watch<'_>,
+    skipped: usize,
     events: &[Event],
 ) -> Result<(), AllocError>
-    requires behind { before.old ≡ watched watch.old.program [] }
-    requires starts { watch.old ≡ watched watch.old.program [] }
+    requires behind { before.old ≡ watched watch.old.program (take skipped events.now) }
+    requires starts { watch.old ≡ watched watch.old.program (take skipped events.now) }
+    requires inside { skipped ≤ length events.now }
     ensures stands { OnOk result (watch.new ≡ watched watch.old.program events.now) }
     ensures drawn { OnOk result (string_bytes out.new ≡ string_bytes out.old
-        ++ def.columns_from watch.old.program [] events.now) }
+        ++ def.columns_from watch.old.program skipped (take skipped events.now)
+        (drop skipped events.now)) }
 {
-    for i in 0..events.len() {
-        event_step(alloc, out, before, watch, i + 1, events[i])?;
+    for i in skipped..events.len() {
+        event_step(alloc, out, before, watch, i + 1 - skipped, i + 1, events[i])?;
     }
     Ok(())
 }
 
-/// The column before the first event.
+/// The column before the first event that has one.
 fn first_column(out: &mut String, watch: &Watch<'_>) -> Result<(), AllocError>
     ensures { OnOk result (string_bytes out.new
         ≡ string_bytes out.old ++ def.first_column watch.now) }
 {
-    let world = watch.world();
-    cells(out, watch.program(), world, world, column(0))
+    standing(out, watch, watch, column(0), false)
 }
 
-/// Draws the column before the first event and one after each. Answers the machine that ran them.
+/// Draws the column before the first event and one after each, but skips the first events. Answers
+/// the machine that ran them.
 fn columns<'p>(
     alloc: Global,
     out: &mut String,
     program: &'p Program,
+    skipped: usize,
     events: &[Event],
 ) -> Result<Watch<'p>, AllocError>
+    requires { skipped ≤ length events.now }
     ensures stands { IfOk result (λ w. w ≡ watched program.now events.now) }
     ensures drawn { OnOk result (string_bytes out.new
-        ≡ string_bytes out.old ++ def.columns program.now events.now) }
+        ≡ string_bytes out.old ++ def.columns program.now skipped events.now) }
 {
-    let mut before = Watch::start(alloc, program)?;
-    let mut watch = Watch::start(alloc, program)?;
+    let mut before = after(alloc, program, &events[..skipped])?;
+    let mut watch = after(alloc, program, &events[..skipped])?;
     first_column(out, &watch)?;
-    event_columns(alloc, out, &mut before, &mut watch, events)?;
+    event_columns(alloc, out, &mut before, &mut watch, skipped, events)?;
     Ok(watch)
 }
 
-/// The state of the run, and the steps that it took.
-fn heading(out: &mut String, watch: &Watch<'_>) -> Result<(), AllocError>
-    ensures { OnOk result (string_bytes out.new ≡ string_bytes out.old ++ def.heading watch.now) }
+/// The state of the run, the steps that it took, and which events are left out.
+fn heading(out: &mut String, watch: &Watch<'_>, drawn: Drawn) -> Result<(), AllocError>
+    requires { drawn.last ≤ drawn.all }
+    ensures { OnOk result (string_bytes out.new
+        ≡ string_bytes out.old ++ def.heading watch.now drawn) }
 {
     state_line(out, watch.program(), watch.state())?;
     write!(out, " ")?;
-    steps_line(out, watch.steps())
+    steps_line(out, watch.steps())?;
+    left_out(out, drawn)
 }
 
 fn svg_start(out: &mut String, wide: u128, high: u64) -> Result<(), AllocError>
@@ -262,12 +279,13 @@ fn description(out: &mut String, watch: &Watch<'_>) -> Result<(), AllocError>
 }
 
 /// The size, the state of the run, and all tasks and scopes.
-fn head(out: &mut String, watch: &Watch<'_>, events: usize) -> Result<(), AllocError>
+fn head(out: &mut String, watch: &Watch<'_>, drawn: Drawn) -> Result<(), AllocError>
+    requires { drawn.last ≤ drawn.all }
     ensures { OnOk result (string_bytes out.new
-        ≡ string_bytes out.old ++ def.head watch.now events) }
+        ≡ string_bytes out.old ++ def.head watch.now drawn) }
 {
-    sized(out, watch, events)?;
-    heading(out, watch)?;
+    sized(out, watch, drawn.columns())?;
+    heading(out, watch, drawn)?;
     description(out, watch)
 }
 
@@ -282,15 +300,25 @@ fn grid(out: &mut String, style: &str, wide: u128, high: usize) -> Result<(), Al
     )
 }
 
-/// The grid, and the state of the run above it.
-fn backdrop(out: &mut String, watch: &Watch<'_>, events: usize) -> Result<(), AllocError>
+/// The style, and the grid behind these many columns and lanes.
+fn grid_of(out: &mut String, columns: usize, tasks: usize) -> Result<(), AllocError>
+    requires { tasks ≤ MAX_BIRTHS }
     ensures { OnOk result (string_bytes out.new
-        ≡ string_bytes out.old ++ def.backdrop watch.now events) }
+        ≡ string_bytes out.old ++ def.grid_of columns tasks) }
+{
+    grid(out, style(), 24 * columns as u128 + 24, 52 * tasks)
+}
+
+/// The grid, and the state of the run above it.
+fn backdrop(out: &mut String, watch: &Watch<'_>, drawn: Drawn) -> Result<(), AllocError>
+    requires { drawn.last ≤ drawn.all }
+    ensures { OnOk result (string_bytes out.new
+        ≡ string_bytes out.old ++ def.backdrop watch.now drawn) }
 {
     let tasks = watch.world().records().tasks_born();
-    grid(out, style(), 24 * events as u128 + 24, 52 * tasks)?;
+    grid_of(out, drawn.columns(), tasks)?;
     text_start(out, "heading", 12, 22)?;
-    heading(out, watch)?;
+    heading(out, watch, drawn)?;
     text_end(out)
 }
 
@@ -325,32 +353,54 @@ fn below(out: &mut String, watch: &Watch<'_>) -> Result<(), AllocError>
 fn framed(
     out: &mut String,
     watch: &Watch<'_>,
-    events: usize,
+    drawn: Drawn,
     columns: &str,
 ) -> Result<(), AllocError>
+    requires { drawn.last ≤ drawn.all }
     ensures { OnOk result (string_bytes out.new
-        ≡ string_bytes out.old ++ def.framed watch.now events columns.now) }
+        ≡ string_bytes out.old ++ def.framed watch.now drawn columns.now) }
 {
-    head(out, watch, events)?;
-    backdrop(out, watch, events)?;
+    head(out, watch, drawn)?;
+    backdrop(out, watch, drawn)?;
     out.push_str(columns)?;
     below(out, watch)
 }
 
 /// The picture of a run of these events, and the status of the machine's last state.
-///
-/// # Errors
-///
-/// Memory ran out.
-pub fn picture(alloc: Global, program: &Program, events: &[Event]) -> Result<Output, AllocError>
-    ensures { IfOk result (λ o. o ≡ def.picture_output program.now events.now) }
+fn picture_of(
+    alloc: Global,
+    program: &Program,
+    drawn: Drawn,
+    events: &[Event],
+) -> Result<Output, AllocError>
+    requires skips { drawn.before ≤ length events.now }
+    requires ordered { drawn.last ≤ drawn.all }
+    ensures { IfOk result (λ o. o ≡ def.drawn_output program.now drawn events.now) }
 {
-    let mut drawn = String::new(alloc);
-    let watch = columns(alloc, &mut drawn, program, events)?;
+    let mut columns_text = String::new(alloc);
+    let watch = columns(alloc, &mut columns_text, program, drawn.before, events)?;
     let mut text = String::new(alloc);
-    framed(&mut text, &watch, events.len(), drawn.as_str())?;
+    framed(&mut text, &watch, drawn, columns_text.as_str())?;
     Ok(Output {
         text,
         status: state_status(watch.state()),
     })
+}
+
+/// The picture of a run up to the last event of a window, and the status of the machine's state
+/// there.
+///
+/// # Errors
+///
+/// Memory ran out.
+pub fn picture(
+    alloc: Global,
+    program: &Program,
+    window: Option<Window>,
+    events: &[Event],
+) -> Result<Output, AllocError>
+    ensures { IfOk result (λ o. o ≡ def.picture_output program.now window events.now) }
+{
+    let shown = shown_events(window, events.len());
+    picture_of(alloc, program, shown, &events[..shown.last])
 }

@@ -14,7 +14,7 @@ use Rattle.sts_model.specs.declared.record.Completion.{Completion}
 use Rattle.sts_model.specs.declared.record.Scope.{Scope}
 use Rattle.sts_model.specs.declared.record.Task.{Task}
 use Rattle.sts_model.specs.World.{World, scope_at, task_at}
-use Rattle.sts_model.specs.Living.{lives}
+use Rattle.sts_model.specs.Living.{is_closed, lives}
 use Rattle.sts_model.specs.Waiting.{can_step, stand_at}
 use Rattle.sts_model.specs.Environment.{environment_of, read}
 use Rattle.sts_plain.specs.Seen.{shown}
@@ -29,6 +29,7 @@ use Rattle.look_cases.proofs.FloatLemmas.{trace_fault_plain}
 use Rattle.look_cases.proofs.FloatLemmas as answers
 use Rattle.look_lines.specs.Lines.{is_heard, keys}
 use Rattle.look_lines.specs.Watched.{Watched}
+use Rattle.look_lines.specs.declared.view.ViewOptions.{ViewOptions}
 use Rattle.look_views.specs.Scope as scope
 use Rattle.look_views.specs.Task as task
 use Rattle.look_views.specs.Views as def
@@ -81,12 +82,28 @@ brief_plain p w t = or_from _ _ (state_plain p w t) (or_from _ _ (maybe_plain (t
 whole_plain : (p : Program) (w : World) (t : ℕ) → has_float (task.whole p w t) ≡ false
 whole_plain p w t = or_from _ _ (frame_plain w t) (brief_plain p w t)
 
+-- one value more, if there is one
+more_plain : (b : Bool) (x : Data) (ds : List Data) → has_float x ≡ false → items_have_float (items_of ds) ≡ false → items_have_float (items_of ((if b then x ∷ [] else []) ++ ds)) ≡ false
+more_plain true x ds h k = or_from _ _ h k
+more_plain false x ds h k = k
+
+unless_plain : (b : Bool) (x : Data) (ds : List Data) → has_float x ≡ false → items_have_float (items_of ds) ≡ false → items_have_float (items_of ((if b then [] else x ∷ []) ++ ds)) ≡ false
+unless_plain true x ds h k = k
+unless_plain false x ds h k = or_from _ _ h k
+
+task_plain : (p : Program) (full : Bool) (w : World) (t : ℕ) → has_float (task.task p full w t) ≡ false
+task_plain p full w t = either_plain (full && lives (task_at w t)) _ _ (whole_plain p w t) (brief_plain p w t)
+
 tasks_plain : (p : Program) (full : Bool) (w : World) (ts : List Task) (t : ℕ) → items_have_float (items_of (task.tasks p full w ts t)) ≡ false
 tasks_plain p full w [] t = refl
 tasks_plain p full w (x ∷ xs) t =
-    or_from _ _
-    (either_plain (full && lives (task_at w t)) _ _ (whole_plain p w t) (brief_plain p w t))
-    (tasks_plain p full w xs (t + 1))
+    or_from _ _ (task_plain p full w t) (tasks_plain p full w xs (t + 1))
+
+living_tasks_plain : (p : Program) (full : Bool) (w : World) (ts : List Task) (t : ℕ) → items_have_float (items_of (task.living_tasks p full w ts t)) ≡ false
+living_tasks_plain p full w [] t = refl
+living_tasks_plain p full w (x ∷ xs) t =
+    more_plain (lives (task_at w t)) (task.task p full w t) (task.living_tasks p full w xs (t + 1))
+    (task_plain p full w t) (living_tasks_plain p full w xs (t + 1))
 
 -- ---- a scope
 
@@ -98,12 +115,19 @@ told_plain : (cs : List Completion) → items_have_float (items_of (scope.told_e
 told_plain [] = refl
 told_plain (c ∷ cs) = or_from _ _ (told_by_plain c.task c.end) (told_plain cs)
 
+scope_plain : (full : Bool) (w : World) (s : ℕ) → has_float (scope.scope full s (scope_at w s)) ≡ false
+scope_plain full w s = either_plain full _ _ (or_from _ _ (told_plain (scope_at w s).completions) refl) refl
+
 scopes_plain : (full : Bool) (w : World) (ss : List Scope) (s : ℕ) → items_have_float (items_of (scope.scopes full w ss s)) ≡ false
 scopes_plain full w [] s = refl
 scopes_plain full w (x ∷ xs) s =
-    or_from _ _
-    (either_plain full _ _ (or_from _ _ (told_plain (scope_at w s).completions) refl) refl)
-    (scopes_plain full w xs (s + 1))
+    or_from _ _ (scope_plain full w s) (scopes_plain full w xs (s + 1))
+
+open_scopes_plain : (full : Bool) (w : World) (ss : List Scope) (s : ℕ) → items_have_float (items_of (scope.open_scopes full w ss s)) ≡ false
+open_scopes_plain full w [] s = refl
+open_scopes_plain full w (x ∷ xs) s =
+    unless_plain (is_closed (scope_at w s).phase) (scope.scope full s (scope_at w s)) (scope.open_scopes full w xs (s + 1))
+    (scope_plain full w s) (open_scopes_plain full w xs (s + 1))
 
 -- ---- a view
 
@@ -112,14 +136,25 @@ run_plain p plain.Running steps = refl
 run_plain p (plain.Ended end) steps = answers.ended_plain end steps
 run_plain p (plain.Fault kind task f pc) steps = refl
 
-pub state_view_plain : (full : Bool) (n : ℕ) (m : Watched) → has_float (def.state_view full n m) ≡ false
-state_view_plain full n m =
+whole_state_plain : (full : Bool) (n : ℕ) (m : Watched) → has_float (def.whole_state full n m) ≡ false
+whole_state_plain full n m =
     or_from _ _ (run_plain m.program (shown m.state) m.steps)
     (or_from _ _ (scopes_plain full m.last m.last.scopes 0)
     (or_from _ _ (tasks_plain m.program full m.last m.last.tasks 0) refl))
 
-pub event_view_plain : (full : Bool) (n : ℕ) (e : Event) (is_counted : Bool) (m : Watched) → has_float (def.event_view full n e is_counted m) ≡ false
-event_view_plain full n e is_counted m = state_view_plain full n m
+living_state_plain : (full : Bool) (n : ℕ) (m : Watched) → has_float (def.living_state full n m) ≡ false
+living_state_plain full n m =
+    or_from _ _ (run_plain m.program (shown m.state) m.steps)
+    (or_from _ _ (open_scopes_plain full m.last m.last.scopes 0)
+    (or_from _ _ (living_tasks_plain m.program full m.last m.last.tasks 0) refl))
+
+pub state_view_plain : (wanted : ViewOptions) (n : ℕ) (m : Watched) → has_float (def.state_view wanted n m) ≡ false
+state_view_plain wanted n m =
+    either_plain wanted.living _ _ (living_state_plain wanted.full n m) (whole_state_plain wanted.full n m)
+
+pub event_view_plain : (wanted : ViewOptions) (n : ℕ) (e : Event) (is_counted : Bool) (m : Watched) → has_float (def.event_view wanted n e is_counted m) ≡ false
+event_view_plain wanted n e is_counted m =
+    either_plain wanted.living _ _ (living_state_plain wanted.full n m) (whole_state_plain wanted.full n m)
 
 -- ---- a fault
 

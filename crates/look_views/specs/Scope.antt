@@ -8,6 +8,7 @@ use Rattle.sts_model.specs.declared.event.End.{End}
 use Rattle.sts_model.specs.declared.event.End.TheVariants.{Success, Failed}
 use Rattle.sts_model.specs.declared.record.Completion.{Completion}
 use Rattle.sts_model.specs.declared.record.Scope.{Scope}
+use Rattle.sts_model.specs.Living.{is_closed}
 use Rattle.sts_model.specs.Outside.{can_expire}
 use Rattle.sts_model.specs.World.{World, scope_at}
 use Rattle.look_cases.specs.Json.{count, integer, object_of}
@@ -66,3 +67,13 @@ scope full s x = if full then whole s x else brief s x
 abbrev pub scopes : Bool → World → List Scope → ℕ → List Data
 scopes full w [] s = []
 scopes full w (x ∷ xs) s = scope full s (scope_at w s) ∷ scopes full w xs (s + 1)
+
+-- a scope, unless it is closed
+abbrev pub maybe_open : Bool → World → ℕ → List Data
+maybe_open full w s =
+    if is_closed (scope_at w s).phase then [] else scope full s (scope_at w s) ∷ []
+
+-- the scopes among these that aren't closed, numbered from s on
+abbrev pub open_scopes : Bool → World → List Scope → ℕ → List Data
+open_scopes full w [] s = []
+open_scopes full w (x ∷ xs) s = maybe_open full w s ++ open_scopes full w xs (s + 1)

@@ -115,3 +115,12 @@ task p full w t = if full && lives (task_at w t) then whole p w t else brief p w
 abbrev pub tasks : Program → Bool → World → List Task → ℕ → List Data
 tasks p full w [] t = []
 tasks p full w (x ∷ xs) t = task p full w t ∷ tasks p full w xs (t + 1)
+
+-- a task, if it lives
+abbrev pub maybe_living : Program → Bool → World → ℕ → List Data
+maybe_living p full w t = if lives (task_at w t) then task p full w t ∷ [] else []
+
+-- the living tasks among these, numbered from t on
+abbrev pub living_tasks : Program → Bool → World → List Task → ℕ → List Data
+living_tasks p full w [] t = []
+living_tasks p full w (x ∷ xs) t = maybe_living p full w t ++ living_tasks p full w xs (t + 1)

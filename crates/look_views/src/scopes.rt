@@ -10,7 +10,7 @@ use look_lines::phase_word;
 use serde_json::{Value, json};
 use std::alloc::{AllocError, Global};
 use sts_code::{Joiner, Pred};
-use sts_model::{Completion, End};
+use sts_model::{Completion, End, Phase};
 use sts_world::Records;
 
 /// Returns the words of a joiner, one space apart, as an `open` has them.
@@ -110,6 +110,28 @@ pub(crate) fn scopes(alloc: Global, full: bool, records: &Records) -> Result<Vec
     let mut list = Vec::new(alloc);
     for s in 0..records.scopes_born() {
         list.push(scope(alloc, full, records, s as u32)?)?;
+    }
+    Ok(list)
+}
+
+/// Returns the scopes that aren't closed. In full they have the ends that their joiners got.
+///
+/// # Errors
+///
+/// Memory was refused.
+pub(crate) fn open_scopes(
+    alloc: Global,
+    full: bool,
+    records: &Records,
+) -> Result<Vec<Value>, AllocError>
+    ensures { IfOk result (λ list. items_view list.items
+        ≡ items_of (def.open_scopes full records.now records.now.scopes 0)) }
+{
+    let mut list = Vec::new(alloc);
+    for s in 0..records.scopes_born() {
+        if !matches!(records.phase(s as u32), Phase::Closed) {
+            list.push(scope(alloc, full, records, s as u32)?)?;
+        }
     }
     Ok(list)
 }

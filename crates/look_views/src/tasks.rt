@@ -162,3 +162,26 @@ pub(crate) fn tasks(
     }
     Ok(list)
 }
+
+/// Returns the tasks that live. In full they have their frames.
+///
+/// # Errors
+///
+/// Memory was refused.
+pub(crate) fn living_tasks(
+    alloc: Global,
+    program: &Program,
+    full: bool,
+    world: &World,
+) -> Result<Vec<Value>, AllocError>
+    ensures { IfOk result (λ list. items_view list.items
+        ≡ items_of (def.living_tasks program.now full world.now world.now.tasks 0)) }
+{
+    let mut list = Vec::new(alloc);
+    for t in 0..world.records().tasks_born() {
+        if world.records().lives(t as u32) {
+            list.push(task(alloc, program, full, world, t as u32)?)?;
+        }
+    }
+    Ok(list)
+}

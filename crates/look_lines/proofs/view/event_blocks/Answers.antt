@@ -14,13 +14,13 @@ loop-i-preserved c =
     let es = c.args.events.now in
     let i = c.loop-i.i in
     let e = get_or es i (Step 0) in
-    let rest = def.views_from p c.args.full (take (i + 1) es) (drop (i + 1) es) in
-    let here = λ (w : Watched). def.event_line (i + 1) e (run.counts w.program w.state e) ++ def.lines_of c.args.full (after_event w e) in
+    let rest = def.views_from p c.args.wanted (take (i + 1) es) (drop (i + 1) es) in
+    let here = λ (w : Watched). def.event_line (i + 1) e (run.counts w.program w.state e) ++ def.view_lines c.args.wanted (after_event w e) in
     record {
       stands = c.in_ok-event_block.ensures.stands ∙ ap (λ w. after_event w e) c.loop-i.invariant.stands ∙ watched_next p es i (Step 0) (omega arith) (omega arith);
       written =
           ap (λ xs. xs ++ rest) (c.in_ok-event_block.ensures.written ∙ ap (λ w. string_bytes c.loop-i.out ++ here w) c.loop-i.invariant.stands)
           ∙ append_assoc (string_bytes c.loop-i.out) (here (watched p (take i es))) rest
-          ∙ ap (λ xs. string_bytes c.loop-i.out ++ xs) (sym (views_next p c.args.full es i (Step 0) (omega arith) (omega arith)))
+          ∙ ap (λ xs. string_bytes c.loop-i.out ++ xs) (sym (views_next p c.args.wanted es i (Step 0) (omega arith) (omega arith)))
           ∙ c.loop-i.invariant.written;
     }

@@ -1,8 +1,18 @@
-use Rattle.std.proofs.Common.{◌++◌, [], ◌∙◌, ap, ap₂, append_assoc}
+use Rattle.std.proofs.Common.{◌++◌, ◌∙◌, ap, ap₂, sym, append_assoc, take, drop}
 use Rattle.std.specs.String.{string_bytes}
 use Rattle.look_lines.specs.Watched.{Watched, watched}
 use Rattle.look_picture.specs.Picture as def
 use Rattle.look_picture.proofs.picture.columns.Goals as goal
+
+pub event_columns-requires-clause-behind : goal.event_columns-requires-clause-behind
+event_columns-requires-clause-behind c =
+    c.in_ok-before.ensures
+    ∙ ap (λ (w : Watched). watched w.program (take c.args.skipped c.args.events.now)) (sym c.in_ok-watch.ensures)
+
+pub event_columns-requires-clause-starts : goal.event_columns-requires-clause-starts
+event_columns-requires-clause-starts c =
+    c.in_ok-watch.ensures
+    ∙ ap (λ (w : Watched). watched w.program (take c.args.skipped c.args.events.now)) (sym c.in_ok-watch.ensures)
 
 pub returns-clause-stands : goal.returns-clause-stands
 returns-clause-stands c =
@@ -12,8 +22,9 @@ pub returns-clause-drawn : goal.returns-clause-drawn
 returns-clause-drawn c =
     let p = c.args.program.now in
     let es = c.args.events.now in
+    let n = c.args.skipped in
     let bytes = string_bytes c.args.out.now in
     let start = c.in_ok-watch.ensures in
     let first = c.in_ok-first_column.ensures ∙ ap (λ w. bytes ++ def.first_column w) start in
-    c.in_ok-event_columns.ensures.drawn ∙ ap₂ (λ xs (w : Watched). xs ++ def.columns_from w.program [] es) first start
-    ∙ append_assoc bytes (def.first_column (watched p [])) (def.columns_from p [] es)
+    c.in_ok-event_columns.ensures.drawn ∙ ap₂ (λ xs (w : Watched). xs ++ def.columns_from w.program n (take n es) (drop n es)) first start
+    ∙ append_assoc bytes (def.first_column (watched p (take n es))) (def.columns_from p n (take n es) (drop n es))

@@ -1,4 +1,4 @@
-use Rattle.std.proofs.Common.{◌≡◌, ◌++◌, [], take, drop}
+use Rattle.std.proofs.Common.{◌≡◌, ◌++◌, take, drop}
 use Rattle.std.specs.String.{string_bytes}
 use Rattle.look_picture.specs.Picture as def
 use Rattle.look_lines.specs.Watched.{watched}
@@ -9,5 +9,5 @@ abbrev pub invariant-loop-i : goal.invariant-loop-i
 invariant-loop-i l = record {
   behind : l.before ≡ watched l.fn.watch.program (take l.i l.events);
   stands : l.watch ≡ watched l.fn.watch.program (take l.i l.events);
-  drawn : string_bytes l.out ++ def.columns_from l.fn.watch.program (take l.i l.events) (drop l.i l.events) ≡ string_bytes l.fn.out ++ def.columns_from l.fn.watch.program [] l.events;
+  drawn : string_bytes l.out ++ def.columns_from l.fn.watch.program l.skipped (take l.i l.events) (drop l.i l.events) ≡ string_bytes l.fn.out ++ def.columns_from l.fn.watch.program l.skipped (take l.skipped l.events) (drop l.skipped l.events);
 }

@@ -11,7 +11,7 @@ returns c =
     let es = c.args.events.now in
     let start = c.in_ok-watch.ensures in
     let stands = c.in_ok-push_events.ensures.stands ∙ ap (λ (w : Watched). watched w.program es) start in
-    let first = c.in_ok-push_view.ensures ∙ ap₂ (λ xs w. xs ++ def.line (def.state_view c.args.full 0 w)) c.new-text.ensures.bytes start in
-    let written = c.in_ok-push_events.ensures.written ∙ ap₂ (λ xs (w : Watched). xs ++ def.views_from w.program c.args.full [] es) first start in
+    let first = c.in_ok-push_view.ensures ∙ ap₂ (λ xs w. xs ++ def.line (def.state_view c.args.wanted 0 w)) c.new-text.ensures.bytes start in
+    let written = c.in_ok-push_events.ensures.written ∙ ap₂ (λ xs (w : Watched). xs ++ def.views_from w.program c.args.wanted [] es) first start in
     let status = c.state_status.ensures ∙ ap out.state_status (c.state.ensures ∙ ap (λ (w : Watched). shown w.state) stands) in
     ap₂ (λ bytes s. record { bytes = bytes; status = s }) written status

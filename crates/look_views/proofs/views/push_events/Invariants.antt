@@ -8,5 +8,5 @@ use Rattle.look_views.proofs.views.push_events.Given as goal
 abbrev pub invariant-loop-i : goal.invariant-loop-i
 invariant-loop-i l = record {
   stands : l.watch ≡ watched l.fn.watch.program (take l.i l.events);
-  written : string_bytes l.out ++ def.views_from l.fn.watch.program l.full (take l.i l.events) (drop l.i l.events) ≡ string_bytes l.fn.out ++ def.views_from l.fn.watch.program l.full [] l.events;
+  written : string_bytes l.out ++ def.views_from l.fn.watch.program l.wanted (take l.i l.events) (drop l.i l.events) ≡ string_bytes l.fn.out ++ def.views_from l.fn.watch.program l.wanted [] l.events;
 }

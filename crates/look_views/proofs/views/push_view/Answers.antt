@@ -9,7 +9,7 @@ use Rattle.look_views.proofs.views.push_view.Goals as goal
 pub returns : goal.returns
 returns c =
     let is = c.in_ok-value.ensures in
-    let plain = ap has_float is ∙ state_view_plain c.args.full c.args.n c.args.watch.now in
+    let plain = ap has_float is ∙ state_view_plain c.args.wanted c.args.n c.args.watch.now in
     on_ok_weaker c.push_line.result
     (λ h. h ∙ ap (λ d. string_bytes c.args.out.now ++ def.line d) is)
     (c.push_line.ensures plain)

@@ -1,0 +1,77 @@
+//! How many tasks don't live, and how many scopes are closed.
+
+ghost use Rattle.std.specs.Prelude.{◌≡◌, ◌≤◌, ◌++◌, OnOk};
+ghost use Rattle.std.specs.String.{string_bytes};
+ghost use Rattle.sts_code.specs.declared.limits.TheConstants.{MAX_BIRTHS};
+ghost use Rattle.look_lines.specs.Lines as def;
+
+use crate::scopes::is_closed;
+use std::alloc::AllocError;
+use std::fmt::Write;
+use sts_world::Records;
+
+/// The number of tasks that don't live.
+pub fn resting(records: &Records) -> usize
+    ensures value { result ≡ def.resting records.now.tasks }
+{
+    let mut count = 0;
+    for t in 0..records.tasks_born() {
+        if !records.lives(t as u32) {
+            count += 1;
+        }
+    }
+    count
+}
+
+/// The number of scopes that are closed.
+pub fn closed(records: &Records) -> usize
+    ensures value { result ≡ def.closed records.now.scopes }
+{
+    let mut count = 0;
+    for s in 0..records.scopes_born() {
+        if is_closed(records, s as u32) {
+            count += 1;
+        }
+    }
+    count
+}
+
+fn resting_words(n: usize) -> &'static str
+    ensures { result.now ≡ def.resting_words n }
+{
+    if n == 1 {
+        " task that doesn't live"
+    } else {
+        " tasks that don't live"
+    }
+}
+
+fn closed_words(n: usize) -> &'static str
+    ensures { result.now ≡ def.closed_words n }
+{
+    if n == 1 {
+        " closed scope"
+    } else {
+        " closed scopes"
+    }
+}
+
+fn others_line(out: &mut String, tasks: usize, scopes: usize) -> Result<(), AllocError>
+    ensures { OnOk result (string_bytes out.new
+        ≡ string_bytes out.old ++ def.others_line tasks scopes) }
+{
+    let after_tasks = resting_words(tasks);
+    let after_scopes = closed_words(scopes);
+    writeln!(
+        out,
+        "not shown: {tasks}{after_tasks}, {scopes}{after_scopes}"
+    )
+}
+
+/// How many tasks don't live, and how many scopes are closed.
+pub fn others(out: &mut String, records: &Records) -> Result<(), AllocError>
+    ensures { OnOk result (string_bytes out.new
+        ≡ string_bytes out.old ++ def.others records.now) }
+{
+    others_line(out, resting(records), closed(records))
+}
