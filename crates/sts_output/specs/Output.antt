@@ -89,8 +89,8 @@ list_output (Err e) = text_fault_output e
 abbrev pub refused_output : Program → ℕ → ℕ → Cause → Output
 refused_output p f pc c = record { bytes = refused_line p f pc c; status = 4 }
 
--- the output for a refused program: it names the first place with a cause, and the
--- lowest-numbered cause there
+-- the output for a refused program: it names the least place with a cause, and the least cause
+-- there
 pub record IsRefused (p : Program) (output : Output) : Type 0 where
   pub function : ℕ
   pub place : ℕ
