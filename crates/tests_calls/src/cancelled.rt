@@ -82,8 +82,11 @@ const RAISED: &[Call] = &[
     Call::Stand(0, 0, Stand::AtJoin(0)),
     Call::Steps(0, false),
     Call::Cancel(0),
-    Call::Flags(&[false, true, false, true]),
+    Call::Flag(1, true),
+    Call::Flag(2, false),
+    Call::Flag(3, true),
     Call::Steps(0, true),
+    Call::Flag(0, false),
 ];
 
 /// An interrupt doesn't wake an owner that closes a scope, and the last end does.

@@ -6,7 +6,7 @@
 
 use crate::failure::{Failure, in_assembling, in_reading, in_taking, within};
 use crate::row::Row;
-use crate::whole::Run;
+use crate::whole;
 use std::alloc::Global;
 use std::io;
 use sts_asm::assemble;
@@ -197,27 +197,26 @@ fn ran_alone(rt: &HostRuntime, alloc: Global, row: &Row<'_>) -> Result<(), Failu
     Ok(())
 }
 
-/// Goes on with a run between two marks, and says how its root has ended.
-fn tell_run(rt: &HostRuntime, run: &mut impl Run) -> Result<(), Failure> {
-    println!(rt; "from here")?;
-    run.go_on();
-    println!(rt; "to here")?;
-    tell_end(rt, run.end())?;
-    Ok(())
-}
-
-/// A whole run on a machine that was prepared.
+/// A whole run on a machine that was prepared, between two marks.
 fn prepared(rt: &HostRuntime, alloc: Global, row: &Row<'_>) -> Result<(), Failure> {
     let verified = accepted(alloc, row)?;
     let mut machine = within("prepare", Machine::prepare(alloc, &verified))?;
-    tell_run(rt, &mut machine)
+    println!(rt; "from here")?;
+    whole::of_machine(&mut machine);
+    println!(rt; "to here")?;
+    tell_end(rt, machine.root_end())?;
+    Ok(())
 }
 
-/// A whole run in a book that was started.
+/// A whole run in a book that was started, between two marks.
 fn booked(rt: &HostRuntime, alloc: Global, row: &Row<'_>) -> Result<(), Failure> {
     let verified = accepted(alloc, row)?;
     let mut book = within("book", Book::start(alloc, &verified))?;
-    tell_run(rt, &mut book)
+    println!(rt; "from here")?;
+    whole::of_book(&mut book);
+    println!(rt; "to here")?;
+    tell_end(rt, book.root_end())?;
+    Ok(())
 }
 
 /// Makes the call of a name on a row, and says what it answers.
