@@ -187,12 +187,18 @@ fn event_columns(
     Ok(())
 }
 
-/// The column before the first event that has one.
+/// The column before the first event that has one; nothing changed there.
 fn first_column(out: &mut String, watch: &Watch<'_>) -> Result<(), AllocError>
     ensures { OnOk result (string_bytes out.new
         ≡ string_bytes out.old ++ def.first_column watch.now) }
 {
-    standing(out, watch, watch, column(0), false)
+    match watch.state() {
+        PlainState::Fault { .. } => Ok(()),
+        PlainState::Running | PlainState::Ended(_) => {
+            let world = watch.world();
+            cells(out, watch.program(), world, world, column(0))
+        }
+    }
 }
 
 /// Draws the column before the first event and one after each, but skips the first events. Answers
