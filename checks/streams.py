@@ -286,9 +286,11 @@ def at_terminal(program, words):
 
 
 def at_own_terminal(its):
-    """Prepares a new process before it becomes the program: this terminal is its own, and sends it the signal of Ctrl-C."""
+    """Prepares a new process before it becomes the program: this terminal is its own, and sends it the signal of Ctrl-C.
+    A script that was started in the background ignores that signal, and so would the program."""
 
     def prepare():
+        signal.signal(signal.SIGINT, signal.SIG_DFL)
         os.setsid()
         fcntl.ioctl(its, termios.TIOCSCTTY, 0)
 

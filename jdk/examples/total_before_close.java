@@ -8,6 +8,6 @@ void main() throws InterruptedException {
         parts.add(scope.fork(() -> 20));
         scope.join();
     } catch (StructuredTaskScope.TimeoutException e) { }
-    // After a timeout JDK 25 allows get() only after close, and profile 2 of sts only before it.
+    // After a timeout JDK 25 allows the owner get() only after close, and profile 2 of sts only before it.
     IO.println("success " + parts.stream().filter(it -> it.state() == State.SUCCESS).mapToInt(Subtask::get).sum());
 }
