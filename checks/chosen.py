@@ -13,7 +13,7 @@ import os
 import re
 import stat
 
-HEAD = re.compile(r"( *)(?:pub(?:\(\w+\))? )?(?:const )?fn \w")
+HEAD = re.compile(r'( *)(?:(?:pub(?:\(\w+\))?|const|unsafe|extern "C") )*fn \w')
 HOPS, MARK = 128, b"The byte before these says which wrong body runs."
 TABLE = bytes([*range(1, HOPS), 0]) + MARK
 READER = f"""
