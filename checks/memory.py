@@ -40,6 +40,7 @@ import tempfile
 HERE = os.path.dirname(os.path.realpath(__file__))
 BUILT = os.path.join(os.path.dirname(HERE), "crates")
 PROGRAM, CALLS, LOOK = (os.path.join(BUILT, name, "out", name) for name in ("sts", "tests_rows", "look"))
+SECONDS, NO_END = 120, "no end"  # how long a run may take, and the status of one that takes longer: it is never right
 NO_MEMORY, NO_FILE, NO_THREADS = (b"error memory\n", 6), (b"error file\n", 6), (b"error threads\n", 6)
 
 # `others` are further right answers, for a run that takes other steps in another order of its tasks
@@ -336,15 +337,16 @@ class Refusing:
         told, tells = os.pipe()
         with open(os.path.join(self.folder, "trace"), "rb") as file:
             around = {"LD_PRELOAD": self.library, "REFUSE": refuse, "REFUSED": str(tells)}
-            done = subprocess.run(
-                [self.program, *case.words], stdin=file, stdout=out, stderr=subprocess.PIPE, cwd=self.folder, env=around, pass_fds=[tells], timeout=120
-            )
+            how = {"stdin": file, "stdout": out, "stderr": subprocess.PIPE, "cwd": self.folder, "env": around, "pass_fds": [tells]}
+            try:
+                done = subprocess.run([self.program, *case.words], timeout=SECONDS, **how)
+            except subprocess.TimeoutExpired:
+                done = subprocess.CompletedProcess([], NO_END, b"", b"")
         os.close(tells)
         refused = os.read(told, 4096)
         os.close(told)
         self.reason = done.stderr
         return (done.stdout, done.returncode), refused
-
 
     def cost(self, case, refuse):
         """What is printed and the status, and the processor seconds that the run took."""
@@ -407,7 +409,7 @@ def refusals(refusing, case, kind, later=""):
         if kind == "exhaust" and refused:
             right = right and refusing.reason.endswith(b": out of memory\n")
         yield right, f"{kind}:{n}{later}", answer
-        if not refused:
+        if not refused or answer[1] == NO_END:
             return
 
 
@@ -485,7 +487,7 @@ def refused_in_turn(refusing, call, later):
     right, met = (call.case.answer, call.case.status), []
     for n in itertools.count(1):
         answer, refused = refusing.run(call.case, f"memory:{n}{later}")
-        if not refused:
+        if not refused or answer[1] == NO_END:
             break
         lead = without_memory(call, answer)
         met += [lead] if lead and [lead] != met[-1:] else []
