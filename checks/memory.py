@@ -1,8 +1,9 @@
 #!/usr/bin/env python3
-"""Refuses the requests that the programs make to the system, one at a time.  usage: memory.py [PROGRAM [CALLS [LOOK]]]
+"""Refuses the requests that the programs make to the system, one at a time.  usage: memory.py [PROGRAM [LOOK [PART ..]]]
 
-Each case is a command of `sts`, the program PROGRAM, or of `look`, the program LOOK, with the answer that its rules give.
-For n = 1, 2, .. until nothing is refused any more:
+PROGRAM is `sts`, LOOK is `look`. A PART is a function below, such as `threads_of_sts`; all are tried if none is named.
+Each case is a command of one of them, with the answer that its rules give.
+In `requests_of_sts` and `requests_of_look`, for n = 1, 2, .. until nothing is refused any more:
 - the nth request for memory is refused, or that and all later ones: the answer is `error memory` alone with status
   6, or the right one;
 - the nth read fails: `error file` alone with status 6. If it failed for lack of memory, `error memory`, and standard error
@@ -11,17 +12,20 @@ For n = 1, 2, .. until nothing is refused any more:
   If it was a line on standard error that says why a text or an outside text is refused, or which lines of the outside text
   had no effect, the right answer.
 The right answer of `look draw` is what it draws if nothing is refused: another script compares that.
-A run by workers says `error threads` if the start of a worker was refused. It may say this if the refused memory was for
-such a start, and never otherwise. It starts as many workers as it is asked for, with a journal and without. Where one isn't
-started, the others stop: in a program of 480,052 steps this takes less than half the processor time of a whole run.
 Then all reads and writes take one byte at a time. And the output is full, closed, or read by nobody: status 6.
-Then single calls are tried with refused memory, by the part `calls` of the program CALLS (tests_rows), which prints what each answers:
+In `threads_of_sts` the start of each worker is refused in turn. Then a run by workers says `error threads`. It may also say
+this if the refused memory was for such a start, and never otherwise. It starts as many workers as it is asked for, with a
+journal and without. Where one isn't started, the others stop: in a program of 480,052 steps this takes less than half the
+processor time of a whole run.
+In `single_calls`, calls are tried with refused memory, by the part `calls` of the program `tests_rows`, which prints what each
+answers:
 - each call that leads to the one that is tried, and this one, finds no memory in turn; otherwise the answer is right;
 - `verify` gives a program back if memory runs out, and a machine is as it was before such an event. The same program, or
   the same event, then gives the right answer;
 - between `prepare`, or the start of a book, and the end of a whole run there is no request for memory.
 refuse.c makes the refusals. A C compiler makes a library of it, which is loaded before the program as it was built. If
-there is no compiler, or the library can't be loaded, the script says that, and the status is 1.
+there is no compiler, or the library can't be loaded, the script says that, and the status is 1. It refuses no memory to a
+program that was built without proofs, since AddressSanitizer replaces the requests: there only `threads_of_sts` works.
 The last line is `N passed, M failed`, of runs.
 """
 import collections
@@ -36,6 +40,7 @@ import tempfile
 HERE = os.path.dirname(os.path.realpath(__file__))
 BUILT = os.path.join(os.path.dirname(HERE), "crates")
 PROGRAM, CALLS, LOOK = (os.path.join(BUILT, name, "out", name) for name in ("sts", "tests_rows", "look"))
+SECONDS, NO_END = 120, "no end"  # how long a run may take, and the status of one that takes longer: it is never right
 NO_MEMORY, NO_FILE, NO_THREADS = (b"error memory\n", 6), (b"error file\n", 6), (b"error threads\n", 6)
 
 # `others` are further right answers, for a run that takes other steps in another order of its tasks
@@ -323,11 +328,10 @@ class Refusing:
     def __init__(self, program, library, folder):
         self.program, self.library, self.folder = os.path.realpath(program), library, folder
 
-    def works(self):
-        """Is a request refused when one should be?"""
-        case = next(cases())
+    def works(self, kind, case):
+        """Is the first request of this kind refused?"""
         self.put(case)
-        return self.run(case, "memory:1")[1]
+        return self.run(case, f"{kind}:1")[1]
 
     def put(self, case):
         for name, content in (("text", case.text), ("trace", case.trace)):
@@ -339,15 +343,16 @@ class Refusing:
         told, tells = os.pipe()
         with open(os.path.join(self.folder, "trace"), "rb") as file:
             around = {"LD_PRELOAD": self.library, "REFUSE": refuse, "REFUSED": str(tells)}
-            done = subprocess.run(
-                [self.program, *case.words], stdin=file, stdout=out, stderr=subprocess.PIPE, cwd=self.folder, env=around, pass_fds=[tells], timeout=120
-            )
+            how = {"stdin": file, "stdout": out, "stderr": subprocess.PIPE, "cwd": self.folder, "env": around, "pass_fds": [tells]}
+            try:
+                done = subprocess.run([self.program, *case.words], timeout=SECONDS, **how)
+            except subprocess.TimeoutExpired:
+                done = subprocess.CompletedProcess([], NO_END, b"", b"")
         os.close(tells)
         refused = os.read(told, 4096)
         os.close(told)
         self.reason = done.stderr
         return (done.stdout, done.returncode), refused
-
 
     def cost(self, case, refuse):
         """What is printed and the status, and the processor seconds that the run took."""
@@ -410,7 +415,7 @@ def refusals(refusing, case, kind, later=""):
         if kind == "exhaust" and refused:
             right = right and refusing.reason.endswith(b": out of memory\n")
         yield right, f"{kind}:{n}{later}", answer
-        if not refused:
+        if not refused or answer[1] == NO_END:
             return
 
 
@@ -429,11 +434,11 @@ LONG = "func main 0 / push 16 / times 16 / push 10000 / times 10000 / interrupte
 OF_LONG = "main steps 480052 / main tasks 1 / main scopes 0 / main binds 0 / success 0 / steps 480052"
 
 
-def stops(refusing):
+def stops(refusing, case):
     """Yields whether a run ends early if its last worker isn't started, with a journal and without one."""
-    for words in (["run", "text", "--workers", "3"], ["run", "text", "--workers", "3", "--trace", "journal"]):
-        case = Case("a long run", words, lines(LONG), None, lines(OF_LONG), 0)
-        refusing.put(case)
+    refusing.put(case)
+    for words in (case.words, [*case.words, "--trace", "journal"]):
+        case = case._replace(words=words)
         whole, refused = ([refusing.cost(case, it) for _ in range(5)] for it in ("", "thread:3"))
         answers = {it for it, _ in whole}, {it for it, _ in refused}
         least = [min(seconds for _, seconds in it) for it in (whole, refused)]
@@ -455,17 +460,20 @@ def outputs(refusing, case):
             yield status == 6, what, status
 
 
-def tried(refusing, case):
+def requests(refusing, case):
+    """Yields whether the answer is right for each request that is refused, and for each way in which the output fails."""
     refusing.put(case)
     for kind, later in (("memory", ""), ("memory", "+"), ("read", ""), ("exhaust", ""), ("signal", ""), ("write", "")):
         yield from refusals(refusing, case, kind, later)
     yield from outputs(refusing, case)
-    if case.words[:1] == ["run"] and case.status < 2:
-        yield from refusals(refusing, case, "thread")
+
+
+def threads(refusing, case):
+    """Yields whether the answer is right for each worker that isn't started, and whether as many are as were asked for."""
+    refusing.put(case)
+    yield from refusals(refusing, case, "thread")
     if case.words == ["run", "text", "--workers", "3"]:
         yield from workers(refusing, case)
-    if case.name == "verify: two subtasks":
-        yield from stops(refusing)
 
 
 def without_memory(call, answer):
@@ -485,7 +493,7 @@ def refused_in_turn(refusing, call, later):
     right, met = (call.case.answer, call.case.status), []
     for n in itertools.count(1):
         answer, refused = refusing.run(call.case, f"memory:{n}{later}")
-        if not refused:
+        if not refused or answer[1] == NO_END:
             break
         lead = without_memory(call, answer)
         met += [lead] if lead and [lead] != met[-1:] else []
@@ -506,7 +514,8 @@ def asks_nothing(refusing, call):
     yield None not in asked and asked[0] == asked[1] > 0, "count", (answer, counts)
 
 
-def tried_call(refusing, call):
+def call_refused(refusing, call):
+    """Yields whether the answer is right for each request of a call, and of those that lead to it, that is refused."""
     refusing.put(call.case)
     for later in ("", "+"):
         yield from refused_in_turn(refusing, call, later)
@@ -514,46 +523,90 @@ def tried_call(refusing, call):
         yield from asks_nothing(refusing, call)
 
 
-def answered(programs, library):
-    """Yields for each case, and each call, its name, how many answers are right, and what was answered wrongly; as many
-    at a time as there are processors for this script."""
+# A case or a call that is tried on a program, and the function that tries it
+Trial = collections.namedtuple("Trial", "program tries case")
 
-    def outcome(program, tries, case):
+
+def requests_of_sts(sts, look):
+    """Yields the trials of a part. So do the three functions below."""
+    for it in cases():
+        yield Trial(sts, requests, it)
+
+
+def threads_of_sts(sts, look):
+    for it in cases():
+        if it.words[:1] == ["run"] and it.status < 2:
+            yield Trial(sts, threads, it)
+    yield Trial(sts, stops, Case("a long run", ["run", "text", "--workers", "3"], lines(LONG), None, lines(OF_LONG), 0))
+
+
+def requests_of_look(sts, look):
+    for it in looks(look):
+        yield Trial(look, requests, it)
+
+
+def single_calls(sts, look):
+    for it in calls():
+        yield Trial(CALLS, call_refused, it)
+
+
+PARTS = {it.__name__: it for it in (requests_of_sts, threads_of_sts, requests_of_look, single_calls)}
+
+
+def answered(trials, library):
+    """Yields for each trial its name, how many answers are right, and what was answered wrongly; as many at a time as there
+    are processors for this script."""
+
+    def outcome(trial):
         with tempfile.TemporaryDirectory() as folder:
-            answers = list(tries(Refusing(program, library, folder), case))
-        return case.name, sum(right for right, _, _ in answers), [(what, answer) for right, what, answer in answers if not right]
+            answers = list(trial.tries(Refusing(trial.program, library, folder), trial.case))
+        return trial.case.name, sum(right for right, _, _ in answers), [(what, answer) for right, what, answer in answers if not right]
 
-    program, single, look = programs
     with concurrent.futures.ThreadPoolExecutor(len(os.sched_getaffinity(0))) as pool:
-        begun = [pool.submit(outcome, program, tried, it) for it in cases()]
-        begun += [pool.submit(outcome, single, tried_call, it) for it in calls()]
-        begun += [pool.submit(outcome, look, tried, it) for it in looks(look)]
-        for it in begun:
-            yield it.result()
+        yield from pool.map(outcome, trials)
+
+
+def fault(programs, parts):
+    """Returns why the parts can't be tried on the programs, and the status that says so."""
+    unknown = [it for it in parts if it not in PARTS]
+    if unknown:
+        return f"no part {unknown[0]}: there are {', '.join(PARTS)}", 2
+    for program in [*programs, *[CALLS] * ("single_calls" in parts)]:
+        if not os.access(program, os.X_OK):
+            return f"no program at {program}: ./sts, ./look, and rt run in crates/tests_rows build them", 2
+    if not compiler():
+        return "FAILED, nothing was refused: there is no C compiler (cc, gcc or clang)", 1
+    return None
+
+
+def is_refused(kind, sts, library, folder):
+    """Returns whether the library refuses a request of this kind."""
+    case = next(it for it in cases() if it.words[:1] == ["run"])
+    return Refusing(sts, library, folder).works(kind, case)
 
 
 def main():
-    programs = [*sys.argv[1:], *(PROGRAM, CALLS, LOOK)[len(sys.argv) - 1 :]]
-    for program in programs:
-        if not os.access(program, os.X_OK):
-            print(f"memory.py: no program at {program}: ./sts, ./look, and rt run in crates/tests_rows build them", file=sys.stderr)
-            return 2
-    if not compiler():
-        print("memory.py: FAILED, nothing was refused: there is no C compiler (cc, gcc or clang)", file=sys.stderr)
-        return 1
+    programs = [*sys.argv[1:3], *(PROGRAM, LOOK)[len(sys.argv[:3]) - 1 :]]
+    parts = sys.argv[3:] or list(PARTS)
+    why = fault(programs, parts)
+    if why:
+        print(f"memory.py: {why[0]}", file=sys.stderr)
+        return why[1]
     passed = failed = 0
     with tempfile.TemporaryDirectory() as folder:
         library = library_in(folder)
-        if not Refusing(programs[0], library, folder).works():
-            print("memory.py: FAILED, nothing was refused: refuse.so can't be loaded before the program here", file=sys.stderr)
-            return 1
-        for name, right, wrong in answered(programs, library):
+        for kind in {"thread" if it == "threads_of_sts" else "memory" for it in parts}:
+            if not is_refused(kind, programs[0], library, folder):
+                print(f"memory.py: FAILED, no {kind} was refused to the program here by refuse.so", file=sys.stderr)
+                return 1
+        trials = [trial for it in parts for trial in PARTS[it](*programs)]
+        for name, right, wrong in answered(trials, library):
             passed, failed = passed + right, failed + len(wrong)
             print(f"{name}: {right + len(wrong)} runs")
             for what, answer in wrong:
                 print(f"{name}, {what}: {answer}", file=sys.stderr)
     print(f"{passed} passed, {failed} failed")
-    return 1 if failed else 0
+    return 1 if failed or not passed else 0
 
 
 if __name__ == "__main__":
