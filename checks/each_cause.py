@@ -219,11 +219,12 @@ def sentences():
     """Returns for each cause its other sentences."""
     found = {}
     for where, group, _, _, _, _, _, printed in look_rows.tables():
-        if where.startswith("verdicts.rows ") and group.startswith("remedies: "):
+        if where.startswith("verdicts.rows ") and group.startswith(("refusals: ", "remedies: ")):
             said = re.fullmatch(r"refused (V\d+) [^\n]*\n([^\n]*)\n", printed.decode())
-            if not said or said[1] not in RUNS:
+            if said and said[1] in RUNS:
+                found.setdefault(said[1], []).append(said[2])
+            elif group.startswith("remedies: "):
                 sys.exit(f"each_cause.py: {where} wasn't understood")
-            found.setdefault(said[1], []).append(said[2])
     return found
 
 
