@@ -1,6 +1,7 @@
 //! The lines of a run: its state, where each living task is, and which tasks it waits for.
 
 ghost use Rattle.std.specs.Prelude.{◌≡◌, ◌++◌, ◌<◌, OnOk, length, true};
+ghost use Rattle.std.specs.List.{flat_map};
 ghost use Rattle.sts_model.specs.Living as living;
 ghost use Rattle.sts_model.specs.World as model;
 ghost use Rattle.sts_output.specs.Printed.{end_line};
@@ -144,50 +145,54 @@ fn say_subtask(
     say(out, word.as_str())
 }
 
-/// The living subtasks of a scope.
-fn say_subtasks(
+/// The living ones of these tasks, if they are subtasks of the scope.
+fn say_births(
     alloc: Global,
     out: &mut Vec<u8>,
     records: &Records,
     s: u32,
+    births: &[u32],
 ) -> Result<(), AllocError>
     ensures { OnOk result (out.new.items ≡ out.old.items
-        ++ def.subtask_words records.now s records.now.tasks 0) }
+        ++ flat_map (def.subtask_word records.now s) births.now) }
 {
-    for t in 0..records.tasks_born() {
-        say_subtask(alloc, out, records, s, t as u32)?;
+    for t in births {
+        say_subtask(alloc, out, records, s, *t)?;
     }
     Ok(())
+}
+
+/// The living subtasks of a scope.
+fn say_subtasks(alloc: Global, out: &mut Vec<u8>, world: &World, s: u32) -> Result<(), AllocError>
+    ensures { OnOk result (out.new.items ≡ out.old.items
+        ++ def.subtask_words world.now s world.now.tasks 0) }
+{
+    say_births(alloc, out, world.records(), s, world.subtasks(s))
 }
 
 /// `waits at join of scope S for T ..`
 fn say_wait_for(
     alloc: Global,
     out: &mut Vec<u8>,
-    records: &Records,
+    world: &World,
     word: &str,
     s: u32,
 ) -> Result<(), AllocError>
-    ensures { OnOk result (out.new.items ≡ out.old.items ++ def.wait_for records.now word.now s) }
+    ensures { OnOk result (out.new.items ≡ out.old.items ++ def.wait_for world.now word.now s) }
 {
     let head = format!(in alloc; "waits at {word} of scope {s} for")?;
     say(out, head.as_str())?;
-    say_subtasks(alloc, out, records, s)
+    say_subtasks(alloc, out, world, s)
 }
 
 /// What a task that can't step waits for.
-fn say_wait(
-    alloc: Global,
-    out: &mut Vec<u8>,
-    records: &Records,
-    stand: Stand,
-) -> Result<(), AllocError>
-    ensures { OnOk result (out.new.items ≡ out.old.items ++ def.wait_words records.now stand) }
+fn say_wait(alloc: Global, out: &mut Vec<u8>, world: &World, stand: Stand) -> Result<(), AllocError>
+    ensures { OnOk result (out.new.items ≡ out.old.items ++ def.wait_words world.now stand) }
 {
     match stand {
         Stand::Free => Ok(()),
-        Stand::AtJoin(s) => say_wait_for(alloc, out, records, "join", s),
-        Stand::AtClose(s) => say_wait_for(alloc, out, records, "close", s),
+        Stand::AtJoin(s) => say_wait_for(alloc, out, world, "join", s),
+        Stand::AtClose(s) => say_wait_for(alloc, out, world, "close", s),
     }
 }
 
@@ -207,7 +212,7 @@ fn say_life(
     if can_step(world, program, t) {
         return say(out, "ready");
     }
-    say_wait(alloc, out, world.records(), stand_at(world, program, t))
+    say_wait(alloc, out, world, stand_at(world, program, t))
 }
 
 /// `task T in NAME, line L: WORDS (ready)`
