@@ -7,7 +7,7 @@ use Rattle.sts_rules.specs.ControlPaths.{Among}
 use Rattle.look_refusal.specs.declared.search.Search.{Search}
 use Rattle.look_refusal.specs.declared.trail.Best.{Best}
 use Rattle.look_refusal.specs.Leads.{AreLeads}
-use Rattle.look_refusal.specs.Search.{IsReady, flow}
+use Rattle.look_refusal.specs.Search.{IsReady}
 use Rattle.look_refusal.specs.Trail.{handed, better, no_way, way_from, IsFrom, IsFromOne, IsBest, IsBestOf, IsRow, IsRowOf, KeepsWays}
 use Rattle.look_refusal.proofs.Among.{among_left, among_last, among_before}
 use Rattle.look_refusal.proofs.Leading.{handed_same, leads_later}

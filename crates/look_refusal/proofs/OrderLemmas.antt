@@ -2,7 +2,7 @@
 use Rattle.std.proofs.Common.{◌≡◌, ◌≢◌, ℕ, zero, suc, ◌+◌, ◌<◌, ◌≤◌, ◌⊎◌, List, length, get_or, Bool, true, false, Option, Some, None, inl, inr, refl, sym, ap, ◌∙◌, subst, arith}
 use Rattle.std.specs.Prelude.{◌||◌, ◌&&◌, ◌==◌, IfSome, not, nat_lt, sum_by}
 use Rattle.std.specs.List.{range_with_len}
-use Rattle.std.proofs.lemmas.Bool.{cases_eq, cases_lt, cases_order, or_cases, or_left, or_right, and_parts, and_from, ltb-true, lt-ltb, le-ltb, eqb-true, eq-eqb, not-true, not_from_true, not_from_false, false_from_ne_true, true_from_ne_false}
+use Rattle.std.proofs.lemmas.Bool.{cases_eq, cases_lt, cases_order, or_cases, or_left, or_right, and_parts, and_from, ltb-true, lt-ltb, le-ltb, eqb-true, eq-eqb, not-true, not_from_false, false_from_ne_true}
 use Rattle.look_refusal.specs.Order.{comes_after, comes_before, NoneAfter, IsFirstAfter, IsNext, count_to, IsLast, IsLastShown}
 use Rattle.look_refusal.specs.Weights.{is_weightier, one_if, rank}
 use Rattle.look_refusal.proofs.WeightLemmas.{sum_next}
@@ -117,7 +117,7 @@ module _ (shares : List ℕ) where
     first = λ y lt e. elim (cases_lt y k) [
       | inl low ↦ false_from_ne_true (is_weightier shares k y) (λ over_y. (
           let out : is_weightier shares b y ≡ false = h.first y low e in
-          let yes : is_weightier shares b y ≡ true = through b k y before over_y in
+          let holds : is_weightier shares b y ≡ true = through b k y before over_y in
           cc))
       | inr ge ↦ (let same : k ≡ y = omega arith in subst (λ z. is_weightier shares k z ≡ false) same (not_itself k))
     ];
@@ -177,7 +177,7 @@ module _ (shares : List ℕ) where
       -- one that doesn't come after the last doesn't come after the next
       still : (o : Option ℕ) (y : ℕ) → comes_after shares o b ≡ true → comes_after shares o y ≡ false → is_weightier shares y b ≡ false
       still None y after out = absurd (cc)
-      still (Some l) y after out = false_from_ne_true (is_weightier shares y b) (λ e. (let yes : is_weightier shares y l ≡ true = through y b l e after in cc))
+      still (Some l) y after out = false_from_ne_true (is_weightier shares y b) (λ e. (let holds : is_weightier shares y l ≡ true = through y b l e after in cc))
 
       others : (y : ℕ) → y < length shares → y ≢ b → one_if (not (comes_after shares (Some b) y)) ≡ one_if (not (comes_after shares last y))
       others y lt apart = by (comes_after shares last y) refl
@@ -192,18 +192,18 @@ module _ (shares : List ℕ) where
   after_more last x after = sums_le (λ (y : ℕ). one_if (not (comes_after shares last y))) (λ (y : ℕ). one_if (is_weightier shares x y)) (length shares) (λ y lt. one_le (not (comes_after shares last y)) (is_weightier shares x y) (by last after y))
     where
       by : (o : Option ℕ) → comes_after shares o x ≡ true → (y : ℕ) → not (comes_after shares o y) ≡ true → is_weightier shares x y ≡ true
-      by None yes y e = absurd (cc)
-      by (Some b) yes y e = elim (cases_eq y b) [
-        | inl same ↦ subst (λ z. is_weightier shares x z ≡ true) (sym same) yes
-        | inr apart ↦ through x b y yes (or_else y b apart (not-true (is_weightier shares y b) e))
+      by None after y e = absurd (cc)
+      by (Some b) after y e = elim (cases_eq y b) [
+        | inl same ↦ subst (λ z. is_weightier shares x z ≡ true) (sym same) after
+        | inr apart ↦ through x b y after (or_else y b apart (not-true (is_weightier shares y b) e))
       ]
 
   shown_less : (last : Option ℕ) (x : ℕ) → x < length shares → comes_after shares last x ≡ false → rank shares x + 1 ≤ count_to shares last
   shown_less last x inside out = sums_less (λ (y : ℕ). one_if (is_weightier shares x y)) (λ (y : ℕ). one_if (not (comes_after shares last y))) (length shares) x inside (λ y lt. one_le (is_weightier shares x y) (not (comes_after shares last y)) (by last out y)) less
     where
       by : (o : Option ℕ) → comes_after shares o x ≡ false → (y : ℕ) → is_weightier shares x y ≡ true → not (comes_after shares o y) ≡ true
-      by None no y e = absurd (cc)
-      by (Some b) no y e = not_from_false (is_weightier shares y b) (false_from_ne_true (is_weightier shares y b) (λ f. (let yes : is_weightier shares x b ≡ true = through x y b e f in cc)))
+      by None out y e = absurd (cc)
+      by (Some b) out y e = not_from_false (is_weightier shares y b) (false_from_ne_true (is_weightier shares y b) (λ f. (let holds : is_weightier shares x b ≡ true = through x y b e f in cc)))
 
       less : one_if (is_weightier shares x x) < one_if (not (comes_after shares last x))
       less =

@@ -1,4 +1,4 @@
-use Rattle.std.proofs.Common.{◌≡◌, [], length, subst, sym, arith}
+use Rattle.std.proofs.Common.{◌≡◌, [], length, refl, subst, arith}
 use Rattle.look_refusal.specs.Leads.{AreNoted}
 use Rattle.look_refusal.proofs.Noting.{noted_none, noted_end}
 use Rattle.look_refusal.proofs.leads.find_leads.Goals as goal

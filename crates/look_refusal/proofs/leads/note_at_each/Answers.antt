@@ -1,7 +1,6 @@
-use Rattle.std.proofs.Common.{◌<◌, ◌∙◌, ◌≡◌, ◌++◌, ◌∷◌, [], ℕ, List, length, get_or, take, refl, sym, subst, arith}
+use Rattle.std.proofs.Common.{◌<◌, ◌++◌, ◌∷◌, [], ℕ, List, length, get_or, take, refl, sym, subst, arith}
 use Rattle.std.proofs.lemmas.List.{take_more, take_all}
 use Rattle.look_refusal.specs.Leads.{AreNoted}
-use Rattle.look_refusal.specs.Search.{LeadsOn}
 use Rattle.look_refusal.proofs.Among.{among_at}
 use Rattle.look_refusal.proofs.Leading.{leads_later}
 use Rattle.look_refusal.proofs.Noting.{noted_more}
