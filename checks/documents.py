@@ -35,7 +35,7 @@ It also reports:
 - floors of ARCHITECTURE.md that don't fit crates.txt, or a page crates/README.md that has other crates or other floors;
 - help or a document that names another number of states for a search of ends than the programs have;
 - a file of `vectors` that isn't what the tables of rows make it (checks/vectors.py);
-- a decision of a crate's README.md that DECISIONS.md doesn't list;
+- a crate with decisions to which DECISIONS.md doesn't link;
 - a README.md of a crate that doesn't name its edits, the crates that it uses, or those that use it.
 """
 import functools
@@ -309,10 +309,15 @@ def named_in(text):
     return [it for it in re.findall(r"`(\w+)`", text) if it in crates()]
 
 
+def floor_rows():
+    """Returns the name of each floor in ARCHITECTURE.md, with its crates."""
+    table = re.search(r"^\| Floor \|.*?\n\n", read("docs/ARCHITECTURE.md"), re.M | re.S)[0]
+    return [(cells[0].strip(), named_in(cells[1])) for cells in (line.strip("|").split("|") for line in table.splitlines()[2:] if line)]
+
+
 def floors():
     """Fails if the table of floors or crates/README.md doesn't have each crate once, or a crate uses one of a higher floor."""
-    table = re.search(r"^\| Floor \|.*?\n\n", read("docs/ARCHITECTURE.md"), re.M | re.S)[0]
-    names, rows = zip(*((cells[0].strip(), named_in(cells[1])) for cells in (line.strip("|").split("|") for line in table.splitlines()[2:] if line)))
+    names, rows = zip(*floor_rows())
     floor = {it: number for number, row in enumerate(rows) for it in row}
     if sorted(it for row in rows for it in row) != sorted(crates()):
         fail(f"the table of floors doesn't have each crate once: {sorted(set(floor) ^ set(crates()))}")
@@ -520,24 +525,18 @@ def proofs_of_others():
 
 
 def crate_decisions():
-    """Fails if the last section of docs/DECISIONS.md doesn't list each decision that a crate's README.md gives the reason of."""
+    """Fails if the last section of docs/DECISIONS.md doesn't link to the decisions of each crate's README.md that has some."""
     path = "docs/DECISIONS.md"
     front, head, _ = read(path).partition("## Inside a crate\n")
-    expected = [head, "The crate's README.md has the reason and the date."]
-    for name in sorted(os.listdir(f"{ROOT}/crates")):
-        page = f"crates/{name}/README.md"
-        section = re.search(r"^## Decisions\n(.*?)(?=^## |\Z)", read(page) if os.path.exists(f"{ROOT}/{page}") else "", re.M | re.S)
-        if section:
-            said = [" ".join(it.split()).rstrip(".") for it in re.findall(r"^- \*\*(.+?)\*\*", section[1], re.M | re.S)]
-            points = [" ".join(it.split()) for it in re.findall(r"^\| (?!Point )([^|]+?) \|", section[1], re.M)]
-            expected.append(f"\n[`{name}`](../{page}#decisions):\n")
-            expected += [f"- {it[0].upper() + it[1:] if it[0].isalpha() else it}." for it in said]
-            expected += [f"- How {len(points)} edge cases are settled, in a table."] if points else []
+    expected = [head, "The `README.md` of each of these crates has its decisions:\n"]
+    for floor, names in floor_rows():
+        links = [f"[`{name}`](../{page(name)}#decisions)" for name in names if "\n## Decisions\n" in read(page(name))]
+        expected += [f"- *{floor}*: {', '.join(links)}"] if links else []
     expected = front + "\n".join(expected) + "\n"
     if sys.argv[1:] == ["write"]:
         open(f"{ROOT}/{path}", "w").write(expected)
     elif read(path) != expected:
-        fail(f"{path} doesn't list what the crates' README.md decide: checks/documents.py write")
+        fail(f"{path} doesn't link to the decisions of the crates: checks/documents.py write")
 
 
 def main():
