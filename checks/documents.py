@@ -13,7 +13,7 @@ Each text and output of docs/LANGUAGE.md, docs/VERIFIER.md, docs/PATTERNS.md and
   `verify` isn't asked for, it accepts the text. A block that is no example begins with "```text";
 - a line of its table of faulty lines; each of them is line 2 of a text;
 - a block "```diff" of VERIFIER.md or PATTERNS.md, which has a refused text and the same text mended (checks/causes.py), and
-  what PATTERNS.md says below a block: "Without any `LINE`: `refused ..`";
+  what PATTERNS.md says below a block: "Without any `LINE`, `verify` prints `refused ..`";
 - a program that PATTERNS.md shows a part of, which is accepted, with each trace of the table below it, written short
   (checks/runs.py has the runs with workers, and the files with bytes that no row can hold);
 - each command of examples/README.md, with the files that it names.
@@ -216,7 +216,7 @@ def programs(path):
     examples/patterns that the line above the block names; then the block is a part of it."""
     found, heading, named, lines = [], "", None, iter(read(path).splitlines())
     for line in lines:
-        without = re.fullmatch(r"- Without any `([^`]*)`: `([^`]*)`\.", line)
+        without = re.fullmatch(r"Without any `([^`]*)`, `verify` prints `([^`]*)`\.", line)
         if without:
             found[-1][3].append(without.groups())
         elif line.startswith("#"):
