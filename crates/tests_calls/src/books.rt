@@ -1,11 +1,12 @@
-//! Two books, act by act: what each answers, and what it has recorded at the end.
+//! One book or two, act by act: what each answers, and what it has recorded at the end.
 
 use crate::texts::{SEVEN, TIMED, TURNS, accepted};
-use std::alloc::Global;
+use std::alloc::{AllocError, Global};
 use std::process::Abort;
 use std::test::Fail;
 use sts_machine::Turned::{Idle, Stepped};
 use sts_machine::{Slice, Turned};
+use sts_model::Event::{Expire, Interrupt, Step};
 use sts_model::{End, Event};
 use sts_pool::Book;
 use sts_verify::Verified;
@@ -15,6 +16,8 @@ use sts_verify::Verified;
 enum Which {
     First,
     Second,
+    /// The first book, and then the second one.
+    Each,
 }
 
 /// The book from which a slice was taken.
@@ -27,7 +30,10 @@ enum Whose {
 /// A call on a book, and its answer.
 #[derive(Clone, Copy, Debug)]
 enum Act {
-    Turn(u32, Turned),
+    /// A turn of a task, which is idle.
+    Idle(u32),
+    /// So many turns of a task, each of which is a step.
+    Steps(u32, u32),
     Interrupt(u32, Turned),
     Expire(u32, Turned),
     /// A slice is taken out, and this is its task, if there is one.
@@ -46,17 +52,24 @@ struct Desk<'p> {
     slice: Option<Slice<'p>>,
 }
 
-/// How a book's root has ended, and its journal.
+/// How a book's root has ended, and its journal: each event with how often it comes in a row.
 struct Record {
     end: Option<End>,
-    journal: &'static [Event],
+    journal: &'static [(Event, u32)],
+}
+
+/// The text of a book, the calls on it in turn, and what it has recorded then.
+struct Alone {
+    name: &'static str,
+    text: &'static str,
+    acts: &'static [Act],
+    record: Record,
 }
 
 /// The texts of two books, the calls on them in turn, and what they have recorded then.
-struct Row {
+struct Pair {
     name: &'static str,
-    first: &'static str,
-    second: &'static str,
+    texts: (&'static str, &'static str),
     acts: &'static [(Which, Act)],
     of_first: Record,
     of_second: Record,
@@ -67,31 +80,81 @@ const NOTHING: Record = Record {
     journal: &[],
 };
 
-static ROWS: [Row; 6] = [
-    Row {
+static ALONE: [Alone; 3] = [
+    Alone {
         name: "a task that is out takes an interrupt and no turn",
-        first: SEVEN,
-        second: SEVEN,
+        text: SEVEN,
         acts: &[
-            (Which::First, Act::Out(Some(0))),
-            (Which::First, Act::Out(None)),
-            (Which::First, Act::Turn(0, Idle)),
-            (Which::First, Act::Interrupt(0, Stepped)),
-            (Which::First, Act::Local(0, 0)),
-            (Which::First, Act::Local(5, 1)),
-            (Which::First, Act::In(Whose::Own, true)),
-            (Which::First, Act::Turn(0, Stepped)),
+            Act::Out(Some(0)),
+            Act::Out(None),
+            Act::Idle(0),
+            Act::Interrupt(0, Stepped),
+            Act::Local(0, 0),
+            Act::Local(5, 1),
+            Act::In(Whose::Own, true),
+            Act::Steps(0, 1),
         ],
-        of_first: Record {
+        record: Record {
             end: Some(End::Success(7)),
-            journal: &[Event::Interrupt(0), Event::Step(0), Event::Step(0)],
+            journal: &[(Interrupt(0), 1), (Step(0), 2)],
         },
-        of_second: NOTHING,
     },
-    Row {
+    Alone {
+        name: "a scope expires while a subtask of it is out",
+        text: TIMED,
+        acts: &[
+            Act::Steps(0, 2),
+            Act::Out(Some(1)),
+            Act::Local(9, 1),
+            Act::Expire(0, Stepped),
+            Act::In(Whose::Own, true),
+            Act::Steps(1, 1),
+            Act::Steps(0, 4),
+        ],
+        record: Record {
+            end: Some(End::Success(2)),
+            journal: &[(Step(0), 2), (Expire(0), 1), (Step(1), 2), (Step(0), 4)],
+        },
+    },
+    Alone {
+        name: "a task that waits, and tasks and scopes unborn, ended and closed",
+        text: TIMED,
+        acts: &[
+            Act::Steps(0, 2),
+            Act::Idle(0),
+            Act::Idle(9),
+            Act::Interrupt(9, Idle),
+            Act::Expire(4, Idle),
+            Act::Steps(1, 2),
+            Act::Interrupt(1, Idle),
+            Act::Idle(1),
+            Act::Steps(0, 2),
+            Act::Expire(0, Idle),
+            Act::Steps(0, 2),
+            Act::Interrupt(0, Idle),
+            Act::Idle(0),
+        ],
+        record: Record {
+            end: Some(End::Success(1)),
+            journal: &[
+                (Step(0), 2),
+                (Interrupt(9), 1),
+                (Expire(4), 1),
+                (Step(1), 2),
+                (Interrupt(1), 1),
+                (Step(0), 2),
+                (Expire(0), 1),
+                (Step(0), 2),
+                (Interrupt(0), 1),
+            ],
+        },
+    },
+];
+
+static PAIRS: [Pair; 3] = [
+    Pair {
         name: "a slice of the other book is taken where the task is out at the same frame",
-        first: SEVEN,
-        second: SEVEN,
+        texts: (SEVEN, SEVEN),
         acts: &[
             (Which::First, Act::Out(Some(0))),
             (Which::First, Act::Local(9, 1)),
@@ -99,123 +162,39 @@ static ROWS: [Row; 6] = [
             (Which::Second, Act::Out(Some(0))),
             (Which::Second, Act::In(Whose::Others, true)),
             (Which::Second, Act::In(Whose::Own, false)),
-            (Which::Second, Act::Turn(0, Stepped)),
+            (Which::Second, Act::Steps(0, 1)),
             (Which::Second, Act::In(Whose::Own, false)),
-            (Which::First, Act::Turn(0, Idle)),
+            (Which::First, Act::Idle(0)),
         ],
         of_first: NOTHING,
         of_second: Record {
             end: Some(End::Success(7)),
-            journal: &[Event::Step(0), Event::Step(0)],
+            journal: &[(Step(0), 2)],
         },
     },
-    Row {
+    Pair {
         name: "a slice of another program",
-        first: SEVEN,
-        second: TURNS,
+        texts: (SEVEN, TURNS),
         acts: &[
-            (Which::First, Act::Out(Some(0))),
-            (Which::Second, Act::Out(Some(0))),
-            (Which::First, Act::In(Whose::Others, false)),
-            (Which::Second, Act::In(Whose::Others, false)),
-            (Which::First, Act::In(Whose::Own, true)),
-            (Which::Second, Act::In(Whose::Own, true)),
+            (Which::Each, Act::Out(Some(0))),
+            (Which::Each, Act::In(Whose::Others, false)),
+            (Which::Each, Act::In(Whose::Own, true)),
         ],
         of_first: NOTHING,
         of_second: NOTHING,
     },
-    Row {
+    Pair {
         name: "a slice at another frame of the same program",
-        first: SEVEN,
-        second: SEVEN,
+        texts: (SEVEN, SEVEN),
         acts: &[
-            (Which::First, Act::Turn(0, Stepped)),
-            (Which::First, Act::Out(Some(0))),
-            (Which::Second, Act::Out(Some(0))),
-            (Which::First, Act::In(Whose::Others, false)),
-            (Which::Second, Act::In(Whose::Others, false)),
-            (Which::First, Act::In(Whose::Own, true)),
-            (Which::Second, Act::In(Whose::Own, true)),
+            (Which::First, Act::Steps(0, 1)),
+            (Which::Each, Act::Out(Some(0))),
+            (Which::Each, Act::In(Whose::Others, false)),
+            (Which::Each, Act::In(Whose::Own, true)),
         ],
         of_first: Record {
             end: None,
-            journal: &[Event::Step(0)],
-        },
-        of_second: NOTHING,
-    },
-    Row {
-        name: "a scope expires while a subtask of it is out",
-        first: TIMED,
-        second: TIMED,
-        acts: &[
-            (Which::First, Act::Turn(0, Stepped)),
-            (Which::First, Act::Turn(0, Stepped)),
-            (Which::First, Act::Out(Some(1))),
-            (Which::First, Act::Local(9, 1)),
-            (Which::First, Act::Expire(0, Stepped)),
-            (Which::First, Act::In(Whose::Own, true)),
-            (Which::First, Act::Turn(1, Stepped)),
-            (Which::First, Act::Turn(0, Stepped)),
-            (Which::First, Act::Turn(0, Stepped)),
-            (Which::First, Act::Turn(0, Stepped)),
-            (Which::First, Act::Turn(0, Stepped)),
-        ],
-        of_first: Record {
-            end: Some(End::Success(2)),
-            journal: &[
-                Event::Step(0),
-                Event::Step(0),
-                Event::Expire(0),
-                Event::Step(1),
-                Event::Step(1),
-                Event::Step(0),
-                Event::Step(0),
-                Event::Step(0),
-                Event::Step(0),
-            ],
-        },
-        of_second: NOTHING,
-    },
-    Row {
-        name: "a task that waits, and tasks and scopes unborn, ended and closed",
-        first: TIMED,
-        second: TIMED,
-        acts: &[
-            (Which::First, Act::Turn(0, Stepped)),
-            (Which::First, Act::Turn(0, Stepped)),
-            (Which::First, Act::Turn(0, Idle)),
-            (Which::First, Act::Turn(9, Idle)),
-            (Which::First, Act::Interrupt(9, Idle)),
-            (Which::First, Act::Expire(4, Idle)),
-            (Which::First, Act::Turn(1, Stepped)),
-            (Which::First, Act::Turn(1, Stepped)),
-            (Which::First, Act::Interrupt(1, Idle)),
-            (Which::First, Act::Turn(1, Idle)),
-            (Which::First, Act::Turn(0, Stepped)),
-            (Which::First, Act::Turn(0, Stepped)),
-            (Which::First, Act::Expire(0, Idle)),
-            (Which::First, Act::Turn(0, Stepped)),
-            (Which::First, Act::Turn(0, Stepped)),
-            (Which::First, Act::Interrupt(0, Idle)),
-            (Which::First, Act::Turn(0, Idle)),
-        ],
-        of_first: Record {
-            end: Some(End::Success(1)),
-            journal: &[
-                Event::Step(0),
-                Event::Step(0),
-                Event::Interrupt(9),
-                Event::Expire(4),
-                Event::Step(1),
-                Event::Step(1),
-                Event::Interrupt(1),
-                Event::Step(0),
-                Event::Step(0),
-                Event::Expire(0),
-                Event::Step(0),
-                Event::Step(0),
-                Event::Interrupt(0),
-            ],
+            journal: &[(Step(0), 1)],
         },
         of_second: NOTHING,
     },
@@ -244,15 +223,20 @@ fn give_back<'p, R: Abort>(
     }
 }
 
-/// Does one act, and compares what is answered.
-fn does<'p, R: Abort>(rt: &R, desk: &mut Desk<'p>, other: &mut Desk<'p>, act: Act) {
+/// Does one act, and compares what is answered. The other book's slice may be there, too.
+fn does<'p, R: Abort>(rt: &R, desk: &mut Desk<'p>, others: &mut Option<Slice<'p>>, act: Act) {
     match act {
-        Act::Turn(task, want) => assert_eq!(rt; desk.book.turn(task), want),
+        Act::Idle(task) => assert_eq!(rt; desk.book.turn(task), Idle),
+        Act::Steps(task, turns) => {
+            for _ in 0..turns {
+                assert_eq!(rt; desk.book.turn(task), Stepped);
+            }
+        }
         Act::Interrupt(task, want) => {
-            assert_eq!(rt; desk.book.outside(Event::Interrupt(task)), Ok(want));
+            assert_eq!(rt; desk.book.outside(Interrupt(task)), Ok(want));
         }
         Act::Expire(scope, want) => {
-            assert_eq!(rt; desk.book.outside(Event::Expire(scope)), Ok(want));
+            assert_eq!(rt; desk.book.outside(Expire(scope)), Ok(want));
         }
         Act::Out(want) => {
             let slice = desk.book.check_out();
@@ -268,15 +252,38 @@ fn does<'p, R: Abort>(rt: &R, desk: &mut Desk<'p>, other: &mut Desk<'p>, act: Ac
             desk.slice = give_back(rt, &mut desk.book, slice, taken);
         }
         Act::In(Whose::Others, taken) => {
-            let slice = other.slice.take();
-            other.slice = give_back(rt, &mut desk.book, slice, taken);
+            let slice = others.take();
+            *others = give_back(rt, &mut desk.book, slice, taken);
         }
     }
 }
 
-fn recorded<R: Abort>(rt: &R, book: &Book<'_>, record: &Record, name: &str) {
+/// Returns the events of a journal, one by one.
+fn one_by_one(alloc: Global, journal: &[(Event, u32)]) -> Result<Vec<Event>, AllocError> {
+    let mut events = Vec::new(alloc);
+    for (event, times) in journal {
+        for _ in 0..*times {
+            events.push(*event)?;
+        }
+    }
+    Ok(events)
+}
+
+fn recorded<R: Abort>(
+    rt: &R,
+    alloc: Global,
+    book: &Book<'_>,
+    record: &Record,
+    name: &str,
+) -> Result<(), AllocError> {
+    let journal = one_by_one(alloc, record.journal)?;
     assert_eq!(rt; book.root_end(), record.end, "the root's end, where {name}");
-    assert_eq!(rt; book.journal(), record.journal, "the journal, where {name}");
+    assert_eq!(rt;
+        book.journal(),
+        journal.as_slice(),
+        "the journal, where {name}"
+    );
+    Ok(())
 }
 
 fn start<'p>(alloc: Global, verified: &'p Verified) -> Result<Desk<'p>, Fail> {
@@ -286,11 +293,27 @@ fn start<'p>(alloc: Global, verified: &'p Verified) -> Result<Desk<'p>, Fail> {
     })
 }
 
+/// Does the acts of a row with a book of this program.
+fn plays_alone<'p, R: Abort>(
+    rt: &R,
+    alloc: Global,
+    row: &Alone,
+    verified: &'p Verified,
+) -> Result<(), Fail> {
+    let mut desk = start(alloc, verified)?;
+    let mut no_slice = None;
+    for act in row.acts {
+        does(rt, &mut desk, &mut no_slice, *act);
+    }
+    recorded(rt, alloc, &desk.book, &row.record, row.name)?;
+    Ok(())
+}
+
 /// Does the acts of a row with a book of each of these programs.
 fn plays<'p, R: Abort>(
     rt: &R,
     alloc: Global,
-    row: &Row,
+    row: &Pair,
     one: &'p Verified,
     other: &'p Verified,
 ) -> Result<(), Fail> {
@@ -298,25 +321,34 @@ fn plays<'p, R: Abort>(
     let mut second = start(alloc, other)?;
     for (which, act) in row.acts {
         match which {
-            Which::First => does(rt, &mut first, &mut second, *act),
-            Which::Second => does(rt, &mut second, &mut first, *act),
+            Which::First => does(rt, &mut first, &mut second.slice, *act),
+            Which::Second => does(rt, &mut second, &mut first.slice, *act),
+            Which::Each => {
+                does(rt, &mut first, &mut second.slice, *act);
+                does(rt, &mut second, &mut first.slice, *act);
+            }
         }
     }
-    recorded(rt, &first.book, &row.of_first, row.name);
-    recorded(rt, &second.book, &row.of_second, row.name);
+    recorded(rt, alloc, &first.book, &row.of_first, row.name)?;
+    recorded(rt, alloc, &second.book, &row.of_second, row.name)?;
     Ok(())
 }
 
-fn holds<R: Abort>(rt: &R, alloc: Global, row: &Row) -> Result<(), Fail> {
-    let one = accepted(alloc, row.first)?;
-    let other = accepted(alloc, row.second)?;
-    plays(rt, alloc, row, &one, &other)
+#[test]
+fn a_book_answers_and_records(rt: HostRuntime) -> Result<(), Fail> {
+    for row in &ALONE {
+        let verified = accepted(rt.alloc(), row.text)?;
+        plays_alone(&rt, rt.alloc(), row, &verified)?;
+    }
+    Ok(())
 }
 
 #[test]
-fn books_answer_and_record(rt: HostRuntime) -> Result<(), Fail> {
-    for row in &ROWS {
-        holds(&rt, rt.alloc(), row)?;
+fn two_books_answer_and_record(rt: HostRuntime) -> Result<(), Fail> {
+    for row in &PAIRS {
+        let one = accepted(rt.alloc(), row.texts.0)?;
+        let other = accepted(rt.alloc(), row.texts.1)?;
+        plays(&rt, rt.alloc(), row, &one, &other)?;
     }
     Ok(())
 }

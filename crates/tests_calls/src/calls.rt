@@ -35,6 +35,8 @@ pub enum Call {
     Lives(u32, bool),
     /// Is the flag of this task set?
     Flag(u32, bool),
+    /// Is the flag of each task set, from the first task on?
+    Flags(&'static [bool]),
     /// How did this subtask end?
     State(u32, Option<End>),
     /// A subtask is of this scope.
@@ -141,6 +143,17 @@ fn flag(rt: &impl Abort, tree: &Tree<u8>, t: u32) -> bool {
     tree.flag(t)
 }
 
+fn are_flags(rt: &impl Abort, tree: &Tree<u8>, flags: &[bool]) -> bool {
+    let mut t = 0u32;
+    for set in flags {
+        if flag(rt, tree, t) != *set {
+            return false;
+        }
+        t = t.saturating_add(1);
+    }
+    true
+}
+
 fn state(rt: &impl Abort, tree: &Tree<u8>, t: u32) -> Option<End> {
     assert!(rt; tree.task(t).is_some());
     tree.state(t)
@@ -223,6 +236,7 @@ fn ask_of_task(rt: &impl Abort, tree: &Tree<u8>, call: Call) -> bool {
         Call::Steps(t, can) => tree.can_step(t) == can,
         Call::Lives(t, lives) => tree.lives(t) == lives,
         Call::Flag(t, set) => flag(rt, tree, t) == set,
+        Call::Flags(flags) => are_flags(rt, tree, flags),
         Call::State(t, end) => state(rt, tree, t) == end,
         Call::IsOf(t, s) => scope_of(rt, tree, t) == Some(s),
         Call::HasTask(t, has) => task_again(tree, t) == has.then_some(t),

@@ -82,11 +82,8 @@ const RAISED: &[Call] = &[
     Call::Stand(0, 0, Stand::AtJoin(0)),
     Call::Steps(0, false),
     Call::Cancel(0),
-    Call::Flag(1, true),
-    Call::Flag(2, false),
-    Call::Flag(3, true),
+    Call::Flags(&[false, true, false, true]),
     Call::Steps(0, true),
-    Call::Flag(0, false),
 ];
 
 /// An interrupt doesn't wake an owner that closes a scope, and the last end does.

@@ -1,7 +1,7 @@
 //! Tests of single calls, for what no program prints, and of runs by workers.
 //!
 //! They test lists, environments, births, layouts of functions, the tree of records, the store, the
-//! machine that tests nothing, and whole runs, with what a book answers on the way.
+//! fast machine, and whole runs, with what a book answers on the way.
 #![tactic(auto)]
 
 #[cfg(test)]

@@ -17,14 +17,21 @@ pub const DOUBLES: &str = "\
     intr:\npush 0\nclose s0\nfail\nend\n\
 ";
 
+/// A scope with a timeout, and one subtask of this text.
+macro_rules! timed {
+    ($kid:literal) => {
+        concat!(
+            $kid,
+            "func main 0\nopen s0 awaitall timed\nfork s0 kid _\njoin s0 - late intr\n\
+            close s0\npush 1\nret\n\
+            late:\nclose s0\npush 2\nret\n\
+            intr:\npush 0\nclose s0\nfail\nend\n"
+        )
+    };
+}
+
 /// A scope with a timeout, and one subtask.
-pub const TIMED: &str = "\
-    func kid 0\npush 0\nret\nend\n\
-    func main 0\nopen s0 awaitall timed\nfork s0 kid _\njoin s0 - late intr\n\
-    close s0\npush 1\nret\n\
-    late:\nclose s0\npush 2\nret\n\
-    intr:\npush 0\nclose s0\nfail\nend\n\
-";
+pub const TIMED: &str = timed!("func kid 0\npush 0\nret\nend\n");
 
 /// A thousand scopes in a row, each with one subtask.
 pub const THOUSAND: &str = "\
@@ -44,13 +51,24 @@ pub const BOUND: &str = "\
     intr:\npush 0\nclose s0\nunbind\nfail\nend\n\
 ";
 
+/// So many subtasks of one scope, which a loop forks.
+macro_rules! looped {
+    ($count:literal) => {
+        concat!(
+            "func kid 0\npush 0\nret\nend\n",
+            "func main 0\nopen s0 awaitall\npush ",
+            $count,
+            "\ntimes ",
+            $count,
+            "\nfork s0 kid _\nnext\njoin s0 - - intr\n\
+            close s0\npush 1\nret\n\
+            intr:\npush 0\nclose s0\nfail\nend\n"
+        )
+    };
+}
+
 /// Two subtasks that a loop forks.
-pub const LOOPED: &str = "\
-    func kid 0\npush 0\nret\nend\n\
-    func main 0\nopen s0 awaitall\npush 2\ntimes 2\nfork s0 kid _\nnext\njoin s0 - - intr\n\
-    close s0\npush 1\nret\n\
-    intr:\npush 0\nclose s0\nfail\nend\n\
-";
+pub const LOOPED: &str = looped!("2");
 
 /// A hundred thousand scopes in a row, each without a subtask.
 pub const TURNS: &str = "\
@@ -79,14 +97,10 @@ pub const LOOP: &str = "\
 ";
 
 /// A scope with a timeout, and one subtask that makes two hundred thousand steps.
-pub const LATE: &str = "\
-    func kid 0\npush 4\ntimes 4\npush 10000\ntimes 10000\nload 0\npush 1\nadd\nstore 0\nnext\nnext\n\
-    load 0\nret\nend\n\
-    func main 0\nopen s0 awaitall timed\nfork s0 kid _\njoin s0 - late intr\n\
-    close s0\npush 1\nret\n\
-    late:\nclose s0\npush 2\nret\n\
-    intr:\npush 0\nclose s0\nfail\nend\n\
-";
+pub const LATE: &str = timed!(
+    "func kid 0\npush 4\ntimes 4\npush 10000\ntimes 10000\nload 0\npush 1\nadd\nstore 0\nnext\nnext\n\
+    load 0\nret\nend\n"
+);
 
 /// Two subtasks. `main` gives 1 if it was interrupted before its first step. It gives 10 more if it
 /// was interrupted while it waited for them, or before it asks once more behind the `close`.
@@ -97,13 +111,8 @@ pub const GREETED: &str = "\
     intr:\nclose s0\nload 0\npush 10\nadd\nret\nend\n\
 ";
 
-/// Sixteen subtasks of one scope.
-pub const WIDE: &str = "\
-    func kid 0\npush 0\nret\nend\n\
-    func main 0\nopen s0 awaitall\npush 16\ntimes 16\nfork s0 kid _\nnext\njoin s0 - - intr\n\
-    close s0\npush 1\nret\n\
-    intr:\npush 0\nclose s0\nfail\nend\n\
-";
+/// Sixteen subtasks that a loop forks.
+pub const WIDE: &str = looped!("16");
 
 /// A hundred scopes in a row, each with one short subtask (1 to 100), and then two subtasks with
 /// two hundred thousand steps each (101 and 102).
