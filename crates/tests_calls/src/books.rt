@@ -309,6 +309,51 @@ fn plays_alone<'p, R: Abort>(
     Ok(())
 }
 
+/// Does the acts of a row in turn.
+fn does_all<'p, R: Abort>(
+    rt: &R,
+    first: &mut Desk<'p>,
+    second: &mut Desk<'p>,
+    acts: &[(Which, Act)],
+) {
+    for (which, act) in acts {
+        match which {
+            Which::First => does(rt, first, &mut second.slice, *act),
+            Which::Second => does(rt, second, &mut first.slice, *act),
+            Which::Each => {
+                does(rt, first, &mut second.slice, *act);
+                does(rt, second, &mut first.slice, *act);
+            }
+        }
+    }
+}
+
+/// Compares what both books have recorded.
+fn both_recorded<R: Abort>(
+    rt: &R,
+    alloc: Global,
+    row: &Pair,
+    first: &Book<'_>,
+    second: &Book<'_>,
+) -> Result<(), AllocError> {
+    recorded(rt, alloc, first, &row.of_first, row.name)?;
+    recorded(rt, alloc, second, &row.of_second, row.name)
+}
+
+/// Does the acts of a row with a first book and a second one of this program.
+fn plays_with<'p, R: Abort>(
+    rt: &R,
+    alloc: Global,
+    row: &Pair,
+    first: &mut Desk<'p>,
+    other: &'p Verified,
+) -> Result<(), Fail> {
+    let mut second = start(alloc, other)?;
+    does_all(rt, first, &mut second, row.acts);
+    both_recorded(rt, alloc, row, &first.book, &second.book)?;
+    Ok(())
+}
+
 /// Does the acts of a row with a book of each of these programs.
 fn plays<'p, R: Abort>(
     rt: &R,
@@ -318,20 +363,7 @@ fn plays<'p, R: Abort>(
     other: &'p Verified,
 ) -> Result<(), Fail> {
     let mut first = start(alloc, one)?;
-    let mut second = start(alloc, other)?;
-    for (which, act) in row.acts {
-        match which {
-            Which::First => does(rt, &mut first, &mut second.slice, *act),
-            Which::Second => does(rt, &mut second, &mut first.slice, *act),
-            Which::Each => {
-                does(rt, &mut first, &mut second.slice, *act);
-                does(rt, &mut second, &mut first.slice, *act);
-            }
-        }
-    }
-    recorded(rt, alloc, &first.book, &row.of_first, row.name)?;
-    recorded(rt, alloc, &second.book, &row.of_second, row.name)?;
-    Ok(())
+    plays_with(rt, alloc, row, &mut first, other)
 }
 
 #[test]

@@ -6,7 +6,7 @@
 
 use crate::failure::{Failure, in_assembling, in_reading, in_taking, within};
 use crate::row::Row;
-use crate::whole;
+use crate::whole::Run;
 use std::alloc::Global;
 use std::io;
 use sts_asm::assemble;
@@ -197,26 +197,27 @@ fn ran_alone(rt: &HostRuntime, alloc: Global, row: &Row<'_>) -> Result<(), Failu
     Ok(())
 }
 
-/// A whole run on a machine that was prepared, between two marks.
-fn prepared(rt: &HostRuntime, alloc: Global, row: &Row<'_>) -> Result<(), Failure> {
-    let verified = accepted(alloc, row)?;
-    let mut machine = within("prepare", Machine::prepare(alloc, &verified))?;
+/// Goes on with a run between two marks, and says how its root has ended.
+fn tell_run(rt: &HostRuntime, run: &mut impl Run) -> Result<(), Failure> {
     println!(rt; "from here")?;
-    whole::of_machine(&mut machine);
+    run.go_on();
     println!(rt; "to here")?;
-    tell_end(rt, machine.root_end())?;
+    tell_end(rt, run.end())?;
     Ok(())
 }
 
-/// A whole run in a book that was started, between two marks.
+/// A whole run on a machine that was prepared.
+fn prepared(rt: &HostRuntime, alloc: Global, row: &Row<'_>) -> Result<(), Failure> {
+    let verified = accepted(alloc, row)?;
+    let mut machine = within("prepare", Machine::prepare(alloc, &verified))?;
+    tell_run(rt, &mut machine)
+}
+
+/// A whole run in a book that was started.
 fn booked(rt: &HostRuntime, alloc: Global, row: &Row<'_>) -> Result<(), Failure> {
     let verified = accepted(alloc, row)?;
     let mut book = within("book", Book::start(alloc, &verified))?;
-    println!(rt; "from here")?;
-    whole::of_book(&mut book);
-    println!(rt; "to here")?;
-    tell_end(rt, book.root_end())?;
-    Ok(())
+    tell_run(rt, &mut book)
 }
 
 /// Makes the call of a name on a row, and says what it answers.

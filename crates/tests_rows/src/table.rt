@@ -45,12 +45,18 @@ fn played(
     }
 }
 
-/// The answer of the program: the status, a blank, and what is printed.
+/// The answer of the program: the status, a blank, and what was printed.
+fn spelled(alloc: Global, status: Option<u8>, printed: &[u8]) -> Result<String> {
+    let status = status.context("an answer that is not written")?;
+    let printed = str::from_utf8(printed)?;
+    Ok(format!(in alloc; "{status} {printed}")?)
+}
+
+/// Asks the program, and returns its answer.
 fn said(alloc: Global, asked: Asked, text: &[u8], trace: &[u8]) -> Result<String> {
     let mut printed = Vec::new(alloc);
     let status = played(alloc, asked, text, trace, &mut printed);
-    let status = status.context("an answer that is not written")?;
-    Ok(format!(in alloc; "{status} {}", str::from_utf8(printed.as_slice())?)?)
+    spelled(alloc, status, printed.as_slice())
 }
 
 impl<'t> Table<'t> {

@@ -1,7 +1,7 @@
 //! Whole runs. None of their calls is passed an allocator.
 
 use sts_machine::{Machine, Turned};
-use sts_model::Event;
+use sts_model::{End, Event};
 use sts_pool::Book;
 
 /// As many rounds as no run of a row takes.
@@ -13,15 +13,30 @@ const LOCALS: u32 = 64;
 /// A task that is never born.
 const NOBODY: u32 = u32::MAX;
 
-/// Steps some task that can step, until no task can or a turn is idle.
-pub fn of_machine(machine: &mut Machine<'_>) {
-    for _ in 0..MOST_ROUNDS {
-        let Some(task) = machine.ready() else {
-            return;
-        };
-        if machine.turn(Event::Step(task)) == Turned::Idle {
-            return;
+/// A run, on a machine or in a book.
+pub trait Run {
+    /// Goes on until no task can step or a turn is idle.
+    fn go_on(&mut self);
+
+    /// How the root has ended, if it has.
+    fn end(&self) -> Option<End>;
+}
+
+impl Run for Machine<'_> {
+    /// Steps some task that can step, one after another.
+    fn go_on(&mut self) {
+        for _ in 0..MOST_ROUNDS {
+            let Some(task) = self.ready() else {
+                return;
+            };
+            if self.turn(Event::Step(task)) == Turned::Idle {
+                return;
+            }
         }
+    }
+
+    fn end(&self) -> Option<End> {
+        self.root_end()
     }
 }
 
@@ -39,11 +54,17 @@ fn round(book: &mut Book<'_>) -> Option<Turned> {
     Some(book.turn(task))
 }
 
-/// Rounds of one worker, until no task can step or a turn is idle.
-pub fn of_book(book: &mut Book<'_>) {
-    for _ in 0..MOST_ROUNDS {
-        if round(book) != Some(Turned::Stepped) {
-            return;
+impl Run for Book<'_> {
+    /// Does the rounds of one worker.
+    fn go_on(&mut self) {
+        for _ in 0..MOST_ROUNDS {
+            if round(self) != Some(Turned::Stepped) {
+                return;
+            }
         }
+    }
+
+    fn end(&self) -> Option<End> {
+        self.root_end()
     }
 }
