@@ -36,6 +36,7 @@ import shutil
 import subprocess
 import sys
 import tempfile
+import threading
 
 HERE = os.path.dirname(os.path.realpath(__file__))
 BUILT = os.path.join(os.path.dirname(HERE), "crates")
@@ -358,8 +359,11 @@ class Refusing:
         """What is printed and the status, and the processor seconds that the run took."""
         around = {"LD_PRELOAD": self.library, "REFUSE": refuse}
         begun = subprocess.Popen([self.program, *case.words], stdin=subprocess.DEVNULL, stdout=subprocess.PIPE, cwd=self.folder, env=around)
+        end = threading.Timer(SECONDS, begun.kill)
+        end.start()
         printed = begun.stdout.read()
         begun.stdout.close()
+        end.cancel()
         _, status, used = os.wait4(begun.pid, 0)
         begun.returncode = os.waitstatus_to_exitcode(status)
         return (printed, begun.returncode), used.ru_utime + used.ru_stime
@@ -555,11 +559,16 @@ PARTS = {it.__name__: it for it in (requests_of_sts, threads_of_sts, requests_of
 
 def answered(trials, library):
     """Yields for each trial its name, how many answers are right, and what was answered wrongly; as many at a time as there
-    are processors for this script."""
+    are processors for this script. Once a run didn't end, no other trial begins, since each might take as long."""
+    has_no_end = threading.Event()
 
     def outcome(trial):
+        if has_no_end.is_set():
+            return trial.case.name, 0, [("not tried", "another run didn't end")]
         with tempfile.TemporaryDirectory() as folder:
             answers = list(trial.tries(Refusing(trial.program, library, folder), trial.case))
+        if any(answer == (b"", NO_END) for _, _, answer in answers):
+            has_no_end.set()
         return trial.case.name, sum(right for right, _, _ in answers), [(what, answer) for right, what, answer in answers if not right]
 
     with concurrent.futures.ThreadPoolExecutor(len(os.sched_getaffinity(0))) as pool:
