@@ -15,7 +15,8 @@ PROGRAM is `sts`, LOOK is `look`; each of their commands is tried if it applies.
 - Budgets: a run that reaches all four, and for each budget a text with no run that reaches it.
 - Large runs: 65,535 subtasks, and a text of 1,048,576 bytes, by 4 workers.
 - The launchers ./sts and ./look: a call for help starts no proof, and neither does a word that is no command, if there is
-  no program yet. Any other call starts one if there is no program or a source is newer.
+  no program yet. Nor does a call with no FILE, with one that isn't there, or with `--unproved` behind its first word. Any
+  other call starts one if there is no program or a source is newer.
 Expected answers were worked out by hand from the rules.  The last line is `N passed, M failed`, of runs.
 """
 import os
@@ -250,6 +251,9 @@ def launchers(sts, look):
                 put(f"{top}/{it}", of_repository(it), 300)
             shutil.copytree(f"{ROOT}/checks/help", f"{top}/checks/help")
             put(f"{top}/checks/build.py", "import sys\nprint('builds', *sys.argv[2:])\n", 300)
+            put(f"{top}/checks/unproved.py", "import sys\nprint('builds', *sys.argv[3:])\n", 300)
+            for it in ("text", "checks/text"):
+                put(f"{top}/{it}", SEVEN, 300)
             yield from launched(Folder(f"{top}/{name}", top), program, name, commands)
             yield from launched_fast(top, name)
 
@@ -266,6 +270,7 @@ def launched(launcher, program, name, commands):
     asked = [[], [commands[0], "text"], [commands[0], "text", "--help"]]
     for words in asked:
         yield f"./{name} {words} with no program", launcher.says(*words), (0, f"{' '.join(['builds', *words])}\n", "")
+    yield from launched_in_vain(launcher, program, name, commands)
     yield f"./{name} --version", launcher.says("--version"), (0, f"{name} {of_repository('VERSION')}", "")
     put(f"{launcher.path}/crates/{name}/out/{name}", "#!/bin/sh\necho runs $@\n", 200)
     for says, source in ("builds", 100), ("runs", 290):
@@ -276,6 +281,19 @@ def launched(launcher, program, name, commands):
             yield f"./{name} {words}, a source of {source}", launcher.says(*words), (0, f"{' '.join([says, *words])}\n", "")
         for words in helps:
             yield f"./{name} {words}, a source of {source}", launcher.says(*words), (0, f"{' '.join(['runs', *words])}\n", "")
+
+
+def launched_in_vain(launcher, program, name, commands):
+    """Tries calls that no build helps, where there is no program: the launcher answers them with the program's status."""
+    for before in ([], ["--unproved"]):
+        for command in commands:
+            way = f"./{name} {before} {command}"
+            misplaced = launcher.says(*before, command, "--unproved", "text")
+            yield f"{way} --unproved", (misplaced[:2], "first word" in misplaced[2]), (program.says(command, "--unproved", "text")[:2], True)
+            yield f"{way} with no FILE", launcher.says(*before, command)[:2], program.says(command)[:2]
+            yield f"{way} none", launcher.says(*before, command, "none"), NO_FILE
+            for words in ([command, "text"], [command, "--", "--unproved"], [command, "-"], [command, "none", "-h"]):
+                yield f"{way} {words[1:]}", launcher.says(*before, *words), (0, f"{' '.join(['builds', *words])}\n", "")
 
 
 def launched_fast(top, name):

@@ -46,10 +46,37 @@ answer_at_once() {
   exec cat "$root/checks/help/$text.txt"
 }
 
+# Answers a call that no build helps: `--unproved` isn't its first word, no FILE is named, or FILE isn't there. The status
+# and standard output are those of the program.
+answer_before_a_build() {
+  for word in "$@"; do
+    case $word in
+      -h | --help) return 0 ;;
+      --) break ;;
+      --unproved)
+        echo "$name: --unproved has to be the first word, as in ./$name --unproved COMMAND FILE" >&2
+        exit 2
+        ;;
+    esac
+  done
+  [ $# != 0 ] && [ -f "$root/checks/help/$name.$1.txt" ] || return 0
+  if [ $# = 1 ]; then
+    echo "$name: $1 needs a FILE; ./$name $1 --help has its words" >&2
+    exit 2
+  fi
+  case $2 in -*) return 0 ;; esac
+  if [ ! -e "$2" ] && [ ! -L "$2" ]; then
+    echo "$name: cannot read $2: no file is found there" >&2
+    echo 'error file'
+    exit 6
+  fi
+}
+
 case "$name ${1-}" in
   *' --unproved')
     shift
     if is_stale "$unproved"; then
+      answer_before_a_build "$@"
       exec python3 "$root/checks/unproved.py" "$name" "$unproved" "$@"
     fi
     echo "$name: not proved: this program was built without its proofs" >&2
@@ -67,6 +94,7 @@ elif [ "$about" ]; then
   exec "$program" "$@" # (a call for help starts no proof, even if a source is newer)
 fi
 if is_stale "$program"; then
+  answer_before_a_build "$@"
   exec python3 "$root/checks/build.py" "$program" "$@"
 fi
 exec "$program" "$@"

@@ -248,7 +248,8 @@ def reasons(program, look, folder):
         (["verify", empty], f"{empty}; ./look explain FILE says more"),
         (["plain", SUM, bad], f'{bad}, line 2: " step"; ./look explain FILE TRACE says more'),
         (["plain", SUM, cut], f"{cut}: no newline ends its last line; ./look explain FILE TRACE says more"),
-        (["run", SUM, "--workers", "2", "--outside", bad], f'{bad}, line 1: "step 0"'),
+        (["run", SUM, "--workers", "2", "--outside", bad], f'{bad}, line 1: "step 0"; docs/LANGUAGE.md#outside-events says more'),
+        (["run", SUM, "--workers", "2", "--outside", cut], f"{cut}: no newline ends its last line; docs/LANGUAGE.md#outside-events says more"),
     ]
     for words, line in rows:
         yield f"why {words}", told(program, words), f"sts: {line}\n"

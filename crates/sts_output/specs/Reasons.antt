@@ -125,4 +125,5 @@ trace_reason program name text (Err e) =
 abbrev pub outside_reason : List ℕ → List ℕ → List ℕ → Result (List Due) TraceError
     → Option (List ℕ)
 outside_reason program name text (Ok dues) = None
-outside_reason program name text (Err e) = Some (events_line program name text e [])
+outside_reason program name text (Err e) =
+    Some (events_line program name text e (codes "; docs/LANGUAGE.md#outside-events says more"))

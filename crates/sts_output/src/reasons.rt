@@ -271,6 +271,9 @@ pub fn outside_reason(
     match read_outside(alloc, named.text) {
         Ok(_) => Ok(None),
         Err(TraceError::Memory) => Err(AllocError),
-        Err(error) => Ok(Some(events_line(alloc, program, named, error, "")?)),
+        Err(error) => {
+            let hint = "; docs/LANGUAGE.md#outside-events says more";
+            Ok(Some(events_line(alloc, program, named, error, hint)?))
+        }
     }
 }
