@@ -85,7 +85,7 @@ live_is_illegal p v f (Except h) =
     (λ t scope. not (live_is_readable p.profile scope && has_failed (live_state v t)))
 live_is_illegal p v f _ = false
 
--- against the order of the structure list
+-- does the instruction break the order of the structure list?
 abbrev pub live_breaks_structure : Live → Frame → Instr → Bool
 live_breaks_structure v f (Fork s g h) = live_at_own v (slot f s) (λ n _. binds_after n f.entries)
 live_breaks_structure v f (Close s) =

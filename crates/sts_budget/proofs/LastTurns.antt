@@ -199,7 +199,7 @@ no_excess Tasks earlier code m h le (x, t) = let top = h.1 x t.0 in omega (arith
 no_excess Scopes earlier code m h le (x, t) = let top = h.1 x t.0 in omega (arith, t.1)
 no_excess Binds earlier code m h le (x, t) = let top = h.1 x t.0 in omega (arith, t.1)
 
--- the first resource that is over its limit gives the least cause
+-- the first resource that is over its limit gives the lowest-numbered cause
 pub least_excess : (k : Resource) (earlier : List Budgets) (code : List Instr) → Exceeds earlier code (cause_of k) → ((j : Resource) → cause_number (cause_of j) < cause_number (cause_of k) → Exceeds earlier code (cause_of j) → ⊥) → IsLeastExcess earlier code (cause_of k)
 least_excess k earlier code here before = (here, less)
   where

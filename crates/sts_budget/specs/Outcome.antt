@@ -9,8 +9,8 @@ use Rattle.sts_budget.specs.Change.{cause_of, limit_of, IsMost}
 use Rattle.sts_budget.specs.declared.budgets.BudgetError.{BudgetError}
 use Rattle.sts_budget.specs.declared.budgets.BudgetError.TheVariants.{Memory, TooMuch}
 
--- the budgets, all within their limits, or the least cause that a budget over its limit gives; no
--- claim is made if memory ran out
+-- the budgets, all within their limits, or the lowest-numbered cause that a budget over its limit
+-- gives; no claim is made if memory ran out
 abbrev pub IsFound : List Budgets → List Instr → Result Budgets BudgetError → Type 0
 IsFound earlier code (Ok b) = IsBudget earlier code b × ((c : Cause) → ¬ Exceeds earlier code c)
 IsFound earlier code (Err (TooMuch c)) = IsLeastExcess earlier code c

@@ -22,7 +22,7 @@ use sts_rules::{Budgets, Cause};
 pub enum BudgetError {
     /// Memory ran out.
     Memory,
-    /// A budget is over its limit, V17 to V20; the least cause of several.
+    /// A budget is over its limit: the lowest-numbered cause from V17 to V20 that holds.
     TooMuch(Cause),
 }
 
@@ -40,7 +40,7 @@ impl From<AllocError> for BudgetError {
 ///
 /// # Errors
 ///
-/// The least cause from V17 to V20 that holds, or memory ran out.
+/// The lowest-numbered cause from V17 to V20 that holds, or memory ran out.
 pub fn budget(
     alloc: Global,
     program: &Program,

@@ -1,4 +1,4 @@
-//! The output of the modes that run the machine that tests nothing, one file a mode.
+//! The output of the modes that run the fast machine, one file a mode.
 
 pub mod replay;
 pub(crate) mod run;

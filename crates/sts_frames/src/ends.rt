@@ -5,7 +5,7 @@ ghost use Rattle.sts_model.specs.Effect as effect;
 
 use sts_model::End;
 
-/// The place that `case` goes to for a subtask in this state; none means unavailable.
+/// The place that `case` goes to for a subtask in this state; `None` means unavailable.
 pub fn case_target(state: Option<End>, success: u32, failed: u32, otherwise: u32) -> u32
     ensures { result ≡ effect.case_target state success failed otherwise }
 {

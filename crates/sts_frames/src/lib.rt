@@ -1,5 +1,4 @@
-//! One task's frame: how the machine that tests everything and the machine that tests nothing both
-//! read and change it.
+//! One task's frame. Both machines read and change it by these calls.
 //!
 //! The records and their stacks are in `sts_model`. This crate has:
 //!

@@ -1,4 +1,4 @@
-//! Frames compared, and codes.
+//! Compares frames, and codes of functions.
 
 ghost use Rattle.std.specs.Prelude.{◌≡◌, ◌↔◌, IsTrue};
 

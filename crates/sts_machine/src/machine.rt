@@ -101,7 +101,7 @@ impl<'p> Machine<'p> {
         }
     }
 
-    /// Does what an event that counts does.
+    /// Applies an event that counts.
     #[inline(always)]
     fn take(&mut self, event: Event)
         requires { live_counts self.old.program self.old.live event ≡ true }

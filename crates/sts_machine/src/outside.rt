@@ -1,4 +1,4 @@
-//! Interrupts and expiries from outside, applied to a store.
+//! Applies interrupts and expiries from outside to a store.
 
 ghost use Rattle.std.specs.Prelude.{◌≡◌, true};
 ghost use Rattle.sts_machine.specs.Room.{HasRoomOf};

@@ -1,4 +1,4 @@
-//! One instruction, done to a store.
+//! Does one instruction on a store.
 
 ghost use Rattle.std.specs.Prelude.{◌≡◌, ◌≤◌, length, true, Some};
 ghost use Rattle.sts_code.specs.declared.limits.TheConstants.{MAX_INSTRUCTIONS};
@@ -20,21 +20,21 @@ use laws_live::{effects_move_one, idle_stand_free};
 use sts_code::{Instr, Program};
 use sts_store::Store;
 
-/// May a scope be recorded for the task, before the instruction or after it?
+/// May the task be recorded at a scope, before the instruction or after it?
 fn may_wait(instr: &Instr) -> bool
     ensures { result ≡ may_wait instr.now }
 {
     matches!(*instr, Instr::Join { .. } | Instr::Close(_))
 }
 
-/// May the task have ended by the instruction?
+/// May the instruction end the task?
 fn may_leave(instr: &Instr) -> bool
     ensures { result ≡ may_leave instr.now }
 {
     matches!(*instr, Instr::Close(_) | Instr::Ret | Instr::Fail)
 }
 
-/// Does the instruction that a living task is at, which is no misuse and for which there is room.
+/// Does the next instruction of a living task. It must be no misuse, and there must be room for it.
 #[inline(always)]
 pub(crate) fn perform(store: &mut Store, program: &Program, code: &[Instr], t: u32, instr: &Instr)
     requires lives { lives_in (live_of store.old) t ≡ true }

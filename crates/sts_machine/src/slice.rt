@@ -104,8 +104,8 @@ impl<'p> Slice<'p> {
         &self.start
     }
 
-    /// The frame as it is now: the one that was taken out, after the local instructions that were
-    /// done.
+    /// The current frame. The local instructions that were done lead to it from the frame that was
+    /// taken out.
     pub fn frame(&self) -> &Frame
         ensures value { result.now ≡ self.now.frame }
         ensures local { locals self.now.code self.now.start self.now.count ≡ Some self.now.frame }

@@ -1,4 +1,4 @@
-//! Slices taken out of a machine, and put back.
+//! Takes slices out of a machine, and puts them back.
 
 ghost use Rattle.std.specs.Prelude.{◌≡◌, ◌+◌, ◌++◌, ◌↔◌, List, true, IsTrue};
 ghost use Rattle.laws_accepted.specs.Accepted.{main_of};

@@ -212,7 +212,7 @@ binds_after s [] = false
 binds_after s (entry.Binding k v ∷ es) = true
 binds_after s (entry.Scope r ∷ es) = if r == s then false else binds_after s es
 
--- against the order of the structure list
+-- does the instruction break the order of the structure list?
 abbrev pub breaks_structure : World → Frame → Instr → Bool
 breaks_structure w f (Fork s g h) = at_own w (slot f s) (λ n _. binds_after n f.entries)
 breaks_structure w f (Close s) =

@@ -26,7 +26,7 @@ use Rattle.sts_output.specs.declared.taking.TakeError.TheVariants as take_error
 use Rattle.sts_output.specs.Printed.{text_fault_line, trace_fault_line, state_line, steps_line}
 use Rattle.sts_output.specs.Printed.{memory_line, file_line, refused_line, accepted_lines}
 
--- what is printed, and the status
+-- the bytes that are printed, and the exit status
 pub record Output : Type 0 where
   pub bytes : List ℕ
   pub status : ℕ
@@ -89,8 +89,7 @@ list_output (Err e) = text_fault_output e
 abbrev pub refused_output : Program → ℕ → ℕ → Cause → Output
 refused_output p f pc c = record { bytes = refused_line p f pc c; status = 4 }
 
--- the output for a refused program: it names the least place with a cause, and the least cause
--- there
+-- the output for a refused program: it names the first place with a cause, and one cause there
 pub record IsRefused (p : Program) (output : Output) : Type 0 where
   pub function : ℕ
   pub place : ℕ

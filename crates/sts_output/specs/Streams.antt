@@ -1,4 +1,4 @@
--- The sources of bytes, and what is written to the two streams (this project's own).
+-- The sources of bytes, and the bytes written to the two streams (this project's own).
 use Rattle.std.specs.Prelude.{◌≡◌, ◌-◌, ◌^◌, ℕ, List, [], Option, Some, None, codes}
 use Rattle.std.specs.Prelude.{Bool, false, ⊤, IfSome}
 use Rattle.std.specs.Borrow.{Bor}

@@ -1,4 +1,4 @@
--- The modes that need no machine that tests nothing (this project's own).
+-- The modes that don't need the fast machine (this project's own).
 use Rattle.sts_output.specs.declared.mode.Mode.{Mode}
 use Rattle.sts_output.specs.declared.mode.Mode.TheVariants as mode
 use Rattle.sts_output.specs.declared.text_mode.TextMode.{TextMode}

@@ -1,4 +1,4 @@
-//! The modes that don't need the machine that tests nothing.
+//! The modes that don't need the fast machine.
 
 ghost use Rattle.std.specs.Prelude.{IfOk};
 ghost use Rattle.sts_output.specs.Output as def;

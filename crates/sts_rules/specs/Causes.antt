@@ -211,7 +211,8 @@ binds_after x (Scope r ∷ es) = if r.slot == x then false else binds_after x es
 abbrev pub is_held : TypeState → Bool
 is_held s = list_any (λ l. nat_le (length s.entries) l.entries) s.loops
 
--- V13: against the order of the structure list; a loop may not close what was opened before it
+-- V13: does the instruction break the order of the structure list? Nor may a loop close or unbind
+-- what was made before it
 abbrev pub breaks_structure : Instr → TypeState → Bool
 breaks_structure (Fork x g h) s = at_own s x (λ _. binds_after x s.entries)
 breaks_structure (Close x) s =
@@ -280,7 +281,7 @@ causes =
     ∷ cause.WrongThread ∷ cause.IllegalState ∷ cause.Structure ∷ cause.Nesting ∷ cause.Unbound
     ∷ cause.JoinEdges ∷ []
 
--- the least cause that holds, if one does
+-- the lowest-numbered cause that holds, if one does
 abbrev pub least_cause : Program → ℕ → ℕ → Instr → TypeState → Option Cause
 least_cause p f pc i s = find (holds p f pc i s) causes
 

@@ -1,5 +1,5 @@
--- The places that an instruction leads to, with the typestates there, or the least cause that holds
--- at it (this project's own).
+-- The places that an instruction leads to, with the typestates there, or the lowest-numbered cause
+-- that holds at it (this project's own).
 use Rattle.std.specs.Prelude.{ℕ, ◌+◌, ◌-◌, List, [], ◌∷◌, ◌++◌, length, drop, map, Bool, true}
 use Rattle.std.specs.Prelude.{false, Option, Some, None, Result, Ok, Err, ◌==◌, if◌then◌else◌}
 use Rattle.std.specs.Prelude.{option_map, slice_set, slice_get}
@@ -153,7 +153,8 @@ abbrev pub or_cause : Option Cause → List (ℕ × TypeState) → Result (List 
 or_cause None out = Ok out
 or_cause (Some c) out = Err c
 
--- the edges of the instruction at a place of a function, or the least cause that holds there
+-- the edges of the instruction at a place of a function, or the lowest-numbered cause that holds
+-- there
 abbrev pub edges_of : Program → ℕ → ℕ → Instr → TypeState → Result (List (ℕ × TypeState)) Cause
 edges_of p f pc i s = or_cause (least_cause p f pc i s) (follows p (routine p f).code pc i s)
 

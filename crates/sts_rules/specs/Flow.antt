@@ -51,7 +51,7 @@ pub record IsClear {S C : Type 0} (f : Flow S C) (pc : ℕ) : Type 0 where
   pub fine : f.edges pc state ≡ Ok out
   pub same : TurnKeeps f pc state
 
--- c is the least cause at the place
+-- c is the cause that counts at the place
 pub data HasCause {S C : Type 0} (f : Flow S C) (pc : ℕ) : C → Type 0 where
   dead : IsDead f pc → HasCause f pc f.dead
   two : HasTwo f pc → HasCause f pc f.differ
@@ -59,7 +59,7 @@ pub data HasCause {S C : Type 0} (f : Flow S C) (pc : ℕ) : C → Type 0 where
   turn : (s : S) (out : List (ℕ × S)) → IsAlone f pc s → f.edges pc s ≡ Ok out → TurnDiffers f pc s
       → HasCause f pc f.differ
 
--- the least place below n with a cause, and its cause
+-- the first place below n with a cause, and the cause that counts there
 abbrev pub IsRefusal : {S C : Type 0} → Flow S C → ℕ → ℕ → C → Type 0
 IsRefusal f n pc c = (pc < n) × HasCause f pc c × ((earlier : ℕ) → earlier < pc → IsClear f earlier)
 

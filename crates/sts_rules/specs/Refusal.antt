@@ -15,7 +15,7 @@ size p f = length (routine p f).code
 abbrev pub IsWellTyped : Program → ℕ → Type 0
 IsWellTyped p f = flow.IsAccepted (typing p f) (size p f)
 
--- the least place of the function with a cause from V1 to V16, and the least cause there
+-- the first place of the function with a cause from V1 to V16, and the cause that is named there
 abbrev pub IsTypeRefusal : Program → ℕ → ℕ → Cause → Type 0
 IsTypeRefusal p f pc c = flow.IsRefusal (typing p f) (size p f) pc c
 
@@ -28,7 +28,7 @@ pub record IsSound (p : Program) (f : ℕ) : Type 0 where
   pub right : AreBudgets p earlier
   pub within : (c : Cause) → ¬ Exceeds earlier (routine p f).code c
 
--- the least place of the function that has a cause, and the least cause there
+-- the first place of the function that has a cause, and the cause that is named there
 pub data IsUnsound (p : Program) (f : ℕ) : ℕ → Cause → Type 0 where
   ill_typed : {pc : ℕ} {c : Cause} → IsTypeRefusal p f pc c → IsUnsound p f pc c
   -- a cause from V17 to V20, at the place after its last instruction
@@ -36,8 +36,8 @@ pub data IsUnsound (p : Program) (f : ℕ) : ℕ → Cause → Type 0 where
       → AreBudgets p earlier → IsLeastExcess earlier (routine p f).code c
       → IsUnsound p f (size p f) c
 
--- a program's refusal: the first function with a cause, its least place with a cause, and the least
--- cause there
+-- a program's refusal: the first function with a cause, its first place with a cause, and the cause
+-- that is named there
 abbrev pub IsRefusal : Program → ℕ → ℕ → Cause → Type 0
 IsRefusal p f pc c =
     (f < length p.routines) × IsUnsound p f pc c × ((earlier : ℕ) → earlier < f → IsSound p earlier)

@@ -90,7 +90,7 @@ pub enum Cause {
     WrongThread,
     /// V12: a scope or subtask that isn't in the state for the instruction.
     IllegalState,
-    /// V13: against the order of the structure list.
+    /// V13: an instruction that breaks the order of the structure list.
     Structure,
     /// V14: more than 16 entries in the structure list.
     Nesting,

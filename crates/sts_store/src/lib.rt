@@ -1,5 +1,4 @@
-//! The store of the machine that tests nothing: the tree, the frames of living tasks, and all
-//! bindings.
+//! The store of the fast machine: the tree, the frames of living tasks, and all bindings.
 //!
 //! Contracts see the parts, and speak of the live view that they form. Each call has the same
 //! effect on that view as an instruction, an interrupt or an expiry. Its contract also says how the

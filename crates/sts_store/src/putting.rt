@@ -1,4 +1,4 @@
-//! A frame put back in the place of a task's.
+//! Puts a frame back in the place of a task's.
 
 ghost use Rattle.std.specs.Prelude.{◌≡◌, true};
 ghost use Rattle.laws_live.specs.Reading.{lives_in, with_live_frame};

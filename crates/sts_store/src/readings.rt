@@ -36,7 +36,7 @@ impl Store {
             .read(self.frames.get(t as usize).unwrap().env, key)
     }
 
-    /// A task's state as a subtask; none means unavailable.
+    /// A task's state as a subtask; `None` means unavailable.
     pub fn state(&self, t: u32) -> Option<End>
         ensures { result ≡ live_state (live_of self.now) t }
     {

@@ -63,7 +63,7 @@ impl<E: Drop> Tree<E> {
         self.forest.scope(s).unwrap().timed
     }
 
-    /// How far the scope is.
+    /// A scope's phase.
     pub fn phase(&self, s: u32) -> Phase
         requires { slice_index_or self.now.scopes s None ≢ None }
         ensures { (c : AnyScope E) → slice_index_or self.now.scopes s None ≡ Some c →
@@ -173,7 +173,7 @@ impl<E: Drop> Tree<E> {
         self.forest.task(t).unwrap().scope
     }
 
-    /// A task's state as a subtask; none is unavailable.
+    /// A task's state as a subtask; `None` means unavailable.
     pub fn state(&self, t: u32) -> Option<End>
         requires { slice_index_or self.now.tasks t None ≢ None }
         ensures { (x : AnyTask) → slice_index_or self.now.tasks t None ≡ Some x → result ≡ x.state }

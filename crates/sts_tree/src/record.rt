@@ -11,7 +11,7 @@ pub struct TaskNode {
     pub scope: Option<u32>,
     pub flag: bool,
     pub lives: bool,
-    /// Its state as a subtask; none is unavailable.
+    /// Its state as a subtask; `None` means unavailable.
     pub state: Option<End>,
     pub stand: Stand,
     /// Is it in the ready list?

@@ -53,7 +53,7 @@ fits p f pc i s e =
       joins = r.0;
     }
 
--- ---- the least cause, found in parts
+-- ---- the lowest-numbered cause, found in parts
 
 -- the first of three that holds
 abbrev pub one_of : (x y z : Bool) (a b c : Cause) → Option Cause → Option Cause
@@ -78,7 +78,7 @@ past true c rest e = cc
 past false c rest e = refl
 
 module _ (p : Program) (f pc : ℕ) (i : Instr) (s : TypeState) where
-  -- the least cause from V3 to V5, if one holds there
+  -- the lowest-numbered cause from V3 to V5, if one holds there
   abbrev pub lead : List Instr → Option Cause → Option Cause
   lead code rest = one_of (test.falls_off code pc i) (test.jumps_back pc i) (test.mismatches code pc i s) FallsOff BackJump LoopMismatch rest
 

@@ -1,4 +1,4 @@
-//! The edges of an instruction, or the least cause that holds there.
+//! The edges of an instruction, or the lowest-numbered cause that holds there.
 
 ghost use Rattle.std.specs.Prelude.{◌≡◌, ◌<◌, length, MatchResult, Ok, Err};
 ghost use Rattle.sts_rules.specs.Edges as def;
@@ -13,15 +13,15 @@ use crate::state::TypeState;
 use sts_code::{Program, code_of};
 use sts_rules::Cause;
 
-/// The edges of the instruction at a place of one of the program's functions, or the least cause
-/// that holds at it.
+/// The edges of the instruction at a place of one of the program's functions, or the
+/// lowest-numbered cause that holds at it.
 ///
 /// Causes that compare typestates or look for dead code aren't tested here: they are about a whole
 /// function.
 ///
 /// # Errors
 ///
-/// The least cause from V1 to V16 that holds there.
+/// The lowest-numbered cause from V1 to V16 that holds there.
 pub fn edges(program: &Program, function: u32, pc: u32, state: &TypeState) -> Result<Edges, Cause>
     requires function { function < length program.now.routines }
     requires pc { pc < size program.now function }

@@ -1,4 +1,4 @@
-//! The least cause that holds at an instruction.
+//! The lowest-numbered cause that holds at an instruction.
 
 ghost use Rattle.std.specs.Prelude.{◌≡◌, ◌<◌, ◌+◌, length, option_to_list, if◌then◌else◌, Some};
 ghost use Rattle.std.specs.Prelude.{None, nat_le};
@@ -41,7 +41,7 @@ fn is_simple(instr: Instr) -> bool
     )
 }
 
-/// The least cause from V3 to V5 of an instruction that only goes on to the next place.
+/// The lowest-numbered cause from V3 to V5 of an instruction that only goes on to the next place.
 fn straight_cause(loops: &CodeLoops<'_>, pc: u32, state: &TypeState) -> Option<Cause>
     requires { pc < length loops.now }
     ensures { result ≡
@@ -59,7 +59,7 @@ fn straight_cause(loops: &CodeLoops<'_>, pc: u32, state: &TypeState) -> Option<C
     None
 }
 
-/// The least cause from V3 to V5.
+/// The lowest-numbered cause from V3 to V5.
 fn lead_cause(site: &Site<'_>, state: &TypeState) -> Option<Cause>
     requires { IsSite site.now }
     ensures { result ≡
@@ -84,7 +84,7 @@ fn lead_cause(site: &Site<'_>, state: &TypeState) -> Option<Cause>
     }
 }
 
-/// The least cause from V9 to V11.
+/// The lowest-numbered cause from V9 to V11.
 fn slot_cause(instr: Instr, state: &TypeState) -> Option<Cause>
     ensures { result ≡
         (if def.has_wrong_slot instr state.now then Some Cause.SlotKind else
@@ -102,7 +102,7 @@ fn slot_cause(instr: Instr, state: &TypeState) -> Option<Cause>
     }
 }
 
-/// The least cause from V14 to V16.
+/// The lowest-numbered cause from V14 to V16.
 fn late_cause(program: &Program, function: u32, instr: Instr, state: &TypeState) -> Option<Cause>
     ensures { result ≡
         (if def.is_nested instr state.now then Some Cause.Nesting else
@@ -120,7 +120,7 @@ fn late_cause(program: &Program, function: u32, instr: Instr, state: &TypeState)
     }
 }
 
-/// The least cause that holds at the instruction, if one does.
+/// The lowest-numbered cause that holds at the instruction, if one does.
 pub(crate) fn least_cause(site: &Site<'_>, state: &TypeState) -> Option<Cause>
     requires site { IsSite site.now }
     ensures { result ≡ def.least_cause site.now.program.now site.now.function

@@ -26,7 +26,7 @@ use sts_rules::Cause;
 pub enum TypeError {
     /// Memory ran out.
     Memory,
-    /// The least place with a cause, and the least cause there.
+    /// The first place with a cause, and the cause that is named there.
     Refused { pc: u32, cause: Cause },
 }
 
@@ -93,11 +93,11 @@ fn follow(site: &Site<'_>, arrivals: &mut Arrivals) -> Result<(), AllocError>
 }
 
 /// Checks that each place of the function has one typestate and no cause from V1 to V16. If not,
-/// reports the least place that has a cause, with the least cause there.
+/// reports the first place that has a cause, with the cause that is named there.
 ///
 /// # Errors
 ///
-/// The least place that has a cause, with the least cause there; or memory ran out.
+/// The first place that has a cause, with the cause that is named there; or memory ran out.
 pub fn type_function(alloc: Global, program: &Program, function: u32) -> Result<(), TypeError>
     requires { function < length program.now.routines }
     ensures { MatchResult result (λ _. IsWellTyped program.now function)

@@ -9,8 +9,8 @@ use Rattle.sts_types.specs.declared.pass.TypeError.TheVariants as typing
 use Rattle.sts_verify.specs.declared.error.VerifyError.{VerifyError}
 use Rattle.sts_verify.specs.declared.error.VerifyError.TheVariants.{Memory, Refused}
 
--- the program is given back; a refusal is the least place of the program with a cause, and the
--- least cause there
+-- the program is given back; a refusal is the first place of the program with a cause, and the
+-- cause that is named there
 abbrev pub Tells : Program → VerifyError → Type 0
 Tells given (Memory p) = p ≡ given
 Tells given (Refused p f pc cause) = (p ≡ given) × IsRefusal given f pc cause
@@ -20,8 +20,8 @@ abbrev pub told : Program → ℕ → TypeError → VerifyError
 told p f typing.Memory = Memory p
 told p f (typing.Refused pc cause) = Refused p f pc cause
 
--- a refusal names the least place of the function with a cause, and the least cause there; running
--- out of memory promises nothing
+-- a refusal names the first place of the function with a cause, and one cause there; running out of
+-- memory promises nothing
 abbrev pub TellsOf : Program → ℕ → TypeError → Type 0
 TellsOf p f typing.Memory = Unit {0}
 TellsOf p f (typing.Refused pc cause) = IsUnsound p f pc cause

@@ -8,7 +8,7 @@ use sts_rules::Cause;
 pub enum VerifyError {
     /// Memory ran out.
     Memory(Program),
-    /// The least place with a cause, function by function, and the least cause there.
+    /// The first place with a cause, function by function, and the cause that is named there.
     Refused {
         program: Program,
         function: u32,

@@ -15,9 +15,9 @@ pub fn typing_promises(program: &Program)
     let _ = program.functions();
 }
 
-/// Acceptance and refusal exclude each other. A program has at most one refusal: the least place
-/// with a cause, and the least cause there. So, if memory suffices, `verify` accepts exactly the
-/// accepted programs, and names the only refusal of each other one.
+/// Acceptance and refusal exclude each other. A program has at most one refusal: the first place
+/// with a cause, and the cause that is named there. So, if memory suffices, `verify` accepts
+/// exactly the accepted programs, and names the only refusal of each other one.
 pub fn verdict_is_one(program: &Program)
     ensures { IsOneVerdict program.now }
 {

@@ -118,8 +118,8 @@ fn verify_function(
     }
 }
 
-/// Verifies a program. It is accepted, or refused at its least place with a cause, for the least
-/// cause there.
+/// Verifies a program. It is accepted, or refused at its first place with a cause, for the cause
+/// that is named there.
 ///
 /// # Errors
 ///

@@ -1,5 +1,5 @@
-//! Mode `replay`: prints the state of the machine that tests nothing, after the events of a trace,
-//! if the program is accepted.
+//! Mode `replay`: prints the state of the fast machine, after the events of a trace, if the program
+//! is accepted.
 
 ghost use Rattle.std.specs.Prelude.{◌≡◌, IfOk};
 ghost use Rattle.sts_asm.specs.Text.{judged};
@@ -24,7 +24,7 @@ fn state_of(root_end: Option<End>) -> PlainState
     }
 }
 
-/// Runs the events on the machine that tests nothing.
+/// Runs the events on the fast machine.
 fn run(alloc: Global, verified: &Verified, events: &[Event]) -> Result<Output, AllocError>
     ensures { IfOk result (λ o. def.IsReplay verified.now events.now o) }
 {

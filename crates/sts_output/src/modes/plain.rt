@@ -1,5 +1,4 @@
-//! Mode `plain`: prints the state of the machine that tests everything, after the events of a
-//! trace.
+//! Mode `plain`: prints the state of the plain machine, after the events of a trace.
 
 ghost use Rattle.std.specs.Prelude.{◌≡◌, IfOk};
 ghost use Rattle.sts_asm.specs.Text.{judged};
