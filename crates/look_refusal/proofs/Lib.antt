@@ -11,6 +11,8 @@ pub mod Instrs
 pub mod Leading
 pub mod MeetingLemmas
 pub mod Most
+pub mod Noting
+pub mod OrderLemmas
 pub mod PartLemmas
 pub mod PointLemmas
 pub mod Reading

@@ -2,7 +2,9 @@ pub mod Adding
 pub mod Differences
 pub mod Found
 pub mod Heavy
+pub mod Leads
 pub mod Lines
+pub mod Order
 pub mod Output
 pub mod Reading
 pub mod Remedies
