@@ -1,0 +1,23 @@
+use Rattle.std.proofs.Common.{sym, ap, ◌∙◌}
+use Rattle.std.proofs.lemmas.Result.{err_from_is_err_and}
+use Rattle.sts_output.proofs.StopLemmas.{says_less}
+use Rattle.look_lines.specs.View.{text_output, traced_output, view_output}
+use Rattle.look_lines.proofs.of_text.viewed.Goals as goal
+
+pub returns-in_err-program : goal.returns-in_err-program
+returns-in_err-program c =
+    let trace = c.args.trace.now in
+    let p = err_from_is_err_and c.from_residual.result c.from_residual.ensures.1 in
+    rw (p.1, p.2) (says_less c.in_err-program.field-0.0 _ _ (λ o h. h.printed ∙ sym (ap (λ r. text_output r c.args.wanted trace) h.fault)) c.in_err-program.ensures)
+
+pub returns-in_err-events : goal.returns-in_err-events
+returns-in_err-events c =
+    let trace = c.args.trace.now in
+    let whole = ap (λ r. text_output r c.args.wanted trace) c.in_ok-program.ensures in
+    let p = err_from_is_err_and c.from_residual-in_err-events.result c.from_residual-in_err-events.ensures.1 in
+    rw (p.1, p.2) (says_less c.in_err-events.field-0.0 _ _ (λ o h. h.printed ∙ sym (whole ∙ ap (traced_output c.in_ok-program.program c.args.wanted) h.fault)) c.in_err-events.ensures)
+
+pub returns : goal.returns
+returns c =
+    let trace = c.args.trace.now in
+    c.in_ok-output.ensures ∙ ap (view_output c.in_ok-program.program c.args.wanted) c.as_slice.ensures.value ∙ sym (ap (λ r. text_output r c.args.wanted trace) c.in_ok-program.ensures ∙ ap (traced_output c.in_ok-program.program c.args.wanted) c.in_ok-events.ensures)
