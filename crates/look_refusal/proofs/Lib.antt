@@ -18,6 +18,7 @@ pub mod PointLemmas
 pub mod Reading
 pub mod RemedyLemmas
 pub mod SameLemmas
+pub mod StopLemmas
 pub mod Tables
 pub mod TellLemmas
 pub mod Walking

@@ -8,6 +8,7 @@
 mod differences;
 pub mod earlier;
 mod explaining;
+mod explanation;
 pub mod heavy;
 pub mod laws;
 pub mod leads;
@@ -24,6 +25,7 @@ pub mod walk;
 pub mod ways;
 mod weights;
 
-pub use explaining::{Explanation, explain, text_fault};
+pub use explaining::explain;
+pub use explanation::{ExplainError, Explanation, outline_of, program_of, write_explained};
 pub use remedy::{Remedy, label_remedy};
 pub use sentences::remedy_sentence;
