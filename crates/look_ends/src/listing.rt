@@ -9,13 +9,13 @@ use crate::below::{
     found_at, has_number, say_no_number, say_refused, say_schedules, say_states, say_unfinished,
 };
 use crate::exploring::explored;
-use crate::lines::{Told, say_all, say_shares};
+use crate::lines::{say_all, say_shares};
 use crate::progress::Progress;
 use crate::verdict::{Judged, verdict};
 use crate::wanted::{EndsOptions, Manner};
 use ends_plain::config::{EndsFound, Found, Setting};
 use ends_plain::sample::{Sample, Sampling, sample_ends};
-use look_refusal::{ExplainError, Explanation, outline_of, program_of};
+use look_refusal::{ExplainError, Explanation, Told, outline_of, program_of};
 use std::alloc::{AllocError, Global};
 use std::marker::Model;
 use sts_asm::Outline;

@@ -8,10 +8,12 @@ ghost use Rattle.look_refusal.specs.Stops.{Prints};
 ghost use Rattle.look_lines.specs.Watched.{watched};
 ghost use Rattle.look_run.specs.Output as def;
 
-use crate::tasks::{Told, say_living, say_state};
+use crate::tasks::{say_living, say_outcome};
 use crate::traces::trace_fault;
 use look_lines::{Watch, after};
-use look_refusal::{ExplainError, Explanation, outline_of, program_of, write_explained};
+use look_refusal::{
+    ExplainError, Explanation, Told, outline_of, program_of, write_explained,
+};
 use std::alloc::{AllocError, Global};
 use std::io::Write;
 use sts_asm::Outline;
@@ -33,7 +35,7 @@ fn of_watch(
     };
     let state = watch.state();
     let mut bytes = Vec::new(alloc);
-    say_state(alloc, &mut bytes, told, watch.world().records(), state)?;
+    say_outcome(alloc, &mut bytes, told, watch.world().records(), state)?;
     say_living(alloc, &mut bytes, told, watch.world())?;
     Ok(Explanation {
         bytes,
