@@ -25,7 +25,7 @@ abbrev pub line_mark : Phase → Mark
 line_mark phase.Closing = mark.Closing
 line_mark _ = mark.Bracket
 
--- while it isn't closed: its number in the first column, a line in those after it
+-- a scope that isn't closed: its number in its first column, a line in each later one
 abbrev pub span : World → World → ℕ → ℕ → List ℕ
 span before w x s =
     if is_closed (scope_at w s).phase then []

@@ -61,7 +61,7 @@ fn line_mark(phase: Phase) -> Mark
     }
 }
 
-/// While it isn't closed: its number in the first column, a line in those after it.
+/// A scope that isn't closed: its number in its first column, a line in each later one.
 fn span(
     out: &mut String,
     before: &Records,

@@ -4,12 +4,12 @@ use Rattle.std.specs.Prelude.{MatchOption, length, nat_lt, sum_by}
 use Rattle.std.specs.List.{range_with_len}
 use Rattle.look_refusal.specs.Weights.{is_weightier, one_if, rank}
 
--- does the place come after this one in the order? Each place comes after none
+-- does the place come after the last one in the order? If there is none, each place does
 abbrev pub comes_after : List ℕ → Option ℕ → ℕ → Bool
 comes_after shares None x = true
 comes_after shares (Some last) x = is_weightier shares x last
 
--- does the place come before this one?
+-- does the place come before the next one? If there is none, each place does
 abbrev pub comes_before : List ℕ → Option ℕ → ℕ → Bool
 comes_before shares None x = true
 comes_before shares (Some next) x = is_weightier shares next x

@@ -11,7 +11,7 @@ use std::alloc::{AllocError, Global};
 use std::marker::Model;
 use sts_budget::{next_places, turns_of};
 
-/// Some places: contracts see the list.
+/// Some places. Contracts see them as a list.
 #[derive(Drop)]
 pub(crate) struct Places {
     items: Vec<u32>,
@@ -34,7 +34,7 @@ impl Places {
         }
     }
 
-    /// One place more.
+    /// Adds a place.
     fn add(&mut self, place: u32) -> Result<(), AllocError>
         ensures { OnOk result (self.new ≡ self.old ++ place ∷ []) }
     {
@@ -49,7 +49,7 @@ impl Places {
     }
 }
 
-/// For each of `count` places no other.
+/// Makes an empty list for each of `count` places.
 fn none(alloc: Global, count: usize) -> Result<Vec<Places>, AllocError>
     ensures { IfOk result (λ lists. lists.items ≡ replicate count []) }
 {
@@ -60,7 +60,7 @@ fn none(alloc: Global, count: usize) -> Result<Vec<Places>, AllocError>
     Ok(lists)
 }
 
-/// Notes one place at another.
+/// Notes at one place that another leads on to it.
 fn note_at(lists: &mut Vec<Places>, from: u32, to: u32) -> Result<(), AllocError>
     requires { to < length lists.old.items }
     ensures { OnOk result (lists.new.items
@@ -69,7 +69,7 @@ fn note_at(lists: &mut Vec<Places>, from: u32, to: u32) -> Result<(), AllocError
     lists[to as usize].add(from)
 }
 
-/// Notes a place at each of those that it leads on to.
+/// Notes a place at each of these places, which it leads on to.
 fn note_at_each(
     search: &Search<'_>,
     lists: &mut Vec<Places>,
@@ -87,8 +87,8 @@ fn note_at_each(
     Ok(())
 }
 
-/// Notes a place at those that it leads on to. The beginning of a loop leads on to none: its end
-/// leads on from the loop.
+/// Notes a place at those that it leads on to. A `times` leads on to none, since its `next` leads on
+/// from the loop.
 fn note(search: &Search<'_>, lists: &mut Vec<Places>, from: u32) -> Result<(), AllocError>
     requires ready { def.IsReady search.now }
     requires in_code { from < length search.now.code.now }
@@ -102,7 +102,7 @@ fn note(search: &Search<'_>, lists: &mut Vec<Places>, from: u32) -> Result<(), A
     note_at_each(search, lists, from, next_places(instr, from).as_slice())
 }
 
-/// For each place the places that lead on to it.
+/// Finds for each place those that lead on to it.
 ///
 /// # Errors
 ///

@@ -17,7 +17,7 @@ fn is_weightier(shares: &[u128], this: usize, one: usize) -> bool
     shares[this] < shares[one] || (shares[one] == shares[this] && one < this)
 }
 
-/// Does a place come after this one in the order? Each place comes after none.
+/// Does a place come after the `last` one in the order? If there is none, each place does.
 pub(crate) fn comes_after(shares: &[u128], last: Option<usize>, place: usize) -> bool
     requires last { IfSome last (λ x. x < length shares.now) }
     requires place { place < length shares.now }
@@ -29,7 +29,7 @@ pub(crate) fn comes_after(shares: &[u128], last: Option<usize>, place: usize) ->
     }
 }
 
-/// Does a place come before this one?
+/// Does a place come before the `next` one in the order? If there is none, each place does.
 fn comes_before(shares: &[u128], next: Option<usize>, place: usize) -> bool
     requires next { IfSome next (λ x. x < length shares.now) }
     requires place { place < length shares.now }
@@ -41,7 +41,7 @@ fn comes_before(shares: &[u128], next: Option<usize>, place: usize) -> bool
     }
 }
 
-/// The first of the places that come after this one.
+/// Returns the first of the places that come after the `last` one.
 fn next_after(shares: &[u128], last: Option<usize>) -> Option<usize>
     requires { IfSome last (λ x. x < length shares.now) }
     ensures { def.IsNext shares.now last (length shares.now) result }
@@ -55,7 +55,7 @@ fn next_after(shares: &[u128], last: Option<usize>) -> Option<usize>
     next
 }
 
-/// The last place that may be shown, by its rank; `None` if there is no place.
+/// Returns the last place whose rank lets it be shown; `None` if there is no place.
 pub(crate) fn last_shown(shares: &[u128]) -> Option<usize>
     ensures { def.IsLastShown shares.now result }
 {

@@ -19,10 +19,10 @@ pub(crate) struct Best {
     from: Option<u32>,
 }
 
-/// For each number of entries the best.
+/// The best way for each number of entries.
 type Row = [Best; 17];
 
-/// For each place a row.
+/// A row for each place.
 #[derive(Drop)]
 pub(crate) struct Trail {
     rows: Vec<Row>,
@@ -113,7 +113,7 @@ fn handed(search: &Search<'_>, trail: &Trail, pc: u32, depth: usize) -> Option<u
     before.checked_add(added_at(search, pc as usize, depth))
 }
 
-/// The old one, unless the new one adds more.
+/// Returns the new one if it adds more, otherwise the old one.
 fn better(old: Best, new: Best) -> Best
     ensures { result ≡ trails.better old new }
 {

@@ -12,7 +12,7 @@ use sts_asm::Outline;
 use sts_budget::Resource;
 use sts_code::MAX_INSTRUCTIONS;
 
-/// The words of a resource: those of a weight, and the line of the function's own part, outside its
+/// The words of a resource: those after a weight, and the line of what a function adds outside its
 /// instructions.
 #[derive(Clone, Copy)]
 struct Words {
@@ -44,7 +44,7 @@ fn words_of(resource: Resource) -> Words
     }
 }
 
-/// One, if so.
+/// Returns 1 if so, otherwise 0.
 fn one_if(so: bool) -> usize
     ensures value { result ≡ def.one_if so }
     ensures small { result ≤ 1 }
