@@ -151,12 +151,12 @@ fn edges(
         ≡ string_bytes out.old ++ def.edges before.now records.now x s) }
 {
     let word = phase_word(records.phase(s));
-    let has_moved = has_moved(before, records, s);
-    let has_expired = has_expired(before, records, s);
-    let was_cancelled = was_cancelled(before, records, s);
-    mark_if(out, has_moved, Mark::Edge, records, x, s, word)?;
-    mark_if(out, has_expired, Mark::Expired, records, x, s, "expired")?;
-    mark_if(out, was_cancelled, Mark::Cancelled, records, x, s, "cancelled")
+    let moved = has_moved(before, records, s);
+    let expired = has_expired(before, records, s);
+    let cancelled = was_cancelled(before, records, s);
+    mark_if(out, moved, Mark::Edge, records, x, s, word)?;
+    mark_if(out, expired, Mark::Expired, records, x, s, "expired")?;
+    mark_if(out, cancelled, Mark::Cancelled, records, x, s, "cancelled")
 }
 
 fn scope_cell(

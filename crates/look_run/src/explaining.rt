@@ -11,9 +11,7 @@ ghost use Rattle.look_run.specs.Output as def;
 use crate::tasks::{say_living, say_outcome};
 use crate::traces::trace_fault;
 use look_lines::{Watch, after};
-use look_refusal::{
-    ExplainError, Explanation, Told, outline_of, program_of, write_explained,
-};
+use look_refusal::{ExplainError, Explanation, Told, outline_of, program_of, write_explained};
 use std::alloc::{AllocError, Global};
 use std::io::Write;
 use sts_asm::Outline;
