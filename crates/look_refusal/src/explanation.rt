@@ -71,7 +71,6 @@ fn text_fault(alloc: Global, error: AsmError, text: &[u8]) -> Result<Explanation
 /// # Errors
 ///
 /// The text has a fault, or memory ran out.
-#[tactic(auto, using(crate::proofs::FaultLemmas::outline_fault))]
 pub fn outline_of(alloc: Global, text: &[u8]) -> Result<Outline<'_>, ExplainError>
     ensures { stops.Gives result (λ o. outlined_of text.now ≡ Ok o) (stops.IsTextFault text.now) }
 {

@@ -18,12 +18,12 @@ fault_lists text wanted number o h = subst (λ (r : Result Program AsmError). de
 pub returns-in_err-outline : goal.returns-in_err-outline
 returns-in_err-outline g c =
     let p = err_from_is_err_and c.from_residual.result c.from_residual.ensures.1 in
-    rw (p.1, p.2) (says_less c.in_err-outline.field-0.0 _ _ (fault_lists c.args.text.now c.args.wanted c.args.number) c.in_err-outline.ensures)
+    rw (p.1, p.2) (says_less c.in_err-outline.field-0.0 (IsTextFault c.args.text.now) (λ (o : Output). def.Lists (judged c.args.text.now) c.args.text.now c.args.wanted c.args.number (def.alone o)) (fault_lists c.args.text.now c.args.wanted c.args.number) c.in_err-outline.ensures)
 
 pub returns-in_err-program : goal.returns-in_err-program
 returns-in_err-program g c =
     let p = err_from_is_err_and c.from_residual-in_err-program.result c.from_residual-in_err-program.ensures.1 in
-    rw (p.1, p.2) (says_less c.in_err-program.field-0.0 _ _ (fault_lists c.args.text.now c.args.wanted c.args.number) c.in_err-program.ensures)
+    rw (p.1, p.2) (says_less c.in_err-program.field-0.0 (IsTextFault c.args.text.now) (λ (o : Output). def.Lists (judged c.args.text.now) c.args.text.now c.args.wanted c.args.number (def.alone o)) (fault_lists c.args.text.now c.args.wanted c.args.number) c.in_err-program.ensures)
 
 pub returns : goal.returns
 returns g c =
