@@ -4,7 +4,7 @@ use look_ends::EndsOptions;
 use look_lines::ViewOptions;
 use look_picture::Window;
 
-/// As many states as a search keeps if no other number is asked for.
+/// How many states a search keeps if the command line names no other number.
 pub const MOST_STATES: u32 = 1_000_000;
 
 /// The seed of random schedules if no other one is asked for.

@@ -3,7 +3,7 @@
 ghost use Rattle.std.specs.Prelude.{◌≡◌, IfOk, codes, false};
 ghost use Rattle.clap.specs.Words.{app_of, rule_of};
 ghost use Rattle.clap.specs.declared.builder.Command.TheViews.{out-Command};
-ghost use Rattle.sts_args.specs.Command.{option_rule};
+ghost use Rattle.sts_args.specs.Command.{file_rule, option_rule};
 ghost use Rattle.look.specs.Command as def;
 
 use clap::{Arg, ArgAction, Command};
@@ -168,16 +168,24 @@ fn ends<'a>(alloc: Global) -> Result<Command<'a>, AllocError>
         .arg(kept_trace(alloc))
 }
 
+/// The file of cases.
+fn case_file<'a>(alloc: Global) -> Arg<'a>
+    ensures rule { rule_of result ≡ file_rule }
+    ensures local { result.global ≡ false }
+{
+    Arg::new(alloc, "FILE")
+        .required(true)
+        .help("cases, each a line of JSON with a text and maybe a trace")
+}
+
 /// The command `cases`.
 fn cases<'a>(alloc: Global) -> Result<Command<'a>, AllocError>
     ensures app { IfOk result (λ c. app_of c ≡ def.cases) }
     ensures local { IfOk result (λ c. (out-Command c).has_globals ≡ false) }
 {
-    on_file(
-        alloc,
-        "cases",
-        "Answers many cases: for each line of JSON with a text and a trace, a line of JSON",
-    )
+    Command::new(alloc, "cases")
+        .about("Answers many cases: for each line of JSON with a text and a trace, a line of JSON")
+        .arg(case_file(alloc))
 }
 
 /// The whole program.

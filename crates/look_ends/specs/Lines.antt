@@ -3,29 +3,14 @@ use Rattle.std.specs.Prelude.{ℕ, ◌+◌, ◌-◌, ◌==◌, List, [], ◌∷�
 use Rattle.std.specs.Prelude.{if◌then◌else◌, codes, length, slice_get, Option, Some, None, is_some}
 use Rattle.std.specs.List.{list_any}
 use Rattle.std.specs.Fmt.{decimal}
-use Rattle.sts_code.specs.Program.{Program, routine}
+use Rattle.sts_code.specs.Program.{Program}
 use Rattle.sts_asm.specs.Outline.{Outline}
-use Rattle.sts_asm.specs.Source.{sentence_at}
-use Rattle.sts_model.specs.declared.event.Fault.{Fault}
 use Rattle.sts_plain.specs.declared.misstep.PlainState.{PlainState}
 use Rattle.sts_plain.specs.declared.misstep.PlainState.TheVariants as plain
-use Rattle.sts_output.specs.Printed.{end_line, fault_word}
 use Rattle.ends_plain.specs.declared.config.Found.{Found}
-use Rattle.look_text.specs.Lines.{place_words}
+use Rattle.look_refusal.specs.States.{state_line}
 
 -- ---- an end
-
--- `fault Structure, task 1 in kid, line 3: close s0`, the last words as they are in the text
-abbrev pub fault_words : Program → Outline → Fault → ℕ → ℕ → ℕ → List ℕ
-fault_words p o kind t f pc =
-    codes "fault " ++ fault_word kind ++ codes ", task " ++ decimal t ++ codes " in "
-    ++ (routine p f).name ++ place_words (sentence_at o f pc) ++ codes "\n"
-
--- `success V`, `failed C` or a fault
-abbrev pub end_words : Program → Outline → PlainState → List ℕ
-end_words p o plain.Running = codes "running\n"
-end_words p o (plain.Ended end) = end_line end
-end_words p o (plain.Fault kind t f pc) = fault_words p o kind t f pc
 
 -- the number of the end at this place, which is counted from 0, and the length of its trace
 abbrev pub head_words : ℕ → Found → List ℕ
@@ -34,7 +19,7 @@ head_words place f =
 
 -- `1 after 14 events: success 42`
 abbrev pub found_line : Program → Outline → ℕ → Found → List ℕ
-found_line p o place f = head_words place f ++ codes ": " ++ end_words p o f.end
+found_line p o place f = head_words place f ++ codes ": " ++ state_line p o f.end
 
 -- the lines of these ends, the first of which is at this place
 abbrev pub found_lines : Program → Outline → List Found → ℕ → List ℕ
@@ -49,7 +34,7 @@ share_words times schedules =
 -- `1 after 14 events, in 183 of 200 schedules: success 42`
 abbrev pub sampled_line : Program → Outline → ℕ → Found → ℕ → ℕ → List ℕ
 sampled_line p o place f times schedules =
-    head_words place f ++ (share_words times schedules ++ end_words p o f.end)
+    head_words place f ++ (share_words times schedules ++ state_line p o f.end)
 
 abbrev pub times_or_none : Option ℕ → ℕ
 times_or_none None = 0

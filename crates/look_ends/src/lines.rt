@@ -2,75 +2,12 @@
 
 ghost use Rattle.std.specs.Prelude.{◌≡◌, ◌++◌, ◌+◌, ◌<◌, ◌^◌, OnOk};
 ghost use Rattle.std.specs.Fmt.{decimal};
-ghost use Rattle.sts_output.specs.Printed.{end_line};
 ghost use Rattle.look_ends.specs.Lines as def;
 
 use ends_plain::config::Found;
-use look_text::{say, say_place};
+use look_refusal::{Told, say_state};
+use look_text::say;
 use std::alloc::{AllocError, Global};
-use sts_asm::Outline;
-use sts_code::{Program, name_of};
-use sts_model::{End, Fault};
-use sts_output::printed;
-use sts_plain::PlainState;
-
-/// A program, and the lines of its text.
-#[derive(Clone, Copy)]
-pub(crate) struct Told<'p, 'o, 't> {
-    pub(crate) program: &'p Program,
-    pub(crate) outline: &'o Outline<'t>,
-}
-
-/// `fault KIND, task T in NAME, line L: WORDS`
-fn say_fault(
-    alloc: Global,
-    out: &mut Vec<u8>,
-    told: Told<'_, '_, '_>,
-    kind: Fault,
-    task: u32,
-    function: u32,
-    pc: u32,
-) -> Result<(), AllocError>
-    ensures { OnOk result (out.new.items ≡ out.old.items
-        ++ def.fault_words told.entry.program.now told.entry.outline.now kind task function pc) }
-{
-    let word = printed::fault_word(kind);
-    let name = name_of(told.program, function);
-    let head = format!(in alloc; "fault {word}, task {task} in {name}")?;
-    say(out, head.as_str())?;
-    say_place(alloc, out, told.outline.sentence(function, pc))?;
-    say(out, "\n")
-}
-
-fn say_outcome(alloc: Global, out: &mut Vec<u8>, end: End) -> Result<(), AllocError>
-    ensures { OnOk result (out.new.items ≡ out.old.items ++ end_line end) }
-{
-    let mut line = String::new(alloc);
-    printed::end_line(&mut line, end)?;
-    say(out, line.as_str())
-}
-
-/// `success V`, `failed C` or a fault.
-fn say_end(
-    alloc: Global,
-    out: &mut Vec<u8>,
-    told: Told<'_, '_, '_>,
-    end: PlainState,
-) -> Result<(), AllocError>
-    ensures { OnOk result (out.new.items ≡ out.old.items
-        ++ def.end_words told.entry.program.now told.entry.outline.now end) }
-{
-    match end {
-        PlainState::Running => say(out, "running\n"),
-        PlainState::Ended(end) => say_outcome(alloc, out, end),
-        PlainState::Fault {
-            kind,
-            task,
-            function,
-            pc,
-        } => say_fault(alloc, out, told, kind, task, function, pc),
-    }
-}
 
 /// Appends a number.
 pub(crate) fn say_number(alloc: Global, out: &mut Vec<u8>, n: u64) -> Result<(), AllocError>
@@ -116,7 +53,7 @@ pub(crate) fn say_all(
     for k in 0..found.len() {
         say_head(alloc, out, k, &found[k])?;
         say(out, ": ")?;
-        say_end(alloc, out, told, found[k].end)?;
+        say_state(alloc, out, told, found[k].end)?;
     }
     Ok(())
 }
@@ -149,7 +86,7 @@ fn say_sampled(
 {
     say_head(alloc, out, place, one)?;
     say_share(alloc, out, times, schedules)?;
-    say_end(alloc, out, told, one.end)
+    say_state(alloc, out, told, one.end)
 }
 
 /// How often the end at a place came.

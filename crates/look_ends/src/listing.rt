@@ -1,24 +1,24 @@
 //! What is printed of the ends of a text.
 
-ghost use Rattle.std.specs.Prelude.{◌≡◌, IfOk, Ok, option_map};
-ghost use Rattle.sts_asm.specs.Source.{outlined as outlined_of};
+ghost use Rattle.std.specs.Prelude.{◌≡◌, IfOk, option_map};
 ghost use Rattle.sts_asm.specs.Text.{judged};
+ghost use Rattle.look_refusal.specs.Stops.{Gives};
 ghost use Rattle.look_ends.specs.Listing as def;
 
 use crate::below::{
     found_at, has_number, say_no_number, say_refused, say_schedules, say_states, say_unfinished,
 };
 use crate::exploring::explored;
-use crate::lines::{Told, say_all, say_shares};
+use crate::lines::{say_all, say_shares};
 use crate::progress::Progress;
 use crate::verdict::{Judged, verdict};
 use crate::wanted::{EndsOptions, Manner};
 use ends_plain::config::{EndsFound, Found, Setting};
 use ends_plain::sample::{Sample, Sampling, sample_ends};
-use look_refusal::{Explanation, text_fault};
+use look_refusal::{ExplainError, Explanation, Told, outline_of, program_of};
 use std::alloc::{AllocError, Global};
 use std::marker::Model;
-use sts_asm::{Outline, assemble, outlined};
+use sts_asm::Outline;
 use sts_code::Program;
 use sts_model::Event;
 
@@ -206,22 +206,21 @@ fn alone(alloc: Global, output: Explanation) -> Listing
     }
 }
 
-/// The listing of a text whose lines were read.
-fn of_lines<P: Progress>(
+/// The listing of a text, unless the text has a fault.
+fn of_text<P: Progress>(
     alloc: Global,
-    outline: &Outline<'_>,
     wanted: EndsOptions,
     number: Option<u32>,
     text: &[u8],
     progress: &mut P,
-) -> Result<Listing, AllocError>
-    requires { outlined_of text.now ≡ Ok outline.now }
-    ensures { IfOk result (def.Lists (judged text.now) text.now wanted number) }
+) -> Result<Listing, ExplainError>
+    ensures { Gives result (λ l. def.Lists (judged text.now) text.now wanted number l)
+        (λ o. def.Lists (judged text.now) text.now wanted number (def.alone o)) }
 {
-    match assemble(alloc, text) {
-        Ok(program) => of_program(alloc, outline, program, wanted, number, progress),
-        Err(error) => Ok(alone(alloc, text_fault(alloc, error, text)?)),
-    }
+    let outline = outline_of(alloc, text)?;
+    let program = program_of(alloc, text)?;
+    let listing = of_program(alloc, &outline, program, wanted, number, progress)?;
+    Ok(listing)
 }
 
 /// Finds the ends of a text, and returns what is printed of them. With a `number`, it keeps the
@@ -239,8 +238,9 @@ pub fn listed<P: Progress>(
 ) -> Result<Listing, AllocError>
     ensures { IfOk result (def.Lists (judged text.now) text.now wanted number) }
 {
-    match outlined(alloc, text) {
-        Ok(outline) => of_lines(alloc, &outline, wanted, number, text, progress),
-        Err(error) => Ok(alone(alloc, text_fault(alloc, error, text)?)),
+    match of_text(alloc, wanted, number, text, progress) {
+        Ok(listing) => Ok(listing),
+        Err(ExplainError::Shown(output)) => Ok(alone(alloc, output)),
+        Err(ExplainError::Memory) => Err(AllocError),
     }
 }

@@ -2,10 +2,10 @@
 
 /// Gets the number of states while a search goes on. No contract speaks of it.
 pub trait Progress {
-    /// So many states were found so far.
+    /// Reports how many states were found so far.
     fn found(&mut self, states: usize);
 
-    /// The search is over.
+    /// Reports that the search is over.
     fn over(&mut self);
 }
 

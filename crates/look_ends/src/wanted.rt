@@ -5,7 +5,7 @@
 pub enum Manner {
     /// All of them, as long as the search keeps no more than `most` states.
     All { most: u32 },
-    /// So many random ones; the same seed gives the same ones.
+    /// This many random ones. The same seed gives the same schedules.
     Sample { schedules: u32, seed: u32 },
 }
 

@@ -141,7 +141,7 @@ impl<'p> Watch<'p> {
         }
     }
 
-    /// One event.
+    /// Applies an event.
     ///
     /// # Errors
     ///

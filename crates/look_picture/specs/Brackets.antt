@@ -1,5 +1,5 @@
 -- The scopes in a column (this project's own).
-use Rattle.std.specs.Prelude.{ℕ, ◌+◌, not, ◌&&◌, ◌==◌, if◌then◌else◌, List, ◌∷◌, [], ◌++◌, codes}
+use Rattle.std.specs.Prelude.{ℕ, ◌+◌, Bool, not, ◌&&◌, ◌==◌, if◌then◌else◌, List, ◌∷◌, [], ◌++◌, codes}
 use Rattle.std.specs.Fmt.{decimal}
 use Rattle.sts_model.specs.declared.event.Phase.{Phase}
 use Rattle.sts_model.specs.declared.event.Phase.TheVariants as phase
@@ -25,7 +25,7 @@ abbrev pub line_mark : Phase → Mark
 line_mark phase.Closing = mark.Closing
 line_mark _ = mark.Bracket
 
--- while it isn't closed: its number in the first column, a line in those after it
+-- a scope that isn't closed: its number in its first column, a line in each later one
 abbrev pub span : World → World → ℕ → ℕ → List ℕ
 span before w x s =
     if is_closed (scope_at w s).phase then []
@@ -39,27 +39,35 @@ phase_number phase.Joined = 2
 phase_number phase.Closing = 3
 phase_number phase.Closed = 4
 
--- the mark for a change of its phase
-abbrev pub edge : World → World → ℕ → ℕ → List ℕ
-edge before w x s =
-    if phase_number (scope_at before s).phase == phase_number (scope_at w s).phase then []
-    else scope_mark mark.Edge w x s (phase_word (scope_at w s).phase)
+-- its phase is another one than in the column before
+abbrev pub has_moved : World → World → ℕ → Bool
+has_moved before w s =
+    not (phase_number (scope_at before s).phase == phase_number (scope_at w s).phase)
 
-abbrev pub expired : World → World → ℕ → ℕ → List ℕ
-expired before w x s =
-    if (scope_at w s).expired && not (scope_at before s).expired
-    then scope_mark mark.Expired w x s (codes "expired") else []
+-- its time was up since the column before
+abbrev pub has_expired : World → World → ℕ → Bool
+has_expired before w s = (scope_at w s).expired && not (scope_at before s).expired
 
-abbrev pub cancelled : World → World → ℕ → ℕ → List ℕ
-cancelled before w x s =
-    if (scope_at w s).cancelled && not (scope_at before s).cancelled
-    then scope_mark mark.Cancelled w x s (codes "cancelled") else []
+-- it was cancelled since the column before
+abbrev pub was_cancelled : World → World → ℕ → Bool
+was_cancelled before w s = (scope_at w s).cancelled && not (scope_at before s).cancelled
+
+-- the mark for what is new of a scope
+abbrev pub mark_if : Bool → Mark → World → ℕ → ℕ → List ℕ → List ℕ
+mark_if is_new m w x s word = if is_new then scope_mark m w x s word else []
+
+-- the marks for a change of its phase, for an expiry and for a cancel
+abbrev pub edges : World → World → ℕ → ℕ → List ℕ
+edges before w x s =
+    mark_if (has_moved before w s) mark.Edge w x s (phase_word (scope_at w s).phase)
+    ++ (mark_if (has_expired before w s) mark.Expired w x s (codes "expired")
+    ++ mark_if (was_cancelled before w s) mark.Cancelled w x s (codes "cancelled"))
 
 -- nothing of a scope that was closed before
 abbrev pub scope_cell : World → World → ℕ → ℕ → List ℕ
 scope_cell before w x s =
     if is_closed (scope_at before s).phase && is_closed (scope_at w s).phase then []
-    else span before w x s ++ (edge before w x s ++ (expired before w x s ++ cancelled before w x s))
+    else span before w x s ++ edges before w x s
 
 -- the cells of these scopes, numbered from s on
 abbrev pub scope_cells : World → World → ℕ → List Scope → ℕ → List ℕ

@@ -61,7 +61,7 @@ fn line_mark(phase: Phase) -> Mark
     }
 }
 
-/// While it isn't closed: its number in the first column, a line in those after it.
+/// A scope that isn't closed: its number in its first column, a line in each later one.
 fn span(
     out: &mut String,
     before: &Records,
@@ -96,44 +96,50 @@ fn phase_number(phase: Phase) -> u8
     }
 }
 
-/// The mark for a change of its phase.
-fn edge(
-    out: &mut String,
-    before: &Records,
-    records: &Records,
-    x: u128,
-    s: u32,
-) -> Result<(), AllocError>
-    requires { s < length records.now.scopes }
-    ensures { OnOk result (string_bytes out.new
-        ≡ string_bytes out.old ++ def.edge before.now records.now x s) }
+/// Is its phase another one than in the column before?
+fn has_moved(before: &Records, records: &Records, s: u32) -> bool
+    ensures { result ≡ def.has_moved before.now records.now s }
 {
-    let phase = records.phase(s);
-    if phase_number(before.phase(s)) == phase_number(phase) {
-        return Ok(());
-    }
-    scope_mark(out, Mark::Edge, records, x, s, phase_word(phase))
+    phase_number(before.phase(s)) != phase_number(records.phase(s))
 }
 
-fn expired(
+/// Was its time up since the column before?
+fn has_expired(before: &Records, records: &Records, s: u32) -> bool
+    ensures { result ≡ def.has_expired before.now records.now s }
+{
+    records.is_expired(s) && !before.is_expired(s)
+}
+
+/// Was it cancelled since the column before?
+fn was_cancelled(before: &Records, records: &Records, s: u32) -> bool
+    ensures { result ≡ def.was_cancelled before.now records.now s }
+{
+    records.is_cancelled(s) && !before.is_cancelled(s)
+}
+
+/// The mark for what is new of a scope.
+fn mark_if(
     out: &mut String,
-    before: &Records,
+    is_new: bool,
+    mark: Mark,
     records: &Records,
     x: u128,
     s: u32,
+    word: &str,
 ) -> Result<(), AllocError>
     requires { s < length records.now.scopes }
     ensures { OnOk result (string_bytes out.new
-        ≡ string_bytes out.old ++ def.expired before.now records.now x s) }
+        ≡ string_bytes out.old ++ def.mark_if is_new mark records.now x s word.now) }
 {
-    if records.is_expired(s) && !before.is_expired(s) {
-        scope_mark(out, Mark::Expired, records, x, s, "expired")
+    if is_new {
+        scope_mark(out, mark, records, x, s, word)
     } else {
         Ok(())
     }
 }
 
-fn cancelled(
+/// The marks for a change of its phase, for an expiry and for a cancel.
+fn edges(
     out: &mut String,
     before: &Records,
     records: &Records,
@@ -142,13 +148,15 @@ fn cancelled(
 ) -> Result<(), AllocError>
     requires { s < length records.now.scopes }
     ensures { OnOk result (string_bytes out.new
-        ≡ string_bytes out.old ++ def.cancelled before.now records.now x s) }
+        ≡ string_bytes out.old ++ def.edges before.now records.now x s) }
 {
-    if records.is_cancelled(s) && !before.is_cancelled(s) {
-        scope_mark(out, Mark::Cancelled, records, x, s, "cancelled")
-    } else {
-        Ok(())
-    }
+    let word = phase_word(records.phase(s));
+    let moved = has_moved(before, records, s);
+    let expired = has_expired(before, records, s);
+    let cancelled = was_cancelled(before, records, s);
+    mark_if(out, moved, Mark::Edge, records, x, s, word)?;
+    mark_if(out, expired, Mark::Expired, records, x, s, "expired")?;
+    mark_if(out, cancelled, Mark::Cancelled, records, x, s, "cancelled")
 }
 
 fn scope_cell(
@@ -167,9 +175,7 @@ fn scope_cell(
         return Ok(());
     }
     span(out, before, records, x, s)?;
-    edge(out, before, records, x, s)?;
-    expired(out, before, records, x, s)?;
-    cancelled(out, before, records, x, s)
+    edges(out, before, records, x, s)
 }
 
 /// The cells at `x` of all scopes that were ever born, after the column of `before`.

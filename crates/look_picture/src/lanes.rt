@@ -144,14 +144,14 @@ fn stand(
     rest(out, program, world, x, t)
 }
 
-/// From one height to another.
+/// A line from one height to another.
 fn fork_path(out: &mut String, x: u128, from: u64, to: u64) -> Result<(), AllocError>
     ensures { OnOk result (string_bytes out.new ≡ string_bytes out.old ++ def.fork_path x from to) }
 {
     writeln!(out, "<path class='fork' d='M{x} {from}V{to}'/>")
 }
 
-/// From the lane of the task that forked it, the owner of its scope.
+/// The line of a fork, from the lane of the scope's owner to that of the task.
 fn fork_line(
     out: &mut String,
     records: &Records,
@@ -249,7 +249,7 @@ fn task_name(out: &mut String, t: u32, scope: Option<u32>) -> Result<(), AllocEr
     text_end(out)
 }
 
-/// The name of its function, below.
+/// The name of a task's function, below the name of its lane.
 fn function_name(out: &mut String, t: u32, name: &str) -> Result<(), AllocError>
     ensures { OnOk result (string_bytes out.new
         ≡ string_bytes out.old ++ def.function_name t name.now) }

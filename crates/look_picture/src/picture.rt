@@ -164,7 +164,7 @@ fn event_step(
     before.apply(alloc, event)
 }
 
-/// Applies these events but the first ones, in order, to two machines, and draws a column for each.
+/// Skips the first events, applies the others to two machines in order, and draws a column for each.
 fn event_columns(
     alloc: Global,
     out: &mut String,
@@ -201,7 +201,7 @@ fn first_column(out: &mut String, watch: &Watch<'_>) -> Result<(), AllocError>
     }
 }
 
-/// Draws the column before the first event and one after each, but skips the first events. Answers
+/// Draws the column before the first event and one after each, but skips the first events. Returns
 /// the machine that ran them.
 fn columns<'p>(
     alloc: Global,

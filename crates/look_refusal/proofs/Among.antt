@@ -1,5 +1,5 @@
--- An element of a list is among the list.
-use Rattle.std.proofs.Common.{◌≡◌, ℕ, zero, suc, ◌<◌, List, [], ◌∷◌, length, get_or, inl, inr, arith}
+-- What is among the places of a list.
+use Rattle.std.proofs.Common.{◌≡◌, ℕ, zero, suc, ◌<◌, ◌⊎◌, List, [], ◌∷◌, ◌++◌, length, get_or, inl, inr, refl, arith}
 use Rattle.sts_rules.specs.ControlPaths.{Among}
 
 pub among_at : (xs : List ℕ) (i x : ℕ) → i < length xs → get_or xs i 0 ≡ x → Among xs x
@@ -7,7 +7,17 @@ among_at [] i x lt e = absurd (omega arith)
 among_at (y ∷ ys) zero x lt e = inl e
 among_at (y ∷ ys) (suc i) x lt e = inr (among_at ys i x (omega arith) e)
 
-pub among_index : (xs : List ℕ) (x : ℕ) → Among xs x → (i : ℕ) × ((i < length xs) × (get_or xs i 0 ≡ x))
-among_index [] x a = absurd a
-among_index (y ∷ ys) x (inl e) = (0, (omega arith, e))
-among_index (y ∷ ys) x (inr a) = let w = among_index ys x a in (suc w.0, (omega (arith, w.1.0), w.1.1))
+pub among_left : (xs ys : List ℕ) (x : ℕ) → Among xs x → Among (xs ++ ys) x
+among_left [] ys x a = absurd a
+among_left (y ∷ xs) ys x (inl e) = inl e
+among_left (y ∷ xs) ys x (inr a) = inr (among_left xs ys x a)
+
+pub among_last : (xs : List ℕ) (y : ℕ) → Among (xs ++ y ∷ []) y
+among_last [] y = inl refl
+among_last (x ∷ xs) y = inr (among_last xs y)
+
+pub among_before : (xs : List ℕ) (y x : ℕ) → Among (xs ++ y ∷ []) x → Among xs x ⊎ (y ≡ x)
+among_before [] y x (inl e) = inr e
+among_before [] y x (inr a) = absurd a
+among_before (z ∷ xs) y x (inl e) = inl (inl e)
+among_before (z ∷ xs) y x (inr a) = elim (among_before xs y x a) [ inl b ↦ inl (inr b) | inr e ↦ inr e ]

@@ -11,11 +11,14 @@ pub mod Instrs
 pub mod Leading
 pub mod MeetingLemmas
 pub mod Most
+pub mod Noting
+pub mod OrderLemmas
 pub mod PartLemmas
 pub mod PointLemmas
 pub mod Reading
 pub mod RemedyLemmas
 pub mod SameLemmas
+pub mod StopLemmas
 pub mod Tables
 pub mod TellLemmas
 pub mod Walking

@@ -24,6 +24,9 @@ sum_from f a (suc n) =
     grouped : (x y z : ℕ) → x + (y + z) ≡ x + y + z
     grouped x y z = omega arith
 
+pub sum_next : (f : ℕ → ℕ) (n : ℕ) → sum_by f (range_with_len 0 (suc n)) ≡ sum_by f (range_with_len 0 n) + f n
+sum_next f n = let z : 0 + n ≡ n = omega arith in sum_from f 0 n ∙ ap (λ (k : ℕ). sum_by f (range_with_len 0 n) + f k) z
+
 -- a sum over the numbers up to one, and that number's own amount
 pub sum_more : (f : ℕ → ℕ) (n : ℕ) → sum_by f (range_with_len 0 (n + 1)) ≡ sum_by f (range_with_len 0 n) + f n
-sum_more f n = let e : n + 1 ≡ suc n = omega arith in let z : 0 + n ≡ n = omega arith in rw e (sum_from f 0 n ∙ ap (λ (k : ℕ). sum_by f (range_with_len 0 n) + f k) z)
+sum_more f n = let e : n + 1 ≡ suc n = omega arith in rw e (sum_next f n)

@@ -2,12 +2,16 @@ pub mod Adding
 pub mod Differences
 pub mod Found
 pub mod Heavy
+pub mod Leads
 pub mod Lines
+pub mod Order
 pub mod Output
 pub mod Reading
 pub mod Remedies
 pub mod Search
 pub mod Sentences
+pub mod States
+pub mod Stops
 pub mod Top
 pub mod Trail
 pub mod Walk

@@ -58,8 +58,8 @@ abbrev pub refused_output : Program → Outline → ℕ → ℕ → Cause → Re
 refused_output p o f pc c remedy detail =
     record { bytes = refused_lines p (sentence_at o f pc) f c remedy ++ detail; status = 4 }
 
--- the output for a refused program: it names the least place with a cause, the least cause there,
--- and what to do about it
+-- the output for a refused program: the place and the cause of its refusal, what to do about it, and
+-- the detail of the cause
 pub record IsRefused (p : Program) (o : Outline) (output : Output) : Type 0 where
   pub function : ℕ
   pub place : ℕ

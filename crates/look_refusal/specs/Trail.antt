@@ -3,6 +3,7 @@ use Rattle.std.specs.Prelude.{◌≡◌, ℕ, ◌+◌, ◌*◌, ◌<◌, ◌≤�
 use Rattle.std.specs.Prelude.{None, ◌||◌, is_none, nat_lt, if◌then◌else◌}
 use Rattle.sts_code.specs.Program.{instr_at}
 use Rattle.sts_rules.specs.Around.{around}
+use Rattle.sts_rules.specs.ControlPaths.{Among}
 use Rattle.sts_budget.specs.Ready.{head_in}
 use Rattle.sts_budget.specs.Sums.{full}
 use Rattle.sts_budget.specs.Table.{Passes}
@@ -56,6 +57,32 @@ IsFrom s best k pc d sum (Some q) = (q < k) × LeadsOn s q pc × (sum ≡ handed
 pub record IsBest (s : Search) (best : ℕ → ℕ → ℕ) (k pc d : ℕ) (b : Best) : Type 0 where
   pub most : (q : ℕ) → q < k → LeadsOn s q pc → handed s best q d ≤ b.sum
   pub from : IsFrom s best k pc d b.sum b.from
+
+-- a way from a place
+abbrev pub way_from : Search → (ℕ → ℕ → ℕ) → ℕ → ℕ → Best
+way_from s best from d = record { sum = handed s best from d; from = Some from }
+
+-- either there is no place, or the way is from one of them, with this sum
+abbrev pub IsFromOne : Search → (ℕ → ℕ → ℕ) → List ℕ → (d sum : ℕ) → Option ℕ → Type 0
+IsFromOne s best places d sum None = (sum ≡ 0) × ((q : ℕ) → Among places q → ⊥)
+IsFromOne s best places d sum (Some q) = Among places q × (sum ≡ handed s best q d)
+
+-- the greatest sum that these places hand on over the first d entries
+pub record IsBestOf (s : Search) (best : ℕ → ℕ → ℕ) (places : List ℕ) (d : ℕ) (b : Best) : Type 0
+  where
+    pub most : (q : ℕ) → Among places q → handed s best q d ≤ b.sum
+    pub from : IsFromOne s best places d b.sum b.from
+
+-- the row has the best of the ways from these places, over all open entries at this one
+abbrev pub IsRowOf : Search → (ℕ → ℕ → ℕ) → List ℕ → ℕ → List Best → Type 0
+IsRowOf s best places pc row =
+    (d : ℕ) → d ≤ (flow s).depth pc → IsBestOf s best places d (get_or row d no_way)
+
+-- the ways from one place are kept too
+abbrev pub KeepsWays : Search → (ℕ → ℕ → ℕ) → (from to : ℕ) → (before after : List Best) → Type 0
+KeepsWays s best from to before after =
+    (d : ℕ) → d ≤ (flow s).depth to
+    → get_or after d no_way ≡ better (get_or before d no_way) (way_from s best from d)
 
 -- the row has the best of all open entries
 abbrev pub IsRow : Search → (ℕ → ℕ → ℕ) → (k pc : ℕ) → List Best → Type 0

@@ -1,65 +1,30 @@
 //! Explains what is wrong with a text, if anything is.
 
-ghost use Rattle.std.specs.Prelude.{◌≡◌, IfOk, OnOk, Result, Ok, Err};
+ghost use Rattle.std.specs.Prelude.{◌≡◌, IfOk, OnOk};
 ghost use Rattle.sts_rules.specs.Refusal.{IsAccepted, IsRefusal};
-ghost use Rattle.sts_asm.specs.Source.{outlined as outlined_of};
 ghost use Rattle.sts_asm.specs.Text.{judged};
-ghost use Rattle.sts_asm.specs.Fault.{FailsAt};
-ghost use Rattle.sts_code.specs.Program.{Program as AnyProgram};
-ghost use Rattle.sts_asm.specs.declared.fault.AsmError.{AsmError};
 ghost use Rattle.sts_budget.specs.Change.{cause_of};
 ghost use Rattle.sts_output.specs.Output as cli;
 ghost use Rattle.look_refusal.specs.Output as def;
+ghost use Rattle.look_refusal.specs.Stops.{Prints};
 
 use crate::differences::difference_lines;
+use crate::explanation::{ExplainError, Explanation, outline_of, program_of, write_explained};
 use crate::heavy::heaviest;
 use crate::lines::refused_lines;
 use crate::remedy::remedy_for;
 use crate::ways::find_meeting;
 use crate::weights::weight_lines;
 use look_accepted::{all_notes, note_lines};
-use look_text::{fault_lines, say};
+use look_text::say;
 use std::alloc::{AllocError, Global};
 use std::io::Write;
-use std::marker::Model;
-use sts_asm::{AsmError, AsmKind, Outline, assemble, outlined};
+use sts_asm::Outline;
 use sts_budget::Resource;
 use sts_code::Program;
-use sts_output::{TakeError, WriteFailed, failed, written};
+use sts_output::WriteFailed;
 use sts_rules::Cause;
 use sts_verify::{VerifyError, verify};
-
-/// The output, and the status.
-#[derive(Drop)]
-pub struct Explanation {
-    pub bytes: Vec<u8>,
-    pub status: u8,
-}
-
-impl Model for Explanation {
-    ghost use Rattle.sts_output.specs.Output as cli;
-
-    ghost Value = { cli.Output };
-
-    ghost view = { λ o. record { bytes = o.bytes.items; status = o.status } };
-}
-
-/// The output for a fault of a text. Running out of memory is no fault of it.
-///
-/// # Errors
-///
-/// Memory ran out.
-pub fn text_fault(alloc: Global, error: AsmError, text: &[u8]) -> Result<Explanation, AllocError>
-    ensures { (read : Result AnyProgram AsmError) → FailsAt error error.kind read
-        → IfOk result (λ o. (read ≡ Err error) × (o ≡ def.fault_output error text.now)) }
-{
-    if matches!(error.kind, AsmKind::Memory) {
-        return Err(AllocError);
-    }
-    let mut bytes = Vec::new(alloc);
-    fault_lines(alloc, &mut bytes, error, text)?;
-    Ok(Explanation { bytes, status: 3 })
-}
 
 /// Appends the differences of two ways that meet.
 fn say_meeting(
@@ -196,25 +161,13 @@ fn verdict(
     }
 }
 
-/// The explanation of a text, from the outline of its lines.
-fn of_lines(alloc: Global, outline: &Outline<'_>, text: &[u8]) -> Result<Explanation, AllocError>
-    requires { outlined_of text.now ≡ Ok outline.now }
-    ensures { IfOk result (λ o. def.Explains (judged text.now) text.now o) }
+fn explained(alloc: Global, text: &[u8]) -> Result<Explanation, ExplainError>
+    ensures { Prints result (def.Explains (judged text.now) text.now) }
 {
-    match assemble(alloc, text) {
-        Ok(program) => verdict(alloc, outline, program),
-        Err(error) => text_fault(alloc, error, text),
-    }
-}
-
-#[tactic(auto, using(crate::proofs::FaultLemmas::outline_fault))]
-fn explained(alloc: Global, text: &[u8]) -> Result<Explanation, AllocError>
-    ensures { IfOk result (λ o. def.Explains (judged text.now) text.now o) }
-{
-    match outlined(alloc, text) {
-        Ok(outline) => of_lines(alloc, &outline, text),
-        Err(error) => text_fault(alloc, error, text),
-    }
+    let outline = outline_of(alloc, text)?;
+    let program = program_of(alloc, text)?;
+    let output = verdict(alloc, &outline, program)?;
+    Ok(output)
 }
 
 /// Says what is wrong with a text, if anything is, with line numbers, and gives the status that
@@ -229,8 +182,5 @@ pub fn explain<W: Write>(alloc: Global, text: &[u8], out: &mut W) -> Result<u8, 
     ensures { IfOk result (λ s. (o : cli.Output) × def.IsExplanation text.now o
         × cli.Writes (W.contents out.old) (W.contents out.new) s o) }
 {
-    match explained(alloc, text) {
-        Ok(output) => written(out, output.bytes.as_slice(), output.status),
-        Err(_) => failed(TakeError::Memory, out),
-    }
+    write_explained(explained(alloc, text), out)
 }

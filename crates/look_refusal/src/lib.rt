@@ -8,20 +8,26 @@
 mod differences;
 pub mod earlier;
 mod explaining;
+mod explanation;
 pub mod heavy;
 pub mod laws;
+pub mod leads;
 mod lines;
+mod order;
 pub mod parts;
 mod remedy;
 pub mod search;
 mod sentences;
 pub mod shares;
+mod states;
 pub mod top;
 pub mod trail;
 pub mod walk;
 pub mod ways;
 mod weights;
 
-pub use explaining::{Explanation, explain, text_fault};
+pub use explaining::explain;
+pub use explanation::{ExplainError, Explanation, outline_of, program_of, write_explained};
 pub use remedy::{Remedy, label_remedy};
 pub use sentences::remedy_sentence;
+pub use states::{Told, say_state, say_task};

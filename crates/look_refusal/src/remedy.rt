@@ -25,7 +25,7 @@ pub enum Remedy {
     TooManyOperands,
     /// It leads to the end of the function.
     RunsPastEnd,
-    /// A label of it is no later one.
+    /// One of its labels isn't a later one.
     GoesBack,
     /// A `times` without its `next`.
     TimesWithoutNext,
@@ -427,7 +427,7 @@ fn instr_here(code: &[Instr], pc: u32) -> Instr
     code[pc as usize]
 }
 
-/// In the typestate that reaches the place.
+/// What to do about a cause in the typestate that reaches its place.
 fn reached_remedy(
     alloc: Global,
     program: &Program,

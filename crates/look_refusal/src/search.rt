@@ -1,14 +1,11 @@
 //! The input of a search: the sums of one resource in one function.
 
-ghost use Rattle.std.specs.Prelude.{◌≡◌, ◌<◌, ◌≤◌, length, IsTrue, true, ◌↔◌};
+ghost use Rattle.std.specs.Prelude.{◌≡◌, ◌<◌, ◌≤◌, length, true};
 ghost use Rattle.sts_budget.specs.Ready.{IsLaidFor, head_in};
 ghost use Rattle.sts_code.specs.Program.{instr_at};
-ghost use Rattle.sts_rules.specs.ControlPaths.{Among};
 ghost use Rattle.look_refusal.specs.Search as def;
 
-use sts_budget::{
-    Layout, Resource, added_of, change_of, depth_of, names_at, next_places, source_of, turns_of,
-};
+use sts_budget::{Layout, Resource, added_of, change_of, depth_of, names_at, source_of, turns_of};
 use sts_code::{Instr, MAX_ENTRIES};
 use sts_rules::Budgets;
 
@@ -92,29 +89,6 @@ pub(crate) fn may_end(search: &Search<'_>, pc: usize) -> bool
         Resource::Steps => ends_path(search.code[pc]),
         _ => true,
     }
-}
-
-/// Is the place one of these?
-fn is_among(places: &[u32], to: u32) -> bool
-    ensures { IsTrue result ↔ Among places.now to }
-{
-    for i in 0..places.len() {
-        if places[i] == to {
-            return true;
-        }
-    }
-    false
-}
-
-/// Does the instruction lead from one place to another, and open no loop? The end of a turn leads
-/// on from its loop.
-pub(crate) fn leads_on(search: &Search<'_>, from: u32, to: u32) -> bool
-    requires ready { def.IsReady search.now }
-    requires in_code { from < length search.now.code.now }
-    ensures { IsTrue result ↔ def.LeadsOn search.now from to }
-{
-    let instr = search.code[from as usize];
-    turns_of(instr) == 0 && is_among(next_places(instr, from).as_slice(), to)
 }
 
 /// The loop that opens at a place.

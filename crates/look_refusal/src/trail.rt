@@ -3,12 +3,12 @@
 
 ghost use Rattle.std.specs.Prelude.{◌≡◌, ◌<◌, ◌≤◌, ◌+◌, ℕ, length, get_or, IfOk, IsTrue, IsFalse};
 ghost use Rattle.std.specs.Prelude.{MatchOption, None, []};
+ghost use Rattle.look_refusal.specs.Leads.{AreLeads};
 ghost use Rattle.look_refusal.specs.Search as def;
 ghost use Rattle.look_refusal.specs.Trail as trails;
 
-use crate::search::{
-    CostLoop, Search, Spot, added_at, depth_at, depth_before, ends_turn, leads_on, loop_to,
-};
+use crate::leads::find_leads;
+use crate::search::{CostLoop, Search, Spot, added_at, depth_at, depth_before, ends_turn, loop_to};
 use std::alloc::{AllocError, Global};
 
 /// The greatest sum over the first entries at a place, counted from the start of the innermost
@@ -19,10 +19,10 @@ pub(crate) struct Best {
     from: Option<u32>,
 }
 
-/// For each number of entries the best.
+/// The best way for each number of entries.
 type Row = [Best; 17];
 
-/// For each place a row.
+/// A row for each place.
 #[derive(Drop)]
 pub(crate) struct Trail {
     rows: Vec<Row>,
@@ -113,7 +113,7 @@ fn handed(search: &Search<'_>, trail: &Trail, pc: u32, depth: usize) -> Option<u
     before.checked_add(added_at(search, pc as usize, depth))
 }
 
-/// The old one, unless the new one adds more.
+/// Returns the new one if it adds more, otherwise the old one.
 fn better(old: Best, new: Best) -> Best
     ensures { result ≡ trails.better old new }
 {
@@ -129,10 +129,8 @@ fn keep_ways(search: &Search<'_>, trail: &Trail, from: u32, to: u32, row: &mut R
     requires ready { def.IsReady search.now }
     requires from_in_code { from < length search.now.code.now }
     requires to_in_code { to < length search.now.code.now }
-    requires leads { def.LeadsOn search.now from to }
-    requires row { trails.IsRow search.now (trails.sum_in trail.now) from to row.old }
     ensures kept { IsTrue result →
-        trails.IsRow search.now (trails.sum_in trail.now) (from + 1) to row.new }
+        trails.KeepsWays search.now (trails.sum_in trail.now) from to row.old row.new }
     ensures over { IsFalse result →
         trails.HandsTooMuch search.now (trails.sum_in trail.now) from to }
 {
@@ -151,19 +149,20 @@ fn keep_ways(search: &Search<'_>, trail: &Trail, from: u32, to: u32, row: &mut R
     true
 }
 
-/// The best ways to a place, from the trail of the places before it; `None` if 128 bits don't hold
-/// a sum.
-fn row_at(search: &Search<'_>, trail: &Trail, to: u32) -> Option<Row>
+/// The best ways to a place, from the places that lead on to it and the trail of the places before
+/// it; `None` if 128 bits don't hold a sum.
+fn row_at(search: &Search<'_>, trail: &Trail, leads: &[u32], to: u32) -> Option<Row>
     requires ready { def.IsReady search.now }
     requires in_code { to < length search.now.code.now }
+    requires leads { AreLeads search.now to leads.now }
     ensures { MatchOption result
         ((from : ℕ) × ((from < to) × def.LeadsOn search.now from to
         × trails.HandsTooMuch search.now (trails.sum_in trail.now) from to))
         (trails.IsRow search.now (trails.sum_in trail.now) to to) }
 {
     let mut row = [no_way(); 17];
-    for from in 0..to {
-        if leads_on(search, from, to) && !keep_ways(search, trail, from, to, &mut row) {
+    for from in leads {
+        if !keep_ways(search, trail, *from, to, &mut row) {
             return None;
         }
     }
@@ -176,11 +175,12 @@ pub(crate) fn find_trail(alloc: Global, search: &Search<'_>) -> Result<Option<Tr
     ensures { IfOk result
         (λ o. MatchOption o (trails.IsTooWide search.now) (trails.IsTrail search.now)) }
 {
+    let leads = find_leads(alloc, search)?;
     let mut trail = Trail {
         rows: Vec::new(alloc),
     };
     for to in 0..search.code.len() as u32 {
-        match row_at(search, &trail, to) {
+        match row_at(search, &trail, leads[to as usize].as_slice(), to) {
             Some(row) => trail.rows.push(row)?,
             None => return Ok(None),
         }

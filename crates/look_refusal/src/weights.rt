@@ -1,19 +1,18 @@
 //! The lines of a path, or of a point of one, that is over a budget.
 
 ghost use Rattle.std.specs.Prelude.{◌≡◌, ◌<◌, ◌≤◌, ◌++◌, OnOk, length};
+ghost use Rattle.look_refusal.specs.Order.{IsLastShown};
 ghost use Rattle.look_refusal.specs.Weights as def;
 
 use crate::heavy::Heavy;
+use crate::order::{comes_after, last_shown};
 use look_text::{say, say_place};
 use std::alloc::{AllocError, Global};
 use sts_asm::Outline;
 use sts_budget::Resource;
 use sts_code::MAX_INSTRUCTIONS;
 
-/// How many lines are shown at most.
-const SHOWN: usize = 50;
-
-/// The words of a resource: those of a weight, and the line of the function's own part, outside its
+/// The words of a resource: those after a weight, and the line of what a function adds outside its
 /// instructions.
 #[derive(Clone, Copy)]
 struct Words {
@@ -45,16 +44,7 @@ fn words_of(resource: Resource) -> Words
     }
 }
 
-/// Does the place `one` add more than `this`, or the same and comes before it?
-fn is_weightier(shares: &[u128], this: usize, one: usize) -> bool
-    requires this { this < length shares.now }
-    requires one { one < length shares.now }
-    ensures { result ≡ def.is_weightier shares.now this one }
-{
-    shares[this] < shares[one] || (shares[one] == shares[this] && one < this)
-}
-
-/// One, if so.
+/// Returns 1 if so, otherwise 0.
 fn one_if(so: bool) -> usize
     ensures value { result ≡ def.one_if so }
     ensures small { result ≤ 1 }
@@ -62,41 +52,32 @@ fn one_if(so: bool) -> usize
     if so { 1 } else { 0 }
 }
 
-/// How many places are weightier.
-fn rank(shares: &[u128], this: usize) -> usize
-    requires { this < length shares.now }
-    ensures { result ≡ def.rank shares.now this }
-{
-    let mut rank = 0;
-    for one in 0..shares.len() {
-        rank += one_if(is_weightier(shares, this, one));
-    }
-    rank
-}
-
 /// Is the place one of those that add most, and does it add anything?
-fn is_shown(shares: &[u128], this: usize) -> bool
-    requires { this < length shares.now }
+fn is_shown(shares: &[u128], last: Option<usize>, this: usize) -> bool
+    requires last { IsLastShown shares.now last }
+    requires this { this < length shares.now }
     ensures { result ≡ def.is_shown shares.now this }
 {
-    0 < shares[this] && rank(shares, this) < SHOWN
+    0 < shares[this] && !comes_after(shares, last, this)
 }
 
 /// Does the place add something, without being shown?
-fn is_other(shares: &[u128], this: usize) -> bool
-    requires { this < length shares.now }
+fn is_other(shares: &[u128], last: Option<usize>, this: usize) -> bool
+    requires last { IsLastShown shares.now last }
+    requires this { this < length shares.now }
     ensures { result ≡ def.is_other shares.now this }
 {
-    0 < shares[this] && !is_shown(shares, this)
+    0 < shares[this] && !is_shown(shares, last, this)
 }
 
 /// How many others add something.
-fn others(shares: &[u128]) -> usize
+fn others(shares: &[u128], last: Option<usize>) -> usize
+    requires { IsLastShown shares.now last }
     ensures { result ≡ def.others shares.now }
 {
     let mut count = 0;
     for one in 0..shares.len() {
-        count += one_if(is_other(shares, one));
+        count += one_if(is_other(shares, last, one));
     }
     count
 }
@@ -108,14 +89,16 @@ fn say_share(
     outline: &Outline<'_>,
     function: u32,
     shares: &[u128],
+    last: Option<usize>,
     place: usize,
 ) -> Result<(), AllocError>
+    requires last { IsLastShown shares.now last }
     requires place { place < length shares.now }
     requires short { length shares.now ≤ MAX_INSTRUCTIONS }
     ensures { OnOk result (out.new.items
         ≡ out.old.items ++ def.share_line outline.now function shares.now place) }
 {
-    if !is_shown(shares, place) {
+    if !is_shown(shares, last, place) {
         return Ok(());
     }
     let amount = shares[place];
@@ -131,13 +114,15 @@ fn say_shares(
     outline: &Outline<'_>,
     function: u32,
     shares: &[u128],
+    last: Option<usize>,
 ) -> Result<(), AllocError>
-    requires { length shares.now ≤ MAX_INSTRUCTIONS }
+    requires last { IsLastShown shares.now last }
+    requires short { length shares.now ≤ MAX_INSTRUCTIONS }
     ensures { OnOk result (out.new.items
         ≡ out.old.items ++ def.share_lines outline.now function shares.now) }
 {
     for place in 0..shares.len() {
-        say_share(alloc, out, outline, function, shares, place)?;
+        say_share(alloc, out, outline, function, shares, last, place)?;
     }
     Ok(())
 }
@@ -192,7 +177,8 @@ pub(crate) fn weight_lines(
 {
     say_weight(alloc, out, outline, function, resource, heavy)?;
     let shares = heavy.shares.as_slice();
-    say_shares(alloc, out, outline, function, shares)?;
-    say_others(alloc, out, others(shares))?;
+    let last = last_shown(shares);
+    say_shares(alloc, out, outline, function, shares, last)?;
+    say_others(alloc, out, others(shares, last))?;
     say(out, words_of(resource).own)
 }

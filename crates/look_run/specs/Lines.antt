@@ -4,7 +4,7 @@ use Rattle.std.specs.Prelude.{ℕ, ◌+◌, ◌-◌, List, [], ◌∷◌, ◌++�
 use Rattle.std.specs.Prelude.{Option, Some, None, codes, length, map, slice_get}
 use Rattle.std.specs.Fmt.{decimal}
 use Rattle.sts_text.specs.Words.{lines}
-use Rattle.sts_code.specs.Program.{Program, routine}
+use Rattle.sts_code.specs.Program.{Program}
 use Rattle.sts_model.specs.declared.event.Fault.{Fault}
 use Rattle.sts_model.specs.declared.event.Stand.{Stand}
 use Rattle.sts_model.specs.declared.event.Stand.TheVariants.{Free, AtJoin, AtClose}
@@ -13,42 +13,30 @@ use Rattle.sts_model.specs.Living.{is_living_subtask, lives}
 use Rattle.sts_model.specs.Waiting.{can_step, stand_at}
 use Rattle.sts_model.specs.World.{World, task_at}
 use Rattle.sts_asm.specs.Outline.{Outline}
-use Rattle.sts_asm.specs.Source.{sentence_at}
 use Rattle.sts_plain.specs.declared.misstep.PlainState.{PlainState}
 use Rattle.sts_plain.specs.declared.misstep.PlainState.TheVariants as plain
 use Rattle.sts_trace.specs.declared.error.TraceError.{TraceError}
 use Rattle.sts_trace.specs.declared.error.TraceError.TheVariants as trace
-use Rattle.sts_output.specs.Printed.{end_line, fault_word}
-use Rattle.look_text.specs.Lines.{place_words}
 use Rattle.look_refusal.specs.Sentences.{remedy_sentence}
+use Rattle.look_refusal.specs.States.{state_line, task_place}
 use Rattle.look_run.specs.Remedies.{remedy}
 use Rattle.look_run.specs.Sentences.{trace_sentence}
 
--- ---- a task at a place
-
--- `task 1 in kid, line 3: close s0`, with the words as they are in the text
-abbrev pub task_place : Program → Outline → ℕ → ℕ → ℕ → List ℕ
-task_place p o t f pc =
-    codes "task " ++ decimal t ++ codes " in " ++ (routine p f).name
-    ++ place_words (sentence_at o f pc)
+-- ---- the state
 
 -- what to do about a fault of a living task
 abbrev pub remedy_line : Program → World → Fault → ℕ → List ℕ
 remedy_line p w kind t =
     if lives (task_at w t) then remedy_sentence (remedy p w t kind) ++ codes "\n" else []
 
--- `fault Structure, task 1 in kid, line 3: close s0`, and what to do about it
-abbrev pub fault_lines : Program → Outline → World → Fault → ℕ → ℕ → ℕ → List ℕ
-fault_lines p o w kind t f pc =
-    codes "fault " ++ fault_word kind ++ codes ", " ++ task_place p o t f pc ++ codes "\n"
-    ++ remedy_line p w kind t
+-- what to do about the fault of a run, if it has one
+abbrev pub remedy_part : Program → World → PlainState → List ℕ
+remedy_part p w (plain.Fault kind t f pc) = remedy_line p w kind t
+remedy_part p w state = []
 
--- the state of the run: `running`, `success V`, `failed C`, or its fault, if this is the world
--- before it
+-- the state of the run, and what to do about its fault, if this is the world before it
 abbrev pub state_lines : Program → Outline → World → PlainState → List ℕ
-state_lines p o w plain.Running = codes "running\n"
-state_lines p o w (plain.Ended end) = end_line end
-state_lines p o w (plain.Fault kind t f pc) = fault_lines p o w kind t f pc
+state_lines p o w state = state_line p o state ++ remedy_part p w state
 
 -- ---- who waits where
 

@@ -1,22 +1,22 @@
 //! Explains the state of a text's run after a trace.
 
-ghost use Rattle.std.specs.Prelude.{◌≡◌, IfOk, Ok};
-ghost use Rattle.sts_asm.specs.Source.{outlined as outlined_of};
+ghost use Rattle.std.specs.Prelude.{◌≡◌, IfOk};
 ghost use Rattle.sts_asm.specs.Text.{judged};
 ghost use Rattle.sts_trace.specs.Reading.{trace_read};
 ghost use Rattle.sts_output.specs.Output as cli;
+ghost use Rattle.look_refusal.specs.Stops.{Prints};
 ghost use Rattle.look_lines.specs.Watched.{watched};
 ghost use Rattle.look_run.specs.Output as def;
 
-use crate::tasks::{Told, say_living, say_state};
+use crate::tasks::{say_living, say_outcome};
 use crate::traces::trace_fault;
 use look_lines::{Watch, after};
-use look_refusal::{Explanation, text_fault};
+use look_refusal::{ExplainError, Explanation, Told, outline_of, program_of, write_explained};
 use std::alloc::{AllocError, Global};
 use std::io::Write;
-use sts_asm::{Outline, assemble, outlined};
+use sts_asm::Outline;
 use sts_code::Program;
-use sts_output::{TakeError, WriteFailed, failed, state_status, written};
+use sts_output::{WriteFailed, state_status};
 use sts_trace::read_trace;
 
 /// The state of a watched machine, and each task that lives.
@@ -33,7 +33,7 @@ fn of_watch(
     };
     let state = watch.state();
     let mut bytes = Vec::new(alloc);
-    say_state(alloc, &mut bytes, told, watch.world().records(), state)?;
+    say_outcome(alloc, &mut bytes, told, watch.world().records(), state)?;
     say_living(alloc, &mut bytes, told, watch.world())?;
     Ok(Explanation {
         bytes,
@@ -60,29 +60,13 @@ fn of_trace(
     }
 }
 
-/// The explanation of a run of a text, from the outline of its lines.
-fn of_lines(
-    alloc: Global,
-    outline: &Outline<'_>,
-    text: &[u8],
-    trace: &[u8],
-) -> Result<Explanation, AllocError>
-    requires { outlined_of text.now ≡ Ok outline.now }
-    ensures { IfOk result (λ o. def.Explains (judged text.now) text.now trace.now o) }
+fn explanation(alloc: Global, text: &[u8], trace: &[u8]) -> Result<Explanation, ExplainError>
+    ensures { Prints result (def.Explains (judged text.now) text.now trace.now) }
 {
-    match assemble(alloc, text) {
-        Ok(program) => of_trace(alloc, outline, &program, trace),
-        Err(error) => text_fault(alloc, error, text),
-    }
-}
-
-fn explanation(alloc: Global, text: &[u8], trace: &[u8]) -> Result<Explanation, AllocError>
-    ensures { IfOk result (λ o. def.Explains (judged text.now) text.now trace.now o) }
-{
-    match outlined(alloc, text) {
-        Ok(outline) => of_lines(alloc, &outline, text, trace),
-        Err(error) => text_fault(alloc, error, text),
-    }
+    let outline = outline_of(alloc, text)?;
+    let program = program_of(alloc, text)?;
+    let output = of_trace(alloc, &outline, &program, trace)?;
+    Ok(output)
 }
 
 /// Writes the state of a text's run after a trace, with line numbers, and gives the status that
@@ -104,8 +88,5 @@ pub fn explain_run<W: Write>(
     ensures { IfOk result (λ s. (o : cli.Output) × def.IsRunExplanation text.now trace.now o
         × cli.Writes (W.contents out.old) (W.contents out.new) s o) }
 {
-    match explanation(alloc, text, trace) {
-        Ok(output) => written(out, output.bytes.as_slice(), output.status),
-        Err(_) => failed(TakeError::Memory, out),
-    }
+    write_explained(explanation(alloc, text, trace), out)
 }

@@ -4,44 +4,16 @@ ghost use Rattle.std.specs.Prelude.{◌≡◌, ◌++◌, ◌<◌, OnOk, length, 
 ghost use Rattle.std.specs.List.{flat_map};
 ghost use Rattle.sts_model.specs.Living as living;
 ghost use Rattle.sts_model.specs.World as model;
-ghost use Rattle.sts_output.specs.Printed.{end_line};
 ghost use Rattle.look_run.specs.Lines as def;
 
 use crate::remedy::remedy_of;
-use look_refusal::remedy_sentence;
-use look_text::{say, say_place};
+use look_refusal::{Told, remedy_sentence, say_state, say_task};
+use look_text::say;
 use std::alloc::{AllocError, Global};
-use sts_asm::Outline;
-use sts_code::{Program, name_of};
-use sts_model::{End, Fault, Stand};
-use sts_output::printed;
+use sts_code::Program;
+use sts_model::{Fault, Stand};
 use sts_plain::{PlainState, can_step, stand_at};
 use sts_world::{Records, World};
-
-/// A program, and the lines of its text.
-#[derive(Clone, Copy)]
-pub(crate) struct Told<'p, 'o, 't> {
-    pub(crate) program: &'p Program,
-    pub(crate) outline: &'o Outline<'t>,
-}
-
-/// `task T in NAME, line L: WORDS`
-fn say_task(
-    alloc: Global,
-    out: &mut Vec<u8>,
-    told: Told<'_, '_, '_>,
-    t: u32,
-    function: u32,
-    pc: u32,
-) -> Result<(), AllocError>
-    ensures { OnOk result (out.new.items ≡ out.old.items
-        ++ def.task_place told.entry.program.now told.entry.outline.now t function pc) }
-{
-    let name = name_of(told.program, function);
-    let head = format!(in alloc; "task {t} in {name}")?;
-    say(out, head.as_str())?;
-    say_place(alloc, out, told.outline.sentence(function, pc))
-}
 
 /// What to do about a fault of a living task.
 fn say_remedy(
@@ -61,43 +33,29 @@ fn say_remedy(
     say(out, "\n")
 }
 
-/// The lines of a fault: what it is, where it is, and what to do about it.
-fn say_fault(
-    alloc: Global,
+/// What to do about the fault of a run, if it has one.
+fn say_remedy_part(
     out: &mut Vec<u8>,
-    told: Told<'_, '_, '_>,
+    program: &Program,
     records: &Records,
-    kind: Fault,
-    task: u32,
-    function: u32,
-    pc: u32,
+    state: PlainState,
 ) -> Result<(), AllocError>
-    ensures { OnOk result (out.new.items ≡ out.old.items
-        ++ def.fault_lines told.entry.program.now told.entry.outline.now records.now kind task
-        function pc) }
+    ensures { OnOk result (out.new.items
+        ≡ out.old.items ++ def.remedy_part program.now records.now state) }
 {
-    say(out, "fault ")?;
-    say(out, printed::fault_word(kind))?;
-    say(out, ", ")?;
-    say_task(alloc, out, told, task, function, pc)?;
-    say(out, "\n")?;
-    say_remedy(out, told.program, records, kind, task)
+    match state {
+        PlainState::Fault { kind, task, .. } => say_remedy(out, program, records, kind, task),
+        _ => Ok(()),
+    }
 }
 
-fn say_end(alloc: Global, out: &mut Vec<u8>, end: End) -> Result<(), AllocError>
-    ensures { OnOk result (out.new.items ≡ out.old.items ++ end_line end) }
-{
-    let mut line = String::new(alloc);
-    printed::end_line(&mut line, end)?;
-    say(out, line.as_str())
-}
-
-/// The state of the run. After a fault, the records are those before it.
+/// The state of the run, and what to do about its fault. After a fault, the records are those before
+/// it.
 ///
 /// # Errors
 ///
 /// Memory ran out; `out` may then have a part of it.
-pub(crate) fn say_state(
+pub(crate) fn say_outcome(
     alloc: Global,
     out: &mut Vec<u8>,
     told: Told<'_, '_, '_>,
@@ -107,16 +65,8 @@ pub(crate) fn say_state(
     ensures { OnOk result (out.new.items ≡ out.old.items
         ++ def.state_lines told.entry.program.now told.entry.outline.now records.now state) }
 {
-    match state {
-        PlainState::Running => say(out, "running\n"),
-        PlainState::Ended(end) => say_end(alloc, out, end),
-        PlainState::Fault {
-            kind,
-            task,
-            function,
-            pc,
-        } => say_fault(alloc, out, told, records, kind, task, function, pc),
-    }
+    say_state(alloc, out, told, state)?;
+    say_remedy_part(out, told.program, records, state)
 }
 
 /// Is the task a living subtask of the scope?

@@ -1,5 +1,5 @@
 -- The word at which a program check fails, in its place (this project's own).
-use Rattle.std.specs.Prelude.{ℕ, List, [], ◌∷◌, take, Bool, true, false, not, ◌&&◌, nat_lt, nat_le}
+use Rattle.std.specs.Prelude.{ℕ, List, [], ◌∷◌, ◌++◌, take, Bool, true, false, not, ◌&&◌, nat_lt, nat_le}
 use Rattle.std.specs.Prelude.{Option, Some, None, is_some, option_map}
 use Rattle.std.specs.Prelude.{if◌then◌else◌}
 use Rattle.std.specs.List.{list_any}
@@ -18,7 +18,7 @@ use Rattle.look_text.specs.declared.wanted.Expected.TheVariants as w
 use Rattle.look_text.specs.Heads.{head_at}
 use Rattle.look_text.specs.Labels.{is_behind}
 use Rattle.look_text.specs.Checks.{failing, is_of_head}
-use Rattle.look_text.specs.Wrong.{wrong_line}
+use Rattle.look_text.specs.Wrong.{wrong_line, form_line}
 
 -- does an earlier function have this name?
 abbrev pub is_earlier : Outline → ℕ → List ℕ → Bool
@@ -106,7 +106,11 @@ abbrev pub check_stop : List ℕ → Outline → CodeError → Option Stop
 check_stop text o e =
     first_failing (passes text o e.function e.cause) w.First (check_words text o e)
 
--- its line, by the functions of a text, if they were read
-abbrev pub check_line : List ℕ → Option Outline → CodeError → List ℕ
-check_line text None c = []
-check_line text (Some o) c = wrong_line (check_stop text o c)
+-- that word in its place, and the form of the line
+abbrev pub check_part : List ℕ → Outline → CodeError → List ℕ
+check_part text o e = wrong_line (check_stop text o e) ++ form_line (check_words text o e)
+
+-- by the functions of a text, if they were read
+abbrev pub check_lines : List ℕ → Option Outline → CodeError → List ℕ
+check_lines text None e = []
+check_lines text (Some o) e = check_part text o e

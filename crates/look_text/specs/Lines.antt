@@ -9,7 +9,7 @@ use Rattle.sts_asm.specs.declared.fault.AsmKind.{AsmKind}
 use Rattle.sts_asm.specs.declared.fault.AsmKind.TheVariants.{NotAscii, Code}
 use Rattle.sts_asm.specs.declared.fault.AsmError.{AsmError}
 use Rattle.look_text.specs.Checks.{line_words, code_place}
-use Rattle.look_text.specs.Failing.{check_line}
+use Rattle.look_text.specs.Failing.{check_lines}
 use Rattle.look_text.specs.Functions.{functions_of}
 use Rattle.look_text.specs.Sentences.{fault_sentence}
 use Rattle.look_text.specs.Wrong.{wrong_part}
@@ -45,7 +45,7 @@ fault_head e text =
 
 -- the wrong word or byte in its place, if the fault is about one
 abbrev pub fault_part : AsmKind → List ℕ → ℕ → List ℕ
-fault_part (Code c) text line = check_line text (functions_of text) c
+fault_part (Code c) text line = check_lines text (functions_of text) c
 fault_part kind text line = wrong_part kind text line
 
 -- where it is; what is wrong; and the wrong word or byte in its place, if the fault is about one

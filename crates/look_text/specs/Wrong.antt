@@ -85,15 +85,19 @@ abbrev pub form_line : List (List ℕ) → List ℕ
 form_line [] = []
 form_line (word ∷ rest) = if bytes_eq word (codes "join") then join_form ++ codes "\n" else []
 
--- the form of the line, for the fault of an operand
+-- the form of the line, for the fault of an operand or of a name
 abbrev pub form_part : AsmKind → List (List ℕ) → List ℕ
 form_part BadOperands words = form_line words
+form_part UnknownLabel words = form_line words
 form_part kind words = []
 
--- what is wrong in the line of a fault, if it is a word or a byte
-abbrev pub wrong_part : AsmKind → List ℕ → ℕ → List ℕ
-wrong_part UnknownLabel text line = unknown_line (functions_of text)
-wrong_part NotAscii text line = byte_line_of (line_at text line)
-wrong_part kind text line =
+-- the wrong word or byte of a fault in its place, if the fault is about one
+abbrev pub place_part : AsmKind → List ℕ → ℕ → List ℕ
+place_part UnknownLabel text line = unknown_line (functions_of text)
+place_part NotAscii text line = byte_line_of (line_at text line)
+place_part kind text line =
     wrong_line (wrong_place kind (is_inside text line) (words_at text line))
-    ++ form_part kind (words_at text line)
+
+-- what is wrong in the line of a fault, and the form of the line
+abbrev pub wrong_part : AsmKind → List ℕ → ℕ → List ℕ
+wrong_part kind text line = place_part kind text line ++ form_part kind (words_at text line)

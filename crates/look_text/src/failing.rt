@@ -13,7 +13,7 @@ use crate::functions::functions_of;
 use crate::heads::head_line;
 use crate::labels::is_behind;
 use crate::wanted::Expected;
-use crate::wrong::say_word;
+use crate::wrong::{form_line, say_word};
 use std::alloc::{AllocError, Global};
 use sts_asm::{Outline, Sentence, handle, slot, words_at};
 use sts_code::{CodeCause, CodeError, LAST_SLOT, MAX_ARGS, MAX_ENDS, MAX_TURNS};
@@ -192,30 +192,40 @@ fn check_words<'a>(outline: &Outline<'a>, error: CodeError, text: &'a [u8]) -> W
     }
 }
 
-/// The line of the word at which a program check fails.
+/// The word at which a program check fails, in its place, and the form of the line.
+fn check_part<'a>(
+    alloc: Global,
+    out: &mut Vec<u8>,
+    outline: &Outline<'a>,
+    error: CodeError,
+    text: &'a [u8],
+) -> Result<(), AllocError>
+    requires { length text.now ≤ 1048576 }
+    ensures { OnOk result (out.new.items
+        ≡ out.old.items ++ def.check_part text.now outline.now error) }
+{
+    let words = check_words(outline, error, text);
+    say_failing(alloc, out, outline, error, text, words)?;
+    form_line(out, check_words(outline, error, text))
+}
+
+/// The line of the word at which a program check fails, and the form of the line.
 ///
 /// # Errors
 ///
-/// Memory ran out; `out` may then have a part of it.
+/// Memory ran out; `out` may then have a part of them.
 #[tactic(auto, using(crate::proofs::HeadLemmas::functions_short))]
-pub(crate) fn check_line(
+pub(crate) fn check_lines(
     alloc: Global,
     out: &mut Vec<u8>,
     error: CodeError,
     text: &[u8],
 ) -> Result<(), AllocError>
     ensures { OnOk result (out.new.items
-        ≡ out.old.items ++ def.check_line text.now (functions_of text.now) error) }
+        ≡ out.old.items ++ def.check_lines text.now (functions_of text.now) error) }
 {
     match functions_of(alloc, text)? {
         None => Ok(()),
-        Some(outline) => say_failing(
-            alloc,
-            out,
-            &outline,
-            error,
-            text,
-            check_words(&outline, error, text),
-        ),
+        Some(outline) => check_part(alloc, out, &outline, error, text),
     }
 }

@@ -7,7 +7,7 @@ ghost use Rattle.look_text.specs.Checks.{line_words};
 ghost use Rattle.look_text.specs.Lines as def;
 
 use crate::checks::say_code_place;
-use crate::failing::check_line;
+use crate::failing::check_lines;
 use crate::sentences::fault_sentence;
 use crate::wrong::wrong_part;
 use std::alloc::{AllocError, Global};
@@ -148,7 +148,7 @@ fn say_fault_part(
     ensures { OnOk result (out.new.items ≡ out.old.items ++ def.fault_part kind text.now line) }
 {
     match kind {
-        AsmKind::Code(code) => check_line(alloc, out, code, text),
+        AsmKind::Code(code) => check_lines(alloc, out, code, text),
         kind => wrong_part(alloc, out, kind, text, line),
     }
 }

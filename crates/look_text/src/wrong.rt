@@ -243,7 +243,7 @@ fn say_join_form(out: &mut Vec<u8>) -> Result<(), AllocError>
 }
 
 /// The form of a line that begins with these words.
-fn form_line<'a>(out: &mut Vec<u8>, words: Words<'a>) -> Result<(), AllocError>
+pub(crate) fn form_line<'a>(out: &mut Vec<u8>, words: Words<'a>) -> Result<(), AllocError>
     ensures { OnOk result (out.new.items ≡ out.old.items ++ def.form_line words.entry) }
 {
     let mut words = words;
@@ -259,27 +259,34 @@ fn form_line<'a>(out: &mut Vec<u8>, words: Words<'a>) -> Result<(), AllocError>
     }
 }
 
-/// The form of the line, for the fault of an operand.
+/// The form of the line, for the fault of an operand or of a name.
 fn form_part<'a>(out: &mut Vec<u8>, kind: AsmKind, words: Words<'a>) -> Result<(), AllocError>
     ensures { OnOk result (out.new.items ≡ out.old.items ++ def.form_part kind words.entry) }
 {
     match kind {
-        AsmKind::BadOperands => form_line(out, words),
+        AsmKind::BadOperands | AsmKind::UnknownLabel => form_line(out, words),
         _ => Ok(()),
     }
 }
 
-/// The wrong word in its place, and the form of the line.
-fn say_place_of(out: &mut Vec<u8>, kind: AsmKind, text: &[u8], line: u32) -> Result<(), AllocError>
-    ensures { OnOk result (out.new.items ≡ out.old.items
-        ++ (def.wrong_line (wrong_place kind (is_inside text.now line) (words_at text.now line))
-        ++ def.form_part kind (words_at text.now line))) }
+/// The wrong word or byte of a fault in its place.
+fn place_part(
+    alloc: Global,
+    out: &mut Vec<u8>,
+    kind: AsmKind,
+    text: &[u8],
+    line: u32,
+) -> Result<(), AllocError>
+    ensures { OnOk result (out.new.items ≡ out.old.items ++ def.place_part kind text.now line) }
 {
-    wrong_line(out, kind, text, line)?;
-    form_part(out, kind, words_at(text, line))
+    match kind {
+        AsmKind::UnknownLabel => unknown_line(alloc, out, text),
+        AsmKind::NotAscii => byte_line_of(alloc, out, line_at(text, line)),
+        _ => wrong_line(out, kind, text, line),
+    }
 }
 
-/// What is wrong in the line of a fault, if it is a word or a byte.
+/// What is wrong in the line of a fault, if it is a word or a byte, and the form of the line.
 ///
 /// # Errors
 ///
@@ -293,9 +300,6 @@ pub(crate) fn wrong_part(
 ) -> Result<(), AllocError>
     ensures { OnOk result (out.new.items ≡ out.old.items ++ def.wrong_part kind text.now line) }
 {
-    match kind {
-        AsmKind::UnknownLabel => unknown_line(alloc, out, text),
-        AsmKind::NotAscii => byte_line_of(alloc, out, line_at(text, line)),
-        _ => say_place_of(out, kind, text, line),
-    }
+    place_part(alloc, out, kind, text, line)?;
+    form_part(out, kind, words_at(text, line))
 }

@@ -1,0 +1,114 @@
+//! What is printed for a text, and why an explanation goes no further.
+
+ghost use Rattle.std.specs.Prelude.{◌≡◌, IfOk, Result, Ok, Err};
+ghost use Rattle.sts_code.specs.Program.{Program as AnyProgram};
+ghost use Rattle.sts_asm.specs.Fault.{FailsAt};
+ghost use Rattle.sts_asm.specs.Source.{outlined as outlined_of};
+ghost use Rattle.sts_asm.specs.Text.{judged};
+ghost use Rattle.sts_asm.specs.declared.fault.AsmError.{AsmError};
+ghost use Rattle.sts_output.specs.Output as cli;
+ghost use Rattle.look_refusal.specs.Output as def;
+ghost use Rattle.look_refusal.specs.Stops as stops;
+
+use look_text::fault_lines;
+use std::alloc::{AllocError, Global};
+use std::io::Write;
+use std::marker::Model;
+use sts_asm::{AsmError, AsmKind, Outline, assemble, outlined};
+use sts_code::Program;
+use sts_output::{TakeError, WriteFailed, failed, written};
+
+/// The output, and the status.
+#[derive(Drop)]
+pub struct Explanation {
+    pub bytes: Vec<u8>,
+    pub status: u8,
+}
+
+impl Model for Explanation {
+    ghost use Rattle.sts_output.specs.Output as cli;
+
+    ghost Value = { cli.Output };
+
+    ghost view = { λ o. record { bytes = o.bytes.items; status = o.status } };
+}
+
+/// Why an explanation goes no further.
+#[derive(Drop)]
+pub enum ExplainError {
+    /// This output says why: a fault of the text.
+    Shown(Explanation),
+    /// Memory ran out.
+    Memory,
+}
+
+impl From<AllocError> for ExplainError {
+    ghost use Rattle.std.specs.Prelude.{◌≡◌};
+    ghost use Rattle.look_refusal.specs.declared.explanation.ExplainError.TheVariants.{Memory};
+
+    ghost from_gives = { λ _ e. e ≡ Memory };
+
+    fn from(_error: AllocError) -> ExplainError {
+        ExplainError::Memory
+    }
+}
+
+/// The output for a fault of a text. Running out of memory is no fault of it.
+fn text_fault(alloc: Global, error: AsmError, text: &[u8]) -> Result<Explanation, AllocError>
+    ensures { (read : Result AnyProgram AsmError) → FailsAt error error.kind read
+        → IfOk result (λ o. (read ≡ Err error) × (o ≡ def.fault_output error text.now)) }
+{
+    if matches!(error.kind, AsmKind::Memory) {
+        return Err(AllocError);
+    }
+    let mut bytes = Vec::new(alloc);
+    fault_lines(alloc, &mut bytes, error, text)?;
+    Ok(Explanation { bytes, status: 3 })
+}
+
+/// Returns the outline of a text.
+///
+/// # Errors
+///
+/// The text has a fault, or memory ran out.
+pub fn outline_of(alloc: Global, text: &[u8]) -> Result<Outline<'_>, ExplainError>
+    ensures { stops.Gives result (λ o. outlined_of text.now ≡ Ok o) (stops.IsTextFault text.now) }
+{
+    match outlined(alloc, text) {
+        Ok(outline) => Ok(outline),
+        Err(error) => Err(ExplainError::Shown(text_fault(alloc, error, text)?)),
+    }
+}
+
+/// Returns the program that a text spells.
+///
+/// # Errors
+///
+/// The text has a fault, or memory ran out.
+pub fn program_of(alloc: Global, text: &[u8]) -> Result<Program, ExplainError>
+    ensures { stops.Gives result (λ p. judged text.now ≡ Ok p) (stops.IsTextFault text.now) }
+{
+    match assemble(alloc, text) {
+        Ok(program) => Ok(program),
+        Err(error) => Err(ExplainError::Shown(text_fault(alloc, error, text)?)),
+    }
+}
+
+/// Writes an explanation, or the output that says why it went no further, and returns the status.
+///
+/// # Errors
+///
+/// A write failed.
+pub fn write_explained<W: Write>(
+    output: Result<Explanation, ExplainError>,
+    out: &mut W,
+) -> Result<u8, WriteFailed>
+    ensures { IfOk result (λ s. (o : cli.Output) × stops.IsShown output o
+        × cli.Writes (W.contents out.old) (W.contents out.new) s o) }
+{
+    match output {
+        Ok(output) => written(out, output.bytes.as_slice(), output.status),
+        Err(ExplainError::Shown(output)) => written(out, output.bytes.as_slice(), output.status),
+        Err(ExplainError::Memory) => failed(TakeError::Memory, out),
+    }
+}
