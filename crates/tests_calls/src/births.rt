@@ -34,29 +34,46 @@ fn birth_again(held: &Held<u32>, birth: usize) -> Option<usize> {
     }
 }
 
+/// Returns whether a birth has a record with this body, and its key leads back to the birth.
+fn is_there(held: &Held<u32>, birth: usize, body: u32) -> bool {
+    held.get(birth) == Some(&body) && birth_again(held, birth) == Some(birth)
+}
+
+/// Returns whether a birth has no record.
+fn is_gone(held: &Held<u32>, birth: usize) -> bool {
+    held.get(birth).is_none() && birth_again(held, birth).is_none()
+}
+
+/// Births 0 and 1 have all the room.
+fn two_come(rt: &impl Abort, held: &mut Held<u32>) {
+    assert!(rt; held.born() == 0 && is_gone(held, 0));
+    assert_eq!(rt; push(rt, held, 10), 0);
+    assert_eq!(rt; push(rt, held, 20), 1);
+    write(rt, held, 1, 25);
+    assert!(rt; held.room() == 0 && is_there(held, 0, 10) && is_there(held, 1, 25));
+}
+
+/// Birth 0 goes, birth 2 never has a record, and birth 3 gets the room of birth 0.
+fn another_comes(rt: &impl Abort, held: &mut Held<u32>) {
+    assert_eq!(rt; remove(rt, held, 0), 10);
+    assert!(rt; is_gone(held, 0) && held.room() == 1);
+    assert_eq!(rt; skip(rt, held), 2);
+    assert!(rt; is_gone(held, 2) && held.room() == 1);
+    assert_eq!(rt; push(rt, held, 40), 3);
+    assert!(rt; held.room() == 0 && held.born() == 4);
+}
+
 #[test]
 fn births_go_on_when_keys_come_back(rt: HostRuntime) -> Result<(), Fail> {
     let mut held = Held::with_room(rt.alloc(), 2)?;
-    assert!(rt; held.born() == 0 && held.get(0).is_none());
-    let a = push(&rt, &mut held, 10);
-    let b = push(&rt, &mut held, 20);
-    assert!(rt; a == 0 && b == 1 && held.room() == 0);
-    write(&rt, &mut held, b, 25);
-    assert!(rt; held.get(a) == Some(&10) && held.get(b) == Some(&25));
-    assert_eq!(rt; remove(&rt, &mut held, a), 10);
-    assert!(rt; held.get(a).is_none() && held.key_of(a).is_none() && held.room() == 1);
-    let c = skip(&rt, &mut held);
-    assert!(rt; c == 2 && held.get(c).is_none() && held.room() == 1);
-    let d = push(&rt, &mut held, 40);
-    assert!(rt; d == 3 && held.room() == 0 && held.born() == 4);
+    two_come(&rt, &mut held);
+    another_comes(&rt, &mut held);
     assert!(rt;
-        held.get(a).is_none() && held.get(c).is_none(),
+        is_gone(&held, 0) && is_gone(&held, 2),
         "what is gone stays gone"
     );
-    assert!(rt; held.get(d) == Some(&40) && held.get(b) == Some(&25));
-    assert!(rt; birth_again(&held, d) == Some(d) && birth_again(&held, b) == Some(b));
-    assert!(rt; birth_again(&held, a).is_none());
-    assert!(rt; held.key_of(b) != held.key_of(d));
+    assert!(rt; is_there(&held, 1, 25) && is_there(&held, 3, 40));
+    assert!(rt; held.key_of(1) != held.key_of(3));
     Ok(())
 }
 

@@ -1,19 +1,13 @@
 //! Interrupts of a task when its record is used again.
 
-use crate::texts::THOUSAND;
+use crate::texts::{THOUSAND, accepted};
+use std::process::Abort;
 use std::test::Fail;
-use sts_asm::assemble;
 use sts_machine::{Machine, Turned};
 use sts_model::{End, Event};
-use sts_verify::verify;
 
-/// Task 1 lives from the fourth step of `main`, which forks it, to its own second step. The tasks
-/// that are forked after it get its key.
-#[test]
-fn an_interrupt_counts_while_its_task_lives(rt: HostRuntime) -> Result<(), Fail> {
-    let program = assemble(rt.alloc(), THOUSAND.as_bytes())?;
-    let verified = verify(rt.alloc(), program).ok().ok_or("not accepted")?;
-    let mut machine = Machine::prepare(rt.alloc(), &verified)?;
+/// Steps some task that can step, one after another, and interrupts task 1 after each step.
+fn interrupt_between<R: Abort>(rt: &R, machine: &mut Machine<'_>) {
     let mut of_main = 0u32;
     let mut of_first = 0u32;
     for _ in 0..9004u32 {
@@ -27,6 +21,15 @@ fn an_interrupt_counts_while_its_task_lives(rt: HostRuntime) -> Result<(), Fail>
         let want = if lives { Turned::Stepped } else { Turned::Idle };
         assert_eq!(rt; machine.turn(Event::Interrupt(1)), want);
     }
+}
+
+/// Task 1 lives from the fourth step of `main`, which forks it, to its own second step. The tasks
+/// that are forked after it get its key.
+#[test]
+fn an_interrupt_counts_while_its_task_lives(rt: HostRuntime) -> Result<(), Fail> {
+    let verified = accepted(rt.alloc(), THOUSAND)?;
+    let mut machine = Machine::prepare(rt.alloc(), &verified)?;
+    interrupt_between(&rt, &mut machine);
     assert_eq!(rt; machine.root_end(), Some(End::Success(5)));
     Ok(())
 }
