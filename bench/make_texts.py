@@ -93,27 +93,51 @@ def subtasks(count, steps):
     )
 
 
-def short_then_wide(scopes):
-    """Returns a program of scopes with one short subtask each, and then a scope of eight with 80,000 local steps each."""
+def fans(scopes, count, work):
+    """Returns a program of scopes in a row, each with some subtasks that do this work."""
     return lines(
-        f"func kid 0 / push 0 / ret / end / func work 0 / push 10 / times 10 / {spin(8_000)} / next / load 0 / ret / end / "
-        f"func main 0 / push {scopes} / times {scopes} / open s0 awaitall / fork s0 kid _ / join s0 - - intr / close s0 / jmp go / "
-        "intr: / close s0 / go: / next / open s0 awaitall / push 8 / times 8 / fork s0 work _ / next / join s0 - - stop / close s0 / "
-        "push 3 / ret / stop: / push 0 / close s0 / fail / end"
+        f"func work 0 / {work} / push 0 / ret / end / func main 0 / push {scopes} / times {scopes} / open s0 awaitall / "
+        f"push {count} / times {count} / fork s0 work _ / next / join s0 - - intr / close s0 / jmp go / intr: / close s0 / go: / next / "
+        "push 1 / ret / end"
     )
 
 
-# Programs in which several workers may be slow: tasks that seldom leave the lock, short subtasks, long ones after many short.
+def short_then_wide(scopes, count, work):
+    """Returns a program of scopes with one short subtask each, and then a scope of some subtasks that do this work."""
+    return lines(
+        f"func kid 0 / push 0 / ret / end / func work 0 / {work} / load 0 / ret / end / "
+        f"func main 0 / push {scopes} / times {scopes} / open s0 awaitall / fork s0 kid _ / join s0 - - intr / close s0 / jmp go / "
+        f"intr: / close s0 / go: / next / open s0 awaitall / push {count} / times {count} / fork s0 work _ / next / "
+        "join s0 - - stop / close s0 / push 3 / ret / stop: / push 0 / close s0 / fail / end"
+    )
+
+
+def burst(questions, steps, times):
+    """Returns a program of three subtasks that poll. Meanwhile `main` asks very often whether it is interrupted."""
+    return lines(
+        f"func work 0 / push {times} / times {times} / {spin(steps)} / interrupted / pop / next / load 0 / ret / end / "
+        "func main 0 / open s0 awaitall / push 3 / times 3 / fork s0 work _ / next / "
+        f"push 10 / times 10 / push {questions // 10} / times {questions // 10} / interrupted / pop / next / next / "
+        "join s0 - - intr / close s0 / push 1 / ret / intr: / push 0 / close s0 / fail / end"
+    )
+
+
+# Programs in which several workers may be slow: tasks that seldom leave the lock, short subtasks, long ones after short ones,
+# scopes of few subtasks, and many turns of `main` while others do slices. As runs have a limit of steps, counts differ.
 WORK = {
     "polling_50": polling(50, 3_500),
     "polling_500": polling(500, 440),
     "polling_5000": polling(5_000, 44),
-    "subtasks_5": subtasks(60_000, 5),
+    "subtasks_5": fans(10, 10_000, "push 1 / pop"),
     "subtasks_50": subtasks(15_000, 50),
     "subtasks_500": subtasks(1_800, 500),
     "subtasks_5000": subtasks(180, 5_000),
-    "short_then_wide": short_then_wide(9_000),
+    "short_then_wide": short_then_wide(9_000, 8, f"push 10 / times 10 / {spin(8_000)} / next"),
+    "short_then_500": short_then_wide(100, 1_700, spin(500)),
+    "row_of_600": fans(1_300, 1, spin(600)),
+    "fans_of_500": fans(430, 4, spin(500)),
     "one_long_task": polling(5_000, 170, 1),
+    "burst": burst(100_000, 500, 280),
 }
 
 

@@ -24,7 +24,8 @@ RUNS = int(os.environ.get("RUNS", "9"))
 # the words of the line, or the launchers in the root folder
 STS, LOOK = (os.path.abspath(given or os.path.join(HERE, "..", name)) for given, name in zip((sys.argv + ["", ""])[1:3], ("sts", "look")))
 WORKERS = (1, 2, 4)
-WORK = ("polling_50", "polling_500", "polling_5000", "subtasks_5", "subtasks_50", "subtasks_500", "subtasks_5000", "short_then_wide", "one_long_task")
+WORK = ("polling_50", "polling_500", "polling_5000", "subtasks_5", "subtasks_50", "subtasks_500", "subtasks_5000")
+WORK += ("short_then_wide", "short_then_500", "row_of_600", "fans_of_500", "one_long_task", "burst")
 
 
 def once(command):
