@@ -74,28 +74,27 @@ module _ {T : Type 0} where
           let s : i ≢ birth = grind (arith, nat_tests) in
           rw (get_or-set_other (slots 0 keys old) birth i o None s) (slot_is keys new i inside ∙ others i s ∙ sym (slot_is keys old i inside))
 
-  pub body_other : (i : ℕ) (e : Entry T) → i ≢ e.birth → body_of i (Some e) ≡ None
-  body_other i e ne = let q : nat_eq e.birth i ≡ false = grind (arith, nat_tests) in rw q refl
+  body_other : (i b : ℕ) (x : T) → i ≢ b → body_of i (Some (record { birth = b; body = x })) ≡ None
+  body_other i b x ne = let q : nat_eq b i ≡ false = grind (arith, nat_tests) in rw q refl
 
-  pub body_own : (i : ℕ) (e : Entry T) → e.birth ≡ i → body_of i (Some e) ≡ Some e.body
-  body_own i e own = let q : nat_eq e.birth i ≡ true = grind (arith, nat_tests) in rw q refl
+  body_own : (b : ℕ) (x : T) → body_of b (Some (record { birth = b; body = x })) ≡ Some x
+  body_own b x = let q : nat_eq b b ≡ true = grind (arith, nat_tests) in rw q refl
 
   -- the entry of one birth is replaced by another of that birth
-  pub rewritten : (keys : List ℕ) (old new : List (Option (Entry T))) (birth : ℕ) (e y : Entry T) → birth < length keys → get_or old (get_or keys birth 0) None ≡ Some e → e.birth ≡ birth → get_or new (get_or keys birth 0) None ≡ Some y → y.birth ≡ birth → ((j : ℕ) → j ≢ get_or keys birth 0 → get_or new j None ≡ get_or old j None) → slots 0 keys new ≡ set (slots 0 keys old) birth (Some y.body)
-  rewritten keys old new birth e y less was own is same others =
-      written keys old new birth (Some y.body) less (rw is (body_own birth y same))
+  pub rewritten : (keys : List ℕ) (old new : List (Option (Entry T))) (birth : ℕ) (e : Entry T) (x : T) → birth < length keys → get_or old (get_or keys birth 0) None ≡ Some e → e.birth ≡ birth → get_or new (get_or keys birth 0) None ≡ Some (record { birth = birth; body = x }) → ((j : ℕ) → j ≢ get_or keys birth 0 → get_or new j None ≡ get_or old j None) → slots 0 keys new ≡ set (slots 0 keys old) birth (Some x)
+  rewritten keys old new birth e x less was own is others =
+      written keys old new birth (Some x) less (rw is (body_own birth x))
       (λ i ne. by i ne (nat_eq (get_or keys i 0) (get_or keys birth 0)) refl)
     where
       by : (i : ℕ) → i ≢ birth → (t : Bool) → nat_eq (get_or keys i 0) (get_or keys birth 0) ≡ t → body_of i (get_or new (get_or keys i 0) None) ≡ body_of i (get_or old (get_or keys i 0) None)
       by i ne true q =
           let s : get_or keys i 0 ≡ get_or keys birth 0 = grind (arith, nat_tests) in
-          let n1 : i ≢ y.birth = grind arith in
-          let n2 : i ≢ e.birth = grind arith in
-          rw (s, is, was, body_other i y n1, body_other i e n2) refl
+          let r : nat_eq e.birth i ≡ false = grind (arith, nat_tests) in
+          rw (s, is, was, body_other i birth x ne) (rw r refl)
       by i ne false q = let s : get_or keys i 0 ≢ get_or keys birth 0 = grind (arith, nat_tests) in rw (others (get_or keys i 0) s) refl
 
   -- the entry of one birth is taken out
-  pub emptied : (keys : List ℕ) (old new : List (Option (Entry T))) (birth : ℕ) (e : Entry T) → birth < length keys → get_or old (get_or keys birth 0) None ≡ Some e → e.birth ≡ birth → get_or new (get_or keys birth 0) None ≡ None → ((j i : ℕ) → j ≢ get_or keys birth 0 → body_of i (get_or new j None) ≡ body_of i (get_or old j None)) → slots 0 keys new ≡ set (slots 0 keys old) birth None
+  pub emptied : (keys : List ℕ) (old new : List (Option (Entry T))) (birth : ℕ) (e : Entry T) → birth < length keys → get_or old (get_or keys birth 0) None ≡ Some e → e.birth ≡ birth → get_or new (get_or keys birth 0) None ≡ None → ((j : ℕ) → j ≢ get_or keys birth 0 → get_or new j None ≡ get_or old j None) → slots 0 keys new ≡ set (slots 0 keys old) birth None
   emptied keys old new birth e less was own is others =
       written keys old new birth None less (rw is refl)
       (λ i ne. by i ne (nat_eq (get_or keys i 0) (get_or keys birth 0)) refl)
@@ -103,42 +102,53 @@ module _ {T : Type 0} where
       by : (i : ℕ) → i ≢ birth → (t : Bool) → nat_eq (get_or keys i 0) (get_or keys birth 0) ≡ t → body_of i (get_or new (get_or keys i 0) None) ≡ body_of i (get_or old (get_or keys i 0) None)
       by i ne true q =
           let s : get_or keys i 0 ≡ get_or keys birth 0 = grind (arith, nat_tests) in
-          let n2 : i ≢ e.birth = grind arith in
-          rw (s, is, was, body_other i e n2) refl
-      by i ne false q = others (get_or keys i 0) i (grind (arith, nat_tests))
+          let r : nat_eq e.birth i ≡ false = grind (arith, nat_tests) in
+          rw (s, is, was) (rw r refl)
+      by i ne false q = let s : get_or keys i 0 ≢ get_or keys birth 0 = grind (arith, nat_tests) in rw (others (get_or keys i 0) s) refl
 
   -- what a look-up finds
+  pub none_past : (keys : List ℕ) (entries : List (Option (Entry T))) (birth : ℕ) → false ≡ nat_lt birth (length keys) → None ≡ get_or (slots 0 keys entries) birth None
+  none_past keys entries birth e = sym (slot_past keys entries birth (grind (arith, nat_tests)))
+
+  pub none_at : (keys : List ℕ) (entries : List (Option (Entry T))) (birth k : ℕ) → birth < length keys → k ≡ get_or keys birth 0 → None ≡ get_or entries k None → None ≡ get_or (slots 0 keys entries) birth None
+  none_at keys entries birth k less e h = rw (slot_is keys entries birth less, ← e, ← h) refl
+
   pub some_at : (keys : List ℕ) (entries : List (Option (Entry T))) (birth k : ℕ) (x : Entry T) → birth < length keys → k ≡ get_or keys birth 0 → Some x ≡ get_or entries k None → x.birth ≡ birth → Some x.body ≡ get_or (slots 0 keys entries) birth None
   some_at keys entries birth k x less e h own = let q : nat_eq x.birth birth ≡ true = grind (arith, nat_tests) in rw (slot_is keys entries birth less, ← e, ← h) (rw q refl)
 
-  pub inside_of : (entries : List (Option (Entry T))) (k : ℕ) (e : Entry T) → get_or entries k None ≡ Some e → k < length entries
+  pub none_other : (keys : List ℕ) (entries : List (Option (Entry T))) (birth k : ℕ) (x : Entry T) → birth < length keys → k ≡ get_or keys birth 0 → Some x ≡ get_or entries k None → x.birth ≢ birth → None ≡ get_or (slots 0 keys entries) birth None
+  none_other keys entries birth k x less e h other = let q : nat_eq x.birth birth ≡ false = grind (arith, nat_tests) in rw (slot_is keys entries birth less, ← e, ← h) (rw q refl)
+
+  inside_of : (entries : List (Option (Entry T))) (k : ℕ) (e : Entry T) → get_or entries k None ≡ Some e → k < length entries
   inside_of [] k e h = cc
   inside_of (x ∷ xs) zero e h = omega arith
   inside_of (x ∷ xs) (suc k) e h = let i = inside_of xs k e h in omega (arith, i)
 
   -- a vacant key gets the entry of the next birth
-  same_entries : (b : ℕ) (keys : List ℕ) (old new : List (Option (Entry T))) (k : ℕ) (e : Entry T) → b + length keys ≤ e.birth → get_or old k None ≡ None → get_or new k None ≡ Some e → ((j : ℕ) → j ≢ k → get_or new j None ≡ get_or old j None) → slots b keys new ≡ slots b keys old
-  same_entries b [] old new k e le was is others = refl
-  same_entries b (j ∷ keys) old new k e le was is others = by (nat_eq j k) refl (same_entries (suc b) keys old new k e (omega arith) was is others)
+  same_entries : (b n : ℕ) (keys : List ℕ) (old new : List (Option (Entry T))) (k : ℕ) (x : T) → b + length keys ≤ n → get_or old k None ≡ None → get_or new k None ≡ Some (record { birth = n; body = x }) → ((j : ℕ) → j ≢ k → get_or new j None ≡ get_or old j None) → slots b keys new ≡ slots b keys old
+  same_entries b n [] old new k x le was is others = refl
+  same_entries b n (j ∷ keys) old new k x le was is others = by (nat_eq j k) refl (same_entries (suc b) n keys old new k x (omega arith) was is others)
     where
       by : (t : Bool) → nat_eq j k ≡ t → slots (suc b) keys new ≡ slots (suc b) keys old → slots b (j ∷ keys) new ≡ slots b (j ∷ keys) old
       by true q rest =
           let s : j ≡ k = grind (arith, nat_tests) in
-          let ne : b ≢ e.birth = omega (arith, le) in
-          rw (s, is, was, body_other b e ne, rest) refl
+          rw (s, is, was, body_other b n x (omega arith), rest) refl
       by false q rest = let s : j ≢ k = grind (arith, nat_tests) in rw (others j s, rest) refl
 
-  pub more_keys : (b : ℕ) (keys : List ℕ) (entries : List (Option (Entry T))) (k : ℕ) → slots b (keys ++ k ∷ []) entries ≡ slots b keys entries ++ body_of (b + length keys) (get_or entries k None) ∷ []
+  more_keys : (b : ℕ) (keys : List ℕ) (entries : List (Option (Entry T))) (k : ℕ) → slots b (keys ++ k ∷ []) entries ≡ slots b keys entries ++ body_of (b + length keys) (get_or entries k None) ∷ []
   more_keys b [] entries k = let e : b + 0 ≡ b = omega arith in rw e refl
   more_keys b (j ∷ keys) entries k =
       let e : b + suc (length keys) ≡ suc b + length keys = omega arith in
       rw e (ap (λ l. body_of b (get_or entries j None) ∷ l) (more_keys (suc b) keys entries k))
 
-  pub born : (keys : List ℕ) (old new : List (Option (Entry T))) (k : ℕ) (e : Entry T) → get_or old k None ≡ None → get_or new k None ≡ Some e → e.birth ≡ length keys → ((j : ℕ) → j ≢ k → get_or new j None ≡ get_or old j None) → slots 0 (keys ++ k ∷ []) new ≡ slots 0 keys old ++ Some e.body ∷ []
-  born keys old new k e was is own others =
-      let l : 0 + length keys ≡ length keys = omega arith in
-      let le : 0 + length keys ≤ e.birth = omega (arith, own) in
-      rw (more_keys 0 keys new k, l, same_entries 0 keys old new k e le was is others, is, body_own (length keys) e own) refl
+  pub born : (keys : List ℕ) (old new : List (Option (Entry T))) (k : ℕ) (x : T) → get_or old k None ≡ None → get_or new k None ≡ Some (record { birth = length keys; body = x }) → ((j : ℕ) → j ≢ k → get_or new j None ≡ get_or old j None) → slots 0 (keys ++ k ∷ []) new ≡ slots 0 keys old ++ Some x ∷ []
+  born keys old new k x was is others =
+      let e : 0 + length keys ≡ length keys = omega arith in
+      rw (more_keys 0 keys new k, e, same_entries 0 (length keys) keys old new k x (omega arith) was is others, is, body_own (length keys) x) refl
+
+  -- a birth without a record
+  pub skipped : (keys : List ℕ) (entries : List (Option (Entry T))) (k : ℕ) → get_or entries k None ≡ None → slots 0 (keys ++ k ∷ []) entries ≡ slots 0 keys entries ++ None ∷ []
+  skipped keys entries k was = let more = more_keys 0 keys entries k in rw was at more
 
   -- if a birth has a record, its key leads to an entry with that birth
   pub key_is : (keys : List ℕ) (entries : List (Option (Entry T))) (birth key : ℕ) → key_at (slots 0 keys entries) keys birth ≡ Some key → (e : Entry T) × (get_or entries key None ≡ Some e) × (e.birth ≡ birth) × (birth < length keys)
@@ -152,14 +162,6 @@ module _ {T : Type 0} where
           let k : get_or keys birth 0 ≡ key = cc in
           (s.entry, rw k at s.is, s.own, s.less)
 
-  -- a birth without a key has no record
-  pub none_of_key : (keys : List ℕ) (entries : List (Option (Entry T))) (birth : ℕ) → None ≡ key_at (slots 0 keys entries) keys birth → None ≡ get_or (slots 0 keys entries) birth None
-  none_of_key keys entries birth h = by (get_or (slots 0 keys entries) birth None) refl
-    where
-      by : (o : Option T) → get_or (slots 0 keys entries) birth None ≡ o → None ≡ get_or (slots 0 keys entries) birth None
-      by None q = sym q
-      by (Some x) q = let no : None ≡ Some (get_or keys birth 0) = rw q at h in cc
-
   -- a birth without a record has no key
   pub key_none : (keys : List ℕ) (entries : List (Option (Entry T))) (birth : ℕ) → None ≡ get_or (slots 0 keys entries) birth None → None ≡ key_at (slots 0 keys entries) keys birth
   key_none keys entries birth h = rw (← h) refl
@@ -170,29 +172,16 @@ module _ {T : Type 0} where
   pub is_born : (keys : List ℕ) (entries : List (Option (Entry T))) (birth : ℕ) (x : T) → Some x ≡ get_or (slots 0 keys entries) birth None → birth < length keys
   is_born keys entries birth x h = (stands keys entries birth (λ n. let no : Some x ≡ None = h ∙ n in cc)).less
 
-  -- the key of a birth with a record
-  pub key_here : (keys : List ℕ) (entries : List (Option (Entry T))) (birth : ℕ) → Stands keys entries birth → key_at (slots 0 keys entries) keys birth ≡ Some (get_or keys birth 0)
-  key_here keys entries birth s = rw s.body refl
-
   -- the body of a record is replaced
-  pub lent : (keys : List ℕ) (entries : List (Option (Entry T))) (birth : ℕ) (w : T) (room : ℕ) (s : Stands keys entries birth) → ◌≡◌ {A = Holes T} (record { slots = slots 0 keys (set entries (get_or keys birth 0) (Some (record s.entry { body = w }))); keys = keys; room = room }) (record { slots = set (slots 0 keys entries) birth (Some w); keys = keys; room = room })
+  pub lent : (keys : List ℕ) (entries : List (Option (Entry T))) (birth : ℕ) (w : T) (room : ℕ) (s : Stands keys entries birth) → ◌≡◌ {A = Holes T} (record { slots = slots 0 keys (set entries (get_or keys birth 0) (Some (record { birth = s.entry.birth; body = w }))); keys = keys; room = room }) (record { slots = set (slots 0 keys entries) birth (Some w); keys = keys; room = room })
   lent keys entries birth w room s =
       let k : ℕ = get_or keys birth 0 in
       let less : k < length entries = inside_of entries k s.entry s.is in
-      let y : Entry T = record s.entry { body = w } in
-      let here = get_or-set_same entries k (Some y) None less in
+      let here = get_or-set_same entries k (Some (record { birth = s.entry.birth; body = w })) None less in
       ap (λ (l : List (Option T)). record { slots = l; keys = keys; room = room })
-      (rewritten keys entries (set entries k (Some y)) birth s.entry y s.less s.is s.own here s.own (λ j ne. get_or-set_other entries k j (Some y) None ne))
+      (rewritten keys entries _ birth s.entry w s.less s.is s.own (here ∙ (rw s.own refl)) (λ j ne. get_or-set_other entries k j _ None ne))
 
--- a birth with a record has a key
-pub has_key : {X : Type 0} → (slots : List (Option X)) (keys : List ℕ) (birth : ℕ) → get_or slots birth None ≢ None → IsSome (key_at slots keys birth)
-has_key {X = X} slots keys birth h = by (get_or slots birth None) refl
-  where
-    by : (o : Option X) → get_or slots birth None ≡ o → IsSome (key_at slots keys birth)
-    by None q = absurd (h q)
-    by (Some x) q = rw q refl
-
-pub some_same : {X : Type 0} → (a b : X) → Some a ≡ Some b → a ≡ b
+some_same : {X : Type 0} → (a b : X) → Some a ≡ Some b → a ≡ b
 some_same a b e = cc
 
 -- what a `&` to a record has

@@ -7,18 +7,14 @@ ghost use Rattle.std.specs.Borrow.{sem};
 ghost use Rattle.sts_records.specs.Holes.{key_at};
 ghost use Rattle.sts_records.specs.Lends.{lends_slot};
 
-use crate::given::Given;
-use crate::lists::{count_for, empty, find, take_out};
 use slab::Slab;
 use std::alloc::{AllocError, Global};
 use std::marker::Model;
 
 /// A record with its birth.
 #[derive(Drop)]
-pub(crate) struct Entry<T> {
-    pub(crate) birth: usize,
-    /// The key of the next earlier record on the same list.
-    pub(crate) earlier: Option<usize>,
+struct Entry<T> {
+    birth: usize,
     body: T,
 }
 
@@ -28,18 +24,14 @@ pub(crate) struct Entry<T> {
 /// later record may be given its key.
 #[derive(Drop)]
 pub struct Held<T> {
-    /// The key of the latest record of each list. Births whose low bits agree share a list.
-    lists: Vec<Option<usize>>,
-    /// The low bits of a birth that name its list.
-    mask: usize,
+    /// The key that each birth was given.
+    keys: Vec<usize>,
     entries: Slab<Entry<T>>,
-    given: Given,
-    born: usize,
     room: u32,
 }
 
 impl<T> Model for Held<T> {
-    ghost use Rattle.std.specs.Prelude.{◌+◌, ◌<◌, ◌^◌};
+    ghost use Rattle.std.specs.Prelude.{◌≤◌, ◌+◌, ◌<◌, ◌^◌, length, vec_capacity};
     ghost use Rattle.slab.specs.Slab.{HasRoomFor, slab_len};
     ghost use Rattle.sts_records.specs.Holes.{Holes, holes_code};
 
@@ -47,21 +39,21 @@ impl<T> Model for Held<T> {
 
     ghost coded = { holes_code T.code };
 
-    ghost use Rattle.sts_records.specs.Linked.{IsHeld};
     ghost use Rattle.sts_records.specs.Slots.{slots};
 
     ghost view = { λ h. record {
-      slots = slots 0 h.given h.entries.slots;
-      keys = h.given;
+      slots = slots 0 h.keys.items h.entries.slots;
+      keys = h.keys.items;
       room = h.room;
     } };
 
     ghost invariant = { λ h. HasRoomFor h.entries h.room × (slab_len h.entries + h.room < 2 ^ 32)
-        × IsHeld h.mask h.lists.items h.given h.entries.slots h.born };
+        × (1000000 ≤ vec_capacity h.keys) × (length h.keys.items ≤ 1000000) };
 }
 
 impl<T: Drop> Held<T> {
-    /// No records, and room for `room` records at once. No other call takes memory.
+    /// No records, room for `room` records at once, and for 1,000,000 births. No other call takes
+    /// memory.
     ///
     /// # Errors
     ///
@@ -71,14 +63,10 @@ impl<T: Drop> Held<T> {
     {
         let mut entries = Slab::new(alloc);
         entries.reserve(room as usize)?;
-        let lists = empty(alloc, count_for(room))?;
-        let mask = lists.len() - 1;
+        let keys = Vec::with_capacity(alloc, 1000000)?;
         Ok(Held {
-            lists,
-            mask,
+            keys,
             entries,
-            given: Given::none(),
-            born: 0,
             room,
         })
     }
@@ -88,7 +76,7 @@ impl<T: Drop> Held<T> {
         ensures value { result ≡ length self.now.slots }
         ensures few { result ≤ 1000000 }
     {
-        self.born
+        self.keys.len()
     }
 
     /// How many more fit.
@@ -102,9 +90,18 @@ impl<T: Drop> Held<T> {
     pub fn get(&self, birth: usize) -> Option<&T>
         ensures { option_copied result ≡ slice_index_or self.now.slots birth None }
     {
-        match self.key_of(birth) {
+        match self.keys.get(birth) {
             None => None,
-            Some(key) => Some(&self.entries[key].body),
+            Some(key) => match self.entries.get(*key) {
+                None => None,
+                Some(entry) => {
+                    if entry.birth == birth {
+                        Some(&entry.body)
+                    } else {
+                        None
+                    }
+                }
+            },
         }
     }
 
@@ -114,26 +111,18 @@ impl<T: Drop> Held<T> {
         ensures* writes_back { sem 𝓛 (lends_slot T.row self.entry birth result) }
         ensures value { slice_index_or self.old.slots birth None ≡ Some result.now }
     {
-        let key = self.key_of(birth).unwrap();
+        let key = self.keys[birth];
         let entry = self.entries.get_mut(key).unwrap();
         &mut entry.body
     }
 
     /// The key of the record of a birth, if it exists.
-    #[inline(always)]
     pub fn key_of(&self, birth: usize) -> Option<usize>
         ensures { result ≡ key_at self.now.slots self.now.keys birth }
     {
-        match self.lists[birth & self.mask] {
+        match self.get(birth) {
             None => None,
-            Some(key) => {
-                let entry = &self.entries[key];
-                if entry.birth == birth {
-                    Some(key)
-                } else {
-                    find(&self.entries, entry.earlier, birth)
-                }
-            }
+            Some(_) => Some(self.keys[birth]),
         }
     }
 
@@ -155,17 +144,9 @@ impl<T: Drop> Held<T> {
         ensures keys { (key : ℕ) × (self.new.keys ≡ self.old.keys ++ key ∷ []) }
         ensures room { self.new.room ≡ self.old.room - 1 }
     {
-        let birth = self.born;
-        let list = birth & self.mask;
-        let earlier = self.lists[list];
-        let key = self.entries.insert_reserved(Entry {
-            birth,
-            earlier,
-            body,
-        });
-        self.lists[list] = Some(key);
-        self.given.push(key);
-        self.born += 1;
+        let birth = self.keys.len();
+        let key = self.entries.insert_reserved(Entry { birth, body });
+        self.keys.push_reserved(key);
         self.room -= 1;
         birth
     }
@@ -179,9 +160,9 @@ impl<T: Drop> Held<T> {
         ensures keys { (key : ℕ) × (self.new.keys ≡ self.old.keys ++ key ∷ []) }
         ensures room { self.new.room ≡ self.old.room }
     {
-        let birth = self.born;
-        self.given.push(0);
-        self.born += 1;
+        let birth = self.keys.len();
+        // This key has no record now. A record that gets it has a later birth.
+        self.keys.push_reserved(self.entries.vacant_key());
         birth
     }
 
@@ -193,9 +174,8 @@ impl<T: Drop> Held<T> {
         ensures keys { self.new.keys ≡ self.old.keys }
         ensures room { self.new.room ≡ self.old.room + 1 }
     {
-        let key = self.key_of(birth).unwrap();
-        let list = birth & self.mask;
-        let entry = take_out(&mut self.lists, &mut self.entries, list, key);
+        let key = self.keys[birth];
+        let entry = self.entries.remove(key);
         self.room += 1;
         entry.body
     }

@@ -1,12 +1,10 @@
 //! Records by birth under recycled keys.
 //!
-//! Births rise by one and are never used twice; the memory of a record is. Each record knows its
-//! birth, and records whose births have the same low bits share a list. So memory follows the
-//! records that there are, and not the births so far.
+//! Births rise by one and are never used twice; the memory of a record is. So a table leads from
+//! each birth to a key, and a record knows its birth. A key that belongs to a later record by now
+//! leads nowhere.
 #![tactic(auto)]
 
-mod given;
 mod held;
-mod lists;
 
 pub use held::Held;

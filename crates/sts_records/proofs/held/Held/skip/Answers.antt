@@ -1,20 +1,27 @@
-use Rattle.std.proofs.Common.{sym, ◌∙◌, arith}
-use Rattle.sts_records.proofs.Slots.{length-slots}
-use Rattle.sts_records.proofs.Linking.{holds_passed, skipped}
+use Rattle.std.proofs.Common.{◌∷◌, [], sym, ◌∙◌, arith, length-append}
+use Rattle.sts_records.proofs.Slots.{length-slots, skipped}
 use Rattle.sts_records.proofs.held.Held.skip.Goals as goal
 
-pub overflow_add-self : goal.overflow_add-self
-overflow_add-self g c = let h = c.self.invariant.2 in let few = h.few in let is = h.born in omega (arith, few, is)
+pub push_reserved-requires : goal.push_reserved-requires
+push_reserved-requires g c =
+    let few = rw (← c.self.view_is) at c.requires in
+    let n = length-slots 0 c.self.inside.keys.items c.self.inside.entries.slots in
+    let ok = c.self.inside.keys.ok.0 in
+    omega (arith, c.self.invariant)
 
 pub invariant_of-self : goal.invariant_of-self
 invariant_of-self g c =
+    let few = rw (← c.self.view_is) at c.requires in
+    let n = length-slots 0 c.self.inside.keys.items c.self.inside.entries.slots in
     let i = c.self.invariant in
-    let few = rw (← c.self.view_is, length-slots) at c.requires in
-    (i.0, i.1, rw c.push.ensures (holds_passed c.self.inside.mask c.self.inside.lists.items c.self.inside.given c.self.inside.entries.slots c.self.inside.born 0 i.2 few))
+    let more = c.push_reserved.ensures.items in
+    let long = length-append c.self.inside.keys.items (c.vacant_key.result ∷ []) in
+    let capacity = c.push_reserved.ensures.capacity in
+    (i.0, i.1, omega arith, (rw more (omega arith)))
 
 pub returns-clause-birth : goal.returns-clause-birth
-returns-clause-birth g c = rw (← c.self.view_is) (c.self.invariant.2.born ∙ sym (length-slots 0 c.self.inside.given c.self.inside.entries.slots))
+returns-clause-birth g c = rw (← c.self.view_is) (c.len-birth.ensures ∙ c.self.inside.keys.ok.0 ∙ sym (length-slots 0 c.self.inside.keys.items c.self.inside.entries.slots))
 
 pub returns-clause-slots : goal.returns-clause-slots
 returns-clause-slots g c =
-    rw (← c.self.view_is, c.push.ensures) (skipped c.self.inside.mask c.self.inside.lists.items c.self.inside.given c.self.inside.entries.slots 0 c.self.invariant.2.linked)
+    rw (← c.self.view_is, c.push_reserved.ensures.items) (skipped c.self.inside.keys.items c.self.inside.entries.slots c.vacant_key.result c.vacant_key.ensures.vacant)
