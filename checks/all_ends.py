@@ -5,6 +5,9 @@ The search is exhaustive over the machine of plain_machine.py. Local instruction
 no other task, and no other task sees it. It prints each end of the root task or fault, and below them how many states it
 saw. The status is 5 if it stopped before it had seen all.
 
+With `--names`, states that differ only by the birth numbers of tasks and scopes count as one: a task is then known by the
+place of its `fork` in its scope, and a scope by the place of its `open` in its owner. A fault may then name another task.
+
 `--fine` gives the end of a subtask the steps that it has in JDK 25: it looks whether its scope is cancelled and sets its
 state, tells the joiner, marks the scope, interrupts its siblings in turn, and ends. A `join` that finds both a
 result and the flag of its owner may then have either outcome.
@@ -103,6 +106,41 @@ class FineMachine(plain_machine.Machine):
         return task.flag and it is not None and it.op == "join" and not self.misuse(task)
 
 
+class NamedMachine(plain_machine.Machine):
+    """A machine whose key has tasks and scopes in the order of a walk from the root, instead of their birth numbers."""
+
+    def names(self):
+        """Returns the numbers of the tasks in the order of the walk, and those of the scopes."""
+        tasks, scopes, owned = [0], [], {}
+        for number, scope in enumerate(self.scopes):
+            owned.setdefault(scope.owner, []).append(number)
+        for task in tasks:
+            for number in owned.get(task, []):
+                scopes.append(number)
+                tasks += self.scopes[number].subtasks
+        return tasks, scopes
+
+    def renamed(self, tasks, scopes):
+        """Returns this machine with the tasks and scopes in this order."""
+        task = {old: new for new, old in enumerate(tasks)}
+        scope = {None: None, **{old: new for new, old in enumerate(scopes)}}
+        it = self.copy()
+        it.tasks, it.scopes = [it.tasks[old] for old in tasks], [it.scopes[old] for old in scopes]
+        for one in it.tasks:
+            one.scope = scope[one.scope]
+            one.entries = [(word, scope[rest[0]]) if word == "scope" else (word, *rest) for word, *rest in one.entries]
+            one.slots = [held and (held[0], task[held[1]] if held[0] == "sub" else scope[held[1]]) for held in one.slots]
+        for one in it.scopes:
+            one.owner, one.subtasks = task[one.owner], [task[old] for old in one.subtasks]
+            one.told = [(task[old], *end) for old, *end in one.told]
+        if it.fault:
+            it.fault = (it.fault[0], task[it.fault[1]], it.fault[2])
+        return it
+
+    def key(self):
+        return plain_machine.Machine.key(self.renamed(*self.names()))
+
+
 def ready(machine):
     return [number for number, task in enumerate(machine.tasks) if machine.can_step(task)]
 
@@ -169,10 +207,11 @@ def main():
     reads.add_argument("--interrupts", type=int, default=0, help="the most interrupts from outside (0)")
     reads.add_argument("--most", type=int, default=1_000_000, help="the states after which it stops (1000000)")
     reads.add_argument("--fine", action="store_true", help="the end of a subtask has the steps that it has in JDK 25")
+    reads.add_argument("--names", action="store_true", help="states that differ only by birth numbers count as one")
     asked = reads.parse_args()
     with open(asked.file) as file:
         program = stack_code.program(file.read())
-    machine = FineMachine if asked.fine else plain_machine.Machine
+    machine = FineMachine if asked.fine else NamedMachine if asked.names else plain_machine.Machine
     found, states, are_all = ends(program, machine, asked.expiries, asked.interrupts, asked.most)
     print("".join(f"{it}\n" for it in sorted(found)), end="")
     print(f"{states} states, all schedules" if are_all else f"stopped at {states} states, not all schedules")
