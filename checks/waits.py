@@ -3,7 +3,7 @@
 
 The rule that it searches is that of `crates/sts_pool/src/waits.rt`. The root forks three subtasks and waits for them; each
 subtask has two units of work. A move is what one worker does under one hold of the lock. Every choice is tried: how many
-turns a hold does, which task is claimed, whether a slice was worth it, whom a wake-up reaches, and wake-ups for no reason.
+turns a hold does, which task is claimed, whether a slice was long, whom a wake-up reaches, and wake-ups for no reason.
 A second search stops the run after any move, as a refused start does, and wakes nobody for it.
 
 There are three kinds of bad states. Every worker sleeps or has ended, and one of them sleeps. Or several workers are needed
@@ -30,9 +30,10 @@ FAULTS = {
 }
 
 # A book: (subtasks forked, whether the root waits, whether the run has ended, units left of each subtask, tasks that are
-# claimed or out). The numbers of `Waits`: (awake, tries). A worker: `L` goes to the lock, `G` claimed a task and passes
-# the gate, `O` is out with a slice, `S` sleeps, `W` was woken and comes to the lock, `D` has decided to sleep with no lock
-# (a fault), `E` has ended. A state: (book, numbers, workers, whether the run may still be stopped).
+# claimed or out). The numbers of `Waits`: (awake, tries). A worker: `F` comes to the lock for the first time, `L` goes to
+# the lock, `G` claimed a task and passes the gate, `O` is out with a slice, `S` sleeps, `W` was woken and comes to the
+# lock, `D` has decided to sleep with no lock (a fault), `E` has ended. A state: (book, numbers, workers, whether the run may
+# still be stopped).
 
 
 def can_step(book, task):
@@ -104,6 +105,9 @@ class Rule:
     def rises(self, numbers):
         return (numbers[0] + (self.fault != "counts"), numbers[1])
 
+    def leaves(self, numbers):
+        return numbers[1] == 0 and (numbers[0] > 1 or self.fault == "leaves")
+
     def find(self, book, numbers, workers, i):
         """Yields what comes of a worker that looks for a task under the lock."""
         awake, tries = numbers
@@ -111,7 +115,7 @@ class Rule:
             yield book, numbers, put(workers if self.fault == "end" else all_woken(workers), i, ("E",))
             return
         left = free(book)
-        if not left or (tries == 0 and (awake > 1 or self.fault == "leaves")):
+        if not left or self.leaves(numbers):
             if self.fault == "late":
                 yield book, numbers, put(workers, i, ("D",))
             else:
@@ -125,8 +129,8 @@ class Rule:
                 yield claimed, fewer, put(others, i, ("G", task))
 
     def slices(self, book, numbers, workers, i):
-        """Yields the next states of a worker that takes a slice, or finds none and looks for a task."""
-        left = free(book)
+        """Yields the next states of a worker that takes a slice, or leaves that to another or finds none, and looks for a task."""
+        left = [] if self.leaves(numbers) else free(book)
         for task in left:
             lent, fewer = with_out(book, task), (numbers[0] - 1, numbers[1])
             for others in self.wakes(lent, fewer, workers, "lends"):
@@ -142,7 +146,9 @@ class Rule:
     def of_worker(self, book, numbers, workers, i):
         """Yields what comes of the next hold of a worker."""
         at, *task = workers[i]
-        if at == "L":
+        if at == "F":
+            yield from self.find(book, (numbers[0], TRIES), workers, i)
+        elif at == "L":
             yield from self.find(book, numbers, workers, i)
         elif at == "W":
             yield from self.find(book, self.rises(numbers), workers, i)
@@ -153,10 +159,11 @@ class Rule:
         elif at == "G":
             yield from self.after(without(book, *task), numbers, workers, i, *task)
         elif at == "O":
+            long = TRIES if free(book) else numbers[1]
             back = without(book, *task)
             done = [turn(back, *task)] if task != [ROOT] and can_step(back, *task) else []
             for book in [back, *done]:
-                for tries in {numbers[1], TRIES}:
+                for tries in {max(0, numbers[1] - 1), long}:
                     yield from self.after(book, (numbers[0] + 1, tries), workers, i, *task)
 
     def moves(self, state):
@@ -174,13 +181,13 @@ def is_bad(state):
     places = {it[0] for it in workers}
     if "S" not in places:
         return False
-    is_idle = not places & {"L", "W", "G", "D"}
+    is_idle = not places & {"F", "L", "W", "G", "D"}
     return places <= {"S", "E"} or (is_idle and numbers[1] > 0 and bool(free(book)))
 
 
 def search(rule, kids, may_stop):
     """Returns how many states there are, and a bad one if there is one."""
-    first = ((0, False, False, (UNITS,) * kids, frozenset()), (WORKERS, TRIES), (("L",),) * WORKERS, may_stop)
+    first = ((0, False, False, (UNITS,) * kids, frozenset()), (WORKERS, TRIES), (("F",),) * WORKERS, may_stop)
     before, todo = {first: []}, [first]
     while todo:
         state = todo.pop()

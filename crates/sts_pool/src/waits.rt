@@ -26,14 +26,14 @@
 //! `checks/waits.py` searches every schedule of three workers for a state that contradicts this.
 
 /// A slice with at least this many instructions was long enough to justify waking another worker.
-const WORTH: u32 = 512;
+const WORTH: u32 = 256;
 
-/// Several workers may claim tasks until this many were claimed. After that only one does, until a
-/// slice is long enough.
+/// Several workers may work until this many tasks were claimed or short slices came back. After
+/// that only one does, until a slice was long enough and another task was left meanwhile.
 const TRIES: u32 = 64;
 
-/// How many workers are awake with no slice out, and how many tasks may still be claimed by several
-/// at once.
+/// How many workers are awake with no slice out, and how many claims and short slices are left to
+/// several workers at once.
 #[derive(Clone, Copy, Drop)]
 pub(crate) struct Waits {
     awake: u32,
@@ -55,11 +55,15 @@ impl Waits {
         self.tries == 0 && self.awake > 1
     }
 
-    /// May several workers claim tasks? If so, a worker that claims a task or takes a slice wakes
-    /// another if a task is left. A worker that finds none looks again for a while before it
-    /// sleeps.
+    /// May several workers work? If so, a worker that claims a task or takes a slice wakes another
+    /// if a task is left. A worker that finds none looks again for a while before it sleeps.
     pub(crate) fn wants_several(&self) -> bool {
         self.tries > 0
+    }
+
+    /// A worker has reached the lock for the first time.
+    pub(crate) fn comes(&mut self) {
+        self.tries = TRIES;
     }
 
     /// A worker claimed a task.
@@ -72,10 +76,13 @@ impl Waits {
         self.awake = self.awake.saturating_sub(1);
     }
 
-    /// A worker is back with a slice in which it did `done` instructions.
-    pub(crate) fn back(&mut self, done: u32) {
+    /// A worker is back with a slice in which it did `done` instructions. Another task that could
+    /// step was not out meanwhile, if `was_left`.
+    pub(crate) fn back(&mut self, done: u32, was_left: bool) {
         self.awake = self.awake.saturating_add(1);
-        if done >= WORTH {
+        if !is_worth(done) {
+            self.tries = self.tries.saturating_sub(1);
+        } else if was_left {
             self.tries = TRIES;
         }
     }
@@ -89,21 +96,45 @@ impl Waits {
     pub(crate) fn rises(&mut self) {
         self.awake = self.awake.saturating_add(1);
     }
+
+    /// The limit for the local instructions of the next slice. It is lower while one worker is
+    /// enough, so that a long slice soon brings another.
+    pub(crate) fn at_once(&self) -> u32 {
+        if self.wants_several() {
+            AT_ONCE
+        } else {
+            AT_ONCE_ALONE
+        }
+    }
+}
+
+/// Was a slice of `done` instructions long enough to justify waking another worker?
+pub(crate) fn is_worth(done: u32) -> bool {
+    done >= WORTH
 }
 
 /// The number of turns in a row before a slice is tried again. The last slice did `done`
-/// instructions, and `before` turns came before it. The number grows while slices are too short. It
-/// has a bound, since the lock is held during the turns.
+/// instructions, and `before` turns came before it. The number grows while slices are too short to
+/// pay for the copies of a frame. It has a bound, since the lock is held during the turns.
 pub(crate) fn turns_after(done: u32, before: u32) -> u32 {
     match done {
-        AT_ONCE => 1,
-        WORTH.. => IN_A_ROW,
+        AT_ONCE | AT_ONCE_ALONE => 1,
+        PAYS.. => AFTER_LONG,
         _ => IN_A_ROW.max(before.saturating_mul(2)).min(IN_A_HOLD),
     }
 }
 
 /// The limit for the local instructions that a worker does with no lock held.
-pub(crate) const AT_ONCE: u32 = 65_536;
+const AT_ONCE: u32 = 65_536;
+
+/// The same limit while one worker is enough.
+const AT_ONCE_ALONE: u32 = 4_096;
+
+/// A slice of at least this many instructions takes less time than as many turns.
+const PAYS: u32 = 32;
+
+/// The number of turns after such a slice.
+const AFTER_LONG: u32 = 4;
 
 /// A task's slice is taken after this many steps in a row.
 pub(crate) const IN_A_ROW: u32 = 16;

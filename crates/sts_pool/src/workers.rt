@@ -11,7 +11,7 @@ use crate::asked::{Asked, Runs};
 use crate::book::Book;
 use crate::gate::{Gate, Outside};
 use crate::report::{Ending, PoolError, Report};
-use crate::waits::{AT_ONCE, IN_A_ROW, Waits, turns_after};
+use crate::waits::{IN_A_ROW, Waits, is_worth, turns_after};
 use std::alloc::Global;
 use std::hint::spin_loop;
 use std::marker::Brand;
@@ -25,8 +25,11 @@ use sts_verify::Verified;
 /// A worker looks this often for a task or the lock before it sleeps, as a wake-up costs more.
 const LOOKS: u32 = 64;
 
-/// How long it pauses between two looks.
-const PAUSE: u32 = 128;
+/// How long it pauses after its first look.
+const FIRST_PAUSE: u32 = 4;
+
+/// So often the next pause is twice as long as the one before. After that all are equally long.
+const DOUBLINGS: u32 = 5;
 
 /// The bytes of a worker's stack.
 pub(crate) const STACK: usize = 1 << 20;
@@ -98,8 +101,11 @@ impl<'p, O: Outside, B: Runs<O>> Shared<'p, O, B> {
         self.waits.wants_several() && self.asked.has_more()
     }
 
-    /// A slice to work on.
+    /// A slice to work on, unless the worker leaves the rest to another one.
     fn lend(&mut self) -> Option<Slice<'p>> {
+        if self.waits.leaves() {
+            return None;
+        }
         let slice = self.asked.check_out()?;
         self.waits.lends();
         Some(slice)
@@ -108,16 +114,17 @@ impl<'p, O: Outside, B: Runs<O>> Shared<'p, O, B> {
     /// Takes back a slice in which `done` instructions were done. A slice of another book stops the
     /// run; none ever comes.
     fn take_back(&mut self, slice: Slice<'p>, done: u32) {
-        self.waits.back(done);
+        let was_left = is_worth(done) && self.asked.has_more();
+        self.waits.back(done, was_left);
         if !self.asked.check_in(slice) {
             self.stop = true;
         }
     }
 }
 
-/// Lets some time pass, with no lock held.
-fn pause() {
-    for _ in 0..PAUSE {
+/// Lets some time pass after a look, with no lock held. The worker has paused `pauses` times before.
+fn pause(pauses: u32) {
+    for _ in 0..FIRST_PAUSE << pauses.min(DOUBLINGS) {
         spin_loop();
     }
 }
@@ -126,11 +133,11 @@ impl<'p, O: Outside, B: Runs<O>> Pool<'p, O, B> {
     /// Takes the lock. The worker sleeps until the lock is free only after it looked for a while
     /// and others had it each time.
     fn locked<R: Wait>(&self, rt: &R) -> MutexGuard<'_, Shared<'p, O, B>> {
-        for _ in 0..LOOKS {
+        for looks in 0..LOOKS {
             if let Some(guard) = self.shared.try_lock() {
                 return guard;
             }
-            pause();
+            pause(looks);
         }
         self.shared.lock(rt)
     }
@@ -145,7 +152,7 @@ impl<'p, O: Outside, B: Runs<O>> Pool<'p, O, B> {
     /// A task to work on, or `None` if the worker is to end. A worker sleeps only in this function.
     fn find<'b, R: Wait>(&'b self, rt: &R, guard: MutexGuard<'b, Shared<'p, O, B>>) -> Option<u32> {
         let mut guard = guard;
-        let mut looks = LOOKS;
+        let mut looks = 0;
         for _ in rt.forever() {
             match guard.look() {
                 Found::End => {
@@ -156,17 +163,17 @@ impl<'p, O: Outside, B: Runs<O>> Pool<'p, O, B> {
                     self.wake_another(&guard);
                     return Some(task);
                 }
-                Found::Nothing if looks > 0 => {
-                    looks -= 1;
+                Found::Nothing if looks < LOOKS => {
                     drop(guard);
-                    pause();
+                    pause(looks);
+                    looks += 1;
                     guard = self.locked(rt);
                 }
                 Found::Nothing | Found::Left => {
                     guard.waits.sleeps();
                     guard = self.woken.wait(rt, guard);
                     guard.waits.rises();
-                    looks = LOOKS;
+                    looks = 0;
                 }
             }
         }
@@ -200,10 +207,11 @@ impl<'p, O: Outside, B: Runs<O>> Pool<'p, O, B> {
                 break;
             };
             self.wake_another(&guard);
+            let most_local = guard.waits.at_once();
             drop(guard);
             let task = slice.task();
             gate.enter(worker, task);
-            let done = slice.run_local(AT_ONCE);
+            let done = slice.run_local(most_local);
             guard = self.locked(rt);
             guard.take_back(slice, done);
             most = turns_after(done, most);
@@ -226,6 +234,7 @@ impl<'p, O: Outside, B: Runs<O>> Pool<'p, O, B> {
     fn work<R: Wait, G: Gate>(&self, rt: &R, gate: &G, worker: u32) {
         let mut guard = self.locked(rt);
         guard.came = guard.came.saturating_add(1);
+        guard.waits.comes();
         let mut next = self.find(rt, guard);
         for _ in rt.forever() {
             let Some(task) = next else {
