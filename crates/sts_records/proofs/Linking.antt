@@ -8,7 +8,7 @@ use Rattle.sts_records.specs.Linked.{AreLinked, Finds, IsHeld, IsLinked, IsOn, L
 use Rattle.sts_records.specs.declared.held.Entry.{Entry}
 use Rattle.sts_records.specs.Holes.{key_at}
 use Rattle.sts_records.specs.Slots.{body_of, slots}
-use Rattle.sts_records.proofs.Slots.{body_other, inside_of, key_is, key_none, key_some, more_keys, some_at, stands}
+use Rattle.sts_records.proofs.Slots.{body_other, inside_of, key_is, key_some, more_keys, some_at, stands}
 use Rattle.sts_records.proofs.Leading.{AreApart, Gains, Loses, leads_to_new, left, more_leads, moved, next_leads, one_leads, past_leads, raised, same_leads}
 
 some_same : {A : Type 0} → (x y : A) → Some x ≡ Some y → x ≡ y
@@ -112,12 +112,6 @@ module _ {T : Type 0} (mask : ℕ) where
   its_key lists keys entries birth key e i is own =
       let w = i.own key birth (birth_is entries key e is ∙ ap Some own) in
       key_some keys entries birth key e.body (something lists keys entries birth key e i is own) (sym w.1)
-
-  pub key_found : (lists : List (Option ℕ)) (keys : List ℕ) (entries : List (Option (Entry T))) (birth : ℕ) → IsLinked mask lists keys entries → (o : Option ℕ) → (o ≡ None → (k : ℕ) → births entries k ≢ Some birth) → ((k : ℕ) → o ≡ Some k → births entries k ≡ Some birth) → o ≡ key_at (slots 0 keys entries) keys birth
-  key_found lists keys entries birth i None none some = key_none keys entries birth (nothing keys entries birth (none refl))
-  key_found lists keys entries birth i (Some k) none some =
-      let e = entry_is (get_or entries k None) birth (some k refl) in
-      its_key lists keys entries birth k e.0 i e.1 e.2
 
   pub of_key : (lists : List (Option ℕ)) (keys : List ℕ) (entries : List (Option (Entry T))) (birth key : ℕ) (e : Entry T) → IsLinked mask lists keys entries → Some key ≡ key_at (slots 0 keys entries) keys birth → get_or entries key None ≡ Some e → Some e.body ≡ get_or (slots 0 keys entries) birth None
   of_key lists keys entries birth key e i h is =

@@ -45,13 +45,6 @@ pub record Finds {T : Type 0} (entries : List (Option (Entry T))) (mask birth : 
   pub leads : Leads (births entries) mask (place mask birth) bound at
   pub below : (k : ℕ) → births entries k ≡ Some birth → birth < bound
 
--- the same, and the entries lead on
-pub record Seeks {T : Type 0} (entries : List (Option (Entry T))) (birth : ℕ) (at : Option ℕ)
-    : Type 0 where
-  pub mask : ℕ
-  pub linked : AreLinked mask entries
-  pub finds : Finds entries mask birth at
-
 -- a list leads to the entry at this key
 pub record LeadsTo {T : Type 0} (entries : List (Option (Entry T))) (first : Option ℕ) (key : ℕ)
     : Type 0 where

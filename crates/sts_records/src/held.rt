@@ -8,7 +8,7 @@ ghost use Rattle.sts_records.specs.Holes.{key_at};
 ghost use Rattle.sts_records.specs.Lends.{lends_slot};
 
 use crate::given::Given;
-use crate::lists::{count_for, empty, find, take_out};
+use crate::lists::{count_for, empty, take_out};
 use slab::Slab;
 use std::alloc::{AllocError, Global};
 use std::marker::Model;
@@ -124,17 +124,15 @@ impl<T: Drop> Held<T> {
     pub fn key_of(&self, birth: usize) -> Option<usize>
         ensures { result ≡ key_at self.now.slots self.now.keys birth }
     {
-        match self.lists[birth & self.mask] {
-            None => None,
-            Some(key) => {
-                let entry = &self.entries[key];
-                if entry.birth == birth {
-                    Some(key)
-                } else {
-                    find(&self.entries, entry.earlier, birth)
-                }
+        let mut at = self.lists[birth & self.mask];
+        while let Some(key) = at {
+            let entry = &self.entries[key];
+            if entry.birth == birth {
+                return Some(key);
             }
+            at = entry.earlier;
         }
+        None
     }
 
     /// The birth of the record at a key. It must exist.

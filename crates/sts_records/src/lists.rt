@@ -2,7 +2,7 @@
 
 ghost use Rattle.std.specs.Prelude.{◌≡◌, ◌≢◌, ◌+◌, ◌<◌, ℕ, List, Some, None, IfOk, length, replicate};
 ghost use Rattle.slab.specs.Slab.{get, slab_len};
-ghost use Rattle.sts_records.specs.Linked.{IsLinked, IsOn, LeadsTo, Seeks, births};
+ghost use Rattle.sts_records.specs.Linked.{IsLinked, IsOn, LeadsTo};
 ghost use Rattle.sts_records.specs.Slots.{body_of};
 ghost use Rattle.sts_records.specs.declared.held.Entry.{Entry as AnyEntry};
 
@@ -31,25 +31,6 @@ pub(crate) fn empty(alloc: Global, count: usize) -> Result<Vec<Option<usize>>, A
     let mut lists = Vec::new(alloc);
     lists.resize(count, None)?;
     Ok(lists)
-}
-
-/// The key of the record of a birth, or `None` if it isn't on the list that begins at `first`.
-#[cold]
-#[inline(never)]
-pub(crate) fn find<T>(entries: &Slab<Entry<T>>, first: Option<usize>, birth: usize) -> Option<usize>
-    requires { Seeks entries.now.slots birth first }
-    ensures none { result ≡ None → (k : ℕ) → births entries.now.slots k ≢ Some birth }
-    ensures some { (k : ℕ) → result ≡ Some k → births entries.now.slots k ≡ Some birth }
-{
-    let mut at = first;
-    while let Some(key) = at {
-        let entry = &entries[key];
-        if entry.birth == birth {
-            return Some(key);
-        }
-        at = entry.earlier;
-    }
-    None
 }
 
 /// The key of the record that leads to the one at `key`, on the list that begins at `first`, or
