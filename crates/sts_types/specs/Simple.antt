@@ -1,5 +1,10 @@
 -- Instructions that only pop and push, and go on to the next place (this project's own).
-use Rattle.std.specs.Prelude.{Bool, true, false}
+use Rattle.std.specs.Prelude.{Bool, true, false, ℕ, ◌≡◌, ◌+◌, ◌-◌, ◌≤◌, None}
+use Rattle.sts_code.specs.Facts.{pops, pushes}
+use Rattle.sts_code.specs.Program.{Program}
+use Rattle.sts_code.specs.declared.limits.TheConstants.{MAX_OPERANDS}
+use Rattle.sts_rules.specs.Causes.{least_cause}
+use Rattle.sts_rules.specs.TypeState.{TypeState}
 use Rattle.sts_code.specs.declared.instr.Instr.{Instr}
 use Rattle.sts_code.specs.declared.instr.Instr.TheVariants.{Push, Pop, Dup, Swap, Load, Store, Add}
 use Rattle.sts_code.specs.declared.instr.Instr.TheVariants.{Sub, Mul, Lt, Eq, Bound, OrElse}
@@ -21,3 +26,10 @@ is_simple (Bound k) = true
 is_simple (OrElse k) = true
 is_simple Interrupted = true
 is_simple _ = false
+
+-- the instruction only pops and pushes, no cause holds, and afterwards there are this many operands
+pub record IsShort (p : Program) (f pc : ℕ) (i : Instr) (s : TypeState) (n : ℕ) : Type 0 where
+  pub simple : is_simple i ≡ true
+  pub none : least_cause p f pc i s ≡ None
+  pub count : n ≡ s.height - pops p i + pushes i
+  pub few : n ≤ MAX_OPERANDS
