@@ -65,6 +65,14 @@ arrived kept shown marks table place before after m s is view lt reads same merg
       ),
     )
 
+pub within_marks : (kept : List TypeState) (marks : List (Arrival Mark)) (table : List (Arrival TypeState)) (place : ℕ) → map (arrival_of kept) marks ≡ table → place < length table → place < length marks
+within_marks kept marks table place view lt = omega (arith, lt, ap length view, length-map marks (arrival_of kept))
+
+-- what is read at a place after more was kept
+pub marked_there : (kept added now shown : List TypeState) (marks : List (Arrival Mark)) (place : ℕ) (before : Arrival Mark) → now ≡ kept ++ added → shown ≡ now → All (IsMarked (length kept)) marks → place < length marks → before ≡ get_or marks place before → IsMarked (length shown) before
+marked_there kept added now shown marks place before is same held lt reads =
+    subst (λ l. IsMarked (length l) before) (sym same) (subst (IsMarked (length now)) (sym reads) (mark_holds kept added now (get_or marks place before) is (held place before lt)))
+
 nothing_yet : (kept : List TypeState) (places : ℕ) → map (arrival_of kept) (replicate places Nothing) ≡ replicate places Nothing
 nothing_yet kept zero = refl
 nothing_yet kept (suc n) = ap (λ l. Nothing ∷ l) (nothing_yet kept n)
