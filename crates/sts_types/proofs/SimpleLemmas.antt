@@ -16,22 +16,22 @@ use Rattle.sts_rules.specs.Causes.{lacks_operands, overflows, join_overflows}
 use Rattle.sts_rules.specs.Edges.{follows, back_of, moved}
 use Rattle.sts_types.specs.declared.arrival.Arrival.{Arrival}
 use Rattle.sts_types.specs.Arrivals.{Arrive, at_height}
-use Rattle.sts_types.specs.Simple.{is_simple, IsShort}
+use Rattle.sts_types.specs.Simple.{is_simple, is_straight, IsShort}
 use Rattle.sts_types.proofs.Fitting.{one_of, after_leads, lead_missed}
 
 or_false : (b : Bool) → b || false ≡ b
 or_false true = refl
 or_false false = refl
 
-falls : (code : List Instr) (pc : ℕ) (i : Instr) → is_simple i ≡ true → falls_off code pc i ≡ leb (length code) (pc + 1)
+falls : (code : List Instr) (pc : ℕ) (i : Instr) → is_straight i ≡ true → falls_off code pc i ≡ leb (length code) (pc + 1)
 falls code pc (Push k) e = or_false (leb (length code) (pc + 1))
 falls code pc _ e = let same = or_false (leb (length code) (pc + 1)) in cc
 
-jumps : (pc : ℕ) (i : Instr) → is_simple i ≡ true → jumps_back pc i ≡ false
+jumps : (pc : ℕ) (i : Instr) → is_straight i ≡ true → jumps_back pc i ≡ false
 jumps pc (Push k) e = refl
 jumps pc _ e = cc
 
-mismatched : (code : List Instr) (pc : ℕ) (i : Instr) (s : TypeState) → is_simple i ≡ true → mismatches code pc i s ≡ is_other_loop code (heads s.loops) (pc + 1)
+mismatched : (code : List Instr) (pc : ℕ) (i : Instr) (s : TypeState) → is_straight i ≡ true → mismatches code pc i s ≡ is_other_loop code (heads s.loops) (pc + 1)
 mismatched code pc (Push k) s e = or_false (is_other_loop code (heads s.loops) (pc + 1))
 mismatched code pc _ s e = let same = or_false (is_other_loop code (heads s.loops) (pc + 1)) in cc
 
@@ -39,9 +39,13 @@ three : (x y z a b : Bool) (p q r : Cause) → x ≡ a → y ≡ false → z ≡
 three x y z a b p q r e f g = rw (e, f, g) refl
 
 -- it falls off, or the loops around the next place are others
-pub straight_lead : (code : List Instr) (pc : ℕ) (i : Instr) (s : TypeState) → is_simple i ≡ true → cond (leb (length code) (pc + 1)) (Some FallsOff) (cond (is_other_loop code (heads s.loops) (pc + 1)) (Some LoopMismatch) None) ≡ one_of (falls_off code pc i) (jumps_back pc i) (mismatches code pc i s) FallsOff BackJump LoopMismatch None
+pub straight_lead : (code : List Instr) (pc : ℕ) (i : Instr) (s : TypeState) → is_straight i ≡ true → cond (leb (length code) (pc + 1)) (Some FallsOff) (cond (is_other_loop code (heads s.loops) (pc + 1)) (Some LoopMismatch) None) ≡ one_of (falls_off code pc i) (jumps_back pc i) (mismatches code pc i s) FallsOff BackJump LoopMismatch None
 straight_lead code pc i s e =
     three (falls_off code pc i) (jumps_back pc i) (mismatches code pc i s) (leb (length code) (pc + 1)) (is_other_loop code (heads s.loops) (pc + 1)) FallsOff BackJump LoopMismatch (falls code pc i e) (jumps pc i e) (mismatched code pc i s e)
+
+simple_straight : (i : Instr) → is_simple i ≡ true → is_straight i ≡ true
+simple_straight (Push k) e = refl
+simple_straight _ e = cc
 
 -- no later cause holds
 pub none_later : (p : Program) (f pc : ℕ) (i : Instr) (s : TypeState) → is_simple i ≡ true → None ≡ after_leads p f pc i s
@@ -64,7 +68,7 @@ fits_in p i s n e count few = neither _ _ (le-ltb 32 (s.height - pops p i + push
 pub short : (p : Program) (f pc : ℕ) (i : Instr) (s : TypeState) (code : List Instr) (n : ℕ) → is_simple i ≡ true → code ≡ (routine p f).code → lacks_operands p i s ≡ false → n ≡ s.height - pops p i + pushes i → n ≤ 32 → None ≡ cond (leb (length code) (pc + 1)) (Some FallsOff) (cond (is_other_loop code (heads s.loops) (pc + 1)) (Some LoopMismatch) None) → IsShort p f pc i s n
 short p f pc i s code n e is some_operands count few none = record {
   simple = e;
-  none = sym (none_later p f pc i s e ∙ lead_missed p f pc i s code is some_operands (fits_in p i s n e count few) None (none ∙ straight_lead code pc i s e) refl);
+  none = sym (none_later p f pc i s e ∙ lead_missed p f pc i s code is some_operands (fits_in p i s n e count few) None (none ∙ straight_lead code pc i s (simple_straight i e)) refl);
   count = count;
   few = few;
 }

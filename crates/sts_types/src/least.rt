@@ -4,7 +4,7 @@ ghost use Rattle.std.specs.Prelude.{◌≡◌, ◌<◌, ◌+◌, length, option_
 ghost use Rattle.std.specs.Prelude.{None, nat_le, nat_lt, false, ◌-◌, ◌≤◌, IfSome};
 ghost use Rattle.sts_code.specs.Facts as facts;
 ghost use Rattle.sts_code.specs.Program.{routine};
-ghost use Rattle.sts_types.specs.Simple.{is_simple, IsShort};
+ghost use Rattle.sts_types.specs.Simple.{is_simple, is_straight, IsShort};
 ghost use Rattle.sts_types.specs.Site.{IsSite};
 ghost use Rattle.sts_rules.specs.Causes as def;
 ghost use Rattle.sts_rules.specs.TypeState.{heads};
@@ -40,6 +40,24 @@ fn is_simple(instr: Instr) -> bool
             | Instr::Bound(_)
             | Instr::OrElse(_)
             | Instr::Interrupted
+    )
+}
+
+/// Does the instruction only go on to the next place, and begin and end no loop?
+fn is_straight(instr: Instr) -> bool
+    ensures { result ≡ is_straight instr }
+{
+    !matches!(
+        instr,
+        Instr::Div(_)
+            | Instr::Jmp(_)
+            | Instr::Jz(_)
+            | Instr::Times(_)
+            | Instr::Next
+            | Instr::Join { .. }
+            | Instr::Case { .. }
+            | Instr::Ret
+            | Instr::Fail
     )
 }
 
@@ -114,7 +132,7 @@ fn lead_cause(site: &Site<'_>, state: &TypeState) -> Option<Cause>
         (if def.mismatches site.now.loops.now site.now.pc site.now.instr state.now
         then Some Cause.LoopMismatch else None))) }
 {
-    if is_simple(site.instr) {
+    if is_straight(site.instr) {
         return straight_cause(site.loops, site.pc, state);
     }
     let targets = targets(site.instr);
