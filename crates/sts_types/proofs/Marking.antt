@@ -65,6 +65,14 @@ arrived kept shown marks table place before after m s is view lt reads same merg
       ),
     )
 
+-- the last one is replaced
+pub set_last : {X : Type 0} (xs : List X) (a b : X) (ys : List X) (n : ℕ) → ys ≡ xs ++ a ∷ [] → n ≡ length xs → set ys n b ≡ xs ++ b ∷ []
+set_last {X = X} xs a b ys n is count = ap (λ l. set l n b) is ∙ ap (λ k. set (xs ++ a ∷ []) k b) count ∙ at xs
+  where
+    at : (l : List X) → set (l ++ a ∷ []) (length l) b ≡ l ++ b ∷ []
+    at [] = refl
+    at (x ∷ l) = ap (λ r. x ∷ r) (at l)
+
 pub within_marks : (kept : List TypeState) (marks : List (Arrival Mark)) (table : List (Arrival TypeState)) (place : ℕ) → map (arrival_of kept) marks ≡ table → place < length table → place < length marks
 within_marks kept marks table place view lt = omega (arith, lt, ap length view, length-map marks (arrival_of kept))
 

@@ -119,7 +119,9 @@ fn keep(
         return Ok(like);
     }
     let count = kept.len();
-    kept.push(state.copy())?;
+    // It is written where it is kept, so it isn't moved.
+    kept.push(TypeState::default())?;
+    kept[count].copy_from(state);
     Ok(count)
 }
 

@@ -50,7 +50,6 @@ impl Default for TypeState {
 
 impl TypeState {
     /// A copy, which takes no memory.
-    #[inline(always)]
     pub fn copy(&self) -> TypeState
         ensures { result ≡ self.now }
     {
