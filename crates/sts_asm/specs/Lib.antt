@@ -1,4 +1,5 @@
 pub mod Fault
+pub mod LineFault
 pub mod Marks
 pub mod Buckets
 pub mod Operand

@@ -5,6 +5,7 @@ ghost use Rattle.sts_asm.specs.declared.fault.AsmKind.TheVariants.{Memory};
 ghost use Rattle.sts_asm.specs.Fault.{kind_number, code_error, out_of_memory};
 
 use std::alloc::{AllocError, AllocFailed};
+use std::marker::Model;
 use sts_code::CodeError;
 use thiserror::Error;
 
@@ -71,19 +72,63 @@ pub struct AsmError {
     pub kind: AsmKind,
 }
 
-impl From<AllocError> for AsmKind {
-    ghost from_gives = { λ _ e. e ≡ Memory };
+/// The kinds of faults that a line can have.
+#[derive(Clone, Copy)]
+pub enum LineKind {
+    NotAscii,
+    UnknownWord,
+    BadNumber,
+    BadOperands,
+    UnknownLabel,
+    DuplicateLabel,
+    Unclosed,
+    Memory,
+}
 
-    fn from(_error: AllocError) -> AsmKind {
-        AsmKind::Memory
+/// What is wrong with a line, or that memory ran out, in one byte: contracts see an `AsmKind`.
+#[derive(Drop)]
+pub struct LineFault(pub(crate) LineKind);
+
+impl Model for LineFault {
+    ghost use Rattle.sts_asm.specs.declared.fault.AsmKind.{AsmKind};
+    ghost use Rattle.sts_asm.specs.LineFault.{kind_of};
+
+    ghost Value = { AsmKind };
+
+    ghost view = { λ f. kind_of f.0 };
+}
+
+impl LineFault {
+    /// The kind of the fault.
+    pub fn kind(self) -> AsmKind
+        ensures { result ≡ self }
+    {
+        match self.0 {
+            LineKind::NotAscii => AsmKind::NotAscii,
+            LineKind::UnknownWord => AsmKind::UnknownWord,
+            LineKind::BadNumber => AsmKind::BadNumber,
+            LineKind::BadOperands => AsmKind::BadOperands,
+            LineKind::UnknownLabel => AsmKind::UnknownLabel,
+            LineKind::DuplicateLabel => AsmKind::DuplicateLabel,
+            LineKind::Unclosed => AsmKind::Unclosed,
+            LineKind::Memory => AsmKind::Memory,
+        }
     }
 }
 
-impl<T: Drop> From<AllocFailed<T>> for AsmKind {
+impl From<AllocError> for LineFault {
     ghost from_gives = { λ _ e. e ≡ Memory };
 
-    fn from(_error: AllocFailed<T>) -> AsmKind {
-        AsmKind::Memory
+    fn from(_error: AllocError) -> LineFault {
+        LineFault(LineKind::Memory)
+    }
+}
+
+impl<T: Drop> From<AllocFailed<T>> for LineFault {
+    ghost from_gives = { λ _ e. e ≡ Memory };
+
+    fn from(_error: AllocFailed<T>) -> LineFault {
+        LineFault(LineKind::Memory)
     }
 }
 

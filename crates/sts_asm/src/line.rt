@@ -8,7 +8,7 @@ ghost use Rattle.sts_asm.specs.Operand.{looked_up};
 ghost use Rattle.sts_asm.specs.declared.mnemonic.Mnemonic.TheVariants.{WithNumber, WithSlot};
 ghost use Rattle.sts_asm.specs.declared.mnemonic.Mnemonic.TheVariants.{WithTarget, Push, Times};
 
-use crate::fault::AsmKind;
+use crate::fault::{LineFault, LineKind};
 use crate::marks::Names;
 use crate::mnemonic::{Mnemonic, Numbered, Slotted, Targeted, mnemonic_of, plain_word};
 use crate::operand::{
@@ -22,7 +22,7 @@ fn numbered_at(
     words: &mut Words<'_>,
     names: Option<&Names<'_, '_>>,
     form: Numbered,
-) -> Result<Instr, AsmKind>
+) -> Result<Instr, LineFault>
     ensures { result ≡ operated (option_copied names.entry) (WithNumber form) words.old }
 {
     let x = byte_at(words)?;
@@ -33,7 +33,7 @@ fn slotted_at(
     words: &mut Words<'_>,
     names: Option<&Names<'_, '_>>,
     form: Slotted,
-) -> Result<Instr, AsmKind>
+) -> Result<Instr, LineFault>
     ensures { result ≡ operated (option_copied names.entry) (WithSlot form) words.old }
 {
     let slot = slot_at(words)?;
@@ -44,28 +44,28 @@ fn targeted_at(
     words: &mut Words<'_>,
     names: Option<&Names<'_, '_>>,
     form: Targeted,
-) -> Result<Instr, AsmKind>
+) -> Result<Instr, LineFault>
     ensures { result ≡ operated (option_copied names.entry) (WithTarget form) words.old }
 {
     let to = target_at(words, names)?;
     finished(words, form.with(to))
 }
 
-fn push_at(words: &mut Words<'_>, names: Option<&Names<'_, '_>>) -> Result<Instr, AsmKind>
+fn push_at(words: &mut Words<'_>, names: Option<&Names<'_, '_>>) -> Result<Instr, LineFault>
     ensures { result ≡ operated (option_copied names.entry) Push words.old }
 {
     let value = value_at(words)?;
     finished(words, Instr::Push(value))
 }
 
-fn times_at(words: &mut Words<'_>, names: Option<&Names<'_, '_>>) -> Result<Instr, AsmKind>
+fn times_at(words: &mut Words<'_>, names: Option<&Names<'_, '_>>) -> Result<Instr, LineFault>
     ensures { result ≡ operated (option_copied names.entry) Times words.old }
 {
     let bound = number_at(words, 65535)?;
     finished(words, Instr::Times(bound as u16))
 }
 
-fn open_at(words: &mut Words<'_>) -> Result<Instr, AsmKind>
+fn open_at(words: &mut Words<'_>) -> Result<Instr, LineFault>
     ensures { result ≡ open_at words.old }
 {
     let slot = slot_at(words)?;
@@ -81,7 +81,7 @@ fn open_at(words: &mut Words<'_>) -> Result<Instr, AsmKind>
     )
 }
 
-fn fork_at(words: &mut Words<'_>, names: Option<&Names<'_, '_>>) -> Result<Instr, AsmKind>
+fn fork_at(words: &mut Words<'_>, names: Option<&Names<'_, '_>>) -> Result<Instr, LineFault>
     ensures { result ≡ fork_at (option_copied names.entry) words.old }
 {
     let slot = slot_at(words)?;
@@ -97,7 +97,7 @@ fn fork_at(words: &mut Words<'_>, names: Option<&Names<'_, '_>>) -> Result<Instr
     )
 }
 
-fn join_at(words: &mut Words<'_>, names: Option<&Names<'_, '_>>) -> Result<Instr, AsmKind>
+fn join_at(words: &mut Words<'_>, names: Option<&Names<'_, '_>>) -> Result<Instr, LineFault>
     ensures { result ≡ join_at (option_copied names.entry) words.old }
 {
     let slot = slot_at(words)?;
@@ -115,7 +115,7 @@ fn join_at(words: &mut Words<'_>, names: Option<&Names<'_, '_>>) -> Result<Instr
     )
 }
 
-fn case_at(words: &mut Words<'_>, names: Option<&Names<'_, '_>>) -> Result<Instr, AsmKind>
+fn case_at(words: &mut Words<'_>, names: Option<&Names<'_, '_>>) -> Result<Instr, LineFault>
     ensures { result ≡ case_at (option_copied names.entry) words.old }
 {
     let handle = slot_at(words)?;
@@ -131,7 +131,7 @@ fn case_at(words: &mut Words<'_>, names: Option<&Names<'_, '_>>) -> Result<Instr
     )
 }
 
-fn tally_at(words: &mut Words<'_>) -> Result<Instr, AsmKind>
+fn tally_at(words: &mut Words<'_>) -> Result<Instr, LineFault>
     ensures { result ≡ tally_at words.old }
 {
     let slot = slot_at(words)?;
@@ -143,7 +143,7 @@ fn operated(
     words: &mut Words<'_>,
     names: Option<&Names<'_, '_>>,
     mnemonic: Mnemonic,
-) -> Result<Instr, AsmKind>
+) -> Result<Instr, LineFault>
     ensures { result ≡ operated (option_copied names.entry) mnemonic words.old }
 {
     match mnemonic {
@@ -167,12 +167,12 @@ fn with_operands(
     word: &[u8],
     words: &mut Words<'_>,
     names: Option<&Names<'_, '_>>,
-) -> Result<Instr, AsmKind>
+) -> Result<Instr, LineFault>
     requires { looked_up plain_words word.now ≡ None }
     ensures { result ≡ instr_of (option_copied names.entry) (word.now ∷ words.old) }
 {
     let Some(mnemonic) = mnemonic_of(word) else {
-        return Err(AsmKind::UnknownWord);
+        return Err(LineFault(LineKind::UnknownWord));
     };
     operated(words, names, mnemonic)
 }
@@ -189,7 +189,7 @@ pub fn instr_of(
     word: &[u8],
     words: &mut Words<'_>,
     names: Option<&Names<'_, '_>>,
-) -> Result<Instr, AsmKind>
+) -> Result<Instr, LineFault>
     ensures { result ≡ instr_of (option_copied names.entry) (word.now ∷ words.old) }
 {
     if let Some(instr) = plain_word(word) {

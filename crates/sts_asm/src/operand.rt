@@ -11,7 +11,7 @@ ghost use Rattle.sts_asm.specs.Operand.{finished};
 ghost use Rattle.sts_code.specs.Name as def_name;
 ghost use Rattle.sts_code.specs.declared.instr.Pred.TheVariants as pred;
 
-use crate::fault::AsmKind;
+use crate::fault::{LineFault, LineKind};
 use crate::marks::{Names, function_in, label_in};
 use std::str;
 use sts_code::{Instr, Joiner, Kind, Pred, is_name};
@@ -22,16 +22,16 @@ use sts_text::{Words, digits_up_to, number, number_up_to};
 /// # Errors
 ///
 /// No word is left (A4), or the next one is no number up to `most` (A3).
-pub fn number_at(words: &mut Words<'_>, most: u32) -> Result<u32, AsmKind>
+pub fn number_at(words: &mut Words<'_>, most: u32) -> Result<u32, LineFault>
     ensures read { Reads (λ n. n) result words.new (number_at most words.old) }
     ensures at_most { IfOk result (λ n. n ≤ most) }
 {
     let Some(word) = words.word() else {
-        return Err(AsmKind::BadOperands);
+        return Err(LineFault(LineKind::BadOperands));
     };
     match number_up_to(word, most) {
         Some(n) => Ok(n),
-        None => Err(AsmKind::BadNumber),
+        None => Err(LineFault(LineKind::BadNumber)),
     }
 }
 
@@ -40,7 +40,7 @@ pub fn number_at(words: &mut Words<'_>, most: u32) -> Result<u32, AsmKind>
 /// # Errors
 ///
 /// No word is left (A4), or the next one is no number up to 255 (A3).
-pub fn byte_at(words: &mut Words<'_>) -> Result<u8, AsmKind>
+pub fn byte_at(words: &mut Words<'_>) -> Result<u8, LineFault>
     ensures { Reads (λ n. n) result words.new (number_at 255 words.old) }
 {
     let n = number_at(words, 255)?;
@@ -52,13 +52,13 @@ pub fn byte_at(words: &mut Words<'_>) -> Result<u8, AsmKind>
 /// # Errors
 ///
 /// No word is left (A4), or the next one spells no `i64` (A3).
-pub fn value_at(words: &mut Words<'_>) -> Result<i64, AsmKind>
+pub fn value_at(words: &mut Words<'_>) -> Result<i64, LineFault>
     ensures { Reads (λ v. v) result words.new (value_at words.old) }
 {
     let Some(word) = words.word() else {
-        return Err(AsmKind::BadOperands);
+        return Err(LineFault(LineKind::BadOperands));
     };
-    number(word).ok_or(AsmKind::BadNumber)
+    number(word).ok_or(LineFault(LineKind::BadNumber))
 }
 
 /// The slot that a word spells: `s` and digits up to 255.
@@ -79,13 +79,13 @@ pub fn slot(word: &[u8]) -> Option<u8>
 /// # Errors
 ///
 /// No word is left, or the next one spells no slot.
-pub fn slot_at(words: &mut Words<'_>) -> Result<u8, AsmKind>
+pub fn slot_at(words: &mut Words<'_>) -> Result<u8, LineFault>
     ensures { Reads (λ s. s) result words.new (slot_at words.old) }
 {
     let Some(word) = words.word() else {
-        return Err(AsmKind::BadOperands);
+        return Err(LineFault(LineKind::BadOperands));
     };
-    slot(word).ok_or(AsmKind::BadOperands)
+    slot(word).ok_or(LineFault(LineKind::BadOperands))
 }
 
 /// The slot of a subtask that a word spells; `_` spells none.
@@ -106,13 +106,13 @@ pub fn handle(word: &[u8]) -> Option<Option<u8>>
 /// # Errors
 ///
 /// No word is left, or the next one is neither a slot nor `_`.
-pub fn handle_at(words: &mut Words<'_>) -> Result<Option<u8>, AsmKind>
+pub fn handle_at(words: &mut Words<'_>) -> Result<Option<u8>, LineFault>
     ensures { Reads (λ h. h) result words.new (handle_at words.old) }
 {
     let Some(word) = words.word() else {
-        return Err(AsmKind::BadOperands);
+        return Err(LineFault(LineKind::BadOperands));
     };
-    handle(word).ok_or(AsmKind::BadOperands)
+    handle(word).ok_or(LineFault(LineKind::BadOperands))
 }
 
 /// A name.
@@ -120,17 +120,17 @@ pub fn handle_at(words: &mut Words<'_>) -> Result<Option<u8>, AsmKind>
 /// # Errors
 ///
 /// No word is left, or the next one is no name.
-pub fn name_at<'a>(words: &mut Words<'a>) -> Result<&'a [u8], AsmKind>
+pub fn name_at<'a>(words: &mut Words<'a>) -> Result<&'a [u8], LineFault>
     ensures read { Reads (λ name. name.now) result words.new (name_at words.old) }
     ensures name { IfOk result (λ name. def_name.is_name name.now ≡ true) }
 {
     let Some(word) = words.word() else {
-        return Err(AsmKind::BadOperands);
+        return Err(LineFault(LineKind::BadOperands));
     };
     if is_name(word) {
         Ok(word)
     } else {
-        Err(AsmKind::BadOperands)
+        Err(LineFault(LineKind::BadOperands))
     }
 }
 
@@ -151,11 +151,11 @@ pub fn name_text(name: &[u8]) -> &str
 /// # Errors
 ///
 /// No word is left or the next one is no name (A4), or no label has this name (A5).
-pub fn target_at(words: &mut Words<'_>, names: Option<&Names<'_, '_>>) -> Result<u32, AsmKind>
+pub fn target_at(words: &mut Words<'_>, names: Option<&Names<'_, '_>>) -> Result<u32, LineFault>
     ensures { Reads (λ to. to) result words.new (target_at (option_copied names.entry) words.old) }
 {
     let name = name_at(words)?;
-    label_in(names, name).ok_or(AsmKind::UnknownLabel)
+    label_in(names, name).ok_or(LineFault(LineKind::UnknownLabel))
 }
 
 /// The index of the function that a name names.
@@ -163,11 +163,11 @@ pub fn target_at(words: &mut Words<'_>, names: Option<&Names<'_, '_>>) -> Result
 /// # Errors
 ///
 /// No word is left or the next one is no name (A4), or no function has this name (A5).
-pub fn function_at(words: &mut Words<'_>, names: Option<&Names<'_, '_>>) -> Result<u32, AsmKind>
+pub fn function_at(words: &mut Words<'_>, names: Option<&Names<'_, '_>>) -> Result<u32, LineFault>
     ensures { Reads (λ f. f) result words.new (function_at (option_copied names.entry) words.old) }
 {
     let name = name_at(words)?;
-    function_in(names, name).ok_or(AsmKind::UnknownLabel)
+    function_in(names, name).ok_or(LineFault(LineKind::UnknownLabel))
 }
 
 /// A label, or `-` for none.
@@ -178,51 +178,51 @@ pub fn function_at(words: &mut Words<'_>, names: Option<&Names<'_, '_>>) -> Resu
 pub fn maybe_target_at(
     words: &mut Words<'_>,
     names: Option<&Names<'_, '_>>,
-) -> Result<Option<u32>, AsmKind>
+) -> Result<Option<u32>, LineFault>
     ensures { Reads (λ to. to) result words.new (maybe_target_at
         (option_copied names.entry) words.old) }
 {
     let Some(word) = words.word() else {
-        return Err(AsmKind::BadOperands);
+        return Err(LineFault(LineKind::BadOperands));
     };
     if word == b"-".as_slice() {
         return Ok(None);
     }
     if !is_name(word) {
-        return Err(AsmKind::BadOperands);
+        return Err(LineFault(LineKind::BadOperands));
     }
     match label_in(names, word) {
         Some(to) => Ok(Some(to)),
-        None => Err(AsmKind::UnknownLabel),
+        None => Err(LineFault(LineKind::UnknownLabel)),
     }
 }
 
-fn until_failed_at(words: &mut Words<'_>) -> Result<Joiner, AsmKind>
+fn until_failed_at(words: &mut Words<'_>) -> Result<Joiner, LineFault>
     ensures { Reads (λ j. j) result words.new (until_count_at (λ n. pred.Failed n) words.old) }
 {
     let n = number_at(words, u32::MAX)?;
     Ok(Joiner::Until(Pred::Failed(n)))
 }
 
-fn until_success_at(words: &mut Words<'_>) -> Result<Joiner, AsmKind>
+fn until_success_at(words: &mut Words<'_>) -> Result<Joiner, LineFault>
     ensures { Reads (λ j. j) result words.new (until_count_at (λ n. pred.Success n) words.old) }
 {
     let n = number_at(words, u32::MAX)?;
     Ok(Joiner::Until(Pred::Success(n)))
 }
 
-fn until_value_at(words: &mut Words<'_>) -> Result<Joiner, AsmKind>
+fn until_value_at(words: &mut Words<'_>) -> Result<Joiner, LineFault>
     ensures { Reads (λ j. j) result words.new (until_value_at words.old) }
 {
     let value = value_at(words)?;
     Ok(Joiner::Until(Pred::AtLeast(value)))
 }
 
-fn until_at(words: &mut Words<'_>) -> Result<Joiner, AsmKind>
+fn until_at(words: &mut Words<'_>) -> Result<Joiner, LineFault>
     ensures { Reads (λ j. j) result words.new (until_at words.old) }
 {
     let Some(word) = words.word() else {
-        return Err(AsmKind::BadOperands);
+        return Err(LineFault(LineKind::BadOperands));
     };
     if word == b"failed".as_slice() {
         until_failed_at(words)
@@ -231,7 +231,7 @@ fn until_at(words: &mut Words<'_>) -> Result<Joiner, AsmKind>
     } else if word == b"atleast".as_slice() {
         until_value_at(words)
     } else {
-        Err(AsmKind::BadOperands)
+        Err(LineFault(LineKind::BadOperands))
     }
 }
 
@@ -257,16 +257,16 @@ pub fn one_word_joiner(word: &[u8]) -> Option<Joiner>
 /// # Errors
 ///
 /// No word is left, or the words spell no joiner.
-pub fn joiner_at(words: &mut Words<'_>) -> Result<Joiner, AsmKind>
+pub fn joiner_at(words: &mut Words<'_>) -> Result<Joiner, LineFault>
     ensures { Reads (λ j. j) result words.new (joiner_at words.old) }
 {
     let Some(word) = words.word() else {
-        return Err(AsmKind::BadOperands);
+        return Err(LineFault(LineKind::BadOperands));
     };
     if word == b"until".as_slice() {
         return until_at(words);
     }
-    one_word_joiner(word).ok_or(AsmKind::BadOperands)
+    one_word_joiner(word).ok_or(LineFault(LineKind::BadOperands))
 }
 
 /// `timed`, or nothing.
@@ -274,7 +274,7 @@ pub fn joiner_at(words: &mut Words<'_>) -> Result<Joiner, AsmKind>
 /// # Errors
 ///
 /// The next word isn't `timed`.
-pub fn timed_at(words: &mut Words<'_>) -> Result<bool, AsmKind>
+pub fn timed_at(words: &mut Words<'_>) -> Result<bool, LineFault>
     ensures { Reads (λ t. t) result words.new (timed_at words.old) }
 {
     let Some(word) = words.word() else {
@@ -283,7 +283,7 @@ pub fn timed_at(words: &mut Words<'_>) -> Result<bool, AsmKind>
     if word == b"timed".as_slice() {
         Ok(true)
     } else {
-        Err(AsmKind::BadOperands)
+        Err(LineFault(LineKind::BadOperands))
     }
 }
 
@@ -307,13 +307,13 @@ pub fn kind_counted(word: &[u8]) -> Option<Kind>
 /// # Errors
 ///
 /// No word is left, or the next one is none of `S`, `F` and `U`.
-pub fn kind_at(words: &mut Words<'_>) -> Result<Kind, AsmKind>
+pub fn kind_at(words: &mut Words<'_>) -> Result<Kind, LineFault>
     ensures { Reads (λ k. k) result words.new (kind_at words.old) }
 {
     let Some(word) = words.word() else {
-        return Err(AsmKind::BadOperands);
+        return Err(LineFault(LineKind::BadOperands));
     };
-    kind_counted(word).ok_or(AsmKind::BadOperands)
+    kind_counted(word).ok_or(LineFault(LineKind::BadOperands))
 }
 
 /// The instruction, if no word is left over.
@@ -321,11 +321,11 @@ pub fn kind_at(words: &mut Words<'_>) -> Result<Kind, AsmKind>
 /// # Errors
 ///
 /// A word is left over.
-pub fn finished(words: &mut Words<'_>, instr: Instr) -> Result<Instr, AsmKind>
+pub fn finished(words: &mut Words<'_>, instr: Instr) -> Result<Instr, LineFault>
     ensures { result ≡ finished instr words.old }
 {
     match words.word() {
         None => Ok(instr),
-        Some(_) => Err(AsmKind::BadOperands),
+        Some(_) => Err(LineFault(LineKind::BadOperands)),
     }
 }

@@ -12,7 +12,7 @@ ghost use Rattle.sts_asm.specs.Outline.{no_needs, profile_at, with_keys, keys_at
 ghost use Rattle.sts_asm.specs.Outline.{label_of, is_allowed, is_semicolon, is_plain, size_of};
 ghost use Rattle.sts_asm.specs.Outline.{instructions};
 
-use crate::fault::AsmKind;
+use crate::fault::{AsmKind, LineFault, LineKind};
 use crate::line::instr_of;
 use crate::marks::Marks;
 use crate::operand::{byte_at, name_at, name_text};
@@ -119,59 +119,59 @@ impl<'a> Model for Draft<'a> {
     } };
 }
 
-fn no_more(rest: &mut Words<'_>) -> Result<(), AsmKind>
+fn no_more(rest: &mut Words<'_>) -> Result<(), LineFault>
     ensures { result ≡ finished tt rest.old }
 {
     match rest.word() {
         None => Ok(()),
-        Some(_) => Err(AsmKind::BadOperands),
+        Some(_) => Err(LineFault(LineKind::BadOperands)),
     }
 }
 
-fn profile_at(rest: &mut Words<'_>) -> Result<Profile, AsmKind>
+fn profile_at(rest: &mut Words<'_>) -> Result<Profile, LineFault>
     ensures { result ≡ profile_at rest.old }
 {
     let Some(word) = rest.word() else {
-        return Err(AsmKind::BadOperands);
+        return Err(LineFault(LineKind::BadOperands));
     };
     let profile = match number_up_to(word, 2) {
         Some(1) => Profile::One,
         Some(2) => Profile::Two,
-        _ => return Err(AsmKind::BadNumber),
+        _ => return Err(LineFault(LineKind::BadNumber)),
     };
     no_more(rest)?;
     Ok(profile)
 }
 
 /// Adds the keys that the other words name to `needs`.
-fn with_keys(needs: [bool; 16], rest: &mut Words<'_>) -> Result<[bool; 16], AsmKind>
+fn with_keys(needs: [bool; 16], rest: &mut Words<'_>) -> Result<[bool; 16], LineFault>
     ensures { result ≡ with_keys needs rest.old }
 {
     let mut needs = needs;
     while let Some(word) = rest.word() {
         match number_up_to(word, 15) {
             Some(key) => needs[key as usize] = true,
-            None => return Err(AsmKind::BadNumber),
+            None => return Err(LineFault(LineKind::BadNumber)),
         }
     }
     Ok(needs)
 }
 
-fn keys_at(rest: &mut Words<'_>) -> Result<[bool; 16], AsmKind>
+fn keys_at(rest: &mut Words<'_>) -> Result<[bool; 16], LineFault>
     ensures { result ≡ keys_at rest.old }
 {
     let Some(word) = rest.word() else {
-        return Err(AsmKind::BadOperands);
+        return Err(LineFault(LineKind::BadOperands));
     };
     let mut needs = [false; 16];
     match number_up_to(word, 15) {
         Some(key) => needs[key as usize] = true,
-        None => return Err(AsmKind::BadNumber),
+        None => return Err(LineFault(LineKind::BadNumber)),
     }
     with_keys(needs, rest)
 }
 
-fn needs_at(rest: &mut Words<'_>) -> Result<[bool; 16], AsmKind>
+fn needs_at(rest: &mut Words<'_>) -> Result<[bool; 16], LineFault>
     ensures { result ≡ needs_at rest.old }
 {
     let Some(word) = rest.word() else {
@@ -180,11 +180,11 @@ fn needs_at(rest: &mut Words<'_>) -> Result<[bool; 16], AsmKind>
     if word == b"needs".as_slice() {
         keys_at(rest)
     } else {
-        Err(AsmKind::BadOperands)
+        Err(LineFault(LineKind::BadOperands))
     }
 }
 
-fn header_at<'a>(alloc: Global, rest: &mut Words<'a>) -> Result<Draft<'a>, AsmKind>
+fn header_at<'a>(alloc: Global, rest: &mut Words<'a>) -> Result<Draft<'a>, LineFault>
     ensures { result ≡ def.header_at rest.old }
 {
     let name = name_text(name_at(rest)?);
@@ -211,20 +211,20 @@ pub fn label_of(word: &[u8]) -> Option<&[u8]>
 
 impl<'a> Draft<'a> {
     #[inline(never)]
-    fn label(&mut self, name: &'a [u8]) -> Result<(), AsmKind>
+    fn label(&mut self, name: &'a [u8]) -> Result<(), LineFault>
         requires { length self.old.code < 2 ^ 32 }
         ensures steps { Steps result self.new (def.labelled self.old name.now) }
         ensures same { OnOk result (length self.new.code ≡ length self.old.code) }
     {
         if self.labels.find(name).is_some() {
-            return Err(AsmKind::DuplicateLabel);
+            return Err(LineFault(LineKind::DuplicateLabel));
         }
         let at = self.code.len() as u32;
         self.labels.push_new(name, at)?;
         Ok(())
     }
 
-    fn sentence(&mut self, at: u32, text: &'a [u8], unnamed: Instr) -> Result<(), AsmKind>
+    fn sentence(&mut self, at: u32, text: &'a [u8], unnamed: Instr) -> Result<(), LineFault>
         requires { instr_of None (words_in text.now) ≡ Ok unnamed }
         ensures { Steps result self.new (Ok (def.with_sentence at self.old (words_in text.now))) }
     {
@@ -240,7 +240,7 @@ impl<'a> Draft<'a> {
         text: &'a [u8],
         word: &'a [u8],
         rest: &mut Words<'a>,
-    ) -> Result<(), AsmKind>
+    ) -> Result<(), LineFault>
         requires size { length self.old.code < 2 ^ 32 }
         requires words { words_in text.now ≡ word.now ∷ rest.old }
         ensures steps { Steps result self.new (def.inner at self.old
@@ -355,7 +355,7 @@ impl<'a> Outline<'a> {
     }
 
     #[inline(never)]
-    fn profile(&mut self, rest: &mut Words<'a>) -> Result<(), AsmKind>
+    fn profile(&mut self, rest: &mut Words<'a>) -> Result<(), LineFault>
         ensures steps { Steps result self.new (def.profiled self.old rest.old) }
         ensures same { OnOk result (size_of self.new ≡ size_of self.old) }
     {
@@ -364,13 +364,13 @@ impl<'a> Outline<'a> {
     }
 
     #[inline(never)]
-    fn begin(&mut self, rest: &mut Words<'a>) -> Result<(), AsmKind>
+    fn begin(&mut self, rest: &mut Words<'a>) -> Result<(), LineFault>
         requires { size_of self.old < 2 ^ 32 }
         ensures steps { Steps result self.new (def.begun self.old rest.old) }
         ensures same { OnOk result (size_of self.new ≡ size_of self.old) }
     {
         if self.current.is_some() {
-            return Err(AsmKind::Unclosed);
+            return Err(LineFault(LineKind::Unclosed));
         }
         let mut draft = header_at(self.alloc, rest)?;
         draft.code.reserve(self.last_length())?;
@@ -381,12 +381,12 @@ impl<'a> Outline<'a> {
     }
 
     #[inline(never)]
-    fn end(&mut self, rest: &mut Words<'a>) -> Result<(), AsmKind>
+    fn end(&mut self, rest: &mut Words<'a>) -> Result<(), LineFault>
         ensures steps { Steps result self.new (def.ended self.old self.old.current rest.old) }
         ensures grows { OnOk result (size_of self.new ≤ size_of self.old + 1) }
     {
         let Some(draft) = self.current.take() else {
-            return Err(AsmKind::UnknownWord);
+            return Err(LineFault(LineKind::UnknownWord));
         };
         no_more(rest)?;
         self.done.push(draft)?;
@@ -400,7 +400,7 @@ impl<'a> Outline<'a> {
         text: &'a [u8],
         word: &'a [u8],
         rest: &mut Words<'a>,
-    ) -> Result<(), AsmKind>
+    ) -> Result<(), LineFault>
         requires size { size_of self.old < 2 ^ 32 }
         requires words { words_in text.now ≡ word.now ∷ rest.old }
         ensures steps { Steps result self.new (def.inside at self.old
@@ -408,13 +408,13 @@ impl<'a> Outline<'a> {
         ensures grows { OnOk result (size_of self.new ≤ size_of self.old + 1) }
     {
         let Some(draft) = &mut self.current else {
-            return Err(AsmKind::UnknownWord);
+            return Err(LineFault(LineKind::UnknownWord));
         };
         draft.inner(at, text, word, rest)
     }
 
     #[inline(always)]
-    fn say(&mut self, at: u32, text: &'a [u8]) -> Result<(), AsmKind>
+    fn say(&mut self, at: u32, text: &'a [u8]) -> Result<(), LineFault>
         requires { size_of self.old < 2 ^ 32 }
         ensures steps { Steps result self.new (def.said at self.old (words_in text.now)) }
         ensures grows { OnOk result (size_of self.new ≤ size_of self.old + 1) }
@@ -445,7 +445,10 @@ impl<'a> Outline<'a> {
         ensures steps { Steps result self.new (def.line_read at self.old line.now) }
         ensures grows { OnOk result (size_of self.new ≤ size_of self.old + 1) }
     {
-        self.read(at, line, false)
+        match self.read(at, line, false) {
+            Ok(()) => Ok(()),
+            Err(fault) => Err(fault.kind()),
+        }
     }
 
     /// Reads the line of this number. `known` says that its bytes are known to be plain.
@@ -454,7 +457,7 @@ impl<'a> Outline<'a> {
     ///
     /// The kind of the line's fault, or memory ran out.
     #[tactic(auto, using(crate::proofs::PlainLemmas::plain_lines))]
-    pub(crate) fn read(&mut self, at: u32, line: &'a [u8], known: bool) -> Result<(), AsmKind>
+    pub(crate) fn read(&mut self, at: u32, line: &'a [u8], known: bool) -> Result<(), LineFault>
         requires size { size_of self.old < 2 ^ 32 }
         requires known { IsTrue known → list_all is_plain line.now ≡ true }
         ensures steps { Steps result self.new (def.line_read at self.old line.now) }
@@ -463,7 +466,7 @@ impl<'a> Outline<'a> {
         let mut text = line;
         if !is_plain_line(line, known) {
             if !all_allowed(line) {
-                return Err(AsmKind::NotAscii);
+                return Err(LineFault(LineKind::NotAscii));
             }
             text = uncommented(line);
         }

@@ -6,7 +6,7 @@ ghost use Rattle.sts_asm.specs.Fault.{Judges};
 ghost use Rattle.sts_asm.specs.Line.{has_names, instr_of};
 ghost use Rattle.sts_asm.specs.Text.{each, instr_at, routine_of, program_of};
 
-use crate::fault::{AsmError, AsmKind};
+use crate::fault::{AsmError, AsmKind, LineFault, LineKind};
 use crate::line::instr_of;
 use crate::marks::{Marks, Names};
 use crate::outline::{Draft, Lines, Outline, Sentence};
@@ -14,12 +14,12 @@ use std::alloc::Global;
 use sts_code::{Function, Instr, Program};
 use sts_text::Words;
 
-fn instr_in(text: &[u8], names: &Names<'_, '_>) -> Result<Instr, AsmKind>
+fn instr_in(text: &[u8], names: &Names<'_, '_>) -> Result<Instr, LineFault>
     ensures { result ≡ instr_of (Some names.now) (words_in text.now) }
 {
     let mut rest = Words::new(text);
     let Some(word) = rest.word() else {
-        return Err(AsmKind::UnknownWord);
+        return Err(LineFault(LineKind::UnknownWord));
     };
     instr_of(word, &mut rest, Some(names))
 }
@@ -44,13 +44,13 @@ fn instr_at(names: &Names<'_, '_>, sentence: &Sentence<'_>) -> Result<Instr, Asm
 {
     match instr_in(sentence.text, names) {
         Ok(instr) => Ok(instr),
-        Err(AsmKind::Memory) => Err(AsmError {
+        Err(LineFault(LineKind::Memory)) => Err(AsmError {
             line: 0,
             kind: AsmKind::Memory,
         }),
-        Err(kind) => Err(AsmError {
+        Err(fault) => Err(AsmError {
             line: sentence.line,
-            kind,
+            kind: fault.kind(),
         }),
     }
 }

@@ -8,7 +8,7 @@ ghost use Rattle.sts_asm.specs.Fault.{Judges, StepsAt, at_line};
 ghost use Rattle.sts_asm.specs.Outline.{outline_of, line_read, size_of, is_plain};
 ghost use Rattle.sts_asm.specs.Text.{judged};
 
-use crate::fault::{AsmError, AsmKind};
+use crate::fault::{AsmError, AsmKind, LineFault, LineKind};
 use crate::outline::Outline;
 use crate::resolving::program_of;
 use std::alloc::Global;
@@ -66,11 +66,14 @@ fn line_at<'a>(
 {
     match outline.read(at, line, known) {
         Ok(()) => Ok(()),
-        Err(AsmKind::Memory) => Err(AsmError {
+        Err(LineFault(LineKind::Memory)) => Err(AsmError {
             line: 0,
             kind: AsmKind::Memory,
         }),
-        Err(kind) => Err(AsmError { line: at, kind }),
+        Err(fault) => {
+            let kind = fault.kind();
+            Err(AsmError { line: at, kind })
+        }
     }
 }
 

@@ -2,7 +2,7 @@
 use Rattle.std.specs.Prelude.{ℕ, ◌+◌, ◌-◌, ◌*◌, List, get_or, slice_set, Option, Some, None, Bool}
 use Rattle.std.specs.Prelude.{true, false}
 use Rattle.sts_code.specs.declared.instr.Instr.{Instr}
-use Rattle.sts_code.specs.declared.instr.Instr.TheVariants.{Times, Next, Ret, Fail}
+use Rattle.sts_code.specs.declared.instr.Instr.TheVariants.{Times, Next, Open, Fork, Close, Bind, Ret, Fail}
 use Rattle.sts_code.specs.Program.{instr_at}
 use Rattle.sts_rules.specs.declared.budget.Budgets.{Budgets}
 use Rattle.sts_budget.specs.declared.change.Resource.{Resource}
@@ -16,6 +16,15 @@ is_quiet (Times n) = true
 is_quiet Ret = true
 is_quiet Fail = true
 is_quiet _ = false
+
+-- it counts one step, and changes no other sum
+abbrev pub is_ordinary : Instr → Bool
+is_ordinary Next = false
+is_ordinary (Open slot joiner timed) = false
+is_ordinary (Bind key) = false
+is_ordinary (Fork slot function handle) = false
+is_ordinary (Close slot) = false
+is_ordinary _ = true
 
 -- the most turns of a loop
 abbrev pub turns_of : Instr → ℕ

@@ -142,6 +142,9 @@ fn peak(alloc: Global, pass: &Pass<'_>) -> Result<Option<u32>, AllocError>
     if pass.layout.deepest == 0 {
         return Ok(Some(own_of(pass.resource)));
     }
+    if pass.layout.deepest < 3 {
+        return greatest_by::<3>(alloc, pass);
+    }
     if pass.layout.deepest < 5 {
         return greatest_by::<5>(alloc, pass);
     }

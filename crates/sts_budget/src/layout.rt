@@ -237,12 +237,11 @@ pub fn lay_out(alloc: Global, program: &Program, function: usize) -> Result<Layo
     let mut lists = Vec::new(alloc);
     lists.push(Stack::new())?;
     for pc in 0..code.len() {
-        let instr = code[pc];
-        let after = list_after(&mut lists, instr, which[pc])?;
+        let after = list_after(&mut lists, code[pc], which[pc])?;
         let innermost = heads[pc];
-        let head = head_after(instr, pc as u32, heads.as_slice());
-        write_mate(&mut mates, instr, pc as u32, innermost);
-        write_on(&mut heads, &mut which, instr, pc, head, after);
+        let head = head_after(code[pc], pc as u32, heads.as_slice());
+        write_mate(&mut mates, code[pc], pc as u32, innermost);
+        write_on(&mut heads, &mut which, code[pc], pc, head, after);
     }
     let deepest = deepest_of(lists.as_slice());
     Ok(Layout {

@@ -13,11 +13,11 @@ ghost use Rattle.sts_budget.specs.Ready.{IsLaidFor, flows_in, head_in, names_in}
 ghost use Rattle.sts_budget.specs.Row.{IsOver};
 ghost use Rattle.sts_budget.specs.Table.{IsRaisedAt, IsSent, IsStopped, IsSpread, IsPartial};
 ghost use Rattle.sts_budget.specs.Table.{HandsTooMuch, Passes, read};
-ghost use Rattle.sts_budget.specs.Handing.{handed_value, is_quiet, turns_of};
+ghost use Rattle.sts_budget.specs.Handing.{handed_value, is_quiet, is_ordinary, turns_of};
 
 use crate::change::{Resource, change_of, depth_of};
 use crate::layout::{Layout, goes_straight_on, names_at, next_places};
-use crate::row::{Row, Values, raise, values_after, values_of_loop};
+use crate::row::{Row, Values, raise, risen, values_after, values_of_loop};
 use std::alloc::{AllocError, Global};
 use sts_code::{Instr, MAX_INSTRUCTIONS};
 use sts_rules::{Budgets, filled};
@@ -155,6 +155,16 @@ fn loop_values<const N: usize>(pass: &Pass<'_>, best: &[Row<N>], pc: usize) -> V
     )
 }
 
+/// Does the instruction count one step, and change nothing else?
+fn is_ordinary(instr: Instr) -> bool
+    ensures { result ≡ is_ordinary instr }
+{
+    !matches!(
+        instr,
+        Instr::Next | Instr::Open { .. } | Instr::Bind(_) | Instr::Fork { .. } | Instr::Close(_)
+    )
+}
+
 /// The sums that an instruction hands on.
 fn values_of<const N: usize>(pass: &Pass<'_>, best: &[Row<N>], pc: usize) -> Values<N>
     requires ready { IsSet pass.now }
@@ -166,6 +176,9 @@ fn values_of<const N: usize>(pass: &Pass<'_>, best: &[Row<N>], pc: usize) -> Val
         min (handed_value pass.now.resource pass.now.earlier.now pass.now.code.now
         pass.now.layout.now (read best.now) pc d) 18446744073709551615 }
 {
+    if is_ordinary(pass.code[pc]) {
+        return risen(own_step(pass.resource) as u64, &best[pc]);
+    }
     match pass.code[pc] {
         Instr::Next => loop_values(pass, best, pc),
         instr => {
@@ -191,12 +204,11 @@ fn hand_on<const N: usize>(pass: &Pass<'_>, best: &mut Vec<Row<N>>, pc: usize) -
         HandsTooMuch (paths pass.now) (flow pass.now) (head_in pass.now.layout.now) pc
         (read best.old.items) pass.now.most }
 {
-    let instr = pass.code[pc];
-    if is_quiet(instr) {
+    if is_quiet(pass.code[pc]) {
         return true;
     }
     let values = values_of(pass, best.as_slice(), pc);
-    send_on(best, instr, pc, &values, pass)
+    send_on(best, pass.code[pc], pc, &values, pass)
 }
 
 /// The table of the greatest sums, or `None` if a sum is over the limit.

@@ -13,7 +13,7 @@ pub(crate) type Row<const N: usize> = [u32; N];
 pub(crate) type Values<const N: usize> = [u64; N];
 
 /// The sums of a row, with `amount` added to each.
-fn risen<const N: usize>(amount: u64, row: &Row<N>) -> Values<N>
+pub(crate) fn risen<const N: usize>(amount: u64, row: &Row<N>) -> Values<N>
     ensures { (d : ℕ) → d < N →
         get_or result d 0 ≡ min (get_or row.now d 0 + amount) 18446744073709551615 }
 {

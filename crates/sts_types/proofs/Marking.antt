@@ -65,6 +65,22 @@ arrived kept shown marks table place before after m s is view lt reads same merg
       ),
     )
 
+-- the last one is replaced
+pub set_last : {X : Type 0} (xs : List X) (a b : X) (ys : List X) (n : ℕ) → ys ≡ xs ++ a ∷ [] → n ≡ length xs → set ys n b ≡ xs ++ b ∷ []
+set_last {X = X} xs a b ys n is count = ap (λ l. set l n b) is ∙ ap (λ k. set (xs ++ a ∷ []) k b) count ∙ at xs
+  where
+    at : (l : List X) → set (l ++ a ∷ []) (length l) b ≡ l ++ b ∷ []
+    at [] = refl
+    at (x ∷ l) = ap (λ r. x ∷ r) (at l)
+
+pub within_marks : (kept : List TypeState) (marks : List (Arrival Mark)) (table : List (Arrival TypeState)) (place : ℕ) → map (arrival_of kept) marks ≡ table → place < length table → place < length marks
+within_marks kept marks table place view lt = omega (arith, lt, ap length view, length-map marks (arrival_of kept))
+
+-- what is read at a place after more was kept
+pub marked_there : (kept added now shown : List TypeState) (marks : List (Arrival Mark)) (place : ℕ) (before : Arrival Mark) → now ≡ kept ++ added → shown ≡ now → All (IsMarked (length kept)) marks → place < length marks → before ≡ get_or marks place before → IsMarked (length shown) before
+marked_there kept added now shown marks place before is same held lt reads =
+    subst (λ l. IsMarked (length l) before) (sym same) (subst (IsMarked (length now)) (sym reads) (mark_holds kept added now (get_or marks place before) is (held place before lt)))
+
 nothing_yet : (kept : List TypeState) (places : ℕ) → map (arrival_of kept) (replicate places Nothing) ≡ replicate places Nothing
 nothing_yet kept zero = refl
 nothing_yet kept (suc n) = ap (λ l. Nothing ∷ l) (nothing_yet kept n)

@@ -1,29 +1,37 @@
 -- Causes at an instruction that only pops and pushes.
 use Rattle.std.proofs.Common.{◌≡◌, ℕ, ◌+◌, Bool, true, false, ◌||◌, Option, Some, None, List, length}
-use Rattle.std.proofs.Common.{cond, leb, refl}
-use Rattle.sts_code.specs.Program.{Program}
+use Rattle.std.proofs.Common.{cond, leb, refl, sym, ap, subst, ◌∙◌, ◌-◌, ◌≤◌, [], ◌∷◌}
+use Rattle.std.proofs.Common.{◌<◌, IfSome, arith}
+use Rattle.std.specs.List.{All}
+use Rattle.std.proofs.lemmas.Bool.{le-ltb}
+use Rattle.sts_code.specs.Program.{Program, routine}
+use Rattle.sts_code.specs.Facts.{pops, pushes}
 use Rattle.sts_code.specs.declared.instr.Instr.{Instr}
 use Rattle.sts_code.specs.declared.instr.Instr.TheVariants.{Push}
 use Rattle.sts_rules.specs.declared.typing.Cause.{Cause}
 use Rattle.sts_rules.specs.declared.typing.Cause.TheVariants.{FallsOff, BackJump, LoopMismatch}
 use Rattle.sts_rules.specs.TypeState.{TypeState, heads}
 use Rattle.sts_rules.specs.Causes.{falls_off, jumps_back, mismatches, is_other_loop}
-use Rattle.sts_types.specs.Simple.{is_simple}
-use Rattle.sts_types.proofs.Fitting.{one_of, after_leads}
+use Rattle.sts_rules.specs.Causes.{lacks_operands, overflows, join_overflows}
+use Rattle.sts_rules.specs.Edges.{follows, back_of, moved}
+use Rattle.sts_types.specs.declared.arrival.Arrival.{Arrival}
+use Rattle.sts_types.specs.Arrivals.{Arrive, at_height}
+use Rattle.sts_types.specs.Simple.{is_simple, is_straight, IsShort}
+use Rattle.sts_types.proofs.Fitting.{one_of, after_leads, lead_missed}
 
 or_false : (b : Bool) → b || false ≡ b
 or_false true = refl
 or_false false = refl
 
-falls : (code : List Instr) (pc : ℕ) (i : Instr) → is_simple i ≡ true → falls_off code pc i ≡ leb (length code) (pc + 1)
+falls : (code : List Instr) (pc : ℕ) (i : Instr) → is_straight i ≡ true → falls_off code pc i ≡ leb (length code) (pc + 1)
 falls code pc (Push k) e = or_false (leb (length code) (pc + 1))
 falls code pc _ e = let same = or_false (leb (length code) (pc + 1)) in cc
 
-jumps : (pc : ℕ) (i : Instr) → is_simple i ≡ true → jumps_back pc i ≡ false
+jumps : (pc : ℕ) (i : Instr) → is_straight i ≡ true → jumps_back pc i ≡ false
 jumps pc (Push k) e = refl
 jumps pc _ e = cc
 
-mismatched : (code : List Instr) (pc : ℕ) (i : Instr) (s : TypeState) → is_simple i ≡ true → mismatches code pc i s ≡ is_other_loop code (heads s.loops) (pc + 1)
+mismatched : (code : List Instr) (pc : ℕ) (i : Instr) (s : TypeState) → is_straight i ≡ true → mismatches code pc i s ≡ is_other_loop code (heads s.loops) (pc + 1)
 mismatched code pc (Push k) s e = or_false (is_other_loop code (heads s.loops) (pc + 1))
 mismatched code pc _ s e = let same = or_false (is_other_loop code (heads s.loops) (pc + 1)) in cc
 
@@ -31,11 +39,62 @@ three : (x y z a b : Bool) (p q r : Cause) → x ≡ a → y ≡ false → z ≡
 three x y z a b p q r e f g = rw (e, f, g) refl
 
 -- it falls off, or the loops around the next place are others
-pub straight_lead : (code : List Instr) (pc : ℕ) (i : Instr) (s : TypeState) → is_simple i ≡ true → cond (leb (length code) (pc + 1)) (Some FallsOff) (cond (is_other_loop code (heads s.loops) (pc + 1)) (Some LoopMismatch) None) ≡ one_of (falls_off code pc i) (jumps_back pc i) (mismatches code pc i s) FallsOff BackJump LoopMismatch None
+pub straight_lead : (code : List Instr) (pc : ℕ) (i : Instr) (s : TypeState) → is_straight i ≡ true → cond (leb (length code) (pc + 1)) (Some FallsOff) (cond (is_other_loop code (heads s.loops) (pc + 1)) (Some LoopMismatch) None) ≡ one_of (falls_off code pc i) (jumps_back pc i) (mismatches code pc i s) FallsOff BackJump LoopMismatch None
 straight_lead code pc i s e =
     three (falls_off code pc i) (jumps_back pc i) (mismatches code pc i s) (leb (length code) (pc + 1)) (is_other_loop code (heads s.loops) (pc + 1)) FallsOff BackJump LoopMismatch (falls code pc i e) (jumps pc i e) (mismatched code pc i s e)
+
+simple_straight : (i : Instr) → is_simple i ≡ true → is_straight i ≡ true
+simple_straight (Push k) e = refl
+simple_straight _ e = cc
 
 -- no later cause holds
 pub none_later : (p : Program) (f pc : ℕ) (i : Instr) (s : TypeState) → is_simple i ≡ true → None ≡ after_leads p f pc i s
 none_later p f pc (Push k) s e = refl
 none_later p f pc _ s e = cc
+
+-- ---- the short way
+
+no_join : (i : Instr) (s : TypeState) → is_simple i ≡ true → join_overflows s i ≡ false
+no_join (Push k) s e = refl
+no_join _ s e = cc
+
+neither : (a b : Bool) → a ≡ false → b ≡ false → a || b ≡ false
+neither a b e f = rw (e, f) refl
+
+fits_in : (p : Program) (i : Instr) (s : TypeState) (n : ℕ) → is_simple i ≡ true → n ≡ s.height - pops p i + pushes i → n ≤ 32 → overflows p i s ≡ false
+fits_in p i s n e count few = neither _ _ (le-ltb 32 (s.height - pops p i + pushes i) (subst (λ m. m ≤ 32) count few)) (no_join i s e)
+
+-- what is tested on the short way is enough
+pub short : (p : Program) (f pc : ℕ) (i : Instr) (s : TypeState) (code : List Instr) (n : ℕ) → is_simple i ≡ true → code ≡ (routine p f).code → lacks_operands p i s ≡ false → n ≡ s.height - pops p i + pushes i → n ≤ 32 → None ≡ cond (leb (length code) (pc + 1)) (Some FallsOff) (cond (is_other_loop code (heads s.loops) (pc + 1)) (Some LoopMismatch) None) → IsShort p f pc i s n
+short p f pc i s code n e is some_operands count few none = record {
+  simple = e;
+  none = sym (none_later p f pc i s e ∙ lead_missed p f pc i s code is some_operands (fits_in p i s n e count few) None (none ∙ straight_lead code pc i s (simple_straight i e)) refl);
+  count = count;
+  few = few;
+}
+
+follows_straight : (p : Program) (code : List Instr) (pc : ℕ) (i : Instr) (s : TypeState) → is_simple i ≡ true → follows p code pc i s ≡ (pc + 1, moved p i s) ∷ []
+follows_straight p code pc (Push k) s e = refl
+follows_straight p code pc _ s e = cc
+
+-- one edge leads on to the next place
+pub short_follows : (p : Program) (f : ℕ) (code : List Instr) (pc : ℕ) (i : Instr) (s : TypeState) (n : ℕ) → IsShort p f pc i s n → follows p code pc i s ≡ (pc + 1, at_height n s) ∷ []
+short_follows p f code pc i s n h = follows_straight p code pc i s h.simple ∙ ap (λ m. (pc + 1, at_height m s) ∷ []) (sym h.count)
+
+-- it ends no turn of a loop
+pub short_back : (p : Program) (f pc : ℕ) (i : Instr) (s : TypeState) (n : ℕ) → IsShort p f pc i s n → back_of i s ≡ None
+short_back p f pc i s n h = by i h.simple
+  where
+    by : (j : Instr) → is_simple j ≡ true → back_of j s ≡ None
+    by (Push k) e = refl
+    by _ e = cc
+
+-- the answer of the test, about the typestate itself
+pub short_is : (p : Program) (f pc : ℕ) (i : Instr) (s s' : TypeState) (n : ℕ) (o : Option ℕ) → s' ≡ s → IfSome o (IsShort p f pc i s') → o ≡ Some n → IsShort p f pc i s n
+short_is p f pc i s s' n o same h is = subst (λ x. IsShort p f pc i x n) same (subst (λ x. IfSome x (IsShort p f pc i s')) is h)
+
+pub short_place : (p : Program) (f : ℕ) (code : List Instr) (pc : ℕ) (i : Instr) (s : TypeState) (n places : ℕ) → IsShort p f pc i s n → All (λ e. e.0 < places) (follows p code pc i s) → pc + 1 < places
+short_place p f code pc i s n places h all = subst (All (λ e. e.0 < places)) (short_follows p f code pc i s n h) all 0 (0, s) (omega arith)
+
+pub short_arrives : (p : Program) (f : ℕ) (code : List Instr) (pc : ℕ) (i : Instr) (s : TypeState) (n : ℕ) (table after : List (Arrival TypeState)) → IsShort p f pc i s n → Arrive table ((pc + 1, at_height n s) ∷ []) after → Arrive table (follows p code pc i s) after
+short_arrives p f code pc i s n table after h is = subst (λ es. Arrive table es after) (sym (short_follows p f code pc i s n h)) is

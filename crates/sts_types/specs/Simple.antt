@@ -1,9 +1,15 @@
 -- Instructions that only pop and push, and go on to the next place (this project's own).
-use Rattle.std.specs.Prelude.{Bool, true, false}
+use Rattle.std.specs.Prelude.{Bool, true, false, ℕ, ◌≡◌, ◌+◌, ◌-◌, ◌≤◌, None}
+use Rattle.sts_code.specs.Facts.{pops, pushes}
+use Rattle.sts_code.specs.Program.{Program}
+use Rattle.sts_code.specs.declared.limits.TheConstants.{MAX_OPERANDS}
+use Rattle.sts_rules.specs.Causes.{least_cause}
+use Rattle.sts_rules.specs.TypeState.{TypeState}
 use Rattle.sts_code.specs.declared.instr.Instr.{Instr}
 use Rattle.sts_code.specs.declared.instr.Instr.TheVariants.{Push, Pop, Dup, Swap, Load, Store, Add}
 use Rattle.sts_code.specs.declared.instr.Instr.TheVariants.{Sub, Mul, Lt, Eq, Bound, OrElse}
-use Rattle.sts_code.specs.declared.instr.Instr.TheVariants.{Interrupted}
+use Rattle.sts_code.specs.declared.instr.Instr.TheVariants.{Interrupted, Div, Jmp, Jz, Times, Next}
+use Rattle.sts_code.specs.declared.instr.Instr.TheVariants.{Join, Case, Ret, Fail}
 
 abbrev pub is_simple : Instr → Bool
 is_simple (Push k) = true
@@ -21,3 +27,23 @@ is_simple (Bound k) = true
 is_simple (OrElse k) = true
 is_simple Interrupted = true
 is_simple _ = false
+
+-- the instruction only goes on to the next place, and begins and ends no loop
+abbrev pub is_straight : Instr → Bool
+is_straight (Div to) = false
+is_straight (Jmp to) = false
+is_straight (Jz to) = false
+is_straight (Times n) = false
+is_straight Next = false
+is_straight (Join x failed timeout interrupted) = false
+is_straight (Case h success failed) = false
+is_straight Ret = false
+is_straight Fail = false
+is_straight _ = true
+
+-- the instruction only pops and pushes, no cause holds, and afterwards there are this many operands
+pub record IsShort (p : Program) (f pc : ℕ) (i : Instr) (s : TypeState) (n : ℕ) : Type 0 where
+  pub simple : is_simple i ≡ true
+  pub none : least_cause p f pc i s ≡ None
+  pub count : n ≡ s.height - pops p i + pushes i
+  pub few : n ≤ MAX_OPERANDS

@@ -1,7 +1,7 @@
 //! The typestates that have arrived at each place of a function, kept in little memory.
 
 ghost use Rattle.std.specs.Prelude.{◌≡◌, ◌<◌, ◌≤◌, ◌↔◌, ◌++◌, List, length, replicate, slice_get};
-ghost use Rattle.std.specs.Prelude.{slice_index_or, slice_set, option_to_list, All, IfOk, OnOk};
+ghost use Rattle.std.specs.Prelude.{slice_index_or, slice_set, option_to_list, All, IfOk, OnOk, ℕ};
 ghost use Rattle.std.specs.Prelude.{IsTrue};
 ghost use Rattle.sts_rules.specs.Edges as def;
 ghost use Rattle.sts_rules.specs.TypeState.{TypeState};
@@ -86,20 +86,42 @@ fn merged(kept: &[TypeState], before: Arrival<Mark>, mark: Mark) -> Arrival<Mark
     }
 }
 
-/// Keeps a typestate, unless the kept one at `like` differs from it only in its number of operands.
-/// Answers the index of the kept one.
-fn keep(kept: &mut Vec<TypeState>, like: usize, state: &TypeState) -> Result<usize, AllocError>
-    requires { like < length kept.old.items }
+/// The index of the kept typestate that a place refers to, or else `like`.
+fn near(marks: &Vec<Arrival<Mark>>, place: usize, like: usize) -> usize
+    requires { place < length marks.now.items }
+    ensures { (n : ℕ) → All (IsMarked n) marks.now.items → like < n → result < n }
+{
+    match marks[place] {
+        Arrival::One(only) => only.like,
+        _ => like,
+    }
+}
+
+/// Keeps a typestate, unless the kept one at `near` or that at `like` differs from it only in its
+/// number of operands. Answers the index of the kept one.
+fn keep(
+    kept: &mut Vec<TypeState>,
+    near: usize,
+    like: usize,
+    state: &TypeState,
+) -> Result<usize, AllocError>
+    requires near { near < length kept.old.items }
+    requires like { like < length kept.old.items }
     ensures like { IfOk result (λ at. (at < length kept.new.items) ×
         (state_of kept.new.items (record { height = state.now.height; like = at }) ≡
         state.now)) }
     ensures more { (added : List TypeState) × (kept.new.items ≡ kept.old.items ++ added) }
 {
-    if kept[like].is_like(state) {
+    if kept[near].is_like(state) {
+        return Ok(near);
+    }
+    if near != like && kept[like].is_like(state) {
         return Ok(like);
     }
     let count = kept.len();
-    kept.push(state.copy())?;
+    // It is written where it is kept, so it isn't moved.
+    kept.push(TypeState::default())?;
+    kept[count].copy_from(state);
     Ok(count)
 }
 
@@ -220,7 +242,8 @@ impl Arrivals {
         ensures start { self.new.start ≡ self.old.start }
     {
         if let Some(to) = edge(site, &mut self.state, number) {
-            match keep(&mut self.kept, self.like, &self.state) {
+            let near = near(&self.marks, to as usize, self.like);
+            match keep(&mut self.kept, near, self.like, &self.state) {
                 Ok(like) => self.like = like,
                 Err(error) => {
                     self.state.copy_from(&self.kept[self.like]);

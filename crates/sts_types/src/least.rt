@@ -1,8 +1,10 @@
 //! The lowest-numbered cause that holds at an instruction.
 
 ghost use Rattle.std.specs.Prelude.{◌≡◌, ◌<◌, ◌+◌, length, option_to_list, if◌then◌else◌, Some};
-ghost use Rattle.std.specs.Prelude.{None, nat_le};
-ghost use Rattle.sts_types.specs.Simple.{is_simple};
+ghost use Rattle.std.specs.Prelude.{None, nat_le, nat_lt, false, ◌-◌, ◌≤◌, IfSome};
+ghost use Rattle.sts_code.specs.Facts as facts;
+ghost use Rattle.sts_code.specs.Program.{routine};
+ghost use Rattle.sts_types.specs.Simple.{is_simple, is_straight, IsShort};
 ghost use Rattle.sts_types.specs.Site.{IsSite};
 ghost use Rattle.sts_rules.specs.Causes as def;
 ghost use Rattle.sts_rules.specs.TypeState.{heads};
@@ -15,7 +17,7 @@ use crate::leads::{falls_off, jumps_back, mismatches};
 use crate::loops::CodeLoops;
 use crate::site::Site;
 use crate::state::TypeState;
-use sts_code::{Instr, Program, targets};
+use sts_code::{Instr, MAX_OPERANDS, Program, pops, pushes, targets};
 use sts_rules::Cause;
 
 /// Does the instruction only pop and push, and go on to the next place?
@@ -41,6 +43,24 @@ fn is_simple(instr: Instr) -> bool
     )
 }
 
+/// Does the instruction only go on to the next place, and begin and end no loop?
+fn is_straight(instr: Instr) -> bool
+    ensures { result ≡ is_straight instr }
+{
+    !matches!(
+        instr,
+        Instr::Div(_)
+            | Instr::Jmp(_)
+            | Instr::Jz(_)
+            | Instr::Times(_)
+            | Instr::Next
+            | Instr::Join { .. }
+            | Instr::Case { .. }
+            | Instr::Ret
+            | Instr::Fail
+    )
+}
+
 /// The lowest-numbered cause from V3 to V5 of an instruction that only goes on to the next place.
 fn straight_cause(loops: &CodeLoops<'_>, pc: u32, state: &TypeState) -> Option<Cause>
     requires { pc < length loops.now }
@@ -59,6 +79,50 @@ fn straight_cause(loops: &CodeLoops<'_>, pc: u32, state: &TypeState) -> Option<C
     None
 }
 
+/// The number of operands after an instruction, if it finds the operands that it pops and there is
+/// room for those that it pushes.
+fn height_after(program: &Program, instr: Instr, state: &TypeState) -> Option<u8>
+    ensures operands { IfSome result (λ _. def.lacks_operands program.now instr state.now ≡ false) }
+    ensures room { IfSome result (λ h. h ≤ MAX_OPERANDS) }
+    ensures height { IfSome result (λ h.
+        h ≡ state.now.height - facts.pops program.now instr + facts.pushes instr) }
+{
+    let pops = pops(program, instr);
+    if state.height() < pops {
+        return None;
+    }
+    let height = state.height() - pops + pushes(instr);
+    if MAX_OPERANDS < height {
+        return None;
+    }
+    Some(height)
+}
+
+/// The number of operands at the next place, if the instruction only pops and pushes and no cause
+/// holds. Most instructions are like this, and are judged by few tests.
+pub(crate) fn short_way(
+    program: &Program,
+    function: u32,
+    loops: &CodeLoops<'_>,
+    pc: u32,
+    instr: Instr,
+    state: &TypeState,
+) -> Option<u8>
+    requires code { loops.now ≡ (routine program.now function).code }
+    requires inside { pc < length loops.now }
+    ensures { IfSome result (IsShort program.now function pc instr state.now) }
+{
+    let _ = function;
+    if !is_simple(instr) {
+        return None;
+    }
+    let height = height_after(program, instr, state)?;
+    match straight_cause(loops, pc, state) {
+        Some(_) => None,
+        None => Some(height),
+    }
+}
+
 /// The lowest-numbered cause from V3 to V5.
 fn lead_cause(site: &Site<'_>, state: &TypeState) -> Option<Cause>
     requires { IsSite site.now }
@@ -68,7 +132,7 @@ fn lead_cause(site: &Site<'_>, state: &TypeState) -> Option<Cause>
         (if def.mismatches site.now.loops.now site.now.pc site.now.instr state.now
         then Some Cause.LoopMismatch else None))) }
 {
-    if is_simple(site.instr) {
+    if is_straight(site.instr) {
         return straight_cause(site.loops, site.pc, state);
     }
     let targets = targets(site.instr);

@@ -2,10 +2,10 @@
 
 ghost use Rattle.std.specs.Prelude.{◌≡◌, ◌≤◌, ◌<◌, ◌^◌, ◌↔◌, length, replicate, slice_index_or};
 ghost use Rattle.std.specs.Prelude.{slice_set, vec_len, IsTrue, OnOk, IfSome, MatchResult, All};
-ghost use Rattle.std.specs.Prelude.{Some, ℕ, option_to_list};
+ghost use Rattle.std.specs.Prelude.{Some, ℕ, ◌+◌, ◌∷◌, [], option_to_list};
 ghost use Rattle.sts_rules.specs.Edges as def;
 ghost use Rattle.sts_rules.specs.Refusal.{IsWellTyped};
-ghost use Rattle.sts_types.specs.Arrivals.{Merged, Arrive};
+ghost use Rattle.sts_types.specs.Arrivals.{Merged, Arrive, at_height};
 ghost use Rattle.sts_types.specs.Site.{IsSite, HasRoomAt, follows_at};
 ghost use Rattle.sts_types.specs.Typing.{Tells};
 
@@ -13,12 +13,12 @@ use crate::arrival::Arrival;
 use crate::arrivals::Arrivals;
 use crate::follow::edge_count;
 use crate::leads::skip;
-use crate::least::least_cause;
+use crate::least::{least_cause, short_way};
 use crate::loops::{CodeLoops, Tables};
 use crate::site::Site;
 use crate::state::{TypeState, entry};
 use std::alloc::{AllocError, Global};
-use sts_code::{Instr, MAX_INSTRUCTIONS, Program, code_of};
+use sts_code::{Instr, MAX_INSTRUCTIONS, MAX_OPERANDS, Program, code_of};
 use sts_rules::Cause;
 
 /// Why a function is refused.
@@ -92,6 +92,17 @@ fn follow(site: &Site<'_>, arrivals: &mut Arrivals) -> Result<(), AllocError>
     }
 }
 
+/// The current typestate arrives at the next place, with another number of operands.
+fn go_on(pc: u32, height: u8, arrivals: &mut Arrivals)
+    requires place { pc + 1 < length arrivals.old.table }
+    requires small { pc < MAX_INSTRUCTIONS }
+    requires few { height ≤ MAX_OPERANDS }
+    ensures { Arrive arrivals.old.table
+        ((pc + 1, at_height height arrivals.old.state) ∷ []) arrivals.new.table }
+{
+    arrivals.arrive_moved(pc + 1, height);
+}
+
 /// Checks that each place of the function has one typestate and no cause from V1 to V16. If not,
 /// reports the first place that has a cause, with the cause that is named there.
 ///
@@ -112,6 +123,18 @@ pub fn type_function(alloc: Global, program: &Program, function: u32) -> Result<
             Arrival::Nothing => return Err(refused(pc, Cause::DeadCode)),
             Arrival::Several => return Err(refused(pc, Cause::StatesDiffer)),
             Arrival::One(()) => {}
+        }
+        let short = short_way(
+            program,
+            function,
+            &loops,
+            pc,
+            code[pc as usize],
+            arrivals.state(),
+        );
+        if let Some(height) = short {
+            go_on(pc, height, &mut arrivals);
+            continue;
         }
         let instr = code[pc as usize];
         let skip = skip(&loops, pc, instr);
