@@ -1,0 +1,5 @@
+pub mod AlikeLemmas
+pub mod EffectLemmas
+pub mod EventLemmas
+pub mod NameLemmas
+pub mod ReadLemmas
