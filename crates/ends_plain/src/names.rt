@@ -143,3 +143,55 @@ fn same_frames(names: &NameLists, ours: &Frame, theirs: &Frame) -> bool
         && same_entries(names, ours.entries.as_slice(), theirs.entries.as_slice())
         && same_slots(names, &ours.slots, &theirs.slots)
 }
+
+/// Are the tasks the same under these names, as far as a later event can read them?
+fn same_tasks(names: &NameLists, ours: &Records, theirs: &Records, t: u32) -> bool
+    ensures { result ≡ true → Same (names_of names.now) (def.task_at ours.now t)
+        (def.task_at theirs.now ((names_of names.now).tasks t)) }
+{
+    let u = name(names.tasks.as_slice(), t);
+    let same_parents = match (ours.parent(t), theirs.parent(u)) {
+        (None, None) => true,
+        (Some(s), Some(r)) => name(names.scopes.as_slice(), s) == r,
+        _ => false,
+    };
+    if !same_parents
+        || ours.has_started(t) != theirs.has_started(u)
+        || ours.outcome(t) != theirs.outcome(u)
+        || ours.lives(t) != theirs.lives(u)
+    {
+        return false;
+    }
+    if !ours.lives(t) {
+        return true;
+    }
+    ours.flag(t) == theirs.flag(u) && same_frames(names, ours.frame(t), theirs.frame(u))
+}
+
+/// Are the scopes the same under these names, but for scoped values?
+fn same_scopes(names: &NameLists, ours: &Records, theirs: &Records, s: u32) -> bool
+    ensures { result ≡ true → SameScope (names_of names.now) (def.scope_at ours.now s)
+        (def.scope_at theirs.now ((names_of names.now).scopes s)) }
+{
+    let r = name(names.scopes.as_slice(), s);
+    name(names.tasks.as_slice(), ours.owner(s)) == theirs.owner(r)
+        && ours.joiner(s) == theirs.joiner(r)
+        && ours.is_timed(s) == theirs.is_timed(r)
+        && ours.phase(s) == theirs.phase(r)
+        && ours.is_cancelled(s) == theirs.is_cancelled(r)
+        && ours.is_expired(s) == theirs.is_expired(r)
+        && same_completions(names, ours.completions(s), theirs.completions(r))
+}
+
+/// Does each number have a name below the length, and does `back` lead from the name to it?
+fn is_bijection(names: &[u32], back: &[u32]) -> bool
+    ensures { result ≡ true → IsBijection names.now back.now }
+{
+    for k in 0..names.len() {
+        let other = names[k];
+        if other as usize >= names.len() || name(back, other) as usize != k {
+            return false;
+        }
+    }
+    true
+}
