@@ -1,18 +1,16 @@
 -- Each instruction leads from two states that are alike to two that are.
 use Rattle.std.proofs.Common.{◌≡◌, ℕ, ◌+◌, ◌<◌, zero, suc, List, [], ◌∷◌, ◌++◌, Bool, true, false, Option, Some, None}
-use Rattle.std.proofs.Common.{refl, sym, ◌∙◌, ap, subst, length, arith, get_or, set, cond, ◌&&◌, ◌||◌, not, map, drop, reverse, take}
+use Rattle.std.proofs.Common.{refl, sym, ◌∙◌, ap, subst, length, arith, get_or, cond, ◌||◌, not, map, drop}
 use Rattle.std.proofs.lemmas.Bool.{or_parts}
 use Rattle.std.proofs.lemmas.List.{get_or_append_left}
-use Rattle.std.specs.Prelude.{ℤ, pos, ◌-◌, ◌==◌, nat_le, unwrap_or, is_some, option_map, slice_set}
+use Rattle.std.specs.Prelude.{ℤ, pos, ◌-◌, ◌==◌, nat_le, unwrap_or, option_map, slice_set}
 use Rattle.std.specs.Int.{int_wrapping_div, w64}
 use Rattle.std.specs.Ordering.{int_eq}
-use Rattle.sts_code.specs.Facts.{owners_slot, subtask_slot, filled_slot}
 use Rattle.sts_code.specs.Loops.{match_of}
 use Rattle.sts_code.specs.Program.{Program, routine}
 use Rattle.sts_code.specs.declared.instr.Instr.{Instr}
 use Rattle.sts_code.specs.declared.instr.Instr.TheVariants as instr
 use Rattle.sts_code.specs.declared.instr.Joiner.{Joiner}
-use Rattle.sts_code.specs.declared.instr.Kind.{Kind}
 use Rattle.sts_model.specs.declared.event.End.{End}
 use Rattle.sts_model.specs.declared.event.End.TheVariants.{Success, Failed}
 use Rattle.sts_model.specs.declared.event.Phase.{Phase}
@@ -28,7 +26,7 @@ use Rattle.sts_model.specs.declared.record.Scope.{Scope}
 use Rattle.sts_model.specs.declared.record.Slot.{Slot}
 use Rattle.sts_model.specs.declared.record.Slot.TheVariants.{Empty, Own, Lent, Sub}
 use Rattle.sts_model.specs.declared.record.Task.{Task}
-use Rattle.sts_model.specs.World.{World, task_at, scope_at, no_task, fresh_scope, entry_frame, with_task, with_scope, with_frame, code}
+use Rattle.sts_model.specs.World.{World, task_at, scope_at, no_task, fresh_scope, with_task, with_scope, code}
 use Rattle.sts_model.specs.Living.{lives, is_living_subtask, any_lives, subtask_count, sub_state, ends}
 use Rattle.sts_model.specs.Local.{local, operand, goes, steps, truth, clipped, turns}
 use Rattle.sts_model.specs.Joining.{cancels, result_of}
@@ -36,10 +34,10 @@ use Rattle.sts_model.specs.Cancelling.{raised, marked, cancel}
 use Rattle.sts_model.specs.Environment.{environment_of}
 use Rattle.sts_model.specs.Effect.{named, with_phase, open_scope, with_slot, forked, subtask_of, fork_task, joined, join_verdict, join_scope, cleared, closed, close_scope}
 use Rattle.sts_model.specs.Effect.{told, decide, complete, tell, ended, end_task, tally, total, case_target, value_or_zero, effect}
-use Rattle.sts_model.specs.Misuse.{slot, at_slot, is_scope, is_sub, is_empty, has_wrong_slot}
+use Rattle.sts_model.specs.Misuse.{slot, is_scope, is_sub, has_wrong_slot}
 use Rattle.laws_names.specs.Names.{Names, IsAlike, live_part, plain_part, named_slot, named_entry, named_frame, named_task, named_scope, named_completion, is_reading}
 use Rattle.laws_names.proofs.NameLemmas.{map_set, map_drop, map_push}
-use Rattle.laws_names.proofs.AlikeLemmas.{Same, SameScope, same_scope, same_alive, same_made, alike_task, alike_frame, alike_scope, alike_more_tasks, alike_more_scopes, alike_cond, alike_cancel, cancelled_same}
+use Rattle.laws_names.proofs.AlikeLemmas.{same_scope, same_alive, same_made, alike_task, alike_frame, alike_scope, alike_more_tasks, alike_more_scopes, alike_cond, alike_cancel, cancelled_same}
 use Rattle.laws_names.proofs.ReadLemmas.{any_lives_same, subtask_count_same, ends_same, sub_state_same, tally_same, total_same, slot_named, cleared_same}
 
 -- ---- names of slots
@@ -161,14 +159,14 @@ alike_join n w v a t f s failed timeout interrupted alive =
     let rest : Bool → Verdict → World = λ (b : Bool) (o : Verdict). cond b (join_verdict o v u r g failed) (with_task (with_phase v r Attempted) u (record (task_at v u) { frame = goes g interrupted 0 []; flag = false })) in
     let answer : Verdict = result_of x.joiner (ends x) (subtask_count w s) in
     let expired : y.expired ≡ x.expired = ap (λ (z : Scope). z.expired) (a.scope s) in
-    let open : (y.cancelled || not (any_lives v r)) ≡ (x.cancelled || not (any_lives w s)) = ap (λ (b : Bool). b || not (any_lives v r)) (cancelled_same n w v a s) ∙ ap (λ (b : Bool). x.cancelled || not b) (any_lives_same n w v a s) in
+    let can_go : (y.cancelled || not (any_lives v r)) ≡ (x.cancelled || not (any_lives w s)) = ap (λ (b : Bool). b || not (any_lives v r)) (cancelled_same n w v a s) ∙ ap (λ (b : Bool). x.cancelled || not b) (any_lives_same n w v a s) in
     let answers : result_of y.joiner (ends y) (subtask_count v r) ≡ answer =
     ap (λ (z : Scope). result_of z.joiner (ends y) (subtask_count v r)) (a.scope s)
     ∙ ap (λ (es : List End). result_of x.joiner es (subtask_count v r)) (ends_same n w v a s)
     ∙ ap (λ (k : ℕ). result_of x.joiner (ends x) k) (subtask_count_same n w v a s) in
     let there : join_scope v u g r failed timeout interrupted ≡ cond x.expired (joined v u r (goes g timeout 0 [])) (rest (x.cancelled || not (any_lives w s)) answer) =
     ap (λ (b : Bool). cond b (joined v u r (goes g timeout 0 [])) (rest (y.cancelled || not (any_lives v r)) (result_of y.joiner (ends y) (subtask_count v r)))) expired
-    ∙ ap (λ (b : Bool). cond x.expired (joined v u r (goes g timeout 0 [])) (rest b (result_of y.joiner (ends y) (subtask_count v r)))) open
+    ∙ ap (λ (b : Bool). cond x.expired (joined v u r (goes g timeout 0 [])) (rest b (result_of y.joiner (ends y) (subtask_count v r)))) can_go
     ∙ ap (λ (o : Verdict). cond x.expired (joined v u r (goes g timeout 0 [])) (rest (x.cancelled || not (any_lives w s)) o)) answers in
     subst (λ (z : World). IsAlike n (join_scope w t f s failed timeout interrupted) z) (sym there)
     (alike_cond n x.expired (joined w t s (goes f timeout 0 [])) (joined v u r (goes g timeout 0 []))
@@ -283,16 +281,16 @@ alike_effect p n w v a t f (instr.Cancelled s) alive slots quiet =
     alike_frame n w v a t (steps f 0 (truth (scope_at w (named (slot f s))).cancelled ∷ [])) (steps g 0 (truth (scope_at v (named (slot g s))).cancelled ∷ [])) alive (ap (λ (b : Bool). steps g 0 (truth b ∷ [])) same)
 alike_effect p n w v a t f (instr.Case h success failed) alive slots quiet =
     let g = named_frame n f in
-    let same : sub_state v (named (slot g h)) ≡ sub_state w (named (slot f h)) = ap (sub_state v) (sub_at_slot n f h _ _ slots) ∙ sub_state_same n w v a (named (slot f h)) in
+    let same : sub_state v (named (slot g h)) ≡ sub_state w (named (slot f h)) = ap (sub_state v) (sub_at_slot n f h false false slots) ∙ sub_state_same n w v a (named (slot f h)) in
     alike_frame n w v a t (goes f (case_target (sub_state w (named (slot f h))) success failed (f.pc + 1)) 0 []) (goes g (case_target (sub_state v (named (slot g h))) success failed (g.pc + 1)) 0 []) alive
     (ap (λ (o : Option End). goes g (case_target o success failed (g.pc + 1)) 0 []) same)
 alike_effect p n w v a t f (instr.Get h) alive slots quiet =
     let g = named_frame n f in
-    let same : sub_state v (named (slot g h)) ≡ sub_state w (named (slot f h)) = ap (sub_state v) (sub_at_slot n f h _ _ slots) ∙ sub_state_same n w v a (named (slot f h)) in
+    let same : sub_state v (named (slot g h)) ≡ sub_state w (named (slot f h)) = ap (sub_state v) (sub_at_slot n f h false false slots) ∙ sub_state_same n w v a (named (slot f h)) in
     alike_frame n w v a t (steps f 0 (value_or_zero (sub_state w (named (slot f h))) ∷ [])) (steps g 0 (value_or_zero (sub_state v (named (slot g h))) ∷ [])) alive (ap (λ (o : Option End). steps g 0 (value_or_zero o ∷ [])) same)
 alike_effect p n w v a t f (instr.Except h) alive slots quiet =
     let g = named_frame n f in
-    let same : sub_state v (named (slot g h)) ≡ sub_state w (named (slot f h)) = ap (sub_state v) (sub_at_slot n f h _ _ slots) ∙ sub_state_same n w v a (named (slot f h)) in
+    let same : sub_state v (named (slot g h)) ≡ sub_state w (named (slot f h)) = ap (sub_state v) (sub_at_slot n f h false false slots) ∙ sub_state_same n w v a (named (slot f h)) in
     alike_frame n w v a t (steps f 0 (value_or_zero (sub_state w (named (slot f h))) ∷ [])) (steps g 0 (value_or_zero (sub_state v (named (slot g h))) ∷ [])) alive (ap (λ (o : Option End). steps g 0 (value_or_zero o ∷ [])) same)
 alike_effect p n w v a t f (instr.Tally s k) alive slots quiet =
     let g = named_frame n f in

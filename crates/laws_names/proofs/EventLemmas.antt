@@ -1,16 +1,15 @@
 -- Each event leads from two states that are alike to two that are.
-use Rattle.std.proofs.Common.{◌≡◌, ℕ, List, [], ◌∷◌, Bool, true, false, Option, Some, None, refl, sym, ◌∙◌, ap, subst, cond, ◌||◌, ◌&&◌, map, fold}
+use Rattle.std.proofs.Common.{◌≡◌, ℕ, List, [], ◌∷◌, Bool, true, false, Option, Some, None, refl, sym, ◌∙◌, ap, subst, cond, ◌||◌, map, fold}
 use Rattle.std.proofs.lemmas.Bool.{and_parts, or_parts}
 use Rattle.sts_code.specs.Program.{Program}
 use Rattle.sts_code.specs.declared.instr.Instr.{Instr}
 use Rattle.sts_model.specs.declared.event.Event.{Event}
 use Rattle.sts_model.specs.declared.event.Event.TheVariants as event
 use Rattle.sts_model.specs.declared.event.Fault.{Fault}
-use Rattle.sts_model.specs.declared.event.Fault.TheVariants.{Operand}
 use Rattle.sts_model.specs.declared.record.Frame.{Frame}
 use Rattle.sts_model.specs.declared.record.Scope.{Scope}
 use Rattle.sts_model.specs.declared.record.Task.{Task}
-use Rattle.sts_model.specs.World.{World, State, Running, Faulted, task_at, scope_at, no_task, with_task, with_scope, instr_at}
+use Rattle.sts_model.specs.World.{World, State, Running, Faulted, task_at, scope_at, with_task, with_scope, instr_at}
 use Rattle.sts_model.specs.Living.{lives}
 use Rattle.sts_model.specs.Cancelling.{cancel}
 use Rattle.sts_model.specs.Misuse.{misuse, fault_at, fault_of, misuses_operand, lacks_operands, overflows, breaks_loop, has_wrong_slot, misjoins, has_no_room}

@@ -1,14 +1,11 @@
 -- Two states are alike if each of their tasks and scopes is the same as the one with its name.
-use Rattle.std.proofs.Common.{◌≡◌, ℕ, zero, suc, ◌+◌, ◌-◌, ◌<◌, ◌≤◌, List, [], ◌∷◌, Bool, true, false, refl, sym, ◌∙◌, ap, subst, length, arith, get_or, cond}
-use Rattle.std.specs.Prelude.{◌==◌}
+use Rattle.std.proofs.Common.{◌≡◌, ℕ, suc, ◌+◌, ◌-◌, ◌<◌, ◌≤◌, List, [], ◌∷◌, Bool, true, false, refl, sym, ◌∙◌, ap, length, arith, get_or, cond}
 use Rattle.std.specs.List.{sum_by, remove}
 use Rattle.std.proofs.Math.Dec.{ltb}
 use Rattle.std.proofs.lemmas.Bool.{ltb-true}
 use Rattle.std.proofs.lemmas.Bool.Decides.{nat_tests}
 use Rattle.std.proofs.lemmas.List.Edits.{length-remove, get_or-remove_below, get_or-remove_above}
 use Rattle.std.proofs.lemmas.List.Sums.{sum_by-cons, sum_by-remove}
-use Rattle.sts_model.specs.declared.record.Scope.{Scope}
-use Rattle.sts_model.specs.declared.record.Task.{Task}
 use Rattle.sts_model.specs.World.{World, task_at, scope_at, no_task, no_scope}
 use Rattle.laws_names.specs.Names.{Names, IsAlike, IsOneToOne, live_part, plain_part, named_task, named_scope}
 use Rattle.laws_names.proofs.NameLemmas.{get_past, name_below}
@@ -44,8 +41,8 @@ get_shift {X} ys k j d other inside = by (ltb k j) refl
     by true e =
         let less = ltb-true k j e in
         let same : j - 1 + 1 ≡ j = omega (arith, less) in
-        get_or-remove_above d (j - 1) (omega (arith, less)) inside ∙ ap (λ m. get_or ys m d) same
-    by false e = get_or-remove_below d j (grind (arith, nat_tests)) inside
+        get_or-remove_above ys k d (j - 1) (omega (arith, less)) inside ∙ ap (λ m. get_or ys m d) same
+    by false e = get_or-remove_below ys k d j (grind (arith, nat_tests)) inside
 
 -- the sum over the named ones
 pub named_sum : {X : Type 0} (q r : X → ℕ) (d : X) (xs ys : List X) (f : ℕ → ℕ) → IsOneToOne f → length ys ≡ length xs → ((t : ℕ) → t < length xs → f t < length ys)
@@ -55,7 +52,7 @@ named_sum q r d [] (y ∷ ys) f one long inside same = absurd (omega (arith, lon
 named_sum {X} q r d (x ∷ xs) ys f one long inside same =
     let k : ℕ = f 0 in
     let within : k < length ys = inside 0 (omega arith) in
-    let shorter : length (remove ys k) + 1 ≡ length ys = length-remove within in
+    let shorter : length (remove ys k) + 1 ≡ length ys = length-remove ys k within in
     let other : (t : ℕ) → f (suc t) ≡ k → ⊥ = λ t e. let h = one (suc t) 0 e in absurd (omega (arith, h)) in
     let rest : sum_by q (remove ys k) ≡ sum_by r xs =
     named_sum q r d xs (remove ys k) (λ t. shift k (f (suc t)))

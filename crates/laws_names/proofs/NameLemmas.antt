@@ -1,16 +1,12 @@
 -- Lists and numbers under other names.
 use Rattle.std.proofs.Common.{◌≡◌, ℕ, zero, suc, ◌+◌, ◌<◌, ◌≤◌, List, [], ◌∷◌, ◌++◌, Bool, true, false, Option, Some, None}
-use Rattle.std.proofs.Common.{refl, sym, ◌∙◌, ap, subst, length, arith, get_or, set, cond, count_by, ◌||◌, map, drop}
-use Rattle.std.proofs.Common.{length-set, length-append, get_or-set_same, get_or-set_other}
-use Rattle.std.proofs.lemmas.List.{set_past, get_or_append_left}
-use Rattle.std.proofs.Math.Dec.{ltb, leb}
-use Rattle.std.proofs.Math.Seq.{get_or-append_seam}
+use Rattle.std.proofs.Common.{refl, sym, ◌∙◌, ap, length, arith, get_or, set, cond, count_by, ◌||◌, map, drop}
+use Rattle.std.proofs.Math.Dec.{ltb}
 use Rattle.std.specs.Prelude.{◌==◌, nat_lt, option_map, find}
 use Rattle.std.specs.List.{sum_by, list_any}
 use Rattle.std.proofs.lemmas.Bool.{lt-ltb, ltb-true}
 use Rattle.std.proofs.lemmas.Bool.Decides.{nat_tests}
-use Rattle.std.proofs.lemmas.List.Sums.{sum_by-cons, sum_by-set, sum_by_push}
-use Rattle.sts_model.specs.declared.event.End.{End}
+use Rattle.std.proofs.lemmas.List.Sums.{sum_by-cons}
 use Rattle.sts_model.specs.declared.record.Completion.{Completion}
 use Rattle.sts_model.specs.Living.{completion_of, ends_of, is_in}
 use Rattle.laws_names.specs.Names.{Names, IsOneToOne, named_completion}

@@ -1,21 +1,18 @@
 -- What is read of tasks and scopes, and which step is a misuse, in two states that are alike.
-use Rattle.std.proofs.Common.{◌≡◌, ℕ, ◌+◌, ◌≤◌, List, [], ◌∷◌, Bool, true, false, Option, Some, None}
-use Rattle.std.proofs.Common.{refl, sym, ◌∙◌, ap, subst, length, arith, get_or, cond, count_by, ◌&&◌, ◌||◌, not, map}
-use Rattle.std.specs.Prelude.{◌-◌, ◌==◌, ℤ, nat_lt, nat_le, option_map, is_none, is_some}
-use Rattle.std.specs.List.{sum_by}
+use Rattle.std.proofs.Common.{◌≡◌, ℕ, List, [], ◌∷◌, Bool, true, false, Option, Some, None}
+use Rattle.std.proofs.Common.{refl, sym, ◌∙◌, ap, length, cond, count_by, ◌&&◌, ◌||◌, not, map}
+use Rattle.std.specs.Prelude.{◌-◌, ◌==◌, nat_lt, option_map}
 use Rattle.sts_code.specs.Facts.{owners_slot, subtask_slot, filled_slot}
 use Rattle.sts_code.specs.Program.{Program}
 use Rattle.sts_code.specs.declared.instr.Instr.{Instr}
 use Rattle.sts_code.specs.declared.instr.Instr.TheVariants as instr
 use Rattle.sts_code.specs.declared.instr.Kind.{Kind}
 use Rattle.sts_code.specs.declared.instr.Kind.TheVariants.{S, F, U}
-use Rattle.sts_code.specs.declared.limits.TheConstants.{MAX_ENTRIES}
 use Rattle.sts_model.specs.declared.event.End.{End}
 use Rattle.sts_model.specs.declared.event.Fault.{Fault}
-use Rattle.sts_model.specs.declared.event.Fault.TheVariants.{IllegalState, WrongThread, Structure, Operand, Unbound}
+use Rattle.sts_model.specs.declared.event.Fault.TheVariants.{IllegalState, WrongThread, Structure, Operand}
 use Rattle.sts_model.specs.declared.event.Stand.{Stand}
 use Rattle.sts_model.specs.declared.event.Stand.TheVariants.{Free, AtJoin, AtClose}
-use Rattle.sts_model.specs.declared.record.Completion.{Completion}
 use Rattle.sts_model.specs.declared.record.Entry.{Entry}
 use Rattle.sts_model.specs.declared.record.Entry.TheVariants as entry
 use Rattle.sts_model.specs.declared.record.Frame.{Frame}
@@ -29,8 +26,8 @@ use Rattle.sts_model.specs.Living.{lives, is_subtask, is_living_subtask, any_liv
 use Rattle.sts_model.specs.Standing.{is_standing_scope, stands_in, is_standing_task, standing_tasks, standing_scopes}
 use Rattle.sts_model.specs.Effect.{tally, total, is_of, cleared}
 use Rattle.sts_model.specs.Misuse.{slot, at_slot, at_own, at_sub, is_scope, is_sub, is_empty, is_lent, has_wrong_slot, is_strangers, breaks_loop, misjoins, joins_wrongly}
-use Rattle.sts_model.specs.Misuse.{has_no_room, is_crowded, is_illegal, is_opened, can_join, is_readable, has_succeeded, has_failed, is_closing}
-use Rattle.sts_model.specs.Misuse.{breaks_structure, is_binding, is_entry_of, innermost, binds_after, lacks_operands, overflows, misuses_operand, fault_of, fault_at, misuse}
+use Rattle.sts_model.specs.Misuse.{has_no_room, is_illegal, is_opened, can_join, is_readable, has_succeeded, has_failed, is_closing}
+use Rattle.sts_model.specs.Misuse.{breaks_structure, is_binding, is_entry_of, innermost, binds_after, misuses_operand, fault_of, fault_at, misuse}
 use Rattle.sts_model.specs.Waiting.{can_step, can_go, stand_at_instr, stands_at_join, stands_at_close}
 use Rattle.laws_names.specs.Names.{Names, IsAlike, live_part, plain_part, named_slot, named_entry, named_frame, named_task, named_completion, is_reading, ReadsNothing}
 use Rattle.laws_names.proofs.NameLemmas.{same_test, in_named, get_map, map_length, sum_same, any_count, ends_named, completion_named}

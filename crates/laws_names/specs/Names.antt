@@ -1,6 +1,6 @@
 -- States that differ only by the birth numbers of their tasks and scopes, and by what no later event
 -- reads: frames and flags of tasks that don't live, and scoped values (this project's own).
-use Rattle.std.specs.Prelude.{◌≡◌, ℕ, ◌≤◌, List, [], length, map, Bool, true, false, Option, Some}
+use Rattle.std.specs.Prelude.{◌≡◌, ℕ, ◌≤◌, List, [], length, map, Bool, true, false, Some}
 use Rattle.std.specs.Prelude.{option_map, fold, if◌then◌else◌}
 use Rattle.std.specs.List.{sum_by}
 use Rattle.sts_code.specs.Program.{Program}
