@@ -16,7 +16,7 @@ use Rattle.sts_model.specs.declared.record.Task.{Task}
 use Rattle.sts_model.specs.World.{World, task_at, scope_at, no_task, no_scope, with_task, with_scope, with_frame}
 use Rattle.sts_model.specs.Living.{lives, is_in, is_subtask, is_living_subtask}
 use Rattle.sts_model.specs.Cancelling.{raise, raised, marked, cancel}
-use Rattle.laws_names.specs.Names.{Names, IsAlike, IsOneToOne, live_part, plain_part, named_frame, named_task, named_scope}
+use Rattle.laws_names.specs.Names.{Names, IsAlike, IsOneToOne, live_part, plain_part, named_frame, named_task, named_scope, IsSameTask, IsSameScope}
 use Rattle.laws_names.proofs.NameLemmas.{equal, unequal, in_named, name_below, get_map, map_length, get_past, sum_map, sum_same}
 
 -- ---- the part of a task that can be read
@@ -31,24 +31,20 @@ part_is {X} read here x = by (lives x)
 pub part_alive : (x : Task) → lives x ≡ true → live_part x ≡ x
 part_alive x e = ap (λ (b : Bool). cond b x (record x { frame = no_task.frame; flag = false })) e
 
--- a task of each state, that are the same but for names
-abbrev pub Same : Names → Task → Task → Type 0
-Same n x y = live_part y ≡ named_task n (live_part x)
-
-pub same_lives : (n : Names) (x y : Task) → Same n x y → lives y ≡ lives x
+pub same_lives : (n : Names) (x y : Task) → IsSameTask n x y → lives y ≡ lives x
 same_lives n x y h = sym (part_is lives (λ z. refl) y) ∙ ap lives h ∙ part_is lives (λ z. refl) x
 
-pub same_scope : (n : Names) (x y : Task) → Same n x y → y.scope ≡ option_map n.scopes x.scope
+pub same_scope : (n : Names) (x y : Task) → IsSameTask n x y → y.scope ≡ option_map n.scopes x.scope
 same_scope n x y h = sym (part_is (λ (z : Task). z.scope) (λ z. refl) y) ∙ ap (λ (z : Task). z.scope) h ∙ ap (λ (o : Option ℕ). option_map n.scopes o) (part_is (λ (z : Task). z.scope) (λ z. refl) x)
 
-pub same_outcome : (n : Names) (x y : Task) → Same n x y → y.outcome ≡ x.outcome
+pub same_outcome : (n : Names) (x y : Task) → IsSameTask n x y → y.outcome ≡ x.outcome
 same_outcome n x y h = sym (part_is (λ (z : Task). z.outcome) (λ z. refl) y) ∙ ap (λ (z : Task). z.outcome) h ∙ part_is (λ (z : Task). z.outcome) (λ z. refl) x
 
-pub same_alive : (n : Names) (x y : Task) → Same n x y → lives x ≡ true → y ≡ named_task n x
+pub same_alive : (n : Names) (x y : Task) → IsSameTask n x y → lives x ≡ true → y ≡ named_task n x
 same_alive n x y h e = sym (part_alive y (same_lives n x y h ∙ e)) ∙ h ∙ ap (named_task n) (part_alive x e)
 
 -- a task that is made alike from one that is
-pub same_made : (n : Names) (x : Task) → Same n x (named_task n x)
+pub same_made : (n : Names) (x : Task) → IsSameTask n x (named_task n x)
 same_made n x = by (lives x)
   where
     by : (b : Bool) → cond b (named_task n x) (record (named_task n x) { frame = no_task.frame; flag = false }) ≡ named_task n (cond b x (record x { frame = no_task.frame; flag = false }))
@@ -60,7 +56,7 @@ same_made n x = by (lives x)
 abbrev sum_part : (Task → ℕ) → List Task → ℕ
 sum_part q xs = sum_by (λ x. q (live_part x)) xs
 
-pub alike_task : (n : Names) (w v : World) → IsAlike n w v → (t : ℕ) (x y : Task) → Same n x y → IsAlike n (with_task w t x) (with_task v (n.tasks t) y)
+pub alike_task : (n : Names) (w v : World) → IsAlike n w v → (t : ℕ) (x y : Task) → IsSameTask n x y → IsAlike n (with_task w t x) (with_task v (n.tasks t) y)
 alike_task n w v a t x y h =
     record {
       tasks_born = length-set v.tasks (n.tasks t) y ∙ a.tasks_born ∙ sym (length-set w.tasks t x);
@@ -85,7 +81,7 @@ alike_task n w v a t x y h =
     past_too : ltb t (length w.tasks) ≡ false → length v.tasks ≤ n.tasks t
     past_too e = let same = a.later_tasks t (past e) in let p = past e in let born = a.tasks_born in omega (arith, same, p, born)
 
-    at_task : (u : ℕ) (b : Bool) → ltb t (length w.tasks) ≡ b → (c : Bool) → (u == t) ≡ c → Same n (get_or (set w.tasks t x) u no_task) (get_or (set v.tasks (n.tasks t) y) (n.tasks u) no_task)
+    at_task : (u : ℕ) (b : Bool) → ltb t (length w.tasks) ≡ b → (c : Bool) → (u == t) ≡ c → IsSameTask n (get_or (set w.tasks t x) u no_task) (get_or (set v.tasks (n.tasks t) y) (n.tasks u) no_task)
     at_task u true e true same =
         rw (equal u t same, get_or-set_same w.tasks t x no_task (ltb-true t (length w.tasks) e), get_or-set_same v.tasks (n.tasks t) y no_task (below e)) h
     at_task u true e false other =
@@ -112,10 +108,7 @@ alike_frame n w v a t f g alive same =
 
 -- ---- a scope of both is changed
 
-abbrev pub SameScope : Names → Scope → Scope → Type 0
-SameScope n x y = plain_part y ≡ named_scope n (plain_part x)
-
-pub alike_scope : (n : Names) (w v : World) → IsAlike n w v → (s : ℕ) (x y : Scope) → SameScope n x y → IsAlike n (with_scope w s x) (with_scope v (n.scopes s) y)
+pub alike_scope : (n : Names) (w v : World) → IsAlike n w v → (s : ℕ) (x y : Scope) → IsSameScope n x y → IsAlike n (with_scope w s x) (with_scope v (n.scopes s) y)
 alike_scope n w v a s x y h =
     record {
       tasks_born = a.tasks_born;
@@ -140,7 +133,7 @@ alike_scope n w v a s x y h =
     past_too : ltb s (length w.scopes) ≡ false → length v.scopes ≤ n.scopes s
     past_too e = let same = a.later_scopes s (past e) in let p = past e in let born = a.scopes_born in omega (arith, same, p, born)
 
-    at_scope : (u : ℕ) (b : Bool) → ltb s (length w.scopes) ≡ b → (c : Bool) → (u == s) ≡ c → SameScope n (get_or (set w.scopes s x) u no_scope) (get_or (set v.scopes (n.scopes s) y) (n.scopes u) no_scope)
+    at_scope : (u : ℕ) (b : Bool) → ltb s (length w.scopes) ≡ b → (c : Bool) → (u == s) ≡ c → IsSameScope n (get_or (set w.scopes s x) u no_scope) (get_or (set v.scopes (n.scopes s) y) (n.scopes u) no_scope)
     at_scope u true e true same =
         rw (equal u s same, get_or-set_same w.scopes s x no_scope (ltb-true s (length w.scopes) e), get_or-set_same v.scopes (n.scopes s) y no_scope (below e)) h
     at_scope u true e false other =
@@ -180,7 +173,7 @@ more {X} Rel f xs ys x y d born one later default new old k = by (ltb k (length 
         let there : length (ys ++ y ∷ []) ≤ f k = let l = length-append ys (y ∷ []) in let m = length-append xs (x ∷ []) in let s = later k past in omega (arith, l, m, s, born, after) in
         rw (get_past (xs ++ x ∷ []) k d after, get_past (ys ++ y ∷ []) (f k) d there) default
 
-pub alike_more_tasks : (n : Names) (w v : World) → IsAlike n w v → (x y : Task) → Same n x y → IsAlike n (record w { tasks = w.tasks ++ x ∷ [] }) (record v { tasks = v.tasks ++ y ∷ [] })
+pub alike_more_tasks : (n : Names) (w v : World) → IsAlike n w v → (x y : Task) → IsSameTask n x y → IsAlike n (record w { tasks = w.tasks ++ x ∷ [] }) (record v { tasks = v.tasks ++ y ∷ [] })
 alike_more_tasks n w v a x y h = record {
   tasks_born = length-append v.tasks (y ∷ []) ∙ ap (λ m. m + 1) a.tasks_born ∙ sym (length-append w.tasks (x ∷ []));
   scopes_born = a.scopes_born;
@@ -189,13 +182,13 @@ alike_more_tasks n w v a x y h = record {
   later_tasks = λ t past. a.later_tasks t (let l = length-append w.tasks (x ∷ []) in omega (arith, l, past));
   later_scopes = a.later_scopes;
   root = a.root;
-  task = λ t. more (Same n) n.tasks w.tasks v.tasks x y no_task a.tasks_born a.task_names a.later_tasks refl h a.task t;
+  task = λ t. more (IsSameTask n) n.tasks w.tasks v.tasks x y no_task a.tasks_born a.task_names a.later_tasks refl h a.task t;
   scope = a.scope;
   task_sums = λ q. sum_by_push (λ z. q (live_part z)) v.tasks y ∙ ap (λ m. m + q (live_part y)) (a.task_sums q) ∙ ap (λ z. sum_by (λ u. q (named_task n (live_part u))) w.tasks + q z) h ∙ sym (sum_by_push (λ z. q (named_task n (live_part z))) w.tasks x);
   scope_sums = a.scope_sums;
 }
 
-pub alike_more_scopes : (n : Names) (w v : World) → IsAlike n w v → (x y : Scope) → SameScope n x y → IsAlike n (record w { scopes = w.scopes ++ x ∷ [] }) (record v { scopes = v.scopes ++ y ∷ [] })
+pub alike_more_scopes : (n : Names) (w v : World) → IsAlike n w v → (x y : Scope) → IsSameScope n x y → IsAlike n (record w { scopes = w.scopes ++ x ∷ [] }) (record v { scopes = v.scopes ++ y ∷ [] })
 alike_more_scopes n w v a x y h = record {
   tasks_born = a.tasks_born;
   scopes_born = length-append v.scopes (y ∷ []) ∙ ap (λ m. m + 1) a.scopes_born ∙ sym (length-append w.scopes (x ∷ []));
@@ -205,7 +198,7 @@ alike_more_scopes n w v a x y h = record {
   later_scopes = λ s past. a.later_scopes s (let l = length-append w.scopes (x ∷ []) in omega (arith, l, past));
   root = a.root;
   task = a.task;
-  scope = λ s. more (SameScope n) n.scopes w.scopes v.scopes x y no_scope a.scopes_born a.scope_names a.later_scopes (ap (λ m. plain_part (record no_scope { owner = m })) (sym a.root)) h a.scope s;
+  scope = λ s. more (IsSameScope n) n.scopes w.scopes v.scopes x y no_scope a.scopes_born a.scope_names a.later_scopes (ap (λ m. plain_part (record no_scope { owner = m })) (sym a.root)) h a.scope s;
   task_sums = a.task_sums;
   scope_sums = λ q. sum_by_push (λ z. q (plain_part z)) v.scopes y ∙ ap (λ m. m + q (plain_part y)) (a.scope_sums q) ∙ ap (λ z. sum_by (λ u. q (named_scope n (plain_part u))) w.scopes + q z) h ∙ sym (sum_by_push (λ z. q (named_scope n (plain_part z))) w.scopes x);
 }
@@ -227,7 +220,7 @@ raise_named n one s x = ap (λ (b : Bool). cond (b && lives x) (record (named_ta
     by true = refl
     by false = refl
 
-raise_same : (n : Names) → IsOneToOne n.scopes → (s : ℕ) (x y : Task) → Same n x y → Same n (raise s x) (raise (n.scopes s) y)
+raise_same : (n : Names) → IsOneToOne n.scopes → (s : ℕ) (x y : Task) → IsSameTask n x y → IsSameTask n (raise s x) (raise (n.scopes s) y)
 raise_same n one s x y h = raise_part (n.scopes s) y ∙ ap (raise (n.scopes s)) h ∙ raise_named n one s (live_part x) ∙ ap (named_task n) (sym (raise_part s x))
 
 pub alike_raised : (n : Names) (w v : World) → IsAlike n w v → (s : ℕ) → IsAlike n (record w { tasks = raised s w.tasks }) (record v { tasks = raised (n.scopes s) v.tasks })

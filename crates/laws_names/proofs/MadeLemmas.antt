@@ -7,9 +7,8 @@ use Rattle.std.proofs.lemmas.Bool.Decides.{nat_tests}
 use Rattle.std.proofs.lemmas.List.Edits.{length-remove, get_or-remove_below, get_or-remove_above}
 use Rattle.std.proofs.lemmas.List.Sums.{sum_by-cons, sum_by-remove}
 use Rattle.sts_model.specs.World.{World, task_at, scope_at, no_task, no_scope}
-use Rattle.laws_names.specs.Names.{Names, IsAlike, IsOneToOne, live_part, plain_part, named_task, named_scope}
+use Rattle.laws_names.specs.Names.{Names, IsAlike, IsOneToOne, live_part, plain_part, named_task, named_scope, IsSameTask, IsSameScope}
 use Rattle.laws_names.proofs.NameLemmas.{get_past, name_below}
-use Rattle.laws_names.proofs.AlikeLemmas.{Same, SameScope}
 
 -- a place after another one was taken out
 shift : ℕ → ℕ → ℕ
@@ -75,8 +74,8 @@ pub record AreSame (n : Names) (w v : World) : Type 0 where
   pub later_tasks : (t : ℕ) → length w.tasks ≤ t → n.tasks t ≡ t
   pub later_scopes : (s : ℕ) → length w.scopes ≤ s → n.scopes s ≡ s
   pub root : n.tasks 0 ≡ 0
-  pub task : (t : ℕ) → t < length w.tasks → Same n (task_at w t) (task_at v (n.tasks t))
-  pub scope : (s : ℕ) → s < length w.scopes → SameScope n (scope_at w s) (scope_at v (n.scopes s))
+  pub task : (t : ℕ) → t < length w.tasks → IsSameTask n (task_at w t) (task_at v (n.tasks t))
+  pub scope : (s : ℕ) → s < length w.scopes → IsSameScope n (scope_at w s) (scope_at v (n.scopes s))
 
 pub alike_made : (n : Names) (w v : World) → AreSame n w v → IsAlike n w v
 alike_made n w v h =
@@ -96,7 +95,7 @@ alike_made n w v h =
           (λ s less. let e = name_below n.scopes h.scope_names (length w.scopes) h.later_scopes s less in let b = h.scopes_born in omega (arith, e, b)) (λ s less. ap q (h.scope s less));
     }
   where
-    at_task : (t : ℕ) (b : Bool) → ltb t (length w.tasks) ≡ b → Same n (task_at w t) (task_at v (n.tasks t))
+    at_task : (t : ℕ) (b : Bool) → ltb t (length w.tasks) ≡ b → IsSameTask n (task_at w t) (task_at v (n.tasks t))
     at_task t true e = h.task t (ltb-true t (length w.tasks) e)
     at_task t false e =
         let past : length w.tasks ≤ t = grind (arith, nat_tests) in
@@ -105,7 +104,7 @@ alike_made n w v h =
         let past_too : length v.tasks ≤ n.tasks t = omega (arith, past, same, born) in
         rw (get_past w.tasks t no_task past, get_past v.tasks (n.tasks t) no_task past_too) refl
 
-    at_scope : (s : ℕ) (b : Bool) → ltb s (length w.scopes) ≡ b → SameScope n (scope_at w s) (scope_at v (n.scopes s))
+    at_scope : (s : ℕ) (b : Bool) → ltb s (length w.scopes) ≡ b → IsSameScope n (scope_at w s) (scope_at v (n.scopes s))
     at_scope s true e = h.scope s (ltb-true s (length w.scopes) e)
     at_scope s false e =
         let past : length w.scopes ≤ s = grind (arith, nat_tests) in

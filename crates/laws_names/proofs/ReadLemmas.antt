@@ -29,9 +29,9 @@ use Rattle.sts_model.specs.Misuse.{slot, at_slot, at_own, at_sub, is_scope, is_s
 use Rattle.sts_model.specs.Misuse.{has_no_room, is_illegal, is_opened, can_join, is_readable, has_succeeded, has_failed, is_closing}
 use Rattle.sts_model.specs.Misuse.{breaks_structure, is_binding, is_entry_of, innermost, binds_after, misuses_operand, fault_of, fault_at, misuse}
 use Rattle.sts_model.specs.Waiting.{can_step, can_go, stand_at_instr, stands_at_join, stands_at_close}
-use Rattle.laws_names.specs.Names.{Names, IsAlike, live_part, plain_part, named_slot, named_entry, named_frame, named_task, named_completion, is_reading, ReadsNothing}
+use Rattle.laws_names.specs.Names.{Names, IsAlike, live_part, plain_part, named_slot, named_entry, named_frame, named_task, named_completion, is_reading, ReadsNothing, IsSameScope}
 use Rattle.laws_names.proofs.NameLemmas.{same_test, in_named, get_map, map_length, sum_same, any_count, ends_named, completion_named}
-use Rattle.laws_names.proofs.AlikeLemmas.{part_is, same_lives, same_scope, same_alive, SameScope}
+use Rattle.laws_names.proofs.AlikeLemmas.{part_is, same_lives, same_scope, same_alive}
 
 -- ---- counts
 
@@ -70,11 +70,11 @@ standing_scopes_same n w v a = a.scope_sums (λ x. cond (is_standing_scope x) 1 
 pub ends_same : (n : Names) (w v : World) → IsAlike n w v → (s : ℕ) → ends (scope_at v (n.scopes s)) ≡ ends (scope_at w s)
 ends_same n w v a s = ap ends (a.scope s) ∙ ends_named n (scope_at w s).completions
 
-parent_same : (n : Names) (w v : World) → IsAlike n w v → (o : Option ℕ) → SameScope n (parent w o) (parent v (option_map n.scopes o))
+parent_same : (n : Names) (w v : World) → IsAlike n w v → (o : Option ℕ) → IsSameScope n (parent w o) (parent v (option_map n.scopes o))
 parent_same n w v a None = ap (λ m. plain_part (record (parent w None) { owner = m })) (sym a.root)
 parent_same n w v a (Some s) = a.scope s
 
-scope_of_same : (n : Names) (w v : World) → IsAlike n w v → (t : ℕ) → SameScope n (scope_of w t) (scope_of v (n.tasks t))
+scope_of_same : (n : Names) (w v : World) → IsAlike n w v → (t : ℕ) → IsSameScope n (scope_of w t) (scope_of v (n.tasks t))
 scope_of_same n w v a t =
     ap (λ (o : Option ℕ). plain_part (parent v o)) (same_scope n (task_at w t) (task_at v (n.tasks t)) (a.task t)) ∙ parent_same n w v a (task_at w t).scope
 

@@ -82,6 +82,13 @@ ReadsNothing p = (f : Frame) (i : Instr) → instr_at p f ≡ Some i → is_read
 abbrev pub IsOneToOne : (ℕ → ℕ) → Type 0
 IsOneToOne f = (a b : ℕ) → f a ≡ f b → a ≡ b
 
+-- the second one has what the first has, as far as a later event can read it
+abbrev pub IsSameTask : Names → Task → Task → Type 0
+IsSameTask n x y = live_part y ≡ named_task n (live_part x)
+
+abbrev pub IsSameScope : Names → Scope → Scope → Type 0
+IsSameScope n x y = plain_part y ≡ named_scope n (plain_part x)
+
 -- with these names, the second state has what the first has, as far as a later event can read it
 pub record IsAlike (n : Names) (w v : World) : Type 0 where
   pub tasks_born : length v.tasks ≡ length w.tasks
@@ -91,10 +98,8 @@ pub record IsAlike (n : Names) (w v : World) : Type 0 where
   pub later_tasks : (t : ℕ) → length w.tasks ≤ t → n.tasks t ≡ t
   pub later_scopes : (s : ℕ) → length w.scopes ≤ s → n.scopes s ≡ s
   pub root : n.tasks 0 ≡ 0
-  pub task : (t : ℕ)
-      → live_part (task_at v (n.tasks t)) ≡ named_task n (live_part (task_at w t))
-  pub scope : (s : ℕ)
-      → plain_part (scope_at v (n.scopes s)) ≡ named_scope n (plain_part (scope_at w s))
+  pub task : (t : ℕ) → IsSameTask n (task_at w t) (task_at v (n.tasks t))
+  pub scope : (s : ℕ) → IsSameScope n (scope_at w s) (scope_at v (n.scopes s))
   pub task_sums : (q : Task → ℕ)
       → sum_by (λ x. q (live_part x)) v.tasks ≡ sum_by (λ x. q (named_task n (live_part x))) w.tasks
   pub scope_sums : (q : Scope → ℕ)
