@@ -161,14 +161,14 @@ through a states over x among es allowed goes = by among.same
     renamed : IsRenamed a x among.other → ShowsIn states (fold (apply p) x.position es)
     renamed h =
         let d = among.other in
-        let others = map (named_event h.names) es in
-        let r = goes d among.there (fuel_alike p h.names x.position d.position h.alike) others (map_length (named_event h.names) es)
-        (subst (λ (m : ℕ). IsAllowed a.setting.expiries m others) h.left (named_allowed a.setting.expiries x.left h.names es allowed)) in
+        let others = map (named_event h.position.names) es in
+        let r = goes d among.there (fuel_alike p h.position.names x.position d.position h.position.alike) others (map_length (named_event h.position.names) es)
+        (subst (λ (m : ℕ). IsAllowed a.setting.expiries m others) h.left (named_allowed a.setting.expiries x.left h.position.names es allowed)) in
         record {
           config = r.config;
           there = r.there;
-          shows = shown_alike h.names (fold (apply p) x.position es) (fold (apply p) d.position others) r.config.position
-          (alike_run p h.quiet h.names x.position d.position es h.alike) (over.calm h.exact r.config r.there) r.shows;
+          shows = shown_alike h.position.names (fold (apply p) x.position es) (fold (apply p) d.position others) r.config.position
+          (alike_run p h.position.quiet h.position.names x.position d.position es h.position.alike) (over.calm h.exact r.config r.there) r.shows;
         }
 
     by : (x ≡ among.other) ⊎ IsLike a x among.other → ShowsIn states (fold (apply p) x.position es)

@@ -70,14 +70,17 @@ pub record AreThose (test : Event → Bool) (events : List Event) : Type 0 where
 
 -- ---- states of which the search keeps one
 
--- the second state has other birth numbers than the first. An exact search keeps both, and so does
--- one of a program that reads scoped values
+-- the second state of a program that reads no scoped values has other birth numbers than the first
+pub record HasNames (p : Program) (x y : State) : Type 0 where
+  pub quiet : ReadsNothing p
+  pub names : Names
+  pub alike : AreAlike names x y
+
+-- a search that isn't exact may take the second state for the first
 pub record IsRenamed (a : Asked) (c d : Config) : Type 0 where
   pub exact : a.exact ≡ false
   pub left : c.left ≡ d.left
-  pub quiet : ReadsNothing a.setting.program
-  pub names : Names
-  pub alike : AreAlike names c.position d.position
+  pub position : HasNames a.setting.program c.position d.position
 
 abbrev pub IsLike : Asked → Config → Config → Type 0
 IsLike a c d = (c ≡ d) ⊎ IsRenamed a c d

@@ -1,14 +1,14 @@
 //! Whether two states differ only by the birth numbers of tasks and scopes.
 
-ghost use Rattle.std.specs.Prelude.{◌≡◌, ◌×◌, ◌<◌, true, IfOk, map, length, slice_index_or, slice_get, Some};
-ghost use Rattle.sts_code.specs.declared.instr.Instr.{Instr};
+ghost use Rattle.std.specs.Prelude.{◌≡◌, ◌<◌, ℕ, true, IfOk, map, length, slice_index_or};
+ghost use Rattle.std.specs.Prelude.{option_map};
 ghost use Rattle.sts_model.specs.World as def;
 ghost use Rattle.laws_names.specs.Names as law;
-ghost use Rattle.laws_names.proofs.AlikeLemmas.{Same, SameScope};
-ghost use Rattle.ends_plain.specs.Named.{names_of, IsBijection};
+ghost use Rattle.ends_plain.specs.Named.{names_of, name_in, IsNaming, AreRenamed};
+ghost use Rattle.ends_plain.specs.Named.{AreNames, AllTasksSame, AllScopesSame};
 
+use crate::guess::guessed;
 use std::alloc::{AllocError, Global};
-use sts_code::{Instr, Program};
 use sts_model::{Completion, Entry, Frame, Slot};
 use sts_same::same::{same_slices, same_stacks};
 use sts_world::{Records, World};
@@ -20,41 +20,9 @@ pub struct NameLists {
     pub scopes: Vec<u32>,
 }
 
-/// Does the instruction read a scoped value?
-fn is_reading(instr: Instr) -> bool
-    ensures { result ≡ law.is_reading instr }
-{
-    matches!(instr, Instr::Read(_) | Instr::Bound(_) | Instr::OrElse(_))
-}
-
-/// Does none of these instructions read a scoped value?
-fn none_reads(code: &[Instr]) -> bool
-    ensures { result ≡ true → (k : ℕ) (i : Instr) → slice_get code.now k ≡ Some i
-        → law.is_reading i ≡ false }
-{
-    for instr in code {
-        if is_reading(*instr) {
-            return false;
-        }
-    }
-    true
-}
-
-/// Does the program read no scoped value?
-pub fn reads_nothing(program: &Program) -> bool
-    ensures { result ≡ true → law.ReadsNothing program.now }
-{
-    for function in program.functions() {
-        if !none_reads(function.code()) {
-            return false;
-        }
-    }
-    true
-}
-
-/// The name of a birth number.
-fn name(names: &[u32], number: u32) -> u32
-    ensures { result ≡ slice_index_or names.now number number }
+/// The name of a birth number; one past the list is its own name.
+pub fn name(names: &[u32], number: u32) -> u32
+    ensures { result ≡ name_in names.now number }
 {
     match names.get(number as usize) {
         Some(other) => *other,
@@ -81,6 +49,26 @@ fn named_entry(names: &NameLists, entry: Entry) -> Entry
     match entry {
         Entry::Scope(s) => Entry::Scope(name(names.scopes.as_slice(), s)),
         Entry::Binding(key, value) => Entry::Binding(key, value),
+    }
+}
+
+/// A completion under these names.
+fn named_completion(names: &NameLists, completion: Completion) -> Completion
+    ensures { result ≡ law.named_completion (names_of names.now) completion }
+{
+    Completion {
+        task: name(names.tasks.as_slice(), completion.task),
+        end: completion.end,
+    }
+}
+
+/// A scope under these names, if there is one.
+fn named_parent(names: &NameLists, scope: Option<u32>) -> Option<u32>
+    ensures { result ≡ option_map (names_of names.now).scopes scope }
+{
+    match scope {
+        Some(s) => Some(name(names.scopes.as_slice(), s)),
+        None => None,
     }
 }
 
@@ -123,8 +111,7 @@ fn same_completions(names: &NameLists, ours: &[Completion], theirs: &[Completion
         return false;
     }
     for i in 0..ours.len() {
-        let task = name(names.tasks.as_slice(), ours[i].task);
-        if task != theirs[i].task || ours[i].end != theirs[i].end {
+        if named_completion(names, ours[i]) != theirs[i] {
             return false;
         }
     }
@@ -146,31 +133,25 @@ fn same_frames(names: &NameLists, ours: &Frame, theirs: &Frame) -> bool
 
 /// Are the tasks the same under these names, as far as a later event can read them?
 fn same_tasks(names: &NameLists, ours: &Records, theirs: &Records, t: u32) -> bool
-    ensures { result ≡ true → Same (names_of names.now) (def.task_at ours.now t)
+    ensures { result ≡ true → law.IsSameTask (names_of names.now) (def.task_at ours.now t)
         (def.task_at theirs.now ((names_of names.now).tasks t)) }
 {
     let u = name(names.tasks.as_slice(), t);
-    let same_parents = match (ours.parent(t), theirs.parent(u)) {
-        (None, None) => true,
-        (Some(s), Some(r)) => name(names.scopes.as_slice(), s) == r,
-        _ => false,
-    };
-    if !same_parents
+    if named_parent(names, ours.parent(t)) != theirs.parent(u)
         || ours.has_started(t) != theirs.has_started(u)
         || ours.outcome(t) != theirs.outcome(u)
-        || ours.lives(t) != theirs.lives(u)
     {
         return false;
     }
-    if !ours.lives(t) {
-        return true;
+    if !ours.lives(t) || !theirs.lives(u) {
+        return ours.lives(t) == theirs.lives(u);
     }
     ours.flag(t) == theirs.flag(u) && same_frames(names, ours.frame(t), theirs.frame(u))
 }
 
 /// Are the scopes the same under these names, but for scoped values?
 fn same_scopes(names: &NameLists, ours: &Records, theirs: &Records, s: u32) -> bool
-    ensures { result ≡ true → SameScope (names_of names.now) (def.scope_at ours.now s)
+    ensures { result ≡ true → law.IsSameScope (names_of names.now) (def.scope_at ours.now s)
         (def.scope_at theirs.now ((names_of names.now).scopes s)) }
 {
     let r = name(names.scopes.as_slice(), s);
@@ -183,15 +164,76 @@ fn same_scopes(names: &NameLists, ours: &Records, theirs: &Records, s: u32) -> b
         && same_completions(names, ours.completions(s), theirs.completions(r))
 }
 
-/// Does each number have a name below the length, and does `back` lead from the name to it?
-fn is_bijection(names: &[u32], back: &[u32]) -> bool
-    ensures { result ≡ true → IsBijection names.now back.now }
+/// Are all tasks the same under these names?
+fn all_tasks_same(names: &NameLists, ours: &Records, theirs: &Records) -> bool
+    ensures { result ≡ true
+        → AllTasksSame (names_of names.now) ours.now theirs.now (length ours.now.tasks) }
 {
-    for k in 0..names.len() {
-        let other = names[k];
-        if other as usize >= names.len() || name(back, other) as usize != k {
+    let born = ours.tasks_born() as u32;
+    for t in 0..born {
+        if !same_tasks(names, ours, theirs, t) {
             return false;
         }
     }
     true
+}
+
+/// Are all scopes the same under these names?
+fn all_scopes_same(names: &NameLists, ours: &Records, theirs: &Records) -> bool
+    ensures { result ≡ true
+        → AllScopesSame (names_of names.now) ours.now theirs.now (length ours.now.scopes) }
+{
+    let born = ours.scopes_born() as u32;
+    for s in 0..born {
+        if !same_scopes(names, ours, theirs, s) {
+            return false;
+        }
+    }
+    true
+}
+
+/// Does each of so many numbers have a name below this many, and does `back` lead from there to it?
+fn is_naming(names: &[u32], back: &[u32], births: usize) -> bool
+    ensures { result ≡ true → IsNaming names.now back.now births }
+{
+    if names.len() != births {
+        return false;
+    }
+    for k in 0..births {
+        let other = names[k];
+        if other as usize >= births || name(back, other) as usize != k {
+            return false;
+        }
+    }
+    true
+}
+
+/// Do these names lead from all births of the one state to all births of the other one, from the
+/// root to the root?
+fn are_names(names: &NameLists, back: &NameLists, ours: &Records, theirs: &Records) -> bool
+    ensures { result ≡ true → AreNames names.now back.now ours.now theirs.now }
+{
+    ours.tasks_born() == theirs.tasks_born()
+        && ours.scopes_born() == theirs.scopes_born()
+        && is_naming(names.tasks.as_slice(), back.tasks.as_slice(), ours.tasks_born())
+        && is_naming(names.scopes.as_slice(), back.scopes.as_slice(), ours.scopes_born())
+        && name(names.tasks.as_slice(), 0) == 0
+}
+
+/// Do the states differ only by birth numbers, or not at all? The answer may be `false` though they
+/// don't.
+pub fn have_names(alloc: Global, ours: &World, theirs: &World) -> Result<bool, AllocError>
+    ensures { IfOk result (λ r. r ≡ true → AreRenamed ours.now theirs.now) }
+{
+    let guess = guessed(alloc, ours, theirs)?;
+    let here = ours.records();
+    let there = theirs.records();
+    let names = &guess.names;
+    if !are_names(names, &guess.back, here, there) {
+        return Ok(false);
+    }
+    if !all_tasks_same(names, here, there) {
+        return Ok(false);
+    }
+    Ok(all_scopes_same(names, here, there))
 }

@@ -1,6 +1,6 @@
 -- How a search grows.
 use Rattle.std.proofs.Common.{◌≡◌, ℕ, ◌+◌, ◌<◌, ◌≤◌, ◌⊎◌, List, [], ◌∷◌, ◌++◌, length, fold, refl, ap, sym, ◌∙◌, arith, inl, inr, subst}
-use Rattle.std.proofs.Common.{length-append, reverse, append_assoc, Bool, true, false}
+use Rattle.std.proofs.Common.{length-append, reverse, append_assoc, Bool, true}
 use borrow.Author.Count.{below_more}
 use Rattle.std.proofs.lemmas.List.{get_or_default}
 use Rattle.std.proofs.lemmas.List.{append-nil}

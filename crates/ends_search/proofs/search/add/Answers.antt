@@ -1,4 +1,4 @@
-use Rattle.std.proofs.Common.{◌≡◌, ◌<◌, length, [], ◌∷◌, ◌++◌, arith, subst}
+use Rattle.std.proofs.Common.{◌<◌, length, arith, subst}
 use Rattle.ends_search.specs.Search.{IsAmong, states_of}
 use Rattle.ends_search.proofs.StateLemmas.{space_more, grows_more, follows, follows_there}
 use Rattle.ends_search.proofs.search.add.Goals as goal

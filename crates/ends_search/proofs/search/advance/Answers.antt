@@ -1,4 +1,4 @@
-use Rattle.std.proofs.Common.{◌≡◌, ◌<◌, length, arith, ◌∙◌}
+use Rattle.std.proofs.Common.{◌<◌, length, arith, ◌∙◌}
 use Rattle.ends_search.proofs.StateLemmas.{space_closed}
 use Rattle.ends_search.proofs.search.advance.Goals.{then-branch, else-branch}
 use Rattle.ends_search.proofs.search.advance.Goals as goal
