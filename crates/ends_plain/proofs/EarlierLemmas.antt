@@ -1,6 +1,6 @@
 -- The own step of a task is taken first. If it comes later in a list of events, it is left out
 -- there. The rest of the list leads to a state that shows the same.
-use Rattle.std.proofs.Common.{◌≡◌, ℕ, ◌+◌, ◌-◌, ◌<◌, ◌≤◌, List, [], ◌∷◌, Bool, true, false}
+use Rattle.std.proofs.Common.{◌≡◌, ℕ, ◌+◌, ◌<◌, ◌≤◌, List, [], ◌∷◌, Bool, true, false}
 use Rattle.std.proofs.Common.{refl, sym, ◌∙◌, ap, subst, length, arith, get_or, set, cond, fold, count_by}
 use Rattle.std.specs.Prelude.{◌==◌}
 use Rattle.std.specs.List.{sum_by}
@@ -14,12 +14,13 @@ use Rattle.sts_model.specs.declared.record.Task.{Task}
 use Rattle.sts_model.specs.World.{World, State, Running, Faulted, task_at, no_task, with_frame, code}
 use Rattle.sts_model.specs.Run.{apply, step}
 use Rattle.laws_runs.proofs.RunLemmas.{fault-fold}
-use Rattle.laws_names.specs.Names.{Names, IsAlike, live_part}
+use Rattle.laws_names.specs.Names.{Names, IsAlike, live_part, named_task}
+use Rattle.laws_names.proofs.NameLemmas.{sum_same}
 use Rattle.laws_names.proofs.AlikeLemmas.{part_alive}
 use Rattle.ends_plain.specs.Configs.{is_step_of}
 use Rattle.ends_plain.specs.Own.{has_own_step}
 use Rattle.ends_plain.proofs.ApartLemmas.{alive_born}
-use Rattle.ends_plain.proofs.FuelLemmas.{frame_fuel}
+use Rattle.ends_plain.proofs.FuelLemmas.{frame_fuel, frame_fuel_named}
 use Rattle.ends_plain.proofs.OwnLemmas.{OwnStep, own_step, goes_on, IsRun, run_on, Swaps, swaps}
 
 -- ---- the list without the step
@@ -114,8 +115,10 @@ fuel p w = sum_by (λ x. task_fuel p (live_part x)) w.tasks
 
 -- states that are alike have as much
 pub fuel_same : (p : Program) (n : Names) (w v : World) → IsAlike n w v → fuel p v ≡ fuel p w
-unfolding fuel task_fuel frame_fuel
-fuel_same p n w v a = a.task_sums (task_fuel p)
+unfolding fuel task_fuel
+fuel_same p n w v a =
+    a.task_sums (task_fuel p)
+    ∙ sum_same (λ x. task_fuel p (named_task n (live_part x))) (λ x. task_fuel p (live_part x)) (λ x. let f = (live_part x).frame in frame_fuel_named n (code p f) f) w.tasks
 
 pub fuel_less : (p : Program) (w : World) (t : ℕ) → OwnStep p w t → fuel p (with_frame w t (goes_on p w t)) < fuel p w
 unfolding fuel task_fuel

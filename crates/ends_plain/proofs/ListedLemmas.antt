@@ -1,22 +1,26 @@
 -- The ends that a search lists: each is an end, and if the search is closed, each end is listed.
-use Rattle.std.proofs.Common.{◌≡◌, ℕ, zero, suc, ◌+◌, ◌<◌, ◌⊎◌, List, [], ◌∷◌, ◌++◌, length, fold, refl, ap, sym, ◌∙◌, arith, inl, inr, subst, true, false}
+use Rattle.std.proofs.Common.{◌≡◌, ℕ, zero, suc, ◌+◌, ◌<◌, ◌⊎◌, List, [], ◌∷◌, ◌++◌, length, refl, ap, sym, ◌∙◌, arith, inl, inr, subst, Bool, true, false, not}
 use Rattle.std.specs.Prelude.{slice_index_or}
-use Rattle.std.specs.List.{Contains}
+use Rattle.std.specs.List.{Contains, list_any}
+use Rattle.std.specs.Prelude.{Option}
+use Rattle.std.proofs.lemmas.Bool.{or_parts}
 use Rattle.std.proofs.lemmas.List.{get_or_default, map-append}
 use Rattle.std.proofs.lemmas.List.Elements.{Contains-append_left, Contains-append_right, Contains-append_cases}
 use Rattle.sts_model.specs.Run.{after}
 use Rattle.sts_plain.specs.declared.misstep.PlainState.{PlainState}
 use Rattle.sts_model.specs.World.{State, Running, Faulted}
 use Rattle.sts_plain.specs.Seen.{shown, is_fault}
-use Rattle.ends_search.specs.Search.{IsWay, IsTraced, origin_at}
+use Rattle.ends_search.specs.Search.{IsWay, IsTraced, IsClosed, origin_at, states_of}
+use Rattle.ends_search.proofs.StateLemmas.{begins_so}
 use Rattle.ends_search.specs.declared.origin.Origin.{Origin}
 use Rattle.ends_plain.specs.declared.config.Asked.{Asked}
 use Rattle.ends_plain.specs.declared.config.Config.{Config}
 use Rattle.ends_plain.specs.declared.config.Found.{Found}
 use Rattle.ends_plain.specs.declared.config.Setting.{Setting}
-use Rattle.ends_plain.specs.Configs.{next, can, tries, start}
+use Rattle.ends_plain.specs.Configs.{next, can, tries, start, IsLike}
+use Rattle.ends_plain.specs.Explored.{IsExplored}
 use Rattle.ends_plain.specs.Ends.{is_end, AreAll}
-use Rattle.ends_plain.specs.Listed.{is_fault_end}
+use Rattle.ends_plain.specs.Listed.{is_fault_end, is_faulty}
 use Rattle.ends_plain.specs.Listed.{ends_of, AreShown, AreEnds, HasShown, IsEndOf, IsShownBy}
 use Rattle.ends_plain.proofs.EventLemmas.{split}
 use Rattle.ends_plain.proofs.WayLemmas.{position_after, allowed}
@@ -127,7 +131,16 @@ no_fault states ends has none c there = by c.position (λ e. rw there.2 at (has 
     by (Running w) h = refl
     by (Faulted kind t f pc) h = let fault = none (shown (Faulted kind t f pc)) (h refl) in cc
 
-pub complete : (a : Asked) (states : List Config) (ends : List PlainState) → IsOver a states → HasShown states (length states) ends → AreAll a.setting.program a.setting.expiries a.setting.interrupts ends
+none_faulty : (found : List Found) → list_any is_faulty found ≡ false → (k : ℕ) (end : PlainState) → k < length (ends_of found) → slice_index_or (ends_of found) k end ≡ end → is_fault_end end ≡ false
+none_faulty [] none k end less at = absurd (omega (arith, less))
+none_faulty (f ∷ fs) none zero end less at = ap is_fault_end (sym at) ∙ (or_parts (is_faulty f) (list_any is_faulty fs) none).0
+none_faulty (f ∷ fs) none (suc k) end less at = none_faulty fs (or_parts (is_faulty f) (list_any is_faulty fs) none).1 k end (omega (arith, less)) at
+
+pub none_of : (found list : List Found) (some : Bool) → list ≡ found → some ≡ list_any is_faulty list → not some ≡ true → list_any is_faulty found ≡ false
+none_of found list true same is e = cc
+none_of found list false same is e = ap (list_any is_faulty) (sym same) ∙ sym is
+
+complete : (a : Asked) (states : List Config) (ends : List PlainState) → IsOver a states → HasShown states (length states) ends → AreAll a.setting.program a.setting.expiries a.setting.interrupts ends
 complete a states ends over has events end h =
     let r = shows_all a states over events h.allowed in
     let there = r.there in
@@ -135,3 +148,22 @@ complete a states ends over has events end h =
     let shows : shown (slice_index_or states there.0 r.config).position ≡ end = ap (λ (y : Config). shown y.position) at ∙ r.shows ∙ h.comes in
     let ends_there : is_end (shown (slice_index_or states there.0 r.config).position) ≡ true = rw shows h.ends in
     rw shows at (has there.0 r.config there.1 ends_there)
+
+-- a search that is over lists all ends, unless it isn't exact and lists a fault
+pub all_listed : (a : Asked) (first : Config) (origins : List Origin) (closed : ℕ) (kept : List Config) (marks : List (Option ℕ)) (found : List Found) → IsExplored a first origins closed kept marks → closed ≡ length origins
+    → HasShown (states_of (next a.setting) first origins) (length origins) (ends_of found) → (a.exact ≡ false → list_any is_faulty found ≡ false) → AreAll a.setting.program a.setting.expiries a.setting.interrupts (ends_of found)
+all_listed a first origins closed kept marks found x over has calm =
+    let g = a.setting in
+    let states = states_of (next g) first origins in
+    let s = x.space.searched in
+    let as_many : length origins ≡ length states = s.traced.as_many in
+    let shown_ones : HasShown states (length states) (ends_of found) = subst (λ (n : ℕ). HasShown states n (ends_of found)) as_many has in
+    let begins = begins_so (next g) first origins s.some in
+    let at_start : (d : Config) → slice_index_or states 0 d ≡ start g = λ (d : Config). begins.first d ∙ x.begins in
+    let whole : IsOver a states = record {
+      begins = (0, begins.some, at_start (start g));
+      closed = subst (λ (n : ℕ). IsClosed (next g) (tries g) (IsLike a) states n) (over ∙ as_many) s.closed_below;
+      runs = states_run g states origins s.traced at_start;
+      calm = λ loose. no_fault states (ends_of found) shown_ones (λ end c. none_faulty found (calm loose) c.0 end c.1 c.2);
+    } in
+    complete a states (ends_of found) whole shown_ones

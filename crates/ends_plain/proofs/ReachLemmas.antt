@@ -28,7 +28,7 @@ use Rattle.ends_plain.specs.declared.config.Asked.{Asked}
 use Rattle.ends_plain.specs.Configs.{next, can, can_come, is_tried, tries, start, IsLike, IsRenamed}
 use Rattle.ends_plain.specs.Own.{has_own_step, own_step_of}
 use Rattle.ends_plain.proofs.ApartLemmas.{value_apart}
-use Rattle.ends_plain.proofs.OwnLemmas.{own_step, goes_on, IsRun, run_on}
+use Rattle.ends_plain.proofs.OwnLemmas.{own_step, goes_on, IsRun}
 use Rattle.ends_plain.proofs.EarlierLemmas.{IsOutward, is_step, without, without_shorter, without_counts, shows_same, fuel, fuel_less, fuel_same}
 use Rattle.ends_plain.proofs.WayLemmas.{idle, first_of_all, rest_after, rest_without}
 
@@ -168,7 +168,7 @@ through a states over x among es allowed goes = by among.same
           config = r.config;
           there = r.there;
           shows = shown_alike h.position.names (fold (apply p) x.position es) (fold (apply p) d.position others) r.config.position
-          (alike_run p h.position.quiet h.position.names x.position d.position es h.position.alike) (over.calm h.exact r.config r.there) r.shows;
+              (alike_run p h.position.quiet h.position.names x.position d.position es h.position.alike) (over.calm h.exact r.config r.there) r.shows;
         }
 
     by : (x ≡ among.other) ⊎ IsLike a x among.other → ShowsIn states (fold (apply p) x.position es)

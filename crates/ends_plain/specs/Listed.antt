@@ -1,7 +1,6 @@
 -- The ends that a search lists (this project's own).
 use Rattle.std.specs.Prelude.{◌≡◌, ℕ, ◌<◌, List, Bool, true, false, map, slice_index_or}
 use Rattle.std.specs.List.{Contains}
-use Rattle.sts_code.specs.Program.{Program}
 use Rattle.sts_plain.specs.declared.misstep.PlainState.{PlainState}
 use Rattle.sts_plain.specs.declared.misstep.PlainState.TheVariants as plain
 use Rattle.sts_plain.specs.Seen.{shown}
@@ -18,6 +17,9 @@ ends_of found = map (λ (f : Found). f.end) found
 abbrev pub is_fault_end : PlainState → Bool
 is_fault_end (plain.Fault kind t f pc) = true
 is_fault_end _ = false
+
+abbrev pub is_faulty : Found → Bool
+is_faulty f = is_fault_end f.end
 
 -- it is an end of the program, and its trace leads to it
 abbrev pub IsEndOf : Setting → Found → Type 0

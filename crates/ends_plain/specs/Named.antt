@@ -1,5 +1,5 @@
 -- Names that are kept as lists (this project's own).
-use Rattle.std.specs.Prelude.{◌≡◌, ℕ, ◌<◌, ◌×◌, List, length, slice_index_or}
+use Rattle.std.specs.Prelude.{◌≡◌, ℕ, ◌<◌, List, length, slice_index_or}
 use Rattle.sts_model.specs.World.{World, task_at, scope_at}
 use Rattle.laws_names.specs.Names.{Names, IsAlike, IsSameTask, IsSameScope}
 use Rattle.ends_plain.specs.declared.names.NameLists.{NameLists}

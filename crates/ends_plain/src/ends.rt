@@ -1,12 +1,11 @@
 //! The ends among the states of a search.
 
 ghost use Rattle.std.specs.Prelude.{◌≡◌, true, false, IfOk, length};
-ghost use Rattle.std.specs.List.{Contains};
-ghost use Rattle.sts_plain.specs.declared.misstep.PlainState as def;
+ghost use Rattle.std.specs.List.{Contains, list_any};
 ghost use Rattle.ends_search.specs.Search.{IsSpace, states_of};
 ghost use Rattle.ends_plain.specs.Configs.{next, tries, IsLike};
 ghost use Rattle.ends_plain.specs.Ends.{is_end};
-ghost use Rattle.ends_plain.specs.Listed.{ends_of, AreShown, HasShown, is_fault_end};
+ghost use Rattle.ends_plain.specs.Listed.{ends_of, AreShown, HasShown, is_fault_end, is_faulty};
 
 use crate::config::{Asked, Config, Found};
 use crate::shorter::shortened;
@@ -50,23 +49,13 @@ fn is_fault(end: PlainState) -> bool
 
 /// Is one of the ends a fault?
 pub fn has_fault(found: &[Found]) -> bool
-    ensures { result ≡ false → (end : def.PlainState) → Contains (ends_of found.now) end
-        → is_fault_end end ≡ false }
+    ensures { result ≡ list_any is_faulty found.now }
 {
-    for one in found {
-        if is_fault(one.end) {
-            return true;
-        }
-    }
-    false
+    found.iter().any(|one| is_fault(one.end))
 }
 
 /// The ends among the states of a search, each with a way to the first state that shows it.
-pub fn list(
-    alloc: Global,
-    asked: &Asked,
-    space: &Space<Config>,
-) -> Result<Vec<Found>, AllocError>
+pub fn list(alloc: Global, asked: &Asked, space: &Space<Config>) -> Result<Vec<Found>, AllocError>
     requires { IsSpace (next asked.now.setting) (tries asked.now.setting) (IsLike asked.now)
         space.now.first space.now.origins.items space.now.closed space.now.kept.items
         space.now.marks.items }

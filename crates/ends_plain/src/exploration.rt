@@ -41,7 +41,8 @@ fn finds_fault(alloc: Global, asked: &Asked, space: &Space<Config>) -> Result<bo
         space.now.marks.items }
 {
     for k in 0..space.origins.len() {
-        if restored(alloc, asked, space, k)?.position.world().is_none() {
+        let config = restored(alloc, asked, space, k)?;
+        if config.position.world().is_none() {
             return Ok(true);
         }
     }
@@ -86,7 +87,14 @@ impl Exploration {
         }
         if finds_fault(alloc, &asked, &space)? {
             let setting = asked.setting;
-            return begun(alloc, Asked { setting, exact: true }, space.most);
+            return begun(
+                alloc,
+                Asked {
+                    setting,
+                    exact: true,
+                },
+                space.most,
+            );
         }
         Ok(Exploration { asked, space })
     }

@@ -122,13 +122,22 @@ fn same_completions(names: &NameLists, ours: &[Completion], theirs: &[Completion
 fn same_frames(names: &NameLists, ours: &Frame, theirs: &Frame) -> bool
     ensures { result ≡ true → theirs.now ≡ law.named_frame (names_of names.now) ours.now }
 {
-    ours.function == theirs.function
-        && ours.pc == theirs.pc
-        && same_stacks(&ours.operands, &theirs.operands)
-        && same_slices(&ours.locals, &theirs.locals)
-        && same_stacks(&ours.loops, &theirs.loops)
-        && same_entries(names, ours.entries.as_slice(), theirs.entries.as_slice())
-        && same_slots(names, &ours.slots, &theirs.slots)
+    if ours.function != theirs.function || ours.pc != theirs.pc {
+        return false;
+    }
+    if !same_stacks(&ours.operands, &theirs.operands) {
+        return false;
+    }
+    if !same_slices(&ours.locals, &theirs.locals) {
+        return false;
+    }
+    if !same_stacks(&ours.loops, &theirs.loops) {
+        return false;
+    }
+    if !same_entries(names, ours.entries.as_slice(), theirs.entries.as_slice()) {
+        return false;
+    }
+    same_slots(names, &ours.slots, &theirs.slots)
 }
 
 /// Are the tasks the same under these names, as far as a later event can read them?
@@ -143,10 +152,17 @@ fn same_tasks(names: &NameLists, ours: &Records, theirs: &Records, t: u32) -> bo
     {
         return false;
     }
-    if !ours.lives(t) || !theirs.lives(u) {
-        return ours.lives(t) == theirs.lives(u);
+    let lives = ours.lives(t);
+    if lives != theirs.lives(u) {
+        return false;
     }
-    ours.flag(t) == theirs.flag(u) && same_frames(names, ours.frame(t), theirs.frame(u))
+    if !lives {
+        return true;
+    }
+    if ours.flag(t) != theirs.flag(u) {
+        return false;
+    }
+    same_frames(names, ours.frame(t), theirs.frame(u))
 }
 
 /// Are the scopes the same under these names, but for scoped values?
@@ -155,13 +171,19 @@ fn same_scopes(names: &NameLists, ours: &Records, theirs: &Records, s: u32) -> b
         (def.scope_at theirs.now ((names_of names.now).scopes s)) }
 {
     let r = name(names.scopes.as_slice(), s);
-    name(names.tasks.as_slice(), ours.owner(s)) == theirs.owner(r)
-        && ours.joiner(s) == theirs.joiner(r)
-        && ours.is_timed(s) == theirs.is_timed(r)
-        && ours.phase(s) == theirs.phase(r)
-        && ours.is_cancelled(s) == theirs.is_cancelled(r)
-        && ours.is_expired(s) == theirs.is_expired(r)
-        && same_completions(names, ours.completions(s), theirs.completions(r))
+    if name(names.tasks.as_slice(), ours.owner(s)) != theirs.owner(r)
+        || ours.joiner(s) != theirs.joiner(r)
+        || ours.phase(s) != theirs.phase(r)
+    {
+        return false;
+    }
+    if ours.is_timed(s) != theirs.is_timed(r)
+        || ours.is_cancelled(s) != theirs.is_cancelled(r)
+        || ours.is_expired(s) != theirs.is_expired(r)
+    {
+        return false;
+    }
+    same_completions(names, ours.completions(s), theirs.completions(r))
 }
 
 /// Are all tasks the same under these names?
@@ -215,8 +237,16 @@ fn are_names(names: &NameLists, back: &NameLists, ours: &Records, theirs: &Recor
 {
     ours.tasks_born() == theirs.tasks_born()
         && ours.scopes_born() == theirs.scopes_born()
-        && is_naming(names.tasks.as_slice(), back.tasks.as_slice(), ours.tasks_born())
-        && is_naming(names.scopes.as_slice(), back.scopes.as_slice(), ours.scopes_born())
+        && is_naming(
+            names.tasks.as_slice(),
+            back.tasks.as_slice(),
+            ours.tasks_born(),
+        )
+        && is_naming(
+            names.scopes.as_slice(),
+            back.scopes.as_slice(),
+            ours.scopes_born(),
+        )
         && name(names.tasks.as_slice(), 0) == 0
 }
 
