@@ -330,6 +330,19 @@ def alike_names(count):
     return [f"{'x' * 26}{i:06}" for i in range(count)]
 
 
+def scope_of(forked, count, slot):
+    """Returns the instructions of a function that forks so many subtasks under `all` and gives their sum."""
+    forks = f"fork s{slot} {forked} _ / " * count
+    return (f"open s{slot} all / {forks}join s{slot} bad - intr / total s{slot} / close s{slot} / ret / "
+            f"bad: / close s{slot} / fail / intr: / close s{slot} / push 0 / fail / end")
+
+
+def groups(count, subtasks):
+    """Returns a program whose main forks so many groups, which fork so many subtasks each. All orders of their steps are searched."""
+    leaf = "func leaf 0 / push 1 / push 2 / add / push 3 / add / ret / end"
+    return lines(f"{leaf} / func group 0 / {scope_of('leaf', subtasks, 1)} / func main 0 / {scope_of('group', count, 0)}")
+
+
 def labels(names):
     """One function of labels, with a jump to each of some of them, spread over all."""
     order = sorted(names, key=lambda name: name[::-1])
@@ -369,6 +382,8 @@ def main():
             text, trace = make(least * times)
             write(folder, f"{name}{times}.sts", text)
             write(folder, f"{name}{times}.trace", trace)
+    for count, subtasks in ((2, 2), (2, 3), (3, 2), (3, 3)):
+        write(folder, f"groups{count}x{subtasks}.sts", groups(count, subtasks))
     growing(folder)
 
 

@@ -6,6 +6,7 @@ scopes that are misused. Each is asked with expiries and without, and with an in
 
 - `look ends` prints each end that all_ends.py finds, once, and no other: with the function and the line of a fault, and
   with the status 0. What all_ends.py searches is the machine of plain_machine.py, which shares no code with the crates.
+- It says how many states it kept: as many as a search in Python in the same order.
 - It says `refused, but no run faults` of just those texts that `sts verify` refuses and that have no fault among their ends.
 - The trace of each end, as `--trace` writes it, has as many events as its line says, and `sts` comes to that end by it:
   in mode `replay`, or in mode `plain` if the text is refused.
@@ -122,8 +123,9 @@ def wrong_of(asked, text, source, folder, expiries, interrupts):
     may_say = is_refused and not any(it.startswith("fault") for it in ends)
     if ("refused, but no run faults" in printed) != may_say:
         wrong.append(f"whether it is refused without a fault: {printed}")
-    if not re.fullmatch(r"\d+ states, all schedules", printed[-1]):
-        wrong.append(f"the last line: {printed[-1]}")
+    states = all_ends.kept(program, expiries, interrupts)
+    if printed[-1] != f"{states} states, all schedules":
+        wrong.append(f"the last line: {printed[-1]}, and the states are {states}")
     wrong += traced(asked, text, folder, is_refused, words, found)
     wrong += sampled(asked, text, words, ends)
     return 6 + 2 * len(found), wrong

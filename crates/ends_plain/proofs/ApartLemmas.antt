@@ -1,7 +1,7 @@
 -- A task's frame is its own. With another frame of one task, the state answers the same about other
 -- tasks and scopes, and changes of them leave that frame there.
 use Rattle.std.proofs.Common.{◌≡◌, ℕ, zero, suc, ◌+◌, ◌<◌, List, [], ◌∷◌, ◌++◌, Bool, true, false, Option, Some, None}
-use Rattle.std.proofs.Common.{refl, sym, ◌∙◌, ap, length, arith, get_or, set, cond, ◌||◌, not, count_by}
+use Rattle.std.proofs.Common.{refl, sym, ◌∙◌, ap, length, arith, get_or, set, cond, ◌||◌, count_by}
 use Rattle.std.proofs.Common.{length-set, get_or-set_other}
 use Rattle.std.specs.List.{list_any}
 use Rattle.std.specs.Prelude.{◌-◌}

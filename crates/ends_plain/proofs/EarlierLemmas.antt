@@ -1,6 +1,6 @@
 -- The own step of a task is taken first. If it comes later in a list of events, it is left out
 -- there. The rest of the list leads to a state that shows the same.
-use Rattle.std.proofs.Common.{◌≡◌, ℕ, ◌+◌, ◌-◌, ◌<◌, ◌≤◌, List, [], ◌∷◌, Bool, true, false}
+use Rattle.std.proofs.Common.{◌≡◌, ℕ, ◌+◌, ◌<◌, ◌≤◌, List, [], ◌∷◌, Bool, true, false}
 use Rattle.std.proofs.Common.{refl, sym, ◌∙◌, ap, subst, length, arith, get_or, set, cond, fold, count_by}
 use Rattle.std.specs.Prelude.{◌==◌}
 use Rattle.std.specs.List.{sum_by}
@@ -14,10 +14,13 @@ use Rattle.sts_model.specs.declared.record.Task.{Task}
 use Rattle.sts_model.specs.World.{World, State, Running, Faulted, task_at, no_task, with_frame, code}
 use Rattle.sts_model.specs.Run.{apply, step}
 use Rattle.laws_runs.proofs.RunLemmas.{fault-fold}
+use Rattle.laws_names.specs.Names.{Names, IsAlike, live_part, named_task}
+use Rattle.laws_names.proofs.NameLemmas.{sum_same}
+use Rattle.laws_names.proofs.AlikeLemmas.{part_alive}
 use Rattle.ends_plain.specs.Configs.{is_step_of}
 use Rattle.ends_plain.specs.Own.{has_own_step}
 use Rattle.ends_plain.proofs.ApartLemmas.{alive_born}
-use Rattle.ends_plain.proofs.FuelLemmas.{frame_fuel}
+use Rattle.ends_plain.proofs.FuelLemmas.{frame_fuel, frame_fuel_named}
 use Rattle.ends_plain.proofs.OwnLemmas.{OwnStep, own_step, goes_on, IsRun, run_on, Swaps, swaps}
 
 -- ---- the list without the step
@@ -108,7 +111,14 @@ task_fuel : Program → Task → ℕ
 task_fuel p task = frame_fuel (code p task.frame) task.frame
 
 pub fuel : Program → World → ℕ
-fuel p w = sum_by (task_fuel p) w.tasks
+fuel p w = sum_by (λ x. task_fuel p (live_part x)) w.tasks
+
+-- states that are alike have as much
+pub fuel_same : (p : Program) (n : Names) (w v : World) → IsAlike n w v → fuel p v ≡ fuel p w
+unfolding fuel task_fuel
+fuel_same p n w v a =
+    a.task_sums (task_fuel p)
+    ∙ sum_same (λ x. task_fuel p (named_task n (live_part x))) (λ x. task_fuel p (live_part x)) (λ x. let f = (live_part x).frame in frame_fuel_named n (code p f) f) w.tasks
 
 pub fuel_less : (p : Program) (w : World) (t : ℕ) → OwnStep p w t → fuel p (with_frame w t (goes_on p w t)) < fuel p w
 unfolding fuel task_fuel
@@ -116,7 +126,10 @@ fuel_less p w t o =
     let f = (task_at w t).frame in
     let g = goes_on p w t in
     let y : Task = record (task_at w t) { frame = g } in
-    let total : sum_by (task_fuel p) (set w.tasks t y) + task_fuel p (get_or w.tasks t no_task) ≡ sum_by (task_fuel p) w.tasks + task_fuel p y = sum_by-set (task_fuel p) w.tasks t y no_task (alive_born w t o.alive) in
+    let q : Task → ℕ = λ (x : Task). task_fuel p (live_part x) in
+    let total : sum_by q (set w.tasks t y) + q (get_or w.tasks t no_task) ≡ sum_by q w.tasks + q y = sum_by-set q w.tasks t y no_task (alive_born w t o.alive) in
+    let before : q (task_at w t) ≡ task_fuel p (task_at w t) = ap (task_fuel p) (part_alive (task_at w t) o.alive) in
+    let after : q y ≡ task_fuel p y = ap (task_fuel p) (part_alive y o.alive) in
     let same : frame_fuel (code p g) g ≡ frame_fuel (code p f) g = ap (λ (n : ℕ). frame_fuel (routine p n).code g) o.function in
     let less : frame_fuel (code p f) g < frame_fuel (code p f) f = o.less in
-    omega (arith, total, same, less)
+    omega (arith, total, before, after, same, less)

@@ -24,6 +24,7 @@ use Rattle.sts_model.specs.World.{code, instr_at}
 use Rattle.sts_model.specs.Environment.{read}
 use Rattle.sts_model.specs.Local.{local, operand, goes, steps, truth, clipped, enters, turns}
 use Rattle.sts_model.specs.Misuse.{breaks_loop, closes_loop}
+use Rattle.laws_names.specs.Names.{Names, named_frame}
 use Rattle.ends_plain.specs.Own.{is_own}
 
 -- the frame after an own instruction, with these scoped values
@@ -98,6 +99,11 @@ loops_fuel n k (l ∷ ls) = loops_fuel n k ls + (n - (l.at + 1)) * worth n k (fr
 
 pub frame_fuel : List Instr → Frame → ℕ
 frame_fuel is f = loops_fuel (length is) (most_turns is) f.loops + (length is - f.pc) * worth (length is) (most_turns is) (free f.loops)
+
+-- frames that differ only by names have as much
+pub frame_fuel_named : (n : Names) (is : List Instr) (f : Frame) → frame_fuel is (named_frame n f) ≡ frame_fuel is f
+unfolding frame_fuel
+frame_fuel_named n is f = refl
 
 -- ---- numbers
 

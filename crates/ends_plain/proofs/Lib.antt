@@ -3,6 +3,7 @@ pub mod EarlierLemmas
 pub mod EventLemmas
 pub mod FuelLemmas
 pub mod ListedLemmas
+pub mod NamedLemmas
 pub mod OthersLemmas
 pub mod OwnLemmas
 pub mod ReachLemmas

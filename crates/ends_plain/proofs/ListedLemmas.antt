@@ -1,22 +1,31 @@
 -- The ends that a search lists: each is an end, and if the search is closed, each end is listed.
-use Rattle.std.proofs.Common.{◌≡◌, ℕ, zero, suc, ◌+◌, ◌<◌, ◌⊎◌, List, [], ◌∷◌, ◌++◌, length, fold, refl, ap, sym, ◌∙◌, arith, inl, inr, subst, true}
+use Rattle.std.proofs.Common.{◌≡◌, ℕ, zero, suc, ◌+◌, ◌<◌, ◌⊎◌, List, [], ◌∷◌, ◌++◌, length, refl, ap, sym, ◌∙◌, arith, inl, inr, subst, Bool, true, false, not}
 use Rattle.std.specs.Prelude.{slice_index_or}
-use Rattle.std.specs.List.{Contains}
+use Rattle.std.specs.List.{Contains, list_any}
+use Rattle.std.specs.Prelude.{Option}
+use Rattle.std.proofs.lemmas.Bool.{or_parts}
 use Rattle.std.proofs.lemmas.List.{get_or_default, map-append}
 use Rattle.std.proofs.lemmas.List.Elements.{Contains-append_left, Contains-append_right, Contains-append_cases}
 use Rattle.sts_model.specs.Run.{after}
 use Rattle.sts_plain.specs.declared.misstep.PlainState.{PlainState}
-use Rattle.sts_plain.specs.Seen.{shown}
-use Rattle.ends_search.specs.Search.{IsWay, Covers}
+use Rattle.sts_model.specs.World.{State, Running, Faulted}
+use Rattle.sts_plain.specs.Seen.{shown, is_fault}
+use Rattle.ends_search.specs.Search.{IsWay, IsTraced, IsClosed, origin_at, states_of}
+use Rattle.ends_search.proofs.StateLemmas.{begins_so}
+use Rattle.ends_search.specs.declared.origin.Origin.{Origin}
+use Rattle.ends_plain.specs.declared.config.Asked.{Asked}
 use Rattle.ends_plain.specs.declared.config.Config.{Config}
 use Rattle.ends_plain.specs.declared.config.Found.{Found}
 use Rattle.ends_plain.specs.declared.config.Setting.{Setting}
-use Rattle.ends_plain.specs.Configs.{next, can, tries, start}
+use Rattle.ends_plain.specs.Configs.{next, can, tries, start, IsLike}
+use Rattle.ends_plain.specs.Explored.{IsExplored}
 use Rattle.ends_plain.specs.Ends.{is_end, AreAll}
+use Rattle.ends_plain.specs.Listed.{is_fault_end, is_faulty}
 use Rattle.ends_plain.specs.Listed.{ends_of, AreShown, AreEnds, HasShown, IsEndOf, IsShownBy}
 use Rattle.ends_plain.proofs.EventLemmas.{split}
 use Rattle.ends_plain.proofs.WayLemmas.{position_after, allowed}
-use Rattle.ends_plain.proofs.ReachLemmas.{reaches, way_of_tries}
+use Rattle.ends_plain.proofs.OwnLemmas.{IsRun, run_on}
+use Rattle.ends_plain.proofs.ReachLemmas.{IsOver, shows_all, way_of_tries}
 
 sole : {X : Type 0} (x e : X) (k : ℕ) → k < 1 → slice_index_or (x ∷ []) k e ≡ e → e ≡ x
 sole x e zero less i = sym i
@@ -98,12 +107,63 @@ sound g first found begins all f c =
     let way : IsWay (next g) (can g) (start g) f.trace.items here.config = subst (λ x. IsWay (next g) (can g) x f.trace.items here.config) begins here.way in
     end_of_way g here.config f way here.shows here.ends
 
-pub complete : (g : Setting) (states : List Config) (ends : List PlainState) → Covers (next g) (tries g) (start g) states → HasShown states (length states) ends → AreAll g.program g.expiries g.interrupts ends
-complete g states ends covers has events end h =
-    let s = start g in
-    let r = reaches g events s (record { events = []; leads = refl }) h.allowed in
-    let there = covers r.way r.tried_all in
-    let x = fold (next g) s r.way in
-    let shows : shown (slice_index_or states there.0 x).position ≡ end = ap (λ (y : Config). shown y.position) there.2 ∙ r.shows ∙ h.comes in
-    let ends_there : is_end (shown (slice_index_or states there.0 x).position) ≡ true = rw shows h.ends in
-    rw shows at (has there.0 x there.1 ends_there)
+-- the states of a search are those of runs
+runs_below : (g : Setting) (states : List Config) (origins : List Origin) → IsTraced (next g) (tries g) states origins → ((d : Config) → slice_index_or states 0 d ≡ start g) → (n k : ℕ) → k < n → k < length states → (d : Config)
+    → IsRun g.program (slice_index_or states k d).position
+runs_below g states origins traced first zero k less within d = absurd (omega (arith, less))
+runs_below g states origins traced first (suc n) zero less within d = rw (first d) (record { events = []; leads = refl })
+runs_below g states origins traced first (suc n) (suc k) less within d =
+    let from = traced.later (suc k) (omega arith) within in
+    let o = origin_at origins (suc k) in
+    let before = from.before in
+    let older : IsRun g.program (slice_index_or states o.parent d).position = runs_below g states origins traced first n o.parent (omega (arith, before, less)) (omega (arith, before, within)) d in
+    rw (from.state d) (run_on g.program (slice_index_or states o.parent d).position o.event older)
+
+pub states_run : (g : Setting) (states : List Config) (origins : List Origin) → IsTraced (next g) (tries g) states origins → ((d : Config) → slice_index_or states 0 d ≡ start g) → (c : Config) → Contains states c → IsRun g.program c.position
+states_run g states origins traced first c there =
+    subst (λ (x : Config). IsRun g.program x.position) there.2 (runs_below g states origins traced first (length states) there.0 there.1 there.1 c)
+
+-- no end that is listed is a fault, so no state is one
+pub no_fault : (states : List Config) (ends : List PlainState) → HasShown states (length states) ends → ((end : PlainState) → Contains ends end → is_fault_end end ≡ false) → (c : Config) → Contains states c → is_fault c.position ≡ false
+no_fault states ends has none c there = by c.position (λ e. rw there.2 at (has there.0 c there.1 (rw there.2 e)))
+  where
+    by : (s : State) → (is_end (shown s) ≡ true → Contains ends (shown s)) → is_fault s ≡ false
+    by (Running w) h = refl
+    by (Faulted kind t f pc) h = let fault = none (shown (Faulted kind t f pc)) (h refl) in cc
+
+none_faulty : (found : List Found) → list_any is_faulty found ≡ false → (k : ℕ) (end : PlainState) → k < length (ends_of found) → slice_index_or (ends_of found) k end ≡ end → is_fault_end end ≡ false
+none_faulty [] none k end less at = absurd (omega (arith, less))
+none_faulty (f ∷ fs) none zero end less at = ap is_fault_end (sym at) ∙ (or_parts (is_faulty f) (list_any is_faulty fs) none).0
+none_faulty (f ∷ fs) none (suc k) end less at = none_faulty fs (or_parts (is_faulty f) (list_any is_faulty fs) none).1 k end (omega (arith, less)) at
+
+pub none_of : (found list : List Found) (some : Bool) → list ≡ found → some ≡ list_any is_faulty list → not some ≡ true → list_any is_faulty found ≡ false
+none_of found list true same is e = cc
+none_of found list false same is e = ap (list_any is_faulty) (sym same) ∙ sym is
+
+complete : (a : Asked) (states : List Config) (ends : List PlainState) → IsOver a states → HasShown states (length states) ends → AreAll a.setting.program a.setting.expiries a.setting.interrupts ends
+complete a states ends over has events end h =
+    let r = shows_all a states over events h.allowed in
+    let there = r.there in
+    let at : slice_index_or states there.0 r.config ≡ r.config = there.2 in
+    let shows : shown (slice_index_or states there.0 r.config).position ≡ end = ap (λ (y : Config). shown y.position) at ∙ r.shows ∙ h.comes in
+    let ends_there : is_end (shown (slice_index_or states there.0 r.config).position) ≡ true = rw shows h.ends in
+    rw shows at (has there.0 r.config there.1 ends_there)
+
+-- a search that is over lists all ends, unless it isn't exact and lists a fault
+pub all_listed : (a : Asked) (first : Config) (origins : List Origin) (closed : ℕ) (kept : List Config) (marks : List (Option ℕ)) (found : List Found) → IsExplored a first origins closed kept marks → closed ≡ length origins
+    → HasShown (states_of (next a.setting) first origins) (length origins) (ends_of found) → (a.exact ≡ false → list_any is_faulty found ≡ false) → AreAll a.setting.program a.setting.expiries a.setting.interrupts (ends_of found)
+all_listed a first origins closed kept marks found x over has calm =
+    let g = a.setting in
+    let states = states_of (next g) first origins in
+    let s = x.space.searched in
+    let as_many : length origins ≡ length states = s.traced.as_many in
+    let shown_ones : HasShown states (length states) (ends_of found) = subst (λ (n : ℕ). HasShown states n (ends_of found)) as_many has in
+    let begins = begins_so (next g) first origins s.some in
+    let at_start : (d : Config) → slice_index_or states 0 d ≡ start g = λ (d : Config). begins.first d ∙ x.begins in
+    let whole : IsOver a states = record {
+      begins = (0, begins.some, at_start (start g));
+      closed = subst (λ (n : ℕ). IsClosed (next g) (tries g) (IsLike a) states n) (over ∙ as_many) s.closed_below;
+      runs = states_run g states origins s.traced at_start;
+      calm = λ loose. no_fault states (ends_of found) shown_ones (λ end c. none_faulty found (calm loose) c.0 end c.1 c.2);
+    } in
+    complete a states (ends_of found) whole shown_ones

@@ -1,6 +1,6 @@
 -- A search's states, and what events do to them (this project's own).
 use Rattle.std.specs.Prelude.{◌≡◌, ℕ, ◌-◌, List, Bool, true, false, Option, Some, None, ◌&&◌}
-use Rattle.std.specs.Prelude.{◌==◌, nat_lt, if◌then◌else◌}
+use Rattle.std.specs.Prelude.{◌⊎◌, ◌==◌, nat_lt, if◌then◌else◌}
 use Rattle.std.specs.List.{Contains}
 use Rattle.sts_model.specs.declared.event.Event.{Event}
 use Rattle.sts_model.specs.declared.event.Event.TheVariants as event
@@ -10,6 +10,8 @@ use Rattle.sts_model.specs.Living.{lives}
 use Rattle.sts_model.specs.Waiting.{can_step}
 use Rattle.sts_model.specs.Outside.{can_expire}
 use Rattle.sts_model.specs.Run.{apply}
+use Rattle.laws_names.specs.Names.{Names, AreAlike, ReadsNothing}
+use Rattle.ends_plain.specs.declared.config.Asked.{Asked}
 use Rattle.ends_plain.specs.declared.config.Config.{Config}
 use Rattle.ends_plain.specs.declared.config.Setting.{Setting}
 use Rattle.ends_plain.specs.Ends.{is_interrupt}
@@ -65,6 +67,25 @@ tries g c e = is_tried (own_step_of g.program c.position) g c.left c.position e
 pub record AreThose (test : Event → Bool) (events : List Event) : Type 0 where
   pub all : (e : Event) → test e ≡ true → Contains events e
   pub only : (e : Event) → Contains events e → test e ≡ true
+
+-- ---- states of which the search keeps one
+
+-- the second state of a program that reads no scoped values has other birth numbers than the first
+pub record HasNames (p : Program) (x y : State) : Type 0 where
+  pub quiet : ReadsNothing p
+  pub names : Names
+  pub alike : AreAlike names x y
+
+-- a search that isn't exact may take the second state for the first
+pub record IsRenamed (a : Asked) (c d : Config) : Type 0 where
+  pub exact : a.exact ≡ false
+  pub left : c.left ≡ d.left
+  pub position : HasNames a.setting.program c.position d.position
+
+abbrev pub IsLike : Asked → Config → Config → Type 0
+IsLike a c d = (c ≡ d) ⊎ IsRenamed a c d
+
+-- ---- where the search begins
 
 -- the search begins here
 abbrev pub start : Setting → Config

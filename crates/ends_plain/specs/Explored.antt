@@ -3,12 +3,12 @@ use Rattle.std.specs.Prelude.{◌≡◌, ℕ, List, Option}
 use Rattle.ends_search.specs.Search.{IsSpace}
 use Rattle.ends_search.specs.declared.origin.Origin.{Origin}
 use Rattle.ends_plain.specs.declared.config.Config.{Config}
-use Rattle.ends_plain.specs.declared.config.Setting.{Setting}
-use Rattle.ends_plain.specs.Configs.{next, tries, start}
+use Rattle.ends_plain.specs.declared.config.Asked.{Asked}
+use Rattle.ends_plain.specs.Configs.{next, tries, start, IsLike}
 
 -- a search from the start of the program: each event that it goes on with leads from each of the
--- first `closed` states to one of the states
-pub record IsExplored (g : Setting) (first : Config) (origins : List Origin) (closed : ℕ)
+-- first `closed` states to one of the states, or to one that is alike
+pub record IsExplored (a : Asked) (first : Config) (origins : List Origin) (closed : ℕ)
     (kept : List Config) (marks : List (Option ℕ)) : Type 0 where
-  pub begins : first ≡ start g
-  pub space : IsSpace (next g) (tries g) first origins closed kept marks
+  pub begins : first ≡ start a.setting
+  pub space : IsSpace (next a.setting) (tries a.setting) (IsLike a) first origins closed kept marks

@@ -1,8 +1,8 @@
 -- The ends that a search lists (this project's own).
-use Rattle.std.specs.Prelude.{◌≡◌, ℕ, ◌<◌, List, Bool, true, map, slice_index_or}
+use Rattle.std.specs.Prelude.{◌≡◌, ℕ, ◌<◌, List, Bool, true, false, map, slice_index_or}
 use Rattle.std.specs.List.{Contains}
-use Rattle.sts_code.specs.Program.{Program}
 use Rattle.sts_plain.specs.declared.misstep.PlainState.{PlainState}
+use Rattle.sts_plain.specs.declared.misstep.PlainState.TheVariants as plain
 use Rattle.sts_plain.specs.Seen.{shown}
 use Rattle.ends_search.specs.Search.{IsWay}
 use Rattle.ends_plain.specs.declared.config.Config.{Config}
@@ -13,6 +13,13 @@ use Rattle.ends_plain.specs.Ends.{is_end, IsEnd}
 
 abbrev pub ends_of : List Found → List PlainState
 ends_of found = map (λ (f : Found). f.end) found
+
+abbrev pub is_fault_end : PlainState → Bool
+is_fault_end (plain.Fault kind t f pc) = true
+is_fault_end _ = false
+
+abbrev pub is_faulty : Found → Bool
+is_faulty f = is_fault_end f.end
 
 -- it is an end of the program, and its trace leads to it
 abbrev pub IsEndOf : Setting → Found → Type 0

@@ -16,6 +16,14 @@ pub struct Setting {
     pub interrupts: u32,
 }
 
+/// What a search is asked. An exact search tells all states apart. Another one may take two states
+/// for one that differ only by birth numbers.
+#[derive(Drop)]
+pub struct Asked {
+    pub setting: Setting,
+    pub exact: bool,
+}
+
 /// A state of the machine, and how many interrupts may still come.
 #[derive(Drop)]
 pub struct Config {

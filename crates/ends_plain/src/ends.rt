@@ -1,13 +1,13 @@
 //! The ends among the states of a search.
 
 ghost use Rattle.std.specs.Prelude.{◌≡◌, true, false, IfOk, length};
-ghost use Rattle.std.specs.List.{Contains};
+ghost use Rattle.std.specs.List.{Contains, list_any};
 ghost use Rattle.ends_search.specs.Search.{IsSpace, states_of};
-ghost use Rattle.ends_plain.specs.Configs.{next, tries};
+ghost use Rattle.ends_plain.specs.Configs.{next, tries, IsLike};
 ghost use Rattle.ends_plain.specs.Ends.{is_end};
-ghost use Rattle.ends_plain.specs.Listed.{ends_of, AreShown, HasShown};
+ghost use Rattle.ends_plain.specs.Listed.{ends_of, AreShown, HasShown, is_fault_end, is_faulty};
 
-use crate::config::{Config, Found, Setting};
+use crate::config::{Asked, Config, Found};
 use crate::shorter::shortened;
 use ends_search::search::{Space, restored, trace};
 use std::alloc::{AllocError, Global};
@@ -40,26 +40,38 @@ fn is_new(found: &[Found], end: PlainState) -> bool
     is_end_at(end) && !is_found(found, end)
 }
 
+/// Is the end a fault?
+fn is_fault(end: PlainState) -> bool
+    ensures { result ≡ is_fault_end end }
+{
+    matches!(end, PlainState::Fault { .. })
+}
+
+/// Is one of the ends a fault?
+pub fn has_fault(found: &[Found]) -> bool
+    ensures { result ≡ list_any is_faulty found.now }
+{
+    found.iter().any(|one| is_fault(one.end))
+}
+
 /// The ends among the states of a search, each with a way to the first state that shows it.
-pub fn list(
-    alloc: Global,
-    setting: &Setting,
-    space: &Space<Config>,
-) -> Result<Vec<Found>, AllocError>
-    requires { IsSpace (next setting.now) (tries setting.now) space.now.first
-        space.now.origins.items space.now.closed space.now.kept.items space.now.marks.items }
-    ensures shown { IfOk result (λ found. AreShown setting.now space.now.first found.items) }
+pub fn list(alloc: Global, asked: &Asked, space: &Space<Config>) -> Result<Vec<Found>, AllocError>
+    requires { IsSpace (next asked.now.setting) (tries asked.now.setting) (IsLike asked.now)
+        space.now.first space.now.origins.items space.now.closed space.now.kept.items
+        space.now.marks.items }
+    ensures shown { IfOk result (λ found.
+        AreShown asked.now.setting space.now.first found.items) }
     ensures all { IfOk result (λ found.
-        HasShown (states_of (next setting.now) space.now.first space.now.origins.items)
+        HasShown (states_of (next asked.now.setting) space.now.first space.now.origins.items)
         (length space.now.origins.items) (ends_of found.items)) }
 {
     let mut found = Vec::new(alloc);
     for k in 0..space.origins.len() {
-        let config = restored(alloc, setting, space, k)?;
+        let config = restored(alloc, asked, space, k)?;
         let end = config.position.state();
         if is_new(&found, end) {
-            let trace = trace(alloc, setting, space, k)?;
-            let one = shortened(alloc, setting, &space.first, Found { end, trace })?;
+            let trace = trace(alloc, asked, space, k)?;
+            let one = shortened(alloc, &asked.setting, &space.first, Found { end, trace })?;
             found.push(one)?;
         }
     }

@@ -3,17 +3,20 @@
 ghost use Rattle.std.specs.Prelude.{◌≡◌, true, IfOk};
 ghost use Rattle.ends_plain.specs.Ends.{AreAll};
 ghost use Rattle.ends_plain.specs.Listed.{ends_of, AreEnds};
+ghost use Rattle.ends_search.specs.Search.{IsSpace};
+ghost use Rattle.ends_plain.specs.Configs.{next, tries, IsLike};
 
-use crate::config::{Config, EndsFound, Setting};
-use crate::ends::list;
-use ends_search::search::{Space, advance, begin};
+use crate::config::{Asked, Config, EndsFound, Setting};
+use crate::ends::{has_fault, list};
+use crate::reading::reads_nothing;
+use ends_search::search::{Space, advance, begin, restored};
 use std::alloc::{AllocError, Global};
 use std::marker::Model;
 
 /// A search so far. Contracts see its input.
 #[derive(Drop)]
 pub struct Exploration {
-    setting: Setting,
+    asked: Asked,
     space: Space<Config>,
 }
 
@@ -22,13 +25,37 @@ impl Model for Exploration {
 
     ghost Value = { Setting };
 
-    ghost view = { λ x. x.setting };
+    ghost view = { λ x. x.asked.setting };
 
     ghost use Rattle.ends_plain.specs.Explored.{IsExplored};
 
     ghost invariant = { λ x.
-        IsExplored x.setting x.space.first x.space.origins.items x.space.closed
+        IsExplored x.asked x.space.first x.space.origins.items x.space.closed
         x.space.kept.items x.space.marks.items };
+}
+
+/// Does one of the states show a fault?
+fn finds_fault(alloc: Global, asked: &Asked, space: &Space<Config>) -> Result<bool, AllocError>
+    requires { IsSpace (next asked.now.setting) (tries asked.now.setting) (IsLike asked.now)
+        space.now.first space.now.origins.items space.now.closed space.now.kept.items
+        space.now.marks.items }
+{
+    for k in 0..space.origins.len() {
+        let config = restored(alloc, asked, space, k)?;
+        if config.position.world().is_none() {
+            return Ok(true);
+        }
+    }
+    Ok(false)
+}
+
+/// A search from the start.
+fn begun(alloc: Global, asked: Asked, most: usize) -> Result<Exploration, AllocError>
+    ensures { IfOk result (λ x. x ≡ asked.setting) }
+{
+    let first = Config::start(alloc, &asked.setting)?;
+    let space = begin(alloc, &asked, first, most)?;
+    Ok(Exploration { asked, space })
 }
 
 impl Exploration {
@@ -40,12 +67,12 @@ impl Exploration {
     pub fn begin(alloc: Global, setting: Setting, most: usize) -> Result<Exploration, AllocError>
         ensures { IfOk result (λ x. x ≡ setting) }
     {
-        let first = Config::start(alloc, &setting)?;
-        let space = begin(alloc, &setting, first, most)?;
-        Ok(Exploration { setting, space })
+        let exact = !reads_nothing(&setting.program);
+        begun(alloc, Asked { setting, exact }, most)
     }
 
-    /// The search after `count` more states were expanded, or fewer if it is over.
+    /// The search after `count` more states were expanded, or fewer if it is over. A search that is
+    /// not exact begins again as an exact one, once it is over and has found a fault.
     ///
     /// # Errors
     ///
@@ -53,16 +80,30 @@ impl Exploration {
     pub fn advance(self, alloc: Global, count: usize) -> Result<Exploration, AllocError>
         ensures { IfOk result (λ x. x ≡ self) }
     {
-        let setting = self.setting;
-        let space = advance(alloc, &setting, self.space, count)?;
-        Ok(Exploration { setting, space })
+        let asked = self.asked;
+        let space = advance(alloc, &asked, self.space, count)?;
+        if asked.exact || space.closed < space.origins.len() {
+            return Ok(Exploration { asked, space });
+        }
+        if finds_fault(alloc, &asked, &space)? {
+            let setting = asked.setting;
+            return begun(
+                alloc,
+                Asked {
+                    setting,
+                    exact: true,
+                },
+                space.most,
+            );
+        }
+        Ok(Exploration { asked, space })
     }
 
     /// The input of the search.
     pub fn setting(&self) -> &Setting
         ensures { result.now ≡ self.now }
     {
-        &self.setting
+        &self.asked.setting
     }
 
     /// How many states were found so far.
@@ -87,11 +128,13 @@ impl Exploration {
             AreAll self.now.program self.now.expiries self.now.interrupts
             (ends_of r.found.items)) }
     {
-        let found = list(alloc, &self.setting, &self.space)?;
+        let found = list(alloc, &self.asked, &self.space)?;
+        let is_closed = self.space.closed == self.space.origins.len();
+        let whole = is_closed && (self.asked.exact || !has_fault(found.as_slice()));
         Ok(EndsFound {
             found,
             states: self.space.origins.len(),
-            whole: self.space.closed == self.space.origins.len(),
+            whole,
         })
     }
 }

@@ -11,12 +11,12 @@ use sts_world::{Records, World};
 const SEED: u64 = 0xcbf2_9ce4_8422_2325;
 
 /// The hash of one number more.
-fn mixed(hash: u64, n: u64) -> u64 {
+pub fn mixed(hash: u64, n: u64) -> u64 {
     let product = (hash ^ n).wrapping_mul(0x9e37_79b9_7f4a_7c15);
     product ^ (product >> 32)
 }
 
-fn mixed_values(hash: u64, values: &[i64]) -> u64 {
+pub fn mixed_values(hash: u64, values: &[i64]) -> u64 {
     let mut hash = mixed(hash, values.len() as u64);
     for value in values {
         hash = mixed(hash, value.cast_unsigned());
@@ -69,7 +69,7 @@ fn mixed_frame(hash: u64, frame: &Frame) -> u64 {
     hash
 }
 
-fn mixed_end(hash: u64, end: Option<End>) -> u64 {
+pub fn mixed_end(hash: u64, end: Option<End>) -> u64 {
     match end {
         None => mixed(hash, 0),
         Some(End::Success(value)) => mixed(mixed(hash, 1), value.cast_unsigned()),

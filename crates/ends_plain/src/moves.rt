@@ -1,16 +1,21 @@
 //! The plain machine as a machine that is searched.
 
-ghost use Rattle.std.specs.Prelude.{◌≡◌, true, IfOk, [], ◌∷◌};
+ghost use Rattle.std.specs.Prelude.{◌≡◌, ◌⊎◌, true, IfOk, [], ◌∷◌};
 ghost use Rattle.ends_plain.specs.Configs.{next as next_of, tries, AreThose, can_come, is_tried};
+ghost use Rattle.ends_plain.specs.Configs.{HasNames, IsLike};
 ghost use Rattle.ends_plain.specs.Own.{own_step_of};
 
-use crate::config::{Config, Setting};
+use crate::config::{Asked, Config, Setting};
 use crate::events::{expiries, interrupts, steps};
 use crate::hash::hash_of;
+use crate::names::have_names;
 use crate::own::own_task;
+use crate::reading::reads_nothing;
+use crate::walk::hash_by_walk;
 use ends_search::machine::StateMachine;
 use std::alloc::{AllocError, Global};
 use sts_model::Event;
+use sts_plain::Position;
 
 /// All events that can come.
 pub fn events_of(
@@ -65,19 +70,62 @@ fn tried(alloc: Global, config: &Config, setting: &Setting) -> Result<Vec<Event>
     }
 }
 
+/// Do the states differ only by birth numbers, or not at all? The answer may be `false` though they
+/// don't.
+fn is_renamed(
+    alloc: Global,
+    setting: &Setting,
+    ours: &Position,
+    theirs: &Position,
+) -> Result<bool, AllocError>
+    ensures { IfOk result (λ r. r ≡ true →
+        (ours.now ≡ theirs.now) ⊎ HasNames setting.now.program ours.now theirs.now) }
+{
+    let Some(here) = ours.world() else {
+        return Ok(ours.same(theirs));
+    };
+    let Some(there) = theirs.world() else {
+        return Ok(false);
+    };
+    if !have_names(alloc, here, there)? {
+        return Ok(false);
+    }
+    Ok(reads_nothing(&setting.program))
+}
+
+/// If the answer is true, the first state is alike to the second one.
+fn is_alike(
+    alloc: Global,
+    asked: &Asked,
+    ours: &Config,
+    theirs: &Config,
+) -> Result<bool, AllocError>
+    ensures { IfOk result (λ r. r ≡ true → IsLike asked.now ours.now theirs.now) }
+{
+    if ours.left != theirs.left {
+        return Ok(false);
+    }
+    if asked.exact {
+        return Ok(ours.position.same(&theirs.position));
+    }
+    is_renamed(alloc, &asked.setting, &ours.position, &theirs.position)
+}
+
 impl StateMachine for Config {
-    type Setting = Setting;
+    type Setting = Asked;
 
-    ghost next = { next_of };
+    ghost next = { λ a. next_of a.setting };
 
-    ghost can = { tries };
+    ghost can = { λ a. tries a.setting };
 
-    fn events(&self, alloc: Global, setting: &Setting) -> Result<Vec<Event>, AllocError> {
-        tried(alloc, self, setting)
+    ghost alike = { IsLike };
+
+    fn events(&self, alloc: Global, asked: &Asked) -> Result<Vec<Event>, AllocError> {
+        tried(alloc, self, &asked.setting)
     }
 
-    fn apply(&mut self, alloc: Global, setting: &Setting, event: Event) -> Result<(), AllocError> {
-        self.apply_event(alloc, setting, event)
+    fn apply(&mut self, alloc: Global, asked: &Asked, event: Event) -> Result<(), AllocError> {
+        self.apply_event(alloc, &asked.setting, event)
     }
 
     fn copied(&self, alloc: Global) -> Result<Config, AllocError> {
@@ -87,14 +135,19 @@ impl StateMachine for Config {
         })
     }
 
-    fn same(&self, other: &Config) -> bool {
-        self.left == other.left && self.position.same(&other.position)
+    fn is_like(&self, alloc: Global, asked: &Asked, other: &Config) -> Result<bool, AllocError> {
+        is_alike(alloc, asked, self, other)
     }
 
-    fn hash(&self) -> u64 {
-        match self.position.world() {
-            None => 0,
-            Some(world) => hash_of(world) ^ u64::from(self.left),
-        }
+    fn hash(&self, alloc: Global, asked: &Asked) -> Result<u64, AllocError> {
+        let Some(world) = self.position.world() else {
+            return Ok(0);
+        };
+        let hash = if asked.exact {
+            hash_of(world)
+        } else {
+            hash_by_walk(alloc, world)?
+        };
+        Ok(hash ^ u64::from(self.left))
     }
 }

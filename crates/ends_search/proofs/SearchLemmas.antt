@@ -1,6 +1,6 @@
--- How a search grows, and that a closed one covers all that events lead to.
+-- How a search grows.
 use Rattle.std.proofs.Common.{◌≡◌, ℕ, ◌+◌, ◌<◌, ◌≤◌, ◌⊎◌, List, [], ◌∷◌, ◌++◌, length, fold, refl, ap, sym, ◌∙◌, arith, inl, inr, subst}
-use Rattle.std.proofs.Common.{length-append, reverse, append_assoc, Bool, true, false}
+use Rattle.std.proofs.Common.{length-append, reverse, append_assoc, Bool, true}
 use borrow.Author.Count.{below_more}
 use Rattle.std.proofs.lemmas.List.{get_or_default}
 use Rattle.std.proofs.lemmas.List.{append-nil}
@@ -12,7 +12,7 @@ use Rattle.std.proofs.Math.Seq.{get_or-append_seam}
 use Rattle.std.proofs.lemmas.List.Elements.{Contains-append_left}
 use Rattle.sts_model.specs.declared.event.Event.{Event}
 use Rattle.ends_search.specs.declared.origin.Origin.{Origin}
-use Rattle.ends_search.specs.Search.{IsTraced, IsSearched, ComesFrom, Covers, Grows, LeadsInto, Begins, Follows, IsClosed, origin_at, no_origin, CanAt, CanAll, IsWay}
+use Rattle.ends_search.specs.Search.{IsTraced, IsSearched, ComesFrom, IsAmong, Grows, LeadsInto, Begins, Follows, IsClosed, origin_at, no_origin, CanAt, CanAll, IsWay}
 
 -- a place in a longer list is an older one or the last
 pub split : (k n : ℕ) → k < n + 1 → (k < n) ⊎ (k ≡ n)
@@ -55,32 +55,25 @@ traced_more {S} next can states origins s o h within comes made =
 
 -- ---- closed sets
 
--- what events lead to from a state of a closed set is in it
-stays : {S : Type 0} (next : S → Event → S) (can : S → Event → Bool) (states : List S) → IsClosed next can states (length states) → (events : List Event) (s : S) → CanAll next can s events → Contains states s → Contains states (fold next s events)
-stays next can states closed [] s all h = h
-stays {S} next can states closed (e ∷ es) s all h =
-    stays next can states closed es (next s e) all.1 (rw h.2 at (closed h.0 h.1 e comes s))
-  where
-    comes : (d : S) → can (slice_index_or states h.0 d) e ≡ true
-    comes d = rw (get_or_default states h.0 d s h.1, h.2) all.0
-
-pub covers : {S : Type 0} (next : S → Event → S) (can : S → Event → Bool) (start : S) (states : List S) → Begins start states → IsClosed next can states (length states) → Covers next can start states
-covers next can start states begins closed events all = stays next can states closed events start all (0, begins.some, begins.first start)
+-- a state that is among some is among more
+among_more : {S : Type 0} (alike : S → S → Type 0) (old new : List S) (s : S) → Grows old new → IsAmong alike old s → IsAmong alike new s
+among_more alike old new s grows h =
+    record { other = h.other; there = subst (λ xs. Contains xs h.other) (sym grows.same) (Contains-append_left old grows.more h.other h.there); same = h.same }
 
 -- a state of the older ones is the same one among more states
 pub same_older : {S : Type 0} (old new : List S) → Grows old new → (j : ℕ) → j < length old → (d : S) → slice_index_or new j d ≡ slice_index_or old j d
 same_older old new grows j h d = ap (λ xs. slice_index_or xs j d) grows.same ∙ get_or-append old grows.more d j h
 
-closed_on : {S : Type 0} (next : S → Event → S) (can : S → Event → Bool) (old new : List S) (n : ℕ) → n ≤ length old → IsClosed next can old n → Grows old new → IsClosed next can new n
-closed_on next can old new n within closed grows k less e comes d =
+closed_on : {S : Type 0} (next : S → Event → S) (can : S → Event → Bool) (alike : S → S → Type 0) (old new : List S) (n : ℕ) → n ≤ length old → IsClosed next can alike old n → Grows old new → IsClosed next can alike new n
+closed_on next can alike old new n within closed grows k less e comes d =
     let older : k < length old = omega arith in
-    rw (same_older old new grows k older d) (subst (λ xs. Contains xs (next (slice_index_or old k d) e)) (sym grows.same) (Contains-append_left old grows.more (next (slice_index_or old k d) e) (closed k less e (λ c. rw (same_older old new grows k older c) at (comes c)) d)))
+    rw (same_older old new grows k older d) (among_more alike old new (next (slice_index_or old k d) e) grows (closed k less e (λ c. rw (same_older old new grows k older c) at (comes c)) d))
 
-closed_more : {S : Type 0} (next : S → Event → S) (can : S → Event → Bool) (old new : List S) (n : ℕ) → n < length old → IsClosed next can old n → Grows old new → LeadsInto next can old n new → IsClosed next can new (n + 1)
-closed_more {S} next can old new n within closed grows leads k less e comes d = by (split k n less)
+closed_more : {S : Type 0} (next : S → Event → S) (can : S → Event → Bool) (alike : S → S → Type 0) (old new : List S) (n : ℕ) → n < length old → IsClosed next can alike old n → Grows old new → LeadsInto next can alike old n new → IsClosed next can alike new (n + 1)
+closed_more {S} next can alike old new n within closed grows leads k less e comes d = by (split k n less)
   where
-    by : (k < n) ⊎ (k ≡ n) → Contains new (next (slice_index_or new k d) e)
-    by (inl h) = closed_on next can old new n (omega arith) closed grows k h e comes d
+    by : (k < n) ⊎ (k ≡ n) → IsAmong alike new (next (slice_index_or new k d) e)
+    by (inl h) = closed_on next can alike old new n (omega arith) closed grows k h e comes d
     by (inr h) = rw (h, same_older old new grows n within d) (leads e (λ c. rw (h, same_older old new grows n within c) at (comes c)) d)
 
 pub begins_more : {S : Type 0} (start : S) (old new : List S) → Begins start old → Grows old new → Begins start new
@@ -103,12 +96,6 @@ way_back next can states back o at place from d h =
 
 -- ---- one event
 
--- the state that an event makes from the state at k is there
-pub there : {S : Type 0} (next : S → Event → S) (old new : List S) (k : ℕ) (x s : S) (e : Event) → k < length old → x ≡ slice_index_or old k x → s ≡ next x e → Contains new s → Follows next old k e new
-there next old new k x s e within is made h d =
-    let same : next (slice_index_or old k d) e ≡ s = ap (λ y. next y e) (get_or_default old k d x within ∙ sym is) ∙ sym made in
-    rw same h
-
 pub made_of : {S : Type 0} (next : S → Event → S) (old : List S) (k : ℕ) (x s : S) (e : Event) → k < length old → x ≡ slice_index_or old k x → s ≡ next x e → (d : S) → s ≡ next (slice_index_or old k d) e
 made_of next old k x s e within is made d = made ∙ ap (λ y. next y e) (is ∙ get_or_default old k x d within)
 
@@ -121,11 +108,11 @@ grows_on a b c h i = record { more = h.more ++ i.more; same = i.same ∙ ap (λ 
 pub within_more : {S : Type 0} (old new : List S) (k : ℕ) → Grows old new → k < length old → k < length new
 within_more old new k grows h = rw grows.same (omega (arith, length-append old grows.more, h))
 
-pub follows_more : {S : Type 0} (next : S → Event → S) (old mid new : List S) (k : ℕ) (e : Event) → Grows mid new → Follows next old k e mid → Follows next old k e new
-follows_more next old mid new k e grows h d = subst (λ xs. Contains xs (next (slice_index_or old k d) e)) (sym grows.same) (Contains-append_left mid grows.more (next (slice_index_or old k d) e) (h d))
+pub follows_more : {S : Type 0} (next : S → Event → S) (alike : S → S → Type 0) (old mid new : List S) (k : ℕ) (e : Event) → Grows mid new → Follows next alike old k e mid → Follows next alike old k e new
+follows_more next alike old mid new k e grows h d = among_more alike mid new (next (slice_index_or old k d) e) grows (h d)
 
-pub at_older : {S : Type 0} (old mid new : List S) (next : S → Event → S) (k : ℕ) (e : Event) → Grows old mid → k < length old → Follows next mid k e new → Follows next old k e new
-at_older old mid new next k e grows within h d =
+pub at_older : {S : Type 0} (old mid new : List S) (next : S → Event → S) (alike : S → S → Type 0) (k : ℕ) (e : Event) → Grows old mid → k < length old → Follows next alike mid k e new → Follows next alike old k e new
+at_older old mid new next alike k e grows within h d =
     let same : slice_index_or mid k d ≡ slice_index_or old k d = ap (λ xs. slice_index_or xs k d) grows.same ∙ get_or-append old grows.more d k within in
     rw same at (h d)
 
@@ -141,45 +128,45 @@ can_at can old mid k x events n e0 within is only grows less d =
     rw same (only e listed)
 
 -- the first n of these events lead from the state at k to states that are there
-pub record Spreads {S : Type 0} (next : S → Event → S) (old : List S) (k : ℕ) (events : List Event) (n : ℕ) (new : List S) : Type 0 where
-  pub there : (j : ℕ) → j < n → (e0 : Event) → Follows next old k (slice_index_or events j e0) new
+pub record Spreads {S : Type 0} (next : S → Event → S) (alike : S → S → Type 0) (old : List S) (k : ℕ) (events : List Event) (n : ℕ) (new : List S) : Type 0 where
+  pub there : (j : ℕ) → j < n → (e0 : Event) → Follows next alike old k (slice_index_or events j e0) new
 
-pub spread_more : {S : Type 0} (next : S → Event → S) (old mid new : List S) (k : ℕ) (events : List Event) (n : ℕ) (e : Event) → k < length old → n < length events → e ≡ slice_index_or events n e
-    → Grows old mid → Grows mid new → Follows next mid k e new → Spreads next old k events n mid → Spreads next old k events (n + 1) new
-spread_more {S} next old mid new k events n e within less is before after h spread = record { there = λ j lj e0. by j e0 (split j n lj) }
+pub spread_more : {S : Type 0} (next : S → Event → S) (alike : S → S → Type 0) (old mid new : List S) (k : ℕ) (events : List Event) (n : ℕ) (e : Event) → k < length old → n < length events → e ≡ slice_index_or events n e
+    → Grows old mid → Grows mid new → Follows next alike mid k e new → Spreads next alike old k events n mid → Spreads next alike old k events (n + 1) new
+spread_more {S} next alike old mid new k events n e within less is before after h spread = record { there = λ j lj e0. by j e0 (split j n lj) }
   where
-    by : (j : ℕ) (e0 : Event) → (j < n) ⊎ (j ≡ n) → Follows next old k (slice_index_or events j e0) new
-    by j e0 (inl l) = follows_more next old mid new k (slice_index_or events j e0) after (spread.there j l e0)
+    by : (j : ℕ) (e0 : Event) → (j < n) ⊎ (j ≡ n) → Follows next alike old k (slice_index_or events j e0) new
+    by j e0 (inl l) = follows_more next alike old mid new k (slice_index_or events j e0) after (spread.there j l e0)
     by j e0 (inr same) =
         let is' : slice_index_or events j e0 ≡ e = rw same (get_or_default events n e0 e less ∙ sym is) in
-        rw is' (at_older old mid new next k e before within h)
+        rw is' (at_older old mid new next alike k e before within h)
 
-pub leads : {S : Type 0} (next : S → Event → S) (can : S → Event → Bool) (old new : List S) (k : ℕ) (events : List Event) (x : S) → k < length old → x ≡ slice_index_or old k x
-    → ((e : Event) → can x e ≡ true → Contains events e) → Spreads next old k events (length events) new → LeadsInto next can old k new
-leads next can old new k events x within is all spread e comes d =
+pub leads : {S : Type 0} (next : S → Event → S) (can : S → Event → Bool) (alike : S → S → Type 0) (old new : List S) (k : ℕ) (events : List Event) (x : S) → k < length old → x ≡ slice_index_or old k x
+    → ((e : Event) → can x e ≡ true → Contains events e) → Spreads next alike old k events (length events) new → LeadsInto next can alike old k new
+leads next can alike old new k events x within is all spread e comes d =
     let at : slice_index_or old k x ≡ x = sym is in
     let listed = all e (rw at at (comes x)) in
-    subst (λ y. Contains new (next (slice_index_or old k d) y)) listed.2 (spread.there listed.0 listed.1 e d)
+    subst (λ y. IsAmong alike new (next (slice_index_or old k d) y)) listed.2 (spread.there listed.0 listed.1 e d)
 
 pub holds_last : {S : Type 0} (xs : List S) (x : S) → Contains (xs ++ x ∷ []) x
 holds_last xs x = (length xs, omega (arith, length-append xs (x ∷ [])), get_or-append_seam xs x [] x)
 
 -- ---- a search that goes on
 
-pub searched_on : {S : Type 0} (next : S → Event → S) (can : S → Event → Bool) (old new : List S) (os origins : List Origin) (n : ℕ) → IsSearched next can old os n
-    → Grows old new → IsTraced next can new origins → IsSearched next can new origins n
-searched_on next can old new os origins n h grows traced = record {
+pub searched_on : {S : Type 0} (next : S → Event → S) (can : S → Event → Bool) (alike : S → S → Type 0) (old new : List S) (os origins : List Origin) (n : ℕ) → IsSearched next can alike old os n
+    → Grows old new → IsTraced next can new origins → IsSearched next can alike new origins n
+searched_on next can alike old new os origins n h grows traced = record {
   some = within_more old new 0 grows h.some;
   traced = traced;
-  closed_below = closed_on next can old new n h.within h.closed_below grows;
+  closed_below = closed_on next can alike old new n h.within h.closed_below grows;
   within = rw grows.same (omega (arith, length-append old grows.more, h.within));
 }
 
-pub searched_more : {S : Type 0} (next : S → Event → S) (can : S → Event → Bool) (old new : List S) (os origins : List Origin) (n : ℕ) → IsSearched next can old os n → n < length old
-    → Grows old new → IsTraced next can new origins → LeadsInto next can old n new → IsSearched next can new origins (n + 1)
-searched_more next can old new os origins n h less grows traced leads = record {
+pub searched_more : {S : Type 0} (next : S → Event → S) (can : S → Event → Bool) (alike : S → S → Type 0) (old new : List S) (os origins : List Origin) (n : ℕ) → IsSearched next can alike old os n → n < length old
+    → Grows old new → IsTraced next can new origins → LeadsInto next can alike old n new → IsSearched next can alike new origins (n + 1)
+searched_more next can alike old new os origins n h less grows traced leads = record {
   some = within_more old new 0 grows h.some;
   traced = traced;
-  closed_below = closed_more next can old new n less h.closed_below grows leads;
+  closed_below = closed_more next can alike old new n less h.closed_below grows leads;
   within = omega (arith, within_more old new n grows less);
 }

@@ -1,16 +1,15 @@
 -- The states that follow from the first one and from how the others were found, and which of them
 -- are kept whole.
-use Rattle.std.proofs.Common.{◌≡◌, ℕ, ◌+◌, ◌<◌, ◌≤◌, ◌⊎◌, List, [], ◌∷◌, ◌++◌, length, fold, refl, ap, sym, ◌∙◌, arith, inl, inr, subst}
-use Rattle.std.proofs.Common.{length-append, Bool, true, false}
+use Rattle.std.proofs.Common.{◌≡◌, ℕ, ◌+◌, ◌<◌, ◌⊎◌, List, [], ◌∷◌, ◌++◌, length, fold, refl, ap, sym, ◌∙◌, arith, inl, inr, subst}
+use Rattle.std.proofs.Common.{length-append, Bool}
 use Rattle.std.proofs.lemmas.List.{get_or_default, drop-append-le}
 use Rattle.std.proofs.lemmas.List.Sums.{fold-append}
 use Rattle.std.proofs.Math.ListN.{get_or-append}
 use Rattle.std.proofs.Math.Seq.{get_or-append_seam}
-use Rattle.std.specs.Prelude.{slice_index_or, Option, Some, None, drop}
+use Rattle.std.specs.Prelude.{slice_index_or, Option, None, drop}
 use Rattle.sts_model.specs.declared.event.Event.{Event}
 use Rattle.ends_search.specs.declared.origin.Origin.{Origin}
-use Rattle.ends_search.specs.Search.{Grows, Begins, Follows, LeadsInto, IsKept, AreKept, IsSpace, CanAt, mark_at, state_at, states_of, with_next}
-use Rattle.std.specs.List.{Contains}
+use Rattle.ends_search.specs.Search.{Grows, Begins, Follows, LeadsInto, IsKept, AreKept, IsAmong, IsSpace, CanAt, mark_at, state_at, states_of, with_next}
 use Rattle.ends_search.proofs.SearchLemmas.{split, traced_more, searched_on, searched_more, holds_last}
 
 -- ---- the states
@@ -64,17 +63,17 @@ kept_more {S} states kept more marks mark state h grows is_kept = record {
         let there : slice_index_or (states ++ state ∷ []) k d ≡ state = rw same (get_or-append_seam states state [] d) in
         rw (here, there) is_kept
 
-pub space_more : {S : Type 0} (next : S → Event → S) (can : S → Event → Bool) (first : S) (origins : List Origin) (closed : ℕ) (kept : List S) (marks : List (Option ℕ)) (o : Origin) (s : S) (more : List S) (mark : Option ℕ)
-    → IsSpace next can first origins closed kept marks → o.parent < length origins → CanAt can (states_of next first origins) o.parent o.event → s ≡ next (state_at next first origins o.parent) o.event → Grows kept more → IsKept more mark s
-    → IsSpace next can first (origins ++ o ∷ []) closed more (marks ++ mark ∷ [])
-space_more {S} next can first origins closed kept marks o s more mark h within comes made grows is_kept =
+pub space_more : {S : Type 0} (next : S → Event → S) (can : S → Event → Bool) (alike : S → S → Type 0) (first : S) (origins : List Origin) (closed : ℕ) (kept : List S) (marks : List (Option ℕ)) (o : Origin) (s : S) (more : List S) (mark : Option ℕ)
+    → IsSpace next can alike first origins closed kept marks → o.parent < length origins → CanAt can (states_of next first origins) o.parent o.event → s ≡ next (state_at next first origins o.parent) o.event → Grows kept more → IsKept more mark s
+    → IsSpace next can alike first (origins ++ o ∷ []) closed more (marks ++ mark ∷ [])
+space_more {S} next can alike first origins closed kept marks o s more mark h within comes made grows is_kept =
     let states = states_of next first origins in
     let as_many : length origins ≡ length states = h.searched.traced.as_many in
     let new : states_of next first (origins ++ o ∷ []) ≡ states ++ s ∷ [] = states_more next first origins o (omega (arith, within)) ∙ ap (λ x. states ++ x ∷ []) (sym made) in
     let traced = traced_more next can states origins s o h.searched.traced (omega (arith, within, as_many)) comes
     (λ d. made ∙ ap (λ x. next x o.event) (get_or_default states o.parent first d (omega (arith, within, as_many)))) in
     record {
-      searched = rw new (searched_on next can states (states ++ s ∷ []) origins (origins ++ o ∷ []) closed h.searched (record { more = s ∷ []; same = refl }) traced);
+      searched = rw new (searched_on next can alike states (states ++ s ∷ []) origins (origins ++ o ∷ []) closed h.searched (record { more = s ∷ []; same = refl }) traced);
       whole_ones = rw new (kept_more states kept more marks mark s h.whole_ones grows is_kept);
     }
 
@@ -84,15 +83,16 @@ grows_more next first origins o some = record { more = next (state_at next first
 -- ---- what an event leads to
 
 -- the state that an event leads to from the state at k is there
-pub follows : {S : Type 0} (next : S → Event → S) (old new : List S) (k : ℕ) (first : S) (e : Event) → k < length old → Contains new (next (slice_index_or old k first) e) → Follows next old k e new
-follows next old new k first e within h d = rw (get_or_default old k d first within) h
+pub follows : {S : Type 0} (next : S → Event → S) (alike : S → S → Type 0) (old new : List S) (k : ℕ) (first : S) (e : Event) → k < length old → IsAmong alike new (next (slice_index_or old k first) e) → Follows next alike old k e new
+follows next alike old new k first e within h d = rw (get_or_default old k d first within) h
 
-pub follows_there : {S : Type 0} (next : S → Event → S) (first : S) (origins : List Origin) (o : Origin) → 0 < length origins → o.parent < length (states_of next first origins)
-    → Follows next (states_of next first origins) o.parent o.event (states_of next first (origins ++ o ∷ []))
-follows_there next first origins o some within =
+pub follows_there : {S : Type 0} (next : S → Event → S) (alike : S → S → Type 0) (first : S) (origins : List Origin) (o : Origin) → 0 < length origins → o.parent < length (states_of next first origins)
+    → Follows next alike (states_of next first origins) o.parent o.event (states_of next first (origins ++ o ∷ []))
+follows_there next alike first origins o some within =
     let states = states_of next first origins in
-    follows next states (states_of next first (origins ++ o ∷ [])) o.parent first o.event within
-    (rw (states_more next first origins o some) (holds_last states (next (state_at next first origins o.parent) o.event)))
+    let new = next (state_at next first origins o.parent) o.event in
+    follows next alike states (states_of next first (origins ++ o ∷ [])) o.parent first o.event within
+    (record { other = new; there = rw (states_more next first origins o some) (holds_last states new); same = inl refl })
 
 -- what an event leads to from a state, which is this one
 pub comes_on : {S : Type 0} (next : S → Event → S) (x y s : S) (e : Event) → s ≡ next x e → x ≡ y → s ≡ next y e
@@ -100,10 +100,10 @@ comes_on next x y s e made same = made ∙ ap (λ z. next z e) same
 
 -- ---- one state expanded
 
-pub space_closed : {S : Type 0} (next : S → Event → S) (can : S → Event → Bool) (first : S) (os origins : List Origin) (closed : ℕ) (kept older : List S) (marks earlier : List (Option ℕ)) → IsSpace next can first os closed older earlier
-    → IsSpace next can first origins closed kept marks → closed < length os → Grows (states_of next first os) (states_of next first origins) → LeadsInto next can (states_of next first os) closed (states_of next first origins)
-    → IsSpace next can first origins (closed + 1) kept marks
-space_closed next can first os origins closed kept older marks earlier old new less grows leads = record {
-  searched = searched_more next can (states_of next first os) (states_of next first origins) os origins closed old.searched (omega (arith, less, old.searched.traced.as_many)) grows new.searched.traced leads;
+pub space_closed : {S : Type 0} (next : S → Event → S) (can : S → Event → Bool) (alike : S → S → Type 0) (first : S) (os origins : List Origin) (closed : ℕ) (kept older : List S) (marks earlier : List (Option ℕ)) → IsSpace next can alike first os closed older earlier
+    → IsSpace next can alike first origins closed kept marks → closed < length os → Grows (states_of next first os) (states_of next first origins) → LeadsInto next can alike (states_of next first os) closed (states_of next first origins)
+    → IsSpace next can alike first origins (closed + 1) kept marks
+space_closed next can alike first os origins closed kept older marks earlier old new less grows leads = record {
+  searched = searched_more next can alike (states_of next first os) (states_of next first origins) os origins closed old.searched (omega (arith, less, old.searched.traced.as_many)) grows new.searched.traced leads;
   whole_ones = new.whole_ones;
 }

@@ -1,6 +1,7 @@
 -- The states that a search of a machine finds. `next` is the effect of an event on a state, `can`
--- says whether the event can come there.
-use Rattle.std.specs.Prelude.{◌≡◌, ℕ, ◌<◌, ◌≤◌, List, [], ◌∷◌, ◌++◌, fold, length, slice_index_or}
+-- says whether the event can come there, and `alike` relates two states of which the search keeps
+-- one.
+use Rattle.std.specs.Prelude.{◌≡◌, ℕ, ◌<◌, ◌≤◌, ◌⊎◌, List, [], ◌∷◌, ◌++◌, fold, length, slice_index_or}
 use Rattle.std.specs.Prelude.{Bool, true, drop, Option, Some, None}
 use Rattle.std.specs.List.{Contains}
 use Rattle.sts_model.specs.declared.event.Event.{Event}
@@ -19,12 +20,6 @@ pub record IsWay {S : Type 0} (next : S → Event → S) (can : S → Event → 
     (events : List Event) (r : S) : Type 0 where
   pub can_all : CanAll next can s events
   pub leads : fold next s events ≡ r
-
--- what any events lead to is there
-abbrev pub Covers : {S : Type 0} → (S → Event → S) → (S → Event → Bool) → S → List S → Type 0
-Covers next can start states =
-    (events : List Event) → CanAll next can start events
-    → Contains states (fold next start events)
 
 -- ---- how states were found
 
@@ -73,18 +68,28 @@ pub record Begins {S : Type 0} (start : S) (states : List S) : Type 0 where
 
 -- ---- what states lead to
 
--- the event leads from the older state at k to a state that is there
-abbrev pub Follows : {S : Type 0} → (S → Event → S) → List S → ℕ → Event → List S → Type 0
-Follows {S} next old k e new = (d : S) → Contains new (next (slice_index_or old k d) e)
+-- the state, or one that it is alike to, is one of these
+pub record IsAmong {S : Type 0} (alike : S → S → Type 0) (states : List S) (state : S) : Type 0 where
+  pub other : S
+  pub there : Contains states other
+  pub same : (state ≡ other) ⊎ alike state other
+
+-- the event leads from the older state at k to a state that is among these
+abbrev pub Follows : {S : Type 0} → (S → Event → S) → (S → S → Type 0) → List S → ℕ → Event
+    → List S → Type 0
+Follows {S} next alike old k e new =
+    (d : S) → IsAmong alike new (next (slice_index_or old k d) e)
 
 -- this holds for any event that can come
-abbrev pub LeadsInto : {S : Type 0} → (S → Event → S) → (S → Event → Bool) → List S → ℕ → List S
-    → Type 0
-LeadsInto next can old k new = (e : Event) → CanAt can old k e → Follows next old k e new
+abbrev pub LeadsInto : {S : Type 0} → (S → Event → S) → (S → Event → Bool) → (S → S → Type 0)
+    → List S → ℕ → List S → Type 0
+LeadsInto next can alike old k new =
+    (e : Event) → CanAt can old k e → Follows next alike old k e new
 
 -- this holds for each of the first n states
-abbrev pub IsClosed : {S : Type 0} → (S → Event → S) → (S → Event → Bool) → List S → ℕ → Type 0
-IsClosed next can states n = (k : ℕ) → k < n → LeadsInto next can states k states
+abbrev pub IsClosed : {S : Type 0} → (S → Event → S) → (S → Event → Bool) → (S → S → Type 0)
+    → List S → ℕ → Type 0
+IsClosed next can alike states n = (k : ℕ) → k < n → LeadsInto next can alike states k states
 
 -- the older ones are the first ones
 pub record Grows {S : Type 0} (old new : List S) : Type 0 where
@@ -94,10 +99,10 @@ pub record Grows {S : Type 0} (old new : List S) : Type 0 where
 -- A search so far. It has a first state. Each other state was found from an older one. Any event
 -- leads from each of the first `closed` states to one of the states.
 pub record IsSearched {S : Type 0} (next : S → Event → S) (can : S → Event → Bool)
-    (states : List S) (origins : List Origin) (closed : ℕ) : Type 0 where
+    (alike : S → S → Type 0) (states : List S) (origins : List Origin) (closed : ℕ) : Type 0 where
   pub some : 0 < length states
   pub traced : IsTraced next can states origins
-  pub closed_below : IsClosed next can states closed
+  pub closed_below : IsClosed next can alike states closed
   pub within : closed ≤ length states
 
 -- ---- which states are kept whole
@@ -119,7 +124,7 @@ pub record AreKept {S : Type 0} (states kept : List S) (marks : List (Option ℕ
 
 -- A search so far. Its states follow from the first one and from how the others were found, and
 -- some of them are kept whole.
-pub record IsSpace {S : Type 0} (next : S → Event → S) (can : S → Event → Bool) (first : S)
-    (origins : List Origin) (closed : ℕ) (kept : List S) (marks : List (Option ℕ)) : Type 0 where
-  pub searched : IsSearched next can (states_of next first origins) origins closed
+pub record IsSpace {S : Type 0} (next : S → Event → S) (can : S → Event → Bool)
+    (alike : S → S → Type 0) (first : S) (origins : List Origin) (closed : ℕ) (kept : List S) (marks : List (Option ℕ)) : Type 0 where
+  pub searched : IsSearched next can alike (states_of next first origins) origins closed
   pub whole_ones : AreKept (states_of next first origins) kept marks

@@ -16,6 +16,8 @@ pub trait StateMachine: Drop {
 
     ghost can: { Self.Setting → Self → Event → Bool };
 
+    ghost alike: { Self.Setting → Self → Self → Type 0 };
+
     /// The events that can come.
     fn events(&self, alloc: Global, setting: &Self::Setting) -> Result<Vec<Event>, AllocError>
         ensures all { IfOk result (λ es. (e : Event) → can setting.now self.now e ≡ true → Contains es.items e) }
@@ -34,10 +36,16 @@ pub trait StateMachine: Drop {
     fn copied(&self, alloc: Global) -> Result<Self, AllocError>
         ensures { IfOk result (λ s. s ≡ self.now) };
 
-    /// If the answer is true, the two are the same state. It may be false for the same state.
-    fn same(&self, other: &Self) -> bool
-        ensures { result ≡ true → self.now ≡ other.now };
+    /// If the answer is true, this state is alike to the other one, and the search keeps the other
+    /// one alone. It may be false for states that are alike.
+    fn is_like(
+        &self,
+        alloc: Global,
+        setting: &Self::Setting,
+        other: &Self,
+    ) -> Result<bool, AllocError>
+        ensures { IfOk result (λ r. r ≡ true → alike setting.now self.now other.now) };
 
-    /// A number that the same states mostly share.
-    fn hash(&self) -> u64;
+    /// A number that states mostly share if they are alike.
+    fn hash(&self, alloc: Global, setting: &Self::Setting) -> Result<u64, AllocError>;
 }

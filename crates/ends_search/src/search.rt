@@ -2,8 +2,7 @@
 
 ghost use Rattle.std.specs.Prelude.{◌≡◌, ◌<◌, length, true, IfOk, IfSome, IsNone, OnOk, fold};
 ghost use Rattle.std.specs.Prelude.{slice_index_or};
-ghost use Rattle.std.specs.List.{Contains};
-ghost use Rattle.ends_search.specs.Search.{IsSpace, IsKept, Grows, LeadsInto, Follows};
+ghost use Rattle.ends_search.specs.Search.{IsAmong, IsSpace, IsKept, Grows, LeadsInto, Follows};
 ghost use Rattle.ends_search.specs.Search.{CanAt, IsWay, state_at, states_of};
 
 use crate::index::Index;
@@ -48,7 +47,7 @@ fn whole<'s, S: StateMachine>(
 ) -> Option<&'s S>
     requires within { place < length space.now.origins.items }
     requires space { IsSpace (S.next setting.now) (S.can setting.now)
-        space.now.first space.now.origins.items space.now.closed
+        (S.alike setting.now) space.now.first space.now.origins.items space.now.closed
         space.now.kept.items space.now.marks.items }
     ensures some { IfSome result (λ s.
         s.now ≡ state_at (S.next setting.now) space.now.first space.now.origins.items place) }
@@ -77,7 +76,7 @@ pub fn restored<S: StateMachine>(
 ) -> Result<S, AllocError>
     requires within { place < length space.now.origins.items }
     requires space { IsSpace (S.next setting.now) (S.can setting.now)
-        space.now.first space.now.origins.items space.now.closed
+        (S.alike setting.now) space.now.first space.now.origins.items space.now.closed
         space.now.kept.items space.now.marks.items }
     ensures { IfOk result (λ s.
         s ≡ state_at (S.next setting.now) space.now.first space.now.origins.items place) }
@@ -93,7 +92,7 @@ pub fn restored<S: StateMachine>(
     }
 }
 
-/// Is it the state at a place?
+/// Is the state alike to that at a place?
 fn is_at<S: StateMachine>(
     alloc: Global,
     setting: &S::Setting,
@@ -103,16 +102,16 @@ fn is_at<S: StateMachine>(
 ) -> Result<bool, AllocError>
     requires within { place < length space.now.origins.items }
     requires space { IsSpace (S.next setting.now) (S.can setting.now)
-        space.now.first space.now.origins.items space.now.closed
+        (S.alike setting.now) space.now.first space.now.origins.items space.now.closed
         space.now.kept.items space.now.marks.items }
-    ensures { IfOk result (λ r. r ≡ true → Contains
+    ensures { IfOk result (λ r. r ≡ true → IsAmong (S.alike setting.now)
         (states_of (S.next setting.now) space.now.first space.now.origins.items) state.now) }
 {
     let other = restored(alloc, setting, space, place)?;
-    Ok(other.same(state))
+    state.is_like(alloc, setting, &other)
 }
 
-/// Is the state among those that were found?
+/// Is the state alike to one of those that were found?
 fn is_known<S: StateMachine>(
     alloc: Global,
     setting: &S::Setting,
@@ -121,9 +120,9 @@ fn is_known<S: StateMachine>(
     hash: u64,
 ) -> Result<bool, AllocError>
     requires { IsSpace (S.next setting.now) (S.can setting.now)
-        space.now.first space.now.origins.items space.now.closed
+        (S.alike setting.now) space.now.first space.now.origins.items space.now.closed
         space.now.kept.items space.now.marks.items }
-    ensures { IfOk result (λ r. r ≡ true → Contains
+    ensures { IfOk result (λ r. r ≡ true → IsAmong (S.alike setting.now)
         (states_of (S.next setting.now) space.now.first space.now.origins.items) state.now) }
 {
     let mut place = space.index.first(hash);
@@ -170,22 +169,22 @@ fn add<S: StateMachine>(
     requires comes { state ≡ S.next setting.now (state_at (S.next setting.now)
         space.old.first space.old.origins.items origin.parent) origin.event }
     requires space { IsSpace (S.next setting.now) (S.can setting.now)
-        space.old.first space.old.origins.items space.old.closed
+        (S.alike setting.now) space.old.first space.old.origins.items space.old.closed
         space.old.kept.items space.old.marks.items }
     ensures space { OnOk result (IsSpace (S.next setting.now) (S.can setting.now)
-        space.new.first space.new.origins.items space.new.closed
+        (S.alike setting.now) space.new.first space.new.origins.items space.new.closed
         space.new.kept.items space.new.marks.items) }
     ensures first { OnOk result (space.new.first ≡ space.old.first) }
     ensures closed { OnOk result (space.new.closed ≡ space.old.closed) }
     ensures grows { OnOk result (Grows
         (states_of (S.next setting.now) space.old.first space.old.origins.items)
         (states_of (S.next setting.now) space.new.first space.new.origins.items)) }
-    ensures there { IfOk result (λ there. there ≡ true → Follows (S.next setting.now)
+    ensures there { IfOk result (λ there. there ≡ true → Follows (S.next setting.now) (S.alike setting.now)
         (states_of (S.next setting.now) space.old.first space.old.origins.items)
         origin.parent origin.event
         (states_of (S.next setting.now) space.new.first space.new.origins.items)) }
 {
-    let hash = state.hash();
+    let hash = state.hash(alloc, setting)?;
     if is_known(alloc, setting, space, &state, hash)? {
         return Ok(true);
     }
@@ -223,10 +222,10 @@ fn expand<S: StateMachine>(
 ) -> Result<bool, AllocError>
     requires within { place < length space.old.origins.items }
     requires space { IsSpace (S.next setting.now) (S.can setting.now)
-        space.old.first space.old.origins.items space.old.closed
+        (S.alike setting.now) space.old.first space.old.origins.items space.old.closed
         space.old.kept.items space.old.marks.items }
     ensures space { OnOk result (IsSpace (S.next setting.now) (S.can setting.now)
-        space.new.first space.new.origins.items space.new.closed
+        (S.alike setting.now) space.new.first space.new.origins.items space.new.closed
         space.new.kept.items space.new.marks.items) }
     ensures first { OnOk result (space.new.first ≡ space.old.first) }
     ensures closed { OnOk result (space.new.closed ≡ space.old.closed) }
@@ -234,7 +233,7 @@ fn expand<S: StateMachine>(
         (states_of (S.next setting.now) space.old.first space.old.origins.items)
         (states_of (S.next setting.now) space.new.first space.new.origins.items)) }
     ensures all { IfOk result (λ all. all ≡ true → LeadsInto (S.next setting.now)
-        (S.can setting.now)
+        (S.can setting.now) (S.alike setting.now)
         (states_of (S.next setting.now) space.old.first space.old.origins.items) place
         (states_of (S.next setting.now) space.new.first space.new.origins.items)) }
 {
@@ -267,13 +266,12 @@ pub fn begin<S: StateMachine>(
 ) -> Result<Space<S>, AllocError>
     ensures first { IfOk result (λ r. r.first ≡ first) }
     ensures space { IfOk result (λ r. IsSpace (S.next setting.now) (S.can setting.now)
-        r.first r.origins.items r.closed r.kept.items r.marks.items) }
+        (S.alike setting.now) r.first r.origins.items r.closed r.kept.items r.marks.items) }
 {
-    let _ = setting;
     let mut origins = Vec::new(alloc);
     let mut marks = Vec::new(alloc);
     let mut index = Index::new(alloc)?;
-    index.add(alloc, first.hash())?;
+    index.add(alloc, first.hash(alloc, setting)?)?;
     marks.push(None)?;
     origins.push(Origin {
         parent: 0,
@@ -304,10 +302,10 @@ pub fn advance<S: StateMachine>(
     count: usize,
 ) -> Result<Space<S>, AllocError>
     requires { IsSpace (S.next setting.now) (S.can setting.now)
-        space.first space.origins.items space.closed space.kept.items space.marks.items }
+        (S.alike setting.now) space.first space.origins.items space.closed space.kept.items space.marks.items }
     ensures first { IfOk result (λ r. r.first ≡ space.first) }
     ensures space { IfOk result (λ r. IsSpace (S.next setting.now) (S.can setting.now)
-        r.first r.origins.items r.closed r.kept.items r.marks.items) }
+        (S.alike setting.now) r.first r.origins.items r.closed r.kept.items r.marks.items) }
 {
     let mut space = space;
     for _ in 0..count {
@@ -337,7 +335,7 @@ pub fn trace<S: StateMachine>(
 ) -> Result<Vec<Event>, AllocError>
     requires within { place < length space.now.origins.items }
     requires space { IsSpace (S.next setting.now) (S.can setting.now)
-        space.now.first space.now.origins.items space.now.closed
+        (S.alike setting.now) space.now.first space.now.origins.items space.now.closed
         space.now.kept.items space.now.marks.items }
     ensures { IfOk result (λ es. IsWay (S.next setting.now) (S.can setting.now)
         space.now.first es.items

@@ -11,7 +11,7 @@ use Rattle.ends_plain.proofs.ends.list.Goals as goal
 
 pub loop-k-preserved : goal.loop-k-preserved
 loop-k-preserved c =
-    let g = c.args.setting.now in
+    let g = c.args.asked.now.setting in
     let s = c.args.space.now in
     let states = states_of (next g) s.first s.origins.items in
     let k = c.loop-k.k in

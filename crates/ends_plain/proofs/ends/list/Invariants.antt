@@ -5,5 +5,5 @@ use Rattle.ends_plain.proofs.ends.list.Given as goal
 
 abbrev pub invariant-loop-k : goal.invariant-loop-k
 invariant-loop-k l =
-    AreShown l.setting l.space.first l.found.items
-    × HasShown (states_of (next l.setting) l.space.first l.space.origins.items) l.k (ends_of l.found.items)
+    AreShown l.asked.setting l.space.first l.found.items
+    × HasShown (states_of (next l.asked.setting) l.space.first l.space.origins.items) l.k (ends_of l.found.items)

@@ -58,7 +58,7 @@ loop-event-preserved g c =
       d.first ∙ i.1,
       d.closed ∙ i.2,
       grows_on olds mids news i.3 d.grows,
-      spread_more next olds mids news c.args.place c.deref-event-items.result.now c.loop-event.event-index _ within less (get_or_default c.deref-event-items.result.now c.loop-event.event-index _ _ less) i.3 d.grows (d.there c.if-not-there.false) i.4,
+      spread_more next (g.S.StateMachine.alike c.args.setting.now) olds mids news c.args.place c.deref-event-items.result.now c.loop-event.event-index _ within less (get_or_default c.deref-event-items.result.now c.loop-event.event-index _ _ less) i.3 d.grows (d.there c.if-not-there.false) i.4,
     )
 
 pub returns-clause-all : goal.returns-clause-all
@@ -72,7 +72,7 @@ returns-clause-all g c _ =
     let x = c.in_ok-state.state in
     let all : c.loop-event.event-index ≡ length c.deref-event-items.result.now = omega arith in
     let spread = rw all at i.4 in
-    leads next (g.S.StateMachine.can c.args.setting.now) states (states_of next mid.first mid.origins.items) c.args.place c.deref-event-items.result.now x within
+    leads next (g.S.StateMachine.can c.args.setting.now) (g.S.StateMachine.alike c.args.setting.now) states (states_of next mid.first mid.origins.items) c.args.place c.deref-event-items.result.now x within
     (c.in_ok-state.ensures ∙ get_or_default states c.args.place old.first x within) (rw c.deref-event-items.ensures.value c.in_ok-events.ensures.all) spread
 
 pub returns-then-not-there-clause-grows : goal.returns-then-not-there-clause-grows

@@ -1,6 +1,6 @@
 use Rattle.std.proofs.Common.{◌≡◌, ◌<◌, sym, ◌∙◌, arith, subst}
 use Rattle.std.proofs.lemmas.List.{get_or_default}
-use Rattle.ends_search.specs.Search.{ComesFrom, IsWay, origin_at, no_origin, states_of, state_at}
+use Rattle.ends_search.specs.Search.{ComesFrom, origin_at, no_origin, states_of, state_at}
 use Rattle.ends_search.proofs.SearchLemmas.{way_back}
 use Rattle.ends_search.proofs.StateLemmas.{starts}
 use Rattle.ends_search.proofs.search.trace.Goals as goal

@@ -1,9 +1,8 @@
-use Rattle.std.proofs.Common.{◌≡◌, ◌∙◌, length, arith, subst}
-use Rattle.ends_search.specs.Search.{Covers, states_of}
-use Rattle.ends_search.proofs.SearchLemmas.{covers}
-use Rattle.ends_search.proofs.StateLemmas.{begins_so}
-use Rattle.ends_plain.specs.Configs.{next, tries, start}
-use Rattle.ends_plain.proofs.ListedLemmas.{sound, complete}
+use Rattle.std.proofs.Common.{◌≡◌, ◌∙◌, sym, length, false, arith}
+use Rattle.std.specs.List.{list_any}
+use Rattle.ends_plain.specs.Listed.{is_faulty}
+use Rattle.ends_plain.proofs.ListedLemmas.{sound, all_listed, none_of}
+use Rattle.ends_plain.proofs.exploration.Exploration.ends.Goals.{then-is_closed+then-self, then-is_closed+else-self, else-is_closed}
 use Rattle.ends_plain.proofs.exploration.Exploration.ends.Goals as goal
 
 pub list-requires : goal.list-requires
@@ -12,16 +11,18 @@ list-requires c = c.self.invariant.space
 pub returns-clause-sound : goal.returns-clause-sound
 returns-clause-sound c =
     let x = c.self.inside in
-    rw (← c.self.view_is) (sound x.setting x.space.first c.in_ok-found.found.items c.self.invariant.begins c.in_ok-found.ensures.shown)
+    rw (← c.self.view_is) (sound x.asked.setting x.space.first c.in_ok-found.found.items c.self.invariant.begins c.in_ok-found.ensures.shown)
 
 pub returns-clause-complete : goal.returns-clause-complete
 returns-clause-complete c whole =
     let x = c.self.inside in
-    let g = x.setting in
-    let states = states_of (next g) x.space.first x.space.origins.items in
-    let s = c.self.invariant.space.searched in
-    let as_many : length x.space.origins.items ≡ length states = s.traced.as_many in
-    let all : x.space.closed ≡ length states = grind (arith, as_many) in
-    let covered : Covers (next g) (tries g) (start g) states =
-    subst (λ f. Covers (next g) (tries g) f states) c.self.invariant.begins (covers (next g) (tries g) x.space.first states (begins_so (next g) x.space.first x.space.origins.items s.some) (rw all at s.closed_below)) in
-    rw (← c.self.view_is) (complete g states _ covered (rw as_many at c.in_ok-found.ensures.all))
+    let s = x.space in
+    let found = c.in_ok-found.found.items in
+    let all = λ (over : s.closed ≡ length s.origins.items) (calm : x.asked.exact ≡ false → list_any is_faulty found ≡ false).
+    all_listed x.asked s.first s.origins.items s.closed s.kept.items s.marks.items found c.self.invariant over c.in_ok-found.ensures.all calm in
+    rw (← c.self.view_is)
+    (elim c.if-is_closed.branch [
+      | then-is_closed+then-self w ↦ all (grind arith) (λ loose. cc)
+      | then-is_closed+else-self w ↦ all (grind arith) (λ loose. none_of found w.as_slice.result.now w.has_fault.result w.as_slice.ensures.value w.has_fault.ensures (sym w.whole-is ∙ whole))
+      | else-is_closed w ↦ cc
+    ])

@@ -1,5 +1,5 @@
 use Rattle.std.proofs.Common.{◌∙◌}
-use Rattle.ends_plain.proofs.exploration.Exploration.begin.Goals as goal
+use Rattle.ends_plain.proofs.exploration.begun.Goals as goal
 
 pub invariant_of-result : goal.invariant_of-result
 invariant_of-result c = record {

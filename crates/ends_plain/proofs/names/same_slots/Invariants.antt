@@ -1,0 +1,7 @@
+use Rattle.std.proofs.Common.{◌≡◌, map, take}
+use Rattle.laws_names.specs.Names.{named_slot}
+use Rattle.ends_plain.specs.Named.{names_of}
+use Rattle.ends_plain.proofs.names.same_slots.Given as goal
+
+abbrev pub invariant-loop-i : goal.invariant-loop-i
+invariant-loop-i l = take l.i l.theirs ≡ map (named_slot (names_of l.names)) (take l.i l.ours)

@@ -1,0 +1,114 @@
+-- Two states are alike if each of their tasks and scopes is the same as the one with its name.
+use Rattle.std.proofs.Common.{◌≡◌, ℕ, suc, ◌+◌, ◌-◌, ◌<◌, ◌≤◌, List, [], ◌∷◌, Bool, true, false, refl, sym, ◌∙◌, ap, length, arith, get_or, cond}
+use Rattle.std.specs.List.{sum_by, remove}
+use Rattle.std.proofs.Math.Dec.{ltb}
+use Rattle.std.proofs.lemmas.Bool.{ltb-true}
+use Rattle.std.proofs.lemmas.Bool.Decides.{nat_tests}
+use Rattle.std.proofs.lemmas.List.Edits.{length-remove, get_or-remove_below, get_or-remove_above}
+use Rattle.std.proofs.lemmas.List.Sums.{sum_by-cons, sum_by-remove}
+use Rattle.sts_model.specs.World.{World, task_at, scope_at, no_task, no_scope}
+use Rattle.laws_names.specs.Names.{Names, IsAlike, IsOneToOne, live_part, plain_part, named_task, named_scope, IsSameTask, IsSameScope}
+use Rattle.laws_names.proofs.NameLemmas.{get_past, name_below}
+
+-- a place after another one was taken out
+shift : ℕ → ℕ → ℕ
+shift k j = cond (ltb k j) (j - 1) j
+
+shift_same : (k i j : ℕ) → (i ≡ k → ⊥) → (j ≡ k → ⊥) → shift k i ≡ shift k j → i ≡ j
+unfolding shift
+shift_same k i j here there h = by (ltb k i) refl (ltb k j) refl h
+  where
+    by : (b : Bool) → ltb k i ≡ b → (c : Bool) → ltb k j ≡ c → cond b (i - 1) i ≡ cond c (j - 1) j → i ≡ j
+    by true e true f same = grind (arith, nat_tests)
+    by true e false f same = absurd (there (grind (arith, nat_tests)))
+    by false e true f same = absurd (here (grind (arith, nat_tests)))
+    by false e false f same = same
+
+shift_below : (k j m : ℕ) → (j ≡ k → ⊥) → k < m + 1 → j < m + 1 → shift k j < m
+unfolding shift
+shift_below k j m other inside less = by (ltb k j) refl
+  where
+    by : (b : Bool) → ltb k j ≡ b → cond b (j - 1) j < m
+    by true e = grind (arith, nat_tests)
+    by false e = grind (arith, nat_tests)
+
+get_shift : {X : Type 0} (ys : List X) (k j : ℕ) (d : X) → (j ≡ k → ⊥) → k < length ys → get_or (remove ys k) (shift k j) d ≡ get_or ys j d
+unfolding shift
+get_shift {X} ys k j d other inside = by (ltb k j) refl
+  where
+    by : (b : Bool) → ltb k j ≡ b → get_or (remove ys k) (cond b (j - 1) j) d ≡ get_or ys j d
+    by true e =
+        let less = ltb-true k j e in
+        let same : j - 1 + 1 ≡ j = omega (arith, less) in
+        get_or-remove_above ys k d (j - 1) (omega (arith, less)) inside ∙ ap (λ m. get_or ys m d) same
+    by false e = get_or-remove_below ys k d j (grind (arith, nat_tests)) inside
+
+-- the sum over the named ones
+pub named_sum : {X : Type 0} (q r : X → ℕ) (d : X) (xs ys : List X) (f : ℕ → ℕ) → IsOneToOne f → length ys ≡ length xs → ((t : ℕ) → t < length xs → f t < length ys)
+    → ((t : ℕ) → t < length xs → q (get_or ys (f t) d) ≡ r (get_or xs t d)) → sum_by q ys ≡ sum_by r xs
+named_sum q r d [] [] f one long inside same = refl
+named_sum q r d [] (y ∷ ys) f one long inside same = absurd (omega (arith, long))
+named_sum {X} q r d (x ∷ xs) ys f one long inside same =
+    let k : ℕ = f 0 in
+    let within : k < length ys = inside 0 (omega arith) in
+    let shorter : length (remove ys k) + 1 ≡ length ys = length-remove ys k within in
+    let other : (t : ℕ) → f (suc t) ≡ k → ⊥ = λ t e. let h = one (suc t) 0 e in absurd (omega (arith, h)) in
+    let rest : sum_by q (remove ys k) ≡ sum_by r xs =
+    named_sum q r d xs (remove ys k) (λ t. shift k (f (suc t)))
+    (λ a b e. let h = one (suc a) (suc b) (shift_same k (f (suc a)) (f (suc b)) (other a) (other b) e) in omega (arith, h))
+    (omega (arith, shorter, long))
+    (λ t less. shift_below k (f (suc t)) (length (remove ys k)) (other t) (omega (arith, within, shorter)) (let h = inside (suc t) (omega (arith, less)) in omega (arith, h, shorter)))
+    (λ t less. ap q (get_shift ys k (f (suc t)) d (other t) within) ∙ same (suc t) (omega (arith, less))) in
+    let all = sum_by-remove q ys k d within in
+    let first : q (get_or ys k d) ≡ r x = same 0 (omega arith) in
+    let parts = sum_by-cons r x xs in
+    omega (arith, all, first, parts, rest)
+
+-- ---- states
+
+pub record AreSame (n : Names) (w v : World) : Type 0 where
+  pub tasks_born : length v.tasks ≡ length w.tasks
+  pub scopes_born : length v.scopes ≡ length w.scopes
+  pub task_names : IsOneToOne n.tasks
+  pub scope_names : IsOneToOne n.scopes
+  pub later_tasks : (t : ℕ) → length w.tasks ≤ t → n.tasks t ≡ t
+  pub later_scopes : (s : ℕ) → length w.scopes ≤ s → n.scopes s ≡ s
+  pub root : n.tasks 0 ≡ 0
+  pub task : (t : ℕ) → t < length w.tasks → IsSameTask n (task_at w t) (task_at v (n.tasks t))
+  pub scope : (s : ℕ) → s < length w.scopes → IsSameScope n (scope_at w s) (scope_at v (n.scopes s))
+
+pub alike_made : (n : Names) (w v : World) → AreSame n w v → IsAlike n w v
+alike_made n w v h =
+    record {
+      tasks_born = h.tasks_born;
+      scopes_born = h.scopes_born;
+      task_names = h.task_names;
+      scope_names = h.scope_names;
+      later_tasks = h.later_tasks;
+      later_scopes = h.later_scopes;
+      root = h.root;
+      task = λ t. at_task t (ltb t (length w.tasks)) refl;
+      scope = λ s. at_scope s (ltb s (length w.scopes)) refl;
+      task_sums = λ q. named_sum (λ x. q (live_part x)) (λ x. q (named_task n (live_part x))) no_task w.tasks v.tasks n.tasks h.task_names h.tasks_born
+          (λ t less. let e = name_below n.tasks h.task_names (length w.tasks) h.later_tasks t less in let b = h.tasks_born in omega (arith, e, b)) (λ t less. ap q (h.task t less));
+      scope_sums = λ q. named_sum (λ x. q (plain_part x)) (λ x. q (named_scope n (plain_part x))) no_scope w.scopes v.scopes n.scopes h.scope_names h.scopes_born
+          (λ s less. let e = name_below n.scopes h.scope_names (length w.scopes) h.later_scopes s less in let b = h.scopes_born in omega (arith, e, b)) (λ s less. ap q (h.scope s less));
+    }
+  where
+    at_task : (t : ℕ) (b : Bool) → ltb t (length w.tasks) ≡ b → IsSameTask n (task_at w t) (task_at v (n.tasks t))
+    at_task t true e = h.task t (ltb-true t (length w.tasks) e)
+    at_task t false e =
+        let past : length w.tasks ≤ t = grind (arith, nat_tests) in
+        let same = h.later_tasks t past in
+        let born = h.tasks_born in
+        let past_too : length v.tasks ≤ n.tasks t = omega (arith, past, same, born) in
+        rw (get_past w.tasks t no_task past, get_past v.tasks (n.tasks t) no_task past_too) refl
+
+    at_scope : (s : ℕ) (b : Bool) → ltb s (length w.scopes) ≡ b → IsSameScope n (scope_at w s) (scope_at v (n.scopes s))
+    at_scope s true e = h.scope s (ltb-true s (length w.scopes) e)
+    at_scope s false e =
+        let past : length w.scopes ≤ s = grind (arith, nat_tests) in
+        let same = h.later_scopes s past in
+        let born = h.scopes_born in
+        let past_too : length v.scopes ≤ n.scopes s = omega (arith, past, same, born) in
+        rw (get_past w.scopes s no_scope past, get_past v.scopes (n.scopes s) no_scope past_too) (ap (λ m. plain_part (record no_scope { owner = m })) (sym h.root))
