@@ -3,7 +3,8 @@
 
 The rule that it searches is that of `crates/sts_pool/src/waits.rt`. The root forks three subtasks and waits for them; each
 subtask has two units of work. A move is what one worker does under one hold of the lock. Every choice is tried: how many
-turns a hold does, which task is claimed, whether a slice was worth it, whom a wake-up reaches, and wake-ups for no reason.
+turns a hold does, whether a slice is taken after them, which task is claimed, whether a row of local instructions in a
+slice or in place was worth it, whom a wake-up reaches, and wake-ups for no reason.
 A second search stops the run after any move, as a refused start does, and wakes nobody for it.
 
 There are three kinds of bad states. Every worker sleeps or has ended, and one of them sleeps. Or several workers are needed
@@ -30,8 +31,8 @@ FAULTS = {
 }
 
 # A book: (subtasks forked, whether the root waits, whether the run has ended, units left of each subtask, tasks that are
-# claimed or out). The numbers of `Waits`: (awake, tries). A worker: `L` goes to the lock, `G` claimed a task and passes
-# the gate, `O` is out with a slice, `S` sleeps, `W` was woken and comes to the lock, `D` has decided to sleep with no lock
+# claimed or out). The numbers of `Waits`: (awake, tries). A worker: `N` goes to the lock for the first time, `L` goes to
+# it again, `G` claimed a task and passes the gate, `O` is out with a slice, `S` sleeps, `W` was woken and comes to the lock, `D` has decided to sleep with no lock
 # (a fault), `E` has ended. A state: (book, numbers, workers, whether the run may still be stopped).
 
 
@@ -46,6 +47,11 @@ def can_step(book, task):
 
 def free(book):
     return [task for task in range(KIDS + 1) if can_step(book, task) and task not in book[4]]
+
+
+def has_other(book, task):
+    """Returns whether another task can step, or one is out."""
+    return bool(book[4]) or any(can_step(book, it) for it in range(KIDS + 1) if it != task)
 
 
 def turn(book, task):
@@ -124,26 +130,35 @@ class Rule:
             for others in self.wakes(claimed, fewer, workers, "find"):
                 yield claimed, fewer, put(others, i, ("G", task))
 
-    def slices(self, book, numbers, workers, i):
-        """Yields the next states of a worker that takes a slice, or finds none and looks for a task."""
-        left = free(book)
-        for task in left:
-            lent, fewer = with_out(book, task), (numbers[0] - 1, numbers[1])
-            for others in self.wakes(lent, fewer, workers, "lends"):
-                yield lent, fewer, put(others, i, ("O", task))
-        if not left:
+    def slice(self, book, numbers, workers, i, task):
+        """Yields the next states of a worker that takes a slice of the task, or can't and looks for a task."""
+        if task not in free(book):
             yield from self.find(book, numbers, workers, i)
+            return
+        lent, fewer = with_out(book, task), (numbers[0] - 1, numbers[1])
+        for others in self.wakes(lent, fewer, workers, "lends"):
+            yield lent, fewer, put(others, i, ("O", task))
+
+    def ran(self, book, numbers, task):
+        """Returns what the numbers may be after a row of local instructions: it was too short, or worth it."""
+        awake, tries = numbers
+        return {numbers, (awake, TRIES)} if has_other(book, task) else {numbers}
 
     def after(self, book, numbers, workers, i, task):
-        """Yields the states after the turns of a task and after the worker's next move."""
+        """Yields the states after the turns of a task, with rows in place between them, and after the worker's next move."""
         for turned, is_step in turns(book, task):
-            yield from (self.slices if is_step else self.find)(turned, numbers, workers, i)
+            for then in self.ran(turned, numbers, task) if is_step else {numbers}:
+                if is_step:
+                    yield from self.slice(turned, then, workers, i, task)
+                yield from self.find(turned, then, workers, i)
 
     def of_worker(self, book, numbers, workers, i):
         """Yields what comes of the next hold of a worker."""
         at, *task = workers[i]
         if at == "L":
             yield from self.find(book, numbers, workers, i)
+        elif at == "N":
+            yield from self.find(book, (numbers[0] + 1, TRIES), workers, i)
         elif at == "W":
             yield from self.find(book, self.rises(numbers), workers, i)
         elif at == "S":
@@ -156,8 +171,9 @@ class Rule:
             back = without(book, *task)
             done = [turn(back, *task)] if task != [ROOT] and can_step(back, *task) else []
             for book in [back, *done]:
-                for tries in {numbers[1], TRIES}:
-                    yield from self.after(book, (numbers[0] + 1, tries), workers, i, *task)
+                awake, tries = numbers[0] + 1, numbers[1]
+                for then in {(awake, max(0, tries - 1))} | self.ran(book, (awake, tries), *task):
+                    yield from self.after(book, then, workers, i, *task)
 
     def moves(self, state):
         book, numbers, workers, may_stop = state
@@ -174,13 +190,13 @@ def is_bad(state):
     places = {it[0] for it in workers}
     if "S" not in places:
         return False
-    is_idle = not places & {"L", "W", "G", "D"}
+    is_idle = not places & {"N", "L", "W", "G", "D"}
     return places <= {"S", "E"} or (is_idle and numbers[1] > 0 and bool(free(book)))
 
 
 def search(rule, kids, may_stop):
     """Returns how many states there are, and a bad one if there is one."""
-    first = ((0, False, False, (UNITS,) * kids, frozenset()), (WORKERS, TRIES), (("L",),) * WORKERS, may_stop)
+    first = ((0, False, False, (UNITS,) * kids, frozenset()), (0, 0), (("N",),) * WORKERS, may_stop)
     before, todo = {first: []}, [first]
     while todo:
         state = todo.pop()

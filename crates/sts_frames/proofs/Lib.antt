@@ -1,1 +1,2 @@
 pub mod LoopLemmas
+pub mod LocalsLemmas

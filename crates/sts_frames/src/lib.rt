@@ -20,7 +20,7 @@ pub use beginning::{entry_frame, root_frame};
 pub use copies::{copy_frame, write_frame};
 pub use ends::{case_target, value_or_zero};
 pub use instructions::{code, instr_at};
-pub use local_steps::{is_local, local};
+pub use local_steps::{is_local, local, run_local};
 pub use other_steps::{
     enter_binding, enter_scope, forget, leave_entry, leave_fork, leave_scope, steps,
 };

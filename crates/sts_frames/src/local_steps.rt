@@ -1,9 +1,10 @@
 //! Local instructions: which they are, and what each does to the frame.
 
 ghost use Rattle.std.specs.Prelude.{◌≡◌, ◌<◌, ◌+◌, ◌^◌, length, true, false, pos, ◌+ℤ◌, ◌-ℤ◌, ◌*ℤ◌};
-ghost use Rattle.std.specs.Prelude.{slice_index_or, slice_set};
+ghost use Rattle.std.specs.Prelude.{slice_index_or, slice_set, ◌≤◌, Some, None, is_some};
 ghost use Rattle.std.specs.Int.{int_wrap, w64};
-ghost use Rattle.sts_code.specs.declared.limits.TheConstants.{MAX_LOOPS};
+ghost use Rattle.sts_code.specs.declared.limits.TheConstants.{MAX_INSTRUCTIONS, MAX_LOOPS};
+ghost use Rattle.sts_frames.specs.Locals.{AreSafe, IsSafe, and_local, local_at, locals};
 ghost use Rattle.sts_model.specs.Local as def;
 ghost use Rattle.sts_model.specs.Misuse.{overflows, breaks_loop};
 ghost use Rattle.sts_model.specs.World as world;
@@ -206,4 +207,40 @@ fn turns(frame: &mut Frame)
         });
         frame.pc = innermost.at + 1;
     }
+}
+
+/// Is the next instruction a local one?
+#[inline(always)]
+fn is_local_next(frame: &Frame, code: &[Instr]) -> bool
+    requires { frame.now.pc < length code.now }
+    ensures { result ≡ is_some (local_at code.now frame.now) }
+{
+    is_local(code[frame.pc as usize])
+}
+
+/// Does the next instruction, a local one.
+#[inline(always)]
+fn step(frame: &mut Frame, program: &Program, code: &[Instr])
+    requires safe { IsSafe program.now code.now frame.old }
+    requires short { length code.now ≤ MAX_INSTRUCTIONS }
+    requires local { is_some (local_at code.now frame.old) ≡ true }
+    ensures { and_local code.now (Some frame.old) ≡ Some frame.new }
+{
+    local(frame, program, code, code[frame.pc as usize]);
+}
+
+/// Does local instructions until the limit or the first other instruction, and answers how many.
+pub fn run_local(frame: &mut Frame, program: &Program, code: &[Instr], limit: u32) -> u32
+    requires safe { AreSafe program.now code.now frame.old }
+    requires short { length code.now ≤ MAX_INSTRUCTIONS }
+    ensures local { locals code.now frame.old result ≡ Some frame.new }
+    ensures most { result ≤ limit }
+    ensures stops { result < limit → local_at code.now frame.new ≡ None }
+{
+    let mut left = limit;
+    while left > 0 && is_local_next(frame, code) {
+        step(frame, program, code);
+        left -= 1;
+    }
+    limit - left
 }

@@ -1,17 +1,19 @@
--- The invariant of a slice makes its next local instruction safe, and that instruction keeps it.
+-- Where a task is that lives in a reached view, its local instructions are safe, and so are those
+-- after them. They keep the invariant of a slice.
 use Rattle.std.proofs.Common.{◌≡◌, ℕ, zero, suc, ◌+◌, ◌<◌, ◌≤◌, List, [], ◌∷◌, ◌++◌, Bool, true, false, Option, Some, None, refl, sym, ◌∙◌, ap, subst, length, arith, slice_get, cond}
-use Rattle.std.specs.Prelude.{option_map}
 use Rattle.sts_code.specs.Program.{Program, routine}
 use Rattle.sts_code.specs.declared.instr.Instr.{Instr}
-use Rattle.sts_model.specs.declared.event.Event.TheVariants as event
+use Rattle.sts_model.specs.declared.event.Stand.TheVariants.{Free}
 use Rattle.sts_model.specs.declared.record.Frame.{Frame}
 use Rattle.sts_model.specs.World.{code, instr_at}
-use Rattle.sts_model.specs.Local.{is_local, local}
-use Rattle.sts_model.specs.Misuse.{overflows, breaks_loop}
-use Rattle.laws_live.specs.Reading.{with_live_frame}
+use Rattle.sts_model.specs.Local.{is_local}
+use Rattle.sts_frames.specs.Locals.{if_local, local_at, and_local, locals, AreSafe, IsSafe}
+use Rattle.sts_frames.proofs.LocalsLemmas.{just}
 use Rattle.laws_live.specs.Fine.{IsLiveFine}
-use Rattle.sts_machine.specs.Slice.{if_local, local_at, and_local, locals, Cut, IsReached, IsSlice}
-use Rattle.sts_machine.proofs.LocalSteps.{AtLocal, can-local, step-local, beside-locals, just, lives-framed, frame-framed, within_limit}
+use Rattle.laws_live.specs.Reading.{alive_at, with_live_frame}
+use Rattle.laws_live.specs.Waiting.{live_can_step, live_stand_at, live_stand_at_instr}
+use Rattle.sts_machine.specs.Slice.{Cut, IsLawful, IsReached, IsSlice, steps_of}
+use Rattle.sts_machine.proofs.LocalSteps.{AtLocal, can-local, slices_are_steps, beside-locals, lives-framed, frame-framed, within_limit}
 
 -- a local instruction that is next
 record IsNext (is : List Instr) (f : Frame) (i : Instr) : Type 0 where
@@ -34,86 +36,98 @@ within [] n i e = absurd (cc)
 within (x ∷ is) zero i e = omega arith
 within (x ∷ is) (suc n) i e = let h = within is n i e in omega (arith, h)
 
--- the requirements of a local instruction of a slice, and the invariant of the slice after it
-pub record Goes (p : Program) (t : ℕ) (start f : Frame) (count : ℕ) (is : List Instr) (i : Instr) : Type 0 where
-  pub own_code : is ≡ code p f
-  pub is_local : is_local i ≡ true
-  pub room : overflows p f i ≡ false
-  pub inside : f.pc < length is
-  pub loops : breaks_loop p f i ≡ false
-  pub few : count + 1 ≤ 1000000
-  pub kept : IsSlice p t start (local is i f) (count + 1)
+-- ---- a frame at which a task lives
+
+module _ (p : Program) (t : ℕ) (law : IsLawful p) where
+  -- no misuse is next
+  fine : (f : Frame) (i : Instr) (r : IsReached p t f) → AtLocal p r.view t f i → IsLiveFine p r.view t f i
+  fine f i r a =
+      let s = law.safe r.events r.view r.steps r.stands t (can-local p r.view t f i a) in
+      let same : s.instr ≡ i = just s.instr i (sym s.at ∙ ap (instr_at p) r.frame ∙ a.at) in
+      subst (λ j. IsLiveFine p r.view t f j) same (subst (λ (g : Frame). IsLiveFine p r.view t g s.instr) r.frame s.fine)
+
+  -- some instruction is next
+  inside : (f : Frame) (r : IsReached p t f) → f.pc < length (code p f)
+  inside f r = by (instr_at p f) refl
+    where
+      by : (o : Option Instr) → instr_at p f ≡ o → f.pc < length (code p f)
+      by (Some i) at = within (code p f) f.pc i at
+      by None at =
+          let here : instr_at p (alive_at r.view t).frame ≡ None = ap (instr_at p) r.frame ∙ at in
+          let stand : live_stand_at p r.view t ≡ Free = ap (live_stand_at_instr r.view t) here in
+          let can : live_can_step p r.view t ≡ true = rw (r.lives, stand) refl in
+          let s = law.safe r.events r.view r.steps r.stands t can in
+          let there = s.at in
+          absurd (cc)
+
+  is_safe : (f : Frame) (is : List Instr) → is ≡ code p f → IsReached p t f → IsSafe p is f
+  is_safe f is own r =
+      let at : (i : Instr) → local_at is f ≡ Some i → AtLocal p r.view t f i =
+      λ i e. let n = next is f i e in record { lives = r.lives; frame = r.frame; at = ap (λ js. slice_get js f.pc) (sym own) ∙ n.at; is_local = n.is_local } in
+      record {
+        own_code = own;
+        inside = subst (λ js. f.pc < length js) (sym own) (inside f r);
+        room = λ i e. (fine f i r (at i e)).room;
+        loops = λ i e. (fine f i r (at i e)).loops;
+      }
+
+  -- the task gets there by as many steps
+  pub reached_next : (f : Frame) (n : ℕ) (g : Frame) → IsReached p t f → locals (code p f) f n ≡ Some g → IsReached p t g
+  reached_next f n g r e =
+      let here : locals (code p (alive_at r.view t).frame) (alive_at r.view t).frame n ≡ Some g = ap (λ (h : Frame). locals (code p h) h n) r.frame ∙ e in
+      record {
+        events = r.events ++ steps_of n t;
+        view = with_live_frame r.view t g;
+        steps = r.steps + n;
+        stands = slices_are_steps p law.seen r.events r.view r.steps t r.stands r.lives n g here;
+        lives = lives-framed r.view t g r.lives;
+        frame = frame-framed r.view t g r.lives;
+      }
+
+  pub are_safe : (f : Frame) (is : List Instr) → is ≡ code p f → IsReached p t f → AreSafe p is f
+  are_safe f is own r n g e =
+      let mine : locals (code p f) f n ≡ Some g = ap (λ js. locals js f n) (sym own) ∙ e in
+      let same : code p g ≡ code p f = ap (λ k. (routine p k).code) (beside-locals (code p f) f n g mine).function in
+      is_safe g is (own ∙ sym same) (reached_next f n g r mine)
+
+-- ---- slices
+
+locals_add : (is : List Instr) (start f : Frame) (count : ℕ) → locals is start count ≡ Some f → (n : ℕ) → locals is start (count + n) ≡ locals is f n
+locals_add is start f count e zero =
+    let none : count + 0 ≡ count = omega arith in
+    ap (locals is start) none ∙ e
+locals_add is start f count e (suc n) =
+    let one : count + suc n ≡ suc (count + n) = omega arith in
+    ap (locals is start) one ∙ ap (and_local is) (locals_add is start f count e n)
+
+-- what is known of a slice after n local instructions more
+pub record Goes (p : Program) (t : ℕ) (start : Frame) (count : ℕ) (n : ℕ) (g : Frame) : Type 0 where
+  pub few : count + n ≤ 1000000
+  pub kept : IsSlice p t start g (count + n)
 
 module _ (p : Program) (t : ℕ) (start f : Frame) (count : ℕ) (h : IsSlice p t start f count) where
   -- the function stays the same
   same_code : code p f ≡ code p start
   same_code = ap (λ n. (routine p n).code) (beside-locals (code p start) start count f h.local).function
 
-  at_local : (i : Instr) → IsNext (code p start) f i → AtLocal p h.reached.view t f i
-  at_local i n = record { lives = h.reached.lives; frame = h.reached.frame; at = ap (λ is. slice_get is f.pc) same_code ∙ n.at; is_local = n.is_local }
+  pub slice_safe : (is : List Instr) → is ≡ code p start → AreSafe p is f
+  slice_safe is own = are_safe p t h.lawful f is (own ∙ sym same_code) h.reached
 
-  -- no misuse
-  fine : (i : Instr) → AtLocal p h.reached.view t f i → IsLiveFine p h.reached.view t f i
-  fine i a =
-      let r = h.reached in
-      let s = h.lawful.safe r.events r.view r.steps r.stands t (can-local p r.view t f i a) in
-      let same : s.instr ≡ i = just s.instr i (sym s.at ∙ ap (instr_at p) r.frame ∙ a.at) in
-      subst (λ j. IsLiveFine p r.view t f j) same (subst (λ (g : Frame). IsLiveFine p r.view t g s.instr) r.frame s.fine)
-
-  -- the task is there after a step more
-  abbrev reached_next : (i : Instr) → AtLocal p h.reached.view t f i → IsReached p t (local (code p f) i f)
-  reached_next i a =
-      let r = h.reached in
-      let g = local (code p f) i f in
-      record {
-        events = r.events ++ event.Step t ∷ [];
-        view = with_live_frame r.view t g;
-        steps = r.steps + 1;
-        stands = step-local p r.events r.view r.steps t f i h.lawful.seen r.stands a;
-        lives = lives-framed r.view t g r.lives;
-        frame = frame-framed r.view t g r.lives;
-      }
-
-  kept_next : (i : Instr) → IsNext (code p start) f i → local_at (code p start) f ≡ Some i → AtLocal p h.reached.view t f i → IsSlice p t start (local (code p f) i f) (count + 1)
-  kept_next i n e a =
-      let few = h.taken in
-      let one : count + 1 ≡ suc count = omega arith in
-      let more : (reached_next i a).steps ≡ h.reached.steps + 1 = refl in
-      record {
-        lawful = h.lawful;
-        local =
-            ap (λ m. locals (code p start) start m) one
-            ∙ ap (and_local (code p start)) h.local
-            ∙ ap (option_map (λ j. local (code p start) j f)) e
-            ∙ ap (λ is. Some (local is i f)) (sym same_code);
-        reached = reached_next i a;
-        taken = omega (arith, few, more);
-      }
-
-  pub few : count ≤ 1000000
-  few =
-      let r = h.reached in
+  pub goes : (is : List Instr) → is ≡ code p start → (n : ℕ) (g : Frame) → locals is f n ≡ Some g → Goes p t start count n g
+  unfolding reached_next
+  goes is own n g e =
+      let mine : locals (code p f) f n ≡ Some g = ap (λ js. locals js f n) (sym (own ∙ sym same_code)) ∙ e in
+      let r = reached_next p t h.lawful f n g h.reached mine in
+      let before = h.taken in
+      let more : r.steps ≡ h.reached.steps + n = refl in
       let most = within_limit p h.lawful.limits r.events r.view r.steps r.stands in
-      let taken = h.taken in
-      omega (arith, most, taken)
-
-pub goes : {p : Program} {t : ℕ} {start f : Frame} {count : ℕ} {is : List Instr} {i : Instr} {cut : Cut} {o : Option Instr}
-    → IsSlice p t start f count → ◌≡◌ {A = Cut} (record { task = t; code = code p start; start = start; frame = f; count = count }) cut
-    → is ≡ cut.code → o ≡ local_at is f → o ≡ Some i → Goes p t start f count is i
-goes {p} {t} {start} {f} {count} {is} {i} h view own asked got =
-    let here : is ≡ code p start = own ∙ sym (ap (λ (x : Cut). x.code) view) in
-    let e : local_at (code p start) f ≡ Some i = ap (λ js. local_at js f) (sym here) ∙ sym asked ∙ got in
-    let n = next (code p start) f i e in
-    let a = at_local p t start f count h i n in
-    let ok = fine p t start f count h i a in
-    let mine : is ≡ code p f = here ∙ sym (same_code p t start f count h) in
-    let kept = kept_next p t start f count h i n e a in
-    record {
-      own_code = mine;
-      is_local = n.is_local;
-      room = ok.room;
-      inside = within is f.pc i (ap (λ js. slice_get js f.pc) here ∙ n.at);
-      loops = ok.loops;
-      few = few p t start (local (code p f) i f) (count + 1) kept;
-      kept = subst (λ js. IsSlice p t start (local js i f) (count + 1)) (sym mine) kept;
-    }
+      let from : locals (code p start) f n ≡ Some g = ap (λ js. locals js f n) (sym own) ∙ e in
+      record {
+        few = omega (arith, before, more, most);
+        kept = record {
+          lawful = h.lawful;
+          local = locals_add (code p start) start f count h.local n ∙ from;
+          reached = r;
+          taken = omega (arith, before, more);
+        };
+      }

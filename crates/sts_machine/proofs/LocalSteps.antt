@@ -21,7 +21,9 @@ use Rattle.laws_live.specs.Run.{live_apply, live_perform, live_steps_in}
 use Rattle.laws_live.specs.Seen.{StandsAt, TurnsAreSeen}
 use Rattle.laws_accepted.specs.Costs.{IsModest}
 use Rattle.laws_accepted.specs.Accepted.{LimitsHold}
-use Rattle.sts_machine.specs.Slice.{if_local, and_local, locals, steps_of}
+use Rattle.sts_frames.specs.Locals.{locals}
+use Rattle.sts_frames.proofs.LocalsLemmas.{just, last}
+use Rattle.sts_machine.specs.Slice.{steps_of}
 use Rattle.sts_machine.proofs.Fine.{local_effect}
 
 -- ---- what a local instruction leaves as it is
@@ -39,31 +41,6 @@ beside-trans f g h a b = record { function = b.function ∙ a.function; entries 
 
 pub beside-local : (is : List Instr) (i : Instr) (f : Frame) → IsBeside f (local is i f)
 beside-local is i f = let same = leaves-local is i f in record { function = same.function; entries = same.entries }
-
--- ---- what the last of the local instructions came from
-
-pub record Last (is : List Instr) (o : Option Frame) (g : Frame) : Type 0 where
-  pub frame : Frame
-  pub instr : Instr
-  pub before : o ≡ Some frame
-  pub at : slice_get is frame.pc ≡ Some instr
-  pub is_local : is_local instr ≡ true
-  pub next : g ≡ local is instr frame
-
-pub just : {X : Type 0} (x y : X) → Some x ≡ Some y → x ≡ y
-just x y e = cc
-
-pub last : (is : List Instr) (o : Option Frame) (g : Frame) → and_local is o ≡ Some g → Last is o g
-last is None g e = absurd (cc)
-last is (Some f) g e = by (slice_get is f.pc) refl e
-  where
-    so : (i : Instr) (b : Bool) → slice_get is f.pc ≡ Some i → is_local i ≡ b → option_map (λ j. local is j f) (cond b (Some i) None) ≡ Some g → Last is (Some f) g
-    so i true at l e = record { frame = f; instr = i; before = refl; at = at; is_local = l; next = sym (just _ _ e) }
-    so i false at l e = absurd (cc)
-
-    by : (q : Option Instr) → slice_get is f.pc ≡ q → option_map (λ j. local is j f) (if_local q) ≡ Some g → Last is (Some f) g
-    by None at e = absurd (cc)
-    by (Some i) at e = so i (is_local i) at refl e
 
 pub beside-locals : (is : List Instr) (f : Frame) (n : ℕ) (g : Frame) → locals is f n ≡ Some g → IsBeside f g
 beside-locals is f zero g e = subst (IsBeside f) (just f g e) (beside-refl f)

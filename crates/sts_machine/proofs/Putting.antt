@@ -19,11 +19,13 @@ use Rattle.laws_live.specs.Order.{InOrder}
 use Rattle.sts_store.specs.Parts.{Parts, Unseen, frame_of, live_of, unseen_of}
 use Rattle.sts_machine.specs.Machine.{IsMachine, Seen, Stands}
 use Rattle.sts_machine.specs.Room.{HasRoomOf}
-use Rattle.sts_machine.specs.Slice.{Cut, Fits, IsLawful, IsReached, locals, steps_of}
+use Rattle.sts_frames.specs.Locals.{locals}
+use Rattle.sts_frames.proofs.LocalsLemmas.{just}
+use Rattle.sts_machine.specs.Slice.{Cut, Fits, IsLawful, IsReached, steps_of}
 use Rattle.sts_machine.specs.Standing.{AreStanding, AreStandingBut}
 use Rattle.sts_machine.proofs.Changing.{changes-quiet}
 use Rattle.sts_machine.proofs.Lists.{apart}
-use Rattle.sts_machine.proofs.LocalSteps.{beside-locals, just, same-framed, slices_are_steps, within_limit}
+use Rattle.sts_machine.proofs.LocalSteps.{beside-locals, same-framed, slices_are_steps, within_limit}
 use Rattle.sts_machine.proofs.Quiet.{quiet-frame}
 use Rattle.sts_machine.proofs.Stood.{room_kept}
 use Rattle.sts_machine.proofs.Turning.{alive}
@@ -130,7 +132,7 @@ pub record Puts (p : Program) (m : Parts) (n t : ℕ) (f : Frame) (count : ℕ) 
   pub stands : (events : List Event) → StandsAt p events (live_of m) n → StandsAt p (events ++ steps_of count t) (with_live_frame (live_of m) t f) (n + count)
 
 module _ (p : Program) (m : Parts) (n : ℕ) (is : IsMachine p m n) (t : ℕ) (lives : lives_in (live_of m) t ≡ true) where
-  put_on : (f : Frame) (count : ℕ) → locals (code p (frame_of m t)) (frame_of m t) count ≡ Some f → Puts p m n t f count
+  pub put_on : (f : Frame) (count : ℕ) → locals (code p (frame_of m t)) (frame_of m t) count ≡ Some f → Puts p m n t f count
   put_on f count done =
       let v = live_of m in
       let x = with_live_frame v t f in

@@ -1,44 +1,29 @@
 -- The work that a task does by itself, outside of a machine (this project's own).
-use Rattle.std.specs.Prelude.{◌≡◌, ℕ, zero, suc, ◌≤◌, List, true, Option, Some, None, option_map}
-use Rattle.std.specs.Prelude.{replicate, slice_get, if◌then◌else◌}
+use Rattle.std.specs.Prelude.{◌≡◌, ℕ, ◌≤◌, List, true, Some, replicate}
 use Rattle.sts_code.specs.Program.{Program}
 use Rattle.sts_code.specs.declared.instr.Instr.{Instr}
 use Rattle.sts_model.specs.declared.event.Event.{Event}
 use Rattle.sts_model.specs.declared.event.Event.TheVariants as event
 use Rattle.sts_model.specs.declared.record.Frame.{Frame}
 use Rattle.sts_model.specs.World.{code}
-use Rattle.sts_model.specs.Local.{is_local, local}
 use Rattle.sts_model.specs.Live.{Live}
+use Rattle.sts_frames.specs.Locals.{locals}
 use Rattle.laws_live.specs.Reading.{alive_at, lives_in}
 use Rattle.laws_live.specs.Seen.{StandsAt, TurnsAreSeen}
 use Rattle.laws_live.specs.Fine.{TurnsAreSafe}
 use Rattle.laws_accepted.specs.Accepted.{LimitsHold}
 use Rattle.sts_machine.specs.Machine.{Seen}
 
--- ---- local instructions
-
--- an instruction, if it is a local one
-abbrev pub if_local : Option Instr → Option Instr
-if_local None = None
-if_local (Some i) = if is_local i then Some i else None
-
--- the next instruction, if it is a local one
-abbrev pub local_at : List Instr → Frame → Option Instr
-local_at is f = if_local (slice_get is f.pc)
-
--- the frame after one local instruction more
-abbrev pub and_local : List Instr → Option Frame → Option Frame
-and_local is None = None
-and_local is (Some f) = option_map (λ i. local is i f) (local_at is f)
-
--- the frame after n local instructions, or none if one of them isn't local
-abbrev pub locals : List Instr → Frame → ℕ → Option Frame
-locals is f zero = Some f
-locals is f (suc n) = and_local is (locals is f n)
-
 -- `count` steps of this task
 abbrev pub steps_of : ℕ → ℕ → List Event
 steps_of count t = replicate count (event.Step t)
+
+-- the frame of a task, and the code of its function
+abbrev pub frame_at : Seen → ℕ → Frame
+frame_at m t = (alive_at m.live t).frame
+
+abbrev pub code_at : Seen → ℕ → List Instr
+code_at m t = code m.program (frame_at m t)
 
 -- ---- slices
 

@@ -4,12 +4,13 @@
 ghost use Rattle.std.specs.Prelude.{◌≡◌, ◌+◌, ◌<◌, ◌≤◌, Some, None, true, false, is_some, length};
 ghost use Rattle.std.specs.Prelude.{if◌then◌else◌};
 ghost use Rattle.sts_code.specs.declared.limits.TheConstants.{MAX_INSTRUCTIONS, MAX_STEPS};
-ghost use Rattle.sts_machine.specs.Slice.{IsLawful, IsReached, local_at, locals};
+ghost use Rattle.sts_frames.specs.Locals.{local_at, locals};
+ghost use Rattle.sts_machine.specs.Slice.{IsLawful, IsReached};
 ghost use Rattle.sts_model.specs.World as world;
 
 use std::marker::Model;
 use sts_code::{Instr, code_of};
-use sts_frames::{copy_frame, is_local, local};
+use sts_frames::{copy_frame, is_local, run_local};
 use sts_model::Frame;
 use sts_verify::Verified;
 
@@ -39,16 +40,6 @@ impl<'p> Model for Slice<'p> {
     } };
 
     ghost invariant = { λ s. IsSlice s.verified.now s.task s.start s.frame s.count };
-}
-
-/// The next instruction of a frame, if it is a local one.
-fn next_local(code: &[Instr], frame: &Frame) -> Option<Instr>
-    ensures { result ≡ local_at code.now frame.now }
-{
-    match code.get(frame.pc as usize) {
-        Some(instr) if is_local(*instr) => Some(*instr),
-        _ => None,
-    }
 }
 
 impl<'p> Slice<'p> {
@@ -123,32 +114,8 @@ impl<'p> Slice<'p> {
         ensures stops { result < limit → local_at self.new.code self.new.frame ≡ None }
     {
         let code = self.code();
-        let mut done = 0u32;
-        while done < limit {
-            if !self.step(code) {
-                break;
-            }
-            done += 1;
-        }
+        let done = run_local(&mut self.frame, self.verified.program(), code, limit);
+        self.count += done;
         done
-    }
-
-    /// Does the next instruction, if it is a local one.
-    fn step(&mut self, code: &[Instr]) -> bool
-        requires own_code { code.now ≡ self.old.code }
-        requires short { length code.now ≤ MAX_INSTRUCTIONS }
-        ensures task { self.new.task ≡ self.old.task }
-        ensures code { self.new.code ≡ self.old.code }
-        ensures start { self.new.start ≡ self.old.start }
-        ensures count { self.new.count ≡ self.old.count + (if result then 1 else 0) }
-        ensures local { result ≡ is_some (local_at self.old.code self.old.frame) }
-        ensures stays { result ≡ false → self.new ≡ self.old }
-    {
-        let Some(instr) = next_local(code, &self.frame) else {
-            return false;
-        };
-        local(&mut self.frame, self.verified.program(), code, instr);
-        self.count += 1;
-        true
     }
 }

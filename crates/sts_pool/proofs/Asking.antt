@@ -124,6 +124,11 @@ back_asked gives p first b x now c t (Ok a) same records stays is =
     more_asked gives p first b x now now (steps_of c t) same records (λ o events journal before. gave_steps gives o c t events now before) is
 back_asked gives p first b x now c t (Err e) same records stays is = stays_asked gives p first b x now stays is
 
+-- after steps of a task
+pub ran_asked : {O : Type 0} (gives : O → ℕ → Option Event → O → Type 0) (p : Program) (first : Option O) (b x : BookSeen) (now : O) (c t : ℕ) → x.program ≡ b.program → Records b x (steps_of c t) → IsAsked gives p first b now → IsAsked gives p first x now
+ran_asked gives p first b x now c t same records is =
+    more_asked gives p first b x now now (steps_of c t) same records (λ o events journal before. gave_steps gives o c t events now before) is
+
 -- whatever tasks are out
 pub beside_asked : {O : Type 0} (gives : O → ℕ → Option Event → O → Type 0) (p : Program) (first : Option O) (b : BookSeen) (out : List ℕ) (now : O) → IsAsked gives p first b now → IsAsked gives p first (record b { out = out }) now
 beside_asked gives p first b out now is =

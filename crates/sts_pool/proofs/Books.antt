@@ -167,6 +167,18 @@ back_book m x journal out n t f is stands live steps =
       living = λ q h. rw live (lives_at_frame m.live t f q ∙ is.living q (was_among t q out h));
     }
 
+-- local steps in place leave the tasks that are out as they are
+pub ran_book : (m x : Seen) (journal : List Event) (out : List ℕ) (n t : ℕ) (f : Frame) → IsBook m journal out → ((events : List Event) → Stands m events → Stands x (events ++ steps_of n t)) → x.live ≡ with_live_frame m.live t f → x.steps ≡ m.steps + n → IsBook x (journal ++ steps_of n t) out
+ran_book m x journal out n t f is stands live steps =
+    let back = back_book m x journal out n t f is stands live steps in
+    record {
+      stands = back.stands;
+      counted = back.counted;
+      most = back.most;
+      apart = is.apart;
+      living = λ q h. rw live (lives_at_frame m.live t f q ∙ is.living q h);
+    }
+
 -- ---- room
 
 -- no more entries than the journal has room for

@@ -1,5 +1,5 @@
 -- A book keeps its facts, whether its journal is written or only counted.
-use Rattle.std.proofs.Common.{◌≡◌, ℕ, ◌+◌, ◌≤◌, ◌<◌, ◌^◌, List, [], ◌∷◌, ◌++◌, length, Bool, true, false, Option, Some, refl, sym, ap, ◌∙◌, subst, cond, vec_len, vec_capacity, count_by, rules, arith}
+use Rattle.std.proofs.Common.{◌≡◌, ℕ, ◌+◌, ◌≤◌, ◌<◌, ◌^◌, List, [], ◌∷◌, ◌++◌, length, Bool, true, false, Option, Some, None, refl, sym, ap, ◌∙◌, subst, cond, vec_len, vec_capacity, count_by, rules, arith, append-nil}
 use Rattle.std.proofs.lemmas.Bool.{both_ways, cond-true}
 use Rattle.std.proofs.lemmas.List.Folds.{sum_by-replicate}
 use Rattle.std.specs.Prelude.{IfSome, option_map, unwrap_or}
@@ -24,7 +24,7 @@ use Rattle.sts_pool.specs.Report.{IsReport}
 use Rattle.sts_pool.specs.declared.journal.Journal.{Journal}
 use Rattle.sts_pool.specs.declared.journal.Journal.TheVariants.{Written, Counted}
 use Rattle.sts_pool.proofs.OutsideLemmas.{entries_more, one_outside}
-use Rattle.sts_pool.proofs.Books.{back_book, entries_few, entries_fit, free_parts, lives, opening_book, out_book, out_fits, outside_book, released_book, reports, room_kept, stepped_book, steps_counted, still_entries, still_entries_one}
+use Rattle.sts_pool.proofs.Books.{back_book, entries_few, entries_fit, free_parts, lives, opening_book, out_book, out_fits, outside_book, ran_book, released_book, reports, room_kept, stepped_book, steps_counted, still_entries, still_entries_one}
 use Rattle.sts_pool.proofs.Outs.{among, without}
 
 -- ---- a journal of either kind
@@ -204,6 +204,32 @@ module _ (m x : Seen) (j : Journal) (n : ℕ) (out : List ℕ) (k c t : ℕ) (f 
 
   pub back_kept : (l : Journal) → IsRecorded j l (steps_of c t) → IsKept x l n (without t out) k
   back_kept l recorded = more_kept m x j l n n out (without t out) k (steps_of c t) is same recorded (still_entries is.events c t ∙ is.entries) back
+
+-- local steps in place
+module _ (m x : Seen) (j : Journal) (n : ℕ) (out : List ℕ) (k c t : ℕ) (f : Frame) (is : IsKept m j n out k) (same : x.program ≡ m.program) (stands : (events : List Event) → Stands m events → Stands x (events ++ steps_of c t)) (live : x.live ≡ with_live_frame m.live t f) (steps : x.steps ≡ m.steps + c) where
+  ran : IsBook x (is.events ++ steps_of c t) out
+  ran = ran_book m x is.events out c t f is.book stands live steps
+
+  pub ran_fits : length (steps_of c t) ≡ c → HasRoomFor j c
+  ran_fits long = more_fits m x j n out out k c (steps_of c t) is same long ran
+
+  pub ran_kept : (l : Journal) → IsRecorded j l (steps_of c t) → IsKept x l n out k
+  ran_kept l recorded = more_kept m x j l n n out out k (steps_of c t) is same recorded (still_entries is.events c t ∙ is.entries) ran
+
+-- nothing was recorded
+pub records_none : (b x : BookSeen) → b ≡ x → Records b x []
+records_none b x same =
+    subst (λ z. Records b z []) same
+    (record {
+      written = none b.journal;
+      steps = omega arith;
+      outside = omega arith;
+      stands = λ before h. subst (Stands b.machine) (sym (append-nil before)) h;
+    })
+  where
+    none : (o : Option (List Event)) → o ≡ option_map (λ journal. journal ++ []) o
+    none None = refl
+    none (Some es) = ap Some (sym (append-nil es))
 
 -- one more task is out, since there was room for it
 pub out_kept : (m : Seen) (j : Journal) (n : ℕ) (out : List ℕ) (k t : ℕ) → IsKept m j n out k → among out t ≡ false → lives_in m.live t ≡ true → IsKept m j n (out ++ t ∷ []) k

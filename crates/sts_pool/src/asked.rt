@@ -106,6 +106,11 @@ impl<'p, O: Outside, B: Runs<O>> Asked<'p, O, B> {
         self.book.turn(task)
     }
 
+    /// Does local steps of a task that isn't out, and records them. Answers how many.
+    pub(crate) fn run_here(&mut self, task: u32, limit: u32) -> u32 {
+        self.book.run_here(task, limit)
+    }
+
     /// Claims a task that can step and isn't out.
     pub(crate) fn claim(&mut self) -> Option<u32> {
         self.book.claim()
@@ -116,14 +121,19 @@ impl<'p, O: Outside, B: Runs<O>> Asked<'p, O, B> {
         self.book.release(task);
     }
 
-    /// Takes the slice of a task that can step and isn't out.
-    pub(crate) fn check_out(&mut self) -> Option<Slice<'p>> {
-        self.book.check_out()
-    }
-
     /// Takes a slice back, and records its steps. Answers whether it was this book's.
     pub(crate) fn check_in(&mut self, slice: Slice<'p>) -> bool {
         self.book.check_in(slice).is_ok()
+    }
+
+    /// Takes the slice of this task, if it can step and isn't out.
+    pub(crate) fn lend(&mut self, task: u32) -> Option<Slice<'p>> {
+        self.book.lend(task)
+    }
+
+    /// Is there another task that can step, or one that is out?
+    pub(crate) fn has_other(&self, task: u32) -> bool {
+        self.book.has_other(task)
     }
 
     /// Is there a task that can step and isn't out?

@@ -1,11 +1,12 @@
 //! The book of a run: a machine and the journal of its events.
 
-ghost use Rattle.std.specs.Prelude.{◌≡◌, ◌≢◌, ℕ, ◌+◌, ◌++◌, ◌∷◌, [], ◌↔◌, List, IfOk, OnOk, IfErr};
+ghost use Rattle.std.specs.Prelude.{◌≡◌, ◌≢◌, ◌<◌, ◌≤◌, ℕ, ◌+◌, ◌++◌, ◌∷◌, [], ◌↔◌, List, IfOk, OnOk, IfErr};
 ghost use Rattle.std.specs.Prelude.{OnErr, IfSome, IfNone, IsErr, IsOk, IsTrue, true, false};
-ghost use Rattle.std.specs.Prelude.{filter, not, ◌==◌, MatchBool, count_by, Some};
+ghost use Rattle.std.specs.Prelude.{filter, not, ◌==◌, MatchBool, count_by, None, Some};
 ghost use Rattle.std.specs.Prelude.{vec_capacity};
 ghost use Rattle.std.specs.List.{list_any};
-ghost use Rattle.sts_machine.specs.Slice.{steps_of};
+ghost use Rattle.sts_frames.specs.Locals.{local_at};
+ghost use Rattle.sts_machine.specs.Slice.{code_at, frame_at, steps_of};
 ghost use Rattle.sts_machine.specs.Turned.{Picks, turned};
 ghost use Rattle.sts_model.specs.Run.{after, counts, is_step};
 ghost use Rattle.sts_model.specs.Waiting.{can_step};
@@ -166,6 +167,25 @@ impl<'p> Book<'p> {
         }
     }
 
+    /// Does local steps of a task that can step and isn't out, in place, until the limit or the first
+    /// other step. Records them, and answers how many. Of another task it does none.
+    pub fn run_here(&mut self, task: u32, limit: u32) -> u32
+        ensures most { result ≤ limit }
+        ensures stops { is_free self.old task ≡ true → result < limit
+            → local_at (code_at self.old.machine task) (frame_at self.new.machine task) ≡ None }
+        ensures idle { is_free self.old task ≡ false → result ≡ 0 }
+        ensures journal { Records self.old self.new (steps_of result task) }
+        ensures program { self.new.program ≡ self.old.program }
+        ensures out { self.new.out ≡ self.old.out }
+    {
+        if !self.is_at_hand(task) {
+            return 0;
+        }
+        let done = self.machine.run_here(task, limit);
+        self.journal.push_steps(task, done);
+        done
+    }
+
     /// Applies an interrupt or an expiry, and records it even if it is idle.
     ///
     /// # Errors
@@ -234,6 +254,27 @@ impl<'p> Book<'p> {
             self.new ≡ record self.old { out = self.old.out ++ s.task ∷ [] }) }
     {
         let task = self.claim()?;
+        Some(self.machine.slice(task))
+    }
+
+    /// Takes the slice of this task, if it can step and isn't out.
+    pub(crate) fn lend(&mut self, task: u32) -> Option<Slice<'p>>
+        ensures none { IfNone result ((self.new ≡ self.old) × (is_free self.old task ≡ false)) }
+        ensures free { IfSome result (λ s. is_free self.old task ≡ true) }
+        ensures slice { IfSome result (λ s. s ≡ record {
+          task = task;
+          code = code_at self.old.machine task;
+          start = frame_at self.old.machine task;
+          frame = frame_at self.old.machine task;
+          count = 0;
+        }) }
+        ensures out { IfSome result (λ s.
+            self.new ≡ record self.old { out = self.old.out ++ task ∷ [] }) }
+    {
+        if !self.is_at_hand(task) {
+            return None;
+        }
+        self.out.push_reserved(task);
         Some(self.machine.slice(task))
     }
 
@@ -325,6 +366,19 @@ impl<'p> Book<'p> {
             ((t : ℕ) → is_free self.now t ≡ false) }
     {
         self.pick().is_some()
+    }
+
+    /// Is there another task that can step, or one that is out?
+    pub(crate) fn has_other(&self, task: u32) -> bool {
+        !self.out.is_empty() || self.machine.ready_beside(&[task]).is_some()
+    }
+
+    /// Can the task step, and isn't it out?
+    #[inline(always)]
+    fn is_at_hand(&self, task: u32) -> bool
+        ensures { result ≡ is_free self.now task }
+    {
+        self.machine.can_step(task) && !is_among(self.out.as_slice(), task)
     }
 
     /// A task that can step and isn't out; `None` if and only if there is no such task.

@@ -6,9 +6,9 @@
 //!
 //! Why the workers never all sleep while a task is left:
 //!
-//! 1. `awake` is the number of workers that neither sleep nor are out with a slice. `lends` and
-//!    `sleeps` take one away, `back` and `rises` add one. Each is called in the hold that makes the
-//!    change. A woken worker counts once it has the lock.
+//! 1. `awake` is the number of workers that have come and neither sleep nor are out with a slice.
+//!    `lends` and `sleeps` take one away, `comes`, `back` and `rises` add one. Each is called in the
+//!    hold that makes the change. A worker that is new or woken counts once it has the lock.
 //!
 //! 2. A worker sleeps only in a hold in which it saw that no task is left, or that `leaves` holds.
 //!    In the second case another worker is awake.
@@ -25,28 +25,42 @@
 //!
 //! `checks/waits.py` searches every schedule of three workers for a state that contradicts this.
 
-/// A slice with at least this many instructions was long enough to justify waking another worker.
-const WORTH: u32 = 512;
+/// This many local instructions in a row are long enough to justify waking another worker.
+const WORTH: u32 = 900;
 
-/// Several workers may claim tasks until this many were claimed. After that only one does, until a
-/// slice is long enough.
+/// Several workers may claim tasks until this many were claimed since the last worker came or the
+/// last long row of local instructions. After that only one does.
 const TRIES: u32 = 64;
 
-/// How many workers are awake with no slice out, and how many tasks may still be claimed by several
-/// at once.
+/// How many workers there are, how many are awake with no slice out, and how many tasks may still
+/// be claimed by several at once.
 #[derive(Clone, Copy, Drop)]
 pub(crate) struct Waits {
+    workers: u32,
     awake: u32,
     tries: u32,
 }
 
 impl Waits {
-    /// The state before the first worker has come: all `workers` workers are on their way to the
-    /// lock.
+    /// The state before the first of `workers` workers has come.
     pub(crate) fn new(workers: u32) -> Waits {
         Waits {
-            awake: workers,
-            tries: TRIES,
+            workers,
+            awake: 0,
+            tries: 0,
+        }
+    }
+
+    /// A worker has the lock for the first time.
+    pub(crate) fn comes(&mut self) {
+        self.awake = self.awake.saturating_add(1);
+        self.calls_several();
+    }
+
+    /// Lets several workers claim tasks, if there are several.
+    fn calls_several(&mut self) {
+        if self.workers > 1 {
+            self.tries = TRIES;
         }
     }
 
@@ -72,11 +86,18 @@ impl Waits {
         self.awake = self.awake.saturating_sub(1);
     }
 
-    /// A worker is back with a slice in which it did `done` instructions.
-    pub(crate) fn back(&mut self, done: u32) {
+    /// A worker is back with a slice.
+    pub(crate) fn back(&mut self) {
         self.awake = self.awake.saturating_add(1);
-        if done >= WORTH {
-            self.tries = TRIES;
+    }
+
+    /// A worker did `done` local instructions in a row. `has_other` says whether another task could
+    /// step meanwhile, or was out.
+    pub(crate) fn ran(&mut self, done: u32, has_other: bool) {
+        if !is_worth(done) {
+            self.tries = self.tries.saturating_sub(1);
+        } else if has_other {
+            self.calls_several();
         }
     }
 
@@ -89,24 +110,53 @@ impl Waits {
     pub(crate) fn rises(&mut self) {
         self.awake = self.awake.saturating_add(1);
     }
+
+    /// The limit for the local instructions that a worker does in a row under the lock. If the task
+    /// has more, a slice of it is taken.
+    pub(crate) fn in_place(&self) -> u32 {
+        if self.wants_several() {
+            IN_PLACE_FOR_SEVERAL
+        } else {
+            IN_PLACE
+        }
+    }
+
+    /// The limit for the turns of a worker under one hold of the lock.
+    pub(crate) fn in_a_hold(&self) -> u32 {
+        if self.wants_several() {
+            IN_A_HOLD_FOR_SEVERAL
+        } else {
+            IN_A_HOLD
+        }
+    }
 }
 
-/// The number of turns in a row before a slice is tried again. The last slice did `done`
-/// instructions, and `before` turns came before it. The number grows while slices are too short. It
-/// has a bound, since the lock is held during the turns.
-pub(crate) fn turns_after(done: u32, before: u32) -> u32 {
-    match done {
-        AT_ONCE => 1,
-        WORTH.. => IN_A_ROW,
-        _ => IN_A_ROW.max(before.saturating_mul(2)).min(IN_A_HOLD),
-    }
+/// Is a row of `done` local instructions long enough to justify waking another worker?
+pub(crate) fn is_worth(done: u32) -> bool {
+    done >= WORTH
+}
+
+/// The number of turns before local instructions are done in place again. It is one after a row of
+/// many of them.
+pub(crate) fn turns_after(done: u32) -> u32 {
+    if done < IN_A_ROW { IN_A_ROW } else { 1 }
 }
 
 /// The limit for the local instructions that a worker does with no lock held.
 pub(crate) const AT_ONCE: u32 = 65_536;
 
-/// A task's slice is taken after this many steps in a row.
-pub(crate) const IN_A_ROW: u32 = 16;
+/// Local instructions are done in place after this many turns of a task in a row.
+pub(crate) const IN_A_ROW: u32 = 6;
 
-/// The limit for the turns of a worker under one hold of the lock.
+/// The limit for the local instructions in a row under the lock, while one worker is enough.
+const IN_PLACE: u32 = 1_024;
+
+/// The same limit, while several workers may claim tasks.
+const IN_PLACE_FOR_SEVERAL: u32 = 32;
+
+/// The limit for the turns under one hold of the lock, while one worker is enough. Eight local
+/// instructions in place count as a turn.
 const IN_A_HOLD: u32 = 1_024;
+
+/// The same limit, while several workers may claim tasks.
+const IN_A_HOLD_FOR_SEVERAL: u32 = 128;

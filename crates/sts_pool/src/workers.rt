@@ -11,7 +11,7 @@ use crate::asked::{Asked, Runs};
 use crate::book::Book;
 use crate::gate::{Gate, Outside};
 use crate::report::{Ending, PoolError, Report};
-use crate::waits::{AT_ONCE, IN_A_ROW, Waits, turns_after};
+use crate::waits::{AT_ONCE, IN_A_ROW, Waits, is_worth, turns_after};
 use std::alloc::Global;
 use std::hint::spin_loop;
 use std::marker::Brand;
@@ -25,8 +25,11 @@ use sts_verify::Verified;
 /// A worker looks this often for a task or the lock before it sleeps, as a wake-up costs more.
 const LOOKS: u32 = 64;
 
-/// How long it pauses between two looks.
-const PAUSE: u32 = 128;
+/// How long it pauses after its first look.
+const FIRST_PAUSE: u32 = 4;
+
+/// So often the next pause is twice as long as the one before. After that all are equally long.
+const DOUBLINGS: u32 = 5;
 
 /// The bytes of a worker's stack.
 pub(crate) const STACK: usize = 1 << 20;
@@ -73,6 +76,36 @@ impl<'p, O: Outside, B: Runs<O>> Shared<'p, O, B> {
         true
     }
 
+    /// Does a task's steps under the lock: turns, and local instructions in place behind some turns
+    /// in a row. Answers whether a slice of the task is to be taken, since it has a long row of local
+    /// instructions. If not, the task can't step, or it had its share of this hold.
+    fn has_long_row(&mut self, task: u32) -> bool {
+        let mut left = self.waits.in_a_hold();
+        let mut turns = IN_A_ROW;
+        while left > 0 {
+            if !self.turns(task, turns) {
+                return false;
+            }
+            let limit = self.waits.in_place();
+            let done = self.asked.run_here(task, limit);
+            self.notes(task, done);
+            if done == limit {
+                return true;
+            }
+            left = left.saturating_sub(turns).saturating_sub(1 + done / 8);
+            turns = turns_after(done);
+        }
+        false
+    }
+
+    /// Notes that a worker did `done` local instructions of a task in place.
+    fn notes(&mut self, task: u32, done: u32) {
+        if is_worth(done) {
+            let has_other = self.asked.has_other(task);
+            self.waits.ran(done, has_other);
+        }
+    }
+
     /// Looks for a task.
     fn look(&mut self) -> Found {
         self.asked.ask();
@@ -98,9 +131,10 @@ impl<'p, O: Outside, B: Runs<O>> Shared<'p, O, B> {
         self.waits.wants_several() && self.asked.has_more()
     }
 
-    /// A slice to work on.
-    fn lend(&mut self) -> Option<Slice<'p>> {
-        let slice = self.asked.check_out()?;
+    /// A slice of a task to work on.
+    fn lend(&mut self, task: u32) -> Option<Slice<'p>> {
+        self.asked.ask();
+        let slice = self.asked.lend(task)?;
         self.waits.lends();
         Some(slice)
     }
@@ -108,16 +142,19 @@ impl<'p, O: Outside, B: Runs<O>> Shared<'p, O, B> {
     /// Takes back a slice in which `done` instructions were done. A slice of another book stops the
     /// run; none ever comes.
     fn take_back(&mut self, slice: Slice<'p>, done: u32) {
-        self.waits.back(done);
+        let task = slice.task();
+        self.waits.back();
         if !self.asked.check_in(slice) {
             self.stop = true;
         }
+        let has_other = is_worth(done) && self.asked.has_other(task);
+        self.waits.ran(done, has_other);
     }
 }
 
-/// Lets some time pass, with no lock held.
-fn pause() {
-    for _ in 0..PAUSE {
+/// Lets some time pass after a look, with no lock held. The worker has paused `pauses` times before.
+fn pause(pauses: u32) {
+    for _ in 0..FIRST_PAUSE << pauses.min(DOUBLINGS) {
         spin_loop();
     }
 }
@@ -126,11 +163,11 @@ impl<'p, O: Outside, B: Runs<O>> Pool<'p, O, B> {
     /// Takes the lock. The worker sleeps until the lock is free only after it looked for a while
     /// and others had it each time.
     fn locked<R: Wait>(&self, rt: &R) -> MutexGuard<'_, Shared<'p, O, B>> {
-        for _ in 0..LOOKS {
+        for looks in 0..LOOKS {
             if let Some(guard) = self.shared.try_lock() {
                 return guard;
             }
-            pause();
+            pause(looks);
         }
         self.shared.lock(rt)
     }
@@ -145,7 +182,7 @@ impl<'p, O: Outside, B: Runs<O>> Pool<'p, O, B> {
     /// A task to work on, or `None` if the worker is to end. A worker sleeps only in this function.
     fn find<'b, R: Wait>(&'b self, rt: &R, guard: MutexGuard<'b, Shared<'p, O, B>>) -> Option<u32> {
         let mut guard = guard;
-        let mut looks = LOOKS;
+        let mut looks = 0;
         for _ in rt.forever() {
             match guard.look() {
                 Found::End => {
@@ -156,58 +193,57 @@ impl<'p, O: Outside, B: Runs<O>> Pool<'p, O, B> {
                     self.wake_another(&guard);
                     return Some(task);
                 }
-                Found::Nothing if looks > 0 => {
-                    looks -= 1;
+                Found::Nothing if looks < LOOKS => {
                     drop(guard);
-                    pause();
+                    pause(looks);
+                    looks += 1;
                     guard = self.locked(rt);
                 }
                 Found::Nothing | Found::Left => {
                     guard.waits.sleeps();
                     guard = self.woken.wait(rt, guard);
                     guard.waits.rises();
-                    looks = LOOKS;
+                    looks = 0;
                 }
             }
         }
         unreachable!()
     }
 
-    /// Does a task's steps under the lock, or by slices if the task makes many in a row. Once the
-    /// task can't step, another task to work on is found.
+    /// Does a task's steps under the lock, or by slices if it has long rows of local instructions.
+    /// Then a task to work on is found.
     fn exchange<R: Wait, G: Gate>(&self, rt: &R, gate: &G, worker: u32, task: u32) -> Option<u32> {
         let mut guard = self.locked(rt);
         guard.asked.release(task);
-        if !guard.stop && guard.turns(task, IN_A_ROW) {
-            return self.slices(rt, gate, worker, guard);
+        if !guard.stop && guard.has_long_row(task) {
+            return self.slices(rt, gate, worker, guard, task);
         }
         self.find(rt, guard)
     }
 
-    /// Takes slices, does their local instructions with no lock held, and gives them back. It does
-    /// the step after each slice, until the task can't step; then it finds another.
+    /// Takes slices of a task, does their local instructions with no lock held, and gives them back.
+    /// After each it does the task's steps under the lock, until no further slice is to be taken.
+    /// Then it finds a task.
     fn slices<'b, R: Wait, G: Gate>(
         &'b self,
         rt: &R,
         gate: &G,
         worker: u32,
         guard: MutexGuard<'b, Shared<'p, O, B>>,
+        task: u32,
     ) -> Option<u32> {
         let mut guard = guard;
-        let mut most = IN_A_ROW;
         for _ in rt.forever() {
-            let Some(mut slice) = guard.lend() else {
+            let Some(mut slice) = guard.lend(task) else {
                 break;
             };
             self.wake_another(&guard);
             drop(guard);
-            let task = slice.task();
             gate.enter(worker, task);
             let done = slice.run_local(AT_ONCE);
             guard = self.locked(rt);
             guard.take_back(slice, done);
-            most = turns_after(done, most);
-            if guard.stop || !guard.turns(task, most) {
+            if guard.stop || !guard.has_long_row(task) {
                 break;
             }
         }
@@ -226,6 +262,7 @@ impl<'p, O: Outside, B: Runs<O>> Pool<'p, O, B> {
     fn work<R: Wait, G: Gate>(&self, rt: &R, gate: &G, worker: u32) {
         let mut guard = self.locked(rt);
         guard.came = guard.came.saturating_add(1);
+        guard.waits.comes();
         let mut next = self.find(rt, guard);
         for _ in rt.forever() {
             let Some(task) = next else {

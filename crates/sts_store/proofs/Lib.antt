@@ -9,6 +9,7 @@ pub mod Flags
 pub mod Forks
 pub mod Gone
 pub mod Housed
+pub mod InARow
 pub mod Keeping
 pub mod Leaving
 pub mod Local

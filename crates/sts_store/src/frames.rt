@@ -1,7 +1,9 @@
 //! Changes of a task's frame and of its flag.
 
 ghost use Rattle.std.specs.Prelude.{◌≡◌, ◌<◌, ◌+◌, ◌-◌, ◌^◌, [], ◌∷◌, length};
-ghost use Rattle.std.specs.Prelude.{true, false};
+ghost use Rattle.std.specs.Prelude.{true, false, ◌≤◌, Some, None};
+ghost use Rattle.sts_code.specs.declared.limits.TheConstants.{MAX_INSTRUCTIONS};
+ghost use Rattle.sts_frames.specs.Locals.{AreSafe, local_at, locals};
 ghost use Rattle.sts_model.specs.Local as frames;
 ghost use Rattle.sts_model.specs.Misuse.{breaks_loop, overflows};
 ghost use Rattle.sts_model.specs.World as world;
@@ -12,7 +14,7 @@ ghost use Rattle.sts_store.specs.Parts.{frame_of, live_of, unseen_of};
 
 use crate::store::Store;
 use sts_code::{Instr, Program};
-use sts_frames::{forget, local};
+use sts_frames::{forget, local, run_local};
 
 impl Store {
     /// Does a local instruction of a task. `code` is the code of its function.
@@ -30,6 +32,23 @@ impl Store {
         ensures unseen { unseen_of self.new ≡ unseen_of self.old }
     {
         local(&mut self.frames.at(t as usize).frame, program, code, instr);
+    }
+
+    /// Does local instructions of a task until the limit or the first other instruction, and answers
+    /// how many. `code` is the code of its function.
+    pub fn run_local(&mut self, program: &Program, code: &[Instr], t: u32, limit: u32) -> u32
+        requires lives { lives_in (live_of self.old) t ≡ true }
+        requires safe { AreSafe program.now code.now (frame_of self.old t) }
+        requires short { length code.now ≤ MAX_INSTRUCTIONS }
+        ensures live { live_of self.new ≡ with_live_frame (live_of self.old) t
+            (frame_of self.new t) }
+        ensures unseen { unseen_of self.new ≡ unseen_of self.old }
+        ensures local { locals code.now (frame_of self.old t) result
+            ≡ Some (frame_of self.new t) }
+        ensures most { result ≤ limit }
+        ensures stops { result < limit → local_at code.now (frame_of self.new t) ≡ None }
+    {
+        run_local(&mut self.frames.at(t as usize).frame, program, code, limit)
     }
 
     /// Pops `n` operands and goes to `to`.

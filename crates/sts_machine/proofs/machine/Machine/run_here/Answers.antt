@@ -1,0 +1,94 @@
+use Rattle.std.proofs.Common.{◌≡◌, ◌++◌, true, refl, sym, ◌∙◌, ap, subst, arith}
+use Rattle.sts_model.specs.World.{code}
+use Rattle.sts_frames.specs.Locals.{AreSafe, locals}
+use Rattle.laws_live.specs.Waiting.{live_can_step}
+use Rattle.sts_store.specs.Parts.{frame_of}
+use Rattle.sts_machine.specs.Machine.{Seen}
+use Rattle.sts_machine.specs.Slice.{steps_of}
+use Rattle.sts_machine.proofs.Cutting.{are_safe}
+use Rattle.sts_machine.proofs.Putting.{in_order, lawful, others_there, put_back, put_on, reached, stands_there}
+use Rattle.sts_machine.proofs.Turning.{alive, runs_well}
+use Rattle.sts_machine.proofs.machine.Machine.run_here.Goals as goal
+
+pub run_local-done-requires-clause-safe : goal.run_local-done-requires-clause-safe
+run_local-done-requires-clause-safe c =
+    let p = c.self.inside.verified.now in
+    let m = c.self.inside.store in
+    let t = c.args.task in
+    let can = subst (λ (s : Seen). live_can_step s.program s.live t ≡ true) (sym c.self.view_is) c.requires in
+    let own = c.code-code.ensures.value ∙ ap (λ q. code q c.frame.result.now) c.program-program.ensures.value ∙ ap (code p) c.frame.ensures in
+    subst (λ q. AreSafe q c.code-code.result.now (frame_of m t)) (sym c.program-program.ensures.value)
+    (are_safe p t (lawful p m c.self.inside.steps c.self.invariant) (frame_of m t) c.code-code.result.now own (reached p m c.self.inside.steps c.self.invariant t can))
+
+pub say_stand-requires-clause-order : goal.say_stand-requires-clause-order
+say_stand-requires-clause-order c =
+    let p = c.self.inside.verified.now in
+    let m = c.self.inside.store in
+    let n = c.self.inside.steps in
+    let t = c.args.task in
+    let f = frame_of c.run_local-done.new.self t in
+    let can = subst (λ (s : Seen). live_can_step s.program s.live t ≡ true) (sym c.self.view_is) c.requires in
+    let own = c.code-code.ensures.value ∙ ap (λ q. code q c.frame.result.now) c.program-program.ensures.value ∙ ap (code p) c.frame.ensures in
+    let done = ap (λ is. locals is (frame_of m t) c.run_local-done.result) (sym own) ∙ c.run_local-done.ensures.local in
+    let g = put_on p m n c.self.invariant t (alive p m n c.self.invariant t can) f c.run_local-done.result done in
+    in_order c.run_local-done.new.self g c.run_local-done.ensures.live
+
+pub say_stand-requires-clause-others : goal.say_stand-requires-clause-others
+say_stand-requires-clause-others c =
+    let p = c.self.inside.verified.now in
+    let m = c.self.inside.store in
+    let n = c.self.inside.steps in
+    let t = c.args.task in
+    let f = frame_of c.run_local-done.new.self t in
+    let can = subst (λ (s : Seen). live_can_step s.program s.live t ≡ true) (sym c.self.view_is) c.requires in
+    let own = c.code-code.ensures.value ∙ ap (λ q. code q c.frame.result.now) c.program-program.ensures.value ∙ ap (code p) c.frame.ensures in
+    let done = ap (λ is. locals is (frame_of m t) c.run_local-done.result) (sym own) ∙ c.run_local-done.ensures.local in
+    let g = put_on p m n c.self.invariant t (alive p m n c.self.invariant t can) f c.run_local-done.result done in
+    others_there c.run_local-done.new.self g c.run_local-done.ensures.live c.program-program.result.now c.program-program.ensures.value c.run_local-done.ensures.unseen
+
+pub overflow_add-self : goal.overflow_add-self
+overflow_add-self c =
+    let p = c.self.inside.verified.now in
+    let m = c.self.inside.store in
+    let n = c.self.inside.steps in
+    let t = c.args.task in
+    let f = frame_of c.run_local-done.new.self t in
+    let can = subst (λ (s : Seen). live_can_step s.program s.live t ≡ true) (sym c.self.view_is) c.requires in
+    let own = c.code-code.ensures.value ∙ ap (λ q. code q c.frame.result.now) c.program-program.ensures.value ∙ ap (code p) c.frame.ensures in
+    let done = ap (λ is. locals is (frame_of m t) c.from.result) (sym own) ∙ ap (locals c.code-code.result.now (frame_of m t)) c.from.ensures ∙ c.run_local-done.ensures.local in
+    let g = put_on p m n c.self.invariant t (alive p m n c.self.invariant t can) f c.from.result done in
+    let few = g.few in
+    omega (arith, few)
+
+pub invariant_of-self : goal.invariant_of-self
+invariant_of-self c =
+    let p = c.self.inside.verified.now in
+    let m = c.self.inside.store in
+    let n = c.self.inside.steps in
+    let t = c.args.task in
+    let f = frame_of c.run_local-done.new.self t in
+    let can = subst (λ (s : Seen). live_can_step s.program s.live t ≡ true) (sym c.self.view_is) c.requires in
+    let own = c.code-code.ensures.value ∙ ap (λ q. code q c.frame.result.now) c.program-program.ensures.value ∙ ap (code p) c.frame.ensures in
+    let done = ap (λ is. locals is (frame_of m t) c.from.result) (sym own) ∙ ap (locals c.code-code.result.now (frame_of m t)) c.from.ensures ∙ c.run_local-done.ensures.local in
+    let g = put_on p m n c.self.invariant t (alive p m n c.self.invariant t can) f c.from.result done in
+    put_back c.run_local-done.new.self g c.run_local-done.ensures.live c.say_stand.new.store c.say_stand.ensures.live
+    c.program-program.result.now c.program-program.ensures.value c.run_local-done.ensures.unseen c.self.invariant
+    c.say_stand.ensures.standing c.say_stand.ensures.room
+
+pub returns-clause-stands : goal.returns-clause-stands
+returns-clause-stands c =
+    let p = c.self.inside.verified.now in
+    let m = c.self.inside.store in
+    let n = c.self.inside.steps in
+    let t = c.args.task in
+    let f = frame_of c.run_local-done.new.self t in
+    let can = subst (λ (s : Seen). live_can_step s.program s.live t ≡ true) (sym c.self.view_is) c.requires in
+    let own = c.code-code.ensures.value ∙ ap (λ q. code q c.frame.result.now) c.program-program.ensures.value ∙ ap (code p) c.frame.ensures in
+    let done = ap (λ is. locals is (frame_of m t) c.from.result) (sym own) ∙ ap (locals c.code-code.result.now (frame_of m t)) c.from.ensures ∙ c.run_local-done.ensures.local in
+    let g = put_on p m n c.self.invariant t (alive p m n c.self.invariant t can) f c.from.result done in
+    stands_there c.run_local-done.new.self g c.run_local-done.ensures.live c.say_stand.new.store c.say_stand.ensures.live
+    c.args.self.now (record { task = t; code = c.code-code.result.now; start = f; frame = f; count = c.run_local-done.result }) c.self.view_is refl c.from.ensures
+
+pub returns-clause-runs_well : goal.returns-clause-runs_well
+returns-clause-runs_well c =
+    λ events b h is. runs_well c.args.self.now.program c.laws.ensures b is (events ++ steps_of c.run_local-done.result c.args.task)
