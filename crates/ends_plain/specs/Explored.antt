@@ -6,8 +6,8 @@ use Rattle.ends_plain.specs.declared.config.Config.{Config}
 use Rattle.ends_plain.specs.declared.config.Asked.{Asked}
 use Rattle.ends_plain.specs.Configs.{next, tries, start, IsLike}
 
--- a search from the start of the program: each event that it goes on with leads from each of the
--- first `closed` states to one of the states, or to one that is alike
+-- A search from the start of the program. It went on from each of the first `closed` states. Each
+-- event that it took there leads to one of the states, or to one that is alike.
 pub record IsExplored (a : Asked) (first : Config) (origins : List Origin) (closed : ℕ)
     (kept : List Config) (marks : List (Option ℕ)) : Type 0 where
   pub begins : first ≡ start a.setting

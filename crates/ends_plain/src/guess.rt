@@ -1,5 +1,5 @@
-//! A guess which task and which scope of one state is which of another: only a hint, with no
-//! contract.
+//! Guesses the names of a state's tasks and scopes in another state. A guess is only a hint, and has
+//! no contract.
 
 use crate::names::{NameLists, name};
 use std::alloc::{AllocError, Global};

@@ -165,7 +165,7 @@ fn same_tasks(names: &NameLists, ours: &Records, theirs: &Records, t: u32) -> bo
     same_frames(names, ours.frame(t), theirs.frame(u))
 }
 
-/// Are the scopes the same under these names, but for scoped values?
+/// Are the scopes the same under these names, except for scoped values?
 fn same_scopes(names: &NameLists, ours: &Records, theirs: &Records, s: u32) -> bool
     ensures { result ≡ true → law.IsSameScope (names_of names.now) (def.scope_at ours.now s)
         (def.scope_at theirs.now ((names_of names.now).scopes s)) }
@@ -214,7 +214,8 @@ fn all_scopes_same(names: &NameLists, ours: &Records, theirs: &Records) -> bool
     true
 }
 
-/// Does each of so many numbers have a name below this many, and does `back` lead from there to it?
+/// Does each number below `births` have a name below `births`, and does `back` lead from the name to
+/// the number?
 fn is_naming(names: &[u32], back: &[u32], births: usize) -> bool
     ensures { result ≡ true → IsNaming names.now back.now births }
 {
@@ -230,8 +231,7 @@ fn is_naming(names: &[u32], back: &[u32], births: usize) -> bool
     true
 }
 
-/// Do these names lead from all births of the one state to all births of the other one, from the
-/// root to the root?
+/// Do these names give each birth of the first state a birth of the second, and the root the root?
 fn are_names(names: &NameLists, back: &NameLists, ours: &Records, theirs: &Records) -> bool
     ensures { result ≡ true → AreNames names.now back.now ours.now theirs.now }
 {

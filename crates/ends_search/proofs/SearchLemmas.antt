@@ -55,7 +55,7 @@ traced_more {S} next can states origins s o h within comes made =
 
 -- ---- closed sets
 
--- a state that is among some is among more
+-- a state that is among a list of states is among a longer one
 among_more : {S : Type 0} (alike : S → S → Type 0) (old new : List S) (s : S) → Grows old new → IsAmong alike old s → IsAmong alike new s
 among_more alike old new s grows h =
     record { other = h.other; there = subst (λ xs. Contains xs h.other) (sym grows.same) (Contains-append_left old grows.more h.other h.there); same = h.same }

@@ -1,6 +1,5 @@
--- The states that a search of a machine finds. `next` is the effect of an event on a state, `can`
--- says whether the event can come there, and `alike` relates two states of which the search keeps
--- one.
+-- The states that a search of a machine finds. `next` is the effect of an event on a state, and `can`
+-- says whether the event can come there. The search keeps one of two states that are `alike`.
 use Rattle.std.specs.Prelude.{◌≡◌, ℕ, ◌<◌, ◌≤◌, ◌⊎◌, List, [], ◌∷◌, ◌++◌, fold, length, slice_index_or}
 use Rattle.std.specs.Prelude.{Bool, true, drop, Option, Some, None}
 use Rattle.std.specs.List.{Contains}

@@ -1,5 +1,6 @@
--- States that differ only by the birth numbers of their tasks and scopes, and by what no later event
--- reads: frames and flags of tasks that don't live, and scoped values (this project's own).
+-- States that differ only by the birth numbers of their tasks and scopes, and in parts that no later
+-- event reads (this project's own). These parts are frames and flags of tasks that don't live, and
+-- scoped values.
 use Rattle.std.specs.Prelude.{◌≡◌, ℕ, ◌≤◌, List, [], length, map, Bool, true, false, Some}
 use Rattle.std.specs.Prelude.{option_map, fold, if◌then◌else◌}
 use Rattle.std.specs.List.{sum_by}
