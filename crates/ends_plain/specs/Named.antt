@@ -16,7 +16,7 @@ abbrev pub LeadsBack : List ℕ → List ℕ → ℕ → ℕ → Type 0
 LeadsBack names back births n =
     (k : ℕ) → k < n → (name_in names k < births) × (name_in back (name_in names k) ≡ k)
 
--- each number below `births` has a name below `births`, and `back` leads from the name to the number
+-- each number below `births` has a name below `births`, and `back` leads from the name back to it
 pub record IsNaming (names back : List ℕ) (births : ℕ) : Type 0 where
   pub as_many : length names ≡ births
   pub leads_back : LeadsBack names back births births

@@ -1,4 +1,4 @@
-//! Guesses the names of a state's tasks and scopes in another state. A guess is only a hint, and has
+//! Guesses the names of a state's tasks and scopes in another state. A guess is only a hint. It has
 //! no contract.
 
 use crate::names::{NameLists, name};

@@ -214,8 +214,8 @@ fn all_scopes_same(names: &NameLists, ours: &Records, theirs: &Records) -> bool
     true
 }
 
-/// Does each number below `births` have a name below `births`, and does `back` lead from the name to
-/// the number?
+/// Does each number below `births` have a name below `births`, and does `back` lead from the name
+/// to the number?
 fn is_naming(names: &[u32], back: &[u32], births: usize) -> bool
     ensures { result ≡ true → IsNaming names.now back.now births }
 {
