@@ -1,6 +1,7 @@
--- The states that a search of a machine finds. `next` is the effect of an event on a state, and `can`
--- says whether the event can come there. The search keeps one of two states that are `alike`.
-use Rattle.std.specs.Prelude.{◌≡◌, ℕ, ◌<◌, ◌≤◌, ◌⊎◌, List, [], ◌∷◌, ◌++◌, fold, length, slice_index_or}
+-- The states that a search of a machine finds. `next` is the effect of an event on a state, and
+-- `can` says whether the event can come there. The search keeps one of two states that are `alike`.
+use Rattle.std.specs.Prelude.{◌≡◌, ℕ, ◌<◌, ◌≤◌, ◌⊎◌, List, [], ◌∷◌, ◌++◌, fold, length}
+use Rattle.std.specs.Prelude.{slice_index_or}
 use Rattle.std.specs.Prelude.{Bool, true, drop, Option, Some, None}
 use Rattle.std.specs.List.{Contains}
 use Rattle.sts_model.specs.declared.event.Event.{Event}
@@ -68,7 +69,8 @@ pub record Begins {S : Type 0} (start : S) (states : List S) : Type 0 where
 -- ---- what states lead to
 
 -- the state, or one that it is alike to, is one of these
-pub record IsAmong {S : Type 0} (alike : S → S → Type 0) (states : List S) (state : S) : Type 0 where
+pub record IsAmong {S : Type 0} (alike : S → S → Type 0) (states : List S) (state : S)
+    : Type 0 where
   pub other : S
   pub there : Contains states other
   pub same : (state ≡ other) ⊎ alike state other
@@ -124,6 +126,7 @@ pub record AreKept {S : Type 0} (states kept : List S) (marks : List (Option ℕ
 -- A search so far. Its states follow from the first one and from how the others were found, and
 -- some of them are kept whole.
 pub record IsSpace {S : Type 0} (next : S → Event → S) (can : S → Event → Bool)
-    (alike : S → S → Type 0) (first : S) (origins : List Origin) (closed : ℕ) (kept : List S) (marks : List (Option ℕ)) : Type 0 where
+    (alike : S → S → Type 0) (first : S) (origins : List Origin) (closed : ℕ) (kept : List S)
+    (marks : List (Option ℕ)) : Type 0 where
   pub searched : IsSearched next can alike (states_of next first origins) origins closed
   pub whole_ones : AreKept (states_of next first origins) kept marks

@@ -1,6 +1,6 @@
--- States that differ only by the birth numbers of their tasks and scopes, and in parts that no later
--- event reads (this project's own). These parts are frames and flags of tasks that don't live, and
--- scoped values.
+-- States that differ only by the birth numbers of their tasks and scopes, and in parts that no
+-- later event reads (this project's own). These parts are frames and flags of tasks that don't
+-- live, and scoped values.
 use Rattle.std.specs.Prelude.{◌≡◌, ℕ, ◌≤◌, List, [], length, map, Bool, true, false, Some}
 use Rattle.std.specs.Prelude.{option_map, fold, if◌then◌else◌}
 use Rattle.std.specs.List.{sum_by}
@@ -17,7 +17,8 @@ use Rattle.sts_model.specs.declared.record.Scope.{Scope}
 use Rattle.sts_model.specs.declared.record.Slot.{Slot}
 use Rattle.sts_model.specs.declared.record.Slot.TheVariants.{Empty, Own, Lent, Sub}
 use Rattle.sts_model.specs.declared.record.Task.{Task}
-use Rattle.sts_model.specs.World.{World, State, Running, Faulted, task_at, scope_at, no_task, instr_at}
+use Rattle.sts_model.specs.World.{World, State, Running, Faulted, task_at, scope_at, no_task}
+use Rattle.sts_model.specs.World.{instr_at}
 use Rattle.sts_model.specs.Living.{lives}
 use Rattle.sts_model.specs.Run.{apply}
 
