@@ -10,7 +10,7 @@ use std::test::Fail;
 use sts_model::{End, Event};
 use sts_pool::{Gate, Outside};
 
-/// How often a worker that is held looks whether it may go on.
+/// How often a worker that is held looks at a counter.
 const LOOKS: u32 = 1_000_000_000;
 
 /// Gives no event, and notes the most that the journal has grown between two questions.
@@ -36,8 +36,8 @@ impl Outside for Leaps<'_> {
     }
 }
 
-/// A worker that does every step by a turn is asked before each, so the journal grows by one entry.
-/// The steps of a slice come all at once.
+/// A worker that does a step by a turn is asked before it, so the journal grows by one entry. Local
+/// steps in place come at most 1,024 at once. The steps of a slice come all at once.
 #[test]
 fn steps_of_a_slice_come_at_once(rt: HostRuntime) -> Result<(), Fail> {
     let verified = accepted(rt.alloc(), LOOPS)?;
@@ -50,9 +50,19 @@ fn steps_of_a_slice_come_at_once(rt: HostRuntime) -> Result<(), Fail> {
         let ended = ending(&rt, rt.alloc(), path, &verified, 1, &Open, leaps)?;
         assert_eq!(rt; ended.end, End::Success(20_000), "{path:?}");
         assert_eq!(rt; ended.steps, 100_017, "{path:?}");
-        assert!(rt; greatest.load(Ordering::SeqCst) >= 1024, "{path:?}");
+        assert!(rt; greatest.load(Ordering::SeqCst) >= 32_768, "{path:?}");
     }
     Ok(())
+}
+
+/// Holds a worker until a counter is over a number. If this takes too long, it is noted.
+fn hold(counter: &AtomicU64, over: u64, missed: &AtomicU64) {
+    for _ in 0..LOOKS {
+        if counter.load(Ordering::SeqCst) > over {
+            return;
+        }
+    }
+    missed.store(1, Ordering::SeqCst);
 }
 
 /// Holds the second entry for each of two subtasks until both have had a second entry.
@@ -63,10 +73,13 @@ struct Both {
 }
 
 impl Both {
-    fn has_second(&self, subtask: usize) -> bool {
+    fn entries_of(&self, subtask: usize) -> &AtomicU64 {
         let [first, second] = &self.entries;
-        let entries = if subtask == 0 { first } else { second };
-        entries.load(Ordering::SeqCst) > 1
+        if subtask == 0 { first } else { second }
+    }
+
+    fn has_second(&self, subtask: usize) -> bool {
+        self.entries_of(subtask).load(Ordering::SeqCst) > 1
     }
 }
 
@@ -79,12 +92,7 @@ impl Gate for Both {
         if self.entries[subtask].fetch_add(1, Ordering::SeqCst) != 1 {
             return;
         }
-        for _ in 0..LOOKS {
-            if self.has_second(1 - subtask) {
-                return;
-            }
-        }
-        self.missed.store(1, Ordering::SeqCst);
+        hold(self.entries_of(1 - subtask), 1, &self.missed);
     }
 }
 
@@ -131,12 +139,7 @@ impl Gate for Return {
         if self.entries.load(Ordering::SeqCst) < 3 || self.missed.load(Ordering::SeqCst) != 0 {
             return;
         }
-        for _ in 0..LOOKS {
-            if self.has_other.load(Ordering::SeqCst) != 0 {
-                return;
-            }
-        }
-        self.missed.store(1, Ordering::SeqCst);
+        hold(&self.has_other, 0, &self.missed);
     }
 }
 
