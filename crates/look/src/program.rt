@@ -12,11 +12,11 @@ use crate::dashed::Dashed;
 use crate::reading::line;
 use look_cases::write_answers;
 use look_ends::{Progress, write_ends, write_ends_and_trace};
-use look_lines::write_view;
-use look_picture::{Window, write_picture};
+use look_lines::write_run;
+use look_picture::{Picture, Window};
 use look_refusal::explain;
 use look_run::explain_run;
-use look_views::write_views;
+use look_views::JsonViews;
 use std::alloc::Global;
 use std::io::{Input, Write};
 use std::rt::{Env, Files};
@@ -65,9 +65,12 @@ fn show_view<W: Write>(
         × Writes (W.contents out.old) (W.contents out.new) s o) }
 {
     if view.json {
-        write_views(alloc, view.wanted, text, trace, out)
+        let views = JsonViews {
+            wanted: view.wanted,
+        };
+        write_run(alloc, &views, text, trace, out)
     } else {
-        write_view(alloc, view.wanted, text, trace, out)
+        write_run(alloc, &view.wanted, text, trace, out)
     }
 }
 
@@ -84,7 +87,7 @@ fn show<W: Write>(
     match showing {
         Showing::View(view) => show_view(alloc, view, text, trace, out),
         Showing::Run => explain_run(alloc, text, trace, out),
-        Showing::Picture(window) => write_picture(alloc, window, text, trace, out),
+        Showing::Picture(window) => write_run(alloc, &Picture { window }, text, trace, out),
     }
 }
 

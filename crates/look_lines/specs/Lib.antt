@@ -1,3 +1,5 @@
+pub mod Form
 pub mod Lines
 pub mod View
+pub mod Views
 pub mod Watched

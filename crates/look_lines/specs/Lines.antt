@@ -22,6 +22,7 @@ use Rattle.sts_model.specs.Waiting.{can_step, stand_at}
 use Rattle.sts_model.specs.World.{World, task_at, scope_at}
 use Rattle.sts_list.specs.Spelling.{after_spaces, joiner_words}
 use Rattle.sts_output.specs.Printed.{ended}
+use Rattle.look_lines.specs.declared.view.ViewOptions.{ViewOptions}
 
 -- a word, if the condition holds
 abbrev pub only_if : Bool → List ℕ → List ℕ
@@ -126,14 +127,16 @@ frame_lines w t =
     operands_line (task_at w t).frame.operands
     ++ (locals_line (task_at w t).frame.locals ++ bound_line w t)
 
-abbrev pub task_block : Program → Bool → World → ℕ → List ℕ
-task_block p full w t =
-    task_line p w t ++ (if full && lives (task_at w t) then frame_lines w t else [])
+-- the lines of a task that is wanted; in full they show what a living task has
+abbrev pub task_block : Program → ViewOptions → World → ℕ → List ℕ
+task_block p wanted w t =
+    if wanted.living && not (lives (task_at w t)) then []
+    else task_line p w t ++ (if wanted.full && lives (task_at w t) then frame_lines w t else [])
 
 -- the lines of these tasks, numbered from t on
-abbrev pub task_lines : Program → Bool → World → List Task → ℕ → List ℕ
-task_lines p full w [] t = []
-task_lines p full w (x ∷ xs) t = task_block p full w t ++ task_lines p full w xs (t + 1)
+abbrev pub task_lines : Program → ViewOptions → World → List Task → ℕ → List ℕ
+task_lines p wanted w [] t = []
+task_lines p wanted w (x ∷ xs) t = task_block p wanted w t ++ task_lines p wanted w xs (t + 1)
 
 -- ---- a scope
 
@@ -161,36 +164,20 @@ scope_marks scope =
 abbrev pub told_line : Completion → List ℕ
 told_line c = codes "  told " ++ decimal c.task ++ ended (end_words (Some c.end))
 
-abbrev pub scope_block : Bool → ℕ → Scope → List ℕ
-scope_block full s scope =
-    scope_place s scope
-    ++ (scope_marks scope ++ (if full then flat_map told_line scope.completions else []))
+-- the lines of a scope that is wanted; in full they show the ends that its joiner was told of
+abbrev pub scope_block : ViewOptions → ℕ → Scope → List ℕ
+scope_block wanted s scope =
+    if wanted.living && is_closed scope.phase then []
+    else scope_place s scope
+    ++ (scope_marks scope ++ (if wanted.full then flat_map told_line scope.completions else []))
 
 -- the lines of these scopes, numbered from s on
-abbrev pub scope_lines : Bool → World → List Scope → ℕ → List ℕ
-scope_lines full w [] s = []
-scope_lines full w (x ∷ xs) s = scope_block full s (scope_at w s) ++ scope_lines full w xs (s + 1)
+abbrev pub scope_lines : ViewOptions → World → List Scope → ℕ → List ℕ
+scope_lines wanted w [] s = []
+scope_lines wanted w (x ∷ xs) s =
+    scope_block wanted s (scope_at w s) ++ scope_lines wanted w xs (s + 1)
 
--- ---- only what lives or is open
-
--- the lines of a task if it lives
-abbrev pub living_block : Program → Bool → World → ℕ → List ℕ
-living_block p full w t = if lives (task_at w t) then task_block p full w t else []
-
--- the lines of the living tasks among these, numbered from t on
-abbrev pub living_tasks : Program → Bool → World → List Task → ℕ → List ℕ
-living_tasks p full w [] t = []
-living_tasks p full w (x ∷ xs) t = living_block p full w t ++ living_tasks p full w xs (t + 1)
-
--- the lines of a scope unless it is closed
-abbrev pub open_block : Bool → World → ℕ → List ℕ
-open_block full w s =
-    if is_closed (scope_at w s).phase then [] else scope_block full s (scope_at w s)
-
--- the lines of the scopes among these that aren't closed, numbered from s on
-abbrev pub open_scopes : Bool → World → List Scope → ℕ → List ℕ
-open_scopes full w [] s = []
-open_scopes full w (x ∷ xs) s = open_block full w s ++ open_scopes full w xs (s + 1)
+-- ---- what has no line
 
 -- the number of tasks that don't live
 abbrev pub resting : List Task → ℕ
@@ -200,22 +187,16 @@ resting tasks = count_by (λ task. not (lives task)) tasks
 abbrev pub closed : List Scope → ℕ
 closed scopes = count_by (λ (scope : Scope). is_closed scope.phase) scopes
 
-abbrev pub resting_words : ℕ → List ℕ
-resting_words n = if n == 1 then codes " task that doesn't live" else codes " tasks that don't live"
-
-abbrev pub closed_words : ℕ → List ℕ
-closed_words n = if n == 1 then codes " closed scope" else codes " closed scopes"
+abbrev pub counted_word : ℕ → List ℕ → List ℕ → List ℕ
+counted_word n one several = if n == 1 then one else several
 
 -- how many tasks and scopes have no line
 abbrev pub others_line : ℕ → ℕ → List ℕ
 others_line tasks scopes =
-    codes "not shown: " ++ decimal tasks ++ resting_words tasks ++ codes ", " ++ decimal scopes
-    ++ ended (closed_words scopes)
+    codes "not shown: " ++ decimal tasks
+    ++ counted_word tasks (codes " task that doesn't live") (codes " tasks that don't live")
+    ++ codes ", " ++ decimal scopes
+    ++ ended (counted_word scopes (codes " closed scope") (codes " closed scopes"))
 
-abbrev pub others : World → List ℕ
-others w = others_line (resting w.tasks) (closed w.scopes)
-
--- the tasks that live and the scopes that are open, and how many others there are
-abbrev pub living_lines : Program → Bool → World → List ℕ
-living_lines p full w =
-    living_tasks p full w w.tasks 0 ++ (open_scopes full w w.scopes 0 ++ others w)
+abbrev pub others : ViewOptions → World → List ℕ
+others wanted w = if wanted.living then others_line (resting w.tasks) (closed w.scopes) else []

@@ -1,16 +1,20 @@
-//! The state of every task and scope after a trace, in lines.
+//! What is shown of a text's run of a trace, in any form, and its tasks and scopes in lines.
 #![tactic(auto)]
 
+mod form;
 mod of_text;
 mod others;
 mod scopes;
 mod tasks;
 mod view;
+mod views;
 mod watch;
 
-pub use of_text::{viewed, write_view};
+pub use form::{Form, Run};
+pub use of_text::{shown, write_run};
 pub use others::{closed, resting};
 pub use scopes::{phase_word, scope_place};
 pub use tasks::{is_heard, name_of, stand_words, under_words};
-pub use view::{ViewOptions, after, event_words, lines};
-pub use watch::Watch;
+pub use view::{ViewOptions, event_words, view_lines};
+pub use views::{View, after, view_output};
+pub use watch::{Applied, Watch};

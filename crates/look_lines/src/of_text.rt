@@ -1,51 +1,82 @@
-//! The state of a text's tasks and scopes after a trace.
+//! What is shown of a text and a trace, in any form.
 
 ghost use Rattle.std.specs.Prelude.{◌≡◌, IfOk};
 ghost use Rattle.sts_asm.specs.Text.{judged};
+ghost use Rattle.sts_trace.specs.Reading.{trace_read};
 ghost use Rattle.sts_output.specs.Output.{Output, Writes};
-ghost use Rattle.sts_output.specs.Stops.{Prints};
-ghost use Rattle.look_lines.specs.View as def;
+ghost use Rattle.look_lines.specs.Form as def;
 
-use crate::view::{ViewOptions, view};
-use std::alloc::Global;
+use crate::form::{Form, Run};
+use std::alloc::{AllocError, Global};
 use std::io::Write;
-use sts_output::{ModeError, Output, WriteFailed, events_of, program_of, write_shown};
+use sts_asm::assemble;
+use sts_code::Program;
+use sts_output::{Output, TakeError, WriteFailed, failed, written};
+use sts_trace::read_trace;
 
-/// Assembles the text, reads the trace, and gives the lines of the state after it.
+/// Reads the trace, and returns what is shown of the run of the program.
+fn traced<F: Form>(
+    alloc: Global,
+    form: &F,
+    program: &Program,
+    trace: &[u8],
+) -> Result<Output, AllocError>
+    ensures { IfOk result (λ o. o
+        ≡ def.traced_output (F.shows form.now) program.now (trace_read trace.now)) }
+{
+    match read_trace(alloc, trace) {
+        Ok(events) => form.of_run(
+            alloc,
+            Run {
+                program,
+                events: events.as_slice(),
+            },
+        ),
+        Err(error) => form.of_trace_fault(alloc, error),
+    }
+}
+
+/// Assembles the text, reads the trace, and returns what is shown of the run, or of the fault of
+/// one of them.
 ///
 /// # Errors
 ///
-/// The text or the trace has a fault, or memory ran out.
-pub fn viewed(
+/// Memory ran out.
+pub fn shown<F: Form>(
     alloc: Global,
-    wanted: ViewOptions,
+    form: &F,
     text: &[u8],
     trace: &[u8],
-) -> Result<Output, ModeError>
-    ensures { Prints result (λ o. o ≡ def.text_output (judged text.now) wanted trace.now) }
+) -> Result<Output, AllocError>
+    ensures { IfOk result (λ o. o
+        ≡ def.text_output (F.shows form.now) (judged text.now) trace.now) }
 {
-    let program = program_of(alloc, text)?;
-    let events = events_of(alloc, trace)?;
-    let output = view(alloc, &program, wanted, events.as_slice())?;
-    Ok(output)
+    match assemble(alloc, text) {
+        Ok(program) => traced(alloc, form, &program, trace),
+        Err(error) => form.of_text_fault(alloc, error),
+    }
 }
 
-/// Writes the lines of a text's state after a trace, and gives the status.
+/// Writes what is shown of a text and a trace, and returns the status.
 ///
 /// It takes all its memory before the first byte is written.
 ///
 /// # Errors
 ///
 /// A write failed.
-pub fn write_view<W: Write>(
+pub fn write_run<F: Form, W: Write>(
     alloc: Global,
-    wanted: ViewOptions,
+    form: &F,
     text: &[u8],
     trace: &[u8],
     out: &mut W,
 ) -> Result<u8, WriteFailed>
-    ensures { IfOk result (λ s. (o : Output) × def.IsViewOf wanted text.now trace.now o
+    ensures { IfOk result (λ s. (o : Output)
+        × def.IsShownOf (F.shows form.now) text.now trace.now o
         × Writes (W.contents out.old) (W.contents out.new) s o) }
 {
-    write_shown(viewed(alloc, wanted, text, trace), out)
+    match shown(alloc, form, text, trace) {
+        Ok(output) => written(out, output.text.as_bytes(), output.status),
+        Err(_) => failed(TakeError::Memory, out),
+    }
 }

@@ -6,6 +6,7 @@ ghost use Rattle.sts_code.specs.declared.limits.TheConstants.{MAX_BIRTHS};
 ghost use Rattle.look_lines.specs.Lines as def;
 
 use crate::scopes::is_closed;
+use crate::view::ViewOptions;
 use std::alloc::AllocError;
 use std::fmt::Write;
 use sts_world::Records;
@@ -36,42 +37,33 @@ pub fn closed(records: &Records) -> usize
     count
 }
 
-fn resting_words(n: usize) -> &'static str
-    ensures { result.now ≡ def.resting_words n }
+/// The word for one, or that for none or several.
+fn counted_word(n: usize, one: &'static str, several: &'static str) -> &'static str
+    ensures { result.now ≡ def.counted_word n one.now several.now }
 {
-    if n == 1 {
-        " task that doesn't live"
-    } else {
-        " tasks that don't live"
-    }
-}
-
-fn closed_words(n: usize) -> &'static str
-    ensures { result.now ≡ def.closed_words n }
-{
-    if n == 1 {
-        " closed scope"
-    } else {
-        " closed scopes"
-    }
+    if n == 1 { one } else { several }
 }
 
 fn others_line(out: &mut String, tasks: usize, scopes: usize) -> Result<(), AllocError>
     ensures { OnOk result (string_bytes out.new
         ≡ string_bytes out.old ++ def.others_line tasks scopes) }
 {
-    let after_tasks = resting_words(tasks);
-    let after_scopes = closed_words(scopes);
+    let after_tasks = counted_word(tasks, " task that doesn't live", " tasks that don't live");
+    let after_scopes = counted_word(scopes, " closed scope", " closed scopes");
     writeln!(
         out,
         "not shown: {tasks}{after_tasks}, {scopes}{after_scopes}"
     )
 }
 
-/// How many tasks don't live, and how many scopes are closed.
-pub fn others(out: &mut String, records: &Records) -> Result<(), AllocError>
+/// How many tasks don't live, and how many scopes are closed, if those have no line.
+pub fn others(out: &mut String, wanted: ViewOptions, records: &Records) -> Result<(), AllocError>
     ensures { OnOk result (string_bytes out.new
-        ≡ string_bytes out.old ++ def.others records.now) }
+        ≡ string_bytes out.old ++ def.others wanted records.now) }
 {
-    others_line(out, resting(records), closed(records))
+    if wanted.living {
+        others_line(out, resting(records), closed(records))
+    } else {
+        Ok(())
+    }
 }

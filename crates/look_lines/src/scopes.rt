@@ -8,6 +8,7 @@ ghost use Rattle.sts_model.specs.World as model;
 ghost use Rattle.look_lines.specs.Lines as def;
 
 use crate::tasks::{end_words, ended_by};
+use crate::view::ViewOptions;
 use std::alloc::AllocError;
 use std::fmt::Write;
 use sts_list::write_joiner;
@@ -83,34 +84,6 @@ fn told_lines(out: &mut String, completions: &[Completion]) -> Result<(), AllocE
     Ok(())
 }
 
-fn scope_block(out: &mut String, full: bool, records: &Records, s: u32) -> Result<(), AllocError>
-    ensures { OnOk result (string_bytes out.new
-        ≡ string_bytes out.old ++ def.scope_block full s (model.scope_at records.now s)) }
-{
-    scope_place(out, records, s)?;
-    scope_marks(out, records, s)?;
-    if full {
-        told_lines(out, records.completions(s))?;
-    }
-    Ok(())
-}
-
-/// The lines of all scopes that were ever born. In full they show all ends that the joiners
-/// counted.
-///
-/// # Errors
-///
-/// Memory ran out; `out` may then have a part of them.
-pub fn scope_lines(out: &mut String, full: bool, records: &Records) -> Result<(), AllocError>
-    ensures { OnOk result (string_bytes out.new
-        ≡ string_bytes out.old ++ def.scope_lines full records.now records.now.scopes 0) }
-{
-    for s in 0..records.scopes_born() {
-        scope_block(out, full, records, s as u32)?;
-    }
-    Ok(())
-}
-
 /// Is the scope closed?
 pub(crate) fn is_closed(records: &Records, s: u32) -> bool
     ensures { result ≡ living.is_closed (model.scope_at records.now s).phase }
@@ -118,27 +91,42 @@ pub(crate) fn is_closed(records: &Records, s: u32) -> bool
     matches!(records.phase(s), Phase::Closed)
 }
 
-fn open_block(out: &mut String, full: bool, records: &Records, s: u32) -> Result<(), AllocError>
+/// The lines of a scope that is wanted. In full they show all ends that the joiner counted.
+fn scope_block(
+    out: &mut String,
+    wanted: ViewOptions,
+    records: &Records,
+    s: u32,
+) -> Result<(), AllocError>
     ensures { OnOk result (string_bytes out.new
-        ≡ string_bytes out.old ++ def.open_block full records.now s) }
+        ≡ string_bytes out.old ++ def.scope_block wanted s (model.scope_at records.now s)) }
 {
-    if !is_closed(records, s) {
-        scope_block(out, full, records, s)?;
+    if wanted.living && is_closed(records, s) {
+        return Ok(());
+    }
+    scope_place(out, records, s)?;
+    scope_marks(out, records, s)?;
+    if wanted.full {
+        told_lines(out, records.completions(s))?;
     }
     Ok(())
 }
 
-/// The lines of all scopes that aren't closed. In full they show all ends that the joiners counted.
+/// The lines of all scopes that were ever born, or of those that aren't closed.
 ///
 /// # Errors
 ///
 /// Memory ran out; `out` may then have a part of them.
-pub fn open_scopes(out: &mut String, full: bool, records: &Records) -> Result<(), AllocError>
+pub fn scope_lines(
+    out: &mut String,
+    wanted: ViewOptions,
+    records: &Records,
+) -> Result<(), AllocError>
     ensures { OnOk result (string_bytes out.new
-        ≡ string_bytes out.old ++ def.open_scopes full records.now records.now.scopes 0) }
+        ≡ string_bytes out.old ++ def.scope_lines wanted records.now records.now.scopes 0) }
 {
     for s in 0..records.scopes_born() {
-        open_block(out, full, records, s as u32)?;
+        scope_block(out, wanted, records, s as u32)?;
     }
     Ok(())
 }

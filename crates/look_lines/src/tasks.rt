@@ -9,6 +9,7 @@ ghost use Rattle.sts_model.specs.World as model;
 ghost use Rattle.sts_output.specs.Printed.{ended};
 ghost use Rattle.look_lines.specs.Lines as def;
 
+use crate::view::ViewOptions;
 use std::alloc::AllocError;
 use std::fmt::Write;
 use sts_code::Program;
@@ -240,25 +241,30 @@ fn frame_lines(out: &mut String, records: &Records, t: u32) -> Result<(), AllocE
     bound_line(out, records, t)
 }
 
+/// The lines of a task that is wanted. In full they show the own state of a living task.
 fn task_block(
     out: &mut String,
     program: &Program,
-    full: bool,
+    wanted: ViewOptions,
     world: &World,
     t: u32,
 ) -> Result<(), AllocError>
     requires { t < length world.now.tasks }
     ensures { OnOk result (string_bytes out.new
-        ≡ string_bytes out.old ++ def.task_block program.now full world.now t) }
+        ≡ string_bytes out.old ++ def.task_block program.now wanted world.now t) }
 {
+    let lives = world.records().lives(t);
+    if wanted.living && !lives {
+        return Ok(());
+    }
     task_line(out, program, world, t)?;
-    if full && world.records().lives(t) {
+    if wanted.full && lives {
         frame_lines(out, world.records(), t)?;
     }
     Ok(())
 }
 
-/// The lines of all tasks that were ever born. In full they show the own state of living tasks.
+/// The lines of all tasks that were ever born, or of those that live.
 ///
 /// # Errors
 ///
@@ -266,51 +272,14 @@ fn task_block(
 pub fn task_lines(
     out: &mut String,
     program: &Program,
-    full: bool,
+    wanted: ViewOptions,
     world: &World,
 ) -> Result<(), AllocError>
     ensures { OnOk result (string_bytes out.new
-        ≡ string_bytes out.old ++ def.task_lines program.now full world.now world.now.tasks 0) }
+        ≡ string_bytes out.old ++ def.task_lines program.now wanted world.now world.now.tasks 0) }
 {
     for t in 0..world.records().tasks_born() {
-        task_block(out, program, full, world, t as u32)?;
-    }
-    Ok(())
-}
-
-fn living_block(
-    out: &mut String,
-    program: &Program,
-    full: bool,
-    world: &World,
-    t: u32,
-) -> Result<(), AllocError>
-    requires { t < length world.now.tasks }
-    ensures { OnOk result (string_bytes out.new
-        ≡ string_bytes out.old ++ def.living_block program.now full world.now t) }
-{
-    if world.records().lives(t) {
-        task_block(out, program, full, world, t)?;
-    }
-    Ok(())
-}
-
-/// The lines of all tasks that live. In full they show the own state of each.
-///
-/// # Errors
-///
-/// Memory ran out; `out` may then have a part of them.
-pub fn living_tasks(
-    out: &mut String,
-    program: &Program,
-    full: bool,
-    world: &World,
-) -> Result<(), AllocError>
-    ensures { OnOk result (string_bytes out.new
-        ≡ string_bytes out.old ++ def.living_tasks program.now full world.now world.now.tasks 0) }
-{
-    for t in 0..world.records().tasks_born() {
-        living_block(out, program, full, world, t as u32)?;
+        task_block(out, program, wanted, world, t as u32)?;
     }
     Ok(())
 }

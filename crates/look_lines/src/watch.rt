@@ -14,6 +14,14 @@ use sts_model::Event;
 use sts_plain::{Misstep, Plain, PlainState, can_step, misuse};
 use sts_world::World;
 
+/// An event that was applied: its number, counted from 1, and whether it counted.
+#[derive(Clone, Copy, Debug, PartialEq, Eq)]
+pub struct Applied {
+    pub number: usize,
+    pub event: Event,
+    pub is_counted: bool,
+}
+
 /// A plain machine that runs, and the fault that stopped it, if there was one.
 #[derive(Drop)]
 pub struct Watch<'p> {
@@ -160,5 +168,33 @@ impl<'p> Watch<'p> {
             }
             None => self.plain.apply(alloc, event),
         }
+    }
+
+    /// Applies the event of this number, and tells whether it counted.
+    ///
+    /// # Errors
+    ///
+    /// Memory ran out; the machine is unchanged.
+    pub fn apply_numbered(
+        &mut self,
+        alloc: Global,
+        number: usize,
+        event: Event,
+    ) -> Result<Applied, AllocError>
+        ensures applied { IfOk result (λ a. a ≡ record {
+          number = number;
+          event = event;
+          is_counted = run.counts self.old.program self.old.state event;
+        }) }
+        ensures ok { OnOk result (self.new ≡ after_event self.old event) }
+        ensures err { OnErr result (self.new ≡ self.old) }
+    {
+        let is_counted = self.counts(event);
+        self.apply(alloc, event)?;
+        Ok(Applied {
+            number,
+            event,
+            is_counted,
+        })
     }
 }

@@ -6,17 +6,19 @@ ghost use Rattle.look_page.specs.Printed.{Prints};
 
 use crate::ending::wanted;
 use look_ends::{Silent, write_ends};
-use look_lines::{ViewOptions, write_view};
-use look_picture::{Window, write_picture};
+use look_lines::{ViewOptions, write_run};
+use look_picture::{Picture, Window};
 use look_refusal::explain;
 use look_run::explain_run;
 use std::alloc::Global;
 use sts_output::{TextMode, WriteFailed, play_text};
 
-/// The events from the first to the last that a trace may have.
-const ALL_EVENTS: Window = Window {
-    first: 1,
-    last: u32::MAX,
+/// The picture of the events from the first to the last that a trace may have.
+const ALL: Picture = Picture {
+    window: Some(Window {
+        first: 1,
+        last: u32::MAX,
+    }),
 };
 
 /// The request of a caller.
@@ -48,10 +50,10 @@ pub(crate) fn print(
 {
     match asked {
         Asked::Mode(mode) => play_text(alloc, mode, text, trace, printed),
-        Asked::View(wanted) => write_view(alloc, wanted, text, trace, printed),
+        Asked::View(wanted) => write_run(alloc, &wanted, text, trace, printed),
         Asked::Explanation => explain(alloc, text, printed),
         Asked::RunExplanation => explain_run(alloc, text, trace, printed),
-        Asked::Picture => write_picture(alloc, Some(ALL_EVENTS), text, trace, printed),
+        Asked::Picture => write_run(alloc, &ALL, text, trace, printed),
         Asked::Ends(most) => write_ends(alloc, wanted(most), text, &mut Silent, printed),
     }
 }

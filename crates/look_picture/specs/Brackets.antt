@@ -52,9 +52,9 @@ has_expired before w s = (scope_at w s).expired && not (scope_at before s).expir
 abbrev pub was_cancelled : World → World → ℕ → Bool
 was_cancelled before w s = (scope_at w s).cancelled && not (scope_at before s).cancelled
 
--- the mark for what is new of a scope
+-- a mark of a scope, if it is to be shown
 abbrev pub mark_if : Bool → Mark → World → ℕ → ℕ → List ℕ → List ℕ
-mark_if is_new m w x s word = if is_new then scope_mark m w x s word else []
+mark_if is_shown m w x s word = if is_shown then scope_mark m w x s word else []
 
 -- the marks for a change of its phase, for an expiry and for a cancel
 abbrev pub edges : World → World → ℕ → ℕ → List ℕ

@@ -1,23 +1,22 @@
 -- A run as a picture: a lane for each task, a column for each event (this project's own).
-use Rattle.std.specs.Prelude.{◌≡◌, ◌⊎◌, ℕ, ◌+◌, ◌-◌, ◌*◌, Bool, true, false, if◌then◌else◌, List, ◌∷◌, [], ◌++◌, length, take, drop, codes, Result, Ok, Err, Option}
+use Rattle.std.specs.Prelude.{ℕ, ◌+◌, ◌-◌, ◌*◌, Bool, true, false, if◌then◌else◌, List, ◌∷◌, [], ◌++◌, length, take, drop, codes, Option}
 use Rattle.std.specs.Fmt.{decimal}
 use Rattle.sts_code.specs.Program.{Program}
 use Rattle.sts_model.specs.declared.event.Event.{Event}
 use Rattle.sts_model.specs.declared.event.Event.TheVariants as event
-use Rattle.sts_model.specs.Run.{after, counts}
+use Rattle.sts_model.specs.Run.{after}
 use Rattle.sts_model.specs.World.{World}
-use Rattle.sts_asm.specs.declared.fault.AsmError.{AsmError}
-use Rattle.sts_asm.specs.Text.{judged}
 use Rattle.sts_plain.specs.declared.misstep.PlainState.{PlainState}
 use Rattle.sts_plain.specs.declared.misstep.PlainState.TheVariants as plain
 use Rattle.sts_plain.specs.Seen.{shown}
-use Rattle.sts_trace.specs.declared.error.TraceError.{TraceError}
-use Rattle.sts_trace.specs.Reading.{trace_read}
 use Rattle.sts_trace.specs.Spelling.{event_text}
-use Rattle.sts_output.specs.Output.{Output, memory_output, state_status, text_fault_output, trace_fault_output}
+use Rattle.sts_output.specs.Output.{Output, state_status}
 use Rattle.sts_output.specs.Printed.{state_line, steps_line}
-use Rattle.look_lines.specs.View.{lines_of}
+use Rattle.look_lines.specs.Form.{Form, IsShownOf, plain_form}
+use Rattle.look_lines.specs.View.{view_lines}
+use Rattle.look_lines.specs.Views.{applied}
 use Rattle.look_lines.specs.Watched.{Watched, watched}
+use Rattle.look_lines.specs.declared.watch.Applied.{Applied}
 use Rattle.look_picture.specs.declared.marks.Mark.TheVariants as mark
 use Rattle.look_picture.specs.Brackets.{scope_cells}
 use Rattle.look_picture.specs.Lanes.{lane_names, task_cells}
@@ -60,23 +59,23 @@ abbrev pub number_end : ℕ → List ℕ → List ℕ
 number_end n idle = idle ++ codes "</title>" ++ decimal n ++ codes "</text>\n"
 
 -- the event's number above the lanes, struck if it doesn't count
-abbrev pub number : ℕ → ℕ → Event → Bool → List ℕ
-number at n e is_counted =
-    text_start (number_class is_counted) (column at) 44
-    ++ (codes "<title>" ++ (event_text e ++ number_end n (idle_word is_counted)))
+abbrev pub number : ℕ → Applied → List ℕ
+number at a =
+    text_start (number_class a.is_counted) (column at) 44
+    ++ (codes "<title>" ++ (event_text a.event ++ number_end a.number (idle_word a.is_counted)))
 
--- the n-th event in this column, from what was seen before it and what is seen after it
-abbrev pub event_column : Watched → Watched → ℕ → ℕ → Event → Bool → List ℕ
-event_column before m at n e is_counted =
-    number at n e is_counted ++ (standing before m (column at) is_counted (shown m.state)
-    ++ stepped (column at) e is_counted)
+-- an event in this column, from what was seen before it and what is seen after it
+abbrev pub event_column : Watched → Watched → ℕ → Applied → List ℕ
+event_column before m at a =
+    number at a ++ (standing before m (column at) a.is_counted (shown m.state)
+    ++ stepped (column at) a.event a.is_counted)
 
 -- the columns of these events, if those came before; the first ones have none
 abbrev pub columns_from : Program → ℕ → List Event → List Event → List ℕ
 columns_from p skipped done [] = []
 columns_from p skipped done (e ∷ es) =
     event_column (watched p done) (watched p (done ++ e ∷ [])) (length done + 1 - skipped)
-    (length done + 1) e (counts p (after p done) e)
+    (applied p done e)
     ++ columns_from p skipped (done ++ e ∷ []) es
 
 -- the column before the first event that has one; nothing changed there
@@ -107,7 +106,7 @@ sized m events = svg_start (width events) (height (length m.last.tasks))
 
 -- the lines of all tasks and scopes
 unfoldable pub standing_lines : Watched → List ℕ
-standing_lines m = lines_of false m
+standing_lines m = view_lines (record { each = false; full = false; living = false }) m
 
 unfoldable pub description_start : List ℕ
 description_start = codes "</title>\n<desc>"
@@ -170,18 +169,9 @@ picture_output p window events =
     drawn_output p (shown_events window (length events))
     (take (shown_events window (length events)).last events)
 
--- ---- of a text and a trace
-
-abbrev pub traced_output : Program → Option Window → Result (List Event) TraceError → Output
-traced_output p window (Ok events) = picture_output p window events
-traced_output p window (Err e) = trace_fault_output e
-
--- a fault of the text comes before one of the trace
-abbrev pub text_output : Result Program AsmError → Option Window → List ℕ → Output
-text_output (Ok p) window trace = traced_output p window (trace_read trace)
-text_output (Err e) window trace = text_fault_output e
+abbrev pub picture_form : Option Window → Form
+picture_form window = plain_form (λ p events. picture_output p window events)
 
 -- what `look draw` prints for a text and a trace, or that memory ran out
 abbrev pub IsPictureOf : Option Window → List ℕ → List ℕ → Output → Type 0
-IsPictureOf window text trace output =
-    (output ≡ text_output (judged text) window trace) ⊎ (output ≡ memory_output)
+IsPictureOf window text trace output = IsShownOf (picture_form window) text trace output

@@ -1,11 +1,14 @@
 //! The scopes in a column.
 
-ghost use Rattle.std.specs.Prelude.{◌≡◌, ◌++◌, ◌<◌, ◌^◌, OnOk, length};
+ghost use Rattle.std.specs.Prelude.{◌≡◌, ◌++◌, ◌<◌, OnOk, length};
 ghost use Rattle.std.specs.String.{string_bytes};
 ghost use Rattle.sts_model.specs.Living as living;
 ghost use Rattle.sts_model.specs.World as model;
+ghost use Rattle.look_lines.specs.Lines as lines;
 ghost use Rattle.look_picture.specs.Brackets as def;
+ghost use Rattle.look_picture.specs.Place as place;
 
+use crate::change::Change;
 use crate::marks::Mark;
 use crate::place::bracket;
 use crate::writing::{mark_end, mark_start, text_end, text_start};
@@ -13,7 +16,6 @@ use look_lines::{phase_word, scope_place};
 use std::alloc::AllocError;
 use std::fmt::Write;
 use sts_model::Phase;
-use sts_world::Records;
 
 fn is_closed(phase: Phase) -> bool
     ensures { result ≡ living.is_closed phase }
@@ -21,33 +23,51 @@ fn is_closed(phase: Phase) -> bool
     matches!(phase, Phase::Closed)
 }
 
-/// A mark of a scope, described by the scope's place and this word.
-fn scope_mark(
+/// The height of a scope's bracket.
+fn height_of(change: Change<'_>, s: u32) -> u64
+    requires { s < length change.world.now.scopes }
+    ensures { result ≡ place.bracket change.entry.world.now s }
+{
+    bracket(change.world.records(), s)
+}
+
+/// The place of a scope, as its line has it.
+fn place_words(out: &mut String, change: Change<'_>, s: u32) -> Result<(), AllocError>
+    ensures { OnOk result (string_bytes out.new ≡ string_bytes out.old
+        ++ lines.scope_place s (model.scope_at change.entry.world.now s)) }
+{
+    scope_place(out, change.world.records(), s)
+}
+
+/// A mark of a scope, described by the scope's place and this word, if it is to be shown.
+fn mark_if(
     out: &mut String,
+    is_shown: bool,
     mark: Mark,
-    records: &Records,
-    x: u128,
+    change: Change<'_>,
     s: u32,
     word: &str,
 ) -> Result<(), AllocError>
-    requires { s < length records.now.scopes }
-    ensures { OnOk result (string_bytes out.new
-        ≡ string_bytes out.old ++ def.scope_mark mark records.now x s word.now) }
+    requires { s < length change.world.now.scopes }
+    ensures { OnOk result (string_bytes out.new ≡ string_bytes out.old
+        ++ def.mark_if is_shown mark change.entry.world.now change.entry.x s word.now) }
 {
-    mark_start(out, mark, x, bracket(records, s))?;
-    scope_place(out, records, s)?;
+    if !is_shown {
+        return Ok(());
+    }
+    mark_start(out, mark, change.x, height_of(change, s))?;
+    place_words(out, change, s)?;
     write!(out, " {word}")?;
     mark_end(out)
 }
 
 /// The scope's number, at the place of its opening.
-fn scope_number(out: &mut String, records: &Records, x: u128, s: u32) -> Result<(), AllocError>
-    requires born { s < length records.now.scopes }
-    requires near { x < 2 ^ 127 }
-    ensures { OnOk result (string_bytes out.new
-        ≡ string_bytes out.old ++ def.scope_number records.now x s) }
+fn scope_number(out: &mut String, change: Change<'_>, s: u32) -> Result<(), AllocError>
+    requires { s < length change.world.now.scopes }
+    ensures { OnOk result (string_bytes out.new ≡ string_bytes out.old
+        ++ def.scope_number change.entry.world.now change.entry.x s) }
 {
-    text_start(out, "label", x + 4, bracket(records, s) + 3)?;
+    text_start(out, "label", change.x + 4, height_of(change, s) + 3)?;
     write!(out, "{s}")?;
     text_end(out)
 }
@@ -62,26 +82,19 @@ fn line_mark(phase: Phase) -> Mark
 }
 
 /// A scope that isn't closed: its number in its first column, a line in each later one.
-fn span(
-    out: &mut String,
-    before: &Records,
-    records: &Records,
-    x: u128,
-    s: u32,
-) -> Result<(), AllocError>
-    requires born { s < length records.now.scopes }
-    requires near { x < 2 ^ 127 }
-    ensures { OnOk result (string_bytes out.new
-        ≡ string_bytes out.old ++ def.span before.now records.now x s) }
+fn span(out: &mut String, change: Change<'_>, s: u32) -> Result<(), AllocError>
+    requires { s < length change.world.now.scopes }
+    ensures { OnOk result (string_bytes out.new ≡ string_bytes out.old
+        ++ def.span change.entry.before.now change.entry.world.now change.entry.x s) }
 {
-    let phase = records.phase(s);
+    let phase = change.world.records().phase(s);
     if is_closed(phase) {
         return Ok(());
     }
-    if is_closed(before.phase(s)) {
-        return scope_number(out, records, x, s);
+    if is_closed(change.before.records().phase(s)) {
+        return scope_number(out, change, s);
     }
-    scope_mark(out, line_mark(phase), records, x, s, phase_word(phase))
+    mark_if(out, true, line_mark(phase), change, s, phase_word(phase))
 }
 
 fn phase_number(phase: Phase) -> u8
@@ -97,104 +110,67 @@ fn phase_number(phase: Phase) -> u8
 }
 
 /// Is its phase another one than in the column before?
-fn has_moved(before: &Records, records: &Records, s: u32) -> bool
-    ensures { result ≡ def.has_moved before.now records.now s }
+fn has_moved(change: Change<'_>, s: u32) -> bool
+    ensures { result ≡ def.has_moved change.entry.before.now change.entry.world.now s }
 {
-    phase_number(before.phase(s)) != phase_number(records.phase(s))
+    let before = change.before.records().phase(s);
+    phase_number(before) != phase_number(change.world.records().phase(s))
 }
 
 /// Was its time up since the column before?
-fn has_expired(before: &Records, records: &Records, s: u32) -> bool
-    ensures { result ≡ def.has_expired before.now records.now s }
+fn has_expired(change: Change<'_>, s: u32) -> bool
+    ensures { result ≡ def.has_expired change.entry.before.now change.entry.world.now s }
 {
-    records.is_expired(s) && !before.is_expired(s)
+    change.world.records().is_expired(s) && !change.before.records().is_expired(s)
 }
 
 /// Was it cancelled since the column before?
-fn was_cancelled(before: &Records, records: &Records, s: u32) -> bool
-    ensures { result ≡ def.was_cancelled before.now records.now s }
+fn was_cancelled(change: Change<'_>, s: u32) -> bool
+    ensures { result ≡ def.was_cancelled change.entry.before.now change.entry.world.now s }
 {
-    records.is_cancelled(s) && !before.is_cancelled(s)
-}
-
-/// The mark for what is new of a scope.
-fn mark_if(
-    out: &mut String,
-    is_new: bool,
-    mark: Mark,
-    records: &Records,
-    x: u128,
-    s: u32,
-    word: &str,
-) -> Result<(), AllocError>
-    requires { s < length records.now.scopes }
-    ensures { OnOk result (string_bytes out.new
-        ≡ string_bytes out.old ++ def.mark_if is_new mark records.now x s word.now) }
-{
-    if is_new {
-        scope_mark(out, mark, records, x, s, word)
-    } else {
-        Ok(())
-    }
+    change.world.records().is_cancelled(s) && !change.before.records().is_cancelled(s)
 }
 
 /// The marks for a change of its phase, for an expiry and for a cancel.
-fn edges(
-    out: &mut String,
-    before: &Records,
-    records: &Records,
-    x: u128,
-    s: u32,
-) -> Result<(), AllocError>
-    requires { s < length records.now.scopes }
-    ensures { OnOk result (string_bytes out.new
-        ≡ string_bytes out.old ++ def.edges before.now records.now x s) }
+fn edges(out: &mut String, change: Change<'_>, s: u32) -> Result<(), AllocError>
+    requires { s < length change.world.now.scopes }
+    ensures { OnOk result (string_bytes out.new ≡ string_bytes out.old
+        ++ def.edges change.entry.before.now change.entry.world.now change.entry.x s) }
 {
-    let word = phase_word(records.phase(s));
-    let moved = has_moved(before, records, s);
-    let expired = has_expired(before, records, s);
-    let cancelled = was_cancelled(before, records, s);
-    mark_if(out, moved, Mark::Edge, records, x, s, word)?;
-    mark_if(out, expired, Mark::Expired, records, x, s, "expired")?;
-    mark_if(out, cancelled, Mark::Cancelled, records, x, s, "cancelled")
+    let word = phase_word(change.world.records().phase(s));
+    let moved = has_moved(change, s);
+    let expired = has_expired(change, s);
+    let cancelled = was_cancelled(change, s);
+    mark_if(out, moved, Mark::Edge, change, s, word)?;
+    mark_if(out, expired, Mark::Expired, change, s, "expired")?;
+    mark_if(out, cancelled, Mark::Cancelled, change, s, "cancelled")
 }
 
-fn scope_cell(
-    out: &mut String,
-    before: &Records,
-    records: &Records,
-    x: u128,
-    s: u32,
-) -> Result<(), AllocError>
-    requires born { s < length records.now.scopes }
-    requires near { x < 2 ^ 127 }
-    ensures { OnOk result (string_bytes out.new
-        ≡ string_bytes out.old ++ def.scope_cell before.now records.now x s) }
+fn scope_cell(out: &mut String, change: Change<'_>, s: u32) -> Result<(), AllocError>
+    requires { s < length change.world.now.scopes }
+    ensures { OnOk result (string_bytes out.new ≡ string_bytes out.old
+        ++ def.scope_cell change.entry.before.now change.entry.world.now change.entry.x s) }
 {
-    if is_closed(before.phase(s)) && is_closed(records.phase(s)) {
+    let phase = change.world.records().phase(s);
+    if is_closed(change.before.records().phase(s)) && is_closed(phase) {
         return Ok(());
     }
-    span(out, before, records, x, s)?;
-    edges(out, before, records, x, s)
+    span(out, change, s)?;
+    edges(out, change, s)
 }
 
-/// The cells at `x` of all scopes that were ever born, after the column of `before`.
+/// The cells of all scopes that were ever born.
 ///
 /// # Errors
 ///
 /// Memory ran out; `out` may then have a part of it.
-pub fn scope_cells(
-    out: &mut String,
-    before: &Records,
-    records: &Records,
-    x: u128,
-) -> Result<(), AllocError>
-    requires { x < 2 ^ 127 }
+pub fn scope_cells(out: &mut String, change: Change<'_>) -> Result<(), AllocError>
     ensures { OnOk result (string_bytes out.new ≡ string_bytes out.old
-        ++ def.scope_cells before.now records.now x records.now.scopes 0) }
+        ++ def.scope_cells change.entry.before.now change.entry.world.now change.entry.x
+        change.entry.world.now.scopes 0) }
 {
-    for s in 0..records.scopes_born() {
-        scope_cell(out, before, records, x, s as u32)?;
+    for s in 0..change.world.records().scopes_born() {
+        scope_cell(out, change, s as u32)?;
     }
     Ok(())
 }

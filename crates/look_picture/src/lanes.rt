@@ -1,10 +1,10 @@
 //! The tasks in a column, and the names of the lanes.
 
-ghost use Rattle.std.specs.Prelude.{◌≡◌, ◌++◌, ◌<◌, ◌^◌, OnOk, length};
+ghost use Rattle.std.specs.Prelude.{◌≡◌, ◌++◌, ◌<◌, OnOk, length};
 ghost use Rattle.std.specs.String.{string_bytes};
-ghost use Rattle.sts_model.specs.World as model;
 ghost use Rattle.look_picture.specs.Lanes as def;
 
+use crate::change::Change;
 use crate::marks::Mark;
 use crate::place::lane;
 use crate::writing::{mark_end, mark_start, text_end, text_start};
@@ -14,7 +14,7 @@ use std::fmt::Write;
 use sts_code::Program;
 use sts_model::End;
 use sts_plain::can_step;
-use sts_world::{Records, World};
+use sts_world::Records;
 
 /// The line of a task that lives.
 fn life_mark(is_ready: bool) -> Mark
@@ -43,105 +43,88 @@ fn rests(records: &Records, t: u32) -> bool
 }
 
 /// `task T`, and its state.
-fn told(out: &mut String, program: &Program, world: &World, t: u32) -> Result<(), AllocError>
-    requires { t < length world.now.tasks }
+fn told(out: &mut String, change: Change<'_>, t: u32) -> Result<(), AllocError>
+    requires { t < length change.world.now.tasks }
     ensures { OnOk result (string_bytes out.new
-        ≡ string_bytes out.old ++ def.told program.now world.now t) }
+        ≡ string_bytes out.old ++ def.told change.entry.program.now change.entry.world.now t) }
 {
     write!(out, "task {t}")?;
-    stand_words(out, program, world, t)
+    stand_words(out, change.program, change.world, t)
 }
 
 /// The value or the code that a task ended with, next to the mark.
-fn value_text(out: &mut String, x: u128, t: u32, end: Option<End>) -> Result<(), AllocError>
-    requires { x < 2 ^ 127 }
+fn value_text(
+    out: &mut String,
+    change: Change<'_>,
+    t: u32,
+    end: Option<End>,
+) -> Result<(), AllocError>
     ensures { OnOk result (string_bytes out.new
-        ≡ string_bytes out.old ++ def.value_text x t end) }
+        ≡ string_bytes out.old ++ def.value_text change.entry.x t end) }
 {
     let Some(End::Success(value) | End::Failed(value)) = end else {
         return Ok(());
     };
-    text_start(out, "value", x + 22, lane(t) + 4)?;
+    text_start(out, "value", change.x + 22, lane(t) + 4)?;
     write!(out, "{value}")?;
     text_end(out)
 }
 
 /// A task that lives.
-fn life(
-    out: &mut String,
-    program: &Program,
-    world: &World,
-    x: u128,
-    t: u32,
-) -> Result<(), AllocError>
-    requires { t < length world.now.tasks }
-    ensures { OnOk result (string_bytes out.new
-        ≡ string_bytes out.old ++ def.life program.now world.now x t) }
+fn life(out: &mut String, change: Change<'_>, t: u32) -> Result<(), AllocError>
+    requires { t < length change.world.now.tasks }
+    ensures { OnOk result (string_bytes out.new ≡ string_bytes out.old
+        ++ def.life change.entry.program.now change.entry.world.now change.entry.x t) }
 {
-    let mark = life_mark(can_step(world, program, t));
-    mark_start(out, mark, x, lane(t))?;
-    told(out, program, world, t)?;
+    let mark = life_mark(can_step(change.world, change.program, t));
+    mark_start(out, mark, change.x, lane(t))?;
+    told(out, change, t)?;
     mark_end(out)
 }
 
 /// The mark of a task that doesn't live.
 fn rest_line(
     out: &mut String,
-    program: &Program,
-    world: &World,
-    x: u128,
+    change: Change<'_>,
     t: u32,
     is_heard: bool,
     end: Option<End>,
 ) -> Result<(), AllocError>
-    requires { t < length world.now.tasks }
-    ensures { OnOk result (string_bytes out.new
-        ≡ string_bytes out.old ++ def.rest_line program.now world.now x t is_heard end) }
+    requires { t < length change.world.now.tasks }
+    ensures { OnOk result (string_bytes out.new ≡ string_bytes out.old
+        ++ def.rest_line change.entry.program.now change.entry.world.now change.entry.x t is_heard
+        end) }
 {
-    mark_start(out, rest_mark(is_heard, end), x, lane(t))?;
-    told(out, program, world, t)?;
+    mark_start(out, rest_mark(is_heard, end), change.x, lane(t))?;
+    told(out, change, t)?;
     mark_end(out)
 }
 
 /// A task that doesn't live.
-fn rest(
-    out: &mut String,
-    program: &Program,
-    world: &World,
-    x: u128,
-    t: u32,
-) -> Result<(), AllocError>
-    requires born { t < length world.now.tasks }
-    requires near { x < 2 ^ 127 }
-    ensures { OnOk result (string_bytes out.new
-        ≡ string_bytes out.old ++ def.rest program.now world.now x t) }
+fn rest(out: &mut String, change: Change<'_>, t: u32) -> Result<(), AllocError>
+    requires { t < length change.world.now.tasks }
+    ensures { OnOk result (string_bytes out.new ≡ string_bytes out.old
+        ++ def.rest change.entry.program.now change.entry.world.now change.entry.x t) }
 {
-    let end = world.records().outcome(t);
-    rest_line(out, program, world, x, t, is_heard(world, t), end)?;
-    value_text(out, x, t, end)
+    let end = change.world.records().outcome(t);
+    rest_line(out, change, t, is_heard(change.world, t), end)?;
+    value_text(out, change, t, end)
 }
 
 /// A task that lives in this column, or that lived or wasn't born in the column before.
-fn stand(
-    out: &mut String,
-    program: &Program,
-    before: &World,
-    world: &World,
-    x: u128,
-    t: u32,
-) -> Result<(), AllocError>
-    requires born { t < length world.now.tasks }
-    requires near { x < 2 ^ 127 }
-    ensures { OnOk result (string_bytes out.new
-        ≡ string_bytes out.old ++ def.stand program.now before.now world.now x t) }
+fn stand(out: &mut String, change: Change<'_>, t: u32) -> Result<(), AllocError>
+    requires { t < length change.world.now.tasks }
+    ensures { OnOk result (string_bytes out.new ≡ string_bytes out.old
+        ++ def.stand change.entry.program.now change.entry.before.now change.entry.world.now
+        change.entry.x t) }
 {
-    if world.records().lives(t) {
-        return life(out, program, world, x, t);
+    if change.world.records().lives(t) {
+        return life(out, change, t);
     }
-    if rests(before.records(), t) {
+    if rests(change.before.records(), t) {
         return Ok(());
     }
-    rest(out, program, world, x, t)
+    rest(out, change, t)
 }
 
 /// A line from one height to another.
@@ -169,72 +152,53 @@ fn fork_line(
 }
 
 /// The fork of a task that wasn't born in the column before.
-fn birth(out: &mut String, before: &World, world: &World, x: u128, t: u32) -> Result<(), AllocError>
-    ensures { OnOk result (string_bytes out.new
-        ≡ string_bytes out.old ++ def.birth before.now world.now x t) }
+fn birth(out: &mut String, change: Change<'_>, t: u32) -> Result<(), AllocError>
+    ensures { OnOk result (string_bytes out.new ≡ string_bytes out.old
+        ++ def.birth change.entry.before.now change.entry.world.now change.entry.x t) }
 {
-    if (t as usize) < before.records().tasks_born() {
+    if (t as usize) < change.before.records().tasks_born() {
         return Ok(());
     }
-    let records = world.records();
-    fork_line(out, records, x, t, records.parent(t))
+    let records = change.world.records();
+    fork_line(out, records, change.x, t, records.parent(t))
 }
 
 /// An interrupt flag that wasn't set in the column before.
-fn interrupted(
-    out: &mut String,
-    before: &World,
-    world: &World,
-    x: u128,
-    t: u32,
-) -> Result<(), AllocError>
-    ensures { OnOk result (string_bytes out.new
-        ≡ string_bytes out.old ++ def.interrupted before.now world.now x t) }
+fn interrupted(out: &mut String, change: Change<'_>, t: u32) -> Result<(), AllocError>
+    ensures { OnOk result (string_bytes out.new ≡ string_bytes out.old
+        ++ def.interrupted change.entry.before.now change.entry.world.now change.entry.x t) }
 {
-    if !world.records().flag(t) || before.records().flag(t) {
+    if !change.world.records().flag(t) || change.before.records().flag(t) {
         return Ok(());
     }
-    mark_start(out, Mark::Interrupted, x, lane(t))?;
+    mark_start(out, Mark::Interrupted, change.x, lane(t))?;
     write!(out, "task {t} interrupted")?;
     mark_end(out)
 }
 
-fn task_cell(
-    out: &mut String,
-    program: &Program,
-    before: &World,
-    world: &World,
-    x: u128,
-    t: u32,
-) -> Result<(), AllocError>
-    requires born { t < length world.now.tasks }
-    requires near { x < 2 ^ 127 }
-    ensures { OnOk result (string_bytes out.new
-        ≡ string_bytes out.old ++ def.task_cell program.now before.now world.now x t) }
+fn task_cell(out: &mut String, change: Change<'_>, t: u32) -> Result<(), AllocError>
+    requires { t < length change.world.now.tasks }
+    ensures { OnOk result (string_bytes out.new ≡ string_bytes out.old
+        ++ def.task_cell change.entry.program.now change.entry.before.now change.entry.world.now
+        change.entry.x t) }
 {
-    birth(out, before, world, x, t)?;
-    stand(out, program, before, world, x, t)?;
-    interrupted(out, before, world, x, t)
+    birth(out, change, t)?;
+    stand(out, change, t)?;
+    interrupted(out, change, t)
 }
 
-/// The cells at `x` of all tasks that were ever born, after the column of `before`.
+/// The cells of all tasks that were ever born.
 ///
 /// # Errors
 ///
 /// Memory ran out; `out` may then have a part of it.
-pub fn task_cells(
-    out: &mut String,
-    program: &Program,
-    before: &World,
-    world: &World,
-    x: u128,
-) -> Result<(), AllocError>
-    requires { x < 2 ^ 127 }
+pub fn task_cells(out: &mut String, change: Change<'_>) -> Result<(), AllocError>
     ensures { OnOk result (string_bytes out.new ≡ string_bytes out.old
-        ++ def.task_cells program.now before.now world.now x world.now.tasks 0) }
+        ++ def.task_cells change.entry.program.now change.entry.before.now change.entry.world.now
+        change.entry.x change.entry.world.now.tasks 0) }
 {
-    for t in 0..world.records().tasks_born() {
-        task_cell(out, program, before, world, x, t as u32)?;
+    for t in 0..change.world.records().tasks_born() {
+        task_cell(out, change, t as u32)?;
     }
     Ok(())
 }

@@ -3,41 +3,36 @@
 ghost use Rattle.std.specs.Prelude.{◌≡◌, ◌++◌, ◌<◌, ◌≤◌, ◌^◌, OnOk, IfOk, length, take, drop, false};
 ghost use Rattle.std.specs.String.{string_bytes};
 ghost use Rattle.sts_code.specs.declared.limits.TheConstants.{MAX_BIRTHS};
-ghost use Rattle.sts_model.specs.Run as run;
-ghost use Rattle.sts_plain.specs.Seen as seen;
-ghost use Rattle.look_lines.specs.Watched.{after_event, watched};
+ghost use Rattle.sts_plain.specs.Seen.{shown};
+ghost use Rattle.look_lines.specs.Watched.{watched};
 ghost use Rattle.look_picture.specs.Picture as def;
 
 use crate::brackets::scope_cells;
+use crate::change::Change;
 use crate::lanes::{lane_names, task_cells};
 use crate::marks::Mark;
 use crate::place::{column, height, lane, width};
 use crate::style::{legend, style};
 use crate::window::{Drawn, Window, left_out, shown_events};
 use crate::writing::{mark_end, mark_start, text_end, text_start};
-use look_lines::{Watch, after, event_words, lines};
+use look_lines::{Applied, Form, Run, ViewOptions, Watch, after, event_words, view_lines};
 use std::alloc::{AllocError, Global};
 use std::fmt::Write;
+use sts_asm::AsmError;
 use sts_code::Program;
 use sts_model::Event;
-use sts_output::{Output, state_line, state_status, steps_line};
+use sts_output::{Output, state_line, state_status, steps_line, text_fault, trace_fault};
 use sts_plain::PlainState;
-use sts_world::World;
+use sts_trace::TraceError;
 
 /// All cells of a world in a column, with the changes since the column before.
-fn cells(
-    out: &mut String,
-    program: &Program,
-    before: &World,
-    world: &World,
-    x: u128,
-) -> Result<(), AllocError>
-    requires { x < 2 ^ 127 }
-    ensures { OnOk result (string_bytes out.new
-        ≡ string_bytes out.old ++ def.cells program.now before.now world.now x) }
+fn cells(out: &mut String, change: Change<'_>) -> Result<(), AllocError>
+    ensures { OnOk result (string_bytes out.new ≡ string_bytes out.old
+        ++ def.cells change.entry.program.now change.entry.before.now change.entry.world.now
+        change.entry.x) }
 {
-    task_cells(out, program, before, world, x)?;
-    scope_cells(out, before.records(), world.records(), x)
+    task_cells(out, change)?;
+    scope_cells(out, change)
 }
 
 /// A step of this task that was a fault.
@@ -50,36 +45,49 @@ fn fault_mark(out: &mut String, watch: &Watch<'_>, x: u128, t: u32) -> Result<()
     mark_end(out)
 }
 
+/// A machine before an event and after it.
+#[derive(Clone, Copy)]
+struct Seen<'s, 'p> {
+    before: &'s Watch<'p>,
+    watch: &'s Watch<'p>,
+}
+
 /// The cells of a column; after a fault only the fault, in its own column.
 fn standing(
     out: &mut String,
-    before: &Watch<'_>,
-    watch: &Watch<'_>,
+    seen: Seen<'_, '_>,
     x: u128,
     is_counted: bool,
 ) -> Result<(), AllocError>
     requires { x < 2 ^ 127 }
     ensures { OnOk result (string_bytes out.new ≡ string_bytes out.old
-        ++ def.standing before.now watch.now x is_counted (seen.shown watch.now.state)) }
+        ++ def.standing seen.entry.before.now seen.entry.watch.now x is_counted
+        (shown seen.entry.watch.now.state)) }
 {
-    match watch.state() {
-        PlainState::Fault { task, .. } if is_counted => fault_mark(out, watch, x, task),
+    match seen.watch.state() {
+        PlainState::Fault { task, .. } if is_counted => fault_mark(out, seen.watch, x, task),
         PlainState::Fault { .. } => Ok(()),
         PlainState::Running | PlainState::Ended(_) => {
-            cells(out, watch.program(), before.world(), watch.world(), x)
+            let change = Change {
+                program: seen.watch.program(),
+                before: seen.before.world(),
+                world: seen.watch.world(),
+                x,
+            };
+            cells(out, change)
         }
     }
 }
 
 /// A step that counts, in its task's lane.
-fn stepped(out: &mut String, x: u128, event: Event, is_counted: bool) -> Result<(), AllocError>
+fn stepped(out: &mut String, x: u128, applied: Applied) -> Result<(), AllocError>
     ensures { OnOk result (string_bytes out.new
-        ≡ string_bytes out.old ++ def.stepped x event is_counted) }
+        ≡ string_bytes out.old ++ def.stepped x applied.event applied.is_counted) }
 {
-    match event {
-        Event::Step(t) if is_counted => {
+    match applied.event {
+        Event::Step(t) if applied.is_counted => {
             mark_start(out, Mark::Step, x, lane(t))?;
-            event_words(out, event)?;
+            event_words(out, applied.event)?;
             mark_end(out)
         }
         Event::Step(_) | Event::Interrupt(_) | Event::Expire(_) => Ok(()),
@@ -108,60 +116,28 @@ fn number_end(out: &mut String, n: usize, idle: &str) -> Result<(), AllocError>
 }
 
 /// The event's number above the lanes.
-fn number(
-    out: &mut String,
-    at: usize,
-    n: usize,
-    event: Event,
-    is_counted: bool,
-) -> Result<(), AllocError>
-    ensures { OnOk result (string_bytes out.new
-        ≡ string_bytes out.old ++ def.number at n event is_counted) }
+fn number(out: &mut String, at: usize, applied: Applied) -> Result<(), AllocError>
+    ensures { OnOk result (string_bytes out.new ≡ string_bytes out.old ++ def.number at applied) }
 {
-    text_start(out, number_class(is_counted), column(at), 44)?;
+    text_start(out, number_class(applied.is_counted), column(at), 44)?;
     write!(out, "<title>")?;
-    event_words(out, event)?;
-    number_end(out, n, idle_word(is_counted))
+    event_words(out, applied.event)?;
+    number_end(out, applied.number, idle_word(applied.is_counted))
 }
 
-/// The n-th event in a column.
+/// An event in a column.
 fn event_column(
     out: &mut String,
-    before: &Watch<'_>,
-    watch: &Watch<'_>,
+    seen: Seen<'_, '_>,
     at: usize,
-    n: usize,
-    event: Event,
-    is_counted: bool,
+    applied: Applied,
 ) -> Result<(), AllocError>
     ensures { OnOk result (string_bytes out.new ≡ string_bytes out.old
-        ++ def.event_column before.now watch.now at n event is_counted) }
+        ++ def.event_column seen.entry.before.now seen.entry.watch.now at applied) }
 {
-    number(out, at, n, event, is_counted)?;
-    standing(out, before, watch, column(at), is_counted)?;
-    stepped(out, column(at), event, is_counted)
-}
-
-/// Applies the n-th event to two machines in the same state, and draws it in a column.
-fn event_step(
-    alloc: Global,
-    out: &mut String,
-    before: &mut Watch<'_>,
-    watch: &mut Watch<'_>,
-    at: usize,
-    n: usize,
-    event: Event,
-) -> Result<(), AllocError>
-    ensures behind { OnOk result (before.new ≡ after_event before.old event) }
-    ensures stands { OnOk result (watch.new ≡ after_event watch.old event) }
-    ensures drawn { OnOk result (string_bytes out.new ≡ string_bytes out.old
-        ++ def.event_column before.old (after_event watch.old event) at n event
-        (run.counts before.old.program before.old.state event)) }
-{
-    let is_counted = before.counts(event);
-    watch.apply(alloc, event)?;
-    event_column(out, before, watch, at, n, event, is_counted)?;
-    before.apply(alloc, event)
+    number(out, at, applied)?;
+    standing(out, seen, column(at), applied.is_counted)?;
+    stepped(out, column(at), applied)
 }
 
 /// Skips the first events, applies the others to two machines in order, and draws a column for each.
@@ -182,7 +158,9 @@ fn event_columns(
         (drop skipped events.now)) }
 {
     for i in skipped..events.len() {
-        event_step(alloc, out, before, watch, i + 1 - skipped, i + 1, events[i])?;
+        let applied = watch.apply_numbered(alloc, i + 1, events[i])?;
+        event_column(out, Seen { before, watch }, i + 1 - skipped, applied)?;
+        before.apply(alloc, events[i])?;
     }
     Ok(())
 }
@@ -192,13 +170,11 @@ fn first_column(out: &mut String, watch: &Watch<'_>) -> Result<(), AllocError>
     ensures { OnOk result (string_bytes out.new
         ≡ string_bytes out.old ++ def.first_column watch.now) }
 {
-    match watch.state() {
-        PlainState::Fault { .. } => Ok(()),
-        PlainState::Running | PlainState::Ended(_) => {
-            let world = watch.world();
-            cells(out, watch.program(), world, world, column(0))
-        }
-    }
+    let seen = Seen {
+        before: watch,
+        watch,
+    };
+    standing(out, seen, column(0), false)
 }
 
 /// Draws the column before the first event and one after each, but skips the first events. Returns
@@ -258,7 +234,12 @@ fn standing_lines(out: &mut String, watch: &Watch<'_>) -> Result<(), AllocError>
     ensures { OnOk result (string_bytes out.new
         ≡ string_bytes out.old ++ def.standing_lines watch.now) }
 {
-    lines(out, watch, false)
+    let wanted = ViewOptions {
+        each: false,
+        full: false,
+        living: false,
+    };
+    view_lines(out, watch, wanted)
 }
 
 fn description_start(out: &mut String) -> Result<(), AllocError>
@@ -393,20 +374,26 @@ fn picture_of(
     })
 }
 
-/// The picture of a run up to the last event of a window, and the status of the machine's state
-/// there.
-///
-/// # Errors
-///
-/// Memory ran out.
-pub fn picture(
-    alloc: Global,
-    program: &Program,
-    window: Option<Window>,
-    events: &[Event],
-) -> Result<Output, AllocError>
-    ensures { IfOk result (λ o. o ≡ def.picture_output program.now window events.now) }
-{
-    let shown = shown_events(window, events.len());
-    picture_of(alloc, program, shown, &events[..shown.last])
+/// The picture of a run, of a window of its events or of the last ones. It is the picture up to the
+/// last event that is shown, with the status of the machine's state there.
+#[derive(Clone, Copy)]
+pub struct Picture {
+    pub window: Option<Window>,
+}
+
+impl Form for Picture {
+    ghost shows = { λ picture. def.picture_form picture.window };
+
+    fn of_run(&self, alloc: Global, run: Run<'_>) -> Result<Output, AllocError> {
+        let shown = shown_events(self.window, run.events.len());
+        picture_of(alloc, run.program, shown, &run.events[..shown.last])
+    }
+
+    fn of_text_fault(&self, alloc: Global, error: AsmError) -> Result<Output, AllocError> {
+        text_fault(alloc, error)
+    }
+
+    fn of_trace_fault(&self, alloc: Global, error: TraceError) -> Result<Output, AllocError> {
+        trace_fault(alloc, error)
+    }
 }

@@ -7,7 +7,6 @@ use Rattle.serde_json.specs.Written.{has_float, items_have_float}
 use Rattle.sts_code.specs.Program.{Program}
 use Rattle.sts_model.specs.declared.event.End.{End}
 use Rattle.sts_model.specs.declared.event.End.TheVariants.{Success, Failed}
-use Rattle.sts_model.specs.declared.event.Event.{Event}
 use Rattle.sts_model.specs.declared.event.Stand.{Stand}
 use Rattle.sts_model.specs.declared.event.Stand.TheVariants.{Free}
 use Rattle.sts_model.specs.declared.record.Completion.{Completion}
@@ -30,6 +29,7 @@ use Rattle.look_cases.proofs.FloatLemmas as answers
 use Rattle.look_lines.specs.Lines.{is_heard, keys}
 use Rattle.look_lines.specs.Watched.{Watched}
 use Rattle.look_lines.specs.declared.view.ViewOptions.{ViewOptions}
+use Rattle.look_lines.specs.declared.watch.Applied.{Applied}
 use Rattle.look_views.specs.Scope as scope
 use Rattle.look_views.specs.Task as task
 use Rattle.look_views.specs.Views as def
@@ -152,9 +152,9 @@ pub state_view_plain : (wanted : ViewOptions) (n : ℕ) (m : Watched) → has_fl
 state_view_plain wanted n m =
     either_plain wanted.living _ _ (living_state_plain wanted.full n m) (whole_state_plain wanted.full n m)
 
-pub event_view_plain : (wanted : ViewOptions) (n : ℕ) (e : Event) (is_counted : Bool) (m : Watched) → has_float (def.event_view wanted n e is_counted m) ≡ false
-event_view_plain wanted n e is_counted m =
-    either_plain wanted.living _ _ (living_state_plain wanted.full n m) (whole_state_plain wanted.full n m)
+pub event_view_plain : (wanted : ViewOptions) (a : Applied) (m : Watched) → has_float (def.event_view wanted a m) ≡ false
+event_view_plain wanted a m =
+    either_plain wanted.living _ _ (living_state_plain wanted.full a.number m) (whole_state_plain wanted.full a.number m)
 
 -- ---- a fault
 

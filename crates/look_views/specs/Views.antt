@@ -1,28 +1,27 @@
 -- The lines of a machine after a list of events, and after each of them, as JSON (this project's
 -- own; docs/CASES.md has the schema).
-use Rattle.std.specs.Prelude.{◌≡◌, ◌⊎◌, ℕ, ◌+◌, Bool, List, [], ◌∷◌, ◌++◌, length, codes, Result, Ok, Err}
+use Rattle.std.specs.Prelude.{ℕ, Bool, List, [], ◌∷◌, ◌++◌, codes}
 use Rattle.std.specs.Prelude.{if◌then◌else◌}
 use Rattle.serde_json.specs.Data.{Data, array, boolean, string}
 use Rattle.serde_json.specs.View.{items_of}
 use Rattle.serde_json.specs.Written.{compact_text}
 use Rattle.sts_code.specs.Program.{Program, routine}
-use Rattle.sts_model.specs.declared.event.Event.{Event}
-use Rattle.sts_model.specs.Run.{after, counts}
 use Rattle.sts_model.specs.World.{World}
 use Rattle.sts_asm.specs.Fault.{code_error}
-use Rattle.sts_asm.specs.Text.{judged}
 use Rattle.sts_asm.specs.declared.fault.AsmError.{AsmError}
 use Rattle.sts_plain.specs.Seen.{shown}
 use Rattle.sts_plain.specs.declared.misstep.PlainState.{PlainState}
 use Rattle.sts_plain.specs.declared.misstep.PlainState.TheVariants as plain
-use Rattle.sts_trace.specs.Reading.{trace_read}
 use Rattle.sts_trace.specs.Spelling.{event_text}
 use Rattle.sts_trace.specs.declared.error.TraceError.{TraceError}
-use Rattle.sts_output.specs.Output.{Output, memory_output, state_status}
+use Rattle.sts_output.specs.Output.{Output}
 use Rattle.sts_output.specs.Printed.{fault_word}
+use Rattle.look_lines.specs.Form.{Form, IsShownOf}
 use Rattle.look_lines.specs.Lines.{closed, resting}
-use Rattle.look_lines.specs.Watched.{Watched, watched}
+use Rattle.look_lines.specs.Views.{View, view_output}
+use Rattle.look_lines.specs.Watched.{Watched}
 use Rattle.look_lines.specs.declared.view.ViewOptions.{ViewOptions}
+use Rattle.look_lines.specs.declared.watch.Applied.{Applied}
 use Rattle.look_cases.specs.Answer.{ended, running, text_fault, trace_fault}
 use Rattle.look_cases.specs.Json.{count, object_of}
 use Rattle.look_views.specs.Scope.{open_scopes, scopes}
@@ -79,23 +78,22 @@ abbrev pub state_view : ViewOptions → ℕ → Watched → Data
 state_view wanted n m =
     if wanted.living then living_state wanted.full n m else whole_state wanted.full n m
 
--- the state after the event of this number, which counted or didn't
-abbrev pub whole_event : Bool → ℕ → Event → Bool → Watched → Data
-whole_event full n e is_counted m = object_of (
-    (codes "after", count n) ∷
-    (codes "counts", boolean is_counted) ∷
-    (codes "event", string (event_text e)) ∷ stand_members full m)
+-- an event and the state after it
+abbrev pub whole_event : Bool → Applied → Watched → Data
+whole_event full a m = object_of (
+    (codes "after", count a.number) ∷
+    (codes "counts", boolean a.is_counted) ∷
+    (codes "event", string (event_text a.event)) ∷ stand_members full m)
 
-abbrev pub living_event : Bool → ℕ → Event → Bool → Watched → Data
-living_event full n e is_counted m = object_of (
-    (codes "after", count n) ∷
-    (codes "counts", boolean is_counted) ∷
-    (codes "event", string (event_text e)) ∷ living_members full m)
+abbrev pub living_event : Bool → Applied → Watched → Data
+living_event full a m = object_of (
+    (codes "after", count a.number) ∷
+    (codes "counts", boolean a.is_counted) ∷
+    (codes "event", string (event_text a.event)) ∷ living_members full m)
 
-abbrev pub event_view : ViewOptions → ℕ → Event → Bool → Watched → Data
-event_view wanted n e is_counted m =
-    if wanted.living then living_event wanted.full n e is_counted m
-    else whole_event wanted.full n e is_counted m
+abbrev pub event_view : ViewOptions → Applied → Watched → Data
+event_view wanted a m =
+    if wanted.living then living_event wanted.full a m else whole_event wanted.full a m
 
 -- ---- the lines
 
@@ -103,35 +101,11 @@ event_view wanted n e is_counted m =
 abbrev pub line : Data → List ℕ
 line d = compact_text d ++ 10 ∷ []
 
--- the line of the state after these events
-abbrev pub view_after : Program → ViewOptions → List Event → List ℕ
-view_after p wanted events = line (state_view wanted (length events) (watched p events))
-
--- the line of an event and the state after it, if these events came before
-abbrev pub view_of_event : Program → ViewOptions → List Event → Event → List ℕ
-view_of_event p wanted done e = line (event_view wanted (length done + 1) e
-    (counts p (after p done) e) (watched p (done ++ e ∷ [])))
-
-abbrev pub views_from : Program → ViewOptions → List Event → List Event → List ℕ
-views_from p wanted done [] = []
-views_from p wanted done (e ∷ es) =
-    view_of_event p wanted done e ++ views_from p wanted (done ++ e ∷ []) es
-
--- the status is that of the last state: 0 if the root succeeded, 1 if it failed, otherwise 5
-abbrev pub after_output : Program → ViewOptions → List Event → Output
-after_output p wanted events =
-    record { bytes = view_after p wanted events; status = state_status (shown (after p events)) }
-
--- the state before the first event, and after each
-abbrev pub each_output : Program → ViewOptions → List Event → Output
-each_output p wanted events = record {
-  bytes = view_after p wanted [] ++ views_from p wanted [] events;
-  status = state_status (shown (after p events));
+abbrev pub json_view : ViewOptions → View
+json_view wanted = record {
+  state = λ n m. line (state_view wanted n m);
+  event = λ a m. line (event_view wanted a m);
 }
-
-abbrev pub views_output : Program → ViewOptions → List Event → Output
-views_output p wanted events =
-    if wanted.each then each_output p wanted events else after_output p wanted events
 
 -- ---- of a text and a trace
 
@@ -148,16 +122,13 @@ trace_line e = object_of (
     (codes "trace_fault", trace_fault e) ∷
     (codes "version", version) ∷ [])
 
-abbrev pub traced_output : Program → ViewOptions → Result (List Event) TraceError → Output
-traced_output p wanted (Ok events) = views_output p wanted events
-traced_output p wanted (Err e) = faulty (trace_line e)
-
--- a fault of the text comes before one of the trace
-abbrev pub text_output : Result Program AsmError → ViewOptions → List ℕ → Output
-text_output (Ok p) wanted trace = traced_output p wanted (trace_read trace)
-text_output (Err e) wanted trace = faulty (text_line e)
+abbrev pub json_form : ViewOptions → Form
+json_form wanted = record {
+  of_run = λ p events. view_output (json_view wanted) wanted.each p events;
+  of_text_fault = λ e. faulty (text_line e);
+  of_trace_fault = λ e. faulty (trace_line e);
+}
 
 -- what `look view --json` prints for a text and a trace, or that memory was refused
 abbrev pub AreViewsOf : ViewOptions → List ℕ → List ℕ → Output → Type 0
-AreViewsOf wanted text trace output =
-    (output ≡ text_output (judged text) wanted trace) ⊎ (output ≡ memory_output)
+AreViewsOf wanted text trace output = IsShownOf (json_form wanted) text trace output

@@ -9,4 +9,4 @@ mod scopes;
 mod tasks;
 mod views;
 
-pub use of_text::{viewed, write_views};
+pub use views::JsonViews;

@@ -1,27 +1,22 @@
-//! The views of a text's run, as lines of JSON.
+//! The views of a text's run as lines of JSON, or the line of a fault.
 
 ghost use Rattle.std.specs.Prelude.{◌≡◌, ◌≢◌, IfOk, Result, Err, false};
 ghost use Rattle.serde_json.specs.View.{view};
 ghost use Rattle.serde_json.specs.Written.{has_float};
 ghost use Rattle.sts_code.specs.Program.{Program as AnyProgram};
 ghost use Rattle.sts_asm.specs.Fault.{FailsAt};
-ghost use Rattle.sts_asm.specs.Text.{judged};
 ghost use Rattle.sts_asm.specs.declared.fault.AsmError.{AsmError};
-ghost use Rattle.sts_trace.specs.Reading.{trace_read};
 ghost use Rattle.sts_trace.specs.declared.error.TraceError.TheVariants.{Memory};
-ghost use Rattle.sts_output.specs.Output.{Output, Writes};
 ghost use Rattle.look_views.specs.Views as def;
 
-use crate::views::{VERSION, push_line, views};
+use crate::views::{JsonViews, VERSION, push_line};
 use look_cases::{text_fault, trace_fault};
-use look_lines::ViewOptions;
+use look_lines::{Form, Run, view_output};
 use serde_json::{Value, json};
 use std::alloc::{AllocError, Global};
-use std::io::Write;
-use sts_asm::{AsmError, assemble};
-use sts_code::Program;
-use sts_output::{Output, TakeError, WriteFailed, failed, written};
-use sts_trace::{TraceError, read_trace};
+use sts_asm::AsmError;
+use sts_output::Output;
+use sts_trace::TraceError;
 
 /// The status for a fault of a text or a trace.
 const FAULTY: u8 = 3;
@@ -47,14 +42,6 @@ fn text_line(alloc: Global, error: AsmError) -> Result<Value, AllocError>
     json!(in alloc; {"text_fault": fault, "version": VERSION})
 }
 
-fn faulty_text(alloc: Global, error: AsmError) -> Result<Output, AllocError>
-    ensures { (read : Result AnyProgram AsmError) → FailsAt error error.kind read
-        → IfOk result (λ o. (read ≡ Err error) × (o ≡ def.faulty (def.text_line error))) }
-{
-    let value = text_line(alloc, error)?;
-    faulty(alloc, &value)
-}
-
 fn trace_line(alloc: Global, error: TraceError) -> Result<Value, AllocError>
     ensures { IfOk result (λ v. (error ≢ Memory) × (view v ≡ def.trace_line error)) }
 {
@@ -62,65 +49,20 @@ fn trace_line(alloc: Global, error: TraceError) -> Result<Value, AllocError>
     json!(in alloc; {"trace_fault": fault, "version": VERSION})
 }
 
-fn faulty_trace(alloc: Global, error: TraceError) -> Result<Output, AllocError>
-    ensures { IfOk result (λ o. (error ≢ Memory) × (o ≡ def.faulty (def.trace_line error))) }
-{
-    let value = trace_line(alloc, error)?;
-    faulty(alloc, &value)
-}
+impl Form for JsonViews {
+    ghost shows = { λ views. def.json_form views.wanted };
 
-fn traced(
-    alloc: Global,
-    program: &Program,
-    wanted: ViewOptions,
-    trace: &[u8],
-) -> Result<Output, AllocError>
-    ensures { IfOk result (λ o. o ≡ def.traced_output program.now wanted (trace_read trace.now)) }
-{
-    match read_trace(alloc, trace) {
-        Ok(events) => views(alloc, program, wanted, events.as_slice()),
-        Err(error) => faulty_trace(alloc, error),
+    fn of_run(&self, alloc: Global, run: Run<'_>) -> Result<Output, AllocError> {
+        view_output(alloc, self, self.wanted.each, run)
     }
-}
 
-/// Assembles the text, reads the trace, and returns the lines of the views.
-///
-/// # Errors
-///
-/// Memory was refused.
-pub fn viewed(
-    alloc: Global,
-    wanted: ViewOptions,
-    text: &[u8],
-    trace: &[u8],
-) -> Result<Output, AllocError>
-    ensures { IfOk result (λ o. o ≡ def.text_output (judged text.now) wanted trace.now) }
-{
-    match assemble(alloc, text) {
-        Ok(program) => traced(alloc, &program, wanted, trace),
-        Err(error) => faulty_text(alloc, error),
+    fn of_text_fault(&self, alloc: Global, error: AsmError) -> Result<Output, AllocError> {
+        let value = text_line(alloc, error)?;
+        faulty(alloc, &value)
     }
-}
 
-/// Writes the lines of the views of a text's run, and returns the status.
-///
-/// It takes all its memory before the first byte is written.
-///
-/// # Errors
-///
-/// A write failed.
-pub fn write_views<W: Write>(
-    alloc: Global,
-    wanted: ViewOptions,
-    text: &[u8],
-    trace: &[u8],
-    out: &mut W,
-) -> Result<u8, WriteFailed>
-    ensures { IfOk result (λ s. (o : Output) × def.AreViewsOf wanted text.now trace.now o
-        × Writes (W.contents out.old) (W.contents out.new) s o) }
-{
-    match viewed(alloc, wanted, text, trace) {
-        Ok(output) => written(out, output.text.as_bytes(), output.status),
-        Err(_) => failed(TakeError::Memory, out),
+    fn of_trace_fault(&self, alloc: Global, error: TraceError) -> Result<Output, AllocError> {
+        let value = trace_line(alloc, error)?;
+        faulty(alloc, &value)
     }
 }

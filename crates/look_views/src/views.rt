@@ -1,24 +1,20 @@
-//! The state after a list of events, or after each of them, as lines of JSON.
+//! The state of a machine, and an event with the state after it, as lines of JSON.
 
-ghost use Rattle.std.specs.Prelude.{◌≡◌, ◌++◌, [], OnOk, IfOk, false};
+ghost use Rattle.std.specs.Prelude.{◌≡◌, ◌++◌, OnOk, IfOk, false};
 ghost use Rattle.std.specs.String.{string_bytes};
 ghost use Rattle.serde_json.specs.View.{view};
 ghost use Rattle.serde_json.specs.Written.{has_float};
-ghost use Rattle.sts_model.specs.Run as model;
 ghost use Rattle.sts_trace.specs.Spelling.{event_text};
-ghost use Rattle.look_lines.specs.Watched.{after_event, watched};
 ghost use Rattle.look_views.specs.Views as def;
 
 use crate::runs::run;
 use crate::scopes::{open_scopes, scopes};
 use crate::tasks::{living_tasks, tasks};
-use look_lines::{ViewOptions, Watch, after, closed, event_words, resting};
+use look_lines::{Applied, View, ViewOptions, Watch, closed, event_words, resting};
 use serde_json::{Value, json};
 use std::alloc::{AllocError, Global};
 use std::fmt::Write;
-use sts_code::Program;
 use sts_model::Event;
-use sts_output::{Output, state_status};
 use sts_world::Records;
 
 /// The version of the lines.
@@ -90,24 +86,22 @@ fn event_string(alloc: Global, event: Event) -> Result<String, AllocError>
     Ok(text)
 }
 
-/// Returns the view of a machine after its `n`-th event, with all tasks and scopes.
+/// Returns the view of a machine after an event, with all tasks and scopes.
 fn whole_event(
     alloc: Global,
-    n: usize,
-    event: Event,
-    is_counted: bool,
+    applied: Applied,
     watch: &Watch<'_>,
     full: bool,
 ) -> Result<Value, AllocError>
-    ensures { IfOk result (λ v. view v ≡ def.whole_event full n event is_counted watch.now) }
+    ensures { IfOk result (λ v. view v ≡ def.whole_event full applied watch.now) }
 {
-    let event = event_string(alloc, event)?;
+    let event = event_string(alloc, applied.event)?;
     let state = run(alloc, watch.program(), watch.state(), watch.steps())?;
     let scopes = scopes(alloc, full, watch.world().records())?;
     let tasks = tasks(alloc, watch.program(), full, watch.world())?;
     json!(in alloc; {
-        "after": n,
-        "counts": is_counted,
+        "after": applied.number,
+        "counts": applied.is_counted,
         "event": event,
         "run": state,
         "scopes": scopes,
@@ -119,22 +113,20 @@ fn whole_event(
 /// Returns the same with only the tasks that live and the scopes that are open.
 fn living_event(
     alloc: Global,
-    n: usize,
-    event: Event,
-    is_counted: bool,
+    applied: Applied,
     watch: &Watch<'_>,
     full: bool,
 ) -> Result<Value, AllocError>
-    ensures { IfOk result (λ v. view v ≡ def.living_event full n event is_counted watch.now) }
+    ensures { IfOk result (λ v. view v ≡ def.living_event full applied watch.now) }
 {
-    let event = event_string(alloc, event)?;
+    let event = event_string(alloc, applied.event)?;
     let others = not_shown(alloc, watch.world().records())?;
     let state = run(alloc, watch.program(), watch.state(), watch.steps())?;
     let scopes = open_scopes(alloc, full, watch.world().records())?;
     let tasks = living_tasks(alloc, watch.program(), full, watch.world())?;
     json!(in alloc; {
-        "after": n,
-        "counts": is_counted,
+        "after": applied.number,
+        "counts": applied.is_counted,
         "event": event,
         "not_shown": others,
         "run": state,
@@ -144,21 +136,19 @@ fn living_event(
     })
 }
 
-/// Returns the view of a machine after its `n`-th event, which counted or didn't.
+/// Returns the view of a machine after an event.
 fn event_view(
     alloc: Global,
-    n: usize,
-    event: Event,
-    is_counted: bool,
+    applied: Applied,
     watch: &Watch<'_>,
     wanted: ViewOptions,
 ) -> Result<Value, AllocError>
-    ensures { IfOk result (λ v. view v ≡ def.event_view wanted n event is_counted watch.now) }
+    ensures { IfOk result (λ v. view v ≡ def.event_view wanted applied watch.now) }
 {
     if wanted.living {
-        living_event(alloc, n, event, is_counted, watch, wanted.full)
+        living_event(alloc, applied, watch, wanted.full)
     } else {
-        whole_event(alloc, n, event, is_counted, watch, wanted.full)
+        whole_event(alloc, applied, watch, wanted.full)
     }
 }
 
@@ -171,113 +161,34 @@ pub(crate) fn push_line(alloc: Global, out: &mut String, value: &Value) -> Resul
     writeln!(out, "{text}")
 }
 
-/// Appends the view of a machine after this number of events.
-fn push_view(
-    alloc: Global,
-    out: &mut String,
-    n: usize,
-    watch: &Watch<'_>,
-    wanted: ViewOptions,
-) -> Result<(), AllocError>
-    ensures { OnOk result (string_bytes out.new
-        ≡ string_bytes out.old ++ def.line (def.state_view wanted n watch.now)) }
-{
-    let value = state_view(alloc, n, watch, wanted)?;
-    push_line(alloc, out, &value)
+/// The views of a run as lines of JSON.
+#[derive(Clone, Copy)]
+pub struct JsonViews {
+    pub wanted: ViewOptions,
 }
 
-/// Applies the `n`-th event, and appends the view after it.
-fn push_event(
-    alloc: Global,
-    out: &mut String,
-    watch: &mut Watch<'_>,
-    wanted: ViewOptions,
-    n: usize,
-    event: Event,
-) -> Result<(), AllocError>
-    ensures stands { OnOk result (watch.new ≡ after_event watch.old event) }
-    ensures written { OnOk result (string_bytes out.new ≡ string_bytes out.old
-        ++ def.line (def.event_view wanted n event
-        (model.counts watch.old.program watch.old.state event) (after_event watch.old event))) }
-{
-    let is_counted = watch.counts(event);
-    watch.apply(alloc, event)?;
-    let value = event_view(alloc, n, event, is_counted, watch, wanted)?;
-    push_line(alloc, out, &value)
-}
+impl View for JsonViews {
+    ghost writes = { λ views. def.json_view views.wanted };
 
-/// Applies these events, in order, and appends the view after each.
-fn push_events(
-    alloc: Global,
-    out: &mut String,
-    watch: &mut Watch<'_>,
-    wanted: ViewOptions,
-    events: &[Event],
-) -> Result<(), AllocError>
-    requires { watch.old ≡ watched watch.old.program [] }
-    ensures stands { OnOk result (watch.new ≡ watched watch.old.program events.now) }
-    ensures written { OnOk result (string_bytes out.new ≡ string_bytes out.old
-        ++ def.views_from watch.old.program wanted [] events.now) }
-{
-    for i in 0..events.len() {
-        push_event(alloc, out, watch, wanted, i + 1, events[i])?;
+    fn say_state(
+        &self,
+        alloc: Global,
+        out: &mut String,
+        number: usize,
+        watch: &Watch<'_>,
+    ) -> Result<(), AllocError> {
+        let value = state_view(alloc, number, watch, self.wanted)?;
+        push_line(alloc, out, &value)
     }
-    Ok(())
-}
 
-/// Returns the view after the last event.
-fn after_all(
-    alloc: Global,
-    program: &Program,
-    wanted: ViewOptions,
-    events: &[Event],
-) -> Result<Output, AllocError>
-    ensures { IfOk result (λ o. o ≡ def.after_output program.now wanted events.now) }
-{
-    let watch = after(alloc, program, events)?;
-    let mut text = String::new(alloc);
-    push_view(alloc, &mut text, events.len(), &watch, wanted)?;
-    Ok(Output {
-        text,
-        status: state_status(watch.state()),
-    })
-}
-
-/// Returns the view before the first event and after each, in one pass.
-fn after_each(
-    alloc: Global,
-    program: &Program,
-    wanted: ViewOptions,
-    events: &[Event],
-) -> Result<Output, AllocError>
-    ensures { IfOk result (λ o. o ≡ def.each_output program.now wanted events.now) }
-{
-    let mut watch = Watch::start(alloc, program)?;
-    let mut text = String::new(alloc);
-    push_view(alloc, &mut text, 0, &watch, wanted)?;
-    push_events(alloc, &mut text, &mut watch, wanted, events)?;
-    Ok(Output {
-        text,
-        status: state_status(watch.state()),
-    })
-}
-
-/// Returns the view after these events, or after each of them, and the status of the last state.
-///
-/// # Errors
-///
-/// Memory was refused.
-pub(crate) fn views(
-    alloc: Global,
-    program: &Program,
-    wanted: ViewOptions,
-    events: &[Event],
-) -> Result<Output, AllocError>
-    ensures { IfOk result (λ o. o ≡ def.views_output program.now wanted events.now) }
-{
-    if wanted.each {
-        after_each(alloc, program, wanted, events)
-    } else {
-        after_all(alloc, program, wanted, events)
+    fn say_event(
+        &self,
+        alloc: Global,
+        out: &mut String,
+        applied: Applied,
+        watch: &Watch<'_>,
+    ) -> Result<(), AllocError> {
+        let value = event_view(alloc, applied, watch, self.wanted)?;
+        push_line(alloc, out, &value)
     }
 }

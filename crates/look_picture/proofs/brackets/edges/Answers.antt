@@ -2,6 +2,7 @@ use Rattle.std.proofs.Common.{◌≡◌, ℕ, List, ◌++◌, Bool, ap, ◌∙�
 use Rattle.std.proofs.lemmas.Result.{on_ok_weaker}
 use Rattle.std.specs.Prelude.{codes}
 use Rattle.std.specs.String.{string_bytes}
+use Rattle.sts_model.specs.World.{World, scope_at}
 use Rattle.look_lines.specs.Lines.{phase_word}
 use Rattle.look_picture.specs.Brackets as def
 use Rattle.look_picture.specs.declared.marks.Mark.TheVariants as mark
@@ -15,20 +16,20 @@ three_said a b d before one two three e f g =
 
 pub returns : goal.returns
 returns c =
-    let w = c.args.records.now in
-    let before = c.args.before.now in
-    let x = c.args.x in
+    let w = c.args.change.world.now in
+    let before = c.args.change.before.now in
+    let x = c.args.change.x in
     let s = c.args.s in
     let out : List ℕ = string_bytes c.args.out.now in
     let one : List ℕ = string_bytes c.mark_if.new.out in
     let two : List ℕ = string_bytes c.mark_if-2.new.out in
     let moved : one ≡ out ++ def.mark_if (def.has_moved before w s) mark.Edge w x s c.phase_word-word.result.now =
-    c.in_ok-mark_if.ensures ∙ ap (λ (is_new : Bool). out ++ def.mark_if is_new mark.Edge w x s c.phase_word-word.result.now) c.has_moved-moved.ensures in
+    c.in_ok-mark_if.ensures ∙ ap (λ (is_shown : Bool). out ++ def.mark_if is_shown mark.Edge w x s c.phase_word-word.result.now) c.has_moved-moved.ensures in
     let named : one ≡ out ++ def.mark_if (def.has_moved before w s) mark.Edge w x s (phase_word c.phase.result) =
     moved ∙ ap (λ (word : List ℕ). out ++ def.mark_if (def.has_moved before w s) mark.Edge w x s word) c.phase_word-word.ensures in
-    let first = named ∙ ap (λ phase. out ++ def.mark_if (def.has_moved before w s) mark.Edge w x s (phase_word phase)) c.phase.ensures in
-    let second = c.in_ok-mark_if-2.ensures ∙ ap (λ (is_new : Bool). one ++ def.mark_if is_new mark.Expired w x s (codes "expired")) c.has_expired-expired.ensures in
+    let first = named ∙ ap (λ phase. out ++ def.mark_if (def.has_moved before w s) mark.Edge w x s (phase_word phase)) (c.phase.ensures ∙ ap (λ (v : World). (scope_at v s).phase) c.records.ensures) in
+    let second = c.in_ok-mark_if-2.ensures ∙ ap (λ (is_shown : Bool). one ++ def.mark_if is_shown mark.Expired w x s (codes "expired")) c.has_expired-expired.ensures in
     on_ok_weaker c.mark_if-3.result
     (λ h. three_said _ _ _ out one two (string_bytes c.mark_if-3.new.out) first second
-    (h ∙ ap (λ (is_new : Bool). two ++ def.mark_if is_new mark.Cancelled w x s (codes "cancelled")) c.was_cancelled-cancelled.ensures))
+    (h ∙ ap (λ (is_shown : Bool). two ++ def.mark_if is_shown mark.Cancelled w x s (codes "cancelled")) c.was_cancelled-cancelled.ensures))
     c.mark_if-3.ensures

@@ -5,4 +5,6 @@ use Rattle.look_picture.proofs.lanes.task_cells.Given as goal
 
 -- what is written, and the cells of the rest
 abbrev pub invariant-loop-t : goal.invariant-loop-t
-invariant-loop-t l = string_bytes l.out ++ def.task_cells l.program l.before l.world l.x (drop l.t l.world.tasks) l.t ≡ string_bytes l.fn.out ++ def.task_cells l.program l.before l.world l.x l.world.tasks 0
+invariant-loop-t l =
+    let cells = def.task_cells l.change.program.now l.change.before.now l.change.world.now l.change.x in
+    string_bytes l.out ++ cells (drop l.t l.change.world.now.tasks) l.t ≡ string_bytes l.fn.out ++ cells l.change.world.now.tasks 0

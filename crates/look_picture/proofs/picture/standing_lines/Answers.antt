@@ -3,4 +3,4 @@ use Rattle.look_picture.proofs.picture.standing_lines.Goals as goal
 
 pub returns : goal.returns
 unfolding standing_lines
-returns c = c.lines.ensures
+returns c = c.view_lines.ensures

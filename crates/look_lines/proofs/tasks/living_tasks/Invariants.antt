@@ -1,8 +1,0 @@
-use Rattle.std.proofs.Common.{◌≡◌, ◌++◌, drop}
-use Rattle.std.specs.String.{string_bytes}
-use Rattle.look_lines.specs.Lines as def
-use Rattle.look_lines.proofs.tasks.living_tasks.Given as goal
-
--- what is written, and the lines of the rest
-abbrev pub invariant-loop-t : goal.invariant-loop-t
-invariant-loop-t l = string_bytes l.out ++ def.living_tasks l.program l.full l.world (drop l.t l.world.tasks) l.t ≡ string_bytes l.fn.out ++ def.living_tasks l.program l.full l.world l.world.tasks 0
