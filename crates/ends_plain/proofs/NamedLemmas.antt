@@ -56,13 +56,15 @@ one_to_one names back births h a b e = by (ltb a births) refl (ltb b births) ref
 pub renamed : (names back : NameLists) (w v : World) → AreNames names back w v → AllTasksSame (names_of names) w v (length w.tasks) → AllScopesSame (names_of names) w v (length w.scopes) → AreRenamed w v
 renamed names back w v h tasks scopes =
     let all : AreSame (names_of names) w v = record {
-      tasks_born = sym h.tasks_born;
-      scopes_born = sym h.scopes_born;
-      task_names = one_to_one names.tasks.items back.tasks.items (length w.tasks) h.tasks;
-      scope_names = one_to_one names.scopes.items back.scopes.items (length w.scopes) h.scopes;
-      later_tasks = past names.tasks.items back.tasks.items (length w.tasks) h.tasks;
-      later_scopes = past names.scopes.items back.scopes.items (length w.scopes) h.scopes;
-      root = h.root;
+      named = record {
+        tasks_born = sym h.tasks_born;
+        scopes_born = sym h.scopes_born;
+        task_names = one_to_one names.tasks.items back.tasks.items (length w.tasks) h.tasks;
+        scope_names = one_to_one names.scopes.items back.scopes.items (length w.scopes) h.scopes;
+        later_tasks = past names.tasks.items back.tasks.items (length w.tasks) h.tasks;
+        later_scopes = past names.scopes.items back.scopes.items (length w.scopes) h.scopes;
+        root = h.root;
+      };
       task = tasks;
       scope = scopes;
     } in

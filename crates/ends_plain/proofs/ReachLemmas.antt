@@ -109,7 +109,7 @@ shows_fault (Running w) kind t f pc e = by (task_at w 0).outcome e
 -- states that are alike show the same, unless they are faults
 shown_alike : (n : Names) (x y c : State) → AreAlike n x y → is_fault c ≡ false → shown c ≡ shown y → shown c ≡ shown x
 shown_alike n (Running w) (Running v) c h calm shows =
-    shows ∙ ap ended_or_running (ap (λ (t : ℕ). (task_at v t).outcome) (sym h.root) ∙ same_outcome n (task_at w 0) (task_at v (n.tasks 0)) (h.task 0))
+    shows ∙ ap ended_or_running (ap (λ (t : ℕ). (task_at v t).outcome) (sym h.named.root) ∙ same_outcome n (task_at w 0) (task_at v (n.tasks 0)) (h.task 0))
 shown_alike n (Running w) (Faulted kind t f pc) c h calm shows = absurd h
 shown_alike n (Faulted kind t f pc) y c h calm shows =
     let fault : is_fault c ≡ true = shows_fault c kind (n.tasks t) f pc (shows ∙ ap shown h) in

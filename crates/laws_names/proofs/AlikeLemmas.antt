@@ -59,13 +59,15 @@ sum_part q xs = sum_by (λ x. q (live_part x)) xs
 pub alike_task : (n : Names) (w v : World) → IsAlike n w v → (t : ℕ) (x y : Task) → IsSameTask n x y → IsAlike n (with_task w t x) (with_task v (n.tasks t) y)
 alike_task n w v a t x y h =
     record {
-      tasks_born = length-set v.tasks (n.tasks t) y ∙ a.tasks_born ∙ sym (length-set w.tasks t x);
-      scopes_born = a.scopes_born;
-      task_names = a.task_names;
-      scope_names = a.scope_names;
-      later_tasks = λ u past. a.later_tasks u (rw (length-set w.tasks t x) at past);
-      later_scopes = a.later_scopes;
-      root = a.root;
+      named = record {
+        tasks_born = length-set v.tasks (n.tasks t) y ∙ a.named.tasks_born ∙ sym (length-set w.tasks t x);
+        scopes_born = a.named.scopes_born;
+        task_names = a.named.task_names;
+        scope_names = a.named.scope_names;
+        later_tasks = λ u past. a.named.later_tasks u (rw (length-set w.tasks t x) at past);
+        later_scopes = a.named.later_scopes;
+        root = a.named.root;
+      };
       task = λ u. at_task u (ltb t (length w.tasks)) refl (u == t) refl;
       scope = a.scope;
       task_sums = λ q. sums q (ltb t (length w.tasks)) refl;
@@ -73,19 +75,19 @@ alike_task n w v a t x y h =
     }
   where
     below : ltb t (length w.tasks) ≡ true → n.tasks t < length v.tasks
-    below e = let h = name_below n.tasks a.task_names (length w.tasks) a.later_tasks t (ltb-true t (length w.tasks) e) in rw a.tasks_born h
+    below e = let h = name_below n.tasks a.named.task_names (length w.tasks) a.named.later_tasks t (ltb-true t (length w.tasks) e) in rw a.named.tasks_born h
 
     past : ltb t (length w.tasks) ≡ false → length w.tasks ≤ t
     past e = grind (arith, nat_tests)
 
     past_too : ltb t (length w.tasks) ≡ false → length v.tasks ≤ n.tasks t
-    past_too e = let same = a.later_tasks t (past e) in let p = past e in let born = a.tasks_born in omega (arith, same, p, born)
+    past_too e = let same = a.named.later_tasks t (past e) in let p = past e in let born = a.named.tasks_born in omega (arith, same, p, born)
 
     at_task : (u : ℕ) (b : Bool) → ltb t (length w.tasks) ≡ b → (c : Bool) → (u == t) ≡ c → IsSameTask n (get_or (set w.tasks t x) u no_task) (get_or (set v.tasks (n.tasks t) y) (n.tasks u) no_task)
     at_task u true e true same =
         rw (equal u t same, get_or-set_same w.tasks t x no_task (ltb-true t (length w.tasks) e), get_or-set_same v.tasks (n.tasks t) y no_task (below e)) h
     at_task u true e false other =
-        rw (get_or-set_other w.tasks t u x no_task (λ s. unequal u t other s), get_or-set_other v.tasks (n.tasks t) (n.tasks u) y no_task (λ s. unequal u t other (a.task_names u t s))) (a.task u)
+        rw (get_or-set_other w.tasks t u x no_task (λ s. unequal u t other s), get_or-set_other v.tasks (n.tasks t) (n.tasks u) y no_task (λ s. unequal u t other (a.named.task_names u t s))) (a.task u)
     at_task u false e c same = rw (set_past w.tasks t x (past e), set_past v.tasks (n.tasks t) y (past_too e)) (a.task u)
 
     sums : (q : Task → ℕ) (b : Bool) → ltb t (length w.tasks) ≡ b → sum_part q (set v.tasks (n.tasks t) y) ≡ sum_part (λ z. q (named_task n z)) (set w.tasks t x)
@@ -111,13 +113,15 @@ alike_frame n w v a t f g alive same =
 pub alike_scope : (n : Names) (w v : World) → IsAlike n w v → (s : ℕ) (x y : Scope) → IsSameScope n x y → IsAlike n (with_scope w s x) (with_scope v (n.scopes s) y)
 alike_scope n w v a s x y h =
     record {
-      tasks_born = a.tasks_born;
-      scopes_born = length-set v.scopes (n.scopes s) y ∙ a.scopes_born ∙ sym (length-set w.scopes s x);
-      task_names = a.task_names;
-      scope_names = a.scope_names;
-      later_tasks = a.later_tasks;
-      later_scopes = λ u past. a.later_scopes u (rw (length-set w.scopes s x) at past);
-      root = a.root;
+      named = record {
+        tasks_born = a.named.tasks_born;
+        scopes_born = length-set v.scopes (n.scopes s) y ∙ a.named.scopes_born ∙ sym (length-set w.scopes s x);
+        task_names = a.named.task_names;
+        scope_names = a.named.scope_names;
+        later_tasks = a.named.later_tasks;
+        later_scopes = λ u past. a.named.later_scopes u (rw (length-set w.scopes s x) at past);
+        root = a.named.root;
+      };
       task = a.task;
       scope = λ u. at_scope u (ltb s (length w.scopes)) refl (u == s) refl;
       task_sums = a.task_sums;
@@ -125,19 +129,19 @@ alike_scope n w v a s x y h =
     }
   where
     below : ltb s (length w.scopes) ≡ true → n.scopes s < length v.scopes
-    below e = let h = name_below n.scopes a.scope_names (length w.scopes) a.later_scopes s (ltb-true s (length w.scopes) e) in rw a.scopes_born h
+    below e = let h = name_below n.scopes a.named.scope_names (length w.scopes) a.named.later_scopes s (ltb-true s (length w.scopes) e) in rw a.named.scopes_born h
 
     past : ltb s (length w.scopes) ≡ false → length w.scopes ≤ s
     past e = grind (arith, nat_tests)
 
     past_too : ltb s (length w.scopes) ≡ false → length v.scopes ≤ n.scopes s
-    past_too e = let same = a.later_scopes s (past e) in let p = past e in let born = a.scopes_born in omega (arith, same, p, born)
+    past_too e = let same = a.named.later_scopes s (past e) in let p = past e in let born = a.named.scopes_born in omega (arith, same, p, born)
 
     at_scope : (u : ℕ) (b : Bool) → ltb s (length w.scopes) ≡ b → (c : Bool) → (u == s) ≡ c → IsSameScope n (get_or (set w.scopes s x) u no_scope) (get_or (set v.scopes (n.scopes s) y) (n.scopes u) no_scope)
     at_scope u true e true same =
         rw (equal u s same, get_or-set_same w.scopes s x no_scope (ltb-true s (length w.scopes) e), get_or-set_same v.scopes (n.scopes s) y no_scope (below e)) h
     at_scope u true e false other =
-        rw (get_or-set_other w.scopes s u x no_scope (λ z. unequal u s other z), get_or-set_other v.scopes (n.scopes s) (n.scopes u) y no_scope (λ z. unequal u s other (a.scope_names u s z))) (a.scope u)
+        rw (get_or-set_other w.scopes s u x no_scope (λ z. unequal u s other z), get_or-set_other v.scopes (n.scopes s) (n.scopes u) y no_scope (λ z. unequal u s other (a.named.scope_names u s z))) (a.scope u)
     at_scope u false e c same = rw (set_past w.scopes s x (past e), set_past v.scopes (n.scopes s) y (past_too e)) (a.scope u)
 
     sums : (q : Scope → ℕ) (b : Bool) → ltb s (length w.scopes) ≡ b → sum_by (λ z. q (plain_part z)) (set v.scopes (n.scopes s) y) ≡ sum_by (λ z. q (named_scope n (plain_part z))) (set w.scopes s x)
@@ -175,14 +179,16 @@ more {X} Rel f xs ys x y d born one later default new old k = by (ltb k (length 
 
 pub alike_more_tasks : (n : Names) (w v : World) → IsAlike n w v → (x y : Task) → IsSameTask n x y → IsAlike n (record w { tasks = w.tasks ++ x ∷ [] }) (record v { tasks = v.tasks ++ y ∷ [] })
 alike_more_tasks n w v a x y h = record {
-  tasks_born = length-append v.tasks (y ∷ []) ∙ ap (λ m. m + 1) a.tasks_born ∙ sym (length-append w.tasks (x ∷ []));
-  scopes_born = a.scopes_born;
-  task_names = a.task_names;
-  scope_names = a.scope_names;
-  later_tasks = λ t past. a.later_tasks t (let l = length-append w.tasks (x ∷ []) in omega (arith, l, past));
-  later_scopes = a.later_scopes;
-  root = a.root;
-  task = λ t. more (IsSameTask n) n.tasks w.tasks v.tasks x y no_task a.tasks_born a.task_names a.later_tasks refl h a.task t;
+  named = record {
+    tasks_born = length-append v.tasks (y ∷ []) ∙ ap (λ m. m + 1) a.named.tasks_born ∙ sym (length-append w.tasks (x ∷ []));
+    scopes_born = a.named.scopes_born;
+    task_names = a.named.task_names;
+    scope_names = a.named.scope_names;
+    later_tasks = λ t past. a.named.later_tasks t (let l = length-append w.tasks (x ∷ []) in omega (arith, l, past));
+    later_scopes = a.named.later_scopes;
+    root = a.named.root;
+  };
+  task = λ t. more (IsSameTask n) n.tasks w.tasks v.tasks x y no_task a.named.tasks_born a.named.task_names a.named.later_tasks refl h a.task t;
   scope = a.scope;
   task_sums = λ q. sum_by_push (λ z. q (live_part z)) v.tasks y ∙ ap (λ m. m + q (live_part y)) (a.task_sums q) ∙ ap (λ z. sum_by (λ u. q (named_task n (live_part u))) w.tasks + q z) h ∙ sym (sum_by_push (λ z. q (named_task n (live_part z))) w.tasks x);
   scope_sums = a.scope_sums;
@@ -190,15 +196,17 @@ alike_more_tasks n w v a x y h = record {
 
 pub alike_more_scopes : (n : Names) (w v : World) → IsAlike n w v → (x y : Scope) → IsSameScope n x y → IsAlike n (record w { scopes = w.scopes ++ x ∷ [] }) (record v { scopes = v.scopes ++ y ∷ [] })
 alike_more_scopes n w v a x y h = record {
-  tasks_born = a.tasks_born;
-  scopes_born = length-append v.scopes (y ∷ []) ∙ ap (λ m. m + 1) a.scopes_born ∙ sym (length-append w.scopes (x ∷ []));
-  task_names = a.task_names;
-  scope_names = a.scope_names;
-  later_tasks = a.later_tasks;
-  later_scopes = λ s past. a.later_scopes s (let l = length-append w.scopes (x ∷ []) in omega (arith, l, past));
-  root = a.root;
+  named = record {
+    tasks_born = a.named.tasks_born;
+    scopes_born = length-append v.scopes (y ∷ []) ∙ ap (λ m. m + 1) a.named.scopes_born ∙ sym (length-append w.scopes (x ∷ []));
+    task_names = a.named.task_names;
+    scope_names = a.named.scope_names;
+    later_tasks = a.named.later_tasks;
+    later_scopes = λ s past. a.named.later_scopes s (let l = length-append w.scopes (x ∷ []) in omega (arith, l, past));
+    root = a.named.root;
+  };
   task = a.task;
-  scope = λ s. more (IsSameScope n) n.scopes w.scopes v.scopes x y no_scope a.scopes_born a.scope_names a.later_scopes (ap (λ m. plain_part (record no_scope { owner = m })) (sym a.root)) h a.scope s;
+  scope = λ s. more (IsSameScope n) n.scopes w.scopes v.scopes x y no_scope a.named.scopes_born a.named.scope_names a.named.later_scopes (ap (λ m. plain_part (record no_scope { owner = m })) (sym a.named.root)) h a.scope s;
   task_sums = a.task_sums;
   scope_sums = λ q. sum_by_push (λ z. q (plain_part z)) v.scopes y ∙ ap (λ m. m + q (plain_part y)) (a.scope_sums q) ∙ ap (λ z. sum_by (λ u. q (named_scope n (plain_part u))) w.scopes + q z) h ∙ sym (sum_by_push (λ z. q (named_scope n (plain_part z))) w.scopes x);
 }
@@ -226,14 +234,16 @@ raise_same n one s x y h = raise_part (n.scopes s) y ∙ ap (raise (n.scopes s))
 pub alike_raised : (n : Names) (w v : World) → IsAlike n w v → (s : ℕ) → IsAlike n (record w { tasks = raised s w.tasks }) (record v { tasks = raised (n.scopes s) v.tasks })
 alike_raised n w v a s =
     record {
-      tasks_born = map_length (raise (n.scopes s)) v.tasks ∙ a.tasks_born ∙ sym (map_length (raise s) w.tasks);
-      scopes_born = a.scopes_born;
-      task_names = a.task_names;
-      scope_names = a.scope_names;
-      later_tasks = λ t past. a.later_tasks t (rw (map_length (raise s) w.tasks) at past);
-      later_scopes = a.later_scopes;
-      root = a.root;
-      task = λ t. rw (get_map (raise s) w.tasks t no_task, get_map (raise (n.scopes s)) v.tasks (n.tasks t) no_task) (raise_same n a.scope_names s (task_at w t) (task_at v (n.tasks t)) (a.task t));
+      named = record {
+        tasks_born = map_length (raise (n.scopes s)) v.tasks ∙ a.named.tasks_born ∙ sym (map_length (raise s) w.tasks);
+        scopes_born = a.named.scopes_born;
+        task_names = a.named.task_names;
+        scope_names = a.named.scope_names;
+        later_tasks = λ t past. a.named.later_tasks t (rw (map_length (raise s) w.tasks) at past);
+        later_scopes = a.named.later_scopes;
+        root = a.named.root;
+      };
+      task = λ t. rw (get_map (raise s) w.tasks t no_task, get_map (raise (n.scopes s)) v.tasks (n.tasks t) no_task) (raise_same n a.named.scope_names s (task_at w t) (task_at v (n.tasks t)) (a.task t));
       scope = a.scope;
       task_sums = sums;
       scope_sums = a.scope_sums;
@@ -244,7 +254,7 @@ alike_raised n w v a s =
         sum_map (λ x. q (live_part x)) (raise (n.scopes s)) v.tasks
         ∙ sum_same (λ x. q (live_part (raise (n.scopes s) x))) (λ x. q (raise (n.scopes s) (live_part x))) (λ x. ap q (raise_part (n.scopes s) x)) v.tasks
         ∙ a.task_sums (λ x. q (raise (n.scopes s) x))
-        ∙ sum_same (λ x. q (raise (n.scopes s) (named_task n (live_part x)))) (λ x. q (named_task n (live_part (raise s x)))) (λ x. ap q (raise_named n a.scope_names s (live_part x) ∙ ap (named_task n) (sym (raise_part s x)))) w.tasks
+        ∙ sum_same (λ x. q (raise (n.scopes s) (named_task n (live_part x)))) (λ x. q (named_task n (live_part (raise s x)))) (λ x. ap q (raise_named n a.named.scope_names s (live_part x) ∙ ap (named_task n) (sym (raise_part s x)))) w.tasks
         ∙ sym (sum_map (λ x. q (named_task n (live_part x))) (raise s) w.tasks)
 
 -- ---- the cancel of a scope

@@ -96,7 +96,7 @@ alike_open n w v a t f x joiner timed alive =
     let here : Scope = fresh_scope t joiner timed (environment_of (task_at w t) w) in
     let there : Scope = fresh_scope (n.tasks t) joiner timed (environment_of (task_at v (n.tasks t)) v) in
     let m : ℕ = length w.scopes in
-    let same : length v.scopes ≡ n.scopes m = a.scopes_born ∙ sym (a.later_scopes m (omega arith)) in
+    let same : length v.scopes ≡ n.scopes m = a.named.scopes_born ∙ sym (a.named.later_scopes m (omega arith)) in
     let after : Frame = record (steps f 0 []) { entries = entry.Scope m ∷ f.entries; slots = slice_set f.slots x (Own m) } in
     alike_frame n (record w { scopes = w.scopes ++ here ∷ [] }) (record v { scopes = v.scopes ++ there ∷ [] }) (alike_more_scopes n w v a here there refl) t after
     (record (steps g 0 []) { entries = entry.Scope (length v.scopes) ∷ g.entries; slots = slice_set g.slots x (Own (length v.scopes)) }) alive
@@ -123,7 +123,7 @@ alike_fork p n w v a t f s m h alive =
     let y : Task = subtask_of p v g (n.scopes s) m in
     let made : y ≡ named_task n x = ap (λ (b : Bool). record (named_task n x) { started = not b }) (cancelled_same n w v a s) in
     let c : ℕ = length w.tasks in
-    let same : length v.tasks ≡ n.tasks c = a.tasks_born ∙ sym (a.later_tasks c (omega arith)) in
+    let same : length v.tasks ≡ n.tasks c = a.named.tasks_born ∙ sym (a.named.later_tasks c (omega arith)) in
     alike_frame n (record w { tasks = w.tasks ++ x ∷ [] }) (record v { tasks = v.tasks ++ y ∷ [] }) (alike_more_tasks n w v a x y (ap live_part made ∙ same_made n x)) t
     (forked f (routine p m).args h c) (forked g (routine p m).args h (length v.tasks))
     (ap lives (get_or_append_left w.tasks (x ∷ []) no_task t (born w t alive)) ∙ alive)

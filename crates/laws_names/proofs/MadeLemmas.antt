@@ -7,7 +7,7 @@ use Rattle.std.proofs.lemmas.Bool.Decides.{nat_tests}
 use Rattle.std.proofs.lemmas.List.Edits.{length-remove, get_or-remove_below, get_or-remove_above}
 use Rattle.std.proofs.lemmas.List.Sums.{sum_by-cons, sum_by-remove}
 use Rattle.sts_model.specs.World.{World, task_at, scope_at, no_task, no_scope}
-use Rattle.laws_names.specs.Names.{Names, IsAlike, IsOneToOne, live_part, plain_part, named_task, named_scope, IsSameTask, IsSameScope}
+use Rattle.laws_names.specs.Names.{Names, IsAlike, AreNamed, IsOneToOne, live_part, plain_part, named_task, named_scope, IsSameTask, IsSameScope}
 use Rattle.laws_names.proofs.NameLemmas.{get_past, name_below}
 
 -- a place after another one was taken out
@@ -67,40 +67,28 @@ named_sum {X} q r d (x ∷ xs) ys f one long inside same =
 -- ---- states
 
 pub record AreSame (n : Names) (w v : World) : Type 0 where
-  pub tasks_born : length v.tasks ≡ length w.tasks
-  pub scopes_born : length v.scopes ≡ length w.scopes
-  pub task_names : IsOneToOne n.tasks
-  pub scope_names : IsOneToOne n.scopes
-  pub later_tasks : (t : ℕ) → length w.tasks ≤ t → n.tasks t ≡ t
-  pub later_scopes : (s : ℕ) → length w.scopes ≤ s → n.scopes s ≡ s
-  pub root : n.tasks 0 ≡ 0
+  pub named : AreNamed n w v
   pub task : (t : ℕ) → t < length w.tasks → IsSameTask n (task_at w t) (task_at v (n.tasks t))
   pub scope : (s : ℕ) → s < length w.scopes → IsSameScope n (scope_at w s) (scope_at v (n.scopes s))
 
 pub alike_made : (n : Names) (w v : World) → AreSame n w v → IsAlike n w v
 alike_made n w v h =
     record {
-      tasks_born = h.tasks_born;
-      scopes_born = h.scopes_born;
-      task_names = h.task_names;
-      scope_names = h.scope_names;
-      later_tasks = h.later_tasks;
-      later_scopes = h.later_scopes;
-      root = h.root;
+      named = h.named;
       task = λ t. at_task t (ltb t (length w.tasks)) refl;
       scope = λ s. at_scope s (ltb s (length w.scopes)) refl;
-      task_sums = λ q. named_sum (λ x. q (live_part x)) (λ x. q (named_task n (live_part x))) no_task w.tasks v.tasks n.tasks h.task_names h.tasks_born
-          (λ t less. let e = name_below n.tasks h.task_names (length w.tasks) h.later_tasks t less in let b = h.tasks_born in omega (arith, e, b)) (λ t less. ap q (h.task t less));
-      scope_sums = λ q. named_sum (λ x. q (plain_part x)) (λ x. q (named_scope n (plain_part x))) no_scope w.scopes v.scopes n.scopes h.scope_names h.scopes_born
-          (λ s less. let e = name_below n.scopes h.scope_names (length w.scopes) h.later_scopes s less in let b = h.scopes_born in omega (arith, e, b)) (λ s less. ap q (h.scope s less));
+      task_sums = λ q. named_sum (λ x. q (live_part x)) (λ x. q (named_task n (live_part x))) no_task w.tasks v.tasks n.tasks h.named.task_names h.named.tasks_born
+          (λ t less. let e = name_below n.tasks h.named.task_names (length w.tasks) h.named.later_tasks t less in let b = h.named.tasks_born in omega (arith, e, b)) (λ t less. ap q (h.task t less));
+      scope_sums = λ q. named_sum (λ x. q (plain_part x)) (λ x. q (named_scope n (plain_part x))) no_scope w.scopes v.scopes n.scopes h.named.scope_names h.named.scopes_born
+          (λ s less. let e = name_below n.scopes h.named.scope_names (length w.scopes) h.named.later_scopes s less in let b = h.named.scopes_born in omega (arith, e, b)) (λ s less. ap q (h.scope s less));
     }
   where
     at_task : (t : ℕ) (b : Bool) → ltb t (length w.tasks) ≡ b → IsSameTask n (task_at w t) (task_at v (n.tasks t))
     at_task t true e = h.task t (ltb-true t (length w.tasks) e)
     at_task t false e =
         let past : length w.tasks ≤ t = grind (arith, nat_tests) in
-        let same = h.later_tasks t past in
-        let born = h.tasks_born in
+        let same = h.named.later_tasks t past in
+        let born = h.named.tasks_born in
         let past_too : length v.tasks ≤ n.tasks t = omega (arith, past, same, born) in
         rw (get_past w.tasks t no_task past, get_past v.tasks (n.tasks t) no_task past_too) refl
 
@@ -108,7 +96,7 @@ alike_made n w v h =
     at_scope s true e = h.scope s (ltb-true s (length w.scopes) e)
     at_scope s false e =
         let past : length w.scopes ≤ s = grind (arith, nat_tests) in
-        let same = h.later_scopes s past in
-        let born = h.scopes_born in
+        let same = h.named.later_scopes s past in
+        let born = h.named.scopes_born in
         let past_too : length v.scopes ≤ n.scopes s = omega (arith, past, same, born) in
-        rw (get_past w.scopes s no_scope past, get_past v.scopes (n.scopes s) no_scope past_too) (ap (λ m. plain_part (record no_scope { owner = m })) (sym h.root))
+        rw (get_past w.scopes s no_scope past, get_past v.scopes (n.scopes s) no_scope past_too) (ap (λ m. plain_part (record no_scope { owner = m })) (sym h.named.root))

@@ -47,12 +47,12 @@ pub any_lives_same : (n : Names) (w v : World) → IsAlike n w v → (s : ℕ) �
 any_lives_same n w v a s =
     any_count (is_living_subtask (n.scopes s)) v.tasks
     ∙ ap (λ m. nat_lt 0 m) (count_alike n w v a (is_living_subtask (n.scopes s)) (is_living_subtask s) (λ x. part_is (is_living_subtask (n.scopes s)) (λ z. refl) x) (λ x. part_is (is_living_subtask s) (λ z. refl) x)
-    (λ x. ap (λ b. b && lives x) (in_named n.scopes a.scope_names s x.scope)))
+    (λ x. ap (λ b. b && lives x) (in_named n.scopes a.named.scope_names s x.scope)))
     ∙ sym (any_count (is_living_subtask s) w.tasks)
 
 pub subtask_count_same : (n : Names) (w v : World) → IsAlike n w v → (s : ℕ) → subtask_count v (n.scopes s) ≡ subtask_count w s
 subtask_count_same n w v a s =
-    count_alike n w v a (is_subtask (n.scopes s)) (is_subtask s) (λ x. part_is (is_subtask (n.scopes s)) (λ z. refl) x) (λ x. part_is (is_subtask s) (λ z. refl) x) (λ x. in_named n.scopes a.scope_names s x.scope)
+    count_alike n w v a (is_subtask (n.scopes s)) (is_subtask s) (λ x. part_is (is_subtask (n.scopes s)) (λ z. refl) x) (λ x. part_is (is_subtask s) (λ z. refl) x) (λ x. in_named n.scopes a.named.scope_names s x.scope)
 
 stands_same : (n : Names) (w v : World) → IsAlike n w v → (o : Option ℕ) → stands_in v (option_map n.scopes o) ≡ stands_in w o
 stands_same n w v a None = refl
@@ -71,7 +71,7 @@ pub ends_same : (n : Names) (w v : World) → IsAlike n w v → (s : ℕ) → en
 ends_same n w v a s = ap ends (a.scope s) ∙ ends_named n (scope_at w s).completions
 
 parent_same : (n : Names) (w v : World) → IsAlike n w v → (o : Option ℕ) → IsSameScope n (parent w o) (parent v (option_map n.scopes o))
-parent_same n w v a None = ap (λ m. plain_part (record (parent w None) { owner = m })) (sym a.root)
+parent_same n w v a None = ap (λ m. plain_part (record (parent w None) { owner = m })) (sym a.named.root)
 parent_same n w v a (Some s) = a.scope s
 
 scope_of_same : (n : Names) (w v : World) → IsAlike n w v → (t : ℕ) → IsSameScope n (scope_of w t) (scope_of v (n.tasks t))
@@ -79,7 +79,7 @@ scope_of_same n w v a t =
     ap (λ (o : Option ℕ). plain_part (parent v o)) (same_scope n (task_at w t) (task_at v (n.tasks t)) (a.task t)) ∙ parent_same n w v a (task_at w t).scope
 
 pub sub_state_same : (n : Names) (w v : World) → IsAlike n w v → (t : ℕ) → sub_state v (n.tasks t) ≡ sub_state w t
-sub_state_same n w v a t = ap (λ (x : Scope). completion_of x.completions (n.tasks t)) (scope_of_same n w v a t) ∙ completion_named n a.task_names (scope_of w t).completions t
+sub_state_same n w v a t = ap (λ (x : Scope). completion_of x.completions (n.tasks t)) (scope_of_same n w v a t) ∙ completion_named n a.named.task_names (scope_of w t).completions t
 
 pub tally_same : (n : Names) (w v : World) → IsAlike n w v → (s : ℕ) (k : Kind) → tally v (n.scopes s) k ≡ tally w s k
 tally_same n w v a s S = ap (λ (es : List End). count_by is_success es) (ends_same n w v a s)
@@ -98,12 +98,12 @@ slot_named n f x = get_map (named_slot n) f.slots x Empty
 
 is_of_same : (n : Names) (w v : World) → IsAlike n w v → (s : ℕ) (x : Slot) → is_of v (n.scopes s) (named_slot n x) ≡ is_of w s x
 is_of_same n w v a s Empty = refl
-is_of_same n w v a s (Own r) = same_test n.scopes a.scope_names r s
+is_of_same n w v a s (Own r) = same_test n.scopes a.named.scope_names r s
 is_of_same n w v a s (Lent r) = refl
 is_of_same n w v a s (Sub t) = is_subtask_same (task_at w t) (task_at v (n.tasks t)) (same_scope n (task_at w t) (task_at v (n.tasks t)) (a.task t))
   where
     is_subtask_same : (x y : Task) → y.scope ≡ option_map n.scopes x.scope → is_subtask (n.scopes s) y ≡ is_subtask s x
-    is_subtask_same x y e = ap (λ (o : Option ℕ). is_subtask (n.scopes s) (record y { scope = o })) e ∙ in_named n.scopes a.scope_names s x.scope
+    is_subtask_same x y e = ap (λ (o : Option ℕ). is_subtask (n.scopes s) (record y { scope = o })) e ∙ in_named n.scopes a.named.scope_names s x.scope
 
 pub cleared_same : (n : Names) (w v : World) → IsAlike n w v → (s : ℕ) (xs : List Slot) → cleared v (n.scopes s) (map (named_slot n) xs) ≡ map (named_slot n) (cleared w s xs)
 cleared_same n w v a s [] = refl
@@ -190,9 +190,9 @@ misjoins_same n w v a f (instr.Join s failed timeout interrupted) =
 misjoins_same n w v a f i = refl
 
 room_same : (n : Names) (w v : World) → IsAlike n w v → (f : Frame) (i : Instr) → has_no_room v (named_frame n f) i ≡ has_no_room w f i
-room_same n w v a f (instr.Open s j timed) = rw (map_length (named_entry n) f.entries, standing_scopes_same n w v a, a.scopes_born) refl
+room_same n w v a f (instr.Open s j timed) = rw (map_length (named_entry n) f.entries, standing_scopes_same n w v a, a.named.scopes_born) refl
 room_same n w v a f (instr.Bind k) = rw (map_length (named_entry n) f.entries) refl
-room_same n w v a f (instr.Fork s g h) = rw (standing_tasks_same n w v a, a.tasks_born) refl
+room_same n w v a f (instr.Fork s g h) = rw (standing_tasks_same n w v a, a.named.tasks_born) refl
 room_same n w v a f i = refl
 
 legal_same : (p : Program) (n : Names) (w v : World) → IsAlike n w v → (f : Frame) (i : Instr) → is_illegal p v (named_frame n f) i ≡ is_illegal p w f i
@@ -215,13 +215,13 @@ binds_named : (n : Names) (w v : World) → IsAlike n w v → (s : ℕ) (es : Li
 binds_named n w v a s [] = refl
 binds_named n w v a s (entry.Binding k x ∷ es) = refl
 binds_named n w v a s (entry.Scope r ∷ es) =
-    ap (λ b. cond b false (binds_after (n.scopes s) (map (named_entry n) es))) (same_test n.scopes a.scope_names r s)
+    ap (λ b. cond b false (binds_after (n.scopes s) (map (named_entry n) es))) (same_test n.scopes a.named.scope_names r s)
     ∙ ap (λ b. cond (r == s) false b) (binds_named n w v a s es)
 
 entry_named : (n : Names) (w v : World) → IsAlike n w v → (s : ℕ) (es : List Entry) → innermost (is_entry_of (n.scopes s)) (map (named_entry n) es) ≡ innermost (is_entry_of s) es
 entry_named n w v a s [] = refl
 entry_named n w v a s (entry.Binding k x ∷ es) = refl
-entry_named n w v a s (entry.Scope r ∷ es) = same_test n.scopes a.scope_names r s
+entry_named n w v a s (entry.Scope r ∷ es) = same_test n.scopes a.named.scope_names r s
 
 binding_named : (n : Names) (es : List Entry) → innermost is_binding (map (named_entry n) es) ≡ innermost is_binding es
 binding_named n [] = refl

@@ -91,8 +91,8 @@ IsSameTask n x y = live_part y ≡ named_task n (live_part x)
 abbrev pub IsSameScope : Names → Scope → Scope → Type 0
 IsSameScope n x y = plain_part y ≡ named_scope n (plain_part x)
 
--- with these names, the second state has what the first has, as far as a later event can read it
-pub record IsAlike (n : Names) (w v : World) : Type 0 where
+-- each birth of the first state has one name in the second, and later births keep their numbers
+pub record AreNamed (n : Names) (w v : World) : Type 0 where
   pub tasks_born : length v.tasks ≡ length w.tasks
   pub scopes_born : length v.scopes ≡ length w.scopes
   pub task_names : IsOneToOne n.tasks
@@ -100,6 +100,10 @@ pub record IsAlike (n : Names) (w v : World) : Type 0 where
   pub later_tasks : (t : ℕ) → length w.tasks ≤ t → n.tasks t ≡ t
   pub later_scopes : (s : ℕ) → length w.scopes ≤ s → n.scopes s ≡ s
   pub root : n.tasks 0 ≡ 0
+
+-- with these names, the second state has what the first has, as far as a later event can read it
+pub record IsAlike (n : Names) (w v : World) : Type 0 where
+  pub named : AreNamed n w v
   pub task : (t : ℕ) → IsSameTask n (task_at w t) (task_at v (n.tasks t))
   pub scope : (s : ℕ) → IsSameScope n (scope_at w s) (scope_at v (n.scopes s))
   pub task_sums : (q : Task → ℕ)
