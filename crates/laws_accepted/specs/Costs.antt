@@ -138,7 +138,7 @@ entry_use k budgets tasks (entry.Binding key value) = k.binding
 abbrev pub use_of : Peak → List Budgets → List Task → Task → ℕ
 use_of k budgets tasks task = k.task + sum_by (entry_use k budgets tasks) task.frame.entries
 
--- the part of its share that a task may still use; 0 if the task doesn't count
+-- the part of its share that a task doesn't use; 0 if the task doesn't count
 abbrev pub slack : Peak → List Budgets → World → Task → ℕ
 slack k budgets w task =
     if is_standing_task w task then share k budgets task - use_of k budgets w.tasks task else 0
