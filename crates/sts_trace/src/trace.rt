@@ -40,7 +40,8 @@ fn event_line(at: u64, line: &[u8]) -> Result<Event, TraceError>
     event_said(at, word, number)
 }
 
-// The number that a digit from 1 to 9 and up to eight more digits spell, and the text after them.
+// The number that a digit from 1 to 9 and the digits after it spell, and the text after them. The
+// six largest numbers are left to the caller.
 #[inline(always)]
 fn with_digits(first: u32, text: &[u8]) -> Option<(u32, &[u8])>
     requires digit { (0 < first) × (first < 10) }
@@ -51,7 +52,7 @@ fn with_digits(first: u32, text: &[u8]) -> Option<(u32, &[u8])>
     let mut number = first;
     let mut rest = text;
     while let [digit @ b'0'..=b'9', after @ ..] = rest {
-        if number >= 100_000_000 {
+        if number >= u32::MAX / 10 {
             return None;
         }
         number = number * 10 + u32::from(*digit - b'0');
@@ -60,8 +61,8 @@ fn with_digits(first: u32, text: &[u8]) -> Option<(u32, &[u8])>
     Some((number, rest))
 }
 
-// The number that the text begins with, and the text after it. Numbers of more than nine digits are
-// left to the caller.
+// The number that the text begins with, and the text after it. The six largest numbers are left to
+// the caller.
 #[inline(always)]
 fn first_number(text: &[u8]) -> Option<(u32, &[u8])>
     ensures spelled { IfSome result (λ s. text.now ≡ decimal s.0 ++ s.1.now) }

@@ -7,7 +7,7 @@ abbrev pub invariant-loop-rest : goal.invariant-loop-rest
 invariant-loop-rest l = record {
   spelled : decimal l.first ++ l.text ≡ decimal l.number ++ l.rest;
   some : 0 < l.number;
-  small : l.number < 10 ^ 9;
+  small : l.number < 2 ^ 32;
   shorter : length l.rest ≤ length l.text;
 }
 
