@@ -82,7 +82,7 @@ free : (xs : List ℕ) → list_all (λ b. not (is_newline b)) xs ≡ true → A
 free [] e = All-nil (λ b. is_newline b ≡ false)
 free (x ∷ xs) e = free_step x xs (is_newline x) refl e (free xs)
 
-event_one_line : (e : Event) → IsEvent e → All (λ b. is_newline b ≡ false) (event_text e)
+pub event_one_line : (e : Event) → IsEvent e → All (λ b. is_newline b ≡ false) (event_text e)
 event_one_line (Step n) h = All-append (λ b. is_newline b ≡ false) (codes "step ") (decimal n) (free (codes "step ") refl) (number_no_newline n h)
 event_one_line (Interrupt n) h = All-append (λ b. is_newline b ≡ false) (codes "interrupt ") (decimal n) (free (codes "interrupt ") refl) (number_no_newline n h)
 event_one_line (Expire n) h = All-append (λ b. is_newline b ≡ false) (codes "expire ") (decimal n) (free (codes "expire ") refl) (number_no_newline n h)

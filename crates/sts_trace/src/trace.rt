@@ -1,7 +1,8 @@
 //! Reading traces.
 
-ghost use Rattle.std.specs.Prelude.{◌≡◌, ◌<◌, ◌^◌, ◌∷◌, [], List, length, IfOk, IfSome, Ok};
-ghost use Rattle.std.specs.Prelude.{MatchOption};
+ghost use Rattle.std.specs.Prelude.{◌≡◌, ◌<◌, ◌≤◌, ◌^◌, ◌∷◌, ◌++◌, [], List, length, IfOk, IfSome};
+ghost use Rattle.std.specs.Prelude.{MatchOption, IsTrue, ◌↔◌, Ok, codes};
+ghost use Rattle.std.specs.Fmt.{decimal};
 ghost use Rattle.std.specs.List.{All};
 ghost use Rattle.sts_model.specs.declared.event.Event.{Event};
 ghost use Rattle.sts_model.specs.declared.event.Event.TheVariants.{Step};
@@ -13,7 +14,7 @@ use crate::error::TraceError;
 use crate::fields::event_of;
 use std::alloc::Global;
 use sts_model::Event;
-use sts_text::{cut_at_newline, cut_at_space, numeral};
+use sts_text::{cut_at_newline, cut_at_space};
 
 // Reads a line of two fields.
 fn event_said(at: u64, word: &[u8], number: &[u8]) -> Result<Event, TraceError>
@@ -39,19 +40,73 @@ fn event_line(at: u64, line: &[u8]) -> Result<Event, TraceError>
     event_said(at, word, number)
 }
 
+// The number that a digit from 1 to 9 and the digits after it spell, and the text after them. The
+// six largest numbers are left to the caller.
+#[inline(always)]
+fn with_digits(first: u32, text: &[u8]) -> Option<(u32, &[u8])>
+    requires digit { (0 < first) × (first < 10) }
+    ensures spelled { IfSome result (λ s. decimal first ++ text.now ≡ decimal s.0 ++ s.1.now) }
+    ensures small { IfSome result (λ s. s.0 < 2 ^ 32) }
+    ensures shorter { IfSome result (λ s. length s.1.now ≤ length text.now) }
+{
+    let mut number = first;
+    let mut rest = text;
+    while let [digit @ b'0'..=b'9', after @ ..] = rest {
+        if number >= u32::MAX / 10 {
+            return None;
+        }
+        number = number * 10 + u32::from(*digit - b'0');
+        rest = after;
+    }
+    Some((number, rest))
+}
+
+// The number that the text begins with, and the text after it. The six largest numbers are left to
+// the caller.
+#[inline(always)]
+fn first_number(text: &[u8]) -> Option<(u32, &[u8])>
+    ensures spelled { IfSome result (λ s. text.now ≡ decimal s.0 ++ s.1.now) }
+    ensures small { IfSome result (λ s. s.0 < 2 ^ 32) }
+    ensures shorter { IfSome result (λ s. length s.1.now < length text.now) }
+{
+    match text {
+        [b'0', rest @ ..] => Some((0, rest)),
+        [digit @ b'1'..=b'9', rest @ ..] => with_digits(u32::from(*digit - b'0'), rest),
+        _ => None,
+    }
+}
+
+// Is the word `step`? As numbers, its four bytes are compared at once.
+#[inline(always)]
+#[tactic(auto, using(crate::proofs::Steps::word_decides))]
+fn is_step(word: [u8; 4]) -> bool
+    ensures { IsTrue result ↔ (word ≡ codes "step") }
+{
+    u32::from_le_bytes(word) == u32::from_le_bytes(*b"step")
+}
+
 // The task of the step that the first line is, and the text after that line.
 #[inline(always)]
-#[tactic(auto, using(crate::proofs::Steps::step_first))]
 fn first_step(text: &[u8]) -> Option<(u32, &[u8])>
     ensures lines { IfSome result (λ s. lines text.now ≡ event_text (Step s.0) ∷ lines s.1.now) }
     ensures shorter { IfSome result (λ s. length s.1.now < length text.now) }
 {
-    let [b's', b't', b'e', b'p', b' ', rest @ ..] = text else {
+    // With its newline a step has seven bytes or more. After this test the compiler leaves out most
+    // of the tests of lengths below.
+    if text.len() < 7 {
+        return None;
+    }
+    let (word, rest) = text.split_first_chunk::<4>()?;
+    if !is_step(*word) {
+        return None;
+    }
+    let [b' ', number @ ..] = rest else {
         return None;
     };
-    let (number, after) = cut_at_newline(rest)?;
-    let task = numeral(number)?;
-    Some((task, after))
+    match first_number(number)? {
+        (task, [b'\n', after @ ..]) => Some((task, after)),
+        _ => None,
+    }
 }
 
 // The first line with the text after it, or `None` if the text has no newline. A step gives its
