@@ -1,5 +1,6 @@
 -- The instructions of a program that rely on a rule that JDK 25 doesn't share (this project's own).
-use Rattle.std.specs.Prelude.{◌≡◌, ℕ, ◌+◌, List, [], ◌∷◌, ◌++◌, length}
+use Rattle.std.specs.Prelude.{◌≡◌, ℕ, ◌+◌, ◌<◌, List, [], ◌∷◌, ◌++◌, length, Option, None}
+use Rattle.std.specs.Prelude.{MatchOption, slice_index_or}
 use Rattle.sts_code.specs.Program.{Program}
 use Rattle.sts_rules.specs.Refusal.{size}
 use Rattle.look_accepted.specs.declared.notes.Note.{Note}
@@ -9,6 +10,12 @@ use Rattle.look_accepted.specs.Relying.{Relies}
 -- the instruction at a place relies on no such rule
 abbrev pub IsPlain : Program → ℕ → ℕ → Type 0
 IsPlain p f pc = (r : Reliance) → ¬ Relies p f pc r
+
+-- for each place of a function the rule that its instruction relies on, or none if it relies on none
+pub record AreRules (p : Program) (f : ℕ) (rules : List (Option Reliance)) : Type 0 where
+  pub long : length rules ≡ size p f
+  pub each : (pc : ℕ) → pc < size p f
+      → MatchOption (slice_index_or rules pc None) (IsPlain p f pc) (Relies p f pc)
 
 -- the notes on the first places of a function: each place where the instruction relies on such a
 -- rule, with the rule, in order, and no other place

@@ -70,6 +70,10 @@ relied_on (Get h) s mark = late_subtask s (kind s h)
 relied_on (Except h) s mark = late_subtask s (kind s h)
 relied_on _ s mark = None
 
+-- the rule that the instruction of a node relies on
+abbrev pub relied_on_at : Program → ℕ → Node → Option Reliance
+relied_on_at p f n = relied_on (instr_at (routine p f).code n.pc) n.state n.mark
+
 -- the instruction at a place relies on the rule, in some node that a control path reaches
 pub data Relies (p : Program) (f pc : ℕ) (r : Reliance) : Type 0 where
   relies : (n : Node) → Comes p f n → n.pc ≡ pc

@@ -1,10 +1,11 @@
 //! The instructions of a program that rely on a rule that JDK 25 doesn't share.
 
-ghost use Rattle.std.specs.Prelude.{◌≡◌, ◌<◌, length, IfOk, OnOk, MatchOption};
+ghost use Rattle.std.specs.Prelude.{◌≡◌, ◌<◌, length, IfOk, OnOk, None, if◌then◌else◌};
+ghost use Rattle.std.specs.Prelude.{is_some, replicate, slice_index_or, slice_set};
 ghost use Rattle.sts_code.specs.Program.{instr_at, routine};
 ghost use Rattle.sts_rules.specs.Refusal.{size};
 ghost use Rattle.look_accepted.specs.Found.{AreAll};
-ghost use Rattle.look_accepted.specs.Relying.{Relies};
+ghost use Rattle.look_accepted.specs.Relying.{relied_on_at};
 ghost use Rattle.look_accepted.specs.Notes as def;
 
 use crate::node::Node;
@@ -28,25 +29,47 @@ fn instr_here(program: &Program, function: u32, place: usize) -> Instr
     code_of(program, function as usize)[place]
 }
 
-/// The rule that the instruction at a place relies on, among all nodes of its function.
-fn rule_at(program: &Program, function: u32, nodes: &[Node], place: usize) -> Option<Reliance>
-    requires function { function < length program.now.routines }
-    requires place { place < size program.now function }
-    requires all { AreAll program.now function nodes.now }
-    ensures { MatchOption result (def.IsPlain program.now function place)
-        (Relies program.now function place) }
+/// A table of `count` places without a rule.
+fn no_rules(alloc: Global, count: usize) -> Result<Vec<Option<Reliance>>, AllocError>
+    ensures { IfOk result (λ t. t.items ≡ replicate count None) }
 {
-    let instr = instr_here(program, function, place);
-    for number in 0..nodes.len() {
-        let node = &nodes[number];
-        if node.pc == place {
-            let rule = relied_on(instr, &node.state, node.mark);
-            if rule.is_some() {
-                return rule;
-            }
-        }
+    let mut rules = Vec::with_capacity(alloc, count)?;
+    for _ in 0..count {
+        rules.push(None)?;
     }
-    None
+    Ok(rules)
+}
+
+/// Notes the rule that the instruction of a node relies on, unless one was noted for its place.
+fn note_rule(program: &Program, function: u32, node: &Node, rules: &mut Vec<Option<Reliance>>)
+    requires { length rules.old.items ≡ size program.now function }
+    ensures { rules.new.items ≡ (if is_some (slice_index_or rules.old.items node.now.pc None)
+        then rules.old.items
+        else slice_set rules.old.items node.now.pc
+        (relied_on_at program.now function node.now)) }
+{
+    if node.pc < rules.len() && rules[node.pc].is_none() {
+        let instr = instr_here(program, function, node.pc);
+        rules[node.pc] = relied_on(instr, &node.state, node.mark);
+    }
+}
+
+/// The rule that the instruction at each place relies on, given all nodes of the function.
+fn all_rules(
+    alloc: Global,
+    program: &Program,
+    function: u32,
+    nodes: &[Node],
+) -> Result<Vec<Option<Reliance>>, AllocError>
+    requires function { function < length program.now.routines }
+    requires all { AreAll program.now function nodes.now }
+    ensures { IfOk result (λ t. def.AreRules program.now function t.items) }
+{
+    let mut rules = no_rules(alloc, code_of(program, function as usize).len())?;
+    for number in 0..nodes.len() {
+        note_rule(program, function, &nodes[number], &mut rules);
+    }
+    Ok(rules)
 }
 
 /// Adds the notes of a function.
@@ -61,9 +84,10 @@ fn add_notes(
         notes.old.items notes.new.items) }
 {
     let nodes = search(alloc, program, function)?;
+    let rules = all_rules(alloc, program, function, nodes.as_slice())?;
     let count = code_of(program, function as usize).len();
     for place in 0..count {
-        if let Some(reliance) = rule_at(program, function, nodes.as_slice(), place) {
+        if let Some(reliance) = rules[place] {
             notes.push(Note {
                 function,
                 place: place as u32,

@@ -6,26 +6,83 @@ ghost use Rattle.look_accepted.specs.Found as def;
 
 use crate::node::{Node, copy, first, followers, is_same};
 use std::alloc::{AllocError, Global};
-use sts_code::Program;
+use sts_code::{Program, code_of};
 
-fn is_known(nodes: &[Node], node: &Node) -> bool
+/// The numbers of the nodes by place: of the last one that was found at each place, and, for each
+/// node, of the one that was found before it at its place. A place has few nodes.
+#[derive(Drop)]
+struct Places {
+    last: Vec<Option<usize>>,
+    earlier: Vec<Option<usize>>,
+}
+
+impl Places {
+    /// No nodes yet, at this number of places.
+    fn new(alloc: Global, count: usize) -> Result<Places, AllocError> {
+        let mut last = Vec::with_capacity(alloc, count)?;
+        for _ in 0..count {
+            last.push(None)?;
+        }
+        Ok(Places {
+            last,
+            earlier: Vec::new(alloc),
+        })
+    }
+
+    /// The last node that was found at a place.
+    fn last_at(&self, pc: usize) -> Option<usize> {
+        match self.last.get(pc) {
+            Some(number) => *number,
+            None => None,
+        }
+    }
+
+    /// The node that was found before this one at its place.
+    fn earlier(&self, number: usize) -> Option<usize> {
+        match self.earlier.get(number) {
+            Some(number) => *number,
+            None => None,
+        }
+    }
+
+    /// Adds the next node, which is at this place.
+    fn add(&mut self, pc: usize) -> Result<(), AllocError> {
+        let number = self.earlier.len();
+        let last = self.last_at(pc);
+        self.earlier.push(last)?;
+        if pc < self.last.len() {
+            self.last[pc] = Some(number);
+        }
+        Ok(())
+    }
+}
+
+fn is_known(nodes: &[Node], places: &Places, node: &Node) -> bool
     ensures { result ≡ true → Contains nodes.now node.now }
 {
-    for number in 0..nodes.len() {
+    let mut at = places.last_at(node.pc);
+    let mut younger = nodes.len();
+    while let Some(number) = at {
+        if number >= younger {
+            return false;
+        }
         if is_same(&nodes[number], node) {
             return true;
         }
+        at = places.earlier(number);
+        younger = number;
     }
     false
 }
 
 /// Adds a node, unless it is there.
-fn add(nodes: &mut Vec<Node>, node: &Node) -> Result<(), AllocError>
+fn add(nodes: &mut Vec<Node>, places: &mut Places, node: &Node) -> Result<(), AllocError>
     ensures { IfOk result (λ _. def.Adds nodes.old.items node.now nodes.new.items) }
 {
-    if is_known(nodes.as_slice(), node) {
+    if is_known(nodes.as_slice(), places, node) {
         return Ok(());
     }
+    places.add(node.pc)?;
     nodes.push(copy(node))?;
     Ok(())
 }
@@ -36,6 +93,7 @@ fn expand(
     program: &Program,
     function: u32,
     nodes: &mut Vec<Node>,
+    places: &mut Places,
     at: usize,
 ) -> Result<(), AllocError>
     requires function { function < length program.now.routines }
@@ -48,7 +106,7 @@ fn expand(
 {
     let next = followers(alloc, program, function, &nodes[at])?;
     for number in 0..next.len() {
-        add(nodes, &next[number])?;
+        add(nodes, places, &next[number])?;
     }
     Ok(())
 }
@@ -63,12 +121,14 @@ pub fn search(alloc: Global, program: &Program, function: u32) -> Result<Vec<Nod
     ensures { IfOk result (λ v. def.AreAll program.now function v.items) }
 {
     let mut nodes = Vec::new(alloc);
+    let mut places = Places::new(alloc, code_of(program, function as usize).len())?;
+    places.add(0)?;
     nodes.push(first(program, function))?;
     for at in 0..usize::MAX {
         if at >= nodes.len() {
             break;
         }
-        expand(alloc, program, function, &mut nodes, at)?;
+        expand(alloc, program, function, &mut nodes, &mut places, at)?;
     }
     Ok(nodes)
 }

@@ -3,6 +3,7 @@ pub mod Lanes
 pub mod Marks
 pub mod Picture
 pub mod Place
+pub mod Present
 pub mod Style
 pub mod Windows
 pub mod Writing

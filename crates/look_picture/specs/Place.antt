@@ -1,6 +1,8 @@
 -- The positions of a picture's columns, lanes and brackets, in pixels (this project's own).
-use Rattle.std.specs.Prelude.{ℕ, ◌+◌, ◌*◌, Bool, not, ◌&&◌, ◌==◌, min, max, take, count_by}
+use Rattle.std.specs.Prelude.{ℕ, ◌+◌, ◌*◌, Bool, false, not, ◌&&◌, ◌==◌, nat_lt, min, max, take, count_by}
 use Rattle.sts_model.specs.declared.record.Scope.{Scope}
+use Rattle.sts_model.specs.declared.record.Entry.{Entry}
+use Rattle.sts_model.specs.declared.record.Entry.TheVariants as entry
 use Rattle.sts_model.specs.Living.{is_closed}
 use Rattle.sts_model.specs.World.{World, scope_at}
 
@@ -16,14 +18,22 @@ lane t = 72 + 52 * t
 abbrev pub is_open_of : ℕ → Scope → Bool
 is_open_of t scope = (scope.owner == t) && not (is_closed scope.phase)
 
+-- is it an entry of a scope that was born before s?
+abbrev pub is_before : ℕ → Entry → Bool
+is_before s (entry.Binding k v) = false
+is_before s (entry.Scope r) = nat_lt r s
+
 -- the number of scopes of its owner that a scope is in
 abbrev pub depth : World → ℕ → ℕ
 depth w s = count_by (is_open_of (scope_at w s).owner) (take s w.scopes)
 
--- the bracket of a scope is below its owner's lane; the bracket of a scope in another is lower, and
--- from the third scope on all have the same height
+-- the bracket of a scope of this task that is in so many others of it is below the task's lane; the
+-- bracket of a scope in another is lower, and from the third scope on all have the same height
+abbrev pub bracket_at : ℕ → ℕ → ℕ
+bracket_at owner depth = lane owner + 14 + 9 * min depth 2
+
 abbrev pub bracket : World → ℕ → ℕ
-bracket w s = lane (scope_at w s).owner + 14 + 9 * min (depth w s) 2
+bracket w s = bracket_at (scope_at w s).owner (depth w s)
 
 -- the width of a picture of these many events
 abbrev pub width : ℕ → ℕ

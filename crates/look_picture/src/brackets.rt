@@ -1,6 +1,6 @@
 //! The scopes in a column.
 
-ghost use Rattle.std.specs.Prelude.{◌≡◌, ◌++◌, ◌<◌, OnOk, length};
+ghost use Rattle.std.specs.Prelude.{◌≡◌, ◌++◌, ◌<◌, ◌≤◌, OnOk, count_by, length};
 ghost use Rattle.std.specs.String.{string_bytes};
 ghost use Rattle.sts_model.specs.Living as living;
 ghost use Rattle.sts_model.specs.World as model;
@@ -15,7 +15,7 @@ use crate::writing::{mark_end, mark_start, text_end, text_start};
 use look_lines::{phase_word, scope_place};
 use std::alloc::AllocError;
 use std::fmt::Write;
-use sts_model::Phase;
+use sts_model::{Entry, Phase, Stack};
 
 fn is_closed(phase: Phase) -> bool
     ensures { result ≡ living.is_closed phase }
@@ -23,12 +23,43 @@ fn is_closed(phase: Phase) -> bool
     matches!(phase, Phase::Closed)
 }
 
+/// The number of scopes in a structure list that were born before a scope.
+fn scopes_before(entries: &Stack<Entry, 16>, s: u32) -> usize
+    ensures value { result ≡ count_by (place.is_before s) entries.now }
+    ensures few { result ≤ 16 }
+{
+    let mut count = 0;
+    for i in 0..entries.len() {
+        if let Entry::Scope(r) = entries.get_or(i, Entry::Scope(s)) {
+            if r < s {
+                count += 1;
+            }
+        }
+    }
+    count
+}
+
+/// The number of scopes of its owner that a scope is in. The owner has them in its structure list.
+fn depth(change: Change<'_>, s: u32) -> usize
+    requires { s < length change.world.now.scopes }
+    ensures value { result ≡ place.depth change.entry.world.now s }
+    ensures few { result ≤ 16 }
+{
+    let records = change.world.records();
+    let owner = records.owner(s);
+    if records.lives(owner) {
+        scopes_before(&records.frame(owner).entries, s)
+    } else {
+        0
+    }
+}
+
 /// The height of a scope's bracket.
 fn height_of(change: Change<'_>, s: u32) -> u64
     requires { s < length change.world.now.scopes }
     ensures { result ≡ place.bracket change.entry.world.now s }
 {
-    bracket(change.world.records(), s)
+    bracket(change.world.records().owner(s), depth(change, s))
 }
 
 /// The place of a scope, as its line has it.
@@ -159,7 +190,7 @@ fn scope_cell(out: &mut String, change: Change<'_>, s: u32) -> Result<(), AllocE
     edges(out, change, s)
 }
 
-/// The cells of all scopes that were ever born.
+/// The cells of all scopes that were ever born. Only those that the column can show have any.
 ///
 /// # Errors
 ///
@@ -169,8 +200,9 @@ pub fn scope_cells(out: &mut String, change: Change<'_>) -> Result<(), AllocErro
         ++ def.scope_cells change.entry.before.now change.entry.world.now change.entry.x
         change.entry.world.now.scopes 0) }
 {
-    for s in 0..change.world.records().scopes_born() {
-        scope_cell(out, change, s as u32)?;
+    let scopes = change.present.scopes();
+    for s in scopes {
+        scope_cell(out, change, *s)?;
     }
     Ok(())
 }

@@ -187,7 +187,7 @@ fn task_cell(out: &mut String, change: Change<'_>, t: u32) -> Result<(), AllocEr
     interrupted(out, change, t)
 }
 
-/// The cells of all tasks that were ever born.
+/// The cells of all tasks that were ever born. Only those that the column can show have any.
 ///
 /// # Errors
 ///
@@ -197,8 +197,9 @@ pub fn task_cells(out: &mut String, change: Change<'_>) -> Result<(), AllocError
         ++ def.task_cells change.entry.program.now change.entry.before.now change.entry.world.now
         change.entry.x change.entry.world.now.tasks 0) }
 {
-    for t in 0..change.world.records().tasks_born() {
-        task_cell(out, change, t as u32)?;
+    let tasks = change.present.tasks();
+    for t in tasks {
+        task_cell(out, change, *t)?;
     }
     Ok(())
 }

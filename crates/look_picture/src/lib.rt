@@ -7,6 +7,7 @@ pub mod lanes;
 pub mod marks;
 pub mod picture;
 pub mod place;
+pub mod present;
 mod style;
 pub mod window;
 pub mod writing;

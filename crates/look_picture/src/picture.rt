@@ -6,12 +6,15 @@ ghost use Rattle.sts_code.specs.declared.limits.TheConstants.{MAX_BIRTHS};
 ghost use Rattle.sts_plain.specs.Seen.{shown};
 ghost use Rattle.look_lines.specs.Watched.{watched};
 ghost use Rattle.look_picture.specs.Picture as def;
+ghost use Rattle.look_picture.specs.Present as numbers;
+ghost use Rattle.look_picture.specs.Present.{AreHeld, Follows};
 
 use crate::brackets::scope_cells;
 use crate::change::Change;
 use crate::lanes::{lane_names, task_cells};
 use crate::marks::Mark;
 use crate::place::{column, height, lane, width};
+use crate::present::Present;
 use crate::style::{legend, style};
 use crate::window::{Drawn, Window, left_out, shown_events};
 use crate::writing::{mark_end, mark_start, text_end, text_start};
@@ -45,11 +48,15 @@ fn fault_mark(out: &mut String, watch: &Watch<'_>, x: u128, t: u32) -> Result<()
     mark_end(out)
 }
 
-/// A machine before an event and after it.
+/// A machine before an event and after it, and what the event's column can show.
 #[derive(Clone, Copy)]
 struct Seen<'s, 'p> {
     before: &'s Watch<'p>,
     watch: &'s Watch<'p>,
+    present: &'s Present,
+    ghost follows: { Follows before.now.last watch.now.last },
+    ghost held: { AreHeld watch.now.last },
+    ghost listed: { present.now ≡ numbers.shown before.now.last watch.now.last },
 }
 
 /// The cells of a column; after a fault only the fault, in its own column.
@@ -73,6 +80,7 @@ fn standing(
                 before: seen.before.world(),
                 world: seen.watch.world(),
                 x,
+                present: seen.present,
             };
             cells(out, change)
         }
@@ -146,11 +154,13 @@ fn event_columns(
     out: &mut String,
     before: &mut Watch<'_>,
     watch: &mut Watch<'_>,
+    present: &mut Present,
     skipped: usize,
     events: &[Event],
 ) -> Result<(), AllocError>
     requires behind { before.old ≡ watched watch.old.program (take skipped events.now) }
     requires starts { watch.old ≡ watched watch.old.program (take skipped events.now) }
+    requires listed { present.old ≡ numbers.present before.old.last }
     requires inside { skipped ≤ length events.now }
     ensures stands { OnOk result (watch.new ≡ watched watch.old.program events.now) }
     ensures drawn { OnOk result (string_bytes out.new ≡ string_bytes out.old
@@ -159,20 +169,30 @@ fn event_columns(
 {
     for i in skipped..events.len() {
         let applied = watch.apply_numbered(alloc, i + 1, events[i])?;
-        event_column(out, Seen { before, watch }, i + 1 - skipped, applied)?;
+        present.add_born(before.world().records(), watch.world().records())?;
+        let seen = Seen {
+            before,
+            watch,
+            present,
+        };
+        event_column(out, seen, i + 1 - skipped, applied)?;
         before.apply(alloc, events[i])?;
+        present.keep(before.world().records());
     }
     Ok(())
 }
 
 /// The column before the first event that has one; nothing changed there.
-fn first_column(out: &mut String, watch: &Watch<'_>) -> Result<(), AllocError>
+fn first_column(out: &mut String, watch: &Watch<'_>, present: &Present) -> Result<(), AllocError>
+    requires held { AreHeld watch.now.last }
+    requires listed { present.now ≡ numbers.present watch.now.last }
     ensures { OnOk result (string_bytes out.new
         ≡ string_bytes out.old ++ def.first_column watch.now) }
 {
     let seen = Seen {
         before: watch,
         watch,
+        present,
     };
     standing(out, seen, column(0), false)
 }
@@ -193,8 +213,17 @@ fn columns<'p>(
 {
     let mut before = after(alloc, program, &events[..skipped])?;
     let mut watch = after(alloc, program, &events[..skipped])?;
-    first_column(out, &watch)?;
-    event_columns(alloc, out, &mut before, &mut watch, skipped, events)?;
+    let mut present = Present::of(alloc, watch.world().records())?;
+    first_column(out, &watch, &present)?;
+    event_columns(
+        alloc,
+        out,
+        &mut before,
+        &mut watch,
+        &mut present,
+        skipped,
+        events,
+    )?;
     Ok(watch)
 }
 

@@ -1,10 +1,9 @@
-use Rattle.std.proofs.Common.{◌≡◌, ◌++◌, drop}
+use Rattle.std.proofs.Common.{◌≡◌, ◌++◌, take}
+use Rattle.std.specs.List.{flat_map}
 use Rattle.std.specs.String.{string_bytes}
 use Rattle.look_picture.specs.Brackets as def
 use Rattle.look_picture.proofs.brackets.scope_cells.Given as goal
 
--- what is written, and the cells of the rest
+-- the cells of those so far
 abbrev pub invariant-loop-s : goal.invariant-loop-s
-invariant-loop-s l =
-    let cells = def.scope_cells l.change.before.now l.change.world.now l.change.x in
-    string_bytes l.out ++ cells (drop l.s l.change.world.now.scopes) l.s ≡ string_bytes l.fn.out ++ cells l.change.world.now.scopes 0
+invariant-loop-s l = string_bytes l.out ≡ string_bytes l.fn.out ++ flat_map (def.scope_cell l.change.before.now l.change.world.now l.change.x) (take l.s-index l.scopes)

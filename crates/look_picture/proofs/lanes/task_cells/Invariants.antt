@@ -1,10 +1,9 @@
-use Rattle.std.proofs.Common.{◌≡◌, ◌++◌, drop}
+use Rattle.std.proofs.Common.{◌≡◌, ◌++◌, take}
+use Rattle.std.specs.List.{flat_map}
 use Rattle.std.specs.String.{string_bytes}
 use Rattle.look_picture.specs.Lanes as def
 use Rattle.look_picture.proofs.lanes.task_cells.Given as goal
 
--- what is written, and the cells of the rest
+-- the cells of those so far
 abbrev pub invariant-loop-t : goal.invariant-loop-t
-invariant-loop-t l =
-    let cells = def.task_cells l.change.program.now l.change.before.now l.change.world.now l.change.x in
-    string_bytes l.out ++ cells (drop l.t l.change.world.now.tasks) l.t ≡ string_bytes l.fn.out ++ cells l.change.world.now.tasks 0
+invariant-loop-t l = string_bytes l.out ≡ string_bytes l.fn.out ++ flat_map (def.task_cell l.change.program.now l.change.before.now l.change.world.now l.change.x) (take l.t-index l.tasks)

@@ -2,6 +2,7 @@ use Rattle.std.proofs.Common.{◌++◌, ◌∙◌, ap, ap₂, sym, append_assoc,
 use Rattle.std.specs.String.{string_bytes}
 use Rattle.look_lines.specs.Watched.{Watched, watched}
 use Rattle.look_picture.specs.Picture as def
+use Rattle.look_picture.proofs.Watching.{held_watched}
 use Rattle.look_picture.proofs.picture.columns.Goals as goal
 
 pub event_columns-requires-clause-behind : goal.event_columns-requires-clause-behind
@@ -13,6 +14,10 @@ pub event_columns-requires-clause-starts : goal.event_columns-requires-clause-st
 event_columns-requires-clause-starts c =
     c.in_ok-watch.ensures
     ∙ ap (λ (w : Watched). watched w.program (take c.args.skipped c.args.events.now)) (sym c.in_ok-watch.ensures)
+
+pub first_column-requires-clause-held : goal.first_column-requires-clause-held
+first_column-requires-clause-held c =
+    held_watched c.args.program.now (take c.args.skipped c.args.events.now) c.in_ok-watch.watch c.in_ok-watch.ensures
 
 pub returns-clause-stands : goal.returns-clause-stands
 returns-clause-stands c =

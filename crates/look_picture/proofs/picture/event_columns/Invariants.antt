@@ -1,13 +1,16 @@
 use Rattle.std.proofs.Common.{◌≡◌, ◌++◌, take, drop}
 use Rattle.std.specs.String.{string_bytes}
 use Rattle.look_picture.specs.Picture as def
+use Rattle.look_picture.specs.Present as numbers
 use Rattle.look_lines.specs.Watched.{watched}
 use Rattle.look_picture.proofs.picture.event_columns.Given as goal
 
--- both machines are in the state after the first events; what is drawn, and the columns of the rest
+-- both machines are in the state after the first events; what the next column can show; what is
+-- drawn, and the columns of the rest
 abbrev pub invariant-loop-i : goal.invariant-loop-i
 invariant-loop-i l = record {
   behind : l.before ≡ watched l.fn.watch.program (take l.i l.events);
   stands : l.watch ≡ watched l.fn.watch.program (take l.i l.events);
+  listed : l.present ≡ numbers.present l.before.last;
   drawn : string_bytes l.out ++ def.columns_from l.fn.watch.program l.skipped (take l.i l.events) (drop l.i l.events) ≡ string_bytes l.fn.out ++ def.columns_from l.fn.watch.program l.skipped (take l.skipped l.events) (drop l.skipped l.events);
 }
