@@ -17,6 +17,10 @@ if_local (Some i) = if is_local i then Some i else None
 abbrev pub local_at : List Instr → Frame → Option Instr
 local_at is f = if_local (slice_get is f.pc)
 
+-- the frame, moved to this place
+abbrev pub moved_to : Frame → ℕ → Frame
+moved_to f pc = record f { pc = pc }
+
 -- the frame after one local instruction more
 abbrev pub and_local : List Instr → Option Frame → Option Frame
 and_local is None = None

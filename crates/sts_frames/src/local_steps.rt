@@ -1,10 +1,11 @@
 //! Local instructions: which they are, and what each does to the frame.
 
 ghost use Rattle.std.specs.Prelude.{◌≡◌, ◌<◌, ◌+◌, ◌^◌, length, true, false, pos, ◌+ℤ◌, ◌-ℤ◌, ◌*ℤ◌};
-ghost use Rattle.std.specs.Prelude.{slice_index_or, slice_set, ◌≤◌, Some, None, is_some};
+ghost use Rattle.std.specs.Prelude.{slice_index_or, slice_set, ◌≤◌, ◌&&◌, Some, None, is_some};
+ghost use Rattle.std.specs.Prelude.{IfSome, IfNone};
 ghost use Rattle.std.specs.Int.{int_wrap, w64};
 ghost use Rattle.sts_code.specs.declared.limits.TheConstants.{MAX_INSTRUCTIONS, MAX_LOOPS};
-ghost use Rattle.sts_frames.specs.Locals.{AreSafe, IsSafe, and_local, local_at, locals};
+ghost use Rattle.sts_frames.specs.Locals.{AreSafe, IsSafe, and_local, moved_to, local_at, locals};
 ghost use Rattle.sts_model.specs.Local as def;
 ghost use Rattle.sts_model.specs.Misuse.{overflows, breaks_loop};
 ghost use Rattle.sts_model.specs.World as world;
@@ -89,9 +90,101 @@ fn set_local(locals: &mut [i64; 16], x: u8, value: i64)
     }
 }
 
-/// Does a local instruction.
+/// Does an instruction at this place, if it is a local one, and answers the place to go to next.
+/// The place that the frame keeps doesn't change.
 #[inline(always)]
 #[tactic(auto, using(crate::proofs::LoopLemmas::closes_loop_bounds))]
+fn done_at(
+    frame: &mut Frame,
+    program: &Program,
+    code: &[Instr],
+    pc: usize,
+    instr: &Instr,
+) -> Option<usize>
+    requires own_code { code.now ≡ world.code program.now frame.old }
+    requires room { (def.is_local instr.now
+        && overflows program.now (moved_to frame.old pc) instr.now) ≡ false }
+    requires more { pc + 1 < 2 ^ 32 }
+    requires inside { pc < length code.now }
+    requires short { length code.now < 2 ^ 32 }
+    requires loops { (def.is_local instr.now
+        && breaks_loop program.now (moved_to frame.old pc) instr.now) ≡ false }
+    ensures local { IfSome result (λ to. moved_to frame.new to
+        ≡ def.local code.now instr.now (moved_to frame.old pc)) }
+    ensures which { is_some result ≡ def.is_local instr.now }
+    ensures fits { IfSome result (λ to. to < 2 ^ 32) }
+    ensures other { IfNone result (frame.new ≡ frame.old) }
+{
+    let operands = &mut frame.operands;
+    match *instr {
+        Instr::Push(k) => operands.push(k),
+        Instr::Pop => operands.drop_top(1),
+        Instr::Dup => {
+            let b = operands.get_or(0, 0);
+            operands.push(b);
+        }
+        Instr::Swap => {
+            let (a, b) = (operands.get_or(1, 0), operands.get_or(0, 0));
+            operands.replace_top(2, b);
+            operands.push(a);
+        }
+        Instr::Load(x) => {
+            let value = local_at(&frame.locals, x);
+            operands.push(value);
+        }
+        Instr::Store(x) => {
+            let b = operands.get_or(0, 0);
+            operands.drop_top(1);
+            set_local(&mut frame.locals, x, b);
+        }
+        Instr::Add => {
+            let value = sum(operands.get_or(1, 0), operands.get_or(0, 0));
+            operands.replace_top(2, value);
+        }
+        Instr::Sub => {
+            let value = difference(operands.get_or(1, 0), operands.get_or(0, 0));
+            operands.replace_top(2, value);
+        }
+        Instr::Mul => {
+            let value = product(operands.get_or(1, 0), operands.get_or(0, 0));
+            operands.replace_top(2, value);
+        }
+        Instr::Lt => {
+            let value = i64::from(operands.get_or(1, 0) < operands.get_or(0, 0));
+            operands.replace_top(2, value);
+        }
+        Instr::Eq => {
+            let value = i64::from(operands.get_or(1, 0) == operands.get_or(0, 0));
+            operands.replace_top(2, value);
+        }
+        Instr::Div(to) => {
+            let (a, b) = (operands.get_or(1, 0), operands.get_or(0, 0));
+            if b == 0 {
+                operands.drop_top(2);
+                return Some(to as usize);
+            }
+            operands.replace_top(2, a.wrapping_div(b));
+        }
+        Instr::Jmp(to) => return Some(to as usize),
+        Instr::Jz(to) => {
+            let b = operands.get_or(0, 0);
+            operands.drop_top(1);
+            if b == 0 {
+                return Some(to as usize);
+            }
+        }
+        Instr::Times(n) => {
+            let most = clipped(n, operands.get_or(0, 0));
+            return Some(enters(frame, code, pc, most));
+        }
+        Instr::Next => return Some(turns(frame, pc)),
+        _ => return None,
+    }
+    Some(pc + 1)
+}
+
+/// Does a local instruction.
+#[inline(always)]
 pub fn local(frame: &mut Frame, program: &Program, code: &[Instr], instr: Instr)
     requires own_code { code.now ≡ world.code program.now frame.old }
     requires is_local { def.is_local instr ≡ true }
@@ -102,131 +195,69 @@ pub fn local(frame: &mut Frame, program: &Program, code: &[Instr], instr: Instr)
     requires loops { breaks_loop program.now frame.old instr ≡ false }
     ensures { frame.new ≡ def.local code.now instr frame.old }
 {
-    let next = frame.pc + 1;
-    match instr {
-        Instr::Push(k) => frame.goes_with(next, 0, k),
-        Instr::Pop => frame.goes(next, 1),
-        Instr::Dup => {
-            let b = frame.operand(0);
-            frame.goes_with(next, 0, b);
-        }
-        Instr::Swap => {
-            let (a, b) = (frame.operand(1), frame.operand(0));
-            frame.goes_with(next, 2, b);
-            frame.goes_with(next, 0, a);
-        }
-        Instr::Load(x) => {
-            let value = local_at(&frame.locals, x);
-            frame.goes_with(next, 0, value);
-        }
-        Instr::Store(x) => {
-            let b = frame.operand(0);
-            frame.goes(next, 1);
-            set_local(&mut frame.locals, x, b);
-        }
-        Instr::Add => {
-            let value = sum(frame.operand(1), frame.operand(0));
-            frame.goes_with(next, 2, value);
-        }
-        Instr::Sub => {
-            let value = difference(frame.operand(1), frame.operand(0));
-            frame.goes_with(next, 2, value);
-        }
-        Instr::Mul => {
-            let value = product(frame.operand(1), frame.operand(0));
-            frame.goes_with(next, 2, value);
-        }
-        Instr::Lt => {
-            let value = i64::from(frame.operand(1) < frame.operand(0));
-            frame.goes_with(next, 2, value);
-        }
-        Instr::Eq => {
-            let value = i64::from(frame.operand(1) == frame.operand(0));
-            frame.goes_with(next, 2, value);
-        }
-        Instr::Div(to) => {
-            let (a, b) = (frame.operand(1), frame.operand(0));
-            if b == 0 {
-                frame.goes(to, 2);
-            } else {
-                frame.goes_with(next, 2, a.wrapping_div(b));
-            }
-        }
-        Instr::Jmp(to) => frame.goes(to, 0),
-        Instr::Jz(to) => {
-            if frame.operand(0) == 0 {
-                frame.goes(to, 1);
-            } else {
-                frame.goes(next, 1);
-            }
-        }
-        Instr::Times(n) => {
-            let most = clipped(n, frame.operand(0));
-            enters(frame, code, most);
-        }
-        Instr::Next => turns(frame),
-        _ => {}
+    let pc = frame.pc as usize;
+    if let Some(to) = done_at(frame, program, code, pc, &instr) {
+        frame.pc = to as u32;
     }
 }
 
-/// Enters the loop at this `times`, or goes past it.
-fn enters(frame: &mut Frame, code: &[Instr], turns: u16)
-    requires more { frame.old.pc + 1 < 2 ^ 32 }
-    requires inside { frame.old.pc < length code.now }
+/// Pops the number of turns. Enters the loop at this `times`, or goes past it, and answers the
+/// place to go to.
+#[inline(never)]
+fn enters(frame: &mut Frame, code: &[Instr], pc: usize, turns: u16) -> usize
+    requires more { pc + 1 < 2 ^ 32 }
+    requires inside { pc < length code.now }
     requires short { length code.now < 2 ^ 32 }
     requires few { length frame.old.loops < MAX_LOOPS }
-    ensures { frame.new ≡ def.enters code.now frame.old turns }
+    ensures place { moved_to frame.new result ≡ def.enters code.now (moved_to frame.old pc) turns }
+    ensures fits { result < 2 ^ 32 }
 {
+    frame.operands.drop_top(1);
+    let at = pc as u32;
     if turns == 0 {
-        let end = match_of(code, frame.pc).unwrap_or(0);
-        frame.goes(end + 1, 1);
+        match_of(code, at).unwrap_or(0) as usize + 1
     } else {
-        let at = frame.pc;
-        frame.goes(at + 1, 1);
         frame.loops.push(Loop { at, left: turns });
+        pc + 1
     }
 }
 
-/// Ends a turn of the innermost loop.
+/// Ends a turn of the innermost loop, and answers the place to go to.
 #[inline(always)]
-fn turns(frame: &mut Frame)
-    requires more { frame.old.pc + 1 < 2 ^ 32 }
+fn turns(frame: &mut Frame, pc: usize) -> usize
+    requires more { pc + 1 < 2 ^ 32 }
     requires some { 0 < length frame.old.loops }
     requires fits { (slice_index_or frame.old.loops 0 (record { at = 0; left = 0 })).at + 1
         < 2 ^ 32 }
-    ensures { frame.new ≡ def.turns frame.old frame.old.loops }
+    ensures place { moved_to frame.new result ≡ def.turns (moved_to frame.old pc) frame.old.loops }
+    ensures fits { result < 2 ^ 32 }
 {
     let innermost = frame.loops.get_or(0, Loop { at: 0, left: 0 });
-    frame.loops.drop_top(1);
     if innermost.left <= 1 {
-        frame.goes(frame.pc + 1, 0);
+        frame.loops.drop_top(1);
+        pc + 1
     } else {
-        frame.loops.push(Loop {
-            at: innermost.at,
-            left: innermost.left - 1,
-        });
-        frame.pc = innermost.at + 1;
+        // (the length is at most the capacity, so there is room for one in the place of another)
+        let _ = frame.loops.len();
+        let left = innermost.left - 1;
+        frame.loops.replace_top(1, Loop { left, ..innermost });
+        innermost.at as usize + 1
     }
 }
 
-/// Is the next instruction a local one?
+/// Does the instruction at this place, if it is a local one, and answers the place to go to next.
+/// The place that the frame keeps doesn't change.
 #[inline(always)]
-fn is_local_next(frame: &Frame, code: &[Instr]) -> bool
-    requires { frame.now.pc < length code.now }
-    ensures { result ≡ is_some (local_at code.now frame.now) }
-{
-    is_local(code[frame.pc as usize])
-}
-
-/// Does the next instruction, a local one.
-#[inline(always)]
-fn step(frame: &mut Frame, program: &Program, code: &[Instr])
-    requires safe { IsSafe program.now code.now frame.old }
+fn step_at(frame: &mut Frame, program: &Program, code: &[Instr], pc: usize) -> Option<usize>
+    requires safe { IsSafe program.now code.now (moved_to frame.old pc) }
     requires short { length code.now ≤ MAX_INSTRUCTIONS }
-    requires local { is_some (local_at code.now frame.old) ≡ true }
-    ensures { and_local code.now (Some frame.old) ≡ Some frame.new }
+    ensures local { IfSome result (λ to. and_local code.now (Some (moved_to frame.old pc))
+        ≡ Some (moved_to frame.new to)) }
+    ensures fits { IfSome result (λ to. to < 2 ^ 32) }
+    ensures other { IfNone result (local_at code.now (moved_to frame.old pc) ≡ None) }
+    ensures stays { IfNone result (frame.new ≡ frame.old) }
 {
-    local(frame, program, code, code[frame.pc as usize]);
+    done_at(frame, program, code, pc, &code[pc])
 }
 
 /// Does local instructions until the limit or the first other instruction, and answers how many.
@@ -237,10 +268,15 @@ pub fn run_local(frame: &mut Frame, program: &Program, code: &[Instr], limit: u3
     ensures most { result ≤ limit }
     ensures stops { result < limit → local_at code.now frame.new ≡ None }
 {
+    let mut pc = frame.pc as usize;
     let mut left = limit;
-    while left > 0 && is_local_next(frame, code) {
-        step(frame, program, code);
+    while left > 0 {
+        let Some(to) = step_at(frame, program, code, pc) else {
+            break;
+        };
+        pc = to;
         left -= 1;
     }
+    frame.pc = pc as u32;
     limit - left
 }

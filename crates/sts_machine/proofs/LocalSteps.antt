@@ -95,6 +95,14 @@ lives-framed v t f e = ap (λ o. is_some (unwrap_or o no_live_task).alive) (ther
 pub frame-framed : (v : Live) (t : ℕ) (f : Frame) → lives_in v t ≡ true → (alive_at (with_live_frame v t f) t).frame ≡ f
 frame-framed v t f e = ap (λ o. (unwrap_or (unwrap_or o no_live_task).alive no_alive).frame) (there v t f (here v t e))
 
+-- the next instruction, after a local one
+pub next_at : (p : Program) (v x : Live) (t : ℕ) (f : Frame) (is : List Instr) (i : Instr) (o : Option Instr) → is ≡ code p f → lives_in v t ≡ true → x ≡ with_live_frame v t (local is i f) → o ≡ slice_get is (local is i f).pc → instr_at p (alive_at x t).frame ≡ o
+next_at p v x t f is i o own lives live next =
+    let g = local is i f in
+    let frame : (alive_at x t).frame ≡ g = ap (λ y. (alive_at y t).frame) live ∙ frame-framed v t g lives in
+    let kept : code p g ≡ is = ap (λ k. (routine p k).code) (beside-local is i f).function ∙ sym own in
+    ap (instr_at p) frame ∙ ap (λ (c : List Instr). slice_get c g.pc) kept ∙ sym next
+
 -- the frame that was there
 pub same-framed : (v : Live) (t : ℕ) → lives_in v t ≡ true → with_live_frame v t (alive_at v t).frame ≡ v
 same-framed v t e =

@@ -13,7 +13,7 @@ use Rattle.sts_model.specs.declared.event.Verdict.TheVariants as verdict
 use Rattle.sts_model.specs.declared.record.Frame.{Frame}
 use Rattle.sts_model.specs.World.{code}
 use Rattle.sts_model.specs.Living.{is_in}
-use Rattle.sts_model.specs.Local.{goes}
+use Rattle.sts_model.specs.Local.{goes, is_local}
 use Rattle.sts_model.specs.Misuse.{slot, is_binding}
 use Rattle.sts_model.specs.Effect.{named}
 use Rattle.sts_model.specs.Told.{tell, cancels_told, result_told}
@@ -25,7 +25,7 @@ use Rattle.laws_live.specs.Cancelling.{live_raise, live_raised, live_marked, liv
 use Rattle.laws_live.specs.Effect.{live_verdict, live_join, live_told, live_decide, live_tell, live_effect}
 use Rattle.laws_live.specs.Outside.{live_can_expire, live_expire, live_interrupt}
 use Rattle.laws_accepted.specs.Views.{bindings_in}
-use Rattle.sts_machine.specs.Changing.{is_quiet}
+use Rattle.sts_machine.specs.Changing.{is_quiet, may_wait}
 use Rattle.sts_machine.specs.Room.{is_living}
 use Rattle.sts_machine.proofs.Lists.{mapped}
 
@@ -206,6 +206,21 @@ quiet-effect p v t (Div to) e = quiet-frame v t _ (ap (λ es. count_by is_bindin
 quiet-effect p v t (Times n) e = quiet-frame v t _ (ap (λ es. count_by is_binding es) (leaves-local (code p (alive_at v t).frame) (Times n) (alive_at v t).frame).entries)
 quiet-effect p v t Next e = quiet-frame v t _ (ap (λ es. count_by is_binding es) (leaves-local (code p (alive_at v t).frame) Next (alive_at v t).frame).entries)
 quiet-effect p v t i e = quiet-frame v t _ refl
+
+pub local_quiet : (i : Instr) → is_local i ≡ true → is_quiet i ≡ true
+local_quiet (Open x joiner timed) e = cc
+local_quiet (Fork x g h) e = cc
+local_quiet (Close x) e = cc
+local_quiet (Bind k) e = cc
+local_quiet Unbind e = cc
+local_quiet Ret e = cc
+local_quiet Fail e = cc
+local_quiet i e = refl
+
+pub local_unwaiting : (i : Instr) → is_local i ≡ true → may_wait i ≡ false
+local_unwaiting (Join x failed timeout interrupted) e = cc
+local_unwaiting (Close x) e = cc
+local_unwaiting i e = refl
 
 -- ---- from outside
 

@@ -16,7 +16,7 @@ use Rattle.laws_live.specs.Waiting.{live_stand_at, live_stand_at_instr}
 use Rattle.sts_store.specs.View.{Beside, tasks_from}
 use Rattle.laws_live.specs.Stands.{IsUnmoved, IdleStandFree}
 use Rattle.sts_store.specs.Parts.{Parts, Unseen, live_of, unseen_of, beside, stand_in, stand_of, stood_unseen}
-use Rattle.sts_machine.specs.Changing.{Changes, may_wait}
+use Rattle.sts_machine.specs.Changing.{Changes, may_wait, may_wait_next}
 use Rattle.sts_machine.specs.Room.{HasRoomOf}
 use Rattle.sts_machine.specs.Standing.{AreStanding, AreStandingBut}
 use Rattle.sts_machine.proofs.Lists.{apart}
@@ -84,6 +84,10 @@ unwaiting p v t i at e = ap (live_stand_at_instr v t) at ∙ by i e
     by (Join x failed timeout interrupted) e = cc
     by (Close x) e = cc
     by j e = refl
+
+pub unwaiting_next : (p : Program) (v : Live) (t : ℕ) (o : Option Instr) → instr_at p (alive_at v t).frame ≡ o → may_wait_next o ≡ false → live_stand_at p v t ≡ Free
+unwaiting_next p v t None at e = ap (live_stand_at_instr v t) at
+unwaiting_next p v t (Some i) at e = unwaiting p v t i at e
 
 -- ---- from outside
 

@@ -1,6 +1,6 @@
 -- The changes that an instruction of one task may make to the parts that the view doesn't show
 -- (this project's own).
-use Rattle.std.specs.Prelude.{◌≡◌, ℕ, ◌+◌, Bool, true, false, ◌==◌, if◌then◌else◌}
+use Rattle.std.specs.Prelude.{◌≡◌, ℕ, ◌+◌, Bool, true, false, Option, Some, None, ◌==◌, if◌then◌else◌}
 use Rattle.sts_code.specs.declared.instr.Instr.{Instr}
 use Rattle.sts_code.specs.declared.instr.Instr.TheVariants.{Open, Fork, Join, Close, Bind, Unbind}
 use Rattle.sts_code.specs.declared.instr.Instr.TheVariants.{Ret, Fail}
@@ -27,6 +27,11 @@ abbrev pub may_wait : Instr → Bool
 may_wait (Join x failed timeout interrupted) = true
 may_wait (Close x) = true
 may_wait _ = false
+
+-- may a scope be recorded for a task with this next instruction?
+abbrev pub may_wait_next : Option Instr → Bool
+may_wait_next None = false
+may_wait_next (Some i) = may_wait i
 
 -- may its task have ended by it?
 abbrev pub may_leave : Instr → Bool

@@ -86,6 +86,26 @@ pub(crate) fn say_stand(store: &mut Store, program: &Program, t: u32, waited: bo
     }
 }
 
+/// Records at which scope a living task is that was at none before. `is_near` says whether its next
+/// instruction may be a `join` or a `close`. If not, it is at none, as is recorded already.
+#[inline(always)]
+pub(crate) fn say_stand_if_near(store: &mut Store, program: &Program, t: u32, is_near: bool)
+    requires lives { lives_in (live_of store.old) t ≡ true }
+    requires order { InOrder (live_of store.old) }
+    requires others { AreStandingBut program.now (live_of store.old) (unseen_of store.old) t }
+    requires free { stand_in (unseen_of store.old) t ≡ StandsFree }
+    requires far { is_near ≡ false
+        → live_stand_at program.now (live_of store.old) t ≡ StandsFree }
+    ensures live { live_of store.new ≡ live_of store.old }
+    ensures standing { AreStanding program.now (live_of store.new) (unseen_of store.new) }
+    ensures room { (b : AnyBudgets) → HasRoomOf b (live_of store.old) (unseen_of store.old)
+        → HasRoomOf b (live_of store.new) (unseen_of store.new) }
+{
+    if is_near {
+        say_stand(store, program, t, false);
+    }
+}
+
 /// Does what `say_stand` does if the task lives, and nothing if it has ended.
 #[inline(always)]
 pub(crate) fn say_stand_if_alive(store: &mut Store, program: &Program, t: u32, waited: bool)

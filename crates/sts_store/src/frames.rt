@@ -1,7 +1,7 @@
 //! Changes of a task's frame and of its flag.
 
 ghost use Rattle.std.specs.Prelude.{◌≡◌, ◌<◌, ◌+◌, ◌-◌, ◌^◌, [], ◌∷◌, length};
-ghost use Rattle.std.specs.Prelude.{true, false, ◌≤◌, Some, None};
+ghost use Rattle.std.specs.Prelude.{true, false, ◌≤◌, Some, None, slice_get, option_copied};
 ghost use Rattle.sts_code.specs.declared.limits.TheConstants.{MAX_INSTRUCTIONS};
 ghost use Rattle.sts_frames.specs.Locals.{AreSafe, local_at, locals};
 ghost use Rattle.sts_model.specs.Local as frames;
@@ -16,9 +16,25 @@ use crate::store::Store;
 use sts_code::{Instr, Program};
 use sts_frames::{forget, local, run_local};
 
+/// The instruction at this place, if there is one.
+#[inline(always)]
+fn instr_in(code: &[Instr], pc: u32) -> Option<&Instr>
+    ensures { option_copied result ≡ slice_get code.now pc }
+{
+    code.get(pc as usize)
+}
+
 impl Store {
-    /// Does a local instruction of a task. `code` is the code of its function.
-    pub fn local(&mut self, program: &Program, code: &[Instr], t: u32, instr: Instr)
+    /// Does a local instruction of a task, and answers the next one. `code` is the code of its
+    /// function.
+    #[inline(always)]
+    pub fn local<'a>(
+        &mut self,
+        program: &Program,
+        code: &'a [Instr],
+        t: u32,
+        instr: Instr,
+    ) -> Option<&'a Instr>
         requires lives { lives_in (live_of self.old) t ≡ true }
         requires own_code { code.now ≡ world.code program.now (frame_of self.old t) }
         requires is_local { frames.is_local instr ≡ true }
@@ -30,8 +46,12 @@ impl Store {
         ensures live { live_of self.new ≡ with_live_frame (live_of self.old) t
             (frames.local code.now instr (frame_of self.old t)) }
         ensures unseen { unseen_of self.new ≡ unseen_of self.old }
+        ensures next { option_copied result
+            ≡ slice_get code.now (frames.local code.now instr (frame_of self.old t)).pc }
     {
-        local(&mut self.frames.at(t as usize).frame, program, code, instr);
+        let frame = &mut self.frames.at(t as usize).frame;
+        local(frame, program, code, instr);
+        instr_in(code, frame.pc)
     }
 
     /// Does local instructions of a task until the limit or the first other instruction, and answers

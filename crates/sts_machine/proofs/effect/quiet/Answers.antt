@@ -1,19 +1,7 @@
-use Rattle.std.proofs.Common.{sym, ◌∙◌, ap, List}
-use Rattle.sts_code.specs.declared.instr.Instr.{Instr}
-use Rattle.sts_model.specs.Local.{local}
+use Rattle.std.proofs.Common.{sym, ◌∙◌, ap}
 use Rattle.laws_live.specs.Effect.{live_effect}
-use Rattle.laws_live.specs.Reading.{with_live_frame}
 use Rattle.sts_store.specs.Parts.{frame_of, live_of}
-use Rattle.sts_machine.proofs.Fine.{local_effect}
 use Rattle.sts_machine.proofs.effect.quiet.Goals as goal
-
-pub returns-then-is_local-clause-live : goal.returns-then-is_local-clause-live
-returns-then-is_local-clause-live c =
-    let v = live_of c.args.store.now in
-    let f = frame_of c.args.store.now c.args.t in
-    c.local.ensures.live
-    ∙ ap (λ (is : List Instr). with_live_frame v c.args.t (local is c.args.instr.now f)) c.requires.own_code
-    ∙ sym (local_effect c.args.program.now v c.args.t f c.args.instr.now (sym c.is_local.ensures ∙ c.if-is_local.true))
 
 pub returns-in-Cancelled-clause-live : goal.returns-in-Cancelled-clause-live
 returns-in-Cancelled-clause-live c = c.push_cancelled.ensures.live c.args.program.now ∙ ap (live_effect c.args.program.now (live_of c.args.store.now) c.args.t (frame_of c.args.store.now c.args.t)) (sym c.in-Cancelled.is)

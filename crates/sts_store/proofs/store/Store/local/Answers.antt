@@ -1,11 +1,11 @@
-use Rattle.std.proofs.Common.{◌≡◌, ◌+◌, ◌<◌, ◌^◌, ◌∙◌, ap, length, false}
+use Rattle.std.proofs.Common.{◌≡◌, ◌+◌, ◌<◌, ◌^◌, ◌∙◌, sym, ap, length, slice_get, false}
 use Rattle.sts_model.specs.Local.{local}
 use Rattle.sts_model.specs.Misuse.{breaks_loop, overflows}
 use Rattle.sts_model.specs.World.{code}
 use Rattle.sts_model.specs.declared.record.Frame.{Frame}
 use Rattle.sts_store.specs.contracts.store.Store.{the_view}
 use Rattle.sts_store.proofs.Local.{local_entries}
-use Rattle.sts_store.proofs.Writing.{living, has_frame, at_hand, frame_done, frame_kept}
+use Rattle.sts_store.proofs.Writing.{living, has_frame, at_hand, frame_is, frame_done, frame_kept}
 use Rattle.sts_store.proofs.store.Store.local.Goals as goal
 
 pub at-requires : goal.at-requires
@@ -45,3 +45,11 @@ pub returns-clause-live : goal.returns-clause-live
 returns-clause-live c =
     let l = living (the_view c.self.inside) c.args.self.now c.self.invariant c.self.view_is c.args.t c.requires.lives in
     frame_done (the_view c.self.inside) c.args.self.now c.args.t c.at.result.now l c.at.ensures.value c.self.view_is c.local.new.frame (local c.args.code.now c.args.instr) c.local.ensures
+
+pub returns-clause-next : goal.returns-clause-next
+returns-clause-next c =
+    let m = the_view c.self.inside in
+    let l = living m c.args.self.now c.self.invariant c.self.view_is c.args.t c.requires.lives in
+    c.instr_in.ensures
+    ∙ ap (λ (f : Frame). slice_get c.args.code.now f.pc) c.local.ensures
+    ∙ ap (λ (f : Frame). slice_get c.args.code.now (local c.args.code.now c.args.instr f).pc) (sym (frame_is m c.args.self.now c.args.t c.at.result.now l c.at.ensures.value c.self.view_is))
