@@ -4,7 +4,8 @@
 The rule that it searches is that of `crates/sts_pool/src/waits.rt`. The root forks three subtasks and waits for them; each
 subtask has two units of work. A move is what one worker does under one hold of the lock. Every choice is tried: how many
 turns a hold does, whether a slice is taken after them, which task is claimed, whether a row of local instructions in a
-slice or in place was worth it, whom a wake-up reaches, and wake-ups for no reason.
+slice or in place was worth it, how many tasks a worker claims at once (two at most), whom a wake-up reaches, and wake-ups for
+no reason.
 A second search stops the run after any move, as a refused start does, and wakes nobody for it.
 
 There are three kinds of bad states. Every worker sleeps or has ended, and one of them sleeps. Or several workers are needed
@@ -13,7 +14,7 @@ The rule has no bad state. Each fault of FAULTS is planted in turn, and has a ba
 """
 import sys
 
-ROOT, UNITS, TRIES = 0, 2, 2
+ROOT, UNITS, TRIES, BATCH = 0, 2, 2, 2
 
 
 def option(name, other):
@@ -32,7 +33,7 @@ FAULTS = {
 
 # A book: (subtasks forked, whether the root waits, whether the run has ended, units left of each subtask, tasks that are
 # claimed or out). The numbers of `Waits`: (awake, tries). A worker: `N` goes to the lock for the first time, `L` goes to
-# it again, `G` claimed a task and passes the gate, `O` is out with a slice, `S` sleeps, `W` was woken and comes to the lock, `D` has decided to sleep with no lock
+# it again, `G` claimed tasks and passes the gate, `O` is out with slices, `S` sleeps, `W` was woken and comes to the lock, `D` has decided to sleep with no lock
 # (a fault), `E` has ended. A state: (book, numbers, workers, whether the run may still be stopped).
 
 
@@ -76,8 +77,28 @@ def with_out(book, task):
     return book[:4] + (book[4] | {task},)
 
 
-def without(book, task):
-    return book[:4] + (book[4] - {task},)
+def without(book, tasks):
+    return book[:4] + (book[4] - set(tasks),)
+
+
+def claims(book, tasks=()):
+    """Yields the books in which a worker has claimed some tasks, and the tasks."""
+    if tasks:
+        yield book, tasks
+    if len(tasks) < BATCH:
+        for task in free(book):
+            yield from claims(with_out(book, task), (*tasks, task))
+
+
+def backs(book, tasks):
+    """Yields each book that slices of these tasks lead to. A slice has done nothing, or a unit of a subtask."""
+    if not tasks:
+        yield book
+        return
+    for back in backs(book, tasks[1:]):
+        yield back
+        if tasks[0] != ROOT and can_step(back, tasks[0]):
+            yield turn(back, tasks[0])
 
 
 def put(workers, i, what):
@@ -125,36 +146,39 @@ class Rule:
             if tries > 0:
                 yield book, numbers, put(workers, i, ("L",))
             return
-        for task in left:
-            claimed, fewer = with_out(book, task), (awake, max(0, tries - 1))
-            for others in self.wakes(claimed, fewer, workers, "find"):
-                yield claimed, fewer, put(others, i, ("G", task))
-
-    def slice(self, book, numbers, workers, i, task):
-        """Yields the next states of a worker that takes a slice of the task, or can't and looks for a task."""
-        if task not in free(book):
-            yield from self.find(book, numbers, workers, i)
-            return
-        lent, fewer = with_out(book, task), (numbers[0] - 1, numbers[1])
-        for others in self.wakes(lent, fewer, workers, "lends"):
-            yield lent, fewer, put(others, i, ("O", task))
+        for claimed, tasks in claims(book):
+            is_full = len(tasks) == BATCH and bool(free(claimed))
+            for then in {(awake, max(0, tries - 1))} | ({(awake, TRIES)} if is_full else set()):
+                for others in self.wakes(claimed, then, workers, "find"):
+                    yield claimed, then, put(others, i, ("G", *tasks))
 
     def ran(self, book, numbers, task):
         """Returns what the numbers may be after a row of local instructions: it was too short, or worth it."""
         awake, tries = numbers
         return {numbers, (awake, TRIES)} if has_other(book, task) else {numbers}
 
-    def after(self, book, numbers, workers, i, task):
-        """Yields the states after the turns of a task, with rows in place between them, and after the worker's next move."""
+    def after(self, book, numbers, workers, i, tasks, lent=()):
+        """Yields the states after the turns of some tasks, with rows in place between them, and after the worker's next move.
+        It goes out with slices if it has taken any, and looks for a task if not."""
+        if not tasks:
+            yield from self.lends(book, numbers, workers, i, lent) if lent else self.find(book, numbers, workers, i)
+            return
+        task, *rest = tasks
         for turned, is_step in turns(book, task):
             for then in self.ran(turned, numbers, task) if is_step else {numbers}:
-                if is_step:
-                    yield from self.slice(turned, then, workers, i, task)
-                yield from self.find(turned, then, workers, i)
+                if is_step and task in free(turned):
+                    yield from self.after(with_out(turned, task), then, workers, i, rest, (*lent, task))
+                yield from self.after(turned, then, workers, i, rest, lent)
+
+    def lends(self, book, numbers, workers, i, lent):
+        """Yields the next states of a worker that goes out with slices of these tasks."""
+        fewer = (numbers[0] - 1, numbers[1])
+        for others in self.wakes(book, fewer, workers, "lends"):
+            yield book, fewer, put(others, i, ("O", *lent))
 
     def of_worker(self, book, numbers, workers, i):
         """Yields what comes of the next hold of a worker."""
-        at, *task = workers[i]
+        at, *tasks = workers[i]
         if at == "L":
             yield from self.find(book, numbers, workers, i)
         elif at == "N":
@@ -166,14 +190,12 @@ class Rule:
         elif at == "D":
             yield book, self.sleeps(numbers), put(workers, i, ("S",))
         elif at == "G":
-            yield from self.after(without(book, *task), numbers, workers, i, *task)
+            yield from self.after(without(book, tasks), numbers, workers, i, tasks)
         elif at == "O":
-            back = without(book, *task)
-            done = [turn(back, *task)] if task != [ROOT] and can_step(back, *task) else []
-            for book in [back, *done]:
+            for back in backs(without(book, tasks), tasks):
                 awake, tries = numbers[0] + 1, numbers[1]
-                for then in {(awake, max(0, tries - 1))} | self.ran(book, (awake, tries), *task):
-                    yield from self.after(book, then, workers, i, *task)
+                for then in {(awake, max(0, tries - 1))} | self.ran(back, (awake, tries), tasks[0]):
+                    yield from self.after(back, then, workers, i, tasks)
 
     def moves(self, state):
         book, numbers, workers, may_stop = state

@@ -131,9 +131,9 @@ impl<'p, O: Outside, B: Runs<O>> Asked<'p, O, B> {
         self.book.lend(task)
     }
 
-    /// Is there another task that can step, or one that is out?
-    pub(crate) fn has_other(&self, task: u32) -> bool {
-        self.book.has_other(task)
+    /// Is there a task beside these that can step, or one that is out?
+    pub(crate) fn has_other(&self, tasks: &[u32]) -> bool {
+        self.book.has_other(tasks)
     }
 
     /// Is there a task that can step and isn't out?

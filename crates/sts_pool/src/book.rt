@@ -368,9 +368,9 @@ impl<'p> Book<'p> {
         self.pick().is_some()
     }
 
-    /// Is there another task that can step, or one that is out?
-    pub(crate) fn has_other(&self, task: u32) -> bool {
-        !self.out.is_empty() || self.machine.ready_beside(&[task]).is_some()
+    /// Is there a task beside these that can step, or one that is out?
+    pub(crate) fn has_other(&self, tasks: &[u32]) -> bool {
+        !self.out.is_empty() || self.machine.ready_beside(tasks).is_some()
     }
 
     /// Can the task step, and isn't it out?

@@ -3,6 +3,7 @@
 #![tactic(auto)]
 
 mod asked;
+mod batch;
 mod book;
 mod gate;
 mod journal;

@@ -39,6 +39,8 @@ pub(crate) struct Waits {
     workers: u32,
     awake: u32,
     tries: u32,
+    row: u32,
+    missed: u32,
 }
 
 impl Waits {
@@ -48,6 +50,8 @@ impl Waits {
             workers,
             awake: 0,
             tries: 0,
+            row: 0,
+            missed: 0,
         }
     }
 
@@ -76,9 +80,40 @@ impl Waits {
         self.tries > 0
     }
 
-    /// A worker claimed a task.
-    pub(crate) fn claims(&mut self) {
-        self.tries = self.tries.saturating_sub(1);
+    /// A worker claimed so many tasks. `has_more` says whether a task is left. A full batch of short
+    /// rows with a task left is work for another worker.
+    pub(crate) fn claims(&mut self, tasks: u32, has_more: bool) {
+        if has_more && self.is_full(tasks) {
+            self.calls_several();
+        } else {
+            self.tries = self.tries.saturating_sub(1);
+        }
+    }
+
+    /// Are so many tasks a batch of several to which no further one is added?
+    fn is_full(&self, tasks: u32) -> bool {
+        tasks > 1 && tasks >= self.batch()
+    }
+
+    /// The limit for the tasks that a worker works on at once.
+    pub(crate) fn batch(&self) -> u32 {
+        if self.row == 0 || self.workers == 1 {
+            return 1;
+        }
+        (IN_A_BATCH / self.row.max(1)).max(1).min(MOST_TASKS)
+    }
+
+    /// A worker saw the end of a row of `done` local instructions of a task. It saw 0 if the task
+    /// can't step any more.
+    pub(crate) fn saw(&mut self, done: u32) {
+        if done >= LEAST_ROW {
+            self.row = done;
+            self.missed = 0;
+        } else if self.missed < MOST_MISSED {
+            self.missed += 1;
+        } else {
+            self.row = 0;
+        }
     }
 
     /// A worker goes out with a slice.
@@ -91,12 +126,21 @@ impl Waits {
         self.awake = self.awake.saturating_add(1);
     }
 
-    /// A worker did `done` local instructions in a row. `has_other` says whether another task could
-    /// step meanwhile, or was out.
-    pub(crate) fn ran(&mut self, done: u32, has_other: bool) {
-        if !is_worth(done) {
+    /// A worker gave back so many slices, the longest of `longest` local instructions. `has_other`
+    /// says whether another task could step meanwhile, or was out.
+    pub(crate) fn gives_back(&mut self, slices: u32, longest: u32, has_other: bool) {
+        if is_worth(longest) || self.is_full(slices) {
+            self.ran(has_other);
+        } else {
             self.tries = self.tries.saturating_sub(1);
-        } else if has_other {
+        }
+        self.saw(longest);
+    }
+
+    /// A worker did local instructions that were worth it. `has_other` says whether another task
+    /// could step meanwhile, or was out.
+    pub(crate) fn ran(&mut self, has_other: bool) {
+        if has_other {
             self.calls_several();
         }
     }
@@ -121,12 +165,22 @@ impl Waits {
         }
     }
 
-    /// The limit for the turns of a worker under one hold of the lock.
-    pub(crate) fn in_a_hold(&self) -> u32 {
+    /// The limit for the turns of one of so many tasks under one hold of the lock.
+    pub(crate) fn in_a_hold(&self, tasks: u32) -> u32 {
         if self.wants_several() {
             IN_A_HOLD_FOR_SEVERAL
         } else {
-            IN_A_HOLD
+            IN_A_HOLD / tasks.max(1)
+        }
+    }
+
+    /// The number of turns of a task before its first local instructions in place. It is none if
+    /// the tasks begin with long rows.
+    pub(crate) fn first_turns(&self) -> u32 {
+        if self.wants_several() && self.row > 0 {
+            0
+        } else {
+            IN_A_ROW
         }
     }
 }
@@ -142,11 +196,29 @@ pub(crate) fn turns_after(done: u32) -> u32 {
     if done < IN_A_ROW { IN_A_ROW } else { 1 }
 }
 
-/// The limit for the local instructions that a worker does with no lock held.
-pub(crate) const AT_ONCE: u32 = 65_536;
+/// The limit for the local instructions that a worker does of each of so many slices.
+pub(crate) fn at_once(slices: u32) -> u32 {
+    if slices > 1 { IN_A_BATCH } else { AT_ONCE }
+}
+
+/// The limit for the local instructions that a worker does of one slice with no lock held.
+const AT_ONCE: u32 = 65_536;
+
+/// The limit for the tasks of a batch.
+pub(crate) const MOST_TASKS: u32 = 8;
+
+/// A batch has about as many local instructions. A worker does at most so many of each slice, if
+/// it has several.
+const IN_A_BATCH: u32 = 4_096;
+
+/// A batch is made of tasks that have a row of at least so many local instructions.
+const LEAST_ROW: u32 = 200;
+
+/// After so many shorter rows one after the other no batch is made.
+const MOST_MISSED: u32 = 16;
 
 /// Local instructions are done in place after this many turns of a task in a row.
-pub(crate) const IN_A_ROW: u32 = 6;
+const IN_A_ROW: u32 = 6;
 
 /// The limit for the local instructions in a row under the lock, while one worker is enough.
 const IN_PLACE: u32 = 1_024;

@@ -8,10 +8,11 @@ ghost use Rattle.sts_pool.specs.Outside.{IsGiven};
 ghost use Rattle.sts_pool.specs.Report.{IsEnding, IsReport};
 
 use crate::asked::{Asked, Runs};
+use crate::batch::Batch;
 use crate::book::Book;
 use crate::gate::{Gate, Outside};
 use crate::report::{Ending, PoolError, Report};
-use crate::waits::{AT_ONCE, IN_A_ROW, Waits, is_worth, turns_after};
+use crate::waits::{MOST_TASKS, Waits, at_once, is_worth, turns_after};
 use std::alloc::Global;
 use std::hint::spin_loop;
 use std::marker::Brand;
@@ -19,7 +20,7 @@ use std::sync::{Condvar, Mutex, MutexGuard, Wait};
 use std::thread;
 use std::thread::{Builder, Threads};
 use sts_code::MAX_OUTSIDE;
-use sts_machine::{Slice, Turned};
+use sts_machine::Turned;
 use sts_verify::Verified;
 
 /// A worker looks this often for a task or the lock before it sleeps, as a wake-up costs more.
@@ -51,10 +52,10 @@ struct Pool<'p, O: Outside, B: Runs<O>> {
     woken: Condvar,
 }
 
-/// The next action of a worker that looks for a task.
+/// The next action of a worker that looks for tasks.
 enum Found {
-    /// It works on this task.
-    Task(u32),
+    /// It works on the tasks that it has claimed.
+    Tasks,
     /// The worker looks again, or sleeps once it has looked often enough.
     Nothing,
     /// It sleeps.
@@ -76,14 +77,16 @@ impl<'p, O: Outside, B: Runs<O>> Shared<'p, O, B> {
         true
     }
 
-    /// Does a task's steps under the lock: turns, and local instructions in place behind some turns
-    /// in a row. Answers whether a slice of the task is to be taken, since it has a long row of local
-    /// instructions. If not, the task can't step, or it had its share of this hold.
-    fn has_long_row(&mut self, task: u32) -> bool {
-        let mut left = self.waits.in_a_hold();
-        let mut turns = IN_A_ROW;
+    /// Does the steps of one of `tasks` tasks under the lock: turns, and local instructions in place
+    /// behind some turns in a row. Answers whether a slice of the task is to be taken, since it has
+    /// a long row of local instructions. If not, the task can't step, or it had its share of this
+    /// hold.
+    fn has_long_row(&mut self, task: u32, tasks: u32) -> bool {
+        let mut left = self.waits.in_a_hold(tasks);
+        let mut turns = self.waits.first_turns();
         while left > 0 {
             if !self.turns(task, turns) {
+                self.waits.saw(0);
                 return false;
             }
             let limit = self.waits.in_place();
@@ -92,6 +95,7 @@ impl<'p, O: Outside, B: Runs<O>> Shared<'p, O, B> {
             if done == limit {
                 return true;
             }
+            self.waits.saw(done);
             left = left.saturating_sub(turns).saturating_sub(1 + done / 8);
             turns = turns_after(done);
         }
@@ -101,13 +105,77 @@ impl<'p, O: Outside, B: Runs<O>> Shared<'p, O, B> {
     /// Notes that a worker did `done` local instructions of a task in place.
     fn notes(&mut self, task: u32, done: u32) {
         if is_worth(done) {
-            let has_other = self.asked.has_other(task);
-            self.waits.ran(done, has_other);
+            let has_other = self.asked.has_other(&[task]);
+            self.waits.ran(has_other);
         }
     }
 
-    /// Looks for a task.
-    fn look(&mut self) -> Found {
+    /// Does the steps of a batch's tasks under the lock, and takes slices of those that have a long
+    /// row. The tasks that are left then may be claimed again.
+    fn work_on(&mut self, batch: &mut Batch<'p>) {
+        let tasks = batch.count();
+        for at in 0..tasks {
+            let Some(task) = batch.task(at) else { break };
+            if self.stop || batch.slices() >= self.waits.batch() {
+                break;
+            }
+            if self.has_long_row(task, tasks)
+                && let Some(slice) = self.asked.lend(task)
+            {
+                batch.add_slice(slice);
+            }
+        }
+        batch.clear();
+        if batch.slices() > 0 {
+            self.waits.lends();
+        }
+    }
+
+    /// Ends the claims of a batch.
+    fn release(&mut self, batch: &Batch<'p>) {
+        for task in batch.tasks() {
+            self.asked.release(*task);
+        }
+    }
+
+    /// Takes back the slices of a batch. Most instructions were done in the longest, `longest`. A
+    /// slice of another book stops the run; none ever comes.
+    fn take_back(&mut self, batch: &mut Batch<'p>, longest: u32) {
+        self.waits.back();
+        let slices = batch.slices();
+        for at in 0..slices {
+            let Some(slice) = batch.take_slice(at) else {
+                break
+            };
+            batch.add(slice.task());
+            if !self.asked.check_in(slice) {
+                self.stop = true;
+            }
+        }
+        batch.clear_slices();
+        let has_other = self.asked.has_other(batch.tasks());
+        self.waits.gives_back(slices, longest, has_other);
+    }
+
+    /// Claims tasks until the batch is full or no task is left.
+    fn fill(&mut self, batch: &mut Batch<'p>) {
+        for _ in 0..MOST_TASKS {
+            if batch.count() >= self.waits.batch() {
+                break;
+            }
+            let Some(task) = self.asked.claim() else {
+                break
+            };
+            batch.add(task);
+        }
+        if batch.count() > 0 {
+            let has_more = self.asked.has_more();
+            self.waits.claims(batch.count(), has_more);
+        }
+    }
+
+    /// Looks for tasks.
+    fn look(&mut self, batch: &mut Batch<'p>) -> Found {
         self.asked.ask();
         if self.stop || self.asked.has_ended() {
             return Found::End;
@@ -115,40 +183,19 @@ impl<'p, O: Outside, B: Runs<O>> Shared<'p, O, B> {
         if self.waits.leaves() {
             return Found::Left;
         }
-        let Some(task) = self.asked.claim() else {
-            return if self.waits.wants_several() {
-                Found::Nothing
-            } else {
-                Found::Left
-            };
-        };
-        self.waits.claims();
-        Found::Task(task)
+        self.fill(batch);
+        if batch.count() > 0 {
+            Found::Tasks
+        } else if self.waits.wants_several() {
+            Found::Nothing
+        } else {
+            Found::Left
+        }
     }
 
     /// Is there work for another worker, too?
     fn wants_another(&self) -> bool {
         self.waits.wants_several() && self.asked.has_more()
-    }
-
-    /// A slice of a task to work on.
-    fn lend(&mut self, task: u32) -> Option<Slice<'p>> {
-        self.asked.ask();
-        let slice = self.asked.lend(task)?;
-        self.waits.lends();
-        Some(slice)
-    }
-
-    /// Takes back a slice in which `done` instructions were done. A slice of another book stops the
-    /// run; none ever comes.
-    fn take_back(&mut self, slice: Slice<'p>, done: u32) {
-        let task = slice.task();
-        self.waits.back();
-        if !self.asked.check_in(slice) {
-            self.stop = true;
-        }
-        let has_other = is_worth(done) && self.asked.has_other(task);
-        self.waits.ran(done, has_other);
     }
 }
 
@@ -179,19 +226,25 @@ impl<'p, O: Outside, B: Runs<O>> Pool<'p, O, B> {
         }
     }
 
-    /// A task to work on, or `None` if the worker is to end. A worker sleeps only in this function.
-    fn find<'b, R: Wait>(&'b self, rt: &R, guard: MutexGuard<'b, Shared<'p, O, B>>) -> Option<u32> {
+    /// Finds tasks to work on. Answers false if the worker is to end. A worker sleeps only in this
+    /// function.
+    fn find<'b, R: Wait>(
+        &'b self,
+        rt: &R,
+        guard: MutexGuard<'b, Shared<'p, O, B>>,
+        batch: &mut Batch<'p>,
+    ) -> bool {
         let mut guard = guard;
         let mut looks = 0;
         for _ in rt.forever() {
-            match guard.look() {
+            match guard.look(batch) {
                 Found::End => {
                     self.woken.notify_all();
-                    return None;
+                    return false;
                 }
-                Found::Task(task) => {
+                Found::Tasks => {
                     self.wake_another(&guard);
-                    return Some(task);
+                    return true;
                 }
                 Found::Nothing if looks < LOOKS => {
                     drop(guard);
@@ -210,44 +263,30 @@ impl<'p, O: Outside, B: Runs<O>> Pool<'p, O, B> {
         unreachable!()
     }
 
-    /// Does a task's steps under the lock, or by slices if it has long rows of local instructions.
-    /// Then a task to work on is found.
-    fn exchange<R: Wait, G: Gate>(&self, rt: &R, gate: &G, worker: u32, task: u32) -> Option<u32> {
-        let mut guard = self.locked(rt);
-        guard.asked.release(task);
-        if !guard.stop && guard.has_long_row(task) {
-            return self.slices(rt, gate, worker, guard, task);
-        }
-        self.find(rt, guard)
-    }
-
-    /// Takes slices of a task, does their local instructions with no lock held, and gives them back.
-    /// After each it does the task's steps under the lock, until no further slice is to be taken.
-    /// Then it finds a task.
-    fn slices<'b, R: Wait, G: Gate>(
-        &'b self,
+    /// Does the steps of a batch's tasks under the lock, and their long rows by slices with no lock
+    /// held, until no further slice is to be taken. Then it finds tasks.
+    fn exchange<R: Wait, G: Gate>(
+        &self,
         rt: &R,
         gate: &G,
         worker: u32,
-        guard: MutexGuard<'b, Shared<'p, O, B>>,
-        task: u32,
-    ) -> Option<u32> {
-        let mut guard = guard;
+        batch: &mut Batch<'p>,
+    ) -> bool {
+        let mut guard = self.locked(rt);
+        guard.release(batch);
+        guard.work_on(batch);
         for _ in rt.forever() {
-            let Some(mut slice) = guard.lend(task) else {
-                break;
-            };
-            self.wake_another(&guard);
-            drop(guard);
-            gate.enter(worker, task);
-            let done = slice.run_local(AT_ONCE);
-            guard = self.locked(rt);
-            guard.take_back(slice, done);
-            if guard.stop || !guard.has_long_row(task) {
+            if batch.slices() == 0 {
                 break;
             }
+            self.wake_another(&guard);
+            drop(guard);
+            let longest = batch.run_local(gate, worker, at_once(batch.slices()));
+            guard = self.locked(rt);
+            guard.take_back(batch, longest);
+            guard.work_on(batch);
         }
-        self.find(rt, guard)
+        self.find(rt, guard, batch)
     }
 
     /// Makes each worker end at its next lock.
@@ -257,19 +296,22 @@ impl<'p, O: Outside, B: Runs<O>> Pool<'p, O, B> {
         self.woken.notify_all();
     }
 
-    /// The work of one worker. It claims a task, passes the gate and does the task's steps. It
+    /// The work of one worker. It claims tasks, passes the gate for each and does their steps. It
     /// repeats this until the root has ended.
     fn work<R: Wait, G: Gate>(&self, rt: &R, gate: &G, worker: u32) {
         let mut guard = self.locked(rt);
         guard.came = guard.came.saturating_add(1);
         guard.waits.comes();
-        let mut next = self.find(rt, guard);
+        let mut batch = Batch::new();
+        let mut goes_on = self.find(rt, guard, &mut batch);
         for _ in rt.forever() {
-            let Some(task) = next else {
+            if !goes_on {
                 return;
-            };
-            gate.enter(worker, task);
-            next = self.exchange(rt, gate, worker, task);
+            }
+            for task in batch.tasks() {
+                gate.enter(worker, *task);
+            }
+            goes_on = self.exchange(rt, gate, worker, &mut batch);
         }
     }
 }
