@@ -110,6 +110,11 @@ def woken(workers):
     return [put(workers, j, ("W",)) for j, it in enumerate(workers) if it == ("S",)] or [workers]
 
 
+def active(workers):
+    """Returns how many workers have come and don't sleep."""
+    return sum(it[0] in ("L", "G", "O", "D") for it in workers)
+
+
 def all_woken(workers):
     return tuple(("W",) if it == ("S",) else it for it in workers)
 
@@ -117,13 +122,15 @@ def all_woken(workers):
 class Rule:
     """The rule of `Waits`, with one fault or none."""
 
-    def __init__(self, fault=""):
+    def __init__(self, fault="", needed=WORKERS):
         self.fault = fault
+        self.needed = needed
 
     def wakes(self, book, numbers, workers, kind):
         """Returns the workers after `wake_another`, in each way."""
         is_deaf = self.fault == "claims" or self.fault == kind
-        return woken(workers) if numbers[1] > 0 and free(book) and not is_deaf else [workers]
+        is_needed = numbers[1] > 0 and active(workers) < self.needed and free(book)
+        return woken(workers) if is_needed and not is_deaf else [workers]
 
     def sleeps(self, numbers):
         return (numbers[0] - (self.fault != "counts"), numbers[1])
@@ -138,7 +145,8 @@ class Rule:
             yield book, numbers, put(workers if self.fault == "end" else all_woken(workers), i, ("E",))
             return
         left = free(book)
-        if not left or (tries == 0 and (awake > 1 or self.fault == "leaves")):
+        is_enough = tries == 0 or active(put(workers, i, ("L",))) > self.needed
+        if not left or (is_enough and (awake > 1 or self.fault == "leaves")):
             if self.fault == "late":
                 yield book, numbers, put(workers, i, ("D",))
             else:
@@ -149,8 +157,8 @@ class Rule:
         for claimed, tasks in claims(book):
             is_full = len(tasks) == BATCH and bool(free(claimed))
             for then in {(awake, max(0, tries - 1))} | ({(awake, TRIES)} if is_full else set()):
-                for others in self.wakes(claimed, then, workers, "find"):
-                    yield claimed, then, put(others, i, ("G", *tasks))
+                for others in self.wakes(claimed, then, put(workers, i, ("G", *tasks)), "find"):
+                    yield claimed, then, others
 
     def ran(self, book, numbers, task):
         """Returns what the numbers may be after a row of local instructions: it was too short, or worth it."""
@@ -173,8 +181,8 @@ class Rule:
     def lends(self, book, numbers, workers, i, lent):
         """Yields the next states of a worker that goes out with slices of these tasks."""
         fewer = (numbers[0] - 1, numbers[1])
-        for others in self.wakes(book, fewer, workers, "lends"):
-            yield book, fewer, put(others, i, ("O", *lent))
+        for others in self.wakes(book, fewer, put(workers, i, ("O", *lent)), "lends"):
+            yield book, fewer, others
 
     def of_worker(self, book, numbers, workers, i):
         """Yields what comes of the next hold of a worker."""
@@ -206,13 +214,13 @@ class Rule:
             yield (book[:2] + (True,) + book[3:], numbers, workers, False)
 
 
-def is_bad(state):
+def is_bad(rule, state):
     """Returns whether all sleep, or a task is left to sleepers although several workers are needed."""
     book, numbers, workers, _ = state
     places = {it[0] for it in workers}
     if "S" not in places:
         return False
-    is_idle = not places & {"N", "L", "W", "G", "D"}
+    is_idle = not places & {"N", "L", "W", "G", "D"} and active(workers) < rule.needed
     return places <= {"S", "E"} or (is_idle and numbers[1] > 0 and bool(free(book)))
 
 
@@ -222,7 +230,7 @@ def search(rule, kids, may_stop):
     before, todo = {first: []}, [first]
     while todo:
         state = todo.pop()
-        if is_bad(state):
+        if is_bad(rule, state):
             return len(before), state
         for after in rule.moves(state):
             if after not in before:
@@ -241,13 +249,13 @@ def search(rule, kids, may_stop):
 def main():
     global KIDS
     asked, passed, failed = KIDS, 0, 0
-    searches = [("", False), ("", True), *((fault, False) for fault in FAULTS)]
-    for fault, may_stop in searches:
+    searches = [("", False, WORKERS), ("", False, 2), ("", True, 2), *((fault, False, WORKERS) for fault in FAULTS)]
+    for fault, may_stop, needed in searches:
         KIDS = max(1, asked - 1) if may_stop else asked
-        states, bad = search(Rule(fault), KIDS, may_stop)
+        states, bad = search(Rule(fault, needed), KIDS, may_stop)
         is_right = (bad is None) == (not fault)
         passed, failed = passed + is_right, failed + (not is_right)
-        name = FAULTS.get(fault) or ("the rule, and a stop" if may_stop else "the rule")
+        name = FAULTS.get(fault) or ("the rule, and a stop" if may_stop else f"the rule with {needed} workers needed")
         print(f"{name}: {states:,} states, {'no bad one' if bad is None else f'as {bad}'}{'' if is_right else '  FAILED'}")
     print(f"{passed} passed, {failed} failed")
     return failed > 0

@@ -1,20 +1,21 @@
 //! Decides which workers sleep and which wake another. No other file decides that.
 //!
-//! A worker *waits* for the lock, *works* under it, is *out* with a slice or at the gate, *sleeps*,
-//! or has ended. The two numbers below are read and written only under the lock, in the hold in
-//! which the worker looks for a task. `Condvar::wait` gives the lock up and sleeps in one step.
+//! A worker *waits* for the lock, *works* under it, is *out* with slices or at the gate, *sleeps*, or
+//! has ended. The numbers below are read and written only under the lock, in the hold in which the
+//! worker looks for a task. `Condvar::wait` gives the lock up and sleeps in one step.
 //!
 //! Why the workers never all sleep while a task is left:
 //!
-//! 1. `awake` is the number of workers that have come and neither sleep nor are out with a slice.
+//! 1. `awake` is the number of workers that have come and neither sleep nor are out with slices.
 //!    `lends` and `sleeps` take one away, `comes`, `back` and `rises` add one. Each is called in the
-//!    hold that makes the change. A worker that is new or woken counts once it has the lock.
+//!    hold that makes the change, once for all slices that a worker takes or gives back in it. A
+//!    worker that is new or woken counts once it has the lock.
 //!
 //! 2. A worker sleeps only in a hold in which it saw that no task is left, or that `leaves` holds.
 //!    In the second case another worker is awake.
 //!
 //! 3. A worker that is awake takes the lock and looks for a task once more before it sleeps. A
-//!    worker that is out with a slice is counted again when it brings the slice back.
+//!    worker that is out with slices is counted again when it brings them back.
 //!
 //! 4. So the last worker that is awake sleeps only if no task is left. Only a step or an event from
 //!    outside makes a task left again. A worker does these under the lock, and is awake then.
@@ -28,16 +29,18 @@
 /// This many local instructions in a row are long enough to justify waking another worker.
 const WORTH: u32 = 900;
 
-/// Several workers may claim tasks until this many were claimed since the last worker came or the
-/// last long row of local instructions. After that only one does.
+/// Several workers may claim tasks until this many batches were claimed since the last worker came,
+/// the last long row of local instructions, or the last full batch. After that only one does.
 const TRIES: u32 = 64;
 
-/// How many workers there are, how many are awake with no slice out, and how many tasks may still
-/// be claimed by several at once.
+/// How many workers there are, how many are awake with no slice out, and how many batches may still
+/// be claimed by several at once. How many local instructions the last row had that was no short
+/// one, and how many short ones came since.
 #[derive(Clone, Copy, Drop)]
 pub(crate) struct Waits {
     workers: u32,
     awake: u32,
+    active: u32,
     tries: u32,
     row: u32,
     missed: u32,
@@ -49,6 +52,7 @@ impl Waits {
         Waits {
             workers,
             awake: 0,
+            active: 0,
             tries: 0,
             row: 0,
             missed: 0,
@@ -57,7 +61,7 @@ impl Waits {
 
     /// A worker has the lock for the first time.
     pub(crate) fn comes(&mut self) {
-        self.awake = self.awake.saturating_add(1);
+        self.rises();
         self.calls_several();
     }
 
@@ -70,7 +74,22 @@ impl Waits {
 
     /// Should the worker leave the remaining tasks to another worker that is awake?
     pub(crate) fn leaves(&self) -> bool {
-        self.tries == 0 && self.awake > 1
+        self.awake > 1 && (self.tries == 0 || self.active > self.needed())
+    }
+
+    /// How many workers the lock leaves time for. The shorter the rows are, the more of its time a
+    /// worker has the lock.
+    fn needed(&self) -> u32 {
+        if self.row == 0 {
+            self.workers
+        } else {
+            (self.row / ROW_FOR_ANOTHER).saturating_add(1)
+        }
+    }
+
+    /// Is a worker that sleeps needed, if a task is left?
+    pub(crate) fn needs_another(&self) -> bool {
+        self.wants_several() && self.active < self.needed()
     }
 
     /// May several workers claim tasks? If so, a worker that claims a task or takes a slice wakes
@@ -80,8 +99,8 @@ impl Waits {
         self.tries > 0
     }
 
-    /// A worker claimed so many tasks. `has_more` says whether a task is left. A full batch of short
-    /// rows with a task left is work for another worker.
+    /// A worker claimed `tasks` tasks. `has_more` says whether a task is left. If one is left by a
+    /// full batch, there is work for several workers.
     pub(crate) fn claims(&mut self, tasks: u32, has_more: bool) {
         if has_more && self.is_full(tasks) {
             self.calls_several();
@@ -90,7 +109,7 @@ impl Waits {
         }
     }
 
-    /// Are so many tasks a batch of several to which no further one is added?
+    /// Is a batch of `tasks` tasks full, and are these several?
     fn is_full(&self, tasks: u32) -> bool {
         tasks > 1 && tasks >= self.batch()
     }
@@ -103,38 +122,42 @@ impl Waits {
         (IN_A_BATCH / self.row.max(1)).max(1).min(MOST_TASKS)
     }
 
-    /// A worker saw the end of a row of `done` local instructions of a task. It saw 0 if the task
-    /// can't step any more.
+    /// A worker saw the end of a row of `done` local instructions.
     pub(crate) fn saw(&mut self, done: u32) {
         if done >= LEAST_ROW {
             self.row = done;
             self.missed = 0;
-        } else if self.missed < MOST_MISSED {
+        }
+    }
+
+    /// A worker did a task's steps until the task could step no more.
+    pub(crate) fn leaves_task(&mut self) {
+        if self.missed < MOST_MISSED {
             self.missed += 1;
         } else {
             self.row = 0;
         }
     }
 
-    /// A worker goes out with a slice.
+    /// A worker goes out with slices.
     pub(crate) fn lends(&mut self) {
         self.awake = self.awake.saturating_sub(1);
     }
 
-    /// A worker is back with a slice.
+    /// A worker is back with its slices.
     pub(crate) fn back(&mut self) {
         self.awake = self.awake.saturating_add(1);
     }
 
-    /// A worker gave back so many slices, the longest of `longest` local instructions. `has_other`
-    /// says whether another task could step meanwhile, or was out.
+    /// A worker gave back `slices` slices. In the longest it did `longest` local instructions.
+    /// `has_other` says whether another task could step meanwhile, or was out.
     pub(crate) fn gives_back(&mut self, slices: u32, longest: u32, has_other: bool) {
         if is_worth(longest) || self.is_full(slices) {
             self.ran(has_other);
         } else {
             self.tries = self.tries.saturating_sub(1);
         }
-        self.saw(longest);
+        self.saw(longest.saturating_add(IN_PLACE_FOR_SEVERAL));
     }
 
     /// A worker did local instructions that were worth it. `has_other` says whether another task
@@ -148,11 +171,13 @@ impl Waits {
     /// A worker is about to sleep.
     pub(crate) fn sleeps(&mut self) {
         self.awake = self.awake.saturating_sub(1);
+        self.active = self.active.saturating_sub(1);
     }
 
     /// A worker that slept has the lock.
     pub(crate) fn rises(&mut self) {
         self.awake = self.awake.saturating_add(1);
+        self.active = self.active.saturating_add(1);
     }
 
     /// The limit for the local instructions that a worker does in a row under the lock. If the task
@@ -165,7 +190,7 @@ impl Waits {
         }
     }
 
-    /// The limit for the turns of one of so many tasks under one hold of the lock.
+    /// The limit for the turns of a task under one hold of the lock, if the worker has `tasks` tasks.
     pub(crate) fn in_a_hold(&self, tasks: u32) -> u32 {
         if self.wants_several() {
             IN_A_HOLD_FOR_SEVERAL
@@ -196,7 +221,7 @@ pub(crate) fn turns_after(done: u32) -> u32 {
     if done < IN_A_ROW { IN_A_ROW } else { 1 }
 }
 
-/// The limit for the local instructions that a worker does of each of so many slices.
+/// The limit for the local instructions that a worker with `slices` slices does of each.
 pub(crate) fn at_once(slices: u32) -> u32 {
     if slices > 1 { IN_A_BATCH } else { AT_ONCE }
 }
@@ -207,14 +232,17 @@ const AT_ONCE: u32 = 65_536;
 /// The limit for the tasks of a batch.
 pub(crate) const MOST_TASKS: u32 = 8;
 
-/// A batch has about as many local instructions. A worker does at most so many of each slice, if
-/// it has several.
+/// A full batch has about this many local instructions. A worker with several slices does at most
+/// this many of each.
 const IN_A_BATCH: u32 = 4_096;
 
-/// A batch is made of tasks that have a row of at least so many local instructions.
-const LEAST_ROW: u32 = 200;
+/// A row of 400 local instructions needs a second worker, and each 400 more need one more.
+const ROW_FOR_ANOTHER: u32 = 400;
 
-/// After so many shorter rows one after the other no batch is made.
+/// A row of fewer local instructions is short: no batch is made of such rows.
+const LEAST_ROW: u32 = 400;
+
+/// After this many tasks with no long row, one after the other, no batch is made.
 const MOST_MISSED: u32 = 16;
 
 /// Local instructions are done in place after this many turns of a task in a row.

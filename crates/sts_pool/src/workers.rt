@@ -86,7 +86,7 @@ impl<'p, O: Outside, B: Runs<O>> Shared<'p, O, B> {
         let mut turns = self.waits.first_turns();
         while left > 0 {
             if !self.turns(task, turns) {
-                self.waits.saw(0);
+                self.waits.leaves_task();
                 return false;
             }
             let limit = self.waits.in_place();
@@ -195,7 +195,7 @@ impl<'p, O: Outside, B: Runs<O>> Shared<'p, O, B> {
 
     /// Is there work for another worker, too?
     fn wants_another(&self) -> bool {
-        self.waits.wants_several() && self.asked.has_more()
+        self.waits.needs_another() && self.asked.has_more()
     }
 }
 
