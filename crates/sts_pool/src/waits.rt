@@ -99,10 +99,10 @@ impl Waits {
         self.tries > 0
     }
 
-    /// A worker claimed `tasks` tasks. `has_more` says whether a task is left. If one is left by a
-    /// full batch, there is work for several workers.
-    pub(crate) fn claims(&mut self, tasks: u32, has_more: bool) {
-        if has_more && self.is_full(tasks) {
+    /// A worker claimed a batch. `has_left` says whether it is a full one and a task is left: then
+    /// there is work for several workers.
+    pub(crate) fn claims(&mut self, has_left: bool) {
+        if has_left {
             self.calls_several();
         } else {
             self.tries = self.tries.saturating_sub(1);
@@ -110,7 +110,7 @@ impl Waits {
     }
 
     /// Is a batch of `tasks` tasks full, and are these several?
-    fn is_full(&self, tasks: u32) -> bool {
+    pub(crate) fn is_full(&self, tasks: u32) -> bool {
         tasks > 1 && tasks >= self.batch()
     }
 
@@ -149,10 +149,11 @@ impl Waits {
         self.awake = self.awake.saturating_add(1);
     }
 
-    /// A worker gave back `slices` slices. In the longest it did `longest` local instructions.
-    /// `has_other` says whether another task could step meanwhile, or was out.
-    pub(crate) fn gives_back(&mut self, slices: u32, longest: u32, has_other: bool) {
-        if is_worth(longest) || self.is_full(slices) {
+    /// A worker gave back slices. In the longest it did `longest` local instructions. `is_worth` says
+    /// whether they justify another worker, and `has_other` whether another task could step
+    /// meanwhile, or was out.
+    pub(crate) fn gives_back(&mut self, longest: u32, is_worth: bool, has_other: bool) {
+        if is_worth {
             self.ran(has_other);
         } else {
             self.tries = self.tries.saturating_sub(1);

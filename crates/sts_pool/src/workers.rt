@@ -153,8 +153,9 @@ impl<'p, O: Outside, B: Runs<O>> Shared<'p, O, B> {
             }
         }
         batch.clear_slices();
-        let has_other = self.asked.has_other(batch.tasks());
-        self.waits.gives_back(slices, longest, has_other);
+        let is_worth = is_worth(longest) || self.waits.is_full(slices);
+        let has_other = is_worth && self.asked.has_other(batch.tasks());
+        self.waits.gives_back(longest, is_worth, has_other);
     }
 
     /// Claims tasks until the batch is full or no task is left.
@@ -169,8 +170,8 @@ impl<'p, O: Outside, B: Runs<O>> Shared<'p, O, B> {
             batch.add(task);
         }
         if batch.count() > 0 {
-            let has_more = self.asked.has_more();
-            self.waits.claims(batch.count(), has_more);
+            let has_left = self.waits.is_full(batch.count()) && self.asked.has_more();
+            self.waits.claims(has_left);
         }
     }
 
