@@ -2,6 +2,7 @@ pub mod Arriving
 pub mod ComparingLemmas
 pub mod Fitting
 pub mod FollowLemmas
+pub mod Keeping
 pub mod Laws
 pub mod LoopMarking
 pub mod Marking

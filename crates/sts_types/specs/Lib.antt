@@ -1,4 +1,6 @@
 pub mod Arrivals
+pub mod Kept
+pub mod Lists
 pub mod Room
 pub mod Simple
 pub mod Site

@@ -1,6 +1,6 @@
 //! The typestates that have arrived at each place of a function, kept in little memory.
 
-ghost use Rattle.std.specs.Prelude.{◌≡◌, ◌<◌, ◌≤◌, ◌↔◌, ◌++◌, List, length, replicate, slice_get};
+ghost use Rattle.std.specs.Prelude.{◌≡◌, ◌<◌, ◌≤◌, ◌↔◌, length, replicate, slice_get};
 ghost use Rattle.std.specs.Prelude.{slice_index_or, slice_set, option_to_list, All, IfOk, OnOk, ℕ};
 ghost use Rattle.std.specs.Prelude.{IsTrue};
 ghost use Rattle.sts_rules.specs.Edges as def;
@@ -11,6 +11,7 @@ ghost use Rattle.sts_types.specs.Arrivals.{filled, none, state_of, IsAtStart};
 
 use crate::arrival::Arrival;
 use crate::follow::edge;
+use crate::kept::Kept;
 use crate::site::Site;
 use crate::state::TypeState;
 use std::alloc::{AllocError, Global};
@@ -33,7 +34,7 @@ pub(crate) struct Mark {
 #[derive(Drop)]
 pub(crate) struct Arrivals {
     marks: Vec<Arrival<Mark>>,
-    kept: Vec<TypeState>,
+    kept: Kept,
     state: TypeState,
     /// The index of a kept typestate that differs from the current one only in its number of
     /// operands.
@@ -51,28 +52,28 @@ impl Model for Arrivals {
     ghost Value = { Arrived };
 
     ghost view = { λ a. record {
-      table = map (arrival_of a.kept.items) a.marks.items;
+      table = map (arrival_of a.kept) a.marks.items;
       state = a.state;
-      start = state_of a.kept.items a.start;
+      start = state_of a.kept a.start;
     } };
 
-    ghost invariant = { λ a. All (IsMarked (length a.kept.items)) a.marks.items
-        × (a.like < length a.kept.items)
-        × (a.state ≡ state_of a.kept.items (record { height = a.state.height; like = a.like }))
-        × IsMarked (length a.kept.items) (Arrival.One a.start) };
+    ghost invariant = { λ a. All (IsMarked (length a.kept)) a.marks.items
+        × (a.like < length a.kept)
+        × (a.state ≡ state_of a.kept (record { height = a.state.height; like = a.like }))
+        × IsMarked (length a.kept) (Arrival.One a.start) };
 }
 
 /// Do these two refer to the same typestate?
-fn are_same(kept: &[TypeState], a: Mark, b: Mark) -> bool
+fn are_same(kept: &Kept, a: Mark, b: Mark) -> bool
     requires a { a.like < length kept.now }
     requires b { b.like < length kept.now }
     ensures { IsTrue result ↔ (state_of kept.now a ≡ state_of kept.now b) }
 {
-    a.height == b.height && (a.like == b.like || kept[a.like].is_like(&kept[b.like]))
+    a.height == b.height && (a.like == b.like || kept.are_like(a.like, b.like))
 }
 
 /// The typestates at a place after one more has arrived.
-fn merged(kept: &[TypeState], before: Arrival<Mark>, mark: Mark) -> Arrival<Mark>
+fn merged(kept: &Kept, before: Arrival<Mark>, mark: Mark) -> Arrival<Mark>
     requires before { IsMarked (length kept.now) before }
     requires mark { IsMarked (length kept.now) (Arrival.One mark) }
     ensures merged { Merged (arrival_of kept.now before) (state_of kept.now mark)
@@ -97,45 +98,19 @@ fn near(marks: &Vec<Arrival<Mark>>, place: usize, like: usize) -> usize
     }
 }
 
-/// Keeps a typestate, unless the kept one at `near` or that at `like` differs from it only in its
-/// number of operands. Answers the index of the kept one.
-fn keep(
-    kept: &mut Vec<TypeState>,
-    near: usize,
-    like: usize,
-    state: &TypeState,
-) -> Result<usize, AllocError>
-    requires near { near < length kept.old.items }
-    requires like { like < length kept.old.items }
-    ensures like { IfOk result (λ at. (at < length kept.new.items) ×
-        (state_of kept.new.items (record { height = state.now.height; like = at }) ≡
-        state.now)) }
-    ensures more { (added : List TypeState) × (kept.new.items ≡ kept.old.items ++ added) }
-{
-    if kept[near].is_like(state) {
-        return Ok(near);
-    }
-    if near != like && kept[like].is_like(state) {
-        return Ok(like);
-    }
-    let count = kept.len();
-    // It is written where it is kept, so it isn't moved.
-    kept.push(TypeState::default())?;
-    kept[count].copy_from(state);
-    Ok(count)
-}
-
 /// Makes the typestate of this mark the current one. The current one is like the kept typestate at
 /// `like`.
-fn come_to(state: &mut TypeState, like: &mut usize, kept: &[TypeState], mark: Mark)
+#[inline(always)]
+fn come_to(state: &mut TypeState, like: &mut usize, kept: &Kept, mark: Mark)
     requires mark { IsMarked (length kept.now) (Arrival.One mark) }
+    requires like { like.old < length kept.now }
     requires hand { state.old ≡ state_of kept.now
         (record { height = state.old.height; like = like.old }) }
     ensures state { state.new ≡ state_of kept.now mark }
     ensures like { like.new ≡ mark.like }
 {
     if mark.like != *like {
-        state.copy_from(&kept[mark.like]);
+        kept.go_to(*like, mark.like, state);
         *like = mark.like;
     }
     state.set_height(mark.height);
@@ -154,9 +129,7 @@ impl Arrivals {
             (λ a. (a.table ≡ slice_set (replicate places Arrival.Nothing) 0 (Arrival.One first)) ×
             (a.state ≡ first)) }
     {
-        // Room for one typestate a place, so that the kept ones needn't move.
-        let mut kept = Vec::with_capacity(alloc, places)?;
-        kept.push(first.copy())?;
+        let kept = Kept::new(alloc, places, &first)?;
         let start = Mark {
             height: first.height(),
             like: 0,
@@ -192,7 +165,7 @@ impl Arrivals {
             Arrival::Several => Arrival::Several,
             Arrival::One(mark) => {
                 self.start = mark;
-                come_to(&mut self.state, &mut self.like, self.kept.as_slice(), mark);
+                come_to(&mut self.state, &mut self.like, &self.kept, mark);
                 Arrival::One(())
             }
         }
@@ -202,12 +175,7 @@ impl Arrivals {
     pub(crate) fn go_back(&mut self)
         ensures { self.new ≡ record self.old { state = self.old.start } }
     {
-        come_to(
-            &mut self.state,
-            &mut self.like,
-            self.kept.as_slice(),
-            self.start,
-        );
+        come_to(&mut self.state, &mut self.like, &self.kept, self.start);
     }
 
     /// The current typestate arrives at a place, with another number of operands.
@@ -223,11 +191,7 @@ impl Arrivals {
     {
         let place = place as usize;
         let like = self.like;
-        self.marks[place] = merged(
-            self.kept.as_slice(),
-            self.marks[place],
-            Mark { height, like },
-        );
+        self.marks[place] = merged(&self.kept, self.marks[place], Mark { height, like });
     }
 
     /// The current typestate goes along an edge of an instruction, by number from 0, and arrives at
@@ -243,21 +207,17 @@ impl Arrivals {
     {
         if let Some(to) = edge(site, &mut self.state, number) {
             let near = near(&self.marks, to as usize, self.like);
-            match keep(&mut self.kept, near, self.like, &self.state) {
+            match self.kept.keep(near, &self.state) {
                 Ok(like) => self.like = like,
                 Err(error) => {
-                    self.state.copy_from(&self.kept[self.like]);
+                    self.kept.load(self.like, &mut self.state);
                     return Err(error);
                 }
             }
             let place = to as usize;
             let height = self.state.height();
             let like = self.like;
-            self.marks[place] = merged(
-                self.kept.as_slice(),
-                self.marks[place],
-                Mark { height, like },
-            );
+            self.marks[place] = merged(&self.kept, self.marks[place], Mark { height, like });
         }
         Ok(())
     }
@@ -273,7 +233,7 @@ impl Arrivals {
             like: self.like,
         };
         match self.marks[place as usize] {
-            Arrival::One(only) => are_same(self.kept.as_slice(), only, here),
+            Arrival::One(only) => are_same(&self.kept, only, here),
             _ => false,
         }
     }

@@ -1,11 +1,11 @@
 //! Typestates.
 
-ghost use Rattle.std.specs.Prelude.{◌≡◌, ◌↔◌, ◌<◌, ◌≤◌, ◌+◌, ◌∷◌, IsTrue, length, drop, slice_set};
+ghost use Rattle.std.specs.Prelude.{◌≡◌, ◌↔◌, ◌<◌, ◌≤◌, ◌+◌, ◌∷◌, IsTrue, length, reverse, slice_set};
 ghost use Rattle.sts_rules.specs.TypeState as def;
 
-use crate::same::{are_same_entries, are_same_loops, are_same_slots, copy_entries, copy_loops};
+use crate::same::{are_same_entries, are_same_loops, are_same_slots, stack_entries, stack_loops};
 use std::marker::Model;
-use sts_code::{MAX_OPERANDS, Program};
+use sts_code::{MAX_ENTRIES, MAX_LOOPS, MAX_OPERANDS, Program};
 use sts_model::Stack;
 use sts_rules::{SlotKind, TypedEntry, TypedLoop};
 
@@ -62,9 +62,11 @@ impl TypeState {
     pub fn copy_from(&mut self, other: &TypeState)
         ensures { self.new ≡ other.now }
     {
+        prove!(other.loops.len() <= MAX_LOOPS);
+        prove!(other.entries.len() <= MAX_ENTRIES);
         self.height = other.height;
-        copy_loops(&mut self.loops, &other.loops);
-        copy_entries(&mut self.entries, &other.entries);
+        stack_loops(&mut self.loops, other.loops.as_slice());
+        stack_entries(&mut self.entries, other.entries.as_slice());
         self.slots = other.slots;
     }
 
@@ -113,6 +115,31 @@ impl TypeState {
         ensures { self.new ≡ record self.old { height = height } }
     {
         self.height = height;
+    }
+}
+
+impl TypeState {
+    /// Opens these loops, the last one innermost, in place of those that are open.
+    pub(crate) fn set_loops(&mut self, list: &[TypedLoop])
+        requires { length list.now ≤ MAX_LOOPS }
+        ensures { self.new ≡ record self.old { loops = reverse list.now } }
+    {
+        stack_loops(&mut self.loops, list);
+    }
+
+    /// Opens these entries, the last one innermost, in place of those that are open.
+    pub(crate) fn set_entries(&mut self, list: &[TypedEntry])
+        requires { length list.now ≤ MAX_ENTRIES }
+        ensures { self.new ≡ record self.old { entries = reverse list.now } }
+    {
+        stack_entries(&mut self.entries, list);
+    }
+
+    /// Fills the slots anew.
+    pub(crate) fn set_slots(&mut self, slots: &[SlotKind; 16])
+        ensures { self.new ≡ record self.old { slots = slots.now } }
+    {
+        self.slots = *slots;
     }
 }
 

@@ -1,8 +1,8 @@
-use Rattle.std.proofs.Common.{rules, ◌≡◌, ◌<◌, ◌∙◌, length, map, slice_get, slice_set, Some, subst, sym, ap}
+use Rattle.std.proofs.Common.{rules, ◌≡◌, ◌<◌, ◌∙◌, length, map, slice_get, slice_set, Some, refl, subst, sym, ap}
 use Rattle.sts_rules.specs.Edges.{follows}
 use Rattle.sts_rules.specs.TypeState.{TypeState}
 use Rattle.sts_types.specs.declared.arrival.Arrival.TheVariants.{One}
-use Rattle.sts_types.specs.Arrivals.{ArriveAt, IsMarked, arrival_of, state_of}
+use Rattle.sts_types.specs.Arrivals.{ArriveAt, arrival_of, at_height, state_of}
 use Rattle.sts_types.proofs.Arriving.{place_within}
 use Rattle.sts_types.proofs.Marking.{more_kept, mark_holds, marks_hold, arrived, goes_there}
 use Rattle.sts_types.proofs.Marking.{within_marks, marked_there}
@@ -10,12 +10,12 @@ use Rattle.sts_types.proofs.arrivals.Arrivals.arrive_along.Goals as goal
 
 pub invariant_of-self-in-Some : goal.invariant_of-self-in-Some
 invariant_of-self-in-Some c =
-    let kept = c.self.inside.kept.items in
-    let now = c.keep.new.kept.items in
+    let kept = c.self.inside.kept in
+    let now = c.keep.new.self in
     let more = c.keep.ensures.more in (
-      marks_hold kept more.0 now c.self.inside.marks.items c.in-Some.to c.merged.result more.1 c.self.invariant.0 (subst (λ l. IsMarked (length l) c.merged.result) c.as_slice.ensures.value c.merged.ensures.marked),
-      c.in-Ok.ensures.like.0,
-      sym c.in-Ok.ensures.like.1,
+      marks_hold kept more.0 now c.self.inside.marks.items c.in-Some.to c.merged.result more.1 c.self.invariant.0 c.merged.ensures.marked,
+      c.in-Ok.ensures.kept.0,
+      sym (ap (at_height c.edge.new.state.height) c.in-Ok.ensures.kept.1),
       mark_holds kept more.0 now (One c.self.inside.start) more.1 c.self.invariant.3,
     )
 
@@ -23,24 +23,24 @@ pub returns-in-Ok-clause-table : goal.returns-in-Ok-clause-table
 returns-in-Ok-clause-table c =
     let out = λ (s : TypeState). follows c.args.site.now.program.now c.args.site.now.loops.now c.args.site.now.pc c.args.site.now.instr s in
     let state = ap (λ a. a.state) c.self.view_is in
-    let now = c.keep.new.kept.items in
+    let now = c.keep.new.self in
     let more = c.keep.ensures.more in
     let there : slice_get (out c.args.self.now.state) c.args.number ≡ Some (c.in-Some.to, c.edge.new.state) = ap (λ s. slice_get (out s) c.args.number) (sym state) ∙ goes_there (slice_get (out c.self.inside.state) c.args.number) c.self.inside.state c.edge.result c.edge.new.state c.in-Some.to c.edge.ensures c.in-Some.is in
-    let view : map (arrival_of now) c.self.inside.marks.items ≡ c.args.self.now.table = ap (λ l. map (arrival_of l) c.self.inside.marks.items) more.1 ∙ more_kept c.self.inside.kept.items more.0 c.self.inside.marks.items c.self.invariant.0 ∙ ap (λ a. a.table) c.self.view_is in
-    let same = ap (λ h. state_of now (record { height = h; like = c.in-Ok.like })) c.height-height.ensures.value ∙ c.in-Ok.ensures.like.1 in
+    let view : map (arrival_of now) c.self.inside.marks.items ≡ c.args.self.now.table = ap (λ l. map (arrival_of l) c.self.inside.marks.items) more.1 ∙ more_kept c.self.inside.kept more.0 c.self.inside.marks.items c.self.invariant.0 ∙ ap (λ a. a.table) c.self.view_is in
+    let same = ap (λ h. state_of now (record { height = h; like = c.in-Ok.like })) c.height-height.ensures.value ∙ ap (at_height c.edge.new.state.height) c.in-Ok.ensures.kept.1 in
     let within = place_within (out c.args.self.now.state) c.args.number c.in-Some.to (length c.args.self.now.table) c.edge.new.state there c.requires.places in
     subst (λ o. ArriveAt c.args.self.now.table o (map (arrival_of now) (slice_set c.self.inside.marks.items c.in-Some.to c.merged.result))) (sym there)
-    (arrived now c.as_slice.result.now c.self.inside.marks.items c.args.self.now.table c.in-Some.to c.index-in-Some.result.now c.merged.result _ c.edge.new.state c.as_slice.ensures.value view within c.index-in-Some.ensures same c.merged.ensures.merged)
+    (arrived now now c.self.inside.marks.items c.args.self.now.table c.in-Some.to c.index.result.now c.merged.result _ c.edge.new.state refl view within c.index.ensures same c.merged.ensures.merged)
 
-pub keep-requires-clause-near : goal.keep-requires-clause-near
-keep-requires-clause-near c = c.near-near.ensures (length c.self.inside.kept.items) c.self.invariant.0 c.self.invariant.1
+pub keep-requires : goal.keep-requires
+keep-requires c = c.near-near.ensures (length c.self.inside.kept) c.self.invariant.0 c.self.invariant.1
 
-pub index-requires-in-Some : goal.index-requires-in-Some
-index-requires-in-Some c =
+pub index-requires : goal.index-requires
+index-requires c =
     let out = λ (s : TypeState). follows c.args.site.now.program.now c.args.site.now.loops.now c.args.site.now.pc c.args.site.now.instr s in
     let state = ap (λ a. a.state) c.self.view_is in
     let there : slice_get (out c.args.self.now.state) c.args.number ≡ Some (c.in-Some.to, c.edge.new.state) = ap (λ s. slice_get (out s) c.args.number) (sym state) ∙ goes_there (slice_get (out c.self.inside.state) c.args.number) c.self.inside.state c.edge.result c.edge.new.state c.in-Some.to c.edge.ensures c.in-Some.is in
-    let within : c.in-Some.to < length c.self.inside.marks.items = within_marks c.self.inside.kept.items c.self.inside.marks.items c.args.self.now.table c.in-Some.to (ap (λ a. a.table) c.self.view_is) (place_within (out c.args.self.now.state) c.args.number c.in-Some.to (length c.args.self.now.table) c.edge.new.state there c.requires.places) in
+    let within : c.in-Some.to < length c.self.inside.marks.items = within_marks c.self.inside.kept c.self.inside.marks.items c.args.self.now.table c.in-Some.to (ap (λ a. a.table) c.self.view_is) (place_within (out c.args.self.now.state) c.args.number c.in-Some.to (length c.args.self.now.table) c.edge.new.state there c.requires.places) in
     search (rules, within)
 
 pub index_mut-requires : goal.index_mut-requires
@@ -48,7 +48,7 @@ index_mut-requires c =
     let out = λ (s : TypeState). follows c.args.site.now.program.now c.args.site.now.loops.now c.args.site.now.pc c.args.site.now.instr s in
     let state = ap (λ a. a.state) c.self.view_is in
     let there : slice_get (out c.args.self.now.state) c.args.number ≡ Some (c.in-Some.to, c.edge.new.state) = ap (λ s. slice_get (out s) c.args.number) (sym state) ∙ goes_there (slice_get (out c.self.inside.state) c.args.number) c.self.inside.state c.edge.result c.edge.new.state c.in-Some.to c.edge.ensures c.in-Some.is in
-    let within : c.in-Some.to < length c.self.inside.marks.items = within_marks c.self.inside.kept.items c.self.inside.marks.items c.args.self.now.table c.in-Some.to (ap (λ a. a.table) c.self.view_is) (place_within (out c.args.self.now.state) c.args.number c.in-Some.to (length c.args.self.now.table) c.edge.new.state there c.requires.places) in
+    let within : c.in-Some.to < length c.self.inside.marks.items = within_marks c.self.inside.kept c.self.inside.marks.items c.args.self.now.table c.in-Some.to (ap (λ a. a.table) c.self.view_is) (place_within (out c.args.self.now.state) c.args.number c.in-Some.to (length c.args.self.now.table) c.edge.new.state there c.requires.places) in
     search (rules, within)
 
 pub merged-requires-clause-before : goal.merged-requires-clause-before
@@ -56,5 +56,5 @@ merged-requires-clause-before c =
     let out = λ (s : TypeState). follows c.args.site.now.program.now c.args.site.now.loops.now c.args.site.now.pc c.args.site.now.instr s in
     let state = ap (λ a. a.state) c.self.view_is in
     let there : slice_get (out c.args.self.now.state) c.args.number ≡ Some (c.in-Some.to, c.edge.new.state) = ap (λ s. slice_get (out s) c.args.number) (sym state) ∙ goes_there (slice_get (out c.self.inside.state) c.args.number) c.self.inside.state c.edge.result c.edge.new.state c.in-Some.to c.edge.ensures c.in-Some.is in
-    let within : c.in-Some.to < length c.self.inside.marks.items = within_marks c.self.inside.kept.items c.self.inside.marks.items c.args.self.now.table c.in-Some.to (ap (λ a. a.table) c.self.view_is) (place_within (out c.args.self.now.state) c.args.number c.in-Some.to (length c.args.self.now.table) c.edge.new.state there c.requires.places) in
-    marked_there c.self.inside.kept.items c.keep.ensures.more.0 c.keep.new.kept.items c.as_slice.result.now c.self.inside.marks.items c.in-Some.to c.index-in-Some.result.now c.keep.ensures.more.1 c.as_slice.ensures.value c.self.invariant.0 within c.index-in-Some.ensures
+    let within : c.in-Some.to < length c.self.inside.marks.items = within_marks c.self.inside.kept c.self.inside.marks.items c.args.self.now.table c.in-Some.to (ap (λ a. a.table) c.self.view_is) (place_within (out c.args.self.now.state) c.args.number c.in-Some.to (length c.args.self.now.table) c.edge.new.state there c.requires.places) in
+    marked_there c.self.inside.kept c.keep.ensures.more.0 c.keep.new.self c.keep.new.self c.self.inside.marks.items c.in-Some.to c.index.result.now c.keep.ensures.more.1 refl c.self.invariant.0 within c.index.ensures

@@ -1,8 +1,0 @@
-use Rattle.std.proofs.Common.{rules, ◌≡◌, ◌∷◌, [], length}
-use Rattle.sts_types.proofs.Marking.{set_last}
-use Rattle.sts_types.proofs.arrivals.keep.Goals as goal
-
-pub returns-clause-more : goal.returns-clause-more
-returns-clause-more c =
-    let count : c.len-count.result ≡ length c.args.kept.now.items = search rules in
-    (c.copy_from.new.self ∷ [], set_last c.args.kept.now.items c.default.result c.copy_from.new.self c.push.new.self.items c.len-count.result c.in_ok-push.ensures.items count)
