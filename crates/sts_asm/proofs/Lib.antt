@@ -1,5 +1,6 @@
 pub mod EachLemmas
 pub mod InPlaceLemmas
+pub mod LaneLemmas
 pub mod MarkLemmas
 pub mod BucketLemmas
 pub mod NameLemmas

@@ -1,11 +1,15 @@
-use Rattle.std.proofs.Common.{take_all, ◌≡◌, ℕ, suc, ◌+◌, ◌-◌, ◌<◌, ◌≤◌, Bool, true, false, cond, List, []}
-use Rattle.std.proofs.Common.{◌∷◌, Some, length, take, drop, get_or, arith, refl, sym, ap, ◌∙◌}
+use Rattle.std.proofs.Common.{take_all, ◌≡◌, ℕ, zero, suc, ◌+◌, ◌-◌, ◌<◌, ◌≤◌, Bool, true, false, cond, List}
+use Rattle.std.proofs.Common.{[], ◌∷◌, Some, length, take, drop, get_or, arith, refl, inl, inr}
 use Rattle.std.specs.Prelude.{◌&&◌, not, nat_le, nat_lt}
 use Rattle.std.specs.List.{list_all, before_first, position, position_or_len, slice_split}
+use Rattle.std.proofs.lemmas.Bool.{and_parts, cases_lt}
 use Rattle.std.proofs.lemmas.Bool.Decides.{nat_tests}
 use Rattle.sts_text.specs.Words.{is_newline}
-use Rattle.sts_text.proofs.WordLemmas.{position_some, cut_some}
+use Rattle.sts_text.proofs.WordLemmas.{cut_some}
+use Rattle.sts_asm.specs.declared.plain.Class.{Class}
+use Rattle.sts_asm.specs.declared.plain.Class.TheVariants.{Plain, Allowed}
 use Rattle.sts_asm.specs.Outline.{is_allowed, is_semicolon, is_plain}
+use Rattle.sts_asm.specs.Plain.{is_in}
 
 parts : (a s r : Bool) → ((a && not s) && r) ≡ true → (a ≡ true) × (s ≡ false) × (r ≡ true)
 parts true false true e = (refl, refl, refl)
@@ -17,7 +21,7 @@ allowed : (b : ℕ) → (nat_le 32 b && nat_le b 126) ≡ true → is_allowed b 
 allowed b e = grind (arith, nat_tests)
 
 -- a line of plain bytes is allowed
-pub plain_allowed : (line : List ℕ) → list_all is_plain line ≡ true → list_all is_allowed line ≡ true
+plain_allowed : (line : List ℕ) → list_all is_plain line ≡ true → list_all is_allowed line ≡ true
 plain_allowed [] e = refl
 plain_allowed (b ∷ rest) e =
     let h = parts (nat_le 32 b && nat_le b 126) (is_semicolon b) (list_all is_plain rest) e in
@@ -37,71 +41,46 @@ plain_longer (b ∷ rest) e =
 pub plain_whole : (line : List ℕ) → list_all is_plain line ≡ true → before_first is_semicolon line ≡ line
 plain_whole line e = take_all (position_or_len is_semicolon line) line (plain_longer line e)
 
-pub ruleset plain_lines = (plain_allowed, plain_whole)
+-- a class has only allowed bytes
+pub class_allowed : (class : Class) (line : List ℕ) → list_all (is_in class) line ≡ true → list_all is_allowed line ≡ true
+class_allowed Plain line e = plain_allowed line e
+class_allowed Allowed line e = e
 
--- ---- the first line, if it is plain
+-- ---- the first line, if its bytes are allowed
 
-abbrev unplain : ℕ → Bool
-unplain b = not (is_plain b)
-
-abbrev place : List ℕ → ℕ
-place text = position_or_len unplain text
-
-plain_no_newline : (b : ℕ) → is_plain b ≡ true → is_newline b ≡ false
-plain_no_newline b e = grind (arith, nat_tests)
-
-get_one : (x : ℕ) (xs : List ℕ) (n d : ℕ) → get_or (x ∷ xs) (1 + n) d ≡ get_or xs n d
-get_one x xs n d = let e : 1 + n ≡ suc n = omega arith in rw e refl
-
-take_one : (x : ℕ) (xs : List ℕ) (n : ℕ) → take (1 + n) (x ∷ xs) ≡ x ∷ take n xs
-take_one x xs n = let e : 1 + n ≡ suc n = omega arith in rw e refl
+allowed_no_newline : (b : ℕ) → is_allowed b ≡ true → is_newline b ≡ false
+allowed_no_newline b e = grind (arith, nat_tests)
 
 both_true : (a b : Bool) → a ≡ true → b ≡ true → (a && b) ≡ true
 both_true true true p q = refl
 both_true true false p q = cc
 both_true false b p q = cc
 
-at_head : (x : ℕ) (xs : List ℕ) (b : Bool) → is_plain x ≡ b → (place xs < length xs → get_or xs (place xs) 0 ≡ 10 → position_or_len is_newline xs ≡ place xs) → cond (not (not b)) (1 + place xs) 0 < suc (length xs) → get_or (x ∷ xs) (cond (not (not b)) (1 + place xs) 0) 0 ≡ 10 → cond (not (is_newline x)) (1 + position_or_len is_newline xs) 0 ≡ cond (not (not b)) (1 + place xs) 0
-at_head x xs true p more h e =
-    let k : 1 + place xs < suc (length xs) = h in
-    let short : place xs < length xs = omega (arith, k) in
-    let there : get_or (x ∷ xs) (1 + place xs) 0 ≡ 10 = e in
-    let n : is_newline x ≡ false = plain_no_newline x p in
-    let same : position_or_len is_newline xs ≡ place xs = more short (sym (get_one x xs (place xs) 0) ∙ there) in
-    rw (n, same) refl
-at_head x xs false p more h e =
-    let is : x ≡ 10 = e in
-    let n : is_newline x ≡ true = grind (arith, nat_tests, is) in
+-- a test that holds byte by byte holds of all
+pub front_all : (test : ℕ → Bool) (text : List ℕ) (n : ℕ) → ((k : ℕ) → k < n → test (get_or text k 0) ≡ true) → list_all test (take n text) ≡ true
+front_all test text zero h = refl
+front_all test [] (suc n) h = refl
+front_all test (x ∷ xs) (suc n) h = both_true (test x) (list_all test (take n xs)) (h 0 (omega arith)) (front_all test xs n (λ k less. h (suc k) (omega arith)))
+
+-- and so do the bytes of two parts, one after the other
+pub front_more : (test : ℕ → Bool) (text : List ℕ) (n m : ℕ) → ((k : ℕ) → k < n → test (get_or text k 0) ≡ true) → ((k : ℕ) → n ≤ k → k < n + m → test (get_or text k 0) ≡ true) → (k : ℕ) → k < n + m → test (get_or text k 0) ≡ true
+front_more test text n m front back k less = elim (cases_lt k n) [ inl early ↦ front k early | inr late ↦ back k late less ]
+
+-- a newline after allowed bytes is the first
+newline_place : (text : List ℕ) (n : ℕ) → list_all is_allowed (take n text) ≡ true → n < length text → get_or text n 0 ≡ 10 → position_or_len is_newline text ≡ n
+newline_place [] n h less e = absurd (omega arith)
+newline_place (x ∷ xs) zero h less e =
+    let n : is_newline x ≡ true = grind (arith, nat_tests, e) in
     rw n refl
+newline_place (x ∷ xs) (suc n) h less e =
+    let p = and_parts (is_allowed x) (list_all is_allowed (take n xs)) h in
+    rw (allowed_no_newline x p.0, newline_place xs n p.1 (omega arith) e) (omega arith)
 
--- if the first byte that isn't plain is a newline, it is the first newline
-same_place : (text : List ℕ) → place text < length text → get_or text (place text) 0 ≡ 10 → position_or_len is_newline text ≡ place text
-same_place [] h e = refl
-same_place (x ∷ xs) h e = at_head x xs (is_plain x) refl (same_place xs) h e
-
-before_head : (x : ℕ) (xs : List ℕ) (b : Bool) → is_plain x ≡ b → list_all is_plain (take (place xs) xs) ≡ true → list_all is_plain (take (cond (not (not b)) (1 + place xs) 0) (x ∷ xs)) ≡ true
-before_head x xs true p e =
-    ap (list_all is_plain) (take_one x xs (place xs)) ∙ both_true (is_plain x) (list_all is_plain (take (place xs) xs)) p e
-before_head x xs false p e = refl
-
-all_before : (text : List ℕ) → list_all is_plain (take (place text) text) ≡ true
-all_before [] = refl
-all_before (x ∷ xs) = before_head x xs (is_plain x) refl (all_before xs)
-
-pub plain_front : (text : List ℕ) (i : ℕ) → position unplain text ≡ Some i → list_all is_plain (take i text) ≡ true
-plain_front text i e = rw (position_some unplain text i e).0 (all_before text)
-
-first_newline : (text : List ℕ) (i : ℕ) → position unplain text ≡ Some i → get_or text i 0 ≡ 10 → position is_newline text ≡ Some i
-first_newline text i e h =
-    let p = position_some unplain text i e in
-    let there : get_or text (place text) 0 ≡ 10 = ap (λ (n : ℕ). get_or text n 0) (sym p.0) ∙ h in
-    let same : position_or_len is_newline text ≡ i = same_place text p.1 there ∙ sym p.0 in
-    let short : i < length text = rw p.0 p.1 in
-    let yes : nat_lt i (length text) ≡ true = grind (arith, nat_tests) in
-    rw (same, yes) refl
+first_newline : (text : List ℕ) (n : ℕ) → list_all is_allowed (take n text) ≡ true → n < length text → get_or text n 0 ≡ 10 → position is_newline text ≡ Some n
+first_newline text n h less e =
+    let yes : nat_lt n (length text) ≡ true = grind (arith, nat_tests) in
+    rw (newline_place text n h less e, yes) refl
 
 -- the text is cut there
-pub plain_cut : (text : List ℕ) (i : ℕ) → position unplain text ≡ Some i → get_or text i 0 ≡ 10 → slice_split is_newline text ≡ take i text ∷ slice_split is_newline (take (length text - (i + 1)) (drop (i + 1) text))
-plain_cut text i e h = cut_some is_newline text i (first_newline text i e h)
-
-pub ruleset plain_cuts = (position_some, plain_front, plain_cut)
+pub allowed_cut : (text : List ℕ) (n : ℕ) → list_all is_allowed (take n text) ≡ true → n < length text → get_or text n 0 ≡ 10 → slice_split is_newline text ≡ take n text ∷ slice_split is_newline (take (length text - (n + 1)) (drop (n + 1) text))
+allowed_cut text n h less e = cut_some is_newline text n (first_newline text n h less e)

@@ -6,5 +6,6 @@ pub mod Operand
 pub mod Line
 pub mod Table
 pub mod Outline
+pub mod Plain
 pub mod Source
 pub mod Text

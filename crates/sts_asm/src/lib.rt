@@ -8,6 +8,7 @@ mod marks;
 mod mnemonic;
 mod operand;
 mod outline;
+mod plain;
 mod resolving;
 mod source;
 mod text;

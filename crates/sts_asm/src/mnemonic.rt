@@ -101,6 +101,7 @@ pub enum Mnemonic {
 }
 
 /// The instruction without operands that this word spells.
+#[inline(always)]
 pub fn plain_word(word: &[u8]) -> Option<Instr>
     ensures { option_map (λ instr. Plain instr) result ≡ looked_up plain_words word.now }
 {

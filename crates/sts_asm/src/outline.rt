@@ -16,6 +16,7 @@ use crate::fault::{AsmKind, LineFault, LineKind};
 use crate::line::instr_of;
 use crate::marks::Marks;
 use crate::operand::{byte_at, name_at, name_text};
+use crate::plain::Known;
 use std::alloc::{AllocError, Global};
 use std::marker::Model;
 use sts_code::{Instr, Profile, is_name};
@@ -293,22 +294,6 @@ fn all_allowed(line: &[u8]) -> bool
     line.iter().all(|b| is_allowed(*b))
 }
 
-/// Is each byte from the space to `~`, and does none begin a comment? Most lines are like this, and
-/// are judged in one pass.
-fn all_plain(line: &[u8]) -> bool
-    ensures { result ≡ list_all is_plain line.now }
-{
-    line.iter().all(|b| matches!(*b, b' '..=b'~') && *b != b';')
-}
-
-/// Are the bytes of this line plain? `known` says that they are known to be.
-fn is_plain_line(line: &[u8], known: bool) -> bool
-    requires { IsTrue known → list_all is_plain line.now ≡ true }
-    ensures { result ≡ list_all is_plain line.now }
-{
-    known || all_plain(line)
-}
-
 fn semicolon_in(line: &[u8]) -> Option<usize>
     ensures { result ≡ position is_semicolon line.now }
 {
@@ -323,6 +308,23 @@ pub(crate) fn uncommented(line: &[u8]) -> &[u8]
         Some(end) => &line[..end],
         None => line,
     }
+}
+
+/// Are all bytes of a line allowed? `known` says that they are known to be.
+fn is_allowed_line(line: &[u8], known: bool) -> bool
+    requires { IsTrue known → list_all is_allowed line.now ≡ true }
+    ensures { result ≡ list_all is_allowed line.now }
+{
+    known || all_allowed(line)
+}
+
+/// The part of a line before its comment. `plain` says that its bytes are known to be plain.
+#[tactic(auto, using(crate::proofs::PlainLemmas::plain_whole))]
+fn said_part(line: &[u8], plain: bool) -> &[u8]
+    requires { IsTrue plain → list_all is_plain line.now ≡ true }
+    ensures { result.now ≡ before_first is_semicolon line.now }
+{
+    if plain { line } else { uncommented(line) }
 }
 
 impl<'a> Outline<'a> {
@@ -445,31 +447,31 @@ impl<'a> Outline<'a> {
         ensures steps { Steps result self.new (def.line_read at self.old line.now) }
         ensures grows { OnOk result (size_of self.new ≤ size_of self.old + 1) }
     {
-        match self.read(at, line, false) {
+        let unknown = Known {
+            plain: false,
+            allowed: false,
+        };
+        match self.read(at, line, unknown) {
             Ok(()) => Ok(()),
             Err(fault) => Err(fault.kind()),
         }
     }
 
-    /// Reads the line of this number. `known` says that its bytes are known to be plain.
+    /// Reads the line of this number. `known` is what is known of its bytes.
     ///
     /// # Errors
     ///
     /// The kind of the line's fault, or memory ran out.
-    #[tactic(auto, using(crate::proofs::PlainLemmas::plain_lines))]
-    pub(crate) fn read(&mut self, at: u32, line: &'a [u8], known: bool) -> Result<(), LineFault>
+    pub(crate) fn read(&mut self, at: u32, line: &'a [u8], known: Known) -> Result<(), LineFault>
         requires size { size_of self.old < 2 ^ 32 }
-        requires known { IsTrue known → list_all is_plain line.now ≡ true }
+        requires plain { IsTrue known.plain → list_all is_plain line.now ≡ true }
+        requires allowed { IsTrue known.allowed → list_all is_allowed line.now ≡ true }
         ensures steps { Steps result self.new (def.line_read at self.old line.now) }
         ensures grows { OnOk result (size_of self.new ≤ size_of self.old + 1) }
     {
-        let mut text = line;
-        if !is_plain_line(line, known) {
-            if !all_allowed(line) {
-                return Err(LineFault(LineKind::NotAscii));
-            }
-            text = uncommented(line);
+        if !is_allowed_line(line, known.allowed) {
+            return Err(LineFault(LineKind::NotAscii));
         }
-        self.say(at, text)
+        self.say(at, said_part(line, known.plain))
     }
 }

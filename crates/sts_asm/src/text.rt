@@ -1,54 +1,70 @@
 //! A whole text.
 
-ghost use Rattle.std.specs.Prelude.{◌≡◌, ◌<◌, ◌^◌, ◌≤◌, ◌+◌, ◌∷◌, [], length, not, true, OnOk};
+ghost use Rattle.std.specs.Prelude.{◌≡◌, ◌<◌, ◌^◌, ◌≤◌, ◌+◌, ◌∷◌, [], length, true, OnOk};
 ghost use Rattle.std.specs.Prelude.{IfSome, IsTrue, MatchOption};
-ghost use Rattle.std.specs.List.{list_all, position};
+ghost use Rattle.std.specs.List.{list_all};
 ghost use Rattle.sts_text.specs.Words.{lines};
 ghost use Rattle.sts_asm.specs.Fault.{Judges, StepsAt, at_line};
-ghost use Rattle.sts_asm.specs.Outline.{outline_of, line_read, size_of, is_plain};
+ghost use Rattle.sts_asm.specs.Outline.{outline_of, line_read, size_of, is_plain, is_allowed};
+ghost use Rattle.sts_asm.specs.Plain.{is_in};
 ghost use Rattle.sts_asm.specs.Text.{judged};
 
 use crate::fault::{AsmError, AsmKind, LineFault, LineKind};
 use crate::outline::Outline;
+use crate::plain::{Class, Known, end_of};
 use crate::resolving::program_of;
 use std::alloc::Global;
 use sts_code::Program;
 use sts_text::cut_at_newline;
 
-/// The place of the first byte that isn't plain.
-fn unplain_in(text: &[u8]) -> Option<usize>
-    ensures { result ≡ position (λ b. not (is_plain b)) text.now }
-{
-    text.iter()
-        .position(|b| !(matches!(*b, b' '..=b'~') && *b != b';'))
-}
-
-/// The first line and the text after its newline, if the bytes of the line are plain.
-#[tactic(auto, using(crate::proofs::PlainLemmas::plain_cuts))]
-fn cut_plain(text: &[u8]) -> Option<(&[u8], &[u8])>
-    ensures plain { IfSome result (λ cut. list_all is_plain cut.0.now ≡ true) }
+/// Cuts the text after its first line, if the bytes of the line are in the class. It may miss a
+/// line that ends in the last 16 bytes.
+#[inline(always)]
+#[tactic(auto, using(crate::proofs::PlainLemmas::allowed_cut))]
+fn cut_class(class: Class, text: &[u8]) -> Option<(&[u8], &[u8])>
+    ensures inside { IfSome result (λ cut. list_all (is_in class) cut.0.now ≡ true) }
+    ensures allowed { IfSome result (λ cut. list_all is_allowed cut.0.now ≡ true) }
     ensures lines { IfSome result (λ cut. lines text.now ≡ cut.0.now ∷ lines cut.1.now) }
     ensures shorter { IfSome result (λ cut. length cut.1.now < length text.now) }
 {
-    match unplain_in(text) {
-        Some(end) if text[end] == b'\n' => Some((&text[..end], &text[end + 1..])),
-        _ => None,
+    let end = end_of(class, text);
+    if end < text.len() && text[end] == b'\n' {
+        return Some((&text[..end], &text[end + 1..]));
     }
+    None
 }
 
-/// The first line, the text after its newline, and whether all bytes of the line are known to be
-/// plain. Most lines are found and judged in one pass.
-fn cut_line(text: &[u8]) -> Option<(&[u8], &[u8], bool)>
+/// The first line, the text after its newline, and what is known of the line's bytes. Most lines
+/// are found and judged in one pass.
+fn cut_line(text: &[u8]) -> Option<(&[u8], &[u8], Known)>
     ensures lines { MatchOption result (lines text.now ≡ text.now ∷ [])
         (λ cut. lines text.now ≡ cut.0.now ∷ lines cut.1.now) }
     ensures shorter { IfSome result (λ cut. length cut.1.now < length text.now) }
-    ensures plain { IfSome result (λ cut. IsTrue cut.2 → list_all is_plain cut.0.now ≡ true) }
+    ensures plain { IfSome result (λ cut.
+        IsTrue cut.2.plain → list_all is_plain cut.0.now ≡ true) }
+    ensures allowed { IfSome result (λ cut.
+        IsTrue cut.2.allowed → list_all is_allowed cut.0.now ≡ true) }
 {
-    if let Some((line, after)) = cut_plain(text) {
-        return Some((line, after, true));
+    if let Some((line, after)) = cut_class(Class::Plain, text) {
+        let known = Known {
+            plain: true,
+            allowed: true,
+        };
+        return Some((line, after, known));
     }
+    if let Some((line, after)) = cut_class(Class::Allowed, text) {
+        let known = Known {
+            plain: false,
+            allowed: true,
+        };
+        return Some((line, after, known));
+    }
+    let unknown = Known {
+        plain: false,
+        allowed: false,
+    };
     match cut_at_newline(text) {
-        Some((line, after)) => Some((line, after, false)),
+        Some((line, after)) => Some((line, after, unknown)),
         None => None,
     }
 }
@@ -57,10 +73,11 @@ fn line_at<'a>(
     outline: &mut Outline<'a>,
     at: u32,
     line: &'a [u8],
-    known: bool,
+    known: Known,
 ) -> Result<(), AsmError>
     requires size { size_of outline.old < 2 ^ 32 }
-    requires known { IsTrue known → list_all is_plain line.now ≡ true }
+    requires plain { IsTrue known.plain → list_all is_plain line.now ≡ true }
+    requires allowed { IsTrue known.allowed → list_all is_allowed line.now ≡ true }
     ensures steps { StepsAt result outline.new (at_line at (line_read at outline.old line.now)) }
     ensures grows { OnOk result (size_of outline.new ≤ size_of outline.old + 1) }
 {
@@ -91,7 +108,11 @@ pub(crate) fn outline_of<'a>(alloc: Global, text: &'a [u8]) -> Result<Outline<'a
         rest = after;
         at += 1;
     }
-    line_at(&mut outline, at, rest, false)?;
+    let unknown = Known {
+        plain: false,
+        allowed: false,
+    };
+    line_at(&mut outline, at, rest, unknown)?;
     if outline.is_open() {
         return Err(AsmError {
             line: at,
