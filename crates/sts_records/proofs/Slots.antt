@@ -3,12 +3,14 @@ use Rattle.std.proofs.Common.{◌≡◌, ◌≢◌, ℕ, zero, suc, ◌+◌, ◌
 use Rattle.std.proofs.Common.{Option, Some, None, refl, sym, ◌∙◌, ap, arith, get_or, set, nat_eq}
 use Rattle.std.proofs.Common.{Bool, true, false, nat_lt, length-set, get_or-set_same}
 use Rattle.std.proofs.Common.{get_or-set_other}
+use Rattle.std.proofs.Common.{cond, count_by, is_some}
 use Rattle.std.proofs.lemmas.Bool.Decides.{nat_tests}
+use Rattle.std.proofs.lemmas.List.Sums.{sum_by-set}
 use Rattle.std.proofs.lemmas.List.{ext_get_or, get_or_past}
 use Rattle.std.specs.Borrow.{Bor, MutBor}
 use Rattle.std.specs.Option.{option_copied, option_copied_mut, IsSome}
 use Rattle.sts_records.specs.Holes.{Holes, key_at}
-use Rattle.sts_records.specs.Slots.{body_of, slots}
+use Rattle.sts_records.specs.Slots.{AreEarlier, body_of, slots}
 use Rattle.sts_records.specs.declared.held.Entry.{Entry}
 
 module _ {T : Type 0} where
@@ -119,7 +121,7 @@ module _ {T : Type 0} where
   pub none_other : (keys : List ℕ) (entries : List (Option (Entry T))) (birth k : ℕ) (x : Entry T) → birth < length keys → k ≡ get_or keys birth 0 → Some x ≡ get_or entries k None → x.birth ≢ birth → None ≡ get_or (slots 0 keys entries) birth None
   none_other keys entries birth k x less e h other = let q : nat_eq x.birth birth ≡ false = grind (arith, nat_tests) in rw (slot_is keys entries birth less, ← e, ← h) (rw q refl)
 
-  inside_of : (entries : List (Option (Entry T))) (k : ℕ) (e : Entry T) → get_or entries k None ≡ Some e → k < length entries
+  pub inside_of : (entries : List (Option (Entry T))) (k : ℕ) (e : Entry T) → get_or entries k None ≡ Some e → k < length entries
   inside_of [] k e h = cc
   inside_of (x ∷ xs) zero e h = omega arith
   inside_of (x ∷ xs) (suc k) e h = let i = inside_of xs k e h in omega (arith, i)
@@ -146,9 +148,52 @@ module _ {T : Type 0} where
       let e : 0 + length keys ≡ length keys = omega arith in
       rw (more_keys 0 keys new k, e, same_entries 0 (length keys) keys old new k x (omega arith) was is others, is, body_own (length keys) x) refl
 
-  -- a birth without a record
-  pub skipped : (keys : List ℕ) (entries : List (Option (Entry T))) (k : ℕ) → get_or entries k None ≡ None → slots 0 (keys ++ k ∷ []) entries ≡ slots 0 keys entries ++ None ∷ []
-  skipped keys entries k was = let more = more_keys 0 keys entries k in rw was at more
+  -- a birth without a record: no entry is of this birth
+  pub skipped : (keys : List ℕ) (entries : List (Option (Entry T))) (k : ℕ) → AreEarlier (length keys) entries → slots 0 (keys ++ k ∷ []) entries ≡ slots 0 keys entries ++ None ∷ []
+  skipped keys entries k early =
+      let e : 0 + length keys ≡ length keys = omega arith in
+      rw (more_keys 0 keys entries k, e, no_body (get_or entries k None) (λ x is. early k x is)) refl
+    where
+      no_body : (o : Option (Entry T)) → ((x : Entry T) → o ≡ Some x → x.birth < length keys) → body_of (length keys) o ≡ None
+      no_body None h = refl
+      no_body (Some x) h =
+          let less = h x refl in
+          let q : nat_eq x.birth (length keys) ≡ false = grind (arith, nat_tests) in
+          rw q refl
+
+  -- ---- entries of earlier births
+
+  pub none_early : AreEarlier {T = T} 0 []
+  none_early k e is = cc
+
+  pub early_more : (n : ℕ) (entries : List (Option (Entry T))) → AreEarlier n entries → AreEarlier (n + 1) entries
+  early_more n entries h k e is = let less = h k e is in omega (arith, less)
+
+  -- one key gets an entry, the others keep theirs
+  pub early_set : (n m key : ℕ) (old new : List (Option (Entry T))) (x : Entry T) → AreEarlier n old → n ≤ m → x.birth < m → get_or new key None ≡ Some x → ((j : ℕ) → j ≢ key → get_or new j None ≡ get_or old j None) → AreEarlier m new
+  early_set n m key old new x h le less here others k e is = by (nat_eq k key) refl
+    where
+      by : (t : Bool) → nat_eq k key ≡ t → e.birth < m
+      by true q =
+          let s : k ≡ key = grind (arith, nat_tests) in
+          let f : Some e ≡ Some x = sym is ∙ (rw s here) in
+          let same : e ≡ x = cc in
+          rw same less
+      by false q =
+          let s : k ≢ key = grind (arith, nat_tests) in
+          let few = h k e (sym (others k s) ∙ is) in
+          omega (arith, few, le)
+
+  -- one key loses its entry
+  pub early_less : (n key : ℕ) (old new : List (Option (Entry T))) → AreEarlier n old → get_or new key None ≡ None → ((j : ℕ) → j ≢ key → get_or new j None ≡ get_or old j None) → AreEarlier n new
+  early_less n key old new h gone others k e is = by (nat_eq k key) refl
+    where
+      by : (t : Bool) → nat_eq k key ≡ t → e.birth < n
+      by true q =
+          let s : k ≡ key = grind (arith, nat_tests) in
+          let no : None ≡ Some e = sym gone ∙ (rw s at is) in
+          cc
+      by false q = h k e (sym (others k (grind (arith, nat_tests))) ∙ is)
 
   -- if a birth has a record, its key leads to an entry with that birth
   pub key_is : (keys : List ℕ) (entries : List (Option (Entry T))) (birth key : ℕ) → key_at (slots 0 keys entries) keys birth ≡ Some key → (e : Entry T) × (get_or entries key None ≡ Some e) × (e.birth ≡ birth) × (birth < length keys)
@@ -180,6 +225,14 @@ module _ {T : Type 0} where
       let here = get_or-set_same entries k (Some (record { birth = s.entry.birth; body = w })) None less in
       ap (λ (l : List (Option T)). record { slots = l; keys = keys; room = room })
       (rewritten keys entries _ birth s.entry w s.less s.is s.own (here ∙ (rw s.own refl)) (λ j ne. get_or-set_other entries k j _ None ne))
+
+-- as many entries, if one is written over
+pub as_many : {X : Type 0} → (xs : List (Option X)) (k : ℕ) (x y : X) → get_or xs k None ≡ Some x → k < length xs → count_by is_some (set xs k (Some y)) ≡ count_by is_some xs
+as_many {X = X} xs k x y is inside =
+    let s = sum_by-set (λ (o : Option X). cond (is_some o) 1 0) xs k (Some y) None inside in
+    let one : ℕ = 1 in
+    let t : cond (is_some (get_or xs k None)) one 0 ≡ one = rw is refl in
+    omega (arith, s, t)
 
 some_same : {X : Type 0} → (a b : X) → Some a ≡ Some b → a ≡ b
 some_same a b e = cc

@@ -1,5 +1,6 @@
 -- The records by birth, as the table of keys and the entries have them (this project's own).
-use Rattle.std.specs.Prelude.{ℕ, suc, List, [], ◌∷◌, Option, Some, None, nat_eq, if◌then◌else◌}
+use Rattle.std.specs.Prelude.{◌≡◌, ◌<◌, ℕ, suc, List, [], ◌∷◌, Option, Some, None, nat_eq}
+use Rattle.std.specs.Prelude.{if◌then◌else◌}
 use Rattle.std.specs.Prelude.{slice_index_or}
 use Rattle.sts_records.specs.declared.held.Entry.{Entry}
 
@@ -12,3 +13,8 @@ body_of b (Some e) = if nat_eq e.birth b then Some e.body else None
 abbrev pub slots : {T : Type 0} → ℕ → List ℕ → List (Option (Entry T)) → List (Option T)
 slots b [] entries = []
 slots b (k ∷ keys) entries = body_of b (slice_index_or entries k None) ∷ slots (suc b) keys entries
+
+-- each entry is of an earlier birth than this one
+abbrev pub AreEarlier : {T : Type 0} → ℕ → List (Option (Entry T)) → Type 0
+AreEarlier {T} b entries =
+    (k : ℕ) (e : Entry T) → slice_index_or entries k None ≡ Some e → e.birth < b

@@ -11,6 +11,9 @@ use slab::Slab;
 use std::alloc::{AllocError, Global};
 use std::marker::Model;
 
+/// How many keys of 32 bits there are. A slab for fewer than 2^32 records has no more.
+const KEYS: usize = 4_294_967_296;
+
 /// A record with its birth.
 #[derive(Drop)]
 struct Entry<T> {
@@ -25,7 +28,7 @@ struct Entry<T> {
 #[derive(Drop)]
 pub struct Held<T> {
     /// The key that each birth was given.
-    keys: Vec<usize>,
+    keys: Vec<u32>,
     entries: Slab<Entry<T>>,
     room: u32,
 }
@@ -39,7 +42,7 @@ impl<T> Model for Held<T> {
 
     ghost coded = { holes_code T.code };
 
-    ghost use Rattle.sts_records.specs.Slots.{slots};
+    ghost use Rattle.sts_records.specs.Slots.{AreEarlier, slots};
 
     ghost view = { λ h. record {
       slots = slots 0 h.keys.items h.entries.slots;
@@ -48,7 +51,8 @@ impl<T> Model for Held<T> {
     } };
 
     ghost invariant = { λ h. HasRoomFor h.entries h.room × (slab_len h.entries + h.room < 2 ^ 32)
-        × (1000000 ≤ vec_capacity h.keys) × (length h.keys.items ≤ 1000000) };
+        × (1000000 ≤ vec_capacity h.keys) × (length h.keys.items ≤ 1000000)
+        × (h.entries.capacity ≤ 2 ^ 32) × AreEarlier (length h.keys.items) h.entries.slots };
 }
 
 impl<T: Drop> Held<T> {
@@ -63,6 +67,9 @@ impl<T: Drop> Held<T> {
     {
         let mut entries = Slab::new(alloc);
         entries.reserve(room as usize)?;
+        if entries.capacity() > KEYS {
+            return Err(AllocError);
+        }
         let keys = Vec::with_capacity(alloc, 1000000)?;
         Ok(Held {
             keys,
@@ -92,7 +99,7 @@ impl<T: Drop> Held<T> {
     {
         match self.keys.get(birth) {
             None => None,
-            Some(key) => match self.entries.get(*key) {
+            Some(key) => match self.entries.get(*key as usize) {
                 None => None,
                 Some(entry) => {
                     if entry.birth == birth {
@@ -111,7 +118,7 @@ impl<T: Drop> Held<T> {
         ensures* writes_back { sem 𝓛 (lends_slot T.row self.entry birth result) }
         ensures value { slice_index_or self.old.slots birth None ≡ Some result.now }
     {
-        let key = self.keys[birth];
+        let key = self.keys[birth] as usize;
         let entry = self.entries.get_mut(key).unwrap();
         &mut entry.body
     }
@@ -122,7 +129,7 @@ impl<T: Drop> Held<T> {
     {
         match self.get(birth) {
             None => None,
-            Some(_) => Some(self.keys[birth]),
+            Some(_) => Some(self.keys[birth] as usize),
         }
     }
 
@@ -146,7 +153,7 @@ impl<T: Drop> Held<T> {
     {
         let birth = self.keys.len();
         let key = self.entries.insert_reserved(Entry { birth, body });
-        self.keys.push_reserved(key);
+        self.keys.push_reserved(key as u32);
         self.room -= 1;
         birth
     }
@@ -161,8 +168,8 @@ impl<T: Drop> Held<T> {
         ensures room { self.new.room ≡ self.old.room }
     {
         let birth = self.keys.len();
-        // This key has no record now. A record that gets it has a later birth.
-        self.keys.push_reserved(self.entries.vacant_key());
+        // No record has this birth, so any key will do.
+        self.keys.push_reserved(0);
         birth
     }
 
@@ -174,7 +181,7 @@ impl<T: Drop> Held<T> {
         ensures keys { self.new.keys ≡ self.old.keys }
         ensures room { self.new.room ≡ self.old.room + 1 }
     {
-        let key = self.keys[birth];
+        let key = self.keys[birth] as usize;
         let entry = self.entries.remove(key);
         self.room += 1;
         entry.body

@@ -1,5 +1,5 @@
-use Rattle.std.proofs.Common.{◌∷◌, [], refl, sym, ◌∙◌, arith, length-append}
-use Rattle.sts_records.proofs.Slots.{length-slots, born}
+use Rattle.std.proofs.Common.{◌∷◌, [], length, refl, sym, ◌∙◌, arith, length-append}
+use Rattle.sts_records.proofs.Slots.{born, early_set, length-slots}
 use Rattle.sts_records.proofs.held.Held.push.Goals as goal
 
 pub push_reserved-requires : goal.push_reserved-requires
@@ -20,7 +20,15 @@ invariant_of-self g c =
     let size = c.insert_reserved-key.ensures.len in
     let cap = c.insert_reserved-key.ensures.capacity in
     let capacity = c.push_reserved.ensures.capacity in
-    (omega arith, omega arith, omega arith, (rw more (omega arith)))
+    let u = c.insert_reserved-key.ensures.updates in
+    let few_more = i.4 in (
+      omega arith,
+      omega arith,
+      omega arith,
+      (rw more (omega arith)),
+      omega (arith, cap, few_more),
+      early_set (length c.self.inside.keys.items) (length c.push_reserved.new.self.items) c.insert_reserved-key.result c.self.inside.entries.slots c.insert_reserved-key.new.self.slots _ i.5 (rw more (omega arith)) (rw more (omega arith)) u.changed u.others,
+    )
 
 pub returns-clause-birth : goal.returns-clause-birth
 returns-clause-birth g c = rw (← c.self.view_is) (c.len-birth.ensures ∙ c.self.inside.keys.ok.0 ∙ sym (length-slots 0 c.self.inside.keys.items c.self.inside.entries.slots))
