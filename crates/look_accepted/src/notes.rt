@@ -5,8 +5,8 @@ ghost use Rattle.std.specs.Prelude.{is_some, replicate, slice_index_or, slice_se
 ghost use Rattle.sts_code.specs.Program.{instr_at, routine};
 ghost use Rattle.sts_rules.specs.Refusal.{size};
 ghost use Rattle.look_accepted.specs.Found.{AreAll};
-ghost use Rattle.look_accepted.specs.Relying.{relied_on_at};
 ghost use Rattle.look_accepted.specs.Notes as def;
+ghost use Rattle.look_accepted.specs.Relying.{relied_on_at};
 
 use crate::node::Node;
 use crate::reliance::{Reliance, relied_on};

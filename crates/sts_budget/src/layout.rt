@@ -1,8 +1,7 @@
 //! The open entries at each place of a function's code.
 
 ghost use Rattle.std.specs.Prelude.{ℕ, List, [], All, IfOk, IfSome, Some, None, get_or, replicate};
-ghost use Rattle.std.specs.Prelude.{unwrap_or, vec_len, ◌≡◌, ◌<◌, ◌≤◌, ◌+◌, ◌++◌, length};
-ghost use Rattle.std.specs.Prelude.{option_to_list};
+ghost use Rattle.std.specs.Prelude.{◌≡◌, ◌<◌, ◌≤◌, ◌+◌, ◌++◌, length, option_to_list, unwrap_or, vec_len};
 ghost use Rattle.sts_code.specs.Program.{routine};
 ghost use Rattle.sts_rules.specs.Around as around;
 ghost use Rattle.sts_code.specs.Facts as facts;

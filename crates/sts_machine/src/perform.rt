@@ -13,9 +13,9 @@ ghost use Rattle.sts_rules.specs.declared.budget.Budgets.{Budgets as AnyBudgets}
 ghost use Rattle.laws_live.specs.Effect.{live_effect};
 ghost use Rattle.laws_live.specs.Reading.{lives_in};
 ghost use Rattle.laws_live.specs.Waiting.{live_stand_at};
-ghost use Rattle.sts_store.specs.Parts.{frame_of, live_of, stand_in, unseen_of};
 ghost use Rattle.laws_live.specs.Fine.{IsLiveFine};
 ghost use Rattle.laws_live.specs.Order.{InOrder};
+ghost use Rattle.sts_store.specs.Parts.{frame_of, live_of, stand_in, unseen_of};
 
 use crate::effect::effect;
 use crate::stands::{say_stand, say_stand_if_alive, say_stand_if_near};

@@ -20,12 +20,11 @@ loop-place-preserved c =
     let f = c.args.function in
     let l = c.loop-place in
     let rules = c.in_ok-rules.rules.items in
-    let all = c.in_ok-rules.ensures in
-    let long = all.long in
+    let long = c.in_ok-rules.ensures.long in
     let count : length c.code_of-count.result.now ≡ size p f = ap (λ (code : List Instr). length code) c.code_of-count.ensures.value in
     let less : l.place < length rules = omega (arith, long, count) in
     let slot : slice_index_or rules l.place None ≡ c.index.result.now = sym (c.index.ensures ∙ get_or_default rules l.place c.index.result.now None less) in
-    let here : MatchOption c.index.result.now (IsPlain p f l.place) (Relies p f l.place) = subst (λ (o : Option Reliance). MatchOption o (IsPlain p f l.place) (Relies p f l.place)) slot (all.each l.place (omega (arith, long, count))) in
+    let here : MatchOption c.index.result.now (IsPlain p f l.place) (Relies p f l.place) = subst (λ (o : Option Reliance). MatchOption o (IsPlain p f l.place) (Relies p f l.place)) slot (c.in_ok-rules.ensures.each l.place (omega (arith, long, count))) in
     elim c.match-index.branch [
       | in-Some+in_ok-push w ↦ noted_more p f l.place w.in-Some.reliance c.args.notes.now.items l.notes.items c.match-index.notes.items l.invariant (ap (λ (v : Vec Note Global). v.items) w.notes-is ∙ w.in_ok-push.ensures.items) (subst (λ (o : Option Reliance). MatchOption o (IsPlain p f l.place) (Relies p f l.place)) w.in-Some.is here)
       | in_default w ↦ plain_more p f l.place c.args.notes.now.items l.notes.items c.match-index.notes.items l.invariant (ap (λ (v : Vec Note Global). v.items) w.notes-is) (subst (λ (o : Option Reliance). MatchOption o (IsPlain p f l.place) (Relies p f l.place)) w.in_default.is here)

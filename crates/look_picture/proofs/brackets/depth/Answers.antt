@@ -26,9 +26,7 @@ returns-else-lives-clause-value c =
     let s = c.args.s in
     let r : World = c.records-records.result.now in
     let same = c.records-records.ensures in
-    let owner = c.owner-owner.result in
     let held = subst AreHeld (sym same) c.args.change.held in
-    let scopes = ap (λ (w : World). length w.scopes) same in
-    sym (count_none r owner s held (sym c.lives.ensures.value ∙ c.if-lives.false) (omega (arith, scopes)))
+    sym (count_none r c.owner-owner.result s held (sym c.lives.ensures.value ∙ c.if-lives.false) (omega (arith, ap (λ (w : World). length w.scopes) same)))
     ∙ ap (λ (t : ℕ). count_by (place.is_open_of t) (take s r.scopes)) c.owner-owner.ensures
     ∙ ap (λ (w : World). place.depth w s) same

@@ -11,9 +11,8 @@ pub scope_cell-requires : goal.scope_cell-requires
 scope_cell-requires c =
     let change = c.args.change in
     let same = c.scopes-scopes.ensures ∙ ap (λ (n : Numbers). n.scopes) change.listed in
-    let long = ap (λ (xs : List ℕ). length xs) same in
     subst (λ (xs : List ℕ). get_or xs c.loop-s.s-index 0 < length change.world.now.scopes) (sym same)
-    (scopes_below change.before.now change.world.now change.follows c.loop-s.s-index 0 (omega (arith, long)))
+    (scopes_below change.before.now change.world.now change.follows c.loop-s.s-index 0 (omega (arith, ap (λ (xs : List ℕ). length xs) same)))
 
 pub returns : goal.returns
 returns c =
