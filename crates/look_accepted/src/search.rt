@@ -8,8 +8,8 @@ use crate::node::{Node, copy, first, followers, is_same};
 use std::alloc::{AllocError, Global};
 use sts_code::{Program, code_of};
 
-/// The numbers of the nodes by place: of the last one that was found at each place, and, for each
-/// node, of the one that was found before it at its place. A place has few nodes.
+/// The nodes by place, as lists of their numbers. `last` has the node that was found last at each
+/// place, and `earlier` has, for each node, the one before it at its place. A place has few nodes.
 #[derive(Drop)]
 struct Places {
     last: Vec<Option<usize>>,

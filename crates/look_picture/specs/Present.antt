@@ -1,5 +1,5 @@
--- Which tasks and scopes a column can show: those that live or are open in the column before, and
--- those that were born since (this project's own).
+-- The tasks and scopes that a column can show. They live or are open in the column before, or were
+-- born since (this project's own).
 use Rattle.std.specs.Prelude.{◌≡◌, ℕ, ◌-◌, ◌<◌, ◌≤◌, List, ◌++◌, length, Bool, true, false, not, filter, count_by, if◌then◌else◌}
 use Rattle.std.specs.List.{range_with_len}
 use Rattle.sts_model.specs.declared.record.Scope.{Scope}

@@ -20,7 +20,7 @@ pub fn lane(t: u32) -> u64
     72 + 52 * u64::from(t)
 }
 
-/// The bracket of a scope of this task that is in so many others of it.
+/// The bracket of a scope of this task, by the number of the task's scopes that it is in.
 pub fn bracket(owner: u32, depth: usize) -> u64
     ensures { result ≡ def.bracket_at owner depth }
 {
