@@ -5,8 +5,8 @@ use Rattle.look_picture.specs.Present as numbers
 use Rattle.look_lines.specs.Watched.{watched}
 use Rattle.look_picture.proofs.picture.event_columns.Given as goal
 
--- both machines are in the state after the first events, the next column can show what is listed,
--- and the picture so far with the columns of the rest is the whole one
+-- Both machines are in the state after the first events. The list has what the next column can
+-- show. What is drawn, with the columns of the rest, is the whole picture.
 abbrev pub invariant-loop-i : goal.invariant-loop-i
 invariant-loop-i l = record {
   behind : l.before ≡ watched l.fn.watch.program (take l.i l.events);
