@@ -11,6 +11,9 @@ use Rattle.sts_records.specs.Holes.{Holes, key_at}
 use Rattle.sts_records.specs.Slots.{body_of, slots}
 use Rattle.sts_records.specs.declared.held.Entry.{Entry}
 
+pub some_same : {X : Type 0} → (a b : X) → Some a ≡ Some b → a ≡ b
+some_same a b e = cc
+
 module _ {T : Type 0} where
   pub length-slots : (b : ℕ) (keys : List ℕ) (entries : List (Option (Entry T))) → length (slots b keys entries) ≡ length keys
   length-slots b [] entries = refl
@@ -39,7 +42,7 @@ module _ {T : Type 0} where
     pub own : entry.birth ≡ birth
     pub body : get_or (slots 0 keys entries) birth None ≡ Some entry.body
 
-  body_some : (b : ℕ) (o : Option (Entry T)) → body_of b o ≢ None → (e : Entry T) × (o ≡ Some e) × (e.birth ≡ b) × (body_of b o ≡ Some e.body)
+  pub body_some : (b : ℕ) (o : Option (Entry T)) → body_of b o ≢ None → (e : Entry T) × (o ≡ Some e) × (e.birth ≡ b) × (body_of b o ≡ Some e.body)
   body_some b None h = absurd (h refl)
   body_some b (Some e) h = by (nat_eq e.birth b) refl
     where
@@ -119,7 +122,7 @@ module _ {T : Type 0} where
   pub none_other : (keys : List ℕ) (entries : List (Option (Entry T))) (birth k : ℕ) (x : Entry T) → birth < length keys → k ≡ get_or keys birth 0 → Some x ≡ get_or entries k None → x.birth ≢ birth → None ≡ get_or (slots 0 keys entries) birth None
   none_other keys entries birth k x less e h other = let q : nat_eq x.birth birth ≡ false = grind (arith, nat_tests) in rw (slot_is keys entries birth less, ← e, ← h) (rw q refl)
 
-  inside_of : (entries : List (Option (Entry T))) (k : ℕ) (e : Entry T) → get_or entries k None ≡ Some e → k < length entries
+  pub inside_of : (entries : List (Option (Entry T))) (k : ℕ) (e : Entry T) → get_or entries k None ≡ Some e → k < length entries
   inside_of [] k e h = cc
   inside_of (x ∷ xs) zero e h = omega arith
   inside_of (x ∷ xs) (suc k) e h = let i = inside_of xs k e h in omega (arith, i)
@@ -162,12 +165,33 @@ module _ {T : Type 0} where
           let k : get_or keys birth 0 ≡ key = cc in
           (s.entry, rw k at s.is, s.own, s.less)
 
+  -- the key of a birth with a record
+  pub key_here : (keys : List ℕ) (entries : List (Option (Entry T))) (birth : ℕ) → Stands keys entries birth → key_at (slots 0 keys entries) keys birth ≡ Some (get_or keys birth 0)
+  key_here keys entries birth s = rw s.body refl
+
   -- a birth without a record has no key
   pub key_none : (keys : List ℕ) (entries : List (Option (Entry T))) (birth : ℕ) → None ≡ get_or (slots 0 keys entries) birth None → None ≡ key_at (slots 0 keys entries) keys birth
   key_none keys entries birth h = rw (← h) refl
 
   pub key_some : (keys : List ℕ) (entries : List (Option (Entry T))) (birth key : ℕ) (x : T) → Some x ≡ get_or (slots 0 keys entries) birth None → key ≡ get_or keys birth 0 → Some key ≡ key_at (slots 0 keys entries) keys birth
   key_some keys entries birth key x h e = rw (← h, e) refl
+
+  -- the record under the key of a birth
+  pub some_at_key : (keys : List ℕ) (entries : List (Option (Entry T))) (birth key : ℕ) (e : Entry T) → key_at (slots 0 keys entries) keys birth ≡ Some key → get_or entries key None ≡ Some e → get_or (slots 0 keys entries) birth None ≡ Some e.body
+  some_at_key keys entries birth key e h is =
+      let k = key_is keys entries birth key h in
+      let same : Some e ≡ Some k.0 = sym is ∙ k.1 in
+      let b : e.birth ≡ birth = ap (λ (v : Entry T). v.birth) (some_same e k.0 same) ∙ k.2 in
+      by (get_or (slots 0 keys entries) birth None) refl b
+    where
+      by : (o : Option T) → get_or (slots 0 keys entries) birth None ≡ o → e.birth ≡ birth → get_or (slots 0 keys entries) birth None ≡ Some e.body
+      by None q b = let no : None ≡ Some key = rw q at h in cc
+      by (Some x) q b =
+          let s = stands keys entries birth (λ n. let no : Some x ≡ None = sym q ∙ n in cc) in
+          let same_key : Some (get_or keys birth 0) ≡ Some key = rw q at h in
+          let k : get_or keys birth 0 ≡ key = cc in
+          let f : Some s.entry ≡ Some e = sym s.is ∙ (rw k is) in
+          s.body ∙ ap (λ (v : Entry T). Some v.body) (some_same s.entry e f)
 
   pub is_born : (keys : List ℕ) (entries : List (Option (Entry T))) (birth : ℕ) (x : T) → Some x ≡ get_or (slots 0 keys entries) birth None → birth < length keys
   is_born keys entries birth x h = (stands keys entries birth (λ n. let no : Some x ≡ None = h ∙ n in cc)).less
@@ -180,9 +204,6 @@ module _ {T : Type 0} where
       let here = get_or-set_same entries k (Some (record { birth = s.entry.birth; body = w })) None less in
       ap (λ (l : List (Option T)). record { slots = l; keys = keys; room = room })
       (rewritten keys entries _ birth s.entry w s.less s.is s.own (here ∙ (rw s.own refl)) (λ j ne. get_or-set_other entries k j _ None ne))
-
-some_same : {X : Type 0} → (a b : X) → Some a ≡ Some b → a ≡ b
-some_same a b e = cc
 
 -- what a `&` to a record has
 pub is_some_got : {X : Type 0} → (o : Option (Bor X)) (x : X) → option_copied o ≡ Some x → IsSome o

@@ -1,33 +1,46 @@
-use Rattle.std.proofs.Common.{◌∷◌, [], refl, sym, ◌∙◌, arith, length-append}
-use Rattle.sts_records.proofs.Slots.{length-slots, born}
+use Rattle.std.proofs.Common.{◌≡◌, refl, sym, ◌∙◌, arith}
+use Rattle.sts_records.proofs.Finding.{held_comes, held_noted}
+use Rattle.sts_records.proofs.Slots.{born, length-slots}
 use Rattle.sts_records.proofs.held.Held.push.Goals as goal
 
-pub push_reserved-requires : goal.push_reserved-requires
-push_reserved-requires g c =
-    let few = rw (← c.self.view_is) at c.requires.births in
-    let n = length-slots 0 c.self.inside.keys.items c.self.inside.entries.slots in
-    let ok = c.self.inside.keys.ok.0 in
-    omega (arith, c.self.invariant)
+pub note-requires-clause-finds : goal.note-requires-clause-finds
+note-requires-clause-finds g c = (c.self.inside.given, c.self.invariant.4.counted, c.self.invariant.4.finds)
+
+pub note-requires-clause-elders : goal.note-requires-clause-elders
+note-requires-clause-elders g c = let cap = c.self.invariant.2 in omega (arith, cap)
+
+pub overflow_add-self : goal.overflow_add-self
+overflow_add-self g c =
+    let counted = c.self.invariant.4.counted in
+    let few = c.self.invariant.4.few in
+    omega (arith, counted, few)
 
 pub invariant_of-self : goal.invariant_of-self
 invariant_of-self g c =
-    let few = rw (← c.self.view_is) at c.requires.births in
-    let some = rw (← c.self.view_is) at c.requires.room in
-    let n = length-slots 0 c.self.inside.keys.items c.self.inside.entries.slots in
     let i = c.self.invariant in
-    let more = c.push_reserved.ensures.items in
-    let long = length-append c.self.inside.keys.items (c.insert_reserved-key.result ∷ []) in
-    let size = c.insert_reserved-key.ensures.len in
-    let cap = c.insert_reserved-key.ensures.capacity in
-    let capacity = c.push_reserved.ensures.capacity in
-    (omega arith, omega arith, omega arith, (rw more (omega arith)))
+    let few = rw (← c.self.view_is, length-slots) at c.requires.births in
+    let some = rw (← c.self.view_is) at c.requires.room in
+    let ring = c.note.ensures.ring in
+    let elders = c.note.ensures.elders in
+    let u = c.insert_reserved.ensures.updates in
+    let len = c.insert_reserved.ensures.len in
+    let cap = c.insert_reserved.ensures.capacity in
+    let same : c.insert_reserved.result ≡ c.vacant_key-key.result = c.insert_reserved.ensures.key ∙ sym c.vacant_key-key.ensures.value in
+    let noted = held_noted c.note.new.ring.items c.note.new.elders.items c.self.inside.given c.self.inside.entries.slots c.self.inside.born c.vacant_key-key.result i.4.counted few (c.note.ensures.finds c.self.inside.given i.4.counted i.4.finds) in (
+      omega (arith, i.0, len, cap, some),
+      omega (arith, i.1, len, some),
+      omega (arith, i.2, elders, len, some),
+      omega (arith, i.3, ring),
+      rw c.push.ensures (held_comes c.note.new.ring.items c.note.new.elders.items c.self.inside.given c.self.inside.entries.slots c.insert_reserved.new.self.slots c.self.inside.born c.vacant_key-key.result _ i.4.counted (rw same at u.changed) (rw same at u.others) noted),
+    )
 
 pub returns-clause-birth : goal.returns-clause-birth
-returns-clause-birth g c = rw (← c.self.view_is) (c.len-birth.ensures ∙ c.self.inside.keys.ok.0 ∙ sym (length-slots 0 c.self.inside.keys.items c.self.inside.entries.slots))
+returns-clause-birth g c = rw (← c.self.view_is) (c.self.invariant.4.counted ∙ sym (length-slots 0 c.self.inside.given c.self.inside.entries.slots))
 
 pub returns-clause-slots : goal.returns-clause-slots
 returns-clause-slots g c =
-    let updates = c.insert_reserved-key.ensures.updates in
-    let size = c.len-birth.ensures ∙ c.self.inside.keys.ok.0 in
-    let b = born c.self.inside.keys.items c.self.inside.entries.slots c.insert_reserved-key.new.self.slots c.insert_reserved-key.result c.args.body c.insert_reserved-key.ensures.was_vacant (rw size at updates.changed) updates.others in
-    rw (← c.self.view_is, c.push_reserved.ensures.items, b) refl
+    let u = c.insert_reserved.ensures.updates in
+    let same : c.insert_reserved.result ≡ c.vacant_key-key.result = c.insert_reserved.ensures.key ∙ sym c.vacant_key-key.ensures.value in
+    let changed = rw same at u.changed in
+    let b = born c.self.inside.given c.self.inside.entries.slots c.insert_reserved.new.self.slots c.vacant_key-key.result c.args.body c.vacant_key-key.ensures.vacant (rw c.self.invariant.4.counted at changed) (rw same at u.others) in
+    rw (← c.self.view_is, c.push.ensures, b) refl

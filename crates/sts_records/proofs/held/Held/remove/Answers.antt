@@ -1,34 +1,46 @@
-use Rattle.std.proofs.Common.{◌≡◌, refl, ◌∙◌, arith}
-use Rattle.std.proofs.lemmas.List.{get_or_default}
-use Rattle.sts_records.proofs.Slots.{stands, emptied}
+use Rattle.std.proofs.Common.{◌≡◌, refl, sym, ◌∙◌, arith}
+use Rattle.sts_records.proofs.Finding.{held_removed}
+use Rattle.sts_records.proofs.Slots.{emptied, key_here, some_same, stands}
 use Rattle.sts_records.proofs.held.Held.remove.Goals as goal
-
-pub index-key-requires : goal.index-key-requires
-index-key-requires g c =
-    let s = stands c.self.inside.keys.items c.self.inside.entries.slots c.args.birth (rw (← c.self.view_is) at c.requires) in
-    let less = s.less in
-    let ok = c.self.inside.keys.ok.0 in
-    omega arith
 
 pub remove-entry-requires : goal.remove-entry-requires
 remove-entry-requires g c =
-    let s = stands c.self.inside.keys.items c.self.inside.entries.slots c.args.birth (rw (← c.self.view_is) at c.requires) in
-    let at = c.index-key.ensures ∙ get_or_default c.self.inside.keys.items c.args.birth c.index-key.result.now 0 s.less in
-    rw (at, s.is) refl
+    let given = c.self.inside.given in
+    let entries = c.self.inside.entries.slots in
+    let s = stands given entries c.args.birth (rw (← c.self.view_is) at c.requires) in
+    let key = some_same _ _ (sym (rw (← c.self.view_is) at c.known_key-key.ensures) ∙ key_here given entries c.args.birth s) in
+    rw (key, s.is) refl
+
+pub invariant_of-self : goal.invariant_of-self
+invariant_of-self g c =
+    let i = c.self.invariant in
+    let u = c.remove-entry.ensures.updates in
+    let len = c.remove-entry.ensures.len in
+    let capacity = c.remove-entry.ensures.capacity in (
+      omega (arith, i.0, len, capacity),
+      omega (arith, i.1, len),
+      omega (arith, i.2, len),
+      i.3,
+      held_removed c.self.inside.ring.items c.self.inside.elders.items c.self.inside.given c.self.inside.entries.slots c.remove-entry.new.self.slots c.self.inside.born c.known_key-key.result u.changed u.others i.4,
+    )
 
 pub returns-clause-value : goal.returns-clause-value
 returns-clause-value g c =
-    let s = stands c.self.inside.keys.items c.self.inside.entries.slots c.args.birth (rw (← c.self.view_is) at c.requires) in
-    let at = c.index-key.ensures ∙ get_or_default c.self.inside.keys.items c.args.birth c.index-key.result.now 0 s.less in
-    let v = rw at at c.remove-entry.ensures.value in
+    let given = c.self.inside.given in
+    let entries = c.self.inside.entries.slots in
+    let s = stands given entries c.args.birth (rw (← c.self.view_is) at c.requires) in
+    let key = some_same _ _ (sym (rw (← c.self.view_is) at c.known_key-key.ensures) ∙ key_here given entries c.args.birth s) in
+    let v = rw key at c.remove-entry.ensures.value in
     let is = s.is in
     let same : s.entry ≡ c.remove-entry.result = cc in
     rw (← c.self.view_is, ← same) s.body
 
 pub returns-clause-slots : goal.returns-clause-slots
 returns-clause-slots g c =
-    let s = stands c.self.inside.keys.items c.self.inside.entries.slots c.args.birth (rw (← c.self.view_is) at c.requires) in
-    let at = c.index-key.ensures ∙ get_or_default c.self.inside.keys.items c.args.birth c.index-key.result.now 0 s.less in
+    let given = c.self.inside.given in
+    let entries = c.self.inside.entries.slots in
+    let s = stands given entries c.args.birth (rw (← c.self.view_is) at c.requires) in
+    let key = some_same _ _ (sym (rw (← c.self.view_is) at c.known_key-key.ensures) ∙ key_here given entries c.args.birth s) in
     let u = c.remove-entry.ensures.updates in
-    let e = emptied c.self.inside.keys.items c.self.inside.entries.slots c.remove-entry.new.self.slots c.args.birth s.entry s.less s.is s.own (rw (← at) u.changed) (rw (← at) u.others) in
+    let e = emptied given entries c.remove-entry.new.self.slots c.args.birth s.entry s.less s.is s.own (rw (← key) u.changed) (rw (← key) u.others) in
     rw (← c.self.view_is, e) refl
