@@ -1,7 +1,7 @@
 -- The ring and the elders: noted births, and records that come and go.
 use Rattle.std.proofs.Common.{◌≡◌, ◌≢◌, ℕ, zero, suc, ◌+◌, ◌-◌, ◌<◌, ◌≤◌, ◌%◌, List, [], ◌∷◌, ◌++◌, length}
 use Rattle.std.proofs.Common.{Option, Some, None, refl, sym, ◌∙◌, ap, arith, get_or, set, nat_eq}
-use Rattle.std.proofs.Common.{⊥, ◌⊎◌, inl, inr, filter, IfSome, Bool, true, false, nat_lt, cond, count_by, is_some, length-set}
+use Rattle.std.proofs.Common.{◌⊎◌, inl, inr, filter, IfSome, Bool, true, false, nat_lt, cond, count_by, is_some, length-set}
 use Rattle.std.proofs.Common.{length-append, get_or-set_same, get_or-set_other}
 use Rattle.std.proofs.lemmas.Bool.Decides.{nat_tests}
 use Rattle.std.proofs.lemmas.List.{get_or_append_left, get_or_default, get_or_push}
@@ -30,7 +30,9 @@ some_same : {A : Type 0} → (x y : A) → Some x ≡ Some y → x ≡ y
 some_same x y e = cc
 
 same_elder : (x y : Elder) → x.birth ≡ y.birth → x.key ≡ y.key → x ≡ y
-same_elder x y b k = cc
+same_elder x y b k =
+    let f : ◌≡◌ {A = Elder} (record { birth = x.birth; key = x.key }) (record { birth = y.birth; key = y.key }) = rw (b, k) refl in
+    f
 
 rise_tail : (x : Elder) (xs : List Elder) → Rise (x ∷ xs) → Rise xs
 rise_tail x xs h i j d l m = h (suc i) (suc j) d (omega arith) (omega arith)
@@ -47,8 +49,85 @@ other_place b n l m e = omega (arith, e)
 pub own_place : (b : ℕ) → b < 131072 → b % 131072 ≡ b
 own_place b l = omega arith
 
+-- ---- elders in rising order
+
+filtered : (p : Elder → Bool) (xs : List Elder) (k : ℕ) (x : Elder) → k < length xs → get_or xs k x ≡ x → p x ≡ true → Contains (filter p xs) x
+filtered p [] k x l e t = absurd (omega arith)
+filtered p (y ∷ xs) zero x l e t = rw (e, t) (0, omega arith, refl)
+filtered p (y ∷ xs) (suc k) x l e t = by (p y) refl (filtered p xs k x (omega arith) e t)
+  where
+    by : (b : Bool) → p y ≡ b → Contains (filter p xs) x → Contains (filter p (y ∷ xs)) x
+    by true q rest = let less = rest.1 in rw q (suc rest.0, omega (arith, less), rest.2)
+    by false q rest = rw q rest
+
+pub one_more : (xs : List Elder) (elder : Elder) → AreElders xs elder.birth → AreElders (xs ++ elder ∷ []) (elder.birth + 1)
+one_more xs elder up = record {
+  rise = λ i j d l m. by i j d l m (nat_lt j (length xs)) refl;
+  below = All-push (λ x. x.birth < elder.birth + 1) xs elder (All-weaker (λ x. x.birth < elder.birth) (λ x. x.birth < elder.birth + 1) (λ x l. omega (arith, l)) xs up.below) (omega arith);
+}
+  where
+    long : length (xs ++ elder ∷ []) ≡ length xs + 1
+    long = length-append xs (elder ∷ [])
+
+    by : (i j : ℕ) (d : Elder) → i < j → j < length (xs ++ elder ∷ []) → (t : Bool) → nat_lt j (length xs) ≡ t → (get_or (xs ++ elder ∷ []) i d).birth < (get_or (xs ++ elder ∷ []) j d).birth
+    by i j d l m true q =
+        let less : j < length xs = grind (arith, nat_tests) in
+        let less_i : i < length xs = omega (arith, less, l) in
+        rw (get_or_append_left xs (elder ∷ []) d i less_i, get_or_append_left xs (elder ∷ []) d j less) (up.rise i j d l less)
+    by i j d l m false q =
+        let le : length xs ≤ j = grind (arith, nat_tests) in
+        let size = long in
+        let is : length xs ≡ j = omega (arith, le, m, size) in
+        let less_i : i < length xs = omega (arith, is, l) in
+        rw (get_or_append_left xs (elder ∷ []) d i less_i, get_or_push xs elder d j is) (up.below i d less_i)
+
+pub looser : (xs : List Elder) (b : ℕ) → AreElders xs b → AreElders xs (b + 1)
+looser xs b up = record {
+  rise = up.rise;
+  below = All-weaker (λ x. x.birth < b) (λ x. x.birth < b + 1) (λ x l. omega (arith, l)) xs up.below;
+}
+
+pub parted : (elders : List Elder) (birth : ℕ) → Rise elders → IsPartitionedBy (λ (y : Elder). nat_lt y.birth birth) elders
+parted elders birth rise i j d le less t = by (nat_eq i j) refl
+  where
+    by : (q : Bool) → nat_eq i j ≡ q → nat_lt (get_or elders i d).birth birth ≡ true
+    by true q = let s : i ≡ j = grind (arith, nat_tests) in rw s t
+    by false q =
+        let l : i < j = grind (arith, nat_tests) in
+        let up : (get_or elders i d).birth < (get_or elders j d).birth = rise i j d l less in
+        let h : (get_or elders j d).birth < birth = grind (arith, nat_tests) in
+        let g : (get_or elders i d).birth < birth = omega (arith, up, h) in
+        grind (arith, nat_tests)
+
+pub at_place : (elders : List Elder) (birth place : ℕ) → Rise elders → IsPartitionPoint (λ (y : Elder). nat_lt y.birth birth ≡ true) (λ (y : Elder). nat_lt y.birth birth ≡ false) elders place → (x : Elder) → Contains elders x → x.birth ≡ birth → (place < length elders) × ((d : Elder) → get_or elders place d ≡ x)
+at_place elders birth place rise point x has own = by (nat_lt has.0 place) refl (nat_eq has.0 place) refl
+  where
+    is : get_or elders has.0 x ≡ x
+    is = has.2
+
+    by : (t : Bool) → nat_lt has.0 place ≡ t → (u : Bool) → nat_eq has.0 place ≡ u → (place < length elders) × ((d : Elder) → get_or elders place d ≡ x)
+    by true q u r =
+        let l : has.0 < place = grind (arith, nat_tests) in
+        let h = point.0 has.0 x (omega arith) l in
+        let b : (get_or elders has.0 x).birth ≡ birth = ap (λ (v : Elder). v.birth) is ∙ own in
+        let f : nat_lt birth birth ≡ true = rw b at h in
+        let missing : birth < birth = grind (arith, nat_tests) in
+        absurd (omega (arith, missing))
+    by false q true r =
+        let s : has.0 ≡ place = grind (arith, nat_tests) in
+        let less : place < length elders = rw s at has.1 in
+        (less, λ d. get_or_default elders place d x less ∙ (rw s at is))
+    by false q false r =
+        let l : place < has.0 = grind (arith, nat_tests) in
+        let up : (get_or elders place x).birth < (get_or elders has.0 x).birth = rise place has.0 x l has.1 in
+        let b : (get_or elders has.0 x).birth ≡ birth = ap (λ (v : Elder). v.birth) is ∙ own in
+        let less = has.1 in
+        let h : nat_lt (get_or elders place x).birth birth ≡ false = point.1 place x (omega arith) (omega (arith, l, less)) in
+        let missing : birth ≤ (get_or elders place x).birth = grind (arith, nat_tests) in
+        absurd (omega (arith, up, b, missing))
+
 module _ {T : Type 0} where
-  -- no more elders than records, if each has its record
+  -- missing more elders than records, if each has its record
   pub fewer : (entries : List (Option (Entry T))) (xs : List Elder) → Rise xs → All (IsThere entries) xs → length xs ≤ count_by is_some entries
   fewer entries [] rise there = omega arith
   fewer entries (x ∷ xs) rise there =
@@ -95,7 +174,7 @@ module _ {T : Type 0} where
       by : (k : ℕ) (e : Entry T) → get_or new k None ≡ Some e → (t : Bool) → nat_eq k key ≡ t → (d : Entry T) × (get_or old k None ≡ Some d) × (d.birth ≡ e.birth)
       by k e is true q =
           let s : k ≡ key = grind (arith, nat_tests) in
-          let no : None ≡ Some e = sym gone ∙ (rw s at is) in
+          let missing : None ≡ Some e = sym gone ∙ (rw s at is) in
           cc
       by k e is false q = let s : k ≢ key = grind (arith, nat_tests) in (e, sym (others k s) ∙ is, refl)
 
@@ -269,7 +348,7 @@ module _ {T : Type 0} where
 
   pub there_if : (entries : List (Option (Entry T))) (x : Elder) → has_record entries x ≡ true → IsThere entries x
   there_if entries x h =
-      let s = body_some x.birth (get_or entries x.key None) (λ n. let no : false ≡ true = rw n at h in cc) in
+      let s = body_some x.birth (get_or entries x.key None) (λ n. let missing : false ≡ true = rw n at h in cc) in
       (s.0, s.1, s.2)
 
   pub has_if : (entries : List (Option (Entry T))) (x : Elder) → IsThere entries x → has_record entries x ≡ true
@@ -279,15 +358,6 @@ module _ {T : Type 0} where
       rw (there.1, q) refl
 
   -- ---- elders that make room
-
-  filtered : (p : Elder → Bool) (xs : List Elder) (k : ℕ) (x : Elder) → k < length xs → get_or xs k x ≡ x → p x ≡ true → Contains (filter p xs) x
-  filtered p [] k x l e t = absurd (omega arith)
-  filtered p (y ∷ xs) zero x l e t = rw (e, t) (0, omega arith, refl)
-  filtered p (y ∷ xs) (suc k) x l e t = by (p y) refl (filtered p xs k x (omega arith) e t)
-    where
-      by : (b : Bool) → p y ≡ b → Contains (filter p xs) x → Contains (filter p (y ∷ xs)) x
-      by true q rest = let less = rest.1 in rw q (suc rest.0, omega (arith, less), rest.2)
-      by false q rest = rw q rest
 
   pub cleared_up : (entries : List (Option (Entry T))) (xs : List Elder) (bound : ℕ) → AreElders xs bound → AreElders (filter (has_record entries) xs) bound
   cleared_up entries xs bound up = record {
@@ -305,33 +375,6 @@ module _ {T : Type 0} where
 
   -- ---- a new elder
 
-  pub one_more : (xs : List Elder) (elder : Elder) → AreElders xs elder.birth → AreElders (xs ++ elder ∷ []) (elder.birth + 1)
-  one_more xs elder up = record {
-    rise = λ i j d l m. by i j d l m (nat_lt j (length xs)) refl;
-    below = All-push (λ x. x.birth < elder.birth + 1) xs elder (All-weaker (λ x. x.birth < elder.birth) (λ x. x.birth < elder.birth + 1) (λ x l. omega (arith, l)) xs up.below) (omega arith);
-  }
-    where
-      long : length (xs ++ elder ∷ []) ≡ length xs + 1
-      long = length-append xs (elder ∷ [])
-
-      by : (i j : ℕ) (d : Elder) → i < j → j < length (xs ++ elder ∷ []) → (t : Bool) → nat_lt j (length xs) ≡ t → (get_or (xs ++ elder ∷ []) i d).birth < (get_or (xs ++ elder ∷ []) j d).birth
-      by i j d l m true q =
-          let less : j < length xs = grind (arith, nat_tests) in
-          let less_i : i < length xs = omega (arith, less, l) in
-          rw (get_or_append_left xs (elder ∷ []) d i less_i, get_or_append_left xs (elder ∷ []) d j less) (up.rise i j d l less)
-      by i j d l m false q =
-          let le : length xs ≤ j = grind (arith, nat_tests) in
-          let size = long in
-          let is : length xs ≡ j = omega (arith, le, m, size) in
-          let less_i : i < length xs = omega (arith, is, l) in
-          rw (get_or_append_left xs (elder ∷ []) d i less_i, get_or_push xs elder d j is) (up.below i d less_i)
-
-  pub looser : (xs : List Elder) (b : ℕ) → AreElders xs b → AreElders xs (b + 1)
-  looser xs b up = record {
-    rise = up.rise;
-    below = All-weaker (λ x. x.birth < b) (λ x. x.birth < b + 1) (λ x l. omega (arith, l)) xs up.below;
-  }
-
   pub keeps_one_more : (entries : List (Option (Entry T))) (old new : List Elder) (elder : Elder) → KeepsThere entries old new → KeepsThere entries (old ++ elder ∷ []) (new ++ elder ∷ [])
   keeps_one_more entries old new elder keeps x has there = by (Contains-push_cases old elder x has)
     where
@@ -340,56 +383,17 @@ module _ {T : Type 0} where
       by (inr e) = rw (← e) (Contains-push new elder)
 
   pub keeps_without : (entries : List (Option (Entry T))) (old : List Elder) (elder : Elder) → has_record entries elder ≡ false → KeepsThere entries (old ++ elder ∷ []) old
-  keeps_without entries old elder no x has there = by (Contains-push_cases old elder x has)
+  keeps_without entries old elder missing x has there = by (Contains-push_cases old elder x has)
     where
       by : Contains old x ⊎ (elder ≡ x) → Contains old x
       by (inl h) = h
       by (inr e) =
-          let yes = has_if entries x there in
-          let also : has_record entries x ≡ false = rw e at no in
-          let f : true ≡ false = sym yes ∙ also in
+          let found = has_if entries x there in
+          let also : has_record entries x ≡ false = rw e at missing in
+          let f : true ≡ false = sym found ∙ also in
           cc
 
   -- ---- what a search for an elder finds
-
-  pub parted : (elders : List Elder) (birth : ℕ) → Rise elders → IsPartitionedBy (λ (y : Elder). nat_lt y.birth birth) elders
-  parted elders birth rise i j d le less t = by (nat_eq i j) refl
-    where
-      by : (q : Bool) → nat_eq i j ≡ q → nat_lt (get_or elders i d).birth birth ≡ true
-      by true q = let s : i ≡ j = grind (arith, nat_tests) in rw s t
-      by false q =
-          let l : i < j = grind (arith, nat_tests) in
-          let up : (get_or elders i d).birth < (get_or elders j d).birth = rise i j d l less in
-          let h : (get_or elders j d).birth < birth = grind (arith, nat_tests) in
-          let g : (get_or elders i d).birth < birth = omega (arith, up, h) in
-          grind (arith, nat_tests)
-
-  pub at_place : (elders : List Elder) (birth place : ℕ) → Rise elders → IsPartitionPoint (λ (y : Elder). nat_lt y.birth birth ≡ true) (λ (y : Elder). nat_lt y.birth birth ≡ false) elders place → (x : Elder) → Contains elders x → x.birth ≡ birth → (place < length elders) × ((d : Elder) → get_or elders place d ≡ x)
-  at_place elders birth place rise point x has own = by (nat_lt has.0 place) refl (nat_eq has.0 place) refl
-    where
-      is : get_or elders has.0 x ≡ x
-      is = has.2
-
-      by : (t : Bool) → nat_lt has.0 place ≡ t → (u : Bool) → nat_eq has.0 place ≡ u → (place < length elders) × ((d : Elder) → get_or elders place d ≡ x)
-      by true q u r =
-          let l : has.0 < place = grind (arith, nat_tests) in
-          let h = point.0 has.0 x (omega arith) l in
-          let b : (get_or elders has.0 x).birth ≡ birth = ap (λ (v : Elder). v.birth) is ∙ own in
-          let f : nat_lt birth birth ≡ true = rw b at h in
-          let no : birth < birth = grind (arith, nat_tests) in
-          absurd (omega (arith, no))
-      by false q true r =
-          let s : has.0 ≡ place = grind (arith, nat_tests) in
-          let less : place < length elders = rw s at has.1 in
-          (less, λ d. get_or_default elders place d x less ∙ (rw s at is))
-      by false q false r =
-          let l : place < has.0 = grind (arith, nat_tests) in
-          let up : (get_or elders place x).birth < (get_or elders has.0 x).birth = rise place has.0 x l has.1 in
-          let b : (get_or elders has.0 x).birth ≡ birth = ap (λ (v : Elder). v.birth) is ∙ own in
-          let less = has.1 in
-          let h : nat_lt (get_or elders place x).birth birth ≡ false = point.1 place x (omega arith) (omega (arith, l, less)) in
-          let no : birth ≤ (get_or elders place x).birth = grind (arith, nat_tests) in
-          absurd (omega (arith, up, b, no))
 
   -- the elder of a birth with a record that has left the ring
   pub its_elder : (w : ℕ) (ring : List ℕ) (elders : List Elder) (keys : List ℕ) (entries : List (Option (Entry T))) (birth : ℕ) → Finds w ring elders keys entries → birth + w < length keys → Stands keys entries birth → (x : Elder) × (x.birth ≡ birth) × IsThere entries x × Contains elders x
@@ -404,7 +408,7 @@ module _ {T : Type 0} where
       by : (o : Option T) → get_or (slots 0 keys entries) birth None ≡ o → get_or (slots 0 keys entries) birth None ≡ None
       by None q = q
       by (Some b) q =
-          let s = stands keys entries birth (λ n. let no : Some b ≡ None = sym q ∙ n in cc) in
+          let s = stands keys entries birth (λ n. let missing : Some b ≡ None = sym q ∙ n in cc) in
           let x = its_elder w ring elders keys entries birth f (rw length-slots at left) s in
           let at = at_place elders birth place f.rising point x.0 x.3 x.1 in
           let less = at.0 in
@@ -412,25 +416,25 @@ module _ {T : Type 0} where
           absurd (omega (arith, less, le))
 
   pub elder_missed : (w : ℕ) (ring : List ℕ) (elders : List Elder) (keys : List ℕ) (entries : List (Option (Entry T))) (birth place : ℕ) (elder : Elder) → Finds w ring elders keys entries → IsPartitionPoint (λ (y : Elder). nat_lt y.birth birth ≡ true) (λ (y : Elder). nat_lt y.birth birth ≡ false) elders place → elder ≡ get_or elders place elder → has_record entries (record { birth = birth; key = elder.key }) ≡ false → birth + w < length (slots 0 keys entries) → get_or (slots 0 keys entries) birth None ≡ None
-  elder_missed w ring elders keys entries birth place elder f point is no left = by (get_or (slots 0 keys entries) birth None) refl
+  elder_missed w ring elders keys entries birth place elder f point is missing left = by (get_or (slots 0 keys entries) birth None) refl
     where
       by : (o : Option T) → get_or (slots 0 keys entries) birth None ≡ o → get_or (slots 0 keys entries) birth None ≡ None
       by None q = q
       by (Some b) q =
-          let s = stands keys entries birth (λ n. let no : Some b ≡ None = sym q ∙ n in cc) in
+          let s = stands keys entries birth (λ n. let missing : Some b ≡ None = sym q ∙ n in cc) in
           let x = its_elder w ring elders keys entries birth f (rw length-slots at left) s in
           let at = at_place elders birth place f.rising point x.0 x.3 x.1 in
           let same : elder ≡ x.0 = is ∙ at.1 elder in
-          let own : record { birth = birth; key = elder.key } ≡ x.0 = same_elder (record { birth = birth; key = elder.key }) x.0 (sym x.1) (ap (λ (v : Elder). v.key) same) in
-          let yes = has_if entries x.0 x.2 in
-          let also : has_record entries x.0 ≡ false = rw own at no in
-          let g : true ≡ false = sym yes ∙ also in
+          let own : ◌≡◌ {A = Elder} (record { birth = birth; key = elder.key }) x.0 = same_elder (record { birth = birth; key = elder.key }) x.0 (sym x.1) (ap (λ (v : Elder). v.key) same) in
+          let found = has_if entries x.0 x.2 in
+          let also : has_record entries x.0 ≡ false = rw own at missing in
+          let g : true ≡ false = sym found ∙ also in
           cc
 
   pub elder_found : (w : ℕ) (ring : List ℕ) (elders : List Elder) (keys : List ℕ) (entries : List (Option (Entry T))) (birth key : ℕ) → Finds w ring elders keys entries → has_record entries (record { birth = birth; key = key }) ≡ true → key_at (slots 0 keys entries) keys birth ≡ Some key
-  elder_found w ring elders keys entries birth key f yes =
+  elder_found w ring elders keys entries birth key f found =
       let x : Elder = record { birth = birth; key = key } in
-      let there : IsThere entries x = there_if entries x yes in
+      let there : IsThere entries x = there_if entries x found in
       let o = f.own key there.0 there.1 in
       let own : there.0.birth ≡ birth = there.2 in
       let less : birth < length keys = rw own at o.0 in

@@ -46,6 +46,7 @@ impl<T> Model for Held<T> {
     ghost coded = { holes_code T.code };
 
     ghost use Rattle.sts_records.specs.Ring.{IsHeld};
+    ghost use Rattle.sts_records.specs.declared.ring.TheConstants.{WINDOW};
     ghost use Rattle.sts_records.specs.Slots.{slots};
 
     ghost view = { λ h. record {

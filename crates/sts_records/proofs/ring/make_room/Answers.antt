@@ -1,4 +1,4 @@
-use Rattle.std.proofs.Common.{◌≡◌, length, arith, filter, refl}
+use Rattle.std.proofs.Common.{rules, ◌≡◌, length, arith, filter, refl}
 use Rattle.std.proofs.lemmas.Fn.{filter_same}
 use Rattle.sts_records.specs.Ring.{has_record}
 use Rattle.sts_records.proofs.Finding.{cleared_few, cleared_keeps, cleared_up}

@@ -1,3 +1,4 @@
+use Rattle.std.proofs.Common.{sym, ◌∙◌}
 use Rattle.sts_records.proofs.Finding.{keeps_one_more, keeps_without, one_more}
 use Rattle.sts_records.proofs.ring.retire.Goals as goal
 
@@ -11,4 +12,4 @@ returns-then-has_record-clause-kept g c =
 
 pub returns-else-has_record-clause-kept : goal.returns-else-has_record-clause-kept
 returns-else-has_record-clause-kept g c =
-    keeps_without c.args.entries.now.slots c.args.elders.now.items c.args.elder c.if-has_record.false
+    keeps_without c.args.entries.now.slots c.args.elders.now.items c.args.elder (sym c.has_record.ensures ∙ c.if-has_record.false)
