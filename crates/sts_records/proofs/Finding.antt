@@ -425,10 +425,10 @@ module _ {T : Type 0} where
           let x = its_elder w ring elders keys entries birth f (rw length-slots at left) s in
           let at = at_place elders birth place f.rising point x.0 x.3 x.1 in
           let same : elder ≡ x.0 = is ∙ at.1 elder in
-          let own : ◌≡◌ {A = Elder} (record { birth = birth; key = elder.key }) x.0 = same_elder (record { birth = birth; key = elder.key }) x.0 (sym x.1) (ap (λ (v : Elder). v.key) same) in
-          let found = has_if entries x.0 x.2 in
-          let also : has_record entries x.0 ≡ false = rw own at missing in
-          let g : true ≡ false = sym found ∙ also in
+          let key : elder.key ≡ x.0.key = ap (λ (v : Elder). v.key) same in
+          let there : IsThere entries (record { birth = birth; key = elder.key }) = (x.2.0, (rw key x.2.1), x.2.2 ∙ x.1) in
+          let found = has_if entries (record { birth = birth; key = elder.key }) there in
+          let g : true ≡ false = sym found ∙ missing in
           cc
 
   pub elder_found : (w : ℕ) (ring : List ℕ) (elders : List Elder) (keys : List ℕ) (entries : List (Option (Entry T))) (birth key : ℕ) → Finds w ring elders keys entries → has_record entries (record { birth = birth; key = key }) ≡ true → key_at (slots 0 keys entries) keys birth ≡ Some key
