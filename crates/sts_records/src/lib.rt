@@ -5,6 +5,7 @@
 //! leads nowhere.
 #![tactic(auto)]
 
+mod given;
 mod held;
 
 pub use held::Held;
