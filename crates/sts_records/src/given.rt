@@ -14,6 +14,11 @@ impl Model for Given {
     ghost also_owns = { λ _. ftrue };
 }
 
+// It owns nothing.
+unsafe impl Send for Given {}
+
+unsafe impl Sync for Given {}
+
 impl Given {
     /// No births.
     pub(crate) fn new() -> Given
