@@ -78,25 +78,6 @@ none_chained n newest link long ends = record {
     no : (b : ℕ) → None ≡ Some b → ⊥
     no b is = cc
 
--- the record of a birth, if there is one, is at this key or behind it
-pub record IsAhead (at : ℕ → Option ℕ) (key birth : ℕ) : Type 0 where
-  pub before : ℕ
-  pub to : IsLatest at (birth % chains) before key
-  pub earlier : (k : ℕ) → at k ≡ Some birth → birth < before
-
-pub none_ahead : (at : ℕ → Option ℕ) (key birth : ℕ) → at key ≡ None → IsAhead at key birth → (k b : ℕ) → at k ≡ Some b → b ≢ birth
-none_ahead at key birth gone a k b is same = by a.to
-  where
-    k_is : at k ≡ Some birth
-    k_is = is ∙ ap (λ (n : ℕ). Some n) same
-
-    by : IsLatest at (birth % chains) a.before key → ⊥
-    by (inl e) =
-        let n = e.none k birth k_is refl in
-        let less = a.earlier k k_is in
-        omega (arith, n, less)
-    by (inr s) = let no : None ≡ Some s.birth = sym gone ∙ s.is in cc
-
 -- ---- along a chain
 
 module _ (newest : List ℕ) (at : ℕ → Option ℕ) (link : ℕ → ℕ) (c : AreChained newest at link) where
@@ -110,15 +91,9 @@ module _ (newest : List ℕ) (at : ℕ → Option ℕ) (link : ℕ → ℕ) (c :
       let e : s.birth ≡ birth = some_same s.birth birth (sym s.is ∙ is) in
       (ap (λ (n : ℕ). n % chains) (sym e) ∙ s.same, rw e at s.earlier, λ k b is same less. rw e at (s.latest k b is same less))
 
-  -- a search for a birth goes on behind a record of another
-  pub stays_ahead : (key birth later : ℕ) → at key ≡ Some later → later ≢ birth → IsAhead at key birth → IsAhead at (link key) birth
-  stays_ahead key birth later is ne a =
-      let on = on_way (birth % chains) a.before key later is a.to in
-      record {
-        before = later;
-        to = rw on.0 at (c.next key later is);
-        earlier = λ k k_is. let le = on.2 k birth k_is refl (a.earlier k k_is) in omega (arith, le, ne);
-      }
+  -- a search for an earlier birth goes on behind a record
+  pub behind : (birth before key later : ℕ) → at key ≡ Some later → birth ≢ later → birth ≤ later → IsLatest at (birth % chains) before key → (x : ℕ) × (birth < x) × IsLatest at (birth % chains) x (link key)
+  behind birth before key later is ne le to = (later, omega (arith, ne, le), rw (on_way (birth % chains) before key later is to).0 at (c.next key later is))
 
   -- no record leads to itself
   pub not_itself : (key' key later birth : ℕ) → at key' ≡ Some later → at key ≡ Some birth → link key' ≡ key → key' ≢ key

@@ -209,10 +209,39 @@ fn find<T>(newest: &Vec<u32>, entries: &Slab<Entry<T>>, birth: usize) -> Option<
     requires { AreChained newest.now.items (births entries.now.slots) (links entries.now.slots) }
     ensures { Finds (births entries.now.slots) birth result }
 {
-    let mut key = newest[birth % CHAINS];
+    let key = newest[birth % CHAINS];
+    match entries.get(key as usize) {
+        None => None,
+        Some(entry) => {
+            if entry.birth as usize == birth {
+                Some(key)
+            } else if (entry.birth as usize) < birth {
+                None
+            } else {
+                find_older(entries, entry.older, birth)
+            }
+        }
+    }
+}
+
+/// The key of the record of a birth, if it exists. The search begins at this key.
+#[cold]
+#[inline(never)]
+fn find_older<T>(entries: &Slab<Entry<T>>, first: u32, birth: usize) -> Option<u32>
+    requires chained { (heads : List ℕ)
+        × AreChained heads (births entries.now.slots) (links entries.now.slots) }
+    requires first { (before : ℕ) × (birth < before)
+        × IsLatest (births entries.now.slots) (birth % chains) before first }
+    ensures { Finds (births entries.now.slots) birth result }
+{
+    let mut key = first;
     while let Some(entry) = entries.get(key as usize) {
-        if entry.birth as usize == birth {
+        let found = entry.birth as usize;
+        if found == birth {
             return Some(key);
+        }
+        if found < birth {
+            return None;
         }
         key = entry.older;
     }
