@@ -1,12 +1,12 @@
 -- Chains when a record comes or goes.
-use Rattle.std.proofs.Common.{◌≡◌, ◌≢◌, ℕ, zero, suc, ◌+◌, ◌<◌, ◌≤◌, ◌%◌, ◌⊎◌, inl, inr, List, [], ◌∷◌, ◌++◌, length}
+use Rattle.std.proofs.Common.{◌≡◌, ◌≢◌, ℕ, suc, ◌<◌, ◌≤◌, ◌%◌, ◌⊎◌, inl, inr, List, [], ◌∷◌, ◌++◌, length}
 use Rattle.std.proofs.Common.{Option, Some, None, refl, sym, ◌∙◌, ap, arith, get_or, set, nat_eq, nat_lt}
 use Rattle.std.proofs.Common.{Bool, true, false, length-set, get_or-set_same, get_or-set_other}
 use Rattle.std.proofs.Common.{length-append, replicate}
 use Rattle.std.proofs.Math.Seq.{get_or-append_seam}
 use Rattle.std.proofs.lemmas.Bool.Decides.{nat_tests}
 use Rattle.std.proofs.lemmas.List.{get_or-replicate, get_or_append_left, length-replicate}
-use Rattle.sts_records.specs.Chains.{AreChained, AreDistinct, Ends, Leads, IsLatest, IsBehind, chains, no_key}
+use Rattle.sts_records.specs.Chains.{AreChained, AreDistinct, IsLatest, IsBehind, chains, no_key}
 use Rattle.sts_records.specs.Slots.{AreGiven}
 
 some_same : (a b : ℕ) → Some a ≡ Some b → a ≡ b

@@ -4,7 +4,7 @@ use Rattle.std.specs.Prelude.{◌≡◌, ◌≢◌, ◌<◌, ◌≤◌, ◌%◌,
 use Rattle.std.specs.Prelude.{slice_index_or}
 use Rattle.sts_records.specs.declared.held.Entry.{Entry}
 
--- how many chains there are, and what a chain has in place of a key where it ends
+-- how many chains there are, and the mark of a chain's end
 abbrev pub chains : ℕ
 chains = 65536
 
@@ -35,12 +35,12 @@ abbrev pub HaveSameRecords : {T : Type 0} → List (Option (Entry T)) → List (
 HaveSameRecords old new =
     (key : ℕ) → record_of (slice_index_or new key None) ≡ record_of (slice_index_or old key None)
 
--- a chain has no record of an earlier birth than `before`
+-- a chain has no record before this birth
 pub record Ends (at : ℕ → Option ℕ) (chain before key : ℕ) : Type 0 where
   pub ends : key ≡ no_key
   pub none : (k b : ℕ) → at k ≡ Some b → b % chains ≡ chain → before ≤ b
 
--- of a chain's records of earlier births than `before`, the latest is at this key
+-- this key has the latest record of a chain before this birth
 pub record Leads (at : ℕ → Option ℕ) (chain before key : ℕ) : Type 0 where
   pub birth : ℕ
   pub is : at key ≡ Some birth

@@ -19,7 +19,7 @@ use std::marker::Model;
 /// How many chains there are. A record is in the chain of its birth's remainder by this number.
 const CHAINS: usize = 65_536;
 
-/// What a chain has in place of a key where it ends.
+/// Marks the end of a chain. No record has this key.
 const NO_KEY: u32 = 4_294_967_295;
 
 /// How many keys a slab may have. Each is smaller than `NO_KEY`.

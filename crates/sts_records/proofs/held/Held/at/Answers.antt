@@ -1,4 +1,4 @@
-use Rattle.std.proofs.Common.{◌≡◌, ◌<◌, ℕ, length, Some, None, refl, ◌∙◌, sym, get_or, set}
+use Rattle.std.proofs.Common.{◌≡◌, ◌<◌, ℕ, length, refl, ◌∙◌, get_or}
 use Rattle.sts_records.proofs.Slots.{as_many, inside_of, is_found, key_is_given, lent, lent_chained, lent_given, now_of, stands}
 use Rattle.sts_records.proofs.held.Held.at.Goals as goal
 

@@ -1,4 +1,4 @@
-use Rattle.std.proofs.Common.{◌∙◌, ap, sym}
+use Rattle.std.proofs.Common.{◌∙◌, sym}
 use Rattle.sts_records.proofs.Slots.{entry_at, found, got_is, is_some_got, not_found}
 use Rattle.sts_records.proofs.held.Held.get.Goals as goal
 

@@ -1,4 +1,4 @@
-use Rattle.std.proofs.Common.{◌≡◌, ◌<◌, ◌≤◌, ◌%◌, ◌∷◌, [], ℕ, Some, length, refl, sym, ◌∙◌, ap, arith, length-append}
+use Rattle.std.proofs.Common.{◌<◌, ◌%◌, ◌∷◌, [], ℕ, length, refl, sym, ◌∙◌, ap, arith, length-append}
 use Rattle.std.proofs.lemmas.List.{get_or_default}
 use Rattle.sts_records.specs.Chains.{birth_of, births, chains, links, older_of}
 use Rattle.sts_records.proofs.Chains.{Adds, given_pushed, pushed}

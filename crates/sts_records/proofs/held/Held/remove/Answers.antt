@@ -1,4 +1,4 @@
-use Rattle.std.proofs.Common.{◌≡◌, ◌∙◌, ap, sym, refl, arith}
+use Rattle.std.proofs.Common.{◌∙◌, ap, refl, arith}
 use Rattle.sts_records.specs.Chains.{birth_of, births, record_of}
 use Rattle.sts_records.proofs.Chains.{Loses, distinct, given_less}
 use Rattle.sts_records.proofs.Slots.{emptied, is_found, key_is_given, same_birth, same_body, stands}

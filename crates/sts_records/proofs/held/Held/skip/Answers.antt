@@ -1,4 +1,4 @@
-use Rattle.std.proofs.Common.{◌∷◌, [], length, sym, ◌∙◌, arith, length-append}
+use Rattle.std.proofs.Common.{◌∷◌, [], sym, ◌∙◌, arith, length-append}
 use Rattle.sts_records.specs.Chains.{births}
 use Rattle.sts_records.proofs.Chains.{given_more}
 use Rattle.sts_records.proofs.Slots.{length-slots, skipped}

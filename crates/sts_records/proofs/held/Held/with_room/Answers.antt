@@ -1,4 +1,4 @@
-use Rattle.std.proofs.Common.{◌≡◌, ◌<◌, ◌^◌, [], length, refl, sym, arith, ◌∙◌}
+use Rattle.std.proofs.Common.{◌≡◌, [], refl, arith}
 use Rattle.sts_records.proofs.Chains.{none_chained}
 use Rattle.sts_records.proofs.held.Held.with_room.Goals as goal
 
