@@ -1,5 +1,5 @@
--- Records in chains: each is in the chain of its birth's remainder, the latest first (this project's
--- own).
+-- Records in chains: each is in the chain of its birth's remainder, the latest first (this
+-- project's own).
 use Rattle.std.specs.Prelude.{◌≡◌, ◌≢◌, ◌<◌, ◌≤◌, ◌%◌, ◌⊎◌, ℕ, List, length, Option, Some, None}
 use Rattle.std.specs.Prelude.{slice_index_or}
 use Rattle.sts_records.specs.declared.held.Entry.{Entry}
@@ -31,7 +31,8 @@ record_of None = None
 record_of (Some e) = Some (e.birth, e.body)
 
 -- each key has a record of the same birth and with the same body as before
-abbrev pub HaveSameRecords : {T : Type 0} → List (Option (Entry T)) → List (Option (Entry T)) → Type 0
+abbrev pub HaveSameRecords : {T : Type 0} → List (Option (Entry T)) → List (Option (Entry T))
+    → Type 0
 HaveSameRecords old new =
     (key : ℕ) → record_of (slice_index_or new key None) ≡ record_of (slice_index_or old key None)
 

@@ -1,8 +1,8 @@
 //! Records found by birth, until they are taken out.
 
-ghost use Rattle.std.specs.Prelude.{◌≡◌, ◌≢◌, ◌+◌, ◌-◌, ◌%◌, ◌<◌, ◌≤◌, ◌++◌, [], ◌∷◌, ℕ, List, length};
-ghost use Rattle.std.specs.Prelude.{Option, Some, None, IfOk, IsSome, slice_index_or, slice_set};
-ghost use Rattle.std.specs.Prelude.{option_copied};
+ghost use Rattle.std.specs.Prelude.{◌≡◌, ◌≢◌, ◌+◌, ◌-◌, ◌%◌, ◌<◌, ◌≤◌, ◌++◌, [], ◌∷◌, ℕ};
+ghost use Rattle.std.specs.Prelude.{Option, Some, None, List, length, IfOk, IsSome};
+ghost use Rattle.std.specs.Prelude.{slice_index_or, slice_set, option_copied};
 ghost use Rattle.std.specs.Borrow.{sem};
 ghost use Rattle.slab.specs.Slab.{slab_len};
 ghost use Rattle.sts_records.specs.Chains.{AreChained, AreDistinct, Finds, IsBehind, IsLatest};
@@ -293,7 +293,8 @@ fn newer<T>(entries: &Slab<Entry<T>>, first: u32, key: u32) -> u32
     requires chained { (heads : List ℕ)
         × AreChained heads (births entries.now.slots) (links entries.now.slots) }
     requires record { (b : ℕ) × IsBehind (births entries.now.slots) first key b }
-    ensures leads { IsSome (births entries.now.slots result) × (links entries.now.slots result ≡ key) }
+    ensures leads { IsSome (births entries.now.slots result)
+        × (links entries.now.slots result ≡ key) }
 {
     let mut newer = first;
     loop {
