@@ -11,6 +11,7 @@ ghost use Rattle.sts_types.specs.Arrivals.{filled, none, state_of, IsAtStart};
 
 use crate::arrival::Arrival;
 use crate::follow::edge;
+use crate::recent::{Recent, step_of};
 use crate::site::Site;
 use crate::state::TypeState;
 use std::alloc::{AllocError, Global};
@@ -40,6 +41,7 @@ pub(crate) struct Arrivals {
     like: usize,
     /// The typestate of the place that was loaded last.
     start: Mark,
+    recent: Recent,
 }
 
 impl Model for Arrivals {
@@ -97,12 +99,13 @@ fn near(marks: &Vec<Arrival<Mark>>, place: usize, like: usize) -> usize
     }
 }
 
-/// Keeps a typestate, unless the kept one at `near` or that at `like` differs from it only in its
-/// number of operands. Answers the index of the kept one.
+/// Keeps a typestate, unless the kept one at `near`, at `like` or at `guess` differs from it only in
+/// its number of operands. Answers the index of the kept one.
 fn keep(
     kept: &mut Vec<TypeState>,
     near: usize,
     like: usize,
+    guess: usize,
     state: &TypeState,
 ) -> Result<usize, AllocError>
     requires near { near < length kept.old.items }
@@ -117,6 +120,9 @@ fn keep(
     }
     if near != like && kept[like].is_like(state) {
         return Ok(like);
+    }
+    if guess < kept.len() && kept[guess].is_like(state) {
+        return Ok(guess);
     }
     let count = kept.len();
     // It is written where it is kept, so it isn't moved.
@@ -163,12 +169,14 @@ impl Arrivals {
         };
         let mut marks = filled(alloc, places, Arrival::Nothing)?;
         marks[0] = Arrival::One(start);
+        let recent = Recent::new(alloc)?;
         Ok(Arrivals {
             marks,
             kept,
             state: first,
             like: 0,
             start,
+            recent,
         })
     }
 
@@ -243,13 +251,16 @@ impl Arrivals {
     {
         if let Some(to) = edge(site, &mut self.state, number) {
             let near = near(&self.marks, to as usize, self.like);
-            match keep(&mut self.kept, near, self.like, &self.state) {
+            let step = step_of(self.like, site.instr, number);
+            let guess = self.recent.after(step);
+            match keep(&mut self.kept, near, self.like, guess, &self.state) {
                 Ok(like) => self.like = like,
                 Err(error) => {
                     self.state.copy_from(&self.kept[self.like]);
                     return Err(error);
                 }
             }
+            self.recent.note(step, self.like);
             let place = to as usize;
             let height = self.state.height();
             let like = self.like;
