@@ -1,7 +1,7 @@
 //! The budget of one resource: the greatest sum of all places, with each loop in its last turn.
 
 ghost use Rattle.std.specs.Prelude.{◌≡◌, ◌<◌, ◌≤◌, ◌+◌, ◌-◌, ◌*◌, ◌^◌, ℕ, IfOk, IfSome, IsTrue, IsFalse};
-ghost use Rattle.std.specs.Prelude.{MatchOption, length, replicate, get_or};
+ghost use Rattle.std.specs.Prelude.{MatchOption, None, length, replicate, get_or};
 ghost use Rattle.sts_code.specs.Program.{instr_at};
 ghost use Rattle.sts_rules.specs.Budget.{Exceeds};
 ghost use Rattle.sts_budget.specs.Change.{own_of, limit_of, cause_of, depth_of as depth, IsMost};
@@ -112,28 +112,31 @@ pub(crate) fn no_top(alloc: Global, places: usize) -> Result<Top, AllocError>
     Ok(Top { bases, greatest: 0 })
 }
 
-/// Adds a place. The answer is false if its sum is over the limit.
+/// Adds a place, at which the sums go over `depth` entries. `head` is the `times` of the innermost
+/// loop around it. The answer is false if its sum is over the limit.
 #[inline(always)]
 pub(crate) fn add_place<const N: usize>(
     pass: &Pass<'_>,
     best: &[Row<N>],
     top: &mut Top,
     pc: usize,
+    depth: usize,
+    head: Option<u32>,
 ) -> bool
     requires ready { IsSet pass.now }
     requires most { pass.now.most ≡ limit_of pass.now.resource - own_of pass.now.resource }
     requires small { N ≤ 17 }
     requires fits { (q : ℕ) → low_at pass.now q < N }
     requires in_code { pc < length pass.now.code.now }
+    requires depth { depth ≡ low_at pass.now pc }
+    requires head { head ≡ get_or pass.now.layout.now.heads.items pc None }
     requires whole { IsPartial (paths pass.now) (flow pass.now)
         (length pass.now.code.now) best.now }
     requires so_far { IsTopped pass.now best.now pc top.old }
     ensures next { IsTrue result → IsTopped pass.now best.now (pc + 1) top.new }
     ensures over { IsFalse result → Passes (paths pass.now) (flow pass.now) pass.now.most }
 {
-    let depth = depth_of(pass.resource, names_at(pass.layout, pc));
-    let full = base_at(top.bases.as_slice(), pass.layout.heads[pc])
-        + sum_at(best, pc, depth) as u64;
+    let full = base_at(top.bases.as_slice(), head) + sum_at(best, pc, depth) as u64;
     if full > pass.most as u64 {
         return false;
     }
@@ -164,7 +167,9 @@ fn greatest_by<const N: usize>(alloc: Global, pass: &Pass<'_>) -> Result<Option<
     };
     let mut top = no_top(alloc, pass.code.len())?;
     for pc in 0..pass.code.len() {
-        if !add_place(pass, best.as_slice(), &mut top, pc) {
+        let depth = depth_of(pass.resource, names_at(pass.layout, pc));
+        let head = pass.layout.heads[pc];
+        if !add_place(pass, best.as_slice(), &mut top, pc, depth, head) {
             return Ok(None);
         }
     }

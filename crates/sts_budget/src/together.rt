@@ -236,6 +236,8 @@ impl Tops {
         requires so_far { AreTopped source.now tables.now pc self.old }
         ensures { IsTrue result → AreTopped source.now tables.now (pc + 1) self.new }
     {
+        let depth = names_at(source.layout, pc).len();
+        let head = source.layout.heads[pc];
         let steps = Pass {
             resource: Resource::Steps,
             earlier: source.earlier,
@@ -258,16 +260,44 @@ impl Tops {
             most: most_of(Resource::Binds),
             ..steps
         };
-        if !add_place(&steps, tables.steps.as_slice(), &mut self.steps, pc) {
+        if !add_place(
+            &steps,
+            tables.steps.as_slice(),
+            &mut self.steps,
+            pc,
+            0,
+            head,
+        ) {
             return false;
         }
-        if !add_place(&tasks, tables.tasks.as_slice(), &mut self.tasks, pc) {
+        if !add_place(
+            &tasks,
+            tables.tasks.as_slice(),
+            &mut self.tasks,
+            pc,
+            depth,
+            head,
+        ) {
             return false;
         }
-        if !add_place(&scopes, tables.scopes.as_slice(), &mut self.scopes, pc) {
+        if !add_place(
+            &scopes,
+            tables.scopes.as_slice(),
+            &mut self.scopes,
+            pc,
+            depth,
+            head,
+        ) {
             return false;
         }
-        add_place(&binds, tables.binds.as_slice(), &mut self.binds, pc)
+        add_place(
+            &binds,
+            tables.binds.as_slice(),
+            &mut self.binds,
+            pc,
+            depth,
+            head,
+        )
     }
 }
 

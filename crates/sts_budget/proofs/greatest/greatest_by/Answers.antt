@@ -1,9 +1,10 @@
-use Rattle.std.proofs.Common.{◌≡◌, ◌<◌, ◌≤◌, ◌+◌, ◌-◌, ℕ, length, sym, subst, arith, ap}
+use Rattle.std.proofs.Common.{◌≡◌, ◌<◌, ◌≤◌, ◌+◌, ◌-◌, ℕ, length, sym, subst, arith, ap, ◌∙◌, None}
 use Rattle.sts_rules.specs.Budget.{skeleton}
-use Rattle.sts_budget.specs.Change.{own_of, limit_of}
+use Rattle.sts_budget.specs.Change.{own_of, limit_of, depth_of}
 use Rattle.sts_budget.specs.Last.{IsTop, IsTopped}
 use Rattle.sts_budget.specs.Ready.{flows_in}
 use Rattle.sts_budget.specs.Table.{IsPartial}
+use Rattle.sts_budget.proofs.LaidStepLemmas.{any_default}
 use Rattle.sts_budget.proofs.LastTurns.{exceeds, bases_none, top_none, finished, own_within}
 use Rattle.sts_budget.proofs.greatest.greatest_by.Goals as goal
 
@@ -23,7 +24,7 @@ loop-pc-init g c =
 pub add_place-requires : goal.add_place-requires
 add_place-requires g c =
     let whole : IsPartial (skeleton c.args.pass.now.earlier.now c.args.pass.now.code.now) (flows_in c.args.pass.now.resource c.args.pass.now.earlier.now c.args.pass.now.code.now c.args.pass.now.layout.now) (length c.args.pass.now.code.now) c.in-Some.best.items = rw c.in-Some.is at (c.in_ok-best.ensures {u = tt}) in
-    (omega (arith, c.requires.small), (c.requires.ready, (c.requires.most, (c.requires.small, (c.requires.fits, (c.loop-pc-test.true, (rw c.as_slice.ensures.value whole, rw c.as_slice.ensures.value c.loop-pc.invariant)))))))
+    (omega (arith, c.requires.small), (c.requires.ready, (c.requires.most, (c.requires.small, (c.requires.fits, (c.loop-pc-test.true, (c.depth_of-depth.ensures.value ∙ ap (depth_of c.args.pass.now.resource) c.names_at.ensures, (c.index-head.ensures ∙ any_default c.args.pass.now.layout.now.heads.items c.loop-pc.pc _ None (omega (arith, c.requires.ready.heads_long, c.loop-pc-test.true)), (rw c.as_slice.ensures.value whole, rw c.as_slice.ensures.value c.loop-pc.invariant)))))))))
 
 pub returns-then-not-add_place : goal.returns-then-not-add_place
 returns-then-not-add_place g c =
