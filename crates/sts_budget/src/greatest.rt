@@ -47,6 +47,7 @@ pub(crate) fn most_of(resource: Resource) -> u32
 }
 
 /// The greatest sum before the last turn of the innermost loop around a place.
+#[inline(always)]
 fn base_at(bases: &[u64], head: Option<u32>) -> u64
     requires { IfSome head (λ h. h < length bases.now) }
     ensures { result ≡ base_of bases.now head }
@@ -58,6 +59,7 @@ fn base_at(bases: &[u64], head: Option<u32>) -> u64
 }
 
 /// The greatest sum over the first `depth` entries at a place.
+#[inline(always)]
 fn sum_at<const N: usize>(best: &[Row<N>], pc: usize, depth: usize) -> u32
     requires in_code { pc < length best.now }
     requires few { depth < N }
@@ -68,6 +70,7 @@ fn sum_at<const N: usize>(best: &[Row<N>], pc: usize, depth: usize) -> u32
 
 /// Opens a loop if the instruction at `pc` is a `times`. The greatest sum before it is `full`, and
 /// that of one turn is `end`.
+#[inline(always)]
 fn open_loop(bases: &mut Vec<u64>, instr: Instr, pc: usize, own: u32, full: u64, end: u32)
     requires in_code { pc < length bases.old.items }
     requires small { full < 2 ^ 32 }
@@ -81,6 +84,7 @@ fn open_loop(bases: &mut Vec<u64>, instr: Instr, pc: usize, own: u32, full: u64,
 }
 
 /// The sum at the end of a turn of the loop that a `times` opens.
+#[inline(always)]
 fn turn_end<const N: usize>(pass: &Pass<'_>, best: &[Row<N>], pc: usize, depth: usize) -> u32
     requires in_code { pc < length pass.now.code.now }
     requires mates { pc < length pass.now.layout.now.mates.items }
