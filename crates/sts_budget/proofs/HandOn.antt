@@ -6,12 +6,10 @@ use Rattle.std.proofs.lemmas.List.{length-replicate, get_or-replicate}
 use Rattle.sts_code.specs.Program.{Program, instr_at}
 use Rattle.sts_code.specs.declared.profile.Profile.TheVariants.{One}
 use Rattle.sts_code.specs.declared.instr.Instr.{Instr}
-use Rattle.sts_code.specs.declared.instr.Instr.TheVariants.{Push, Pop, Dup, Swap, Load, Store, Add}
-use Rattle.sts_code.specs.declared.instr.Instr.TheVariants.{Sub, Mul, Lt, Eq, Div, Jmp, Jz, Times}
-use Rattle.sts_code.specs.declared.instr.Instr.TheVariants.{Next, Open, Fork, Join, Close}
-use Rattle.sts_code.specs.declared.instr.Instr.TheVariants.{Cancelled, Case, Get, Except, Tally}
-use Rattle.sts_code.specs.declared.instr.Instr.TheVariants.{Total, Forget, Bind, Unbind, Read}
-use Rattle.sts_code.specs.declared.instr.Instr.TheVariants.{Bound, OrElse, Interrupted, Ret, Fail}
+use Rattle.sts_code.specs.declared.instr.Instr.TheVariants.{Push}
+use Rattle.sts_code.specs.declared.instr.Instr.TheVariants.{Times}
+use Rattle.sts_code.specs.declared.instr.Instr.TheVariants.{Next}
+use Rattle.sts_code.specs.declared.instr.Instr.TheVariants.{Ret, Fail}
 use Rattle.sts_rules.specs.Around.{next_place, around}
 use Rattle.sts_code.specs.Facts.{targets}
 use Rattle.sts_rules.specs.declared.budget.Budgets.{Budgets}
@@ -19,7 +17,7 @@ use Rattle.sts_rules.specs.Budget.{skeleton, shape_of}
 use Rattle.sts_rules.specs.ControlPaths.{Shape, GoesTo, Repeats, EndsTurn, EndsPath, Skeleton}
 use Rattle.sts_rules.specs.ControlPaths.{Among}
 use Rattle.sts_budget.specs.declared.change.Resource.{Resource}
-use Rattle.sts_budget.specs.declared.change.Resource.TheVariants.{Steps, Tasks, Scopes, Binds}
+use Rattle.sts_budget.specs.declared.change.Resource.TheVariants.{Steps}
 use Rattle.sts_budget.specs.declared.layout.Layout.{Layout}
 use Rattle.sts_budget.specs.Change.{source_of, added_of, change_of, depth_of, own_step}
 use Rattle.sts_budget.specs.Handing.{is_quiet, turns_of, value_by, handed_value}

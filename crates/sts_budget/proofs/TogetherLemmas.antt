@@ -1,5 +1,5 @@
 -- The passes of all resources at once, resource by resource.
-use Rattle.std.proofs.Common.{◌≡◌, ℕ, ◌+◌, ◌-◌, ◌<◌, ◌≤◌, List, [], length, get_or, refl, sym, subst}
+use Rattle.std.proofs.Common.{◌≡◌, ℕ, ◌+◌, ◌<◌, ◌≤◌, List, [], length, get_or, refl, sym, subst}
 use Rattle.std.proofs.Common.{arith, take, replicate}
 use Rattle.sts_code.specs.declared.instr.Instr.{Instr}
 use Rattle.sts_rules.specs.Budget.{skeleton}

@@ -1,9 +1,9 @@
-use Rattle.std.proofs.Common.{◌≡◌, ◌<◌, ◌≤◌, ◌+◌, ◌-◌, pos, ℕ, length, get_or, sym, ap, ◌∙◌, subst}
+use Rattle.std.proofs.Common.{◌≡◌, ◌<◌, ◌+◌, pos, ℕ, get_or, sym, ap, ◌∙◌, subst}
 use Rattle.std.proofs.Common.{arith}
 use Rattle.sts_code.specs.declared.instr.Instr.TheVariants.{Push, Ret, Times}
 use Rattle.sts_code.specs.Program.{instr_at}
 use Rattle.sts_rules.specs.Budget.{skeleton, shape_of}
-use Rattle.sts_budget.specs.Change.{own_of, limit_of, depth_of, own_step}
+use Rattle.sts_budget.specs.Change.{depth_of, own_step}
 use Rattle.sts_budget.specs.Handing.{base_of, bases_after}
 use Rattle.sts_budget.specs.Last.{IsTop, sum_at}
 use Rattle.sts_budget.specs.Ready.{names_in}

@@ -1,4 +1,4 @@
-use Rattle.std.proofs.Common.{◌≡◌, ◌<◌, ◌≤◌, ◌+◌, ◌-◌, ℕ, length, sym, subst, arith, ap, ◌∙◌, None}
+use Rattle.std.proofs.Common.{◌≡◌, ◌≤◌, ◌+◌, ◌-◌, length, sym, subst, arith, ap, ◌∙◌, None}
 use Rattle.sts_rules.specs.Budget.{skeleton}
 use Rattle.sts_budget.specs.Change.{own_of, limit_of, depth_of}
 use Rattle.sts_budget.specs.Last.{IsTop, IsTopped}
