@@ -16,6 +16,7 @@ pub mod Rows
 pub mod HandOn
 pub mod LastTurns
 pub mod ReadyLemmas
+pub mod TogetherLemmas
 pub mod Found
 pub mod PathLemmas
 pub mod PointLemmas

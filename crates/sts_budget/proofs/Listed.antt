@@ -5,12 +5,11 @@ use Rattle.std.proofs.lemmas.List.{length-append, length-map, get_or-map, get_or
 use Rattle.std.proofs.lemmas.List.{get_or_at}
 use Rattle.std.proofs.lemmas.Bool.{cases_lt}
 use Rattle.sts_code.specs.declared.instr.Instr.{Instr}
-use Rattle.sts_code.specs.declared.instr.Instr.TheVariants.{Push, Pop, Dup, Swap, Load, Store, Add}
-use Rattle.sts_code.specs.declared.instr.Instr.TheVariants.{Sub, Mul, Lt, Eq, Div, Jmp, Jz, Times}
-use Rattle.sts_code.specs.declared.instr.Instr.TheVariants.{Next, Open, Fork, Join, Close}
-use Rattle.sts_code.specs.declared.instr.Instr.TheVariants.{Cancelled, Case, Get, Except, Tally}
-use Rattle.sts_code.specs.declared.instr.Instr.TheVariants.{Total, Forget, Bind, Unbind, Read}
-use Rattle.sts_code.specs.declared.instr.Instr.TheVariants.{Bound, OrElse, Interrupted, Ret, Fail}
+use Rattle.sts_code.specs.declared.instr.Instr.TheVariants.{Div, Jmp, Jz}
+use Rattle.sts_code.specs.declared.instr.Instr.TheVariants.{Open, Join, Close}
+use Rattle.sts_code.specs.declared.instr.Instr.TheVariants.{Case}
+use Rattle.sts_code.specs.declared.instr.Instr.TheVariants.{Bind, Unbind}
+use Rattle.sts_code.specs.declared.instr.Instr.TheVariants.{Ret, Fail}
 use Rattle.sts_rules.specs.Around.{next_place}
 use Rattle.sts_code.specs.Facts.{targets}
 use Rattle.sts_rules.specs.ControlPaths.{Among}

@@ -9,12 +9,9 @@ use Rattle.std.proofs.lemmas.Bool.{cases_lt, leb-false, eqb-true}
 use Rattle.std.proofs.lemmas.List.{length-map}
 use Rattle.sts_code.specs.Program.{Program, routine, instr_at}
 use Rattle.sts_code.specs.declared.instr.Instr.{Instr}
-use Rattle.sts_code.specs.declared.instr.Instr.TheVariants.{Push, Pop, Dup, Swap, Load, Store, Add}
-use Rattle.sts_code.specs.declared.instr.Instr.TheVariants.{Sub, Mul, Lt, Eq, Div, Jmp, Jz, Times}
-use Rattle.sts_code.specs.declared.instr.Instr.TheVariants.{Next, Open, Fork, Join, Close}
-use Rattle.sts_code.specs.declared.instr.Instr.TheVariants.{Cancelled, Case, Get, Except, Tally}
-use Rattle.sts_code.specs.declared.instr.Instr.TheVariants.{Total, Forget, Bind, Unbind, Read}
-use Rattle.sts_code.specs.declared.instr.Instr.TheVariants.{Bound, OrElse, Interrupted, Ret, Fail}
+use Rattle.sts_code.specs.declared.instr.Instr.TheVariants.{Times}
+use Rattle.sts_code.specs.declared.instr.Instr.TheVariants.{Fork, Close}
+use Rattle.sts_code.specs.declared.instr.Instr.TheVariants.{Unbind}
 use Rattle.sts_rules.specs.declared.typing.TypedLoop.{TypedLoop}
 use Rattle.sts_rules.specs.declared.typing.TypedEntry.{TypedEntry}
 use Rattle.sts_rules.specs.declared.typing.TypedEntry.TheVariants.{Scope, Binding}

@@ -7,7 +7,9 @@ use Rattle.sts_code.specs.Program.{instr_at}
 use Rattle.sts_rules.specs.declared.budget.Budgets.{Budgets}
 use Rattle.sts_rules.specs.Budget.{skeleton}
 use Rattle.sts_budget.specs.declared.change.Resource.{Resource}
+use Rattle.sts_budget.specs.declared.greatest.Top.{Top}
 use Rattle.sts_budget.specs.declared.layout.Layout.{Layout}
+use Rattle.sts_budget.specs.declared.pass.Pass.{Pass}
 use Rattle.sts_budget.specs.Ready.{flows_in}
 use Rattle.sts_budget.specs.Sums.{full, turn_base}
 use Rattle.sts_budget.specs.Table.{read}
@@ -32,3 +34,10 @@ pub record IsTop (k : Resource) (earlier : List Budgets) (code : List Instr) (l 
   pub most : (q : ℕ) → q < pc → sum_at k earlier code l rows q ≤ top
   pub attained : (pc ≡ 0) ⊎ ((q : ℕ) × ((q < pc) × (sum_at k earlier code l rows q ≡ top)))
   pub none_yet : pc ≡ 0 → top ≡ 0
+
+-- the bases and the greatest sum are those of the places before pc, and no sum is over the limit
+abbrev pub IsTopped : Pass → List (List ℕ) → ℕ → Top → Type 0
+IsTopped p rows pc t =
+    HasBases p.resource p.earlier.now p.code.now p.layout.now rows pc t.bases.items
+    × IsTop p.resource p.earlier.now p.code.now p.layout.now rows pc t.greatest
+    × (t.greatest ≤ p.most)

@@ -14,3 +14,4 @@ pub mod Last
 pub mod Outcome
 pub mod Pass
 pub mod Laws
+pub mod Together

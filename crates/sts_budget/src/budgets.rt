@@ -1,6 +1,6 @@
 //! The four budgets of a function.
 
-ghost use Rattle.std.specs.Prelude.{◌≡◌, ◌<◌, ◌-◌, length};
+ghost use Rattle.std.specs.Prelude.{◌≡◌, ◌<◌, ◌-◌, length, IfOk, IfSome};
 ghost use Rattle.sts_code.specs.Program.{routine};
 ghost use Rattle.sts_rules.specs.Refusal.{IsWellTyped};
 ghost use Rattle.sts_rules.specs.Budget.{AreBudgets};
@@ -8,11 +8,13 @@ ghost use Rattle.sts_budget.specs.Change.{cause_of, limit_of, own_of};
 ghost use Rattle.sts_budget.specs.Outcome.{IsFound, IsNumber};
 ghost use Rattle.sts_budget.specs.Pass.{IsSet};
 ghost use Rattle.sts_budget.specs.Ready.{IsLaidFor};
+ghost use Rattle.sts_budget.specs.Together.{AreMost};
 
 use crate::change::Resource;
 use crate::greatest::{greatest, most_of};
 use crate::layout::{Layout, lay_out};
 use crate::pass::Pass;
+use crate::together::{Source, budgets_together};
 use std::alloc::{AllocError, Global};
 use sts_code::{Instr, Program, code_of};
 use sts_rules::{Budgets, Cause};
@@ -55,6 +57,14 @@ pub fn budget(
 {
     let code = code_of(program, function);
     let layout = lay_out(alloc, program, function)?;
+    let source = Source {
+        earlier,
+        code,
+        layout: &layout,
+    };
+    if let Some(budgets) = quick_budgets(alloc, &source)? {
+        return Ok(budgets);
+    }
     let steps = budget_of(alloc, &pass_of(Resource::Steps, earlier, code, &layout))?;
     let tasks = budget_of(alloc, &pass_of(Resource::Tasks, earlier, code, &layout))?;
     let scopes = budget_of(alloc, &pass_of(Resource::Scopes, earlier, code, &layout))?;
@@ -65,6 +75,18 @@ pub fn budget(
         scopes,
         binds,
     })
+}
+
+/// The budgets of a function in which entries open, if none is over its limit.
+fn quick_budgets(alloc: Global, source: &Source<'_>) -> Result<Option<Budgets>, AllocError>
+    requires { IsLaidFor source.now.earlier.now source.now.code.now source.now.layout.now }
+    ensures { IfOk result (λ o.
+        IfSome o (AreMost source.now.earlier.now source.now.code.now)) }
+{
+    if source.layout.deepest == 0 {
+        return Ok(None);
+    }
+    budgets_together(alloc, source)
 }
 
 /// The cause of a budget that passes its limit.

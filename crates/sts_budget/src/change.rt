@@ -109,6 +109,7 @@ fn binding_of(resource: Resource, earlier: &[Budgets]) -> u64
     }
 }
 
+#[inline(always)]
 fn measured(resource: Resource, earlier: &[Budgets], instr: Instr, names: &EntryNames) -> SumChange
     requires { def.ForksEarlier (length earlier.now) instr }
     ensures { result ≡ def.measured (def.measure_of resource earlier.now) instr names.now }
@@ -125,6 +126,7 @@ fn measured(resource: Resource, earlier: &[Budgets], instr: Instr, names: &Entry
 }
 
 /// How the instruction changes the sums of this resource, if the open entries have these names.
+#[inline(always)]
 pub fn change_of(
     resource: Resource,
     earlier: &[Budgets],
@@ -141,6 +143,7 @@ pub fn change_of(
 }
 
 /// The number of entries that the sums of this resource go over.
+#[inline(always)]
 pub fn depth_of(resource: Resource, names: &EntryNames) -> usize
     ensures value { result ≡ def.depth_of resource names.now }
     ensures bound { result ≤ MAX_ENTRIES }

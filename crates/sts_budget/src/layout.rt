@@ -99,6 +99,7 @@ fn deepest_of(lists: &[EntryNames]) -> usize
 }
 
 /// The names of the open entries at a place.
+#[inline(always)]
 pub fn names_at(layout: &Layout, pc: usize) -> &EntryNames
     requires in_code { pc < length layout.now.which.items }
     requires listed { AreListed layout.now.lists.items layout.now.which.items }
@@ -120,6 +121,7 @@ pub fn next_places(instr: Instr, pc: u32) -> ArrayVec<u32, 4>
 }
 
 /// Does the instruction only go on to the next place?
+#[inline(always)]
 pub(crate) fn goes_straight_on(instr: Instr) -> bool
     ensures { result ≡ def.goes_straight_on instr }
 {

@@ -9,6 +9,7 @@ pub mod laws;
 mod layout;
 pub mod pass;
 pub mod row;
+mod together;
 
 pub use budgets::{BudgetError, budget};
 pub use change::{Resource, added_of, change_of, depth_of, source_of};

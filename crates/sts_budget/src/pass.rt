@@ -33,6 +33,25 @@ pub(crate) struct Pass<'p> {
     pub(crate) most: u32,
 }
 
+/// Raises the row at a place to the values, as far as `low` entries. The answer is false if a value
+/// is over the limit.
+#[inline(always)]
+pub(crate) fn raise_row<const N: usize>(
+    best: &mut Vec<Row<N>>,
+    to: usize,
+    values: &Values<N>,
+    low: usize,
+    most: u32,
+) -> bool
+    requires inside { to < length best.old.items }
+    requires low { low < N }
+    ensures raised { IsTrue result →
+        IsRaisedAt values.now low most to best.old.items best.new.items }
+    ensures over { IsFalse result → IsOver values.now low most }
+{
+    raise(&mut best[to], values, low, most)
+}
+
 /// Raises the row at a place to the values, as far as entries are open there. The answer is false
 /// if a value is over the limit.
 fn raise_at<const N: usize>(
@@ -50,7 +69,7 @@ fn raise_at<const N: usize>(
     ensures over { IsFalse result → IsOver values.now (low_at pass.now to) pass.now.most }
 {
     let low = depth_of(pass.resource, names_at(pass.layout, to));
-    raise(&mut best[to], values, low, pass.most)
+    raise_row(best, to, values, low, pass.most)
 }
 
 /// Raises the rows at these places to the values. The answer is false if a value is over the limit.
@@ -105,7 +124,8 @@ fn send_on<const N: usize>(
 
 /// Does the instruction hand on nothing? It is the end of a path, or a `times`, after which sums
 /// begin again.
-fn is_quiet(instr: Instr) -> bool
+#[inline(always)]
+pub(crate) fn is_quiet(instr: Instr) -> bool
     ensures { result ≡ is_quiet instr }
 {
     matches!(instr, Instr::Times(_) | Instr::Ret | Instr::Fail)
@@ -122,6 +142,7 @@ pub fn turns_of(instr: Instr) -> u16
 }
 
 /// The amount that a `times` or a `next` counts itself.
+#[inline(always)]
 pub(crate) fn own_step(resource: Resource) -> u32
     ensures { result ≡ own_step resource }
 {
@@ -156,6 +177,7 @@ fn loop_values<const N: usize>(pass: &Pass<'_>, best: &[Row<N>], pc: usize) -> V
 }
 
 /// Does the instruction count one step, and change nothing else?
+#[inline(always)]
 fn is_ordinary(instr: Instr) -> bool
     ensures { result ≡ is_ordinary instr }
 {
@@ -166,7 +188,8 @@ fn is_ordinary(instr: Instr) -> bool
 }
 
 /// The sums that an instruction hands on.
-fn values_of<const N: usize>(pass: &Pass<'_>, best: &[Row<N>], pc: usize) -> Values<N>
+#[inline(always)]
+pub(crate) fn values_of<const N: usize>(pass: &Pass<'_>, best: &[Row<N>], pc: usize) -> Values<N>
     requires ready { IsSet pass.now }
     requires fits { (q : ℕ) → low_at pass.now q < N }
     requires in_code { pc < length pass.now.code.now }

@@ -13,6 +13,7 @@ pub(crate) type Row<const N: usize> = [u32; N];
 pub(crate) type Values<const N: usize> = [u64; N];
 
 /// The sums of a row, with `amount` added to each.
+#[inline(always)]
 pub(crate) fn risen<const N: usize>(amount: u64, row: &Row<N>) -> Values<N>
     ensures { (d : ℕ) → d < N →
         get_or result d 0 ≡ min (get_or row.now d 0 + amount) 18446744073709551615 }
@@ -25,6 +26,7 @@ pub(crate) fn risen<const N: usize>(amount: u64, row: &Row<N>) -> Values<N>
 }
 
 /// The sums after an instruction, one for each number of entries that can be open then.
+#[inline(always)]
 pub(crate) fn values_after<const N: usize>(
     change: SumChange,
     depth: usize,
@@ -70,6 +72,7 @@ pub(crate) fn values_of_loop<const N: usize>(
 
 /// Raises the sums over the first `low` entries to the values. The answer is false if one of these
 /// is over the limit.
+#[inline(always)]
 pub(crate) fn raise<const N: usize>(
     row: &mut Row<N>,
     values: &Values<N>,

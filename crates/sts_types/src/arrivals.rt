@@ -11,6 +11,7 @@ ghost use Rattle.sts_types.specs.Arrivals.{filled, none, state_of, IsAtStart};
 
 use crate::arrival::Arrival;
 use crate::follow::edge;
+use crate::recent::{Recent, look_of};
 use crate::site::Site;
 use crate::state::TypeState;
 use std::alloc::{AllocError, Global};
@@ -40,6 +41,7 @@ pub(crate) struct Arrivals {
     like: usize,
     /// The typestate of the place that was loaded last.
     start: Mark,
+    recent: Recent,
 }
 
 impl Model for Arrivals {
@@ -97,12 +99,27 @@ fn near(marks: &Vec<Arrival<Mark>>, place: usize, like: usize) -> usize
     }
 }
 
-/// Keeps a typestate, unless the kept one at `near` or that at `like` differs from it only in its
-/// number of operands. Answers the index of the kept one.
+/// Keeps a typestate at the end. It is written where it is kept, so it isn't moved.
+#[inline(never)]
+fn keep_new(kept: &mut Vec<TypeState>, state: &TypeState) -> Result<usize, AllocError>
+    ensures like { IfOk result (λ at. (at < length kept.new.items) ×
+        (state_of kept.new.items (record { height = state.now.height; like = at }) ≡
+        state.now)) }
+    ensures more { (added : List TypeState) × (kept.new.items ≡ kept.old.items ++ added) }
+{
+    let count = kept.len();
+    kept.push(TypeState::default())?;
+    kept[count].copy_from(state);
+    Ok(count)
+}
+
+/// Keeps a typestate, unless a kept one differs from it only in its number of operands: that at
+/// `near`, that at `like`, or the last one of the same look. Answers the index of the kept one.
 fn keep(
     kept: &mut Vec<TypeState>,
     near: usize,
     like: usize,
+    recent: &mut Recent,
     state: &TypeState,
 ) -> Result<usize, AllocError>
     requires near { near < length kept.old.items }
@@ -118,11 +135,14 @@ fn keep(
     if near != like && kept[like].is_like(state) {
         return Ok(like);
     }
-    let count = kept.len();
-    // It is written where it is kept, so it isn't moved.
-    kept.push(TypeState::default())?;
-    kept[count].copy_from(state);
-    Ok(count)
+    let look = look_of(state);
+    let guess = recent.kept_with(look);
+    if guess < kept.len() && kept[guess].is_like(state) {
+        return Ok(guess);
+    }
+    let new = keep_new(kept, state)?;
+    recent.note(look, new);
+    Ok(new)
 }
 
 /// Makes the typestate of this mark the current one. The current one is like the kept typestate at
@@ -163,12 +183,14 @@ impl Arrivals {
         };
         let mut marks = filled(alloc, places, Arrival::Nothing)?;
         marks[0] = Arrival::One(start);
+        let recent = Recent::new(alloc)?;
         Ok(Arrivals {
             marks,
             kept,
             state: first,
             like: 0,
             start,
+            recent,
         })
     }
 
@@ -243,7 +265,13 @@ impl Arrivals {
     {
         if let Some(to) = edge(site, &mut self.state, number) {
             let near = near(&self.marks, to as usize, self.like);
-            match keep(&mut self.kept, near, self.like, &self.state) {
+            match keep(
+                &mut self.kept,
+                near,
+                self.like,
+                &mut self.recent,
+                &self.state,
+            ) {
                 Ok(like) => self.like = like,
                 Err(error) => {
                     self.state.copy_from(&self.kept[self.like]);

@@ -16,6 +16,7 @@ mod leads;
 mod least;
 pub mod loops;
 mod pass;
+mod recent;
 mod same;
 mod site;
 pub mod slots;

@@ -7,6 +7,14 @@ use Rattle.sts_budget.proofs.Found.{before_steps, before_tasks, before_scopes, b
 use Rattle.sts_budget.proofs.Found.{found_error, found_all, as_ready, as_number}
 use Rattle.sts_budget.proofs.budgets.budget.Goals as goal
 
+pub quick_budgets-requires : goal.quick_budgets-requires
+quick_budgets-requires c = is_ready c.args.program.now c.args.function c.args.earlier.now c.code_of-code.result.now c.in_ok-layout.layout c.code_of-code.ensures.checked c.requires.in_program c.requires.typed c.requires.long c.code_of-code.ensures.value (c.in_ok-layout.ensures {u = tt})
+
+pub returns-in-Some : goal.returns-in-Some
+returns-in-Some c =
+    let found = rw c.in-Some.is at (c.in_ok-budgets.ensures {u = tt}) in
+    found_all c.args.earlier.now c.code_of-code.result.now (routine c.args.program.now c.args.function).code c.code_of-code.ensures.value c.in-Some.budgets.steps c.in-Some.budgets.tasks c.in-Some.budgets.scopes c.in-Some.budgets.binds (found Steps) (found Tasks) (found Scopes) (found Binds)
+
 pub budget_of-requires : goal.budget_of-requires
 budget_of-requires c = record {
   ready = as_ready _ c.args.earlier.now _ c.code_of-code.result.now _ c.in_ok-layout.layout c.pass_of.ensures.earlier c.pass_of.ensures.code c.pass_of.ensures.layout (is_ready c.args.program.now c.args.function c.args.earlier.now c.code_of-code.result.now c.in_ok-layout.layout c.code_of-code.ensures.checked c.requires.in_program c.requires.typed c.requires.long c.code_of-code.ensures.value (c.in_ok-layout.ensures {u = tt}));

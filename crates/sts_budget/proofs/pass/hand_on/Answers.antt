@@ -1,24 +1,16 @@
-use Rattle.std.proofs.Common.{◌≡◌, ◌<◌, ℕ, pos, length, get_or, min, false, sym, ap, ◌∙◌, subst}
-use Rattle.std.proofs.Common.{arith, ◌++◌, List, Bool}
-use Rattle.sts_code.specs.declared.instr.Instr.{Instr}
-use Rattle.sts_code.specs.declared.instr.Instr.TheVariants.{Push, Ret}
+use Rattle.std.proofs.Common.{◌≡◌, ◌<◌, ℕ, length, get_or, min, sym, ap, ◌∙◌, subst}
+use Rattle.std.proofs.Common.{arith, ◌++◌}
 use Rattle.sts_rules.specs.Around.{next_place}
 use Rattle.sts_code.specs.Program.{instr_at}
 use Rattle.sts_code.specs.Facts.{targets}
 use Rattle.sts_budget.specs.Change.{depth_of}
-use Rattle.sts_budget.specs.Handing.{is_quiet, handed_value}
+use Rattle.sts_budget.specs.Handing.{handed_value}
 use Rattle.sts_budget.specs.Ready.{names_in}
 use Rattle.sts_budget.specs.Table.{read, IsSent, IsStopped}
-use Rattle.sts_budget.proofs.LaidStepLemmas.{any_default, among_at}
-use Rattle.sts_budget.proofs.HandOn.{sent_spread, stopped_over, leads_in}
+use Rattle.sts_budget.proofs.LaidStepLemmas.{among_at}
+use Rattle.sts_budget.proofs.HandOn.{not_quiet, sent_spread, stopped_over, leads_in}
 use Rattle.sts_budget.proofs.LastTurns.{limit_small}
 use Rattle.sts_budget.proofs.pass.hand_on.Goals as goal
-
--- an instruction of the code, which is not quiet
-not_quiet : (code : List Instr) (pc : ℕ) (b : Bool) → pc < length code → b ≡ is_quiet (get_or code pc (Push (pos 0))) → b ≡ false → (get_or code pc (Push (pos 0)) ≡ instr_at code pc) × (is_quiet (instr_at code pc) ≡ false)
-not_quiet code pc b within is isnt =
-    let at : get_or code pc (Push (pos 0)) ≡ instr_at code pc = any_default code pc _ Ret within in
-    (at, sym (ap is_quiet at) ∙ sym is ∙ isnt)
 
 pub values_of-values-requires : goal.values_of-values-requires
 values_of-values-requires g c = (omega (arith, c.requires.small), (omega (arith, c.requires.small), (c.requires.ready, (c.requires.fits, (c.requires.in_code, ap length c.as_slice.ensures.value ∙ c.requires.rows)))))

@@ -1,6 +1,6 @@
 use Rattle.std.proofs.Common.{rules, ◌≡◌, ◌∷◌, [], length}
 use Rattle.sts_types.proofs.Marking.{set_last}
-use Rattle.sts_types.proofs.arrivals.keep.Goals as goal
+use Rattle.sts_types.proofs.arrivals.keep_new.Goals as goal
 
 pub returns-clause-more : goal.returns-clause-more
 returns-clause-more c =

@@ -1,0 +1,360 @@
+//! The budgets of all resources, found in one pass over a function.
+
+ghost use Rattle.std.specs.Prelude.{◌≡◌, ◌<◌, ◌≤◌, ◌+◌, ◌++◌, ℕ, All, IsTrue, IfOk, IfSome, length, min, get_or};
+ghost use Rattle.sts_code.specs.Facts as facts;
+ghost use Rattle.sts_rules.specs.Around as around;
+ghost use Rattle.sts_rules.specs.Budget.{skeleton};
+ghost use Rattle.sts_budget.specs.declared.change.Resource.{Resource};
+ghost use Rattle.sts_budget.specs.Change.{depth_of};
+ghost use Rattle.sts_budget.specs.Handing.{handed_value};
+ghost use Rattle.sts_budget.specs.Laid.{AreListed};
+ghost use Rattle.sts_budget.specs.Ready.{IsLaidFor, flows_in, head_in, names_in};
+ghost use Rattle.sts_budget.specs.Table.{IsRaisedAt, IsSent, IsSpread, IsPartial, read};
+ghost use Rattle.sts_budget.specs.Together.{rows_of, sums_of, over_open, width, most, AreMost};
+ghost use Rattle.sts_budget.specs.Together.{AreTopped};
+
+use crate::change::Resource;
+use crate::greatest::{Top, add_place, most_of, no_top, own_of};
+use crate::layout::{Layout, goes_straight_on, names_at, next_places};
+use crate::pass::{Pass, is_quiet, raise_row, values_of};
+use crate::row::{Row, Values};
+use std::alloc::{AllocError, Global};
+use sts_code::{Instr, MAX_INSTRUCTIONS};
+use sts_rules::{Budgets, filled};
+
+/// What the passes over a function read: the budgets of the functions before, the function's code
+/// and its layout.
+#[derive(Clone, Copy)]
+pub(crate) struct Source<'p> {
+    pub(crate) earlier: &'p [Budgets],
+    pub(crate) code: &'p [Instr],
+    pub(crate) layout: &'p Layout,
+}
+
+/// The tables of greatest sums, one for each resource. Steps are summed over no entry.
+#[derive(Drop)]
+pub(crate) struct Tables<const N: usize> {
+    steps: Vec<Row<1>>,
+    tasks: Vec<Row<N>>,
+    scopes: Vec<Row<N>>,
+    binds: Vec<Row<N>>,
+}
+
+/// The sums that a place hands on, for each resource.
+#[derive(Clone, Copy)]
+struct Handed<const N: usize> {
+    steps: Values<1>,
+    tasks: Values<N>,
+    scopes: Values<N>,
+    binds: Values<N>,
+}
+
+impl<const N: usize> Tables<N> {
+    /// Raises the rows at a place to the values, as far as `low` entries. The answer is false if a
+    /// value is over its limit.
+    #[inline(always)]
+    fn raise_to(&mut self, to: usize, values: &Handed<N>, low: usize) -> bool
+        requires small { N ≤ 17 }
+        requires inside { (k : Resource) → to < length (rows_of self.old k) }
+        requires low { low < N }
+        ensures { IsTrue result → (k : Resource) → IsRaisedAt (sums_of values.now k)
+            (over_open k low) (most k) to (rows_of self.old k) (rows_of self.new k) }
+    {
+        let steps = most_of(Resource::Steps);
+        let tasks = most_of(Resource::Tasks);
+        let scopes = most_of(Resource::Scopes);
+        let binds = most_of(Resource::Binds);
+        if !raise_row(&mut self.steps, to, &values.steps, 0, steps) {
+            return false;
+        }
+        if !raise_row(&mut self.tasks, to, &values.tasks, low, tasks) {
+            return false;
+        }
+        if !raise_row(&mut self.scopes, to, &values.scopes, low, scopes) {
+            return false;
+        }
+        raise_row(&mut self.binds, to, &values.binds, low, binds)
+    }
+
+    /// Raises the rows at these places to the values. The answer is false if a value is over its
+    /// limit.
+    fn send(&mut self, places: &[u32], values: &Handed<N>, layout: &Layout) -> bool
+        requires small { N ≤ 17 }
+        requires inside { (k : Resource) → All (λ to. to < length (rows_of self.old k)) places.now }
+        requires named { (k : Resource) →
+            length layout.now.which.items ≡ length (rows_of self.old k) }
+        requires listed { AreListed layout.now.lists.items layout.now.which.items }
+        requires fits { (pc : ℕ) → length (names_in layout.now pc) < N }
+        ensures { IsTrue result → (k : Resource) → IsSent (sums_of values.now k)
+            (λ pc. depth_of k (names_in layout.now pc)) (most k) places.now
+            (rows_of self.old k) (rows_of self.new k) }
+    {
+        for i in 0..places.len() {
+            let to = places[i] as usize;
+            if !self.raise_to(to, values, names_at(layout, to).len()) {
+                return false;
+            }
+        }
+        true
+    }
+
+    /// Raises the rows at the places where an instruction goes on.
+    #[inline(always)]
+    fn send_on(&mut self, instr: Instr, pc: usize, values: &Handed<N>, layout: &Layout) -> bool
+        requires small { N ≤ 17 }
+        requires short { pc < MAX_INSTRUCTIONS }
+        requires inside { (k : Resource) → All (λ to. to < length (rows_of self.old k))
+            (facts.targets instr ++ around.next_place pc instr) }
+        requires named { (k : Resource) →
+            length layout.now.which.items ≡ length (rows_of self.old k) }
+        requires listed { AreListed layout.now.lists.items layout.now.which.items }
+        requires fits { (q : ℕ) → length (names_in layout.now q) < N }
+        ensures { IsTrue result → (k : Resource) → IsSent (sums_of values.now k)
+            (λ q. depth_of k (names_in layout.now q)) (most k)
+            (facts.targets instr ++ around.next_place pc instr)
+            (rows_of self.old k) (rows_of self.new k) }
+    {
+        if goes_straight_on(instr) {
+            return self.raise_to(pc + 1, values, names_at(layout, pc + 1).len());
+        }
+        let places = next_places(instr, pc as u32);
+        self.send(places.as_slice(), values, layout)
+    }
+
+    /// The sums that an instruction hands on.
+    #[inline(always)]
+    fn handed(&self, source: &Source<'_>, pc: usize) -> Handed<N>
+        requires ready { IsLaidFor source.now.earlier.now source.now.code.now source.now.layout.now }
+        requires small { N ≤ 17 }
+        requires fits { (q : ℕ) → length (names_in source.now.layout.now q) < N }
+        requires in_code { pc < length source.now.code.now }
+        requires rows { (k : Resource) →
+            length (rows_of self.now k) ≡ length source.now.code.now }
+        ensures { (k : Resource) (d : ℕ) → d < width N k → get_or (sums_of result k) d 0 ≡
+            min (handed_value k source.now.earlier.now source.now.code.now
+            source.now.layout.now (read (rows_of self.now k)) pc d) 18446744073709551615 }
+    {
+        let steps = Pass {
+            resource: Resource::Steps,
+            earlier: source.earlier,
+            code: source.code,
+            layout: source.layout,
+            most: most_of(Resource::Steps),
+        };
+        let tasks = Pass {
+            resource: Resource::Tasks,
+            ..steps
+        };
+        let scopes = Pass {
+            resource: Resource::Scopes,
+            ..steps
+        };
+        let binds = Pass {
+            resource: Resource::Binds,
+            ..steps
+        };
+        Handed {
+            steps: values_of(&steps, self.steps.as_slice(), pc),
+            tasks: values_of(&tasks, self.tasks.as_slice(), pc),
+            scopes: values_of(&scopes, self.scopes.as_slice(), pc),
+            binds: values_of(&binds, self.binds.as_slice(), pc),
+        }
+    }
+
+    /// Hands on the sums of a place. The answer is false if a sum is over its limit.
+    #[inline(always)]
+    fn hand_on(&mut self, source: &Source<'_>, pc: usize) -> bool
+        requires ready { IsLaidFor source.now.earlier.now source.now.code.now source.now.layout.now }
+        requires small { N ≤ 17 }
+        requires fits { (q : ℕ) → length (names_in source.now.layout.now q) < N }
+        requires in_code { pc < length source.now.code.now }
+        requires rows { (k : Resource) →
+            length (rows_of self.old k) ≡ length source.now.code.now }
+        ensures { IsTrue result → (k : Resource) →
+            IsSpread (skeleton source.now.earlier.now source.now.code.now)
+            (flows_in k source.now.earlier.now source.now.code.now source.now.layout.now)
+            (head_in source.now.layout.now) pc (rows_of self.old k) (rows_of self.new k) }
+    {
+        if is_quiet(source.code[pc]) {
+            return true;
+        }
+        let values = self.handed(source, pc);
+        self.send_on(source.code[pc], pc, &values, source.layout)
+    }
+
+    /// The tables of all resources, or `None` if a sum is over its limit.
+    fn of(alloc: Global, source: &Source<'_>) -> Result<Option<Tables<N>>, AllocError>
+        requires ready { IsLaidFor source.now.earlier.now source.now.code.now source.now.layout.now }
+        requires small { N ≤ 17 }
+        requires fits { (q : ℕ) → length (names_in source.now.layout.now q) < N }
+        ensures { IfOk result (λ o. IfSome o (λ t. (k : Resource) →
+            IsPartial (skeleton source.now.earlier.now source.now.code.now)
+            (flows_in k source.now.earlier.now source.now.code.now source.now.layout.now)
+            (length source.now.code.now) (rows_of t k))) }
+    {
+        let places = source.code.len();
+        let steps = filled(alloc, places, [0; 1])?;
+        let tasks = filled(alloc, places, [0; N])?;
+        let scopes = filled(alloc, places, [0; N])?;
+        let binds = filled(alloc, places, [0; N])?;
+        let mut tables = Tables {
+            steps,
+            tasks,
+            scopes,
+            binds,
+        };
+        for pc in 0..places {
+            if !tables.hand_on(source, pc) {
+                return Ok(None);
+            }
+        }
+        Ok(Some(tables))
+    }
+}
+
+/// The greatest sums of the places so far, for each resource.
+#[derive(Drop)]
+pub(crate) struct Tops {
+    steps: Top,
+    tasks: Top,
+    scopes: Top,
+    binds: Top,
+}
+
+impl Tops {
+    /// Adds a place. The answer is false if one of its sums is over its limit.
+    #[inline(always)]
+    fn add<const N: usize>(&mut self, source: &Source<'_>, tables: &Tables<N>, pc: usize) -> bool
+        requires ready { IsLaidFor source.now.earlier.now source.now.code.now source.now.layout.now }
+        requires small { N ≤ 17 }
+        requires fits { (q : ℕ) → length (names_in source.now.layout.now q) < N }
+        requires in_code { pc < length source.now.code.now }
+        requires whole { (k : Resource) →
+            IsPartial (skeleton source.now.earlier.now source.now.code.now)
+            (flows_in k source.now.earlier.now source.now.code.now source.now.layout.now)
+            (length source.now.code.now) (rows_of tables.now k) }
+        requires so_far { AreTopped source.now tables.now pc self.old }
+        ensures { IsTrue result → AreTopped source.now tables.now (pc + 1) self.new }
+    {
+        let depth = names_at(source.layout, pc).len();
+        let head = source.layout.heads[pc];
+        let steps = Pass {
+            resource: Resource::Steps,
+            earlier: source.earlier,
+            code: source.code,
+            layout: source.layout,
+            most: most_of(Resource::Steps),
+        };
+        let tasks = Pass {
+            resource: Resource::Tasks,
+            most: most_of(Resource::Tasks),
+            ..steps
+        };
+        let scopes = Pass {
+            resource: Resource::Scopes,
+            most: most_of(Resource::Scopes),
+            ..steps
+        };
+        let binds = Pass {
+            resource: Resource::Binds,
+            most: most_of(Resource::Binds),
+            ..steps
+        };
+        if !add_place(
+            &steps,
+            tables.steps.as_slice(),
+            &mut self.steps,
+            pc,
+            0,
+            head,
+        ) {
+            return false;
+        }
+        if !add_place(
+            &tasks,
+            tables.tasks.as_slice(),
+            &mut self.tasks,
+            pc,
+            depth,
+            head,
+        ) {
+            return false;
+        }
+        if !add_place(
+            &scopes,
+            tables.scopes.as_slice(),
+            &mut self.scopes,
+            pc,
+            depth,
+            head,
+        ) {
+            return false;
+        }
+        add_place(
+            &binds,
+            tables.binds.as_slice(),
+            &mut self.binds,
+            pc,
+            depth,
+            head,
+        )
+    }
+}
+
+/// The budgets, found with rows of `N` sums, or `None` if one is over its limit.
+fn budgets_by<const N: usize>(
+    alloc: Global,
+    source: &Source<'_>,
+) -> Result<Option<Budgets>, AllocError>
+    requires ready { IsLaidFor source.now.earlier.now source.now.code.now source.now.layout.now }
+    requires small { N ≤ 17 }
+    requires fits { (q : ℕ) → length (names_in source.now.layout.now q) < N }
+    ensures { IfOk result (λ o.
+        IfSome o (AreMost source.now.earlier.now source.now.code.now)) }
+{
+    let tables = match Tables::<N>::of(alloc, source)? {
+        Some(tables) => tables,
+        None => return Ok(None),
+    };
+    let places = source.code.len();
+    let steps = no_top(alloc, places)?;
+    let tasks = no_top(alloc, places)?;
+    let scopes = no_top(alloc, places)?;
+    let binds = no_top(alloc, places)?;
+    let mut tops = Tops {
+        steps,
+        tasks,
+        scopes,
+        binds,
+    };
+    for pc in 0..places {
+        if !tops.add(source, &tables, pc) {
+            return Ok(None);
+        }
+    }
+    Ok(Some(Budgets {
+        steps: own_of(Resource::Steps) + tops.steps.greatest as u32,
+        tasks: own_of(Resource::Tasks) + tops.tasks.greatest as u32,
+        scopes: own_of(Resource::Scopes) + tops.scopes.greatest as u32,
+        binds: own_of(Resource::Binds) + tops.binds.greatest as u32,
+    }))
+}
+
+/// The budgets of a function in which entries open, or `None` if one is over its limit. The rows
+/// are as short as the entries allow.
+pub(crate) fn budgets_together(
+    alloc: Global,
+    source: &Source<'_>,
+) -> Result<Option<Budgets>, AllocError>
+    requires { IsLaidFor source.now.earlier.now source.now.code.now source.now.layout.now }
+    ensures { IfOk result (λ o.
+        IfSome o (AreMost source.now.earlier.now source.now.code.now)) }
+{
+    if source.layout.deepest < 3 {
+        return budgets_by::<3>(alloc, source);
+    }
+    if source.layout.deepest < 5 {
+        return budgets_by::<5>(alloc, source);
+    }
+    budgets_by::<17>(alloc, source)
+}
