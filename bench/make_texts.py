@@ -17,9 +17,14 @@ def write(folder, name, text):
         file.write(text)
 
 
+def local_body(instructions):
+    """This number of local instructions, which is even."""
+    return "push 1\n" + "dup\nlt\n" * ((instructions - 2) // 2) + "ret\n"
+
+
 def straight(functions=64):
     """As many local instructions as this number of functions may have. A program may have 64."""
-    body = "push 1\n" + "dup\nlt\n" * ((MOST_INSTRUCTIONS - 2) // 2) + "ret\n"
+    body = local_body(MOST_INSTRUCTIONS)
     parts = [f"func part{i} 0\n{body}end\n" for i in range(functions - 1)]
     return "".join(parts) + f"func main 0\n{body}end\n"
 
@@ -246,6 +251,11 @@ def many_chains(count):
     return text, "".join(steps)
 
 
+def one_function(instructions):
+    """One accepted function of local instructions."""
+    return f"func main 0\n{local_body(instructions)}end\n", ""
+
+
 def unequal(instructions):
     """A function that is refused at its last place, where two ways meet with unequal heights."""
     pairs = "push 1\npop\n" * ((instructions - 4) // 2)
@@ -268,6 +278,7 @@ GROWTH = [
     ("row", lambda scopes: (fan_out(1, scopes), fan_out_trace(1, scopes)), 1_250),
     ("many_chains", many_chains, 20),
     ("wide", lambda count: (subtasks(count, 5), ""), 7_500),
+    ("one_function", one_function, 512),
     ("unequal", unequal, 512),
     ("heavy", heavy, 512),
     ("chain", chain, 10_000),

@@ -142,7 +142,7 @@ GROWING = [
     ("look view TRACE", ("row", "many_chains")),
     ("look view TRACE --living", ("row",)),
     ("look view TRACE --each", ("turns",)),
-    ("look explain", ("straight", "scopes", "unequal", "heavy")),
+    ("look explain", ("straight", "scopes", "one_function", "unequal", "heavy")),
     ("look explain TRACE", ("row", "many_chains")),
     ("look draw TRACE", ("row",)),
 ]

@@ -2,13 +2,15 @@
 
 ghost use Rattle.std.specs.Prelude.{◌≡◌, ◌<◌, ◌++◌, true, length, IfOk, OnOk};
 ghost use Rattle.std.specs.List.{list_any};
+ghost use Rattle.sts_code.specs.Program.{routine};
 ghost use Rattle.sts_rules.specs.Edges as rules;
 ghost use Rattle.sts_rules.specs.Refusal.{size};
 ghost use Rattle.look_accepted.specs.Nodes as def;
 
 use std::alloc::{AllocError, Global};
 use sts_code::{Instr, Program, code_of};
-use sts_types::{TypeState, edges, entry};
+use sts_types::loops::CodeLoops;
+use sts_types::{TypeState, edges_with_loops, entry};
 
 /// A place that a control path can reach, with the typestate there. If the thread has made its
 /// first binding, `mark` is the number of entries that were open then and still are.
@@ -131,17 +133,19 @@ fn along(instr: Instr, node: &Node, edge: &(u32, TypeState)) -> Node
 fn add_edges(
     program: &Program,
     function: u32,
+    loops: &CodeLoops<'_>,
     node: &Node,
     found: &mut Vec<Node>,
 ) -> Result<(), AllocError>
     requires function { function < length program.now.routines }
+    requires loops { loops.now ≡ (routine program.now function).code }
     requires pc { node.now.pc < size program.now function }
     ensures { OnOk result (found.new.items ≡ found.old.items
         ++ def.edge_nodes program.now function node.now) }
 {
     let code = code_of(program, function as usize);
     let instr = code[node.pc];
-    if let Ok(edges) = edges(program, function, node.pc as u32, &node.state) {
+    if let Ok(edges) = edges_with_loops(program, function, loops, node.pc as u32, &node.state) {
         let edges = edges.as_slice();
         for number in 0..edges.len() {
             found.push(along(instr, node, &edges[number]))?;
@@ -150,7 +154,8 @@ fn add_edges(
     Ok(())
 }
 
-/// The nodes that follow one: along the edges of its instruction, and by a turn.
+/// The nodes that follow one: along the edges of its instruction, and by a turn. `loops` are those
+/// of the function.
 ///
 /// # Errors
 ///
@@ -159,15 +164,17 @@ pub fn followers(
     alloc: Global,
     program: &Program,
     function: u32,
+    loops: &CodeLoops<'_>,
     node: &Node,
 ) -> Result<Vec<Node>, AllocError>
-    requires { function < length program.now.routines }
+    requires function { function < length program.now.routines }
+    requires loops { loops.now ≡ (routine program.now function).code }
     ensures { IfOk result (λ v. v.items ≡ def.followers program.now function node.now) }
 {
     let mut found = Vec::new(alloc);
     let code = code_of(program, function as usize);
     if node.pc < code.len() {
-        add_edges(program, function, node, &mut found)?;
+        add_edges(program, function, loops, node, &mut found)?;
         if let Some(pc) = turn(code[node.pc], &node.state) {
             found.push(Node {
                 pc,

@@ -2,11 +2,13 @@
 
 ghost use Rattle.std.specs.Prelude.{◌≡◌, ◌<◌, true, length, IfOk};
 ghost use Rattle.std.specs.List.{Contains};
+ghost use Rattle.sts_code.specs.Program.{routine};
 ghost use Rattle.look_accepted.specs.Found as def;
 
 use crate::node::{Node, copy, first, followers, is_same};
 use std::alloc::{AllocError, Global};
 use sts_code::{Program, code_of};
+use sts_types::loops::{CodeLoops, Tables};
 
 /// The nodes by place, as lists of their numbers. `last` has the node that was found last at each
 /// place, and `earlier` has, for each node, the one before it at its place. A place has few nodes.
@@ -92,11 +94,13 @@ fn expand(
     alloc: Global,
     program: &Program,
     function: u32,
+    loops: &CodeLoops<'_>,
     nodes: &mut Vec<Node>,
     places: &mut Places,
     at: usize,
 ) -> Result<(), AllocError>
     requires function { function < length program.now.routines }
+    requires loops { loops.now ≡ (routine program.now function).code }
     requires at { at < length nodes.old.items }
     requires found { def.AreFound program.now function nodes.old.items }
     ensures found { IfOk result (λ _. def.AreFound program.now function nodes.new.items) }
@@ -104,7 +108,7 @@ fn expand(
     ensures spread { IfOk result (λ _. def.IsSpread program.now function nodes.old.items at
         nodes.new.items) }
 {
-    let next = followers(alloc, program, function, &nodes[at])?;
+    let next = followers(alloc, program, function, loops, &nodes[at])?;
     for number in 0..next.len() {
         add(nodes, places, &next[number])?;
     }
@@ -120,15 +124,26 @@ pub fn search(alloc: Global, program: &Program, function: u32) -> Result<Vec<Nod
     requires { function < length program.now.routines }
     ensures { IfOk result (λ v. def.AreAll program.now function v.items) }
 {
+    let code = code_of(program, function as usize);
+    let tables = Tables::new(alloc, code)?;
+    let loops = CodeLoops::with_tables(code, &tables);
     let mut nodes = Vec::new(alloc);
-    let mut places = Places::new(alloc, code_of(program, function as usize).len())?;
+    let mut places = Places::new(alloc, code.len())?;
     places.add(0)?;
     nodes.push(first(program, function))?;
     for at in 0..usize::MAX {
         if at >= nodes.len() {
             break;
         }
-        expand(alloc, program, function, &mut nodes, &mut places, at)?;
+        expand(
+            alloc,
+            program,
+            function,
+            &loops,
+            &mut nodes,
+            &mut places,
+            at,
+        )?;
     }
     Ok(nodes)
 }

@@ -4,6 +4,7 @@ ghost use Rattle.std.specs.Prelude.{◌≡◌, ◌≢◌, ◌<◌, ◌^◌, IfOk
 ghost use Rattle.std.specs.Prelude.{if◌then◌else◌, length, slice_set, is_some, slice_index_or};
 ghost use Rattle.std.specs.Prelude.{replicate};
 ghost use Rattle.std.specs.Option.{option_copied};
+ghost use Rattle.sts_code.specs.Program.{routine};
 ghost use Rattle.sts_rules.specs.Edges as rules;
 ghost use Rattle.sts_rules.specs.Flow.{Reaches};
 ghost use Rattle.sts_rules.specs.Refusal.{IsTypeRefusal, size};
@@ -12,7 +13,8 @@ ghost use Rattle.look_refusal.specs.Ways as def;
 
 use std::alloc::{AllocError, Global};
 use sts_code::{Instr, Program, code_of};
-use sts_types::{TypeState, edges, entry};
+use sts_types::loops::{CodeLoops, Tables};
+use sts_types::{TypeState, edges_with_loops, entry};
 
 /// The place or edge that a way comes from.
 #[derive(Clone, Copy, Debug, PartialEq, Eq)]
@@ -76,11 +78,13 @@ fn keep(table: &mut Vec<Option<Way>>, to: u32, way: Way)
 fn spread(
     program: &Program,
     function: u32,
+    loops: &CodeLoops<'_>,
     pc: u32,
     state: &TypeState,
     table: &mut Vec<Option<Way>>,
 )
     requires function { function < length program.now.routines }
+    requires loops { loops.now ≡ (routine program.now function).code }
     requires pc { pc < size program.now function }
     requires reached { Reaches (rules.typing program.now function) pc state.now }
     requires ways { def.AreWays program.now function table.old.items }
@@ -88,7 +92,7 @@ fn spread(
     ensures more { def.KeepsMore pc table.old.items table.new.items }
     ensures spread { def.IsSpread program.now function pc state.now table.new.items }
 {
-    if let Ok(edges) = edges(program, function, pc, state) {
+    if let Ok(edges) = edges_with_loops(program, function, loops, pc, state) {
         let edges = edges.as_slice();
         for number in 0..edges.len() {
             let edge = &edges[number];
@@ -121,8 +125,15 @@ fn copy(way: &Way) -> Way
 }
 
 /// Keeps the ways along the edges of the instruction at a place that a way is kept for.
-fn spread_from(program: &Program, function: u32, pc: u32, table: &mut Vec<Option<Way>>)
+fn spread_from(
+    program: &Program,
+    function: u32,
+    loops: &CodeLoops<'_>,
+    pc: u32,
+    table: &mut Vec<Option<Way>>,
+)
     requires function { function < length program.now.routines }
+    requires loops { loops.now ≡ (routine program.now function).code }
     requires pc { pc < size program.now function }
     requires ways { def.AreWays program.now function table.old.items }
     ensures ways { def.AreWays program.now function table.new.items }
@@ -133,7 +144,7 @@ fn spread_from(program: &Program, function: u32, pc: u32, table: &mut Vec<Option
         Some(way) => copy(way),
         None => return,
     };
-    spread(program, function, pc, &way.state, table);
+    spread(program, function, loops, pc, &way.state, table);
 }
 
 /// The first way that arrives at each place, up to the last place.
@@ -141,9 +152,11 @@ fn first_ways(
     alloc: Global,
     program: &Program,
     function: u32,
+    loops: &CodeLoops<'_>,
     last: u32,
 ) -> Result<Vec<Option<Way>>, AllocError>
     requires function { function < length program.now.routines }
+    requires loops { loops.now ≡ (routine program.now function).code }
     requires last { last < size program.now function }
     ensures { IfOk result (λ t. def.AreWays program.now function t.items
         × def.AreSpread program.now function last last t.items) }
@@ -155,7 +168,7 @@ fn first_ways(
     };
     keep(&mut table, 0, way);
     for pc in 0..last {
-        spread_from(program, function, pc, &mut table);
+        spread_from(program, function, loops, pc, &mut table);
     }
     Ok(table)
 }
@@ -177,7 +190,10 @@ pub(crate) fn state_at(
     requires clear { def.AreClear program.now function pc }
     ensures { IfOk result (λ s. Reaches (rules.typing program.now function) pc s) }
 {
-    let table = first_ways(alloc, program, function, pc)?;
+    let code = code_of(program, function as usize);
+    let tables = Tables::new(alloc, code)?;
+    let loops = CodeLoops::with_tables(code, &tables);
+    let table = first_ways(alloc, program, function, &loops, pc)?;
     match way_at(table.as_slice(), pc) {
         Some(way) => Ok(way.state.copy()),
         None => unreachable!(),
@@ -188,19 +204,21 @@ pub(crate) fn state_at(
 fn other_from(
     program: &Program,
     function: u32,
+    loops: &CodeLoops<'_>,
     from: u32,
     state: &TypeState,
     to: u32,
     told: &TypeState,
 ) -> Option<Way>
     requires function { function < length program.now.routines }
+    requires loops { loops.now ≡ (routine program.now function).code }
     requires from { from < size program.now function }
     requires reached { Reaches (rules.typing program.now function) from state.now }
     ensures { MatchOption result
         (def.LeadsAlike program.now function from state.now to told.now)
         (λ w. def.Arrives program.now function to w.origin w.state × (w.state ≢ told.now)) }
 {
-    let Ok(edges) = edges(program, function, from, state) else {
+    let Ok(edges) = edges_with_loops(program, function, loops, from, state) else {
         return None;
     };
     let edges = edges.as_slice();
@@ -217,8 +235,15 @@ fn other_from(
 }
 
 /// Two ways that arrive at a place with different typestates.
-fn meeting_at(program: &Program, function: u32, pc: u32, table: &[Option<Way>]) -> Option<Meeting>
+fn meeting_at(
+    program: &Program,
+    function: u32,
+    loops: &CodeLoops<'_>,
+    pc: u32,
+    table: &[Option<Way>],
+) -> Option<Meeting>
     requires function { function < length program.now.routines }
+    requires loops { loops.now ≡ (routine program.now function).code }
     requires pc { pc < size program.now function }
     requires ways { def.AreWays program.now function table.now }
     ensures { MatchOption result (def.NoneMeet program.now function pc table.now)
@@ -227,7 +252,9 @@ fn meeting_at(program: &Program, function: u32, pc: u32, table: &[Option<Way>]) 
     let one = way_at(table, pc)?;
     for from in 0..pc {
         if let Some(way) = way_at(table, from) {
-            if let Some(other) = other_from(program, function, from, &way.state, pc, &one.state) {
+            if let Some(other) = other_from(
+                program, function, loops, from, &way.state, pc, &one.state,
+            ) {
                 return Some(Meeting {
                     at: pc,
                     one: copy(one),
@@ -299,8 +326,11 @@ pub fn find_meeting(
         (¬ IsTypeRefusal program.now function pc StatesDiffer)
         (def.Meets program.now function pc)) }
 {
-    let table = first_ways(alloc, program, function, pc)?;
-    match meeting_at(program, function, pc, table.as_slice()) {
+    let code = code_of(program, function as usize);
+    let tables = Tables::new(alloc, code)?;
+    let loops = CodeLoops::with_tables(code, &tables);
+    let table = first_ways(alloc, program, function, &loops, pc)?;
+    match meeting_at(program, function, &loops, pc, table.as_slice()) {
         Some(meeting) => Ok(Some(meeting)),
         None => Ok(turn_at(program, function, pc, table.as_slice())),
     }

@@ -23,6 +23,6 @@ pub mod slots;
 mod state;
 mod tables;
 
-pub use edge::edges;
+pub use edge::{edges, edges_with_loops};
 pub use pass::{TypeError, type_function};
 pub use state::{TypeState, entry};
