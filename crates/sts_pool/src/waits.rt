@@ -1,15 +1,15 @@
 //! Decides which workers sleep and which wake another. No other file decides that.
 //!
-//! A worker *waits* for the lock, *works* under it, is *out* with slices or at the gate, *sleeps*, or
-//! has ended. The numbers below are read and written only under the lock, in the hold in which the
+//! A worker *waits* for the lock, *works* under it, is *out* with slices or at the gate, *sleeps*,
+//! or has ended. The numbers below are read and written only under the lock, in the hold in which the
 //! worker looks for a task. `Condvar::wait` gives the lock up and sleeps in one step.
 //!
 //! Why the workers never all sleep while a task is left:
 //!
 //! 1. `awake` is the number of workers that have come and neither sleep nor are out with slices.
 //!    `lends` and `sleeps` take one away, `comes`, `back` and `rises` add one. Each is called in the
-//!    hold that makes the change, once for all slices of a batch. A worker that is new or woken counts
-//!    once it has the lock.
+//!    hold that makes the change, once for all slices of a batch. A worker that is new or woken
+//!    counts once it has the lock.
 //!
 //! 2. A worker sleeps only in a hold in which it saw that no task is left, or that `leaves` holds.
 //!    In the second case another worker is awake.
@@ -29,8 +29,8 @@
 /// This many local instructions in a row are long enough to justify waking another worker.
 const WORTH: u32 = 900;
 
-/// Several workers may claim tasks until this many were claimed since the last worker came or the
-/// last long row of local instructions. After that only one does.
+/// Several workers may claim tasks until this many were claimed since the last worker came, the last
+/// row that was worth another one, or the last batch. After that only one does.
 const TRIES: u32 = 64;
 
 /// A batch of slices is taken if tasks have rows of this many local instructions.
@@ -56,7 +56,7 @@ const MOST_SLICES: u32 = 8;
 /// its slices.
 pub(crate) const IN_A_BATCH: u32 = 4_096;
 
-/// A row of this many local instructions needs a second worker, and so many more need one more.
+/// Rows of this many local instructions need a second worker, rows of twice as many a third.
 const ROW_FOR_ANOTHER: u32 = 400;
 
 /// How many workers there are, how many are awake with no slice out, how many don't sleep, and how
