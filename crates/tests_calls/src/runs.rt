@@ -2,7 +2,7 @@
 
 use crate::outsides::{Open, Weather};
 use crate::paths::{Path, ending};
-use crate::texts::{BOUND, DOUBLES, LATE, LOOPED, SEVEN, THOUSAND, TIMED, TURNS, accepted};
+use crate::texts::{BOUND, DOUBLES, LATE, LOOPED, ROWS, SEVEN, THOUSAND, TIMED, TURNS, accepted};
 use std::alloc::Global;
 use std::process::Abort;
 use std::sync::Wait;
@@ -18,12 +18,13 @@ static WORKERS: [u32; 4] = [1, 2, 8, 16];
 /// is the same in each run.
 struct Run(&'static str, Weather, &'static [End], Option<u64>);
 
-static RUNS: [Run; 13] = [
+static RUNS: [Run; 14] = [
     Run(SEVEN, Weather::Calm, &[End::Success(7)], Some(2)),
     Run(DOUBLES, Weather::Calm, &[End::Success(42)], Some(20)),
     Run(THOUSAND, Weather::Calm, &[End::Success(5)], Some(8004)),
     Run(BOUND, Weather::Calm, &[End::Success(6)], Some(10)),
     Run(LOOPED, Weather::Calm, &[End::Success(1)], Some(15)),
+    Run(ROWS, Weather::Calm, &[End::Success(1)], Some(30_367)),
     Run(TURNS, Weather::Calm, &[End::Success(0)], Some(500_034)),
     Run(
         TIMED,

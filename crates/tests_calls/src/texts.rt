@@ -114,6 +114,14 @@ pub const GREETED: &str = "\
 /// Sixteen subtasks that a loop forks.
 pub const WIDE: &str = looped!("16");
 
+/// Sixty subtasks of one scope, each with five hundred local instructions in a row.
+pub const ROWS: &str = "\
+    func work 0\npush 100\ntimes 100\nload 0\npush 1\nadd\nstore 0\nnext\nload 0\nret\nend\n\
+    func main 0\nopen s0 awaitall\npush 60\ntimes 60\nfork s0 work _\nnext\njoin s0 - - intr\n\
+    close s0\npush 1\nret\n\
+    intr:\npush 0\nclose s0\nfail\nend\n\
+";
+
 /// A hundred scopes in a row, each with one short subtask (1 to 100), and then two subtasks with
 /// two hundred thousand steps each (101 and 102).
 pub const SHORT_THEN_LONG: &str = "\
