@@ -15,6 +15,7 @@ pub fn root_frame(function: u32) -> Frame
 }
 
 /// The frame at the beginning of a function, with the topmost operands as its arguments.
+#[inline(always)]
 pub fn entry_frame(function: u32, args: u8, forker: &Frame, slot: Slot) -> Frame
     requires few { args ≤ LAST_SLOT + 1 }
     requires enough { args ≤ length forker.now.operands }
@@ -24,6 +25,7 @@ pub fn entry_frame(function: u32, args: u8, forker: &Frame, slot: Slot) -> Frame
 }
 
 /// A frame at place 0, with these locals, and this slot 0.
+#[inline(always)]
 fn at_beginning(function: u32, locals: [i64; 16], slot: Slot) -> Frame
     ensures { result ≡ record (def.entry_frame function [] slot) { locals = locals } }
 {
@@ -41,14 +43,14 @@ fn at_beginning(function: u32, locals: [i64; 16], slot: Slot) -> Frame
 }
 
 /// The arguments, and zeros after them.
+#[inline(always)]
 fn entry_locals(args: usize, forker: &Frame) -> [i64; 16]
     requires few { args ≤ LAST_SLOT + 1 }
     requires enough { args ≤ length forker.now.operands }
     ensures { result ≡ def.entry_locals (reverse (take args forker.now.operands)) }
 {
     let mut locals = [0i64; 16];
-    for i in 0..args {
-        locals[i] = forker.operand(args - 1 - i);
-    }
+    let operands = forker.operands.as_slice();
+    locals[..args].copy_from_slice(&operands[operands.len() - args..]);
     locals
 }

@@ -44,6 +44,7 @@ fn if_none(neighbour: Option<usize>, none: Option<usize>, some: Option<usize>) -
 }
 
 /// Appends a key that is in no list of the layer, and gives the list with it.
+#[inline(always)]
 pub fn push_back<S: Links>(store: &mut S, layer: u8, list: Ends, key: usize) -> Ends
     requires list { (keys : List ℕ) × IsList (S.at store.old layer) list keys × NotIn key keys }
     requires key { S.at store.old layer key ≢ None }
@@ -69,6 +70,7 @@ pub fn push_back<S: Links>(store: &mut S, layer: u8, list: Ends, key: usize) -> 
 /// Takes out a key of the list, and gives the list without it.
 ///
 /// The link of the key itself stays as it was.
+#[inline(always)]
 pub fn unlink<S: Links>(store: &mut S, layer: u8, list: Ends, key: usize) -> Ends
     requires { (front : List ℕ) × (back : List ℕ) ×
         IsList (S.at store.old layer) list (front ++ key ∷ back) }

@@ -45,6 +45,7 @@ fn stands_at_close(store: &Store, slot: Slot) -> Stand
 
 /// Whether the next instruction of a living task is a `join` or a `close` that it may have to wait
 /// at.
+#[inline(always)]
 fn stand_at(store: &Store, program: &Program, t: u32) -> Stand
     requires { lives_in (live_of store.now) t ≡ true }
     ensures { result ≡ live_stand_at program.now (live_of store.now) t }

@@ -1,12 +1,10 @@
 -- It was recorded at which scope a task is.
-use Rattle.std.proofs.Common.{◌≡◌, ℕ, true, Option, Some, None, refl, sym, ◌∙◌, ap, get_or, set}
-use Rattle.std.proofs.Math.ListN.{get_or-map}
-use Rattle.std.proofs.lemmas.List.{map-set, set-get_or}
+use Rattle.std.proofs.Common.{◌≡◌, ℕ, true, Option, Some, None, refl, sym, ◌∙◌, ap, get_or}
+use Rattle.std.proofs.lemmas.List.{map-set}
 use Rattle.std.specs.Prelude.{option_map, is_some, unwrap_or}
 use Rattle.sts_env.specs.declared.env.Env.{Env}
 use Rattle.sts_tree.specs.Forest.{Forest}
 use Rattle.sts_tree.specs.declared.record.ScopeNode.{ScopeNode}
-use Rattle.sts_tree.specs.declared.record.TaskNode.{TaskNode}
 use Rattle.sts_model.specs.declared.event.Stand.{Stand}
 use Rattle.sts_model.specs.declared.event.Stand.TheVariants.{Free, AtJoin, AtClose}
 use Rattle.sts_model.specs.Live.{Live, LiveScope}
@@ -37,14 +35,6 @@ module _ (m : Parts) (is : IsStore m) (t : ℕ) (l : Lived m t) (stand : Stand) 
   stand_rest =
       rest_seen m f (with_task m.tree t (record l.task { stand = stand })) same
       ∙ ap (λ stands. record (unseen_of m) { stands = stands }) (map-set (option_map stand_of) m.tree.tasks t (Some (record l.task { stand = stand })))
-
--- to record the same scope for a task again changes nothing
-pub said_again : (m : Parts) (t : ℕ) (x : TaskNode) (stand : Stand) → get_or m.tree.tasks t None ≡ Some x → x.stand ≡ stand → stood_unseen (unseen_of m) t stand ≡ unseen_of m
-said_again m t x stand there is =
-    let stands = (unseen_of m).stands in
-    let here : get_or stands t None ≡ Some stand = get_or-map (option_map stand_of) m.tree.tasks t None ∙ ap (option_map stand_of) there ∙ ap Some is in
-    ap (λ o. record (unseen_of m) { stands = set stands t o }) (sym here)
-    ∙ ap (λ stands. record (unseen_of m) { stands = stands }) (set-get_or stands t None)
 
 -- a scope that belongs to the task in the view belongs to it in the tree
 pub own_stand : (m : Parts) (t : ℕ) (stand : Stand) → ((s : ℕ) → is_stand_at s stand ≡ true → IsOwned (live_of m) t s) → (s : ℕ) → stands_at s stand ≡ true → (c : ScopeNode Env) × (get_or m.tree.scopes s None ≡ Some c) × (c.owner ≡ t)

@@ -16,7 +16,7 @@ ghost use Rattle.laws_live.specs.Order.{InOrder, IsOwned};
 use crate::store::Store;
 use sts_cancel::cancel;
 use sts_env::Env;
-use sts_frames::leave_entry;
+use sts_frames::{is_empty, leave_entry};
 use sts_model::{Phase, Slot, Stand};
 use sts_tree::Tree;
 
@@ -48,7 +48,7 @@ fn clear(slots: &mut [Slot; 16], tree: &Tree<Env>, s: u32)
     ensures { slots.new ≡ slots_cleared tree.now s slots.old }
 {
     for x in slots.iter_mut() {
-        if is_of(tree, s, *x) {
+        if !is_empty(*x) && is_of(tree, s, *x) {
             *x = Slot::Empty;
         }
     }

@@ -12,24 +12,15 @@ use crate::store::Store;
 use sts_model::Stand;
 
 impl Store {
-    /// Is this recorded for a living task already? Then to record it again changes nothing.
-    fn is_said(&self, t: u32, stand: Stand) -> bool
-        requires { lives_in (live_of self.now) t ≡ true }
-        ensures { result ≡ true → stood_unseen (unseen_of self.now) t stand ≡ unseen_of self.now }
-    {
-        self.tree.task(t).unwrap().stand == stand
-    }
-
     /// Records whether a living task is at a scope of its own, or at none.
+    #[inline(always)]
     pub fn stand(&mut self, t: u32, stand: Stand)
         requires lives { lives_in (live_of self.old) t ≡ true }
         requires owned { (s : ℕ) → is_stand_at s stand ≡ true → IsOwned (live_of self.old) t s }
         ensures live { live_of self.new ≡ live_of self.old }
         ensures unseen { unseen_of self.new ≡ stood_unseen (unseen_of self.old) t stand }
     {
-        if !self.is_said(t, stand) {
-            self.tree.stand(t, stand);
-        }
+        self.tree.stand(t, stand);
     }
 
     /// May the task step, by the scope that is recorded for it?

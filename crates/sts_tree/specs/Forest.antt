@@ -38,6 +38,11 @@ is_of s task = is_in s task.scope
 abbrev pub lives_in : ℕ → TaskNode → Bool
 lives_in s task = is_in s task.scope && task.lives
 
+-- is the task marked as ready?
+abbrev pub is_marked : Option TaskNode → Bool
+is_marked None = false
+is_marked (Some x) = x.ready
+
 -- the lists of a scope, and how many ends its joiner was told of
 pub record Family : Type 0 where
   pub forks : Ends

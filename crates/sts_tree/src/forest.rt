@@ -2,6 +2,7 @@
 
 ghost use Rattle.std.specs.Prelude.{ℕ, List, if◌then◌else◌, ◌≡◌, ◌≢◌, ◌+◌, ◌-◌, ◌<◌, ◌≤◌, ◌++◌};
 ghost use Rattle.std.specs.Prelude.{[], ◌∷◌, length, Option, Some, None, IfOk, true, false};
+ghost use Rattle.std.specs.Prelude.{◌||◌, not};
 ghost use Rattle.std.specs.Prelude.{slice_index_or, slice_set, option_copied};
 ghost use Rattle.sts_records.specs.Holes.{key_at};
 ghost use Rattle.sts_tree.specs.Births.{has, remove_each, without};
@@ -101,7 +102,8 @@ fn remove_all(tasks: &mut Tasks, list: Ends, count: u32)
 
 impl<E: Drop> Forest<E> {
     ghost use Rattle.sts_tree.specs.Forest.{closed, opened, subtask, HasSpare, asks, any_lives};
-    ghost use Rattle.sts_tree.specs.Forest.{lives_in, is_of, root};
+    ghost use Rattle.sts_tree.specs.Forest.{is_marked, lives_in, is_of, root};
+    ghost use Rattle.sts_tree.specs.Steps.{is_over};
     ghost use Rattle.sts_tree.specs.Births.{births};
     ghost use Rattle.sts_links.specs.Lists.{first_or};
     ghost use Rattle.sts_joiners.specs.Tallied.{ends_told, with_end};
@@ -158,6 +160,8 @@ impl<E: Drop> Forest<E> {
         ensures value { option_copied result ≡ slice_index_or self.now.tasks t None }
         ensures home { (x : AnyTask) (s : ℕ) → slice_index_or self.now.tasks t None ≡ Some x →
             x.scope ≡ Some s → slice_index_or self.now.scopes s None ≢ None }
+        ensures marked { has t self.now.ready
+            ≡ is_marked (slice_index_or self.now.tasks t None) }
     {
         match self.tasks.held.get(t as usize) {
             None => None,
@@ -200,15 +204,21 @@ impl<E: Drop> Forest<E> {
         self.tasks.held.at(t as usize).task.flag = flag;
     }
 
-    /// Sets whether a task is at a `join`, at a `close` or at neither.
-    pub fn set_stand(&mut self, t: u32, stand: Stand)
+    /// Sets whether a task is at a `join`, at a `close` or at neither. Answers whether it was there
+    /// before.
+    pub fn set_stand(&mut self, t: u32, stand: Stand) -> bool
         requires { slice_index_or self.old.tasks t None ≢ None }
-        ensures { (x : AnyTask) → slice_index_or self.old.tasks t None ≡ Some x →
+        ensures set { (x : AnyTask) → slice_index_or self.old.tasks t None ≡ Some x →
             self.new ≡ record self.old {
               tasks = slice_set self.old.tasks t (Some (record x { stand = stand }));
             } }
+        ensures was { (x : AnyTask) → slice_index_or self.old.tasks t None ≡ Some x →
+            result ≡ true → x.stand ≡ stand }
     {
-        self.tasks.held.at(t as usize).task.stand = stand;
+        let task = &mut self.tasks.held.at(t as usize).task;
+        let was = task.stand == stand;
+        task.stand = stand;
+        was
     }
 
     /// Appends a task to the ready list.
@@ -339,6 +349,7 @@ impl<E: Drop> Forest<E> {
 
     /// Ends a task: it leaves the living subtasks of its scope, and has this state. The scope's
     /// joiner is not told.
+    #[inline(always)]
     pub fn end_task(&mut self, t: u32, state: Option<End>)
         requires lives { (x : AnyTask)
             × (slice_index_or self.old.tasks t None ≡ Some x) × (x.lives ≡ true) }
@@ -360,6 +371,7 @@ impl<E: Drop> Forest<E> {
     }
 
     /// Tells a scope's joiner of an end. Answers whether it now asks to cancel.
+    #[inline(always)]
     pub fn tell(&mut self, s: u32, end: End) -> bool
         requires stands { slice_index_or self.old.scopes s None ≢ None }
         requires spare { HasSpare self.old s }
@@ -438,6 +450,16 @@ impl<E: Drop> Forest<E> {
         match self.scopes.get(s as usize) {
             None => false,
             Some(row) => row.living.first.is_some(),
+        }
+    }
+
+    /// Has a `join` of the scope an outcome, whatever flag its owner has?
+    pub fn has_outcome(&self, s: u32) -> bool
+        ensures { result ≡ (is_over self.now s || not (any_lives self.now.tasks s)) }
+    {
+        match self.scopes.get(s as usize) {
+            None => true,
+            Some(row) => row.scope.expired || row.scope.cancelled || row.living.first.is_none(),
         }
     }
 

@@ -184,6 +184,7 @@ impl<E: Drop> Tree<E> {
     }
 
     /// Sets whether a task is at a `join`, at a `close` or at neither.
+    #[inline(always)]
     pub fn stand(&mut self, t: u32, stand: Stand)
         requires stands { slice_index_or self.old.tasks t None ≢ None }
         requires owner { (s : ℕ) → stands_at s stand ≡ true →
@@ -191,8 +192,9 @@ impl<E: Drop> Tree<E> {
         ensures { (x : AnyTask) → slice_index_or self.old.tasks t None ≡ Some x →
             seen self.new ≡ seen (with_task self.old t (record x { stand = stand })) }
     {
-        self.forest.set_stand(t, stand);
-        settle(&mut self.forest, t);
+        if !self.forest.set_stand(t, stand) {
+            settle(&mut self.forest, t);
+        }
     }
 
     /// Marks a scope as cancelled, and wakes its owner.

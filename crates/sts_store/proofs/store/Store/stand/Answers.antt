@@ -20,14 +20,14 @@ invariant_of-self c =
     let l = living (the_view c.self.inside) c.args.self.now c.self.invariant c.self.view_is c.args.t c.requires.lives in
     stand_kept (the_view c.self.inside) c.self.invariant c.args.t l c.args.stand c.stand.new.self (c.stand.ensures l.task l.stands)
 
-pub returns-then-not-is_said-clause-live : goal.returns-then-not-is_said-clause-live
-returns-then-not-is_said-clause-live c =
+pub returns-clause-live : goal.returns-clause-live
+returns-clause-live c =
     let l = living (the_view c.self.inside) c.args.self.now c.self.invariant c.self.view_is c.args.t c.requires.lives in
     stand_seen (the_view c.self.inside) c.self.invariant c.args.t l c.args.stand c.stand.new.self (c.stand.ensures l.task l.stands)
     ∙ ap live_of c.self.view_is
 
-pub returns-then-not-is_said-clause-unseen : goal.returns-then-not-is_said-clause-unseen
-returns-then-not-is_said-clause-unseen c =
+pub returns-clause-unseen : goal.returns-clause-unseen
+returns-clause-unseen c =
     let l = living (the_view c.self.inside) c.args.self.now c.self.invariant c.self.view_is c.args.t c.requires.lives in
     stand_rest (the_view c.self.inside) c.self.invariant c.args.t l c.args.stand c.stand.new.self (c.stand.ensures l.task l.stands)
     ∙ ap (λ n. stood_unseen (unseen_of n) c.args.t c.args.stand) c.self.view_is
