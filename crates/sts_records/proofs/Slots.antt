@@ -2,7 +2,7 @@
 use Rattle.std.proofs.Common.{◌≡◌, ◌≢◌, ℕ, zero, suc, ◌+◌, ◌<◌, ◌≤◌, List, [], ◌∷◌, ◌++◌, length}
 use Rattle.std.proofs.Common.{Option, Some, None, refl, sym, ◌∙◌, ap, arith, get_or, set, nat_eq}
 use Rattle.std.proofs.Common.{Bool, true, false, nat_lt, length-set, get_or-set_same}
-use Rattle.std.proofs.Common.{get_or-set_other, ◌%◌, subst, if◌then◌else◌}
+use Rattle.std.proofs.Common.{get_or-set_other}
 use Rattle.std.proofs.Common.{cond, count_by, is_some}
 use Rattle.std.proofs.lemmas.Bool.Decides.{nat_tests}
 use Rattle.std.proofs.lemmas.List.Sums.{sum_by-set}
@@ -10,9 +10,7 @@ use Rattle.std.proofs.lemmas.List.{ext_get_or, get_or_past}
 use Rattle.std.specs.Borrow.{Bor, MutBor}
 use Rattle.std.specs.Option.{option_copied, option_copied_mut, IsSome}
 use Rattle.sts_records.specs.Holes.{Holes, key_at}
-use Rattle.sts_records.specs.Chains.{AreChained, AreDistinct, Finds, birth_of, births, chains, links, older_of, record_of}
-use Rattle.sts_records.proofs.Chains.{Loses, not_itself, removed_behind, removed_first, same_at, same_links}
-use Rattle.sts_records.specs.Slots.{AreGiven, body_of, slots}
+use Rattle.sts_records.specs.Slots.{AreEarlier, body_of, slots}
 use Rattle.sts_records.specs.declared.held.Entry.{Entry}
 
 module _ {T : Type 0} where
@@ -78,23 +76,36 @@ module _ {T : Type 0} where
           let s : i ≢ birth = grind (arith, nat_tests) in
           rw (get_or-set_other (slots 0 keys old) birth i o None s) (slot_is keys new i inside ∙ others i s ∙ sym (slot_is keys old i inside))
 
-  body_other : (i b o : ℕ) (x : T) → i ≢ b → body_of i (Some (record { birth = b; older = o; body = x })) ≡ None
-  body_other i b o x ne = let q : nat_eq b i ≡ false = grind (arith, nat_tests) in rw q refl
+  body_other : (i b : ℕ) (x : T) → i ≢ b → body_of i (Some (record { birth = b; body = x })) ≡ None
+  body_other i b x ne = let q : nat_eq b i ≡ false = grind (arith, nat_tests) in rw q refl
 
-  body_own : (b o : ℕ) (x : T) → body_of b (Some (record { birth = b; older = o; body = x })) ≡ Some x
-  body_own b o x = let q : nat_eq b b ≡ true = grind (arith, nat_tests) in rw q refl
+  body_own : (b : ℕ) (x : T) → body_of b (Some (record { birth = b; body = x })) ≡ Some x
+  body_own b x = let q : nat_eq b b ≡ true = grind (arith, nat_tests) in rw q refl
 
   -- the entry of one birth is replaced by another of that birth
-  pub rewritten : (keys : List ℕ) (old new : List (Option (Entry T))) (birth o : ℕ) (e : Entry T) (x : T) → birth < length keys → get_or old (get_or keys birth 0) None ≡ Some e → e.birth ≡ birth → get_or new (get_or keys birth 0) None ≡ Some (record { birth = birth; older = o; body = x }) → ((j : ℕ) → j ≢ get_or keys birth 0 → get_or new j None ≡ get_or old j None) → slots 0 keys new ≡ set (slots 0 keys old) birth (Some x)
-  rewritten keys old new birth o e x less was own is others =
-      written keys old new birth (Some x) less (rw is (body_own birth o x))
+  pub rewritten : (keys : List ℕ) (old new : List (Option (Entry T))) (birth : ℕ) (e : Entry T) (x : T) → birth < length keys → get_or old (get_or keys birth 0) None ≡ Some e → e.birth ≡ birth → get_or new (get_or keys birth 0) None ≡ Some (record { birth = birth; body = x }) → ((j : ℕ) → j ≢ get_or keys birth 0 → get_or new j None ≡ get_or old j None) → slots 0 keys new ≡ set (slots 0 keys old) birth (Some x)
+  rewritten keys old new birth e x less was own is others =
+      written keys old new birth (Some x) less (rw is (body_own birth x))
       (λ i ne. by i ne (nat_eq (get_or keys i 0) (get_or keys birth 0)) refl)
     where
       by : (i : ℕ) → i ≢ birth → (t : Bool) → nat_eq (get_or keys i 0) (get_or keys birth 0) ≡ t → body_of i (get_or new (get_or keys i 0) None) ≡ body_of i (get_or old (get_or keys i 0) None)
       by i ne true q =
           let s : get_or keys i 0 ≡ get_or keys birth 0 = grind (arith, nat_tests) in
           let r : nat_eq e.birth i ≡ false = grind (arith, nat_tests) in
-          rw (s, is, was, body_other i birth o x ne) (rw r refl)
+          rw (s, is, was, body_other i birth x ne) (rw r refl)
+      by i ne false q = let s : get_or keys i 0 ≢ get_or keys birth 0 = grind (arith, nat_tests) in rw (others (get_or keys i 0) s) refl
+
+  -- the entry of one birth is taken out
+  pub emptied : (keys : List ℕ) (old new : List (Option (Entry T))) (birth : ℕ) (e : Entry T) → birth < length keys → get_or old (get_or keys birth 0) None ≡ Some e → e.birth ≡ birth → get_or new (get_or keys birth 0) None ≡ None → ((j : ℕ) → j ≢ get_or keys birth 0 → get_or new j None ≡ get_or old j None) → slots 0 keys new ≡ set (slots 0 keys old) birth None
+  emptied keys old new birth e less was own is others =
+      written keys old new birth None less (rw is refl)
+      (λ i ne. by i ne (nat_eq (get_or keys i 0) (get_or keys birth 0)) refl)
+    where
+      by : (i : ℕ) → i ≢ birth → (t : Bool) → nat_eq (get_or keys i 0) (get_or keys birth 0) ≡ t → body_of i (get_or new (get_or keys i 0) None) ≡ body_of i (get_or old (get_or keys i 0) None)
+      by i ne true q =
+          let s : get_or keys i 0 ≡ get_or keys birth 0 = grind (arith, nat_tests) in
+          let r : nat_eq e.birth i ≡ false = grind (arith, nat_tests) in
+          rw (s, is, was) (rw r refl)
       by i ne false q = let s : get_or keys i 0 ≢ get_or keys birth 0 = grind (arith, nat_tests) in rw (others (get_or keys i 0) s) refl
 
   -- what a look-up finds
@@ -116,14 +127,14 @@ module _ {T : Type 0} where
   inside_of (x ∷ xs) (suc k) e h = let i = inside_of xs k e h in omega (arith, i)
 
   -- a vacant key gets the entry of the next birth
-  same_entries : (b n : ℕ) (keys : List ℕ) (old new : List (Option (Entry T))) (k o : ℕ) (x : T) → b + length keys ≤ n → get_or old k None ≡ None → get_or new k None ≡ Some (record { birth = n; older = o; body = x }) → ((j : ℕ) → j ≢ k → get_or new j None ≡ get_or old j None) → slots b keys new ≡ slots b keys old
-  same_entries b n [] old new k o x le was is others = refl
-  same_entries b n (j ∷ keys) old new k o x le was is others = by (nat_eq j k) refl (same_entries (suc b) n keys old new k o x (omega arith) was is others)
+  same_entries : (b n : ℕ) (keys : List ℕ) (old new : List (Option (Entry T))) (k : ℕ) (x : T) → b + length keys ≤ n → get_or old k None ≡ None → get_or new k None ≡ Some (record { birth = n; body = x }) → ((j : ℕ) → j ≢ k → get_or new j None ≡ get_or old j None) → slots b keys new ≡ slots b keys old
+  same_entries b n [] old new k x le was is others = refl
+  same_entries b n (j ∷ keys) old new k x le was is others = by (nat_eq j k) refl (same_entries (suc b) n keys old new k x (omega arith) was is others)
     where
       by : (t : Bool) → nat_eq j k ≡ t → slots (suc b) keys new ≡ slots (suc b) keys old → slots b (j ∷ keys) new ≡ slots b (j ∷ keys) old
       by true q rest =
           let s : j ≡ k = grind (arith, nat_tests) in
-          rw (s, is, was, body_other b n o x (omega arith), rest) refl
+          rw (s, is, was, body_other b n x (omega arith), rest) refl
       by false q rest = let s : j ≢ k = grind (arith, nat_tests) in rw (others j s, rest) refl
 
   more_keys : (b : ℕ) (keys : List ℕ) (entries : List (Option (Entry T))) (k : ℕ) → slots b (keys ++ k ∷ []) entries ≡ slots b keys entries ++ body_of (b + length keys) (get_or entries k None) ∷ []
@@ -132,16 +143,16 @@ module _ {T : Type 0} where
       let e : b + suc (length keys) ≡ suc b + length keys = omega arith in
       rw e (ap (λ l. body_of b (get_or entries j None) ∷ l) (more_keys (suc b) keys entries k))
 
-  pub born : (keys : List ℕ) (old new : List (Option (Entry T))) (k o : ℕ) (x : T) → get_or old k None ≡ None → get_or new k None ≡ Some (record { birth = length keys; older = o; body = x }) → ((j : ℕ) → j ≢ k → get_or new j None ≡ get_or old j None) → slots 0 (keys ++ k ∷ []) new ≡ slots 0 keys old ++ Some x ∷ []
-  born keys old new k o x was is others =
+  pub born : (keys : List ℕ) (old new : List (Option (Entry T))) (k : ℕ) (x : T) → get_or old k None ≡ None → get_or new k None ≡ Some (record { birth = length keys; body = x }) → ((j : ℕ) → j ≢ k → get_or new j None ≡ get_or old j None) → slots 0 (keys ++ k ∷ []) new ≡ slots 0 keys old ++ Some x ∷ []
+  born keys old new k x was is others =
       let e : 0 + length keys ≡ length keys = omega arith in
-      rw (more_keys 0 keys new k, e, same_entries 0 (length keys) keys old new k o x (omega arith) was is others, is, body_own (length keys) o x) refl
+      rw (more_keys 0 keys new k, e, same_entries 0 (length keys) keys old new k x (omega arith) was is others, is, body_own (length keys) x) refl
 
   -- a birth without a record: no entry is of this birth
-  pub skipped : (keys : List ℕ) (entries : List (Option (Entry T))) (k : ℕ) → AreGiven keys (births entries) → slots 0 (keys ++ k ∷ []) entries ≡ slots 0 keys entries ++ None ∷ []
-  skipped keys entries k given =
+  pub skipped : (keys : List ℕ) (entries : List (Option (Entry T))) (k : ℕ) → AreEarlier (length keys) entries → slots 0 (keys ++ k ∷ []) entries ≡ slots 0 keys entries ++ None ∷ []
+  skipped keys entries k early =
       let e : 0 + length keys ≡ length keys = omega arith in
-      rw (more_keys 0 keys entries k, e, no_body (get_or entries k None) (λ x is. (given k x.birth (ap birth_of is)).0)) refl
+      rw (more_keys 0 keys entries k, e, no_body (get_or entries k None) (λ x is. early k x is)) refl
     where
       no_body : (o : Option (Entry T)) → ((x : Entry T) → o ≡ Some x → x.birth < length keys) → body_of (length keys) o ≡ None
       no_body None h = refl
@@ -150,157 +161,39 @@ module _ {T : Type 0} where
           let q : nat_eq x.birth (length keys) ≡ false = grind (arith, nat_tests) in
           rw q refl
 
-  -- ---- keys of births
+  -- ---- entries of earlier births
 
-  pub entry_at : (entries : List (Option (Entry T))) (key birth : ℕ) → births entries key ≡ Some birth → (e : Entry T) × (get_or entries key None ≡ Some e) × (e.birth ≡ birth)
-  entry_at entries key birth h = by (get_or entries key None) refl h
+  pub none_early : AreEarlier {T = T} 0 []
+  none_early k e is = cc
+
+  pub early_more : (n : ℕ) (entries : List (Option (Entry T))) → AreEarlier n entries → AreEarlier (n + 1) entries
+  early_more n entries h k e is = let less = h k e is in omega (arith, less)
+
+  -- one key gets an entry, the others keep theirs
+  pub early_set : (n m key : ℕ) (old new : List (Option (Entry T))) (x : Entry T) → AreEarlier n old → n ≤ m → x.birth < m → get_or new key None ≡ Some x → ((j : ℕ) → j ≢ key → get_or new j None ≡ get_or old j None) → AreEarlier m new
+  early_set n m key old new x h le less here others k e is = by (nat_eq k key) refl
     where
-      by : (o : Option (Entry T)) → get_or entries key None ≡ o → birth_of o ≡ Some birth → (e : Entry T) × (get_or entries key None ≡ Some e) × (e.birth ≡ birth)
-      by None q is = cc
-      by (Some e) q is = (e, q, let same : e.birth ≡ birth = cc in same)
-
-  -- what a search finds
-  pub found : (keys : List ℕ) (entries : List (Option (Entry T))) (birth key : ℕ) (e : Entry T) → AreGiven keys (births entries) → births entries key ≡ Some birth → get_or entries key None ≡ Some e → get_or (slots 0 keys entries) birth None ≡ Some e.body
-  found keys entries birth key e given at is =
-      let g = given key birth at in
-      let own : e.birth ≡ birth = (let s : Some e.birth ≡ Some birth = sym (ap birth_of is) ∙ at in cc) in
-      sym (some_at keys entries birth key e g.0 (sym g.1) (sym is) own)
-
-  pub some_entry : (entries : List (Option (Entry T))) (key : ℕ) → IsSome (births entries key) → (e : Entry T) × (get_or entries key None ≡ Some e)
-  some_entry entries key h = by (get_or entries key None) refl h
-    where
-      by : (o : Option (Entry T)) → get_or entries key None ≡ o → IsSome (birth_of o) → (e : Entry T) × (get_or entries key None ≡ Some e)
-      by None q is = cc
-      by (Some e) q is = (e, q)
-
-  pub birth_is : (keys : List ℕ) (entries : List (Option (Entry T))) (birth : ℕ) → (s : Stands keys entries birth) → births entries (get_or keys birth 0) ≡ Some birth
-  birth_is keys entries birth s = ap birth_of s.is ∙ ap (λ (n : ℕ). Some n) s.own
-
-  -- a search finds a record that is there
-  pub is_found : (keys : List ℕ) (entries : List (Option (Entry T))) (birth : ℕ) (o : Option ℕ) → Stands keys entries birth → Finds (births entries) birth o → IsSome o
-  is_found keys entries birth None s h = absurd (h (get_or keys birth 0) birth (birth_is keys entries birth s) refl)
-  is_found keys entries birth (Some key) s h = refl
-
-  pub key_is_given : (keys : List ℕ) (entries : List (Option (Entry T))) (birth key : ℕ) (o : Option ℕ) → AreGiven keys (births entries) → o ≡ Some key → Finds (births entries) birth o → (births entries key ≡ Some birth) × (key ≡ get_or keys birth 0)
-  key_is_given keys entries birth key o given e h =
-      let f = rw e at h in
-      (f, sym (given key birth f).1)
-
-  pub not_found : (keys : List ℕ) (entries : List (Option (Entry T))) (birth : ℕ) → Finds (births entries) birth None → get_or (slots 0 keys entries) birth None ≡ None
-  not_found keys entries birth h = by (nat_lt birth (length keys)) refl
-    where
-      hole : (o : Option (Entry T)) → get_or entries (get_or keys birth 0) None ≡ o → body_of birth o ≡ None
-      hole None q = refl
-      hole (Some e) q =
-          let other : e.birth ≢ birth = h (get_or keys birth 0) e.birth (ap birth_of q) in
-          let r : nat_eq e.birth birth ≡ false = grind (arith, nat_tests) in
-          rw r refl
-
-      by : (t : Bool) → nat_lt birth (length keys) ≡ t → get_or (slots 0 keys entries) birth None ≡ None
-      by true q = slot_is keys entries birth (grind (arith, nat_tests)) ∙ hole (get_or entries (get_or keys birth 0) None) refl
-      by false q = slot_past keys entries birth (grind (arith, nat_tests))
-
-  -- an entry that is written over keeps its birth, and its link if that is the same
-  pub rewritten_births : (entries : List (Option (Entry T))) (k o : ℕ) (e : Entry T) (x : T) → get_or entries k None ≡ Some e → k < length entries → (j : ℕ) → births (set entries k (Some (record { birth = e.birth; older = o; body = x }))) j ≡ births entries j
-  rewritten_births entries k o e x is inside j = by (nat_eq j k) refl
-    where
-      by : (t : Bool) → nat_eq j k ≡ t → births (set entries k (Some (record { birth = e.birth; older = o; body = x }))) j ≡ births entries j
+      by : (t : Bool) → nat_eq k key ≡ t → e.birth < m
       by true q =
-          let s : j ≡ k = grind (arith, nat_tests) in
-          rw (s, get_or-set_same entries k (Some (record { birth = e.birth; older = o; body = x })) None inside, is) refl
-      by false q = let s : j ≢ k = grind (arith, nat_tests) in ap birth_of (get_or-set_other entries k j _ None s)
+          let s : k ≡ key = grind (arith, nat_tests) in
+          let f : Some e ≡ Some x = sym is ∙ (rw s here) in
+          let same : e ≡ x = cc in
+          rw same less
+      by false q =
+          let s : k ≢ key = grind (arith, nat_tests) in
+          let few = h k e (sym (others k s) ∙ is) in
+          omega (arith, few, le)
 
-  rewritten_links : (entries : List (Option (Entry T))) (k : ℕ) (e : Entry T) (x : T) → get_or entries k None ≡ Some e → k < length entries → (j : ℕ) → links (set entries k (Some (record { birth = e.birth; older = e.older; body = x }))) j ≡ links entries j
-  rewritten_links entries k e x is inside j = by (nat_eq j k) refl
+  -- one key loses its entry
+  pub early_less : (n key : ℕ) (old new : List (Option (Entry T))) → AreEarlier n old → get_or new key None ≡ None → ((j : ℕ) → j ≢ key → get_or new j None ≡ get_or old j None) → AreEarlier n new
+  early_less n key old new h gone others k e is = by (nat_eq k key) refl
     where
-      by : (t : Bool) → nat_eq j k ≡ t → links (set entries k (Some (record { birth = e.birth; older = e.older; body = x }))) j ≡ links entries j
+      by : (t : Bool) → nat_eq k key ≡ t → e.birth < n
       by true q =
-          let s : j ≡ k = grind (arith, nat_tests) in
-          rw (s, get_or-set_same entries k (Some (record { birth = e.birth; older = e.older; body = x })) None inside, is) refl
-      by false q = let s : j ≢ k = grind (arith, nat_tests) in ap older_of (get_or-set_other entries k j _ None s)
-
-  pub lent_given : (keys : List ℕ) (entries : List (Option (Entry T))) (k : ℕ) (e : Entry T) (x : T) → get_or entries k None ≡ Some e → k < length entries → AreGiven keys (births entries) → AreGiven keys (births (set entries k (Some (record { birth = e.birth; older = e.older; body = x }))))
-  lent_given keys entries k e x is inside g =
-      subst (λ (at : ℕ → Option ℕ). AreGiven keys at) (sym (same_at _ _ (rewritten_births entries k e.older e x is inside))) g
-
-  pub lent_chained : (newest : List ℕ) (entries : List (Option (Entry T))) (k : ℕ) (e : Entry T) (x : T) → get_or entries k None ≡ Some e → k < length entries → AreChained newest (births entries) (links entries) → AreChained newest (births (set entries k (Some (record { birth = e.birth; older = e.older; body = x })))) (links (set entries k (Some (record { birth = e.birth; older = e.older; body = x }))))
-  lent_chained newest entries k e x is inside c =
-      subst (λ (at : ℕ → Option ℕ). AreChained newest at (links (set entries k (Some (record { birth = e.birth; older = e.older; body = x }))))) (sym (same_at _ _ (rewritten_births entries k e.older e x is inside)))
-      (subst (λ (link : ℕ → ℕ). AreChained newest (births entries) link) (sym (same_links _ _ (rewritten_links entries k e x is inside))) c)
-
-  -- ---- a record leaves its chain
-
-  taken : (old new : List (Option (Entry T))) (k : ℕ) → k < length new → ((j : ℕ) → births new j ≡ births old j) → Loses (births old) (births (set new k None)) k
-  taken old new k inside same = record {
-    gone = ap birth_of (get_or-set_same new k None None inside);
-    others = λ j ne. ap birth_of (get_or-set_other new k j None None ne) ∙ same j;
-  }
-
-  pub first_left : (newest : List ℕ) (entries : List (Option (Entry T))) (key birth : ℕ) → AreChained newest (births entries) (links entries) → AreDistinct (births entries) → births entries key ≡ Some birth → birth % chains < chains → get_or newest (birth % chains) 0 ≡ key → AreChained (set newest (birth % chains) (links entries key)) (births (set entries key None)) (links (set entries key None))
-  first_left newest entries key birth c distinct is within here =
-      let e = entry_at entries key birth is in
-      let inside = inside_of entries key e.0 e.1 in
-      removed_first newest (births entries) (births (set entries key None)) (links entries) key birth c distinct is (taken entries entries key inside (λ j. refl)) _ (links (set entries key None)) within here refl (λ k ne. ap older_of (get_or-set_other entries key k None None ne))
-
-  pub passed_by : (newest : List ℕ) (entries : List (Option (Entry T))) (key birth p o : ℕ) (e : Entry T) → AreChained newest (births entries) (links entries) → AreDistinct (births entries) → births entries key ≡ Some birth → get_or entries p None ≡ Some e → e.older ≡ key → o ≡ links entries key → AreChained newest (births (set (set entries p (Some (record { birth = e.birth; older = o; body = e.body }))) key None)) (links (set (set entries p (Some (record { birth = e.birth; older = o; body = e.body }))) key None))
-  passed_by newest entries key birth p o e c distinct is at to next =
-      let f = entry_at entries key birth is in
-      let here = inside_of entries key f.0 f.1 in
-      let there = inside_of entries p e at in
-      let mid : List (Option (Entry T)) = set entries p (Some (record { birth = e.birth; older = o; body = e.body })) in
-      let long = length-set entries p (Some (record { birth = e.birth; older = o; body = e.body })) in
-      let inside : key < length mid = omega (arith, here, long) in
-      let apart : p ≢ key = not_itself newest (births entries) (links entries) c p key e.birth birth (ap birth_of at) is (ap older_of at ∙ to) in
-      removed_behind newest (births entries) (births (set mid key None)) (links entries) key birth c distinct is (taken entries mid key inside (rewritten_births entries p o e e.body at there)) (links (set mid key None)) p e.birth (ap birth_of at) (ap older_of at ∙ to)
-      (ap older_of (get_or-set_other mid key p None None apart ∙ get_or-set_same entries p (Some (record { birth = e.birth; older = o; body = e.body })) None there) ∙ next)
-      (λ k ne other. ap older_of (get_or-set_other mid key k None None ne ∙ get_or-set_other entries p k _ None other))
-
-  -- ---- entries with the same records
-
-  birth_in : Option (ℕ × T) → Option ℕ
-  birth_in None = None
-  birth_in (Some r) = Some r.0
-
-  body_in : ℕ → Option (ℕ × T) → Option T
-  body_in b None = None
-  body_in b (Some r) = if nat_eq r.0 b then Some r.1 else None
-
-  body_or : T → Option (ℕ × T) → T
-  body_or x None = x
-  body_or x (Some r) = r.1
-
-  pub same_birth : (a b : Option (Entry T)) → record_of a ≡ record_of b → birth_of a ≡ birth_of b
-  unfolding birth_in
-  same_birth a b h = via a ∙ (ap birth_in h ∙ sym (via b))
-    where
-      via : (o : Option (Entry T)) → birth_of o ≡ birth_in (record_of o)
-      via None = refl
-      via (Some e) = refl
-
-  same_body_of : (i : ℕ) (a b : Option (Entry T)) → record_of a ≡ record_of b → body_of i a ≡ body_of i b
-  unfolding body_in
-  same_body_of i a b h = via a ∙ (ap (body_in i) h ∙ sym (via b))
-    where
-      via : (o : Option (Entry T)) → body_of i o ≡ body_in i (record_of o)
-      via None = refl
-      via (Some e) = refl
-
-  pub same_body : (a b : Entry T) → record_of (Some a) ≡ record_of (Some b) → a.body ≡ b.body
-  unfolding body_or
-  same_body a b h = ap (body_or a.body) h
-
-  -- the entry of one birth is taken out
-  pub emptied : (keys : List ℕ) (old new : List (Option (Entry T))) (birth : ℕ) (e : Entry T) → birth < length keys → get_or old (get_or keys birth 0) None ≡ Some e → e.birth ≡ birth → get_or new (get_or keys birth 0) None ≡ None → ((j : ℕ) → j ≢ get_or keys birth 0 → record_of (get_or new j None) ≡ record_of (get_or old j None)) → slots 0 keys new ≡ set (slots 0 keys old) birth None
-  emptied keys old new birth e less was own is others =
-      written keys old new birth None less (rw is refl)
-      (λ i ne. by i ne (nat_eq (get_or keys i 0) (get_or keys birth 0)) refl)
-    where
-      by : (i : ℕ) → i ≢ birth → (t : Bool) → nat_eq (get_or keys i 0) (get_or keys birth 0) ≡ t → body_of i (get_or new (get_or keys i 0) None) ≡ body_of i (get_or old (get_or keys i 0) None)
-      by i ne true q =
-          let s : get_or keys i 0 ≡ get_or keys birth 0 = grind (arith, nat_tests) in
-          let r : nat_eq e.birth i ≡ false = grind (arith, nat_tests) in
-          rw (s, is, was) (rw r refl)
-      by i ne false q = let s : get_or keys i 0 ≢ get_or keys birth 0 = grind (arith, nat_tests) in same_body_of i _ _ (others (get_or keys i 0) s)
+          let s : k ≡ key = grind (arith, nat_tests) in
+          let no : None ≡ Some e = sym gone ∙ (rw s at is) in
+          cc
+      by false q = h k e (sym (others k (grind (arith, nat_tests))) ∙ is)
 
   -- if a birth has a record, its key leads to an entry with that birth
   pub key_is : (keys : List ℕ) (entries : List (Option (Entry T))) (birth key : ℕ) → key_at (slots 0 keys entries) keys birth ≡ Some key → (e : Entry T) × (get_or entries key None ≡ Some e) × (e.birth ≡ birth) × (birth < length keys)
@@ -325,13 +218,13 @@ module _ {T : Type 0} where
   is_born keys entries birth x h = (stands keys entries birth (λ n. let no : Some x ≡ None = h ∙ n in cc)).less
 
   -- the body of a record is replaced
-  pub lent : (keys : List ℕ) (entries : List (Option (Entry T))) (birth : ℕ) (w : T) (room : ℕ) (s : Stands keys entries birth) → ◌≡◌ {A = Holes T} (record { slots = slots 0 keys (set entries (get_or keys birth 0) (Some (record { birth = s.entry.birth; older = s.entry.older; body = w }))); keys = keys; room = room }) (record { slots = set (slots 0 keys entries) birth (Some w); keys = keys; room = room })
+  pub lent : (keys : List ℕ) (entries : List (Option (Entry T))) (birth : ℕ) (w : T) (room : ℕ) (s : Stands keys entries birth) → ◌≡◌ {A = Holes T} (record { slots = slots 0 keys (set entries (get_or keys birth 0) (Some (record { birth = s.entry.birth; body = w }))); keys = keys; room = room }) (record { slots = set (slots 0 keys entries) birth (Some w); keys = keys; room = room })
   lent keys entries birth w room s =
       let k : ℕ = get_or keys birth 0 in
       let less : k < length entries = inside_of entries k s.entry s.is in
-      let here = get_or-set_same entries k (Some (record { birth = s.entry.birth; older = s.entry.older; body = w })) None less in
+      let here = get_or-set_same entries k (Some (record { birth = s.entry.birth; body = w })) None less in
       ap (λ (l : List (Option T)). record { slots = l; keys = keys; room = room })
-      (rewritten keys entries _ birth s.entry.older s.entry w s.less s.is s.own (here ∙ (rw s.own refl)) (λ j ne. get_or-set_other entries k j _ None ne))
+      (rewritten keys entries _ birth s.entry w s.less s.is s.own (here ∙ (rw s.own refl)) (λ j ne. get_or-set_other entries k j _ None ne))
 
 -- as many entries, if one is written over
 pub as_many : {X : Type 0} → (xs : List (Option X)) (k : ℕ) (x y : X) → get_or xs k None ≡ Some x → k < length xs → count_by is_some (set xs k (Some y)) ≡ count_by is_some xs

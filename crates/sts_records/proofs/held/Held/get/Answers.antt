@@ -1,18 +1,21 @@
-use Rattle.std.proofs.Common.{◌∙◌, sym}
-use Rattle.sts_records.proofs.Slots.{entry_at, found, got_is, is_some_got, not_found}
+use Rattle.sts_records.proofs.Slots.{none_past, none_at, none_other, some_at}
 use Rattle.sts_records.proofs.held.Held.get.Goals as goal
 
 pub returns-in-None : goal.returns-in-None
 returns-in-None g c =
-    rw (← c.self.view_is) (sym (not_found c.self.inside.given.keys c.self.inside.entries.slots c.args.birth c.in-None.ensures))
+    rw (← c.self.view_is) (none_past c.self.inside.keys.items c.self.inside.entries.slots c.args.birth (rw c.deref.ensures.value at c.in-None.ensures.lookup.0))
 
-pub unwrap-requires : goal.unwrap-requires
-unwrap-requires g c =
-    let e = entry_at c.self.inside.entries.slots c.in-Some.key c.args.birth c.in-Some.ensures in
-    is_some_got c.get.result e.0 (c.get.ensures ∙ e.1)
+pub returns-in-None-get : goal.returns-in-None-get
+returns-in-None-get g c =
+    let f = c.in-None-get.ensures in
+    rw (← c.self.view_is) (none_at c.self.inside.keys.items c.self.inside.entries.slots c.args.birth c.in-Some.key.now (rw c.deref.ensures.value at c.in-Some.ensures.lookup.3.0) (rw c.deref.ensures.value at (c.in-Some.ensures.lookup.3.1 0)) f)
 
-pub returns-in-Some : goal.returns-in-Some
-returns-in-Some g c =
-    let e = entry_at c.self.inside.entries.slots c.in-Some.key c.args.birth c.in-Some.ensures in
-    let got = got_is c.get.result c.unwrap.result e.0 c.unwrap.ensures (c.get.ensures ∙ e.1) in
-    rw (← c.self.view_is, got) (sym (found c.self.inside.given.keys c.self.inside.entries.slots c.args.birth c.in-Some.key e.0 c.self.invariant.5 c.in-Some.ensures e.1))
+pub returns-then-entry-birth : goal.returns-then-entry-birth
+returns-then-entry-birth g c =
+    let f = c.in-Some-get.ensures in
+    rw (← c.self.view_is) (some_at c.self.inside.keys.items c.self.inside.entries.slots c.args.birth c.in-Some.key.now c.in-Some-get.entry.now (rw c.deref.ensures.value at c.in-Some.ensures.lookup.3.0) (rw c.deref.ensures.value at (c.in-Some.ensures.lookup.3.1 0)) f c.if-entry-birth.true)
+
+pub returns-else-entry-birth : goal.returns-else-entry-birth
+returns-else-entry-birth g c =
+    let f = c.in-Some-get.ensures in
+    rw (← c.self.view_is) (none_other c.self.inside.keys.items c.self.inside.entries.slots c.args.birth c.in-Some.key.now c.in-Some-get.entry.now (rw c.deref.ensures.value at c.in-Some.ensures.lookup.3.0) (rw c.deref.ensures.value at (c.in-Some.ensures.lookup.3.1 0)) f c.if-entry-birth.false)

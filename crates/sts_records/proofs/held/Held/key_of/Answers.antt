@@ -1,19 +1,17 @@
-use Rattle.std.proofs.Common.{◌∙◌, sym}
-use Rattle.sts_records.proofs.Slots.{entry_at, found, key_none, key_some, not_found}
+use Rattle.std.proofs.Common.{arith, ◌∙◌}
+use Rattle.std.proofs.lemmas.List.{get_or_default}
+use Rattle.sts_records.proofs.Slots.{is_born, key_some}
 use Rattle.sts_records.proofs.held.Held.key_of.Goals as goal
 
-pub returns-in_err-key : goal.returns-in_err-key
-returns-in_err-key g c =
-    let keys = c.self.inside.given.keys in
-    let entries = c.self.inside.entries.slots in
-    let n = not_found keys entries c.args.birth c.in_err-key.ensures in
-    rw (← c.self.view_is) (c.from_residual.ensures ∙ key_none keys entries c.args.birth (sym n))
+pub index-requires : goal.index-requires
+index-requires g c =
+    let less = is_born c.self.inside.keys.items c.self.inside.entries.slots c.args.birth c.in-Some.field-0.now (rw (← c.self.view_is) at c.in-Some.ensures) in
+    let ok = c.self.inside.keys.ok.0 in
+    omega arith
 
-pub returns : goal.returns
-returns g c =
-    let keys = c.self.inside.given.keys in
-    let entries = c.self.inside.entries.slots in
-    let is = c.in_ok-key.ensures in
-    let given = c.self.invariant.5 in
-    let e = entry_at entries c.in_ok-key.key c.args.birth is in
-    rw (← c.self.view_is) (key_some keys entries c.args.birth c.in_ok-key.key e.0.body (sym (found keys entries c.args.birth c.in_ok-key.key e.0 given is e.1)) (sym (given c.in_ok-key.key c.args.birth is).1))
+pub returns-in-Some : goal.returns-in-Some
+returns-in-Some g c =
+    let is = rw (← c.self.view_is) at c.in-Some.ensures in
+    let less = is_born c.self.inside.keys.items c.self.inside.entries.slots c.args.birth c.in-Some.field-0.now is in
+    let key = get_or_default c.self.inside.keys.items c.args.birth c.index.result.now 0 less in
+    rw (← c.self.view_is) (key_some c.self.inside.keys.items c.self.inside.entries.slots c.args.birth c.index.result.now c.in-Some.field-0.now is (c.index.ensures ∙ key))
