@@ -3,9 +3,8 @@
 
 The rule that it searches is that of `crates/sts_pool/src/waits.rt`. The root forks three subtasks and waits for them; each
 subtask has two units of work. A move is what one worker does under one hold of the lock. Every choice is tried: how many
-turns a hold does, whether a slice is taken after them, which task is claimed, whether slices of two tasks are taken at once
-instead, whether a row of local instructions in a slice or in place was worth it, whom a wake-up reaches, and wake-ups for no
-reason. A search has as many workers needed as there are, and another one has two.
+turns a hold does, whether a slice is taken after them, which task is claimed, whether a row of local instructions in a
+slice or in place was worth it, whom a wake-up reaches, and wake-ups for no reason.
 A second search stops the run after any move, as a refused start does, and wakes nobody for it.
 
 There are three kinds of bad states. Every worker sleeps or has ended, and one of them sleeps. Or several workers are needed
@@ -14,7 +13,7 @@ The rule has no bad state. Each fault of FAULTS is planted in turn, and has a ba
 """
 import sys
 
-ROOT, UNITS, TRIES, BATCH = 0, 2, 2, 2
+ROOT, UNITS, TRIES = 0, 2, 2
 
 
 def option(name, other):
@@ -33,8 +32,8 @@ FAULTS = {
 
 # A book: (subtasks forked, whether the root waits, whether the run has ended, units left of each subtask, tasks that are
 # claimed or out). The numbers of `Waits`: (awake, tries). A worker: `N` goes to the lock for the first time, `L` goes to
-# it again, `G` claimed a task and passes the gate, `O` is out with one slice or more, `S` sleeps, `W` was woken and comes to
-# the lock, `D` has decided to sleep with no lock (a fault), `E` has ended. A state: (book, numbers, workers, whether the run may still be stopped).
+# it again, `G` claimed a task and passes the gate, `O` is out with a slice, `S` sleeps, `W` was woken and comes to the lock, `D` has decided to sleep with no lock
+# (a fault), `E` has ended. A state: (book, numbers, workers, whether the run may still be stopped).
 
 
 def can_step(book, task):
@@ -77,28 +76,8 @@ def with_out(book, task):
     return book[:4] + (book[4] | {task},)
 
 
-def without(book, *tasks):
-    return book[:4] + (book[4] - set(tasks),)
-
-
-def batches(book, tasks=()):
-    """Yields the books in which a worker has taken slices of some tasks, and the tasks."""
-    if tasks:
-        yield book, tasks
-    if len(tasks) < BATCH:
-        for task in free(book):
-            yield from batches(with_out(book, task), (*tasks, task))
-
-
-def backs(book, tasks):
-    """Yields each book that slices of these tasks lead to. A slice has done nothing, or a unit of a subtask."""
-    if not tasks:
-        yield book
-        return
-    for back in backs(book, tasks[1:]):
-        yield back
-        if tasks[0] != ROOT and can_step(back, tasks[0]):
-            yield turn(back, tasks[0])
+def without(book, task):
+    return book[:4] + (book[4] - {task},)
 
 
 def put(workers, i, what):
@@ -110,11 +89,6 @@ def woken(workers):
     return [put(workers, j, ("W",)) for j, it in enumerate(workers) if it == ("S",)] or [workers]
 
 
-def active(workers):
-    """Returns how many workers have come and don't sleep."""
-    return sum(it[0] in ("L", "G", "O", "D") for it in workers)
-
-
 def all_woken(workers):
     return tuple(("W",) if it == ("S",) else it for it in workers)
 
@@ -122,15 +96,13 @@ def all_woken(workers):
 class Rule:
     """The rule of `Waits`, with one fault or none."""
 
-    def __init__(self, fault="", needed=WORKERS):
+    def __init__(self, fault=""):
         self.fault = fault
-        self.needed = needed
 
     def wakes(self, book, numbers, workers, kind):
         """Returns the workers after `wake_another`, in each way."""
         is_deaf = self.fault == "claims" or self.fault == kind
-        is_needed = numbers[1] > 0 and active(workers) < self.needed and free(book)
-        return woken(workers) if is_needed and not is_deaf else [workers]
+        return woken(workers) if numbers[1] > 0 and free(book) and not is_deaf else [workers]
 
     def sleeps(self, numbers):
         return (numbers[0] - (self.fault != "counts"), numbers[1])
@@ -145,8 +117,7 @@ class Rule:
             yield book, numbers, put(workers if self.fault == "end" else all_woken(workers), i, ("E",))
             return
         left = free(book)
-        is_enough = tries == 0 or active(put(workers, i, ("L",))) > self.needed
-        if not left or (is_enough and (awake > 1 or self.fault == "leaves")):
+        if not left or (tries == 0 and (awake > 1 or self.fault == "leaves")):
             if self.fault == "late":
                 yield book, numbers, put(workers, i, ("D",))
             else:
@@ -156,24 +127,17 @@ class Rule:
             return
         for task in left:
             claimed, fewer = with_out(book, task), (awake, max(0, tries - 1))
-            for others in self.wakes(claimed, fewer, put(workers, i, ("G", task)), "find"):
-                yield claimed, fewer, others
-        for lent, tasks in batches(book):
-            if free(lent):
-                yield from self.lends(lent, (awake, TRIES), workers, i, tasks)
-
-    def lends(self, book, numbers, workers, i, tasks):
-        """Yields the next states of a worker that goes out with slices of these tasks."""
-        fewer = (numbers[0] - 1, numbers[1])
-        for others in self.wakes(book, fewer, put(workers, i, ("O", *tasks)), "lends"):
-            yield book, fewer, others
+            for others in self.wakes(claimed, fewer, workers, "find"):
+                yield claimed, fewer, put(others, i, ("G", task))
 
     def slice(self, book, numbers, workers, i, task):
         """Yields the next states of a worker that takes a slice of the task, or can't and looks for a task."""
         if task not in free(book):
             yield from self.find(book, numbers, workers, i)
             return
-        yield from self.lends(with_out(book, task), numbers, workers, i, (task,))
+        lent, fewer = with_out(book, task), (numbers[0] - 1, numbers[1])
+        for others in self.wakes(lent, fewer, workers, "lends"):
+            yield lent, fewer, put(others, i, ("O", task))
 
     def ran(self, book, numbers, task):
         """Returns what the numbers may be after a row of local instructions: it was too short, or worth it."""
@@ -188,18 +152,9 @@ class Rule:
                     yield from self.slice(turned, then, workers, i, task)
                 yield from self.find(turned, then, workers, i)
 
-    def after_all(self, book, numbers, workers, i, tasks):
-        """Yields the states after the turns of some tasks, each as in `after`, and after the worker has looked for a task."""
-        if not tasks:
-            yield from self.find(book, numbers, workers, i)
-            return
-        for turned, is_step in turns(book, tasks[0]):
-            for then in self.ran(turned, numbers, tasks[0]) if is_step else {numbers}:
-                yield from self.after_all(turned, then, workers, i, tasks[1:])
-
     def of_worker(self, book, numbers, workers, i):
         """Yields what comes of the next hold of a worker."""
-        at, *tasks = workers[i]
+        at, *task = workers[i]
         if at == "L":
             yield from self.find(book, numbers, workers, i)
         elif at == "N":
@@ -211,14 +166,14 @@ class Rule:
         elif at == "D":
             yield book, self.sleeps(numbers), put(workers, i, ("S",))
         elif at == "G":
-            yield from self.after(without(book, *tasks), numbers, workers, i, *tasks)
+            yield from self.after(without(book, *task), numbers, workers, i, *task)
         elif at == "O":
-            awake, tries = numbers[0] + 1, numbers[1]
-            for back in backs(without(book, *tasks), tasks):
-                for then in {(awake, max(0, tries - 1))} | self.ran(back, (awake, tries), tasks[0]):
-                    yield from self.after_all(back, then, workers, i, tasks)
-                    if len(tasks) == 1:
-                        yield from self.after(back, then, workers, i, *tasks)
+            back = without(book, *task)
+            done = [turn(back, *task)] if task != [ROOT] and can_step(back, *task) else []
+            for book in [back, *done]:
+                awake, tries = numbers[0] + 1, numbers[1]
+                for then in {(awake, max(0, tries - 1))} | self.ran(book, (awake, tries), *task):
+                    yield from self.after(book, then, workers, i, *task)
 
     def moves(self, state):
         book, numbers, workers, may_stop = state
@@ -229,13 +184,13 @@ class Rule:
             yield (book[:2] + (True,) + book[3:], numbers, workers, False)
 
 
-def is_bad(rule, state):
+def is_bad(state):
     """Returns whether all sleep, or a task is left to sleepers although several workers are needed."""
     book, numbers, workers, _ = state
     places = {it[0] for it in workers}
     if "S" not in places:
         return False
-    is_idle = not places & {"N", "L", "W", "G", "D"} and active(workers) < rule.needed
+    is_idle = not places & {"N", "L", "W", "G", "D"}
     return places <= {"S", "E"} or (is_idle and numbers[1] > 0 and bool(free(book)))
 
 
@@ -245,7 +200,7 @@ def search(rule, kids, may_stop):
     before, todo = {first: []}, [first]
     while todo:
         state = todo.pop()
-        if is_bad(rule, state):
+        if is_bad(state):
             return len(before), state
         for after in rule.moves(state):
             if after not in before:
@@ -264,13 +219,13 @@ def search(rule, kids, may_stop):
 def main():
     global KIDS
     asked, passed, failed = KIDS, 0, 0
-    searches = [("", False, WORKERS), ("", False, 2), ("", True, 2), *((fault, False, WORKERS) for fault in FAULTS)]
-    for fault, may_stop, needed in searches:
+    searches = [("", False), ("", True), *((fault, False) for fault in FAULTS)]
+    for fault, may_stop in searches:
         KIDS = max(1, asked - 1) if may_stop else asked
-        states, bad = search(Rule(fault, needed), KIDS, may_stop)
+        states, bad = search(Rule(fault), KIDS, may_stop)
         is_right = (bad is None) == (not fault)
         passed, failed = passed + is_right, failed + (not is_right)
-        name = FAULTS.get(fault) or ("the rule, and a stop" if may_stop else f"the rule with {needed} workers needed")
+        name = FAULTS.get(fault) or ("the rule, and a stop" if may_stop else "the rule")
         print(f"{name}: {states:,} states, {'no bad one' if bad is None else f'as {bad}'}{'' if is_right else '  FAILED'}")
     print(f"{passed} passed, {failed} failed")
     return failed > 0

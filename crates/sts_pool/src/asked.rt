@@ -126,11 +126,6 @@ impl<'p, O: Outside, B: Runs<O>> Asked<'p, O, B> {
         self.book.check_in(slice).is_ok()
     }
 
-    /// Takes the slice of a task that can step and isn't out.
-    pub(crate) fn check_out(&mut self) -> Option<Slice<'p>> {
-        self.book.check_out()
-    }
-
     /// Takes the slice of this task, if it can step and isn't out.
     pub(crate) fn lend(&mut self, task: u32) -> Option<Slice<'p>> {
         self.book.lend(task)

@@ -11,10 +11,7 @@ use crate::asked::{Asked, Runs};
 use crate::book::Book;
 use crate::gate::{Gate, Outside};
 use crate::report::{Ending, PoolError, Report};
-use crate::waits::{
-    AT_ONCE, IN_A_BATCH, IN_A_ROW, IN_PLACE_FOR_SEVERAL, Waits, is_worth, turns_after,
-};
-use arrayvec::ArrayVec;
+use crate::waits::{AT_ONCE, IN_A_ROW, Waits, is_worth, turns_after};
 use std::alloc::Global;
 use std::hint::spin_loop;
 use std::marker::Brand;
@@ -54,23 +51,10 @@ struct Pool<'p, O: Outside, B: Runs<O>> {
     woken: Condvar,
 }
 
-/// The slices that a worker takes at one hold of the lock. A place is `None` once its slice was given
-/// back.
-type Batch<'p> = ArrayVec<Option<Slice<'p>>, 8>;
-
-/// The work of a worker until it has the lock again.
-#[derive(Drop)]
-enum Work {
-    /// It has claimed this task.
-    Task(u32),
-    /// It has a batch of slices.
-    Batch,
-}
-
 /// The next action of a worker that looks for a task.
 enum Found {
-    /// It works.
-    Work(Work),
+    /// It works on this task.
+    Task(u32),
     /// The worker looks again, or sleeps once it has looked often enough.
     Nothing,
     /// It sleeps.
@@ -116,7 +100,6 @@ impl<'p, O: Outside, B: Runs<O>> Shared<'p, O, B> {
 
     /// Notes that a worker did `done` local instructions of a task in place.
     fn notes(&mut self, task: u32, done: u32) {
-        self.waits.saw(done);
         if is_worth(done) {
             let has_other = self.asked.has_other(task);
             self.waits.ran(done, has_other);
@@ -124,7 +107,7 @@ impl<'p, O: Outside, B: Runs<O>> Shared<'p, O, B> {
     }
 
     /// Looks for a task.
-    fn look(&mut self, batch: &mut Batch<'p>) -> Found {
+    fn look(&mut self) -> Found {
         self.asked.ask();
         if self.stop || self.asked.has_ended() {
             return Found::End;
@@ -140,54 +123,12 @@ impl<'p, O: Outside, B: Runs<O>> Shared<'p, O, B> {
             };
         };
         self.waits.claims();
-        if self.waits.batch() > 0 && self.asked.has_more() {
-            self.asked.release(task);
-            self.fill(batch);
-            return Found::Work(Work::Batch);
-        }
-        Found::Work(Work::Task(task))
+        Found::Task(task)
     }
 
-    /// Takes a batch of slices, of two tasks or more that are there. A task is left then, so there is
-    /// work for several workers.
-    fn fill(&mut self, batch: &mut Batch<'p>) {
-        for _ in 0..self.waits.batch() {
-            let Some(slice) = self.asked.check_out() else {
-                break;
-            };
-            let _has_room = batch.try_push(Some(slice));
-        }
-        if !self.asked.has_more() {
-            self.gives_up_half(batch);
-        }
-        self.waits.calls_several();
-        self.waits.lends();
-    }
-
-    /// Gives up half of the slices of a batch, in which nothing was done yet.
-    fn gives_up_half(&mut self, batch: &mut Batch<'p>) {
-        for _ in 0..batch.len() / 2 {
-            if let Some(Some(slice)) = batch.pop() {
-                self.asked.release(slice.task());
-            }
-        }
-    }
-
-    /// Takes back the slices of a batch, and does the steps of their tasks under the lock.
-    fn take_back_all(&mut self, batch: &mut Batch<'p>) {
-        self.waits.back();
-        for place in batch.as_mut_slice() {
-            let Some(slice) = place.take() else { continue };
-            let task = slice.task();
-            self.waits.saw_in_batch(slice.count());
-            if !self.asked.check_in(slice) {
-                self.stop = true;
-            }
-            if !self.stop {
-                let _has_long_row = self.has_long_row(task);
-            }
-        }
-        batch.clear();
+    /// Is there work for another worker, too?
+    fn wants_another(&self) -> bool {
+        self.waits.wants_several() && self.asked.has_more()
     }
 
     /// A slice of a task to work on.
@@ -208,7 +149,6 @@ impl<'p, O: Outside, B: Runs<O>> Shared<'p, O, B> {
         }
         let has_other = is_worth(done) && self.asked.has_other(task);
         self.waits.ran(done, has_other);
-        self.waits.saw(done.saturating_add(IN_PLACE_FOR_SEVERAL));
     }
 }
 
@@ -234,30 +174,24 @@ impl<'p, O: Outside, B: Runs<O>> Pool<'p, O, B> {
 
     /// Wakes one other worker, if there is work for it.
     fn wake_another(&self, shared: &Shared<'p, O, B>) {
-        if shared.waits.needs_another() && shared.asked.has_more() {
+        if shared.wants_another() {
             self.woken.notify_one();
         }
     }
 
-    /// A task to work on or a batch, or `None` if the worker is to end. A worker sleeps only in this
-    /// function.
-    fn find<'b, R: Wait>(
-        &'b self,
-        rt: &R,
-        guard: MutexGuard<'b, Shared<'p, O, B>>,
-        batch: &mut Batch<'p>,
-    ) -> Option<Work> {
+    /// A task to work on, or `None` if the worker is to end. A worker sleeps only in this function.
+    fn find<'b, R: Wait>(&'b self, rt: &R, guard: MutexGuard<'b, Shared<'p, O, B>>) -> Option<u32> {
         let mut guard = guard;
         let mut looks = 0;
         for _ in rt.forever() {
-            match guard.look(batch) {
+            match guard.look() {
                 Found::End => {
                     self.woken.notify_all();
                     return None;
                 }
-                Found::Work(work) => {
+                Found::Task(task) => {
                     self.wake_another(&guard);
-                    return Some(work);
+                    return Some(task);
                 }
                 Found::Nothing if looks < LOOKS => {
                     drop(guard);
@@ -277,45 +211,19 @@ impl<'p, O: Outside, B: Runs<O>> Pool<'p, O, B> {
     }
 
     /// Does a task's steps under the lock, or by slices if it has long rows of local instructions.
-    /// Then work is found.
-    fn exchange<R: Wait, G: Gate>(
-        &self,
-        rt: &R,
-        gate: &G,
-        worker: u32,
-        task: u32,
-        batch: &mut Batch<'p>,
-    ) -> Option<Work> {
+    /// Then a task to work on is found.
+    fn exchange<R: Wait, G: Gate>(&self, rt: &R, gate: &G, worker: u32, task: u32) -> Option<u32> {
         let mut guard = self.locked(rt);
         guard.asked.release(task);
         if !guard.stop && guard.has_long_row(task) {
-            return self.slices(rt, gate, worker, guard, task, batch);
+            return self.slices(rt, gate, worker, guard, task);
         }
-        self.find(rt, guard, batch)
-    }
-
-    /// Does the local instructions of a batch with no lock held, and gives its slices back. Then work
-    /// is found.
-    fn exchange_all<R: Wait, G: Gate>(
-        &self,
-        rt: &R,
-        gate: &G,
-        worker: u32,
-        batch: &mut Batch<'p>,
-    ) -> Option<Work> {
-        for slice in batch.as_mut_slice() {
-            let Some(slice) = slice else { continue };
-            gate.enter(worker, slice.task());
-            let _done = slice.run_local(IN_A_BATCH);
-        }
-        let mut guard = self.locked(rt);
-        guard.take_back_all(batch);
-        self.find(rt, guard, batch)
+        self.find(rt, guard)
     }
 
     /// Takes slices of a task, does their local instructions with no lock held, and gives them back.
     /// After each it does the task's steps under the lock, until no further slice is to be taken.
-    /// Then it finds work.
+    /// Then it finds a task.
     fn slices<'b, R: Wait, G: Gate>(
         &'b self,
         rt: &R,
@@ -323,8 +231,7 @@ impl<'p, O: Outside, B: Runs<O>> Pool<'p, O, B> {
         worker: u32,
         guard: MutexGuard<'b, Shared<'p, O, B>>,
         task: u32,
-        batch: &mut Batch<'p>,
-    ) -> Option<Work> {
+    ) -> Option<u32> {
         let mut guard = guard;
         for _ in rt.forever() {
             let Some(mut slice) = guard.lend(task) else {
@@ -340,7 +247,7 @@ impl<'p, O: Outside, B: Runs<O>> Pool<'p, O, B> {
                 break;
             }
         }
-        self.find(rt, guard, batch)
+        self.find(rt, guard)
     }
 
     /// Makes each worker end at its next lock.
@@ -350,23 +257,19 @@ impl<'p, O: Outside, B: Runs<O>> Pool<'p, O, B> {
         self.woken.notify_all();
     }
 
-    /// The work of one worker. It claims a task or takes a batch, passes the gate and does the tasks'
-    /// steps. It repeats this until the root has ended.
+    /// The work of one worker. It claims a task, passes the gate and does the task's steps. It
+    /// repeats this until the root has ended.
     fn work<R: Wait, G: Gate>(&self, rt: &R, gate: &G, worker: u32) {
         let mut guard = self.locked(rt);
         guard.came = guard.came.saturating_add(1);
         guard.waits.comes();
-        let mut batch = ArrayVec::new();
-        let mut next = self.find(rt, guard, &mut batch);
+        let mut next = self.find(rt, guard);
         for _ in rt.forever() {
-            next = match next {
-                None => return,
-                Some(Work::Task(task)) => {
-                    gate.enter(worker, task);
-                    self.exchange(rt, gate, worker, task, &mut batch)
-                }
-                Some(Work::Batch) => self.exchange_all(rt, gate, worker, &mut batch),
+            let Some(task) = next else {
+                return;
             };
+            gate.enter(worker, task);
+            next = self.exchange(rt, gate, worker, task);
         }
     }
 }
