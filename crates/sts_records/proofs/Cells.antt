@@ -10,6 +10,7 @@ use Rattle.std.proofs.Common.{cond, count_by, is_some}
 use Rattle.std.proofs.lemmas.List.Sums.{sum_by-set}
 use Rattle.slab.specs.Slab.{Slab, Updates, get, slab_len, with_value}
 use Rattle.sts_records.specs.Pages.{ArePaged, AreUsed, Comes, Extends, Goes, HasPage, IsKept, IsPage, IsReserved, Records}
+use Rattle.sts_records.specs.Pages.{HasPagesFor, HasRoomForBlock, no_records}
 use Rattle.sts_records.specs.Pages.{cell_of, in_block, of_block, one_page, records_of, sum_to}
 use Rattle.sts_records.specs.declared.pages.Page.{Page}
 use Rattle.sts_records.specs.declared.pages.Pages.{Pages}
@@ -151,6 +152,36 @@ reserved p q f c k r =
     let few = r.few in
     record { firsts = omega (arith, f, firsts); cells = omega (arith, c, k, cells); few = omega (arith, k, few) }
 
+-- there is room for a page when a block begins
+pub room_of : (p q : Pages) (r : Records) (total : ℕ) → q.pages.capacity ≡ p.pages.capacity → r.count ≤ total → length q.firsts.items < 15626 → HasPagesFor p total → HasRoomForBlock q r
+room_of p q r total cap le few (inl less) = inl (omega (arith, cap, le, less))
+room_of p q r total cap le few (inr less) = inr (omega (arith, cap, few, less))
+
+-- no pages have no keys
+pub empty : (firsts cells : List ℕ) (pages : Slab Page) (keys : ℕ) → firsts ≡ [] → pages.slots ≡ [] → ArePaged firsts cells pages (no_records keys)
+empty firsts cells pages keys f s = record {
+  fit = λ block less. absurd (omega (arith, less, short));
+  inside = λ k x is. absurd (none_some (get pages k) x (nothing k) is);
+  page = λ k x is. absurd (none_some (get pages k) x (nothing k) is);
+  latest = λ block end. absurd (omega (arith, end, short));
+  kept = λ key b is. absurd (no_birth b is);
+  paged = none ∙ sym (zero_sum pages.capacity (λ k. one_page (get pages k)) (λ k. rw (nothing k) refl));
+  few = omega (arith, none);
+  counted = zero_sum pages.capacity (λ k. records_of (get pages k)) (λ k. rw (nothing k) refl);
+}
+  where
+    short : length firsts ≡ 0
+    short = ap length f
+
+    nothing : (k : ℕ) → get pages k ≡ None
+    nothing k = rw s refl
+
+    none : slab_len pages ≡ 0
+    none = rw s refl
+
+    no_birth : (b : ℕ) → None ≡ Some b → ⊥
+    no_birth b e = cc
+
 -- ---- pages and their blocks
 
 module _ (firsts cells : List ℕ) (pages : Slab Page) (r : Records) (a : ArePaged firsts cells pages r) where
@@ -193,6 +224,9 @@ module _ (firsts cells : List ℕ) (pages : Slab Page) (r : Records) (a : ArePag
   first_of block h = ap (λ (n : ℕ). get_or firsts n 0) (sym h.own) ∙ (a.page h.place h.page h.is).first
 
   -- where the first cell of a block leads
+  pub place_is : (block first : ℕ) (h : HasPage pages block) → first ≡ get_or firsts block 0 → first / 64 ≡ h.place
+  place_is block first h e = let f = first_of block h in omega (arith, e, f)
+
   pub page_at : (block first : ℕ) (h : HasPage pages block) → first ≡ get_or firsts block 0 → get pages (first / 64) ≡ Some h.page
   page_at block first h e =
       let f = first_of block h in
@@ -217,6 +251,21 @@ module _ (firsts cells : List ℕ) (pages : Slab Page) (r : Records) (a : ArePag
       by : (k : ℕ) (o : Option Page) → get pages k ≡ o → one_page (get pages k) ≤ records_of (get pages k)
       by k None q = rw q (omega arith)
       by k (Some x) q = let u = used k x q in rw q (omega (arith, u))
+
+  -- there is room for a page, if each has records
+  pub room_for : AreUsed pages → (r.count < pages.capacity) ⊎ (length firsts < pages.capacity) → slab_len pages + 1 ≤ pages.capacity
+  room_for used (inl less) = let le = pages_le used in omega (arith, le, less)
+  room_for used (inr less) = let few = a.few in omega (arith, few, less)
+
+  -- each page but that of the latest block is used
+  pub others_used : (block : ℕ) (h : HasPage pages block) → block + 1 ≡ length firsts → (k : ℕ) (x : Page) → k ≢ h.place → get pages k ≡ Some x → 0 < x.count
+  others_used block h last k x ne is = by (a.page k x is).used
+    where
+      by : (0 < x.count) ⊎ (x.block + 1 ≡ length firsts) → 0 < x.count
+      by (inl u) = u
+      by (inr e) =
+          let own = h.own in
+          absurd (ne (same_place k h.place x h.page is h.is (omega (arith, e, last, own))))
 
   -- each page is used, if that of the latest block is
   pub all_used : (block : ℕ) (h : HasPage pages block) → block + 1 ≡ length firsts → 0 < h.page.count → AreUsed pages

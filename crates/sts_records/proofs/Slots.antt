@@ -2,15 +2,16 @@
 use Rattle.std.proofs.Common.{◌≡◌, ◌≢◌, ℕ, zero, suc, ◌+◌, ◌<◌, ◌≤◌, List, [], ◌∷◌, ◌++◌, length}
 use Rattle.std.proofs.Common.{Option, Some, None, refl, sym, ◌∙◌, ap, arith, get_or, set, nat_eq}
 use Rattle.std.proofs.Common.{Bool, true, false, nat_lt, length-set, get_or-set_same}
-use Rattle.std.proofs.Common.{get_or-set_other, length-append, subst}
+use Rattle.std.proofs.Common.{get_or-set_other, length-append, subst, count_by, is_some}
 use Rattle.std.proofs.Math.Seq.{get_or-append_seam}
 use Rattle.std.proofs.lemmas.Bool.Decides.{nat_tests}
 use Rattle.std.proofs.lemmas.List.{ext_get_or, get_or_append_left, get_or_past}
 use Rattle.std.specs.Borrow.{Bor, MutBor}
 use Rattle.std.specs.Option.{option_copied, option_copied_mut, IsSome}
 use Rattle.sts_records.specs.Holes.{Holes, key_at}
-use Rattle.sts_records.specs.Pages.{Comes, Goes, KeepsKeys, Records}
-use Rattle.sts_records.specs.Slots.{AreGiven, birth_of, births, body_of, slots}
+use Rattle.sts_records.specs.Pages.{Comes, Goes, KeepsKeys, Records, no_records}
+use Rattle.sts_records.specs.Slots.{AreGiven, birth_of, births, body_of, records, slots}
+use Rattle.slab.specs.Slab.{Slab, Updates, get, slab_len}
 use Rattle.sts_records.specs.declared.pages.Pages.{Pages}
 use Rattle.sts_records.proofs.Cells.{came, inside_of, stayed}
 use Rattle.sts_records.specs.declared.held.Entry.{Entry}
@@ -185,6 +186,23 @@ module _ {T : Type 0} where
 
   pub past_born : (keys : List ℕ) (entries : List (Option (Entry T))) (birth born : ℕ) → born ≡ length keys → born ≤ birth → get_or (slots 0 keys entries) birth None ≡ None
   past_born keys entries birth born e le = slot_past keys entries birth (omega (arith, e, le))
+
+  -- no entries
+  pub no_entries : (p : Pages) (entries : Slab (Entry T)) → entries.slots ≡ [] → ((keys : ℕ) → KeepsKeys p (no_records keys)) → KeepsKeys p (records entries)
+  no_entries p entries none kept =
+      subst (λ (l : List (Option (Entry T))). KeepsKeys p (record { at = births l; keys = entries.capacity; count = count_by is_some l })) (sym none) (kept entries.capacity)
+
+  -- an entry of a new birth
+  pub comes : (keys : List ℕ) (entries after : Slab (Entry T)) (key birth : ℕ) (x : T) → birth ≡ length keys → AreGiven keys (births entries.slots) → get entries key ≡ None → Updates entries after key (Some (record { birth = birth; body = x })) → slab_len after ≡ slab_len entries + 1 → key < after.capacity → after.capacity ≡ entries.capacity → Comes (records entries) (records after) key birth
+  comes keys entries after key birth x last given vacant u len inside cap = record {
+    was = ap birth_of vacant;
+    is = ap birth_of u.changed;
+    others = λ k ne. ap birth_of (u.others k ne);
+    fresh = λ k b is e. (let less = (given k b is).0 in omega (arith, less, e, last));
+    keys = cap;
+    few = rw (← cap) inside;
+    count = len;
+  }
 
   -- a look-up that finds the record
   pub found : (keys : List ℕ) (entries : List (Option (Entry T))) (birth key : ℕ) (e : Entry T) → AreGiven keys (births entries) → get_or entries key None ≡ Some e → e.birth ≡ birth → get_or (slots 0 keys entries) birth None ≡ Some e.body
