@@ -10,7 +10,7 @@ use Rattle.std.proofs.Common.{cond, count_by, is_some}
 use Rattle.std.proofs.lemmas.List.Sums.{sum_by-set}
 use Rattle.slab.specs.Slab.{Slab, Updates, get, slab_len, with_value}
 use Rattle.sts_records.specs.Pages.{ArePaged, AreUsed, Comes, Extends, Goes, HasPage, IsKept, IsPage, IsReserved, Records}
-use Rattle.sts_records.specs.Pages.{HasPagesFor, HasRoomForBlock, no_records}
+use Rattle.sts_records.specs.Pages.{HasPagesFor, HasRoomForBlock, KeepsKeys, counted_pages, no_records}
 use Rattle.sts_records.specs.Pages.{cell_of, in_block, of_block, one_page, records_of, sum_to}
 use Rattle.sts_records.specs.declared.pages.Page.{Page}
 use Rattle.sts_records.specs.declared.pages.Pages.{Pages}
@@ -41,6 +41,43 @@ written_page pages k x y is =
     let inside = inside_of pages.slots k x is in (
       record { changed = get_or-set_same pages.slots k (Some y) None inside; others = λ j ne. get_or-set_other pages.slots k j _ None ne },
       as_many pages.slots k x y is inside,
+    )
+
+-- the count of one page is written again
+pub recounted : (pages : Slab Page) (k : ℕ) (x y z : Page) → get pages k ≡ Some x → Updates (with_value pages k y) (with_value pages k z) k (Some z) × (slab_len (with_value pages k z) ≡ slab_len (with_value pages k y))
+recounted pages k x y z is =
+    let inside = inside_of pages.slots k x is in (
+      record { changed = get_or-set_same pages.slots k (Some z) None inside; others = λ j ne. get_or-set_other pages.slots k j _ None ne ∙ sym (get_or-set_other pages.slots k j _ None ne) },
+      as_many pages.slots k x z is inside ∙ sym (as_many pages.slots k x y is inside),
+    )
+
+-- another page changes below the count of one
+pub changed_apart : (pages after : Slab Page) (k j : ℕ) (x y : Page) (slot : Option Page) → get pages k ≡ Some x → j ≢ k → Updates pages after j slot → Updates (with_value pages k y) (with_value after k y) j slot × (slab_len (with_value after k y) ≡ slab_len after) × (slab_len (with_value pages k y) ≡ slab_len pages) × (get after k ≡ Some x)
+changed_apart pages after k j x y slot is ne u =
+    let still : get after k ≡ Some x = u.others k (λ e. ne (sym e)) ∙ is in
+    let inside = inside_of pages.slots k x is in
+    let inside' = inside_of after.slots k x still in (
+      record { changed = get_or-set_other after.slots k j _ None ne ∙ u.changed; others = λ i other. by i other (nat_eq i k) refl },
+      as_many after.slots k x y still inside',
+      as_many pages.slots k x y is inside,
+      still,
+    )
+  where
+    by : (i : ℕ) → i ≢ j → (t : Bool) → nat_eq i k ≡ t → get (with_value after k y) i ≡ get (with_value pages k y) i
+    by i other true q =
+        let s : i ≡ k = grind (arith, nat_tests) in
+        let still : get after k ≡ Some x = u.others k (λ e. ne (sym e)) ∙ is in
+        rw s (get_or-set_same after.slots k (Some y) None (inside_of after.slots k x still) ∙ sym (get_or-set_same pages.slots k (Some y) None (inside_of pages.slots k x is)))
+    by i other false q =
+        let s : i ≢ k = grind (arith, nat_tests) in
+        get_or-set_other after.slots k i _ None s ∙ (u.others i other ∙ sym (get_or-set_other pages.slots k i _ None s))
+
+-- a new page is written again
+pub changed_again : (pages after : Slab Page) (k : ℕ) (x y : Page) → Updates pages after k (Some x) → Updates pages (with_value after k y) k (Some y) × (slab_len (with_value after k y) ≡ slab_len after)
+changed_again pages after k x y u =
+    let w = written_page after k x y u.changed in (
+      record { changed = w.0.changed; others = λ j ne. w.0.others j ne ∙ u.others j ne },
+      w.1,
     )
 
 -- ---- sums
@@ -151,6 +188,24 @@ reserved p q f c k r =
     let cells = r.cells in
     let few = r.few in
     record { firsts = omega (arith, f, firsts); cells = omega (arith, c, k, cells); few = omega (arith, k, few) }
+
+-- ---- the count that is kept apart
+
+module _ (p : Pages) (r : Records) (kept : KeepsKeys p r) where
+  -- the page of the latest block, with its count
+  pub latest_is : get (counted_pages p kept.place kept.page) kept.place ≡ Some (record { block = kept.page.block; count = p.count })
+  latest_is = (written_page p.pages kept.place kept.page (record { block = kept.page.block; count = p.count }) kept.is).0.changed
+
+  -- the page of an earlier block has its own count
+  pub earlier_is : (block : ℕ) (h : HasPage (counted_pages p kept.place kept.page) block) → block + 1 ≢ length p.firsts.items → (h.place ≢ kept.place) × (get p.pages h.place ≡ Some h.page)
+  earlier_is block h ne =
+      let apart : h.place ≢ kept.place = λ e. (
+        let same : h.page ≡ record { block = kept.page.block; count = p.count } = some_same h.page _ (sym h.is ∙ (ap (λ (n : ℕ). get (counted_pages p kept.place kept.page) n) e ∙ latest_is)) in
+        let blocks : h.page.block ≡ kept.page.block = ap (λ (z : Page). z.block) same in
+        let own = h.own in
+        let last = kept.last in
+        ne (omega (arith, blocks, own, last))) in
+      (apart, sym (get_or-set_other p.pages.slots kept.place h.place _ None apart) ∙ h.is)
 
 -- there is room for a page when a block begins
 pub room_of : (p q : Pages) (r : Records) (total : ℕ) → q.pages.capacity ≡ p.pages.capacity → r.count ≤ total → length q.firsts.items < 15626 → HasPagesFor p total → HasRoomForBlock q r
@@ -539,3 +594,14 @@ module _ (firsts cells : List ℕ) (pages : Slab Page) (r : Records) (a : ArePag
           let less = begun_of (b / 64) h in
           let same : cell_of (firsts ++ 64 * k ∷ []) b ≡ cell_of firsts b = ap (λ (n : ℕ). n + b % 64) (left (b / 64) less) in
           record { few = kept.few; paged = record { place = h.place; page = h.page; is = u.others h.place apart ∙ h.is; own = h.own }; cell = rw same (ext.same (cell_of firsts b) (cell_inside b less) ∙ kept.cell) }
+
+-- ---- the page of the latest block
+
+module _ (p : Pages) (r : Records) (kept : KeepsKeys p r) where
+  abbrev pub latest_has : (block : ℕ) → block + 1 ≡ length p.firsts.items → HasPage (counted_pages p kept.place kept.page) block
+  latest_has block last =
+      let end = kept.last in
+      record { place = kept.place; page = record { block = kept.page.block; count = p.count }; is = latest_is p r kept; own = omega (arith, last, end) }
+
+  pub latest_first : (block first : ℕ) → block + 1 ≡ length p.firsts.items → first ≡ get_or p.firsts.items block 0 → first ≡ 64 * kept.place
+  latest_first block first last e = e ∙ first_of p.firsts.items p.cells.items (counted_pages p kept.place kept.page) r kept.paged block (latest_has block last)

@@ -2,7 +2,7 @@
 use Rattle.std.specs.Prelude.{◌≡◌, ◌≢◌, ◌+◌, ◌*◌, ◌/◌, ◌%◌, ◌<◌, ◌≤◌, ◌^◌, ◌⊎◌, ℕ, zero, suc}
 use Rattle.std.specs.Prelude.{List, length, Option, Some, None, nat_eq, if◌then◌else◌}
 use Rattle.std.specs.Prelude.{slice_index_or, vec_capacity}
-use Rattle.slab.specs.Slab.{Slab, get, slab_len}
+use Rattle.slab.specs.Slab.{Slab, get, slab_len, with_value}
 use Rattle.sts_records.specs.declared.pages.Page.{Page}
 use Rattle.sts_records.specs.declared.pages.Pages.{Pages}
 
@@ -101,8 +101,23 @@ pub record IsReserved (p : Pages) : Type 0 where
   pub cells : 64 * p.pages.capacity ≤ vec_capacity p.cells
   pub few : p.pages.capacity ≤ 67108864
 
-abbrev pub KeepsKeys : Pages → Records → Type 0
-KeepsKeys p r = ArePaged p.firsts.items p.cells.items p.pages r × IsReserved p
+-- pages have the keys of these records, and each has its own count
+abbrev pub AreSettled : Pages → Records → Type 0
+AreSettled p r = ArePaged p.firsts.items p.cells.items p.pages r × IsReserved p
+
+-- the pages, where this one has the count that is kept apart
+abbrev pub counted_pages : Pages → ℕ → Page → Slab Page
+counted_pages p place page =
+    with_value p.pages place (record { block = page.block; count = p.count })
+
+-- pages have the keys of these records, and the count of the latest block is kept apart
+pub record KeepsKeys (p : Pages) (r : Records) : Type 0 where
+  pub place : ℕ
+  pub page : Page
+  pub is : get p.pages place ≡ Some page
+  pub last : page.block + 1 ≡ length p.firsts.items
+  pub paged : ArePaged p.firsts.items p.cells.items (counted_pages p place page) r
+  pub reserved : IsReserved p
 
 -- each page has records
 abbrev pub AreUsed : Slab Page → Type 0

@@ -113,14 +113,8 @@ impl<T: Drop> Held<T> {
             return None;
         }
         match self.entries.get(self.pages.key(birth)) {
-            None => None,
-            Some(entry) => {
-                if entry.birth == birth {
-                    Some(&entry.body)
-                } else {
-                    None
-                }
-            }
+            Some(entry) if entry.birth == birth => Some(&entry.body),
+            _ => None,
         }
     }
 
@@ -167,7 +161,7 @@ impl<T: Drop> Held<T> {
         let key = self.entries.insert_reserved(Entry { birth, body }) as u32;
         self.pages.put(birth, key);
         self.given = self.given.and(&key);
-        self.born += 1;
+        self.born = birth as u32 + 1;
         self.room -= 1;
         self.pages.turn(birth + 1);
         birth

@@ -1,9 +1,9 @@
 //! Pages with the keys of the records of one block of births each.
 
-ghost use Rattle.std.specs.Prelude.{◌≡◌, ◌+◌, ◌/◌, ◌^◌, ◌<◌, ◌≤◌, ℕ, length, IfOk};
+ghost use Rattle.std.specs.Prelude.{◌≡◌, ◌≢◌, ◌+◌, ◌/◌, ◌^◌, ◌<◌, ◌≤◌, ℕ, length, IfOk};
 ghost use Rattle.std.specs.Prelude.{Some, vec_capacity};
 ghost use Rattle.slab.specs.Slab.{HasRoomFor};
-ghost use Rattle.sts_records.specs.Pages.{AreUsed, Comes, Extends, Goes, HasRoomForBlock};
+ghost use Rattle.sts_records.specs.Pages.{AreSettled, AreUsed, Comes, Extends, Goes, HasRoomForBlock};
 ghost use Rattle.sts_records.specs.Pages.{HasPagesFor, KeepsKeys, Records, no_records};
 
 use slab::Slab;
@@ -37,6 +37,8 @@ pub(crate) struct Pages {
     /// The cells of all pages, with the key of each birth.
     cells: Vec<u32>,
     pages: Slab<Page>,
+    /// How many records the births of the latest block have. The count in its page is stale.
+    count: u32,
 }
 
 impl Pages {
@@ -61,6 +63,7 @@ impl Pages {
             firsts,
             cells,
             pages: slab,
+            count: 0,
         };
         pages.take_page();
         Ok(pages)
@@ -90,7 +93,7 @@ impl Pages {
     {
         let first = self.firsts[birth / BLOCK] as usize;
         self.cells[first + birth % BLOCK] = key;
-        self.pages.get_mut(first / BLOCK).unwrap().count += 1;
+        self.count += 1;
     }
 
     /// The record of a birth goes. Its page goes with the last record of the block.
@@ -102,10 +105,26 @@ impl Pages {
         ensures firsts { self.new.firsts ≡ self.old.firsts }
         ensures capacity { self.new.pages.capacity ≡ self.old.pages.capacity }
     {
-        let block = birth / BLOCK;
-        let place = self.firsts[block] as usize / BLOCK;
+        if birth / BLOCK + 1 == self.firsts.len() {
+            self.count -= 1;
+        } else {
+            self.leave_earlier(birth);
+        }
+    }
+
+    /// The same for a birth of an earlier block.
+    fn leave_earlier(&mut self, birth: usize)
+        requires record { (r : Records) × (key : ℕ) × KeepsKeys self.old r
+            × (r.at key ≡ Some birth) }
+        requires earlier { birth / 64 + 1 ≢ length self.old.firsts.items }
+        ensures keys { (r after : Records) (key : ℕ) → KeepsKeys self.old r
+            → Goes r after key birth → KeepsKeys self.new after }
+        ensures firsts { self.new.firsts ≡ self.old.firsts }
+        ensures capacity { self.new.pages.capacity ≡ self.old.pages.capacity }
+    {
+        let place = self.firsts[birth / BLOCK] as usize / BLOCK;
         let count = self.pages.get(place).unwrap().count;
-        if count == 1 && block + 1 != self.firsts.len() {
+        if count == 1 {
             self.pages.remove(place);
         } else {
             self.pages.get_mut(place).unwrap().count = count - 1;
@@ -128,6 +147,7 @@ impl Pages {
     }
 
     /// Begins the next block. It gets the page of the latest one, if that has no records.
+    #[cold]
     #[inline(never)]
     fn begin(&mut self)
         requires few { (0 < length self.old.firsts.items)
@@ -140,10 +160,11 @@ impl Pages {
         let block = self.firsts.len();
         let first = self.firsts[block - 1];
         let place = first as usize / BLOCK;
-        if self.pages.get(place).unwrap().count == 0 {
+        if self.count == 0 {
             self.pages.get_mut(place).unwrap().block = block as u32;
             self.firsts.push_reserved(first);
         } else {
+            self.pages.get_mut(place).unwrap().count = self.count;
             self.take_page();
         }
     }
@@ -153,8 +174,8 @@ impl Pages {
         requires few { length self.old.firsts.items < 15626 }
         requires used { AreUsed self.old.pages }
         requires room { HasRoomFor self.old.pages 1 }
-        requires keys { (r : Records) × KeepsKeys self.old r }
-        ensures keys { (r : Records) → KeepsKeys self.old r → KeepsKeys self.new r }
+        requires keys { (r : Records) × AreSettled self.old r }
+        ensures keys { (r : Records) → AreSettled self.old r → KeepsKeys self.new r }
         ensures begun { length self.new.firsts.items ≡ length self.old.firsts.items + 1 }
         ensures capacity { self.new.pages.capacity ≡ self.old.pages.capacity }
     {
@@ -163,6 +184,7 @@ impl Pages {
         let first = place * BLOCK;
         extend(&mut self.cells, first + BLOCK);
         self.firsts.push_reserved(first as u32);
+        self.count = 0;
     }
 }
 
