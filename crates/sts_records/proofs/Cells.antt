@@ -200,11 +200,11 @@ module _ (p : Pages) (r : Records) (kept : KeepsKeys p r) where
   pub earlier_is : (block : ℕ) (h : HasPage (counted_pages p kept.place kept.page) block) → block + 1 ≢ length p.firsts.items → (h.place ≢ kept.place) × (get p.pages h.place ≡ Some h.page)
   earlier_is block h ne =
       let apart : h.place ≢ kept.place = λ e. (
-        let same : h.page ≡ record { block = kept.page.block; count = p.count } = some_same h.page _ (sym h.is ∙ (ap (λ (n : ℕ). get (counted_pages p kept.place kept.page) n) e ∙ latest_is)) in
-        let blocks : h.page.block ≡ kept.page.block = ap (λ (z : Page). z.block) same in
-        let own = h.own in
-        let last = kept.last in
-        ne (omega (arith, blocks, own, last))) in
+      let same : h.page ≡ record { block = kept.page.block; count = p.count } = some_same h.page _ (sym h.is ∙ (ap (λ (n : ℕ). get (counted_pages p kept.place kept.page) n) e ∙ latest_is)) in
+      let blocks : h.page.block ≡ kept.page.block = ap (λ (z : Page). z.block) same in
+      let own = h.own in
+      let last = kept.last in
+      ne (omega (arith, blocks, own, last))) in
       (apart, sym (get_or-set_other p.pages.slots kept.place h.place _ None apart) ∙ h.is)
 
 -- there is room for a page when a block begins
@@ -349,15 +349,15 @@ module _ (firsts cells : List ℕ) (pages : Slab Page) (r : Records) (a : ArePag
     latest = λ block end. paged block (a.latest block end);
     kept = λ j b at. came r r' key birth j b c at (λ s e. rw (s, e) new) (λ s e. old j b e);
     paged =
-      (let sum = page_sum one_page pages pages' k (Some x) (Some x') (a.inside k x is) cap u is in
-      let was = a.paged in
-      omega (arith, sum, was, len));
+        (let sum = page_sum one_page pages pages' k (Some x) (Some x') (a.inside k x is) cap u is in
+        let was = a.paged in
+        omega (arith, sum, was, len));
     few = (let few = a.few in omega (arith, few, len));
     counted =
-      (let sum = page_sum records_of pages pages' k (Some x) (Some x') (a.inside k x is) cap u is in
-      let was = a.counted in
-      let count = c.count in
-      omega (arith, sum, was, count));
+        (let sum = page_sum records_of pages pages' k (Some x) (Some x') (a.inside k x is) cap u is in
+        let was = a.counted in
+        let count = c.count in
+        omega (arith, sum, was, count));
   }
     where
       x' : Page
@@ -429,19 +429,19 @@ module _ (firsts cells : List ℕ) (pages : Slab Page) (r : Records) (a : ArePag
     latest = λ block end. newest block end (a.latest block end) left;
     kept = λ j b at. old j b at (stayed r r' key birth j b g at);
     paged =
-      (let sum = page_sum one_page pages pages' k (Some x) slot (a.inside k x is) cap u is in
-      let was = a.paged in
-      omega (arith, sum, was, len));
+        (let sum = page_sum one_page pages pages' k (Some x) slot (a.inside k x is) cap u is in
+        let was = a.paged in
+        omega (arith, sum, was, len));
     few =
-      (let few = a.few in
-      let one = one_le slot in
-      omega (arith, few, len, one));
+        (let few = a.few in
+        let one = one_le slot in
+        omega (arith, few, len, one));
     counted =
-      (let sum = page_sum records_of pages pages' k (Some x) slot (a.inside k x is) cap u is in
-      let was = a.counted in
-      let count = g.count in
-      let rest = rest_of left in
-      omega (arith, sum, was, count, rest, some));
+        (let sum = page_sum records_of pages pages' k (Some x) slot (a.inside k x is) cap u is in
+        let was = a.counted in
+        let count = g.count in
+        let rest = rest_of left in
+        omega (arith, sum, was, count, rest, some));
   }
     where
       some : 0 < x.count
@@ -538,14 +538,14 @@ module _ (firsts cells : List ℕ) (pages : Slab Page) (r : Records) (a : ArePag
     latest = λ block end. record { place = k; page = x'; is = u.changed; own = omega (arith, end, more) };
     kept = λ j b at. old j b at (a.kept j b at);
     paged =
-      (let sum = page_sum one_page pages pages' k (get pages k) (Some x') inside cap u refl in
-      let was = a.paged in
-      omega (arith, sum, was, len));
+        (let sum = page_sum one_page pages pages' k (get pages k) (Some x') inside cap u refl in
+        let was = a.paged in
+        omega (arith, sum, was, len));
     few = (let few = a.few in omega (arith, few, len, more));
     counted =
-      (let sum = page_sum records_of pages pages' k (get pages k) (Some x') inside cap u refl in
-      let was = a.counted in
-      omega (arith, sum, was, empty));
+        (let sum = page_sum records_of pages pages' k (get pages k) (Some x') inside cap u refl in
+        let was = a.counted in
+        omega (arith, sum, was, empty));
   }
     where
       firsts' : List ℕ

@@ -1,5 +1,5 @@
 -- Pages: each has the keys of the records of one block of births (this project's own).
-use Rattle.std.specs.Prelude.{◌≡◌, ◌≢◌, ◌+◌, ◌*◌, ◌/◌, ◌%◌, ◌<◌, ◌≤◌, ◌^◌, ◌⊎◌, ℕ, zero, suc}
+use Rattle.std.specs.Prelude.{◌≡◌, ◌≢◌, ◌+◌, ◌*◌, ◌/◌, ◌%◌, ◌<◌, ◌≤◌, ◌⊎◌, ℕ, zero, suc}
 use Rattle.std.specs.Prelude.{List, length, Option, Some, None, nat_eq, if◌then◌else◌}
 use Rattle.std.specs.Prelude.{slice_index_or, vec_capacity}
 use Rattle.slab.specs.Slab.{Slab, get, slab_len, with_value}

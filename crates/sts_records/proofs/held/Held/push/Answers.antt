@@ -1,7 +1,7 @@
-use Rattle.std.proofs.Common.{◌≡◌, ◌≤◌, ◌<◌, ◌+◌, ◌-◌, ◌∷◌, [], ℕ, length, refl, sym, ◌∙◌, ap, arith, length-append}
+use Rattle.std.proofs.Common.{◌≡◌, ◌≤◌, ◌+◌, ◌-◌, ◌∷◌, [], length, refl, sym, ◌∙◌, ap, arith, length-append}
 use Rattle.slab.specs.Slab.{slab_len}
 use Rattle.sts_records.specs.Pages.{Comes}
-use Rattle.sts_records.specs.Slots.{birth_of, records}
+use Rattle.sts_records.specs.Slots.{records}
 use Rattle.sts_records.proofs.Cells.{room_of}
 use Rattle.sts_records.proofs.Slots.{born, comes, given_pushed, length-slots}
 use Rattle.sts_records.proofs.held.Held.push.Goals as goal
@@ -27,10 +27,11 @@ turn-requires-clause-keys g c =
     let e = c.insert_reserved.ensures in
     let len = e.len in
     let firsts = ap (λ f. length f.items) c.put.ensures.firsts in
-    let total : slab_len after ≤ slab_len entries + c.self.inside.room = omega (arith, len, some) in
-    (records after,
+    let total : slab_len after ≤ slab_len entries + c.self.inside.room = omega (arith, len, some) in (
+      records after,
       c.put.ensures.keys (records entries) (records after) i.6 (comes keys entries after c.insert_reserved.result c.self.inside.born c.args.body last i.5 e.was_vacant e.updates len e.key_in_range e.capacity),
-      room_of c.self.inside.pages c.put.new.self (records after) (slab_len entries + c.self.inside.room) c.put.ensures.capacity total (omega (arith, firsts, begun, last, few, n)) i.8)
+      room_of c.self.inside.pages c.put.new.self (records after) (slab_len entries + c.self.inside.room) c.put.ensures.capacity total (omega (arith, firsts, begun, last, few, n)) i.8,
+    )
 
 pub invariant_of-self : goal.invariant_of-self
 invariant_of-self g c =

@@ -1,4 +1,4 @@
-use Rattle.std.proofs.Common.{◌%◌, ◌+◌, ◌/◌, ◌∙◌, arith}
+use Rattle.std.proofs.Common.{◌%◌, ◌+◌, ◌/◌, ◌∙◌}
 use Rattle.std.proofs.lemmas.List.{get_or_default}
 use Rattle.sts_records.specs.Pages.{counted_pages}
 use Rattle.sts_records.proofs.Cells.{begun_of, cell_inside}

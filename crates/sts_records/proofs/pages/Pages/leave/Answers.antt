@@ -1,4 +1,4 @@
-use Rattle.std.proofs.Common.{◌≡◌, ◌≢◌, ◌+◌, ◌-◌, ◌/◌, ◌∙◌, Some, length, inl, inr, refl, arith}
+use Rattle.std.proofs.Common.{◌≡◌, ◌-◌, ◌/◌, Some, inl, inr, refl, arith}
 use Rattle.slab.specs.Slab.{with_value}
 use Rattle.sts_records.specs.Pages.{counted_pages}
 use Rattle.sts_records.proofs.Cells.{latest_is, leave, page_of, recounted, reserved}

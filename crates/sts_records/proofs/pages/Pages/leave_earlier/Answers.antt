@@ -1,9 +1,9 @@
-use Rattle.std.proofs.Common.{◌≡◌, ◌≢◌, ◌<◌, ◌+◌, ◌-◌, ◌/◌, ◌∙◌, ℕ, Some, None, length, inl, inr, refl, arith}
+use Rattle.std.proofs.Common.{◌≡◌, ◌≢◌, ◌+◌, ◌-◌, ◌/◌, ◌∙◌, Some, None, length, inl, inr, refl, arith}
 use Rattle.std.proofs.lemmas.List.{get_or_default}
 use Rattle.slab.specs.Slab.{with_value}
 use Rattle.sts_records.specs.Pages.{counted_pages}
 use Rattle.sts_records.proofs.Cells.{begun_of, changed_apart, earlier_is, leave, page_of, place_is, reserved, written_page}
-use Rattle.sts_records.proofs.Slots.{got_is, is_some_got, is_some_of, now_of}
+use Rattle.sts_records.proofs.Slots.{got_is, is_some_got, now_of}
 use Rattle.sts_records.proofs.pages.Pages.leave_earlier.Goals as goal
 
 pub index-requires : goal.index-requires

@@ -1,4 +1,4 @@
-use Rattle.std.proofs.Common.{◌≡◌, ◌+◌, ◌*◌, ◌++◌, ◌∷◌, [], ◌∙◌, ℕ, Some, ap, length, length-append, refl, arith}
+use Rattle.std.proofs.Common.{◌≡◌, ◌*◌, ◌++◌, ◌∷◌, [], ◌∙◌, ℕ, Some, ap, length, length-append, refl, arith}
 use Rattle.slab.specs.Slab.{Updates, with_value}
 use Rattle.sts_records.proofs.Cells.{begin, changed_again, reserved}
 use Rattle.sts_records.proofs.pages.Pages.take_page.Goals as goal

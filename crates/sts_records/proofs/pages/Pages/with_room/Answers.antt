@@ -11,8 +11,10 @@ take_page-requires-clause-keys c =
     let again = c.capacity-2.ensures.value in
     let few = c.if-capacity-gt-PAGES.false in (
       no_records 0,
-      (empty c.in_ok-firsts.firsts.items c.in_ok-cells.cells.items c.in_ok-slab.slab 0 c.in_ok-firsts.ensures.items c.in_ok-slab.ensures.empty,
-        record { firsts = omega (arith, firsts); cells = omega (arith, cells, again); few = omega (arith, pages, few) }),
+      (
+        empty c.in_ok-firsts.firsts.items c.in_ok-cells.cells.items c.in_ok-slab.slab 0 c.in_ok-firsts.ensures.items c.in_ok-slab.ensures.empty,
+        record { firsts = omega (arith, firsts); cells = omega (arith, cells, again); few = omega (arith, pages, few) },
+      ),
     )
 
 pub returns-clause-keys : goal.returns-clause-keys
