@@ -61,8 +61,8 @@ records_of (Some page) = page.count
 abbrev pub cell_of : List ℕ → ℕ → ℕ
 cell_of firsts birth = slice_index_or firsts (birth / 64) 0 + birth % 64
 
--- the page at this place has the cells there, and counts the records of its block, of which there
--- are some, or the block is the latest
+-- the page at this place has the cells there, and counts the records of its block; there are some,
+-- or the block is the latest
 pub record IsPage (firsts : List ℕ) (r : Records) (place : ℕ) (page : Page) : Type 0 where
   pub begun : page.block < length firsts
   pub first : slice_index_or firsts page.block 0 ≡ 64 * place
@@ -127,7 +127,7 @@ AreUsed pages = (place : ℕ) (page : Page) → get pages place ≡ Some page �
 abbrev pub HasRoomForBlock : Pages → Records → Type 0
 HasRoomForBlock p r = (r.count < p.pages.capacity) ⊎ (length p.firsts.items < p.pages.capacity)
 
--- there are more pages than so many records take, or as many as there are ever blocks
+-- there are more pages than records will ever be at once, or as many as there will ever be blocks
 abbrev pub HasPagesFor : Pages → ℕ → Type 0
 HasPagesFor p records = (records < p.pages.capacity) ⊎ (15626 ≤ p.pages.capacity)
 

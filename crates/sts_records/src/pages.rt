@@ -3,8 +3,8 @@
 ghost use Rattle.std.specs.Prelude.{◌≡◌, ◌≢◌, ◌+◌, ◌/◌, ◌^◌, ◌<◌, ◌≤◌, ℕ, length, IfOk};
 ghost use Rattle.std.specs.Prelude.{Some, vec_capacity};
 ghost use Rattle.slab.specs.Slab.{HasRoomFor};
-ghost use Rattle.sts_records.specs.Pages.{AreSettled, AreUsed, Comes, Extends, Goes, HasRoomForBlock};
-ghost use Rattle.sts_records.specs.Pages.{HasPagesFor, KeepsKeys, Records, no_records};
+ghost use Rattle.sts_records.specs.Pages.{AreSettled, AreUsed, Comes, Extends, Goes, HasPagesFor};
+ghost use Rattle.sts_records.specs.Pages.{HasRoomForBlock, KeepsKeys, Records, no_records};
 
 use slab::Slab;
 use std::alloc::{AllocError, Global};
@@ -21,7 +21,7 @@ const PAGES: usize = 67_108_864;
 /// What is known of a page. Its cells are with those of the other pages.
 #[derive(Drop)]
 struct Page {
-    /// The block of the births whose keys it has.
+    /// The block of the births whose keys it has. Only clauses read it.
     block: u32,
     /// How many records these births have.
     count: u32,
@@ -188,7 +188,7 @@ impl Pages {
     }
 }
 
-/// Adds cells until there are so many.
+/// Adds cells until the list is this long.
 fn extend(cells: &mut Vec<u32>, long: usize)
     requires { long ≤ vec_capacity cells.old }
     ensures long { long ≤ length cells.new.items }
