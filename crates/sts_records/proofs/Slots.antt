@@ -16,6 +16,9 @@ use Rattle.sts_records.specs.declared.pages.Pages.{Pages}
 use Rattle.sts_records.proofs.Cells.{came, inside_of, stayed}
 use Rattle.sts_records.specs.declared.held.Entry.{Entry}
 
+some_same : {X : Type 0} → (a b : X) → Some a ≡ Some b → a ≡ b
+some_same a b e = cc
+
 -- ---- keys that births were given
 
 pub given_more : (keys : List ℕ) (at : ℕ → Option ℕ) (key : ℕ) → AreGiven keys at → AreGiven (keys ++ key ∷ []) at
@@ -184,9 +187,6 @@ module _ {T : Type 0} where
   pub birth_is : (keys : List ℕ) (entries : List (Option (Entry T))) (birth : ℕ) → (s : Stands keys entries birth) → births entries (get_or keys birth 0) ≡ Some birth
   birth_is keys entries birth s = ap birth_of s.is ∙ ap (λ (n : ℕ). Some n) s.own
 
-  pub past_born : (keys : List ℕ) (entries : List (Option (Entry T))) (birth born : ℕ) → born ≡ length keys → born ≤ birth → get_or (slots 0 keys entries) birth None ≡ None
-  past_born keys entries birth born e le = slot_past keys entries birth (omega (arith, e, le))
-
   -- no entries
   pub no_entries : (p : Pages) (entries : Slab (Entry T)) → entries.slots ≡ [] → ((keys : ℕ) → KeepsKeys p (no_records keys)) → KeepsKeys p (records entries)
   no_entries p entries none kept =
@@ -211,7 +211,7 @@ module _ {T : Type 0} where
       sym (some_at keys entries birth key e g.0 (sym g.1) (sym is) own)
 
   -- a look-up that finds no record, or one of another birth
-  pub not_found : (keys : List ℕ) (entries : List (Option (Entry T))) (birth key : ℕ) → ((k : ℕ) → births entries k ≡ Some birth → key ≡ k) → (births entries key ≡ Some birth → ⊥) → get_or (slots 0 keys entries) birth None ≡ None
+  pub not_found : (keys : List ℕ) (entries : List (Option (Entry T))) (birth key : ℕ) → ((k : ℕ) → births entries k ≡ Some birth → Some key ≡ Some k) → (births entries key ≡ Some birth → ⊥) → get_or (slots 0 keys entries) birth None ≡ None
   not_found keys entries birth key leads other = by (nat_lt birth (length keys)) refl
     where
       hole : (o : Option (Entry T)) → get_or entries (get_or keys birth 0) None ≡ o → body_of birth o ≡ None
@@ -222,12 +222,19 @@ module _ {T : Type 0} where
           own true r =
               let s : e.birth ≡ birth = grind (arith, nat_tests) in
               let is : births entries (get_or keys birth 0) ≡ Some birth = ap birth_of q ∙ ap (λ (n : ℕ). Some n) s in
-              absurd (other (ap (births entries) (leads (get_or keys birth 0) is) ∙ is))
+              absurd (other (ap (births entries) (some_same key (get_or keys birth 0) (leads (get_or keys birth 0) is)) ∙ is))
           own false r = rw r refl
 
       by : (t : Bool) → nat_lt birth (length keys) ≡ t → get_or (slots 0 keys entries) birth None ≡ None
       by true q = slot_is keys entries birth (grind (arith, nat_tests)) ∙ hole (get_or entries (get_or keys birth 0) None) refl
       by false q = slot_past keys entries birth (grind (arith, nat_tests))
+
+  -- a look-up that finds no key
+  pub missing : (keys : List ℕ) (entries : List (Option (Entry T))) (birth : ℕ) → ((k : ℕ) → births entries k ≡ Some birth → None ≡ Some k) → get_or (slots 0 keys entries) birth None ≡ None
+  missing keys entries birth none = not_found keys entries birth 0 (λ k is. absurd (no k (none k is))) (λ is. no 0 (none 0 is))
+    where
+      no : (k : ℕ) → None ≡ Some k → ⊥
+      no k e = cc
 
   pub none_of : (entries : List (Option (Entry T))) (key birth : ℕ) → get_or entries key None ≡ None → births entries key ≡ Some birth → ⊥
   none_of entries key birth is at = let no : None ≡ Some birth = sym (ap birth_of is) ∙ at in cc
@@ -288,9 +295,6 @@ module _ {T : Type 0} where
       let here = get_or-set_same entries k (Some (record { birth = s.entry.birth; body = w })) None less in
       ap (λ (l : List (Option T)). record { slots = l; keys = keys; room = room })
       (rewritten keys entries _ birth s.entry w s.less s.is s.own (here ∙ (rw s.own refl)) (λ j ne. get_or-set_other entries k j _ None ne))
-
-some_same : {X : Type 0} → (a b : X) → Some a ≡ Some b → a ≡ b
-some_same a b e = cc
 
 -- what a `&` to a record has
 pub is_some_got : {X : Type 0} → (o : Option (Bor X)) (x : X) → option_copied o ≡ Some x → IsSome o

@@ -69,7 +69,20 @@ impl Pages {
         Ok(pages)
     }
 
-    /// The key of the record of a birth. If it has none, this is any number.
+    /// The key of the record of a birth. If it has none, this is any number or none.
+    #[inline(always)]
+    pub(crate) fn find(&self, birth: usize) -> Option<u32>
+        requires { (r : Records) × KeepsKeys self.now r }
+        ensures { (r : Records) (key : ℕ) → KeepsKeys self.now r → r.at key ≡ Some birth
+            → result ≡ Some key }
+    {
+        match self.firsts.get(birth / BLOCK) {
+            None => None,
+            Some(first) => Some(self.cells[*first as usize + birth % BLOCK]),
+        }
+    }
+
+    /// The key of the record of a birth, whose block has begun. If it has none, this is any number.
     #[inline(always)]
     pub(crate) fn key(&self, birth: usize) -> usize
         requires begun { birth / 64 < length self.now.firsts.items }
