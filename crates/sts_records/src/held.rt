@@ -119,6 +119,7 @@ impl<T: Drop> Held<T> {
     }
 
     /// The record of a birth, for writing. It must exist.
+    #[inline(always)]
     pub fn at(&mut self, birth: usize) -> &mut T
         requires { slice_index_or self.old.slots birth None ≢ None }
         ensures* writes_back { sem 𝓛 (lends_slot T.row self.entry birth result) }
@@ -193,8 +194,8 @@ impl<T: Drop> Held<T> {
         ensures room { self.new.room ≡ self.old.room + 1 }
     {
         let key = self.pages.key(birth);
-        self.pages.leave(birth);
         let entry = self.entries.remove(key);
+        self.pages.leave(birth);
         self.room += 1;
         entry.body
     }

@@ -126,6 +126,7 @@ impl Pages {
     }
 
     /// The same for a birth of an earlier block.
+    #[inline(always)]
     fn leave_earlier(&mut self, birth: usize)
         requires record { (r : Records) × (key : ℕ) × KeepsKeys self.old r
             × (r.at key ≡ Some birth) }
