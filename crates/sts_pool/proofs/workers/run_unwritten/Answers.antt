@@ -8,3 +8,8 @@ returns-clause-ending g c =
     let left = c.in_ok-left in
     let ours = left.ensures.program ∙ c.in-Ok.ensures.program in
     IfOk-weaker c.ending.result _ _ (λ r told. ended_given g.O.Outside.gives c.args.outside left.left.book c.args.verified.now r.end r.steps ours left.ensures.given told) c.ending.ensures.report
+
+pub returns-clause-workers : goal.returns-clause-workers
+returns-clause-workers g c =
+    let left = c.in_ok-left in
+    IfOk-weaker c.ending.result _ _ (λ r told. told ∙ (left.ensures.workers ∙ search)) c.ending.ensures.workers
