@@ -1,5 +1,5 @@
 -- Pages when a record comes or goes, and when a block begins.
-use Rattle.std.proofs.Common.{◌≡◌, ◌≢◌, ℕ, zero, suc, ◌+◌, ◌-◌, ◌*◌, ◌/◌, ◌%◌, ◌<◌, ◌≤◌, ◌⊎◌, inl, inr, List, [], ◌∷◌, ◌++◌, length}
+use Rattle.std.proofs.Common.{◌≡◌, ◌≢◌, ℕ, zero, suc, ◌+◌, ◌-◌, ◌*◌, ◌/◌, ◌<◌, ◌≤◌, ◌⊎◌, inl, inr, List, [], ◌∷◌, ◌++◌, length}
 use Rattle.std.proofs.Common.{Option, Some, None, refl, sym, ◌∙◌, ap, arith, get_or, set, nat_eq}
 use Rattle.std.proofs.Common.{Bool, true, false, length-set, get_or-set_same, get_or-set_other}
 use Rattle.std.proofs.Common.{length-append, vec_capacity}
@@ -182,12 +182,12 @@ stayed r after key birth k b g at =
     (other, sym (g.others k other) ∙ at)
 
 -- what is reserved stays
-pub reserved : (p q : Pages) → vec_capacity q.firsts ≡ vec_capacity p.firsts → vec_capacity q.cells ≡ vec_capacity p.cells → q.pages.capacity ≡ p.pages.capacity → IsReserved p → IsReserved q
-reserved p q f c k r =
+pub reserved : (p q : Pages) → length q.firsts.items ≤ 15626 → vec_capacity q.firsts ≡ vec_capacity p.firsts → vec_capacity q.cells ≡ vec_capacity p.cells → q.pages.capacity ≡ p.pages.capacity → IsReserved p → IsReserved q
+reserved p q begun f c k r =
     let firsts = r.firsts in
     let cells = r.cells in
     let few = r.few in
-    record { firsts = omega (arith, f, firsts); cells = omega (arith, c, k, cells); few = omega (arith, k, few) }
+    record { firsts = omega (arith, f, firsts); cells = omega (arith, c, k, cells); few = omega (arith, k, few); begun = begun }
 
 -- ---- the count that is kept apart
 
@@ -215,6 +215,7 @@ room_of p q r total cap le few (inr less) = inr (omega (arith, cap, few, less))
 -- no pages have no keys
 pub empty : (firsts cells : List ℕ) (pages : Slab Page) (keys : ℕ) → firsts ≡ [] → pages.slots ≡ [] → ArePaged firsts cells pages (no_records keys)
 empty firsts cells pages keys f s = record {
+  above = λ block less. absurd (omega (arith, less, short));
   fit = λ block less. absurd (omega (arith, less, short));
   inside = λ k x is. absurd (none_some (get pages k) x (nothing k) is);
   page = λ k x is. absurd (none_some (get pages k) x (nothing k) is);
@@ -245,7 +246,7 @@ module _ (firsts cells : List ℕ) (pages : Slab Page) (r : Records) (a : ArePag
   same_place j k x y is is' e =
       let p = (a.page j x is).first in
       let q = (a.page k y is').first in
-      let same : 64 * j ≡ 64 * k = sym p ∙ (ap (λ (n : ℕ). get_or firsts n 0) e ∙ q) in
+      let same : 64 * j + 1000064 ≡ 64 * k + 1000064 = sym p ∙ (ap (λ (n : ℕ). get_or firsts n 0 + 64 * n) e ∙ q) in
       omega (arith, same)
 
   -- the page of a birth with a record
@@ -260,8 +261,8 @@ module _ (firsts cells : List ℕ) (pages : Slab Page) (r : Records) (a : ArePag
   -- the cells of two births are apart
   pub apart : (b c j k : ℕ) (x y : Page) → get pages j ≡ Some x → x.block ≡ b / 64 → get pages k ≡ Some y → y.block ≡ c / 64 → b ≢ c → cell_of firsts b ≢ cell_of firsts c
   apart b c j k x y is own is' own' ne e =
-      let p : get_or firsts (b / 64) 0 ≡ 64 * j = ap (λ (n : ℕ). get_or firsts n 0) (sym own) ∙ (a.page j x is).first in
-      let q : get_or firsts (c / 64) 0 ≡ 64 * k = ap (λ (n : ℕ). get_or firsts n 0) (sym own') ∙ (a.page k y is').first in
+      let p : get_or firsts (b / 64) 0 + 64 * (b / 64) ≡ 64 * j + 1000064 = ap (λ (n : ℕ). get_or firsts n 0 + 64 * n) (sym own) ∙ (a.page j x is).first in
+      let q : get_or firsts (c / 64) 0 + 64 * (c / 64) ≡ 64 * k + 1000064 = ap (λ (n : ℕ). get_or firsts n 0 + 64 * n) (sym own') ∙ (a.page k y is').first in
       let place : j ≡ k = omega (arith, p, q, e) in
       let same : x ≡ y = some_same x y (sym is ∙ (ap (λ (n : ℕ). get pages n) place ∙ is')) in
       let blocks : x.block ≡ y.block = ap (λ (z : Page). z.block) same in
@@ -270,23 +271,23 @@ module _ (firsts cells : List ℕ) (pages : Slab Page) (r : Records) (a : ArePag
 
   -- the cell of a birth whose block has begun
   pub cell_inside : (b : ℕ) → b / 64 < length firsts → cell_of firsts b < length cells
-  cell_inside b less = let fit = a.fit (b / 64) less in omega (arith, fit)
+  cell_inside b less =
+      let fit = a.fit (b / 64) less in
+      let above = a.above (b / 64) less in
+      omega (arith, fit, above)
+
+  pub cell_above : (b : ℕ) → b / 64 < length firsts → 1000064 ≤ get_or firsts (b / 64) 0 + b
+  cell_above b less = let above = a.above (b / 64) less in omega (arith, above)
 
   pub begun_of : (block : ℕ) → HasPage pages block → block < length firsts
   begun_of block h = let less = (a.page h.place h.page h.is).begun in rw (← h.own) less
 
-  pub first_of : (block : ℕ) (h : HasPage pages block) → get_or firsts block 0 ≡ 64 * h.place
-  first_of block h = ap (λ (n : ℕ). get_or firsts n 0) (sym h.own) ∙ (a.page h.place h.page h.is).first
+  pub first_of : (block : ℕ) (h : HasPage pages block) → get_or firsts block 0 + 64 * block ≡ 64 * h.place + 1000064
+  first_of block h = ap (λ (n : ℕ). get_or firsts n 0 + 64 * n) (sym h.own) ∙ (a.page h.place h.page h.is).first
 
-  -- where the first cell of a block leads
-  pub place_is : (block first : ℕ) (h : HasPage pages block) → first ≡ get_or firsts block 0 → first / 64 ≡ h.place
-  place_is block first h e = let f = first_of block h in omega (arith, e, f)
-
-  pub page_at : (block first : ℕ) (h : HasPage pages block) → first ≡ get_or firsts block 0 → get pages (first / 64) ≡ Some h.page
-  page_at block first h e =
-      let f = first_of block h in
-      let place : first / 64 ≡ h.place = omega (arith, e, f) in
-      rw place h.is
+  -- the place of the page of a birth's block
+  pub place_is : (b first : ℕ) (h : HasPage pages (b / 64)) → first ≡ get_or firsts (b / 64) 0 → (first + b - 1000064) / 64 ≡ h.place
+  place_is b first h e = let f = first_of (b / 64) h in omega (arith, e, f)
 
   pub count_le : (k : ℕ) (x : Page) → get pages k ≡ Some x → x.count ≤ r.count
   count_le k x is =
@@ -343,6 +344,7 @@ module _ (firsts cells : List ℕ) (pages : Slab Page) (r : Records) (a : ArePag
       → slab_len pages' ≡ slab_len pages → pages'.capacity ≡ pages.capacity
       → ArePaged firsts cells' pages' r'
   put key birth k x r' cells' pages' last is own c wrote u len cap = record {
+    above = a.above;
     fit = λ block less. rw wrote (rw (length-set cells (cell_of firsts birth) key) (a.fit block less));
     inside = λ j y at. rw cap (changed_page pages pages' k j (Some x') y u at (λ s e. rw s (a.inside k x is)) (λ s e. a.inside j y e));
     page = λ j y at. changed_page pages pages' k j (Some x') y u at (λ s e. rw (s, ← some_same x' y e) mine) (λ s e. theirs j y s e);
@@ -423,6 +425,7 @@ module _ (firsts cells : List ℕ) (pages : Slab Page) (r : Records) (a : ArePag
       → Updates pages pages' k slot → slab_len pages' + 1 ≡ slab_len pages + one_page slot → pages'.capacity ≡ pages.capacity
       → IsLeft x slot → ArePaged firsts cells pages' r'
   leave key birth k x slot r' pages' is own g u len cap left = record {
+    above = a.above;
     fit = a.fit;
     inside = λ j y at. rw cap (changed_page pages pages' k j slot y u at (λ s e. rw s (a.inside k x is)) (λ s e. a.inside j y e));
     page = λ j y at. changed_page pages pages' k j slot y u at (λ s e. mine j y s e left) (λ s e. theirs j y s e);
@@ -524,14 +527,15 @@ module _ (firsts cells : List ℕ) (pages : Slab Page) (r : Records) (a : ArePag
 
   -- ---- a block begins
 
-  pub begin : (k : ℕ) (cells' : List ℕ) (pages' : Slab Page)
-      → k < pages.capacity → 64 * k + 64 ≤ length cells' → Extends cells cells'
+  pub begin : (k o : ℕ) (cells' : List ℕ) (pages' : Slab Page)
+      → k < pages.capacity → o + 64 * length firsts ≡ 64 * k + 1000064 → 64 * k + 64 ≤ length cells' → Extends cells cells'
       → Updates pages pages' k (Some (record { block = length firsts; count = 0 }))
       → slab_len pages' + one_page (get pages k) ≡ slab_len pages + 1 → pages'.capacity ≡ pages.capacity
       → records_of (get pages k) ≡ 0
       → ((j : ℕ) (y : Page) → j ≢ k → get pages j ≡ Some y → 0 < y.count)
-      → ArePaged (firsts ++ 64 * k ∷ []) cells' pages' r
-  begin k cells' pages' inside long ext u len cap empty used = record {
+      → ArePaged (firsts ++ o ∷ []) cells' pages' r
+  begin k o cells' pages' inside cell long ext u len cap empty used = record {
+    above = λ block less. above block less (nat_eq block (length firsts)) refl;
     fit = λ block less. fit block less (nat_eq block (length firsts)) refl;
     inside = λ j y at. rw cap (changed_page pages pages' k j (Some x') y u at (λ s e. rw s inside) (λ s e. a.inside j y e));
     page = λ j y at. changed_page pages pages' k j (Some x') y u at (λ s e. rw (s, ← some_same x' y e) mine) (λ s e. theirs j y s e);
@@ -549,21 +553,34 @@ module _ (firsts cells : List ℕ) (pages : Slab Page) (r : Records) (a : ArePag
   }
     where
       firsts' : List ℕ
-      firsts' = firsts ++ 64 * k ∷ []
+      firsts' = firsts ++ o ∷ []
 
-      more : length (firsts ++ 64 * k ∷ []) ≡ length firsts + 1
-      more = length-append firsts (64 * k ∷ [])
+      more : length (firsts ++ o ∷ []) ≡ length firsts + 1
+      more = length-append firsts (o ∷ [])
 
       x' : Page
       x' = record { block = length firsts; count = 0 }
 
-      left : (block : ℕ) → block < length firsts → get_or (firsts ++ 64 * k ∷ []) block 0 ≡ get_or firsts block 0
-      left block less = get_or_append_left firsts (64 * k ∷ []) 0 block less
+      left : (block : ℕ) → block < length firsts → get_or (firsts ++ o ∷ []) block 0 ≡ get_or firsts block 0
+      left block less = get_or_append_left firsts (o ∷ []) 0 block less
 
-      fit : (block : ℕ) → block < length (firsts ++ 64 * k ∷ []) → (t : Bool) → nat_eq block (length firsts) ≡ t → get_or (firsts ++ 64 * k ∷ []) block 0 + 64 ≤ length cells'
+      seam : get_or (firsts ++ o ∷ []) (length firsts) 0 ≡ o
+      seam = get_or-append_seam firsts o [] 0
+
+      above : (block : ℕ) → block < length (firsts ++ o ∷ []) → (t : Bool) → nat_eq block (length firsts) ≡ t → 1000064 ≤ get_or (firsts ++ o ∷ []) block 0 + 64 * block
+      above block less true q =
+          let s : block ≡ length firsts = grind (arith, nat_tests) in
+          rw (s, seam) (omega (arith, cell))
+      above block less false q =
+          let s : block ≢ length firsts = grind (arith, nat_tests) in
+          let before : block < length firsts = omega (arith, less, more, s) in
+          let above = a.above block before in
+          rw (left block before) above
+
+      fit : (block : ℕ) → block < length (firsts ++ o ∷ []) → (t : Bool) → nat_eq block (length firsts) ≡ t → get_or (firsts ++ o ∷ []) block 0 + 64 * block + 64 ≤ length cells' + 1000064
       fit block less true q =
           let s : block ≡ length firsts = grind (arith, nat_tests) in
-          rw (s, get_or-append_seam firsts (64 * k) [] 0) long
+          rw (s, seam) (omega (arith, cell, long))
       fit block less false q =
           let s : block ≢ length firsts = grind (arith, nat_tests) in
           let before : block < length firsts = omega (arith, less, more, s) in
@@ -571,8 +588,8 @@ module _ (firsts cells : List ℕ) (pages : Slab Page) (r : Records) (a : ArePag
           let long = ext.long in
           rw (left block before) (omega (arith, fit, long))
 
-      mine : IsPage (firsts ++ 64 * k ∷ []) r k x'
-      mine = record { begun = omega (arith, more); first = get_or-append_seam firsts (64 * k) [] 0; counted = sym (zero_sum r.keys (λ i. of_block (length firsts) (r.at i)) (λ i. none i (r.at i) refl)); used = inr (omega (arith, more)) }
+      mine : IsPage (firsts ++ o ∷ []) r k x'
+      mine = record { begun = omega (arith, more); first = rw seam cell; counted = sym (zero_sum r.keys (λ i. of_block (length firsts) (r.at i)) (λ i. none i (r.at i) refl)); used = inr (omega (arith, more)) }
         where
           none : (i : ℕ) (o : Option ℕ) → r.at i ≡ o → of_block (length firsts) (r.at i) ≡ 0
           none i None q = rw q refl
@@ -580,19 +597,19 @@ module _ (firsts cells : List ℕ) (pages : Slab Page) (r : Records) (a : ArePag
               let less = begun_of (b / 64) (a.kept i b q).paged in
               rw q (in_other (length firsts) b (λ e. omega (arith, less, e)))
 
-      theirs : (j : ℕ) (y : Page) → j ≢ k → get pages j ≡ Some y → IsPage (firsts ++ 64 * k ∷ []) r j y
+      theirs : (j : ℕ) (y : Page) → j ≢ k → get pages j ≡ Some y → IsPage (firsts ++ o ∷ []) r j y
       theirs j y ne at =
           let p = a.page j y at in
           let less = p.begun in
-          record { begun = omega (arith, less, more); first = left y.block p.begun ∙ p.first; counted = p.counted; used = inl (used j y ne at) }
+          record { begun = omega (arith, less, more); first = rw (left y.block p.begun) p.first; counted = p.counted; used = inl (used j y ne at) }
 
-      old : (j b : ℕ) → r.at j ≡ Some b → IsKept firsts cells pages r.keys j b → IsKept (firsts ++ 64 * k ∷ []) cells' pages' r.keys j b
+      old : (j b : ℕ) → r.at j ≡ Some b → IsKept firsts cells pages r.keys j b → IsKept (firsts ++ o ∷ []) cells' pages' r.keys j b
       old j b at kept =
           let h = kept.paged in
           let some = page_of j b h.place h.page at h.is h.own in
           let apart : h.place ≢ k = λ s. (let here : records_of (get pages k) ≡ h.page.count = rw (← s, h.is) refl in omega (arith, some, here, empty)) in
           let less = begun_of (b / 64) h in
-          let same : cell_of (firsts ++ 64 * k ∷ []) b ≡ cell_of firsts b = ap (λ (n : ℕ). n + b % 64) (left (b / 64) less) in
+          let same : cell_of (firsts ++ o ∷ []) b ≡ cell_of firsts b = ap (λ (n : ℕ). n + b - 1000064) (left (b / 64) less) in
           record { few = kept.few; paged = record { place = h.place; page = h.page; is = u.others h.place apart ∙ h.is; own = h.own }; cell = rw same (ext.same (cell_of firsts b) (cell_inside b less) ∙ kept.cell) }
 
 -- ---- the page of the latest block
@@ -603,5 +620,5 @@ module _ (p : Pages) (r : Records) (kept : KeepsKeys p r) where
       let end = kept.last in
       record { place = kept.place; page = record { block = kept.page.block; count = p.count }; is = latest_is p r kept; own = omega (arith, last, end) }
 
-  pub latest_first : (block first : ℕ) → block + 1 ≡ length p.firsts.items → first ≡ get_or p.firsts.items block 0 → first ≡ 64 * kept.place
-  latest_first block first last e = e ∙ first_of p.firsts.items p.cells.items (counted_pages p kept.place kept.page) r kept.paged block (latest_has block last)
+  pub latest_first : (block first : ℕ) → block + 1 ≡ length p.firsts.items → first ≡ get_or p.firsts.items block 0 → first + 64 * block ≡ 64 * kept.place + 1000064
+  latest_first block first last e = ap (λ (n : ℕ). n + 64 * block) e ∙ first_of p.firsts.items p.cells.items (counted_pages p kept.place kept.page) r kept.paged block (latest_has block last)

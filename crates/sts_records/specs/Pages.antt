@@ -1,5 +1,5 @@
 -- Pages: each has the keys of the records of one block of births (this project's own).
-use Rattle.std.specs.Prelude.{◌≡◌, ◌≢◌, ◌+◌, ◌*◌, ◌/◌, ◌%◌, ◌<◌, ◌≤◌, ◌⊎◌, ℕ, zero, suc}
+use Rattle.std.specs.Prelude.{◌≡◌, ◌≢◌, ◌+◌, ◌-◌, ◌*◌, ◌/◌, ◌<◌, ◌≤◌, ◌⊎◌, ℕ, zero, suc}
 use Rattle.std.specs.Prelude.{List, length, Option, Some, None, nat_eq, if◌then◌else◌}
 use Rattle.std.specs.Prelude.{slice_index_or, vec_capacity}
 use Rattle.slab.specs.Slab.{Slab, get, slab_len, with_value}
@@ -59,13 +59,13 @@ records_of (Some page) = page.count
 
 -- the cell of a birth
 abbrev pub cell_of : List ℕ → ℕ → ℕ
-cell_of firsts birth = slice_index_or firsts (birth / 64) 0 + birth % 64
+cell_of firsts birth = slice_index_or firsts (birth / 64) 0 + birth - 1000064
 
 -- the page at this place has the cells there, and counts the records of its block; there are some,
 -- or the block is the latest
 pub record IsPage (firsts : List ℕ) (r : Records) (place : ℕ) (page : Page) : Type 0 where
   pub begun : page.block < length firsts
-  pub first : slice_index_or firsts page.block 0 ≡ 64 * place
+  pub first : slice_index_or firsts page.block 0 + 64 * page.block ≡ 64 * place + 1000064
   pub counted : page.count ≡ in_block r page.block
   pub used : (0 < page.count) ⊎ (page.block + 1 ≡ length firsts)
 
@@ -84,8 +84,10 @@ pub record IsKept (firsts cells : List ℕ) (pages : Slab Page) (keys key birth 
 
 -- pages have the keys of these records
 pub record ArePaged (firsts cells : List ℕ) (pages : Slab Page) (r : Records) : Type 0 where
+  pub above : (block : ℕ) → block < length firsts
+      → 1000064 ≤ slice_index_or firsts block 0 + 64 * block
   pub fit : (block : ℕ) → block < length firsts
-      → slice_index_or firsts block 0 + 64 ≤ length cells
+      → slice_index_or firsts block 0 + 64 * block + 64 ≤ length cells + 1000064
   pub inside : (place : ℕ) (page : Page) → get pages place ≡ Some page → place < pages.capacity
   pub page : (place : ℕ) (page : Page) → get pages place ≡ Some page
       → IsPage firsts r place page
@@ -99,7 +101,8 @@ pub record ArePaged (firsts cells : List ℕ) (pages : Slab Page) (r : Records) 
 pub record IsReserved (p : Pages) : Type 0 where
   pub firsts : 15626 ≤ vec_capacity p.firsts
   pub cells : 64 * p.pages.capacity ≤ vec_capacity p.cells
-  pub few : p.pages.capacity ≤ 67108864
+  pub few : p.pages.capacity ≤ 60000000
+  pub begun : length p.firsts.items ≤ 15626
 
 -- pages have the keys of these records, and each has its own count
 abbrev pub AreSettled : Pages → Records → Type 0

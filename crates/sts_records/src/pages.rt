@@ -15,8 +15,11 @@ const BLOCK: usize = 64;
 /// How many blocks begin by the time that 1,000,000 births have come.
 const BLOCKS: usize = 15_626;
 
-/// How many pages a slab may have. Each of their cells then has a place of 32 bits.
-const PAGES: usize = 67_108_864;
+/// How many pages a slab may have. What is added to a birth for its cell then has 32 bits.
+const PAGES: usize = 60_000_000;
+
+/// How many births `BLOCKS` blocks have.
+const BIRTHS: usize = 1_000_064;
 
 /// What is known of a page. Its cells are with those of the other pages.
 #[derive(Drop)]
@@ -32,7 +35,8 @@ struct Page {
 /// The latest block always has a page. Another block has one while a birth of it has a record.
 #[derive(Drop)]
 pub(crate) struct Pages {
-    /// The first cell of the page of each block. It is stale if the block has no page any more.
+    /// For each block: what is added to a birth for its cell, and `BIRTHS`. It is stale if the
+    /// block has no page any more.
     firsts: Vec<u32>,
     /// The cells of all pages, with the key of each birth.
     cells: Vec<u32>,
@@ -78,7 +82,7 @@ impl Pages {
     {
         match self.firsts.get(birth / BLOCK) {
             None => None,
-            Some(first) => Some(self.cells[*first as usize + birth % BLOCK]),
+            Some(first) => Some(self.cells[*first as usize + birth - BIRTHS]),
         }
     }
 
@@ -91,7 +95,7 @@ impl Pages {
             → result ≡ key }
     {
         let first = self.firsts[birth / BLOCK] as usize;
-        self.cells[first + birth % BLOCK] as usize
+        self.cells[first + birth - BIRTHS] as usize
     }
 
     /// A birth of the latest block gets a record with this key.
@@ -105,7 +109,7 @@ impl Pages {
         ensures capacity { self.new.pages.capacity ≡ self.old.pages.capacity }
     {
         let first = self.firsts[birth / BLOCK] as usize;
-        self.cells[first + birth % BLOCK] = key;
+        self.cells[first + birth - BIRTHS] = key;
         self.count += 1;
     }
 
@@ -136,7 +140,7 @@ impl Pages {
         ensures firsts { self.new.firsts ≡ self.old.firsts }
         ensures capacity { self.new.pages.capacity ≡ self.old.pages.capacity }
     {
-        let place = self.firsts[birth / BLOCK] as usize / BLOCK;
+        let place = (self.firsts[birth / BLOCK] as usize + birth - BIRTHS) / BLOCK;
         let count = self.pages.get(place).unwrap().count;
         if count == 1 {
             self.pages.remove(place);
@@ -173,10 +177,10 @@ impl Pages {
     {
         let block = self.firsts.len();
         let first = self.firsts[block - 1];
-        let place = first as usize / BLOCK;
+        let place = (first as usize + (block - 1) * BLOCK - BIRTHS) / BLOCK;
         if self.count == 0 {
             self.pages.get_mut(place).unwrap().block = block as u32;
-            self.firsts.push_reserved(first);
+            self.firsts.push_reserved(first - BLOCK as u32);
         } else {
             self.pages.get_mut(place).unwrap().count = self.count;
             self.take_page();
@@ -193,11 +197,13 @@ impl Pages {
         ensures begun { length self.new.firsts.items ≡ length self.old.firsts.items + 1 }
         ensures capacity { self.new.pages.capacity ≡ self.old.pages.capacity }
     {
-        let block = self.firsts.len() as u32;
-        let place = self.pages.insert_reserved(Page { block, count: 0 });
-        let first = place * BLOCK;
-        extend(&mut self.cells, first + BLOCK);
-        self.firsts.push_reserved(first as u32);
+        let block = self.firsts.len();
+        let place = self.pages.insert_reserved(Page {
+            block: block as u32,
+            count: 0,
+        });
+        extend(&mut self.cells, place * BLOCK + BLOCK);
+        self.firsts.push_reserved((place * BLOCK + BIRTHS - block * BLOCK) as u32);
         self.count = 0;
     }
 }

@@ -14,7 +14,7 @@ unwrap-requires c =
     let size : c.len-block.result ≡ length p.firsts.items = c.len-block.ensures ∙ p.firsts.ok.0 in
     let last : (c.len-block.result - 1) + 1 ≡ length p.firsts.items = omega (arith, size, few) in
     let first = latest_first p r kept (c.len-block.result - 1) c.index-first.result.now last (c.index-first.ensures ∙ get_or_default p.firsts.items (c.len-block.result - 1) c.index-first.result.now 0 (omega (arith, last))) in
-    let place : c.index-first.result.now / 64 ≡ kept.place = omega (arith, first) in
+    let place : (c.index-first.result.now + (c.len-block.result - 1) * 64 - 1000064) / 64 ≡ kept.place = omega (arith, first) in
     is_some_of c.get_mut.result kept.page (c.get_mut.ensures.value ∙ (rw place kept.is))
 
 pub unwrap-requires-else-self-eq0 : goal.unwrap-requires-else-self-eq0
@@ -25,7 +25,7 @@ unwrap-requires-else-self-eq0 c =
     let size : c.len-block.result ≡ length p.firsts.items = c.len-block.ensures ∙ p.firsts.ok.0 in
     let last : (c.len-block.result - 1) + 1 ≡ length p.firsts.items = omega (arith, size, few) in
     let first = latest_first p r kept (c.len-block.result - 1) c.index-first.result.now last (c.index-first.ensures ∙ get_or_default p.firsts.items (c.len-block.result - 1) c.index-first.result.now 0 (omega (arith, last))) in
-    let place : c.index-first.result.now / 64 ≡ kept.place = omega (arith, first) in
+    let place : (c.index-first.result.now + (c.len-block.result - 1) * 64 - 1000064) / 64 ≡ kept.place = omega (arith, first) in
     is_some_of c.get_mut-else-self-eq0.result kept.page (c.get_mut-else-self-eq0.ensures.value ∙ (rw place kept.is))
 
 pub take_page-requires-clause-used : goal.take_page-requires-clause-used
@@ -36,7 +36,7 @@ take_page-requires-clause-used c =
     let size : c.len-block.result ≡ length p.firsts.items = c.len-block.ensures ∙ p.firsts.ok.0 in
     let last : (c.len-block.result - 1) + 1 ≡ length p.firsts.items = omega (arith, size, few) in
     let first = latest_first p r kept (c.len-block.result - 1) c.index-first.result.now last (c.index-first.ensures ∙ get_or_default p.firsts.items (c.len-block.result - 1) c.index-first.result.now 0 (omega (arith, last))) in
-    let place : c.index-first.result.now / 64 ≡ kept.place = omega (arith, first) in
+    let place : (c.index-first.result.now + (c.len-block.result - 1) * 64 - 1000064) / 64 ≡ kept.place = omega (arith, first) in
     let now = now_of c.get_mut-else-self-eq0.result c.unwrap-else-self-eq0.result kept.page c.unwrap-else-self-eq0.ensures (c.get_mut-else-self-eq0.ensures.value ∙ (rw place kept.is)) in
     let some = c.if-self-eq0.false in
     rw (place, now) (all_used p.firsts.items p.cells.items (counted_pages p kept.place kept.page) r kept.paged (c.len-block.result - 1) (latest_has p r kept (c.len-block.result - 1) last) last (omega (arith, some)))
@@ -49,7 +49,7 @@ take_page-requires-clause-room c =
     let size : c.len-block.result ≡ length p.firsts.items = c.len-block.ensures ∙ p.firsts.ok.0 in
     let last : (c.len-block.result - 1) + 1 ≡ length p.firsts.items = omega (arith, size, few) in
     let first = latest_first p r kept (c.len-block.result - 1) c.index-first.result.now last (c.index-first.ensures ∙ get_or_default p.firsts.items (c.len-block.result - 1) c.index-first.result.now 0 (omega (arith, last))) in
-    let place : c.index-first.result.now / 64 ≡ kept.place = omega (arith, first) in
+    let place : (c.index-first.result.now + (c.len-block.result - 1) * 64 - 1000064) / 64 ≡ kept.place = omega (arith, first) in
     let now = now_of c.get_mut-else-self-eq0.result c.unwrap-else-self-eq0.result kept.page c.unwrap-else-self-eq0.ensures (c.get_mut-else-self-eq0.ensures.value ∙ (rw place kept.is)) in
     let some = c.if-self-eq0.false in
     rw (place, now) (room_for p.firsts.items p.cells.items (counted_pages p kept.place kept.page) r kept.paged (all_used p.firsts.items p.cells.items (counted_pages p kept.place kept.page) r kept.paged (c.len-block.result - 1) (latest_has p r kept (c.len-block.result - 1) last) last (omega (arith, some))) room)
@@ -62,9 +62,9 @@ take_page-requires-clause-keys c =
     let size : c.len-block.result ≡ length p.firsts.items = c.len-block.ensures ∙ p.firsts.ok.0 in
     let last : (c.len-block.result - 1) + 1 ≡ length p.firsts.items = omega (arith, size, few) in
     let first = latest_first p r kept (c.len-block.result - 1) c.index-first.result.now last (c.index-first.ensures ∙ get_or_default p.firsts.items (c.len-block.result - 1) c.index-first.result.now 0 (omega (arith, last))) in
-    let place : c.index-first.result.now / 64 ≡ kept.place = omega (arith, first) in
+    let place : (c.index-first.result.now + (c.len-block.result - 1) * 64 - 1000064) / 64 ≡ kept.place = omega (arith, first) in
     let now = now_of c.get_mut-else-self-eq0.result c.unwrap-else-self-eq0.result kept.page c.unwrap-else-self-eq0.ensures (c.get_mut-else-self-eq0.ensures.value ∙ (rw place kept.is)) in
-    (r, (rw (place, now) (kept.paged, reserved p _ refl refl refl kept.reserved)))
+    (r, (rw (place, now) (kept.paged, reserved p _ kept.reserved.begun refl refl refl kept.reserved)))
 
 pub returns-else-self-eq0-clause-keys : goal.returns-else-self-eq0-clause-keys
 returns-else-self-eq0-clause-keys c r kept =
@@ -73,9 +73,9 @@ returns-else-self-eq0-clause-keys c r kept =
     let size : c.len-block.result ≡ length p.firsts.items = c.len-block.ensures ∙ p.firsts.ok.0 in
     let last : (c.len-block.result - 1) + 1 ≡ length p.firsts.items = omega (arith, size, few) in
     let first = latest_first p r kept (c.len-block.result - 1) c.index-first.result.now last (c.index-first.ensures ∙ get_or_default p.firsts.items (c.len-block.result - 1) c.index-first.result.now 0 (omega (arith, last))) in
-    let place : c.index-first.result.now / 64 ≡ kept.place = omega (arith, first) in
+    let place : (c.index-first.result.now + (c.len-block.result - 1) * 64 - 1000064) / 64 ≡ kept.place = omega (arith, first) in
     let now = now_of c.get_mut-else-self-eq0.result c.unwrap-else-self-eq0.result kept.page c.unwrap-else-self-eq0.ensures (c.get_mut-else-self-eq0.ensures.value ∙ (rw place kept.is)) in
-    c.take_page.ensures.keys r (rw (place, now) (kept.paged, reserved p _ refl refl refl kept.reserved))
+    c.take_page.ensures.keys r (rw (place, now) (kept.paged, reserved p _ kept.reserved.begun refl refl refl kept.reserved))
 
 pub returns-then-self-eq0-clause-keys : goal.returns-then-self-eq0-clause-keys
 returns-then-self-eq0-clause-keys c r kept =
@@ -84,10 +84,11 @@ returns-then-self-eq0-clause-keys c r kept =
     let size : c.len-block.result ≡ length p.firsts.items = c.len-block.ensures ∙ p.firsts.ok.0 in
     let last : (c.len-block.result - 1) + 1 ≡ length p.firsts.items = omega (arith, size, few) in
     let first = latest_first p r kept (c.len-block.result - 1) c.index-first.result.now last (c.index-first.ensures ∙ get_or_default p.firsts.items (c.len-block.result - 1) c.index-first.result.now 0 (omega (arith, last))) in
-    let place : c.index-first.result.now / 64 ≡ kept.place = omega (arith, first) in
+    let place : (c.index-first.result.now + (c.len-block.result - 1) * 64 - 1000064) / 64 ≡ kept.place = omega (arith, first) in
     let now = now_of c.get_mut.result c.unwrap.result kept.page c.unwrap.ensures (c.get_mut.ensures.value ∙ (rw place kept.is)) in
     let zero = c.if-self-eq0.true in
-    let shape : c.push_reserved.new.self.items ≡ p.firsts.items ++ 64 * kept.place ∷ [] = c.push_reserved.ensures.items ∙ ap (λ (n : ℕ). p.firsts.items ++ n ∷ []) first in
+    let shape = c.push_reserved.ensures.items in
+    let less = c.requires.few.1 in
     let pages = counted_pages p kept.place kept.page in
     let latest = latest_is p r kept in
     let h = latest_has p r kept (c.len-block.result - 1) last in
@@ -98,15 +99,16 @@ returns-then-self-eq0-clause-keys c r kept =
     let again = x.1 in
     let inside : c.len-block.result - 1 < length p.firsts.items = omega (arith, last) in
     let fit = kept.paged.fit (c.len-block.result - 1) inside in
-    let cell = c.index-first.ensures ∙ get_or_default p.firsts.items (c.len-block.result - 1) c.index-first.result.now 0 inside in
+    let within_cells = c.index-first.ensures ∙ get_or_default p.firsts.items (c.len-block.result - 1) c.index-first.result.now 0 inside in
+    let cell : (c.index-first.result.now - 64) + 64 * length p.firsts.items ≡ 64 * kept.place + 1000064 = omega (arith, first, last, less) in
     let within = kept.paged.inside kept.place (record { block = kept.page.block; count = p.count }) latest in
     let used = others_used p.firsts.items p.cells.items pages r kept.paged (c.len-block.result - 1) h last in
-    let longer = length-append p.firsts.items (64 * kept.place ∷ []) in
-    rw (size, place, now) (record {
+    let longer = length-append p.firsts.items ((c.index-first.result.now - 64) ∷ []) in
+    rw (place, size, now) (record {
       place = kept.place;
       page = record { block = length p.firsts.items; count = kept.page.count };
       is = v.0.changed;
       last = rw shape (omega (arith, longer));
-      paged = rw (shape, zero) (begin p.firsts.items p.cells.items pages r kept.paged kept.place p.cells.items (with_value (with_value p.pages kept.place (record { block = length p.firsts.items; count = kept.page.count })) kept.place (record { block = length p.firsts.items; count = 0 })) within (omega (arith, fit, first, cell)) (record { long = omega arith; same = λ i l. refl }) x.0 (rw latest (omega (arith, same, again))) refl (rw latest zero) used);
-      reserved = reserved p _ c.push_reserved.ensures.capacity refl refl kept.reserved;
+      paged = rw (shape, zero) (begin p.firsts.items p.cells.items pages r kept.paged kept.place (c.index-first.result.now - 64) p.cells.items (with_value (with_value p.pages kept.place (record { block = length p.firsts.items; count = kept.page.count })) kept.place (record { block = length p.firsts.items; count = 0 })) within cell (omega (arith, fit, first, within_cells)) (record { long = omega arith; same = λ i l. refl }) x.0 (rw latest (omega (arith, same, again))) refl (rw latest zero) used);
+      reserved = reserved p _ (rw shape (omega (arith, longer, less))) c.push_reserved.ensures.capacity refl refl kept.reserved;
     })

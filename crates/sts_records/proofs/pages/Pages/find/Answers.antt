@@ -1,4 +1,4 @@
-use Rattle.std.proofs.Common.{◌≡◌, ◌<◌, ◌%◌, ◌+◌, ◌/◌, ◌∙◌, ℕ, Some, ap, arith, get_or, length}
+use Rattle.std.proofs.Common.{◌≡◌, ◌<◌, ◌-◌, ◌+◌, ◌/◌, ◌∙◌, ℕ, Some, ap, arith, get_or, length}
 use Rattle.std.proofs.lemmas.Bool.Decides.{nat_tests}
 use Rattle.std.proofs.lemmas.List.{get_or_default}
 use Rattle.sts_records.specs.Pages.{counted_pages}
@@ -19,5 +19,5 @@ returns-in-Some c r key keeps is =
     let begun = begun_of p.firsts.items p.cells.items (counted_pages p keeps.place keeps.page) r keeps.paged (c.args.birth / 64) kept.paged in
     let first : c.in-Some.first.now ≡ get_or p.firsts.items (c.args.birth / 64) 0 = rw c.deref.ensures.value at (c.in-Some.ensures.lookup.3.1 0) in
     let inside = cell_inside p.firsts.items p.cells.items (counted_pages p keeps.place keeps.page) r keeps.paged c.args.birth begun in
-    let cell = c.index.ensures ∙ get_or_default p.cells.items (c.in-Some.first.now + c.args.birth % 64) c.index.result.now 0 (rw first inside) in
+    let cell = c.index.ensures ∙ get_or_default p.cells.items (c.in-Some.first.now + c.args.birth - 1000064) c.index.result.now 0 (rw first inside) in
     ap (λ (n : ℕ). Some n) (cell ∙ (rw first kept.cell))

@@ -1,4 +1,4 @@
-use Rattle.std.proofs.Common.{◌%◌, ◌+◌, ◌/◌, ◌∙◌}
+use Rattle.std.proofs.Common.{◌-◌, ◌+◌, ◌/◌, ◌∙◌}
 use Rattle.std.proofs.lemmas.List.{get_or_default}
 use Rattle.sts_records.specs.Pages.{counted_pages}
 use Rattle.sts_records.proofs.Cells.{begun_of, cell_inside}
@@ -15,5 +15,5 @@ returns c r key keeps is =
     let begun = begun_of firsts cells pages r a (birth / 64) kept.paged in
     let first = c.index.ensures ∙ get_or_default firsts (birth / 64) c.index.result.now 0 begun in
     let inside = cell_inside firsts cells pages r a birth begun in
-    let cell = c.index-2.ensures ∙ get_or_default cells (c.index.result.now + birth % 64) c.index-2.result.now 0 (rw first inside) in
+    let cell = c.index-2.ensures ∙ get_or_default cells (c.index.result.now + birth - 1000064) c.index-2.result.now 0 (rw first inside) in
     cell ∙ (rw first kept.cell)

@@ -39,5 +39,5 @@ returns-then-birth-len-clause-keys c r after key kept goes =
       is = kept.is;
       last = kept.last;
       paged = leave p.firsts.items p.cells.items (counted_pages p kept.place kept.page) r kept.paged key c.args.birth kept.place (record { block = kept.page.block; count = p.count }) (Some (record { block = kept.page.block; count = p.count - 1 })) after (with_value p.pages kept.place (record { block = kept.page.block; count = p.count - 1 })) (latest_is p r kept) own goes w.0 (omega (arith, many)) refl (inl (refl, inr last));
-      reserved = reserved p _ refl refl refl kept.reserved;
+      reserved = reserved p _ kept.reserved.begun refl refl refl kept.reserved;
     }

@@ -2,7 +2,7 @@ use Rattle.std.proofs.Common.{◌≡◌, ◌≢◌, ◌+◌, ◌-◌, ◌/◌, �
 use Rattle.std.proofs.lemmas.List.{get_or_default}
 use Rattle.slab.specs.Slab.{with_value}
 use Rattle.sts_records.specs.Pages.{counted_pages}
-use Rattle.sts_records.proofs.Cells.{begun_of, changed_apart, earlier_is, leave, page_of, place_is, reserved, written_page}
+use Rattle.sts_records.proofs.Cells.{begun_of, changed_apart, earlier_is, first_of, leave, page_of, place_is, reserved, written_page}
 use Rattle.sts_records.proofs.Slots.{got_is, is_some_got, now_of}
 use Rattle.sts_records.proofs.pages.Pages.leave_earlier.Goals as goal
 
@@ -14,6 +14,30 @@ index-requires c =
     let ok = p.firsts.ok.0 in
     omega (arith, begun, ok)
 
+pub overflow_add-place : goal.overflow_add-place
+overflow_add-place c =
+    let (r, key, kept, is) = c.requires.record in
+    let p = c.args.self.now in
+    let pages = counted_pages p kept.place kept.page in
+    let h = (kept.paged.kept key c.args.birth is).paged in
+    let begun = begun_of p.firsts.items p.cells.items pages r kept.paged (c.args.birth / 64) h in
+    let first = c.index.ensures ∙ get_or_default p.firsts.items (c.args.birth / 64) c.index.result.now 0 begun in
+    let at = first_of p.firsts.items p.cells.items pages r kept.paged (c.args.birth / 64) h in
+    let inside = kept.paged.inside h.place h.page h.is in
+    let few = kept.reserved.few in
+    omega (arith, first, at, inside, few)
+
+pub overflow_sub-place : goal.overflow_sub-place
+overflow_sub-place c =
+    let (r, key, kept, is) = c.requires.record in
+    let p = c.args.self.now in
+    let pages = counted_pages p kept.place kept.page in
+    let h = (kept.paged.kept key c.args.birth is).paged in
+    let begun = begun_of p.firsts.items p.cells.items pages r kept.paged (c.args.birth / 64) h in
+    let first = c.index.ensures ∙ get_or_default p.firsts.items (c.args.birth / 64) c.index.result.now 0 begun in
+    let at = first_of p.firsts.items p.cells.items pages r kept.paged (c.args.birth / 64) h in
+    omega (arith, first, at)
+
 pub unwrap-requires : goal.unwrap-requires
 unwrap-requires c =
     let (r, key, kept, is) = c.requires.record in
@@ -22,7 +46,7 @@ unwrap-requires c =
     let h = (kept.paged.kept key c.args.birth is).paged in
     let begun = begun_of p.firsts.items p.cells.items pages r kept.paged (c.args.birth / 64) h in
     let first = c.index.ensures ∙ get_or_default p.firsts.items (c.args.birth / 64) c.index.result.now 0 begun in
-    let place = place_is p.firsts.items p.cells.items pages r kept.paged (c.args.birth / 64) c.index.result.now h first in
+    let place = place_is p.firsts.items p.cells.items pages r kept.paged c.args.birth c.index.result.now h first in
     let own = earlier_is p r kept (c.args.birth / 64) h c.requires.earlier in
     is_some_got c.get.result h.page (c.get.ensures ∙ (rw place own.1))
 
@@ -34,7 +58,7 @@ overflow_sub-count c =
     let h = (kept.paged.kept key c.args.birth is).paged in
     let begun = begun_of p.firsts.items p.cells.items pages r kept.paged (c.args.birth / 64) h in
     let first = c.index.ensures ∙ get_or_default p.firsts.items (c.args.birth / 64) c.index.result.now 0 begun in
-    let place = place_is p.firsts.items p.cells.items pages r kept.paged (c.args.birth / 64) c.index.result.now h first in
+    let place = place_is p.firsts.items p.cells.items pages r kept.paged c.args.birth c.index.result.now h first in
     let own = earlier_is p r kept (c.args.birth / 64) h c.requires.earlier in
     let got = got_is c.get.result c.unwrap.result h.page c.unwrap.ensures (c.get.ensures ∙ (rw place own.1)) in
     let some = page_of p.firsts.items p.cells.items pages r kept.paged key c.args.birth h.place h.page is h.is h.own in
@@ -47,7 +71,7 @@ returns-then-count-eq1-clause-keys c r after key kept goes =
     let h = (kept.paged.kept key c.args.birth goes.was).paged in
     let begun = begun_of p.firsts.items p.cells.items pages r kept.paged (c.args.birth / 64) h in
     let first = c.index.ensures ∙ get_or_default p.firsts.items (c.args.birth / 64) c.index.result.now 0 begun in
-    let place = place_is p.firsts.items p.cells.items pages r kept.paged (c.args.birth / 64) c.index.result.now h first in
+    let place = place_is p.firsts.items p.cells.items pages r kept.paged c.args.birth c.index.result.now h first in
     let raw = earlier_is p r kept (c.args.birth / 64) h c.requires.earlier in
     let got = got_is c.get.result c.unwrap.result h.page c.unwrap.ensures (c.get.ensures ∙ (rw place raw.1)) in
     let one : h.page.count ≡ 1 = rw got at c.if-count-eq1.true in
@@ -65,7 +89,7 @@ returns-then-count-eq1-clause-keys c r after key kept goes =
       is = w.3;
       last = kept.last;
       paged = leave p.firsts.items p.cells.items pages r kept.paged key c.args.birth h.place h.page None after (with_value c.remove.new.self kept.place (record { block = kept.page.block; count = p.count })) h.is own goes w.0 (omega (arith, less, many, was)) e.capacity (inr (refl, one, other));
-      reserved = reserved p _ refl refl e.capacity kept.reserved;
+      reserved = reserved p _ kept.reserved.begun refl refl e.capacity kept.reserved;
     }
 
 pub returns-else-count-eq1-clause-keys : goal.returns-else-count-eq1-clause-keys
@@ -75,7 +99,7 @@ returns-else-count-eq1-clause-keys c r after key kept goes =
     let h = (kept.paged.kept key c.args.birth goes.was).paged in
     let begun = begun_of p.firsts.items p.cells.items pages r kept.paged (c.args.birth / 64) h in
     let first = c.index.ensures ∙ get_or_default p.firsts.items (c.args.birth / 64) c.index.result.now 0 begun in
-    let place = place_is p.firsts.items p.cells.items pages r kept.paged (c.args.birth / 64) c.index.result.now h first in
+    let place = place_is p.firsts.items p.cells.items pages r kept.paged c.args.birth c.index.result.now h first in
     let raw = earlier_is p r kept (c.args.birth / 64) h c.requires.earlier in
     let got = got_is c.get.result c.unwrap.result h.page c.unwrap.ensures (c.get.ensures ∙ (rw place raw.1)) in
     let now = now_of c.get_mut.result c.unwrap-else-count-eq1.result h.page c.unwrap-else-count-eq1.ensures (c.get_mut.ensures.value ∙ (rw place raw.1)) in
@@ -91,5 +115,5 @@ returns-else-count-eq1-clause-keys c r after key kept goes =
       is = w.3;
       last = kept.last;
       paged = leave p.firsts.items p.cells.items pages r kept.paged key c.args.birth h.place h.page (Some (record { block = h.page.block; count = h.page.count - 1 })) after (with_value (with_value p.pages h.place (record { block = h.page.block; count = h.page.count - 1 })) kept.place (record { block = kept.page.block; count = p.count })) h.is h.own goes w.0 (omega (arith, same, many, was)) refl (inl (refl, inl more));
-      reserved = reserved p _ refl refl refl kept.reserved;
+      reserved = reserved p _ kept.reserved.begun refl refl refl kept.reserved;
     })

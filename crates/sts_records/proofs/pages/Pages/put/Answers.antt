@@ -1,4 +1,4 @@
-use Rattle.std.proofs.Common.{◌≡◌, ◌<◌, ◌+◌, ◌/◌, ◌%◌, ◌∙◌, length, refl, sym, set, arith}
+use Rattle.std.proofs.Common.{◌≡◌, ◌<◌, ◌+◌, ◌/◌, ◌-◌, ◌∙◌, length, refl, sym, set, arith}
 use Rattle.std.proofs.lemmas.List.{get_or_default}
 use Rattle.sts_records.specs.Pages.{counted_pages}
 use Rattle.slab.specs.Slab.{with_value}
@@ -26,6 +26,6 @@ returns-clause-keys c r after kept comes =
       page = kept.page;
       is = kept.is;
       last = kept.last;
-      paged = put p.firsts.items p.cells.items (counted_pages p kept.place kept.page) r kept.paged c.args.key c.args.birth kept.place (record { block = kept.page.block; count = p.count }) after (set p.cells.items (c.index.result.now + c.args.birth % 64) c.args.key) (with_value p.pages kept.place (record { block = kept.page.block; count = p.count + 1 })) (sym latest) (latest_is p r kept) own comes (rw first refl) w.0 w.1 refl;
-      reserved = reserved p _ refl refl refl kept.reserved;
+      paged = put p.firsts.items p.cells.items (counted_pages p kept.place kept.page) r kept.paged c.args.key c.args.birth kept.place (record { block = kept.page.block; count = p.count }) after (set p.cells.items (c.index.result.now + c.args.birth - 1000064) c.args.key) (with_value p.pages kept.place (record { block = kept.page.block; count = p.count + 1 })) (sym latest) (latest_is p r kept) own comes (rw first refl) w.0 w.1 refl;
+      reserved = reserved p _ kept.reserved.begun refl refl refl kept.reserved;
     }

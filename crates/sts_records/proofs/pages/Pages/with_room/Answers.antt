@@ -13,7 +13,7 @@ take_page-requires-clause-keys c =
       no_records 0,
       (
         empty c.in_ok-firsts.firsts.items c.in_ok-cells.cells.items c.in_ok-slab.slab 0 c.in_ok-firsts.ensures.items c.in_ok-slab.ensures.empty,
-        record { firsts = omega (arith, firsts); cells = omega (arith, cells, again); few = omega (arith, pages, few) },
+        record { firsts = omega (arith, firsts); cells = omega (arith, cells, again); few = omega (arith, pages, few); begun = rw c.in_ok-firsts.ensures.items (omega arith) },
       ),
     )
 
@@ -26,5 +26,5 @@ returns-clause-keys c keys =
     let few = c.if-capacity-gt-PAGES.false in
     c.take_page.ensures.keys (no_records keys) (
       empty c.in_ok-firsts.firsts.items c.in_ok-cells.cells.items c.in_ok-slab.slab keys c.in_ok-firsts.ensures.items c.in_ok-slab.ensures.empty,
-      record { firsts = omega (arith, firsts); cells = omega (arith, cells, again); few = omega (arith, pages, few) },
+      record { firsts = omega (arith, firsts); cells = omega (arith, cells, again); few = omega (arith, pages, few); begun = rw c.in_ok-firsts.ensures.items (omega arith) },
     )
