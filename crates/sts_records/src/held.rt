@@ -61,7 +61,7 @@ impl<T> Model for Held<T> {
         × (h.born ≡ length h.given.keys) × (h.born ≤ 1000000)
         × AreGiven h.given.keys (births h.entries.slots)
         × KeepsKeys h.pages (records h.entries)
-        × (length h.pages.firsts.items ≡ h.born / 64 + 1)
+        × (length h.pages.offsets.items ≡ h.born / 64 + 1)
         × HasPagesFor h.pages (slab_len h.entries + h.room) };
 }
 
