@@ -109,12 +109,10 @@ impl<T: Drop> Held<T> {
     pub fn get(&self, birth: usize) -> Option<&T>
         ensures { option_copied result ≡ slice_index_or self.now.slots birth None }
     {
-        match self.pages.find(birth) {
-            None => None,
-            Some(key) => match self.entries.get(key as usize) {
-                Some(entry) if entry.birth == birth => Some(&entry.body),
-                _ => None,
-            },
+        let key = self.pages.find(birth)?;
+        match self.entries.get(key as usize) {
+            Some(entry) if entry.birth == birth => Some(&entry.body),
+            _ => None,
         }
     }
 
