@@ -1,5 +1,5 @@
 -- Pages when a record comes or goes, and when a block begins.
-use Rattle.std.proofs.Common.{◌≡◌, ◌≢◌, ℕ, zero, suc, ◌+◌, ◌-◌, ◌*◌, ◌/◌, ◌%◌, ◌<◌, ◌≤◌, ◌⊎◌, inl, inr, List, [], ◌∷◌, ◌++◌, length}
+use Rattle.std.proofs.Common.{◌≡◌, ◌≢◌, ℕ, zero, suc, ◌+◌, ◌-◌, ◌*◌, ◌/◌, ◌<◌, ◌≤◌, ◌⊎◌, inl, inr, List, [], ◌∷◌, ◌++◌, length}
 use Rattle.std.proofs.Common.{Option, Some, None, refl, sym, ◌∙◌, ap, arith, get_or, set, nat_eq}
 use Rattle.std.proofs.Common.{Bool, true, false, length-set, get_or-set_same, get_or-set_other}
 use Rattle.std.proofs.Common.{length-append, vec_capacity}
@@ -182,12 +182,12 @@ stayed r after key birth k b g at =
     (other, sym (g.others k other) ∙ at)
 
 -- what is reserved stays
-pub reserved : (p q : Pages) → vec_capacity q.firsts ≡ vec_capacity p.firsts → vec_capacity q.cells ≡ vec_capacity p.cells → q.pages.capacity ≡ p.pages.capacity → IsReserved p → IsReserved q
-reserved p q f c k r =
-    let firsts = r.firsts in
+pub reserved : (p q : Pages) → length q.offsets.items ≤ 15626 → vec_capacity q.offsets ≡ vec_capacity p.offsets → vec_capacity q.cells ≡ vec_capacity p.cells → q.pages.capacity ≡ p.pages.capacity → IsReserved p → IsReserved q
+reserved p q begun f c k r =
+    let offsets = r.offsets in
     let cells = r.cells in
     let few = r.few in
-    record { firsts = omega (arith, f, firsts); cells = omega (arith, c, k, cells); few = omega (arith, k, few) }
+    record { offsets = omega (arith, f, offsets); cells = omega (arith, c, k, cells); few = omega (arith, k, few); begun = begun }
 
 -- ---- the count that is kept apart
 
@@ -197,7 +197,7 @@ module _ (p : Pages) (r : Records) (kept : KeepsKeys p r) where
   latest_is = (written_page p.pages kept.place kept.page (record { block = kept.page.block; count = p.count }) kept.is).0.changed
 
   -- the page of an earlier block has its own count
-  pub earlier_is : (block : ℕ) (h : HasPage (counted_pages p kept.place kept.page) block) → block + 1 ≢ length p.firsts.items → (h.place ≢ kept.place) × (get p.pages h.place ≡ Some h.page)
+  pub earlier_is : (block : ℕ) (h : HasPage (counted_pages p kept.place kept.page) block) → block + 1 ≢ length p.offsets.items → (h.place ≢ kept.place) × (get p.pages h.place ≡ Some h.page)
   earlier_is block h ne =
       let apart : h.place ≢ kept.place = λ e. (
       let same : h.page ≡ record { block = kept.page.block; count = p.count } = some_same h.page _ (sym h.is ∙ (ap (λ (n : ℕ). get (counted_pages p kept.place kept.page) n) e ∙ latest_is)) in
@@ -208,13 +208,14 @@ module _ (p : Pages) (r : Records) (kept : KeepsKeys p r) where
       (apart, sym (get_or-set_other p.pages.slots kept.place h.place _ None apart) ∙ h.is)
 
 -- there is room for a page when a block begins
-pub room_of : (p q : Pages) (r : Records) (total : ℕ) → q.pages.capacity ≡ p.pages.capacity → r.count ≤ total → length q.firsts.items < 15626 → HasPagesFor p total → HasRoomForBlock q r
+pub room_of : (p q : Pages) (r : Records) (total : ℕ) → q.pages.capacity ≡ p.pages.capacity → r.count ≤ total → length q.offsets.items < 15626 → HasPagesFor p total → HasRoomForBlock q r
 room_of p q r total cap le few (inl less) = inl (omega (arith, cap, le, less))
 room_of p q r total cap le few (inr less) = inr (omega (arith, cap, few, less))
 
 -- no pages have no keys
-pub empty : (firsts cells : List ℕ) (pages : Slab Page) (keys : ℕ) → firsts ≡ [] → pages.slots ≡ [] → ArePaged firsts cells pages (no_records keys)
-empty firsts cells pages keys f s = record {
+pub empty : (offsets cells : List ℕ) (pages : Slab Page) (keys : ℕ) → offsets ≡ [] → pages.slots ≡ [] → ArePaged offsets cells pages (no_records keys)
+empty offsets cells pages keys f s = record {
+  above = λ block less. absurd (omega (arith, less, short));
   fit = λ block less. absurd (omega (arith, less, short));
   inside = λ k x is. absurd (none_some (get pages k) x (nothing k) is);
   page = λ k x is. absurd (none_some (get pages k) x (nothing k) is);
@@ -225,7 +226,7 @@ empty firsts cells pages keys f s = record {
   counted = zero_sum pages.capacity (λ k. records_of (get pages k)) (λ k. rw (nothing k) refl);
 }
   where
-    short : length firsts ≡ 0
+    short : length offsets ≡ 0
     short = ap length f
 
     nothing : (k : ℕ) → get pages k ≡ None
@@ -239,13 +240,13 @@ empty firsts cells pages keys f s = record {
 
 -- ---- pages and their blocks
 
-module _ (firsts cells : List ℕ) (pages : Slab Page) (r : Records) (a : ArePaged firsts cells pages r) where
+module _ (offsets cells : List ℕ) (pages : Slab Page) (r : Records) (a : ArePaged offsets cells pages r) where
   -- a block has one page
   pub same_place : (j k : ℕ) (x y : Page) → get pages j ≡ Some x → get pages k ≡ Some y → x.block ≡ y.block → j ≡ k
   same_place j k x y is is' e =
-      let p = (a.page j x is).first in
-      let q = (a.page k y is').first in
-      let same : 64 * j ≡ 64 * k = sym p ∙ (ap (λ (n : ℕ). get_or firsts n 0) e ∙ q) in
+      let p = (a.page j x is).offset in
+      let q = (a.page k y is').offset in
+      let same : 64 * j + 1000064 ≡ 64 * k + 1000064 = sym p ∙ (ap (λ (n : ℕ). get_or offsets n 0 + 64 * n) e ∙ q) in
       omega (arith, same)
 
   -- the page of a birth with a record
@@ -258,10 +259,10 @@ module _ (firsts cells : List ℕ) (pages : Slab Page) (r : Records) (a : ArePag
       omega (arith, one, own, count)
 
   -- the cells of two births are apart
-  pub apart : (b c j k : ℕ) (x y : Page) → get pages j ≡ Some x → x.block ≡ b / 64 → get pages k ≡ Some y → y.block ≡ c / 64 → b ≢ c → cell_of firsts b ≢ cell_of firsts c
+  pub apart : (b c j k : ℕ) (x y : Page) → get pages j ≡ Some x → x.block ≡ b / 64 → get pages k ≡ Some y → y.block ≡ c / 64 → b ≢ c → cell_of offsets b ≢ cell_of offsets c
   apart b c j k x y is own is' own' ne e =
-      let p : get_or firsts (b / 64) 0 ≡ 64 * j = ap (λ (n : ℕ). get_or firsts n 0) (sym own) ∙ (a.page j x is).first in
-      let q : get_or firsts (c / 64) 0 ≡ 64 * k = ap (λ (n : ℕ). get_or firsts n 0) (sym own') ∙ (a.page k y is').first in
+      let p : get_or offsets (b / 64) 0 + 64 * (b / 64) ≡ 64 * j + 1000064 = ap (λ (n : ℕ). get_or offsets n 0 + 64 * n) (sym own) ∙ (a.page j x is).offset in
+      let q : get_or offsets (c / 64) 0 + 64 * (c / 64) ≡ 64 * k + 1000064 = ap (λ (n : ℕ). get_or offsets n 0 + 64 * n) (sym own') ∙ (a.page k y is').offset in
       let place : j ≡ k = omega (arith, p, q, e) in
       let same : x ≡ y = some_same x y (sym is ∙ (ap (λ (n : ℕ). get pages n) place ∙ is')) in
       let blocks : x.block ≡ y.block = ap (λ (z : Page). z.block) same in
@@ -269,24 +270,24 @@ module _ (firsts cells : List ℕ) (pages : Slab Page) (r : Records) (a : ArePag
       ne (omega (arith, p, q, e, block, place))
 
   -- the cell of a birth whose block has begun
-  pub cell_inside : (b : ℕ) → b / 64 < length firsts → cell_of firsts b < length cells
-  cell_inside b less = let fit = a.fit (b / 64) less in omega (arith, fit)
+  pub cell_inside : (b : ℕ) → b / 64 < length offsets → cell_of offsets b < length cells
+  cell_inside b less =
+      let fit = a.fit (b / 64) less in
+      let above = a.above (b / 64) less in
+      omega (arith, fit, above)
 
-  pub begun_of : (block : ℕ) → HasPage pages block → block < length firsts
+  pub cell_above : (b : ℕ) → b / 64 < length offsets → 1000064 ≤ get_or offsets (b / 64) 0 + b
+  cell_above b less = let above = a.above (b / 64) less in omega (arith, above)
+
+  pub begun_of : (block : ℕ) → HasPage pages block → block < length offsets
   begun_of block h = let less = (a.page h.place h.page h.is).begun in rw (← h.own) less
 
-  pub first_of : (block : ℕ) (h : HasPage pages block) → get_or firsts block 0 ≡ 64 * h.place
-  first_of block h = ap (λ (n : ℕ). get_or firsts n 0) (sym h.own) ∙ (a.page h.place h.page h.is).first
+  pub offset_of : (block : ℕ) (h : HasPage pages block) → get_or offsets block 0 + 64 * block ≡ 64 * h.place + 1000064
+  offset_of block h = ap (λ (n : ℕ). get_or offsets n 0 + 64 * n) (sym h.own) ∙ (a.page h.place h.page h.is).offset
 
-  -- where the first cell of a block leads
-  pub place_is : (block first : ℕ) (h : HasPage pages block) → first ≡ get_or firsts block 0 → first / 64 ≡ h.place
-  place_is block first h e = let f = first_of block h in omega (arith, e, f)
-
-  pub page_at : (block first : ℕ) (h : HasPage pages block) → first ≡ get_or firsts block 0 → get pages (first / 64) ≡ Some h.page
-  page_at block first h e =
-      let f = first_of block h in
-      let place : first / 64 ≡ h.place = omega (arith, e, f) in
-      rw place h.is
+  -- the place of the page of a birth's block
+  pub place_is : (b offset : ℕ) (h : HasPage pages (b / 64)) → offset ≡ get_or offsets (b / 64) 0 → (offset + b - 1000064) / 64 ≡ h.place
+  place_is b offset h e = let f = offset_of (b / 64) h in omega (arith, e, f)
 
   pub count_le : (k : ℕ) (x : Page) → get pages k ≡ Some x → x.count ≤ r.count
   count_le k x is =
@@ -308,25 +309,25 @@ module _ (firsts cells : List ℕ) (pages : Slab Page) (r : Records) (a : ArePag
       by k (Some x) q = let u = used k x q in rw q (omega (arith, u))
 
   -- there is room for a page, if each has records
-  pub room_for : AreUsed pages → (r.count < pages.capacity) ⊎ (length firsts < pages.capacity) → slab_len pages + 1 ≤ pages.capacity
+  pub room_for : AreUsed pages → (r.count < pages.capacity) ⊎ (length offsets < pages.capacity) → slab_len pages + 1 ≤ pages.capacity
   room_for used (inl less) = let le = pages_le used in omega (arith, le, less)
   room_for used (inr less) = let few = a.few in omega (arith, few, less)
 
   -- each page but that of the latest block is used
-  pub others_used : (block : ℕ) (h : HasPage pages block) → block + 1 ≡ length firsts → (k : ℕ) (x : Page) → k ≢ h.place → get pages k ≡ Some x → 0 < x.count
+  pub others_used : (block : ℕ) (h : HasPage pages block) → block + 1 ≡ length offsets → (k : ℕ) (x : Page) → k ≢ h.place → get pages k ≡ Some x → 0 < x.count
   others_used block h last k x ne is = by (a.page k x is).used
     where
-      by : (0 < x.count) ⊎ (x.block + 1 ≡ length firsts) → 0 < x.count
+      by : (0 < x.count) ⊎ (x.block + 1 ≡ length offsets) → 0 < x.count
       by (inl u) = u
       by (inr e) =
           let own = h.own in
           absurd (ne (same_place k h.place x h.page is h.is (omega (arith, e, last, own))))
 
   -- each page is used, if that of the latest block is
-  pub all_used : (block : ℕ) (h : HasPage pages block) → block + 1 ≡ length firsts → 0 < h.page.count → AreUsed pages
+  pub all_used : (block : ℕ) (h : HasPage pages block) → block + 1 ≡ length offsets → 0 < h.page.count → AreUsed pages
   all_used block h last some k x is = by (a.page k x is).used
     where
-      by : (0 < x.count) ⊎ (x.block + 1 ≡ length firsts) → 0 < x.count
+      by : (0 < x.count) ⊎ (x.block + 1 ≡ length offsets) → 0 < x.count
       by (inl u) = u
       by (inr e) =
           let own = h.own in
@@ -337,13 +338,14 @@ module _ (firsts cells : List ℕ) (pages : Slab Page) (r : Records) (a : ArePag
   -- ---- a record comes
 
   pub put : (key birth k : ℕ) (x : Page) (r' : Records) (cells' : List ℕ) (pages' : Slab Page)
-      → birth / 64 + 1 ≡ length firsts → get pages k ≡ Some x → x.block ≡ birth / 64
-      → Comes r r' key birth → cells' ≡ set cells (cell_of firsts birth) key
+      → birth / 64 + 1 ≡ length offsets → get pages k ≡ Some x → x.block ≡ birth / 64
+      → Comes r r' key birth → cells' ≡ set cells (cell_of offsets birth) key
       → Updates pages pages' k (Some (record { block = x.block; count = x.count + 1 }))
       → slab_len pages' ≡ slab_len pages → pages'.capacity ≡ pages.capacity
-      → ArePaged firsts cells' pages' r'
+      → ArePaged offsets cells' pages' r'
   put key birth k x r' cells' pages' last is own c wrote u len cap = record {
-    fit = λ block less. rw wrote (rw (length-set cells (cell_of firsts birth) key) (a.fit block less));
+    above = a.above;
+    fit = λ block less. rw wrote (rw (length-set cells (cell_of offsets birth) key) (a.fit block less));
     inside = λ j y at. rw cap (changed_page pages pages' k j (Some x') y u at (λ s e. rw s (a.inside k x is)) (λ s e. a.inside j y e));
     page = λ j y at. changed_page pages pages' k j (Some x') y u at (λ s e. rw (s, ← some_same x' y e) mine) (λ s e. theirs j y s e);
     latest = λ block end. paged block (a.latest block end);
@@ -366,21 +368,21 @@ module _ (firsts cells : List ℕ) (pages : Slab Page) (r : Records) (a : ArePag
       sums : (block : ℕ) → in_block r' block + 0 ≡ in_block r block + of_block block (Some birth)
       sums block = block_sum r r' key block None (Some birth) c.few c.keys c.others c.was c.is
 
-      mine : IsPage firsts r' k x'
+      mine : IsPage offsets r' k x'
       mine =
           let p = a.page k x is in
           let sum = sums x.block in
           let one = in_own x.block birth (sym own) in
           let count = p.counted in
-          record { begun = p.begun; first = p.first; counted = omega (arith, sum, one, count); used = inl (omega arith) }
+          record { begun = p.begun; offset = p.offset; counted = omega (arith, sum, one, count); used = inl (omega arith) }
 
-      theirs : (j : ℕ) (y : Page) → j ≢ k → get pages j ≡ Some y → IsPage firsts r' j y
+      theirs : (j : ℕ) (y : Page) → j ≢ k → get pages j ≡ Some y → IsPage offsets r' j y
       theirs j y ne at =
           let p = a.page j y at in
           let sum = sums y.block in
           let none = in_other y.block birth (λ e. ne (same_place j k y x at is (sym e ∙ sym own))) in
           let count = p.counted in
-          record { begun = p.begun; first = p.first; counted = omega (arith, sum, none, count); used = p.used }
+          record { begun = p.begun; offset = p.offset; counted = omega (arith, sum, none, count); used = p.used }
 
       paged : (block : ℕ) → HasPage pages block → HasPage pages' block
       paged block h = by (nat_eq h.place k) refl
@@ -397,32 +399,33 @@ module _ (firsts cells : List ℕ) (pages : Slab Page) (r : Records) (a : ArePag
       here : HasPage pages (birth / 64)
       here = record { place = k; page = x; is = is; own = own }
 
-      new : IsKept firsts cells' pages' r'.keys key birth
+      new : IsKept offsets cells' pages' r'.keys key birth
       new = record {
         few = rw c.keys c.few;
         paged = paged (birth / 64) here;
-        cell = rw wrote (get_or-set_same cells (cell_of firsts birth) key 0 (cell_inside birth (begun_of (birth / 64) here)));
+        cell = rw wrote (get_or-set_same cells (cell_of offsets birth) key 0 (cell_inside birth (begun_of (birth / 64) here)));
       }
 
-      old : (j b : ℕ) → r.at j ≡ Some b → IsKept firsts cells' pages' r'.keys j b
+      old : (j b : ℕ) → r.at j ≡ Some b → IsKept offsets cells' pages' r'.keys j b
       old j b at =
           let kept = a.kept j b at in
           let h = kept.paged in
           let ne = apart b birth h.place k h.page x h.is h.own is own (c.fresh j b at) in
-          record { few = rw c.keys kept.few; paged = paged (b / 64) h; cell = rw wrote (get_or-set_other cells (cell_of firsts birth) (cell_of firsts b) key 0 ne ∙ kept.cell) }
+          record { few = rw c.keys kept.few; paged = paged (b / 64) h; cell = rw wrote (get_or-set_other cells (cell_of offsets birth) (cell_of offsets b) key 0 ne ∙ kept.cell) }
 
   -- ---- a record goes
 
   -- the page keeps the records that are left, or it goes with the last one
   abbrev pub IsLeft : Page → Option Page → Type 0
-  IsLeft x slot = ((slot ≡ Some (record { block = x.block; count = x.count - 1 })) × ((x.count ≢ 1) ⊎ (x.block + 1 ≡ length firsts)))
-      ⊎ ((slot ≡ None) × (x.count ≡ 1) × (x.block + 1 ≢ length firsts))
+  IsLeft x slot = ((slot ≡ Some (record { block = x.block; count = x.count - 1 })) × ((x.count ≢ 1) ⊎ (x.block + 1 ≡ length offsets)))
+      ⊎ ((slot ≡ None) × (x.count ≡ 1) × (x.block + 1 ≢ length offsets))
 
   pub leave : (key birth k : ℕ) (x : Page) (slot : Option Page) (r' : Records) (pages' : Slab Page)
       → get pages k ≡ Some x → x.block ≡ birth / 64 → Goes r r' key birth
       → Updates pages pages' k slot → slab_len pages' + 1 ≡ slab_len pages + one_page slot → pages'.capacity ≡ pages.capacity
-      → IsLeft x slot → ArePaged firsts cells pages' r'
+      → IsLeft x slot → ArePaged offsets cells pages' r'
   leave key birth k x slot r' pages' is own g u len cap left = record {
+    above = a.above;
     fit = a.fit;
     inside = λ j y at. rw cap (changed_page pages pages' k j slot y u at (λ s e. rw s (a.inside k x is)) (λ s e. a.inside j y e));
     page = λ j y at. changed_page pages pages' k j slot y u at (λ s e. mine j y s e left) (λ s e. theirs j y s e);
@@ -462,27 +465,27 @@ module _ (firsts cells : List ℕ) (pages : Slab Page) (r : Records) (a : ArePag
       sums : (block : ℕ) → in_block r' block + of_block block (Some birth) ≡ in_block r block + 0
       sums block = block_sum r r' key block (Some birth) None few g.keys g.others g.was g.gone
 
-      mine : (j : ℕ) (y : Page) → j ≡ k → slot ≡ Some y → IsLeft x slot → IsPage firsts r' j y
+      mine : (j : ℕ) (y : Page) → j ≡ k → slot ≡ Some y → IsLeft x slot → IsPage offsets r' j y
       mine j y s at (inl (e, f)) =
           let p = a.page k x is in
           let sum = sums x.block in
           let one = in_own x.block birth (sym own) in
           let count = p.counted in
           let same : record { block = x.block; count = x.count - 1 } ≡ y = some_same _ y (sym e ∙ at) in
-          rw (s, ← same) (record { begun = p.begun; first = p.first; counted = omega (arith, sum, one, count, some); used = used f })
+          rw (s, ← same) (record { begun = p.begun; offset = p.offset; counted = omega (arith, sum, one, count, some); used = used f })
         where
-          used : (x.count ≢ 1) ⊎ (x.block + 1 ≡ length firsts) → (0 < x.count - 1) ⊎ (x.block + 1 ≡ length firsts)
+          used : (x.count ≢ 1) ⊎ (x.block + 1 ≡ length offsets) → (0 < x.count - 1) ⊎ (x.block + 1 ≡ length offsets)
           used (inl ne) = inl (omega (arith, ne, some))
           used (inr e) = inr e
       mine j y s at (inr (e, one, ne)) = absurd (none_some slot y e at)
 
-      theirs : (j : ℕ) (y : Page) → j ≢ k → get pages j ≡ Some y → IsPage firsts r' j y
+      theirs : (j : ℕ) (y : Page) → j ≢ k → get pages j ≡ Some y → IsPage offsets r' j y
       theirs j y ne at =
           let p = a.page j y at in
           let sum = sums y.block in
           let none = in_other y.block birth (λ e. ne (same_place j k y x at is (sym e ∙ sym own))) in
           let count = p.counted in
-          record { begun = p.begun; first = p.first; counted = omega (arith, sum, none, count); used = p.used }
+          record { begun = p.begun; offset = p.offset; counted = omega (arith, sum, none, count); used = p.used }
 
       block_of : (h : Page) (j : ℕ) → get pages j ≡ Some h → j ≡ k → h.block ≡ x.block
       block_of h j at s =
@@ -490,7 +493,7 @@ module _ (firsts cells : List ℕ) (pages : Slab Page) (r : Records) (a : ArePag
           ap (λ (z : Page). z.block) same
 
       -- a block keeps its page, or the page goes
-      paged : (block : ℕ) → HasPage pages block → IsLeft x slot → (x.block ≡ block → (slot ≡ None) × (x.count ≡ 1) × (x.block + 1 ≢ length firsts) → HasPage pages' block) → HasPage pages' block
+      paged : (block : ℕ) → HasPage pages block → IsLeft x slot → (x.block ≡ block → (slot ≡ None) × (x.count ≡ 1) × (x.block + 1 ≢ length offsets) → HasPage pages' block) → HasPage pages' block
       paged block h left gone = by (nat_eq h.place k) refl left
         where
           by : (t : Bool) → nat_eq h.place k ≡ t → IsLeft x slot → HasPage pages' block
@@ -504,10 +507,10 @@ module _ (firsts cells : List ℕ) (pages : Slab Page) (r : Records) (a : ArePag
               let s : h.place ≢ k = grind (arith, nat_tests) in
               record { place = h.place; page = h.page; is = u.others h.place s ∙ h.is; own = h.own }
 
-      newest : (block : ℕ) → block + 1 ≡ length firsts → HasPage pages block → IsLeft x slot → HasPage pages' block
+      newest : (block : ℕ) → block + 1 ≡ length offsets → HasPage pages block → IsLeft x slot → HasPage pages' block
       newest block end h left = paged block h left (λ e f. absurd (f.2 (omega (arith, e, end))))
 
-      old : (j b : ℕ) → r'.at j ≡ Some b → (j ≢ key) × (r.at j ≡ Some b) → IsKept firsts cells pages' r'.keys j b
+      old : (j b : ℕ) → r'.at j ≡ Some b → (j ≢ key) × (r.at j ≡ Some b) → IsKept offsets cells pages' r'.keys j b
       old j b at o =
           let kept = a.kept j b o.1 in
           record { few = rw g.keys kept.few; paged = paged (b / 64) kept.paged left (λ e f. absurd (no e f.1)); cell = kept.cell }
@@ -524,15 +527,16 @@ module _ (firsts cells : List ℕ) (pages : Slab Page) (r : Records) (a : ArePag
 
   -- ---- a block begins
 
-  pub begin : (k : ℕ) (cells' : List ℕ) (pages' : Slab Page)
-      → k < pages.capacity → 64 * k + 64 ≤ length cells' → Extends cells cells'
-      → Updates pages pages' k (Some (record { block = length firsts; count = 0 }))
+  pub begin : (k o : ℕ) (cells' : List ℕ) (pages' : Slab Page)
+      → k < pages.capacity → o + 64 * length offsets ≡ 64 * k + 1000064 → 64 * k + 64 ≤ length cells' → Extends cells cells'
+      → Updates pages pages' k (Some (record { block = length offsets; count = 0 }))
       → slab_len pages' + one_page (get pages k) ≡ slab_len pages + 1 → pages'.capacity ≡ pages.capacity
       → records_of (get pages k) ≡ 0
       → ((j : ℕ) (y : Page) → j ≢ k → get pages j ≡ Some y → 0 < y.count)
-      → ArePaged (firsts ++ 64 * k ∷ []) cells' pages' r
-  begin k cells' pages' inside long ext u len cap empty used = record {
-    fit = λ block less. fit block less (nat_eq block (length firsts)) refl;
+      → ArePaged (offsets ++ o ∷ []) cells' pages' r
+  begin k o cells' pages' inside cell long ext u len cap empty used = record {
+    above = λ block less. above block less (nat_eq block (length offsets)) refl;
+    fit = λ block less. fit block less (nat_eq block (length offsets)) refl;
     inside = λ j y at. rw cap (changed_page pages pages' k j (Some x') y u at (λ s e. rw s inside) (λ s e. a.inside j y e));
     page = λ j y at. changed_page pages pages' k j (Some x') y u at (λ s e. rw (s, ← some_same x' y e) mine) (λ s e. theirs j y s e);
     latest = λ block end. record { place = k; page = x'; is = u.changed; own = omega (arith, end, more) };
@@ -548,60 +552,73 @@ module _ (firsts cells : List ℕ) (pages : Slab Page) (r : Records) (a : ArePag
         omega (arith, sum, was, empty));
   }
     where
-      firsts' : List ℕ
-      firsts' = firsts ++ 64 * k ∷ []
+      offsets' : List ℕ
+      offsets' = offsets ++ o ∷ []
 
-      more : length (firsts ++ 64 * k ∷ []) ≡ length firsts + 1
-      more = length-append firsts (64 * k ∷ [])
+      more : length (offsets ++ o ∷ []) ≡ length offsets + 1
+      more = length-append offsets (o ∷ [])
 
       x' : Page
-      x' = record { block = length firsts; count = 0 }
+      x' = record { block = length offsets; count = 0 }
 
-      left : (block : ℕ) → block < length firsts → get_or (firsts ++ 64 * k ∷ []) block 0 ≡ get_or firsts block 0
-      left block less = get_or_append_left firsts (64 * k ∷ []) 0 block less
+      left : (block : ℕ) → block < length offsets → get_or (offsets ++ o ∷ []) block 0 ≡ get_or offsets block 0
+      left block less = get_or_append_left offsets (o ∷ []) 0 block less
 
-      fit : (block : ℕ) → block < length (firsts ++ 64 * k ∷ []) → (t : Bool) → nat_eq block (length firsts) ≡ t → get_or (firsts ++ 64 * k ∷ []) block 0 + 64 ≤ length cells'
+      seam : get_or (offsets ++ o ∷ []) (length offsets) 0 ≡ o
+      seam = get_or-append_seam offsets o [] 0
+
+      above : (block : ℕ) → block < length (offsets ++ o ∷ []) → (t : Bool) → nat_eq block (length offsets) ≡ t → 1000064 ≤ get_or (offsets ++ o ∷ []) block 0 + 64 * block
+      above block less true q =
+          let s : block ≡ length offsets = grind (arith, nat_tests) in
+          rw (s, seam) (omega (arith, cell))
+      above block less false q =
+          let s : block ≢ length offsets = grind (arith, nat_tests) in
+          let before : block < length offsets = omega (arith, less, more, s) in
+          let above = a.above block before in
+          rw (left block before) above
+
+      fit : (block : ℕ) → block < length (offsets ++ o ∷ []) → (t : Bool) → nat_eq block (length offsets) ≡ t → get_or (offsets ++ o ∷ []) block 0 + 64 * block + 64 ≤ length cells' + 1000064
       fit block less true q =
-          let s : block ≡ length firsts = grind (arith, nat_tests) in
-          rw (s, get_or-append_seam firsts (64 * k) [] 0) long
+          let s : block ≡ length offsets = grind (arith, nat_tests) in
+          rw (s, seam) (omega (arith, cell, long))
       fit block less false q =
-          let s : block ≢ length firsts = grind (arith, nat_tests) in
-          let before : block < length firsts = omega (arith, less, more, s) in
+          let s : block ≢ length offsets = grind (arith, nat_tests) in
+          let before : block < length offsets = omega (arith, less, more, s) in
           let fit = a.fit block before in
           let long = ext.long in
           rw (left block before) (omega (arith, fit, long))
 
-      mine : IsPage (firsts ++ 64 * k ∷ []) r k x'
-      mine = record { begun = omega (arith, more); first = get_or-append_seam firsts (64 * k) [] 0; counted = sym (zero_sum r.keys (λ i. of_block (length firsts) (r.at i)) (λ i. none i (r.at i) refl)); used = inr (omega (arith, more)) }
+      mine : IsPage (offsets ++ o ∷ []) r k x'
+      mine = record { begun = omega (arith, more); offset = rw seam cell; counted = sym (zero_sum r.keys (λ i. of_block (length offsets) (r.at i)) (λ i. none i (r.at i) refl)); used = inr (omega (arith, more)) }
         where
-          none : (i : ℕ) (o : Option ℕ) → r.at i ≡ o → of_block (length firsts) (r.at i) ≡ 0
+          none : (i : ℕ) (o : Option ℕ) → r.at i ≡ o → of_block (length offsets) (r.at i) ≡ 0
           none i None q = rw q refl
           none i (Some b) q =
               let less = begun_of (b / 64) (a.kept i b q).paged in
-              rw q (in_other (length firsts) b (λ e. omega (arith, less, e)))
+              rw q (in_other (length offsets) b (λ e. omega (arith, less, e)))
 
-      theirs : (j : ℕ) (y : Page) → j ≢ k → get pages j ≡ Some y → IsPage (firsts ++ 64 * k ∷ []) r j y
+      theirs : (j : ℕ) (y : Page) → j ≢ k → get pages j ≡ Some y → IsPage (offsets ++ o ∷ []) r j y
       theirs j y ne at =
           let p = a.page j y at in
           let less = p.begun in
-          record { begun = omega (arith, less, more); first = left y.block p.begun ∙ p.first; counted = p.counted; used = inl (used j y ne at) }
+          record { begun = omega (arith, less, more); offset = rw (left y.block p.begun) p.offset; counted = p.counted; used = inl (used j y ne at) }
 
-      old : (j b : ℕ) → r.at j ≡ Some b → IsKept firsts cells pages r.keys j b → IsKept (firsts ++ 64 * k ∷ []) cells' pages' r.keys j b
+      old : (j b : ℕ) → r.at j ≡ Some b → IsKept offsets cells pages r.keys j b → IsKept (offsets ++ o ∷ []) cells' pages' r.keys j b
       old j b at kept =
           let h = kept.paged in
           let some = page_of j b h.place h.page at h.is h.own in
           let apart : h.place ≢ k = λ s. (let here : records_of (get pages k) ≡ h.page.count = rw (← s, h.is) refl in omega (arith, some, here, empty)) in
           let less = begun_of (b / 64) h in
-          let same : cell_of (firsts ++ 64 * k ∷ []) b ≡ cell_of firsts b = ap (λ (n : ℕ). n + b % 64) (left (b / 64) less) in
-          record { few = kept.few; paged = record { place = h.place; page = h.page; is = u.others h.place apart ∙ h.is; own = h.own }; cell = rw same (ext.same (cell_of firsts b) (cell_inside b less) ∙ kept.cell) }
+          let same : cell_of (offsets ++ o ∷ []) b ≡ cell_of offsets b = ap (λ (n : ℕ). n + b - 1000064) (left (b / 64) less) in
+          record { few = kept.few; paged = record { place = h.place; page = h.page; is = u.others h.place apart ∙ h.is; own = h.own }; cell = rw same (ext.same (cell_of offsets b) (cell_inside b less) ∙ kept.cell) }
 
 -- ---- the page of the latest block
 
 module _ (p : Pages) (r : Records) (kept : KeepsKeys p r) where
-  abbrev pub latest_has : (block : ℕ) → block + 1 ≡ length p.firsts.items → HasPage (counted_pages p kept.place kept.page) block
+  abbrev pub latest_has : (block : ℕ) → block + 1 ≡ length p.offsets.items → HasPage (counted_pages p kept.place kept.page) block
   latest_has block last =
       let end = kept.last in
       record { place = kept.place; page = record { block = kept.page.block; count = p.count }; is = latest_is p r kept; own = omega (arith, last, end) }
 
-  pub latest_first : (block first : ℕ) → block + 1 ≡ length p.firsts.items → first ≡ get_or p.firsts.items block 0 → first ≡ 64 * kept.place
-  latest_first block first last e = e ∙ first_of p.firsts.items p.cells.items (counted_pages p kept.place kept.page) r kept.paged block (latest_has block last)
+  pub latest_offset : (block offset : ℕ) → block + 1 ≡ length p.offsets.items → offset ≡ get_or p.offsets.items block 0 → offset + 64 * block ≡ 64 * kept.place + 1000064
+  latest_offset block offset last e = ap (λ (n : ℕ). n + 64 * block) e ∙ offset_of p.offsets.items p.cells.items (counted_pages p kept.place kept.page) r kept.paged block (latest_has block last)

@@ -1,5 +1,5 @@
 -- Pages: each has the keys of the records of one block of births (this project's own).
-use Rattle.std.specs.Prelude.{◌≡◌, ◌≢◌, ◌+◌, ◌*◌, ◌/◌, ◌%◌, ◌<◌, ◌≤◌, ◌⊎◌, ℕ, zero, suc}
+use Rattle.std.specs.Prelude.{◌≡◌, ◌≢◌, ◌+◌, ◌-◌, ◌*◌, ◌/◌, ◌<◌, ◌≤◌, ◌⊎◌, ℕ, zero, suc}
 use Rattle.std.specs.Prelude.{List, length, Option, Some, None, nat_eq, if◌then◌else◌}
 use Rattle.std.specs.Prelude.{slice_index_or, vec_capacity}
 use Rattle.slab.specs.Slab.{Slab, get, slab_len, with_value}
@@ -59,15 +59,15 @@ records_of (Some page) = page.count
 
 -- the cell of a birth
 abbrev pub cell_of : List ℕ → ℕ → ℕ
-cell_of firsts birth = slice_index_or firsts (birth / 64) 0 + birth % 64
+cell_of offsets birth = slice_index_or offsets (birth / 64) 0 + birth - 1000064
 
 -- the page at this place has the cells there, and counts the records of its block; there are some,
 -- or the block is the latest
-pub record IsPage (firsts : List ℕ) (r : Records) (place : ℕ) (page : Page) : Type 0 where
-  pub begun : page.block < length firsts
-  pub first : slice_index_or firsts page.block 0 ≡ 64 * place
+pub record IsPage (offsets : List ℕ) (r : Records) (place : ℕ) (page : Page) : Type 0 where
+  pub begun : page.block < length offsets
+  pub offset : slice_index_or offsets page.block 0 + 64 * page.block ≡ 64 * place + 1000064
   pub counted : page.count ≡ in_block r page.block
-  pub used : (0 < page.count) ⊎ (page.block + 1 ≡ length firsts)
+  pub used : (0 < page.count) ⊎ (page.block + 1 ≡ length offsets)
 
 -- a block has a page
 pub record HasPage (pages : Slab Page) (block : ℕ) : Type 0 where
@@ -77,33 +77,36 @@ pub record HasPage (pages : Slab Page) (block : ℕ) : Type 0 where
   pub own : page.block ≡ block
 
 -- the cell of a birth has its key
-pub record IsKept (firsts cells : List ℕ) (pages : Slab Page) (keys key birth : ℕ) : Type 0 where
+pub record IsKept (offsets cells : List ℕ) (pages : Slab Page) (keys key birth : ℕ) : Type 0 where
   pub few : key < keys
   pub paged : HasPage pages (birth / 64)
-  pub cell : slice_index_or cells (cell_of firsts birth) 0 ≡ key
+  pub cell : slice_index_or cells (cell_of offsets birth) 0 ≡ key
 
 -- pages have the keys of these records
-pub record ArePaged (firsts cells : List ℕ) (pages : Slab Page) (r : Records) : Type 0 where
-  pub fit : (block : ℕ) → block < length firsts
-      → slice_index_or firsts block 0 + 64 ≤ length cells
+pub record ArePaged (offsets cells : List ℕ) (pages : Slab Page) (r : Records) : Type 0 where
+  pub above : (block : ℕ) → block < length offsets
+      → 1000064 ≤ slice_index_or offsets block 0 + 64 * block
+  pub fit : (block : ℕ) → block < length offsets
+      → slice_index_or offsets block 0 + 64 * block + 64 ≤ length cells + 1000064
   pub inside : (place : ℕ) (page : Page) → get pages place ≡ Some page → place < pages.capacity
   pub page : (place : ℕ) (page : Page) → get pages place ≡ Some page
-      → IsPage firsts r place page
-  pub latest : (block : ℕ) → block + 1 ≡ length firsts → HasPage pages block
-  pub kept : (key b : ℕ) → r.at key ≡ Some b → IsKept firsts cells pages r.keys key b
+      → IsPage offsets r place page
+  pub latest : (block : ℕ) → block + 1 ≡ length offsets → HasPage pages block
+  pub kept : (key b : ℕ) → r.at key ≡ Some b → IsKept offsets cells pages r.keys key b
   pub paged : slab_len pages ≡ sum_to pages.capacity (λ k. one_page (get pages k))
-  pub few : slab_len pages ≤ length firsts
+  pub few : slab_len pages ≤ length offsets
   pub counted : sum_to pages.capacity (λ k. records_of (get pages k)) ≡ r.count
 
 -- as much memory is reserved as pages ever take
 pub record IsReserved (p : Pages) : Type 0 where
-  pub firsts : 15626 ≤ vec_capacity p.firsts
+  pub offsets : 15626 ≤ vec_capacity p.offsets
   pub cells : 64 * p.pages.capacity ≤ vec_capacity p.cells
-  pub few : p.pages.capacity ≤ 67108864
+  pub few : p.pages.capacity ≤ 60000000
+  pub begun : length p.offsets.items ≤ 15626
 
 -- pages have the keys of these records, and each has its own count
 abbrev pub AreSettled : Pages → Records → Type 0
-AreSettled p r = ArePaged p.firsts.items p.cells.items p.pages r × IsReserved p
+AreSettled p r = ArePaged p.offsets.items p.cells.items p.pages r × IsReserved p
 
 -- the pages, where this one has the count that is kept apart
 abbrev pub counted_pages : Pages → ℕ → Page → Slab Page
@@ -115,8 +118,8 @@ pub record KeepsKeys (p : Pages) (r : Records) : Type 0 where
   pub place : ℕ
   pub page : Page
   pub is : get p.pages place ≡ Some page
-  pub last : page.block + 1 ≡ length p.firsts.items
-  pub paged : ArePaged p.firsts.items p.cells.items (counted_pages p place page) r
+  pub last : page.block + 1 ≡ length p.offsets.items
+  pub paged : ArePaged p.offsets.items p.cells.items (counted_pages p place page) r
   pub reserved : IsReserved p
 
 -- each page has records
@@ -125,7 +128,7 @@ AreUsed pages = (place : ℕ) (page : Page) → get pages place ≡ Some page �
 
 -- there are more pages than records, or than blocks that have begun
 abbrev pub HasRoomForBlock : Pages → Records → Type 0
-HasRoomForBlock p r = (r.count < p.pages.capacity) ⊎ (length p.firsts.items < p.pages.capacity)
+HasRoomForBlock p r = (r.count < p.pages.capacity) ⊎ (length p.offsets.items < p.pages.capacity)
 
 -- there are more pages than records will ever be at once, or as many as there will ever be blocks
 abbrev pub HasPagesFor : Pages → ℕ → Type 0

@@ -61,7 +61,7 @@ impl<T> Model for Held<T> {
         × (h.born ≡ length h.given.keys) × (h.born ≤ 1000000)
         × AreGiven h.given.keys (births h.entries.slots)
         × KeepsKeys h.pages (records h.entries)
-        × (length h.pages.firsts.items ≡ h.born / 64 + 1)
+        × (length h.pages.offsets.items ≡ h.born / 64 + 1)
         × HasPagesFor h.pages (slab_len h.entries + h.room) };
 }
 
@@ -109,12 +109,10 @@ impl<T: Drop> Held<T> {
     pub fn get(&self, birth: usize) -> Option<&T>
         ensures { option_copied result ≡ slice_index_or self.now.slots birth None }
     {
-        match self.pages.find(birth) {
-            None => None,
-            Some(key) => match self.entries.get(key as usize) {
-                Some(entry) if entry.birth == birth => Some(&entry.body),
-                _ => None,
-            },
+        let key = self.pages.find(birth)?;
+        match self.entries.get(key as usize) {
+            Some(entry) if entry.birth == birth => Some(&entry.body),
+            _ => None,
         }
     }
 

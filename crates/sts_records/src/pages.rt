@@ -15,8 +15,11 @@ const BLOCK: usize = 64;
 /// How many blocks begin by the time that 1,000,000 births have come.
 const BLOCKS: usize = 15_626;
 
-/// How many pages a slab may have. Each of their cells then has a place of 32 bits.
-const PAGES: usize = 67_108_864;
+/// How many pages a slab may have. What is added to a birth for its cell then has 32 bits.
+const PAGES: usize = 60_000_000;
+
+/// How many births `BLOCKS` blocks have.
+const BIRTHS: usize = 1_000_064;
 
 /// What is known of a page. Its cells are with those of the other pages.
 #[derive(Drop)]
@@ -32,8 +35,9 @@ struct Page {
 /// The latest block always has a page. Another block has one while a birth of it has a record.
 #[derive(Drop)]
 pub(crate) struct Pages {
-    /// The first cell of the page of each block. It is stale if the block has no page any more.
-    firsts: Vec<u32>,
+    /// For each block: what is added to a birth, less `BIRTHS`, for its cell. It is stale if the
+    /// block has no page any more.
+    offsets: Vec<u32>,
     /// The cells of all pages, with the key of each birth.
     cells: Vec<u32>,
     pages: Slab<Page>,
@@ -49,7 +53,7 @@ impl Pages {
     /// Memory ran out.
     pub(crate) fn with_room(alloc: Global, room: u32) -> Result<Pages, AllocError>
         ensures keys { IfOk result (λ p. (keys : ℕ) → KeepsKeys p (no_records keys)) }
-        ensures begun { IfOk result (λ p. length p.firsts.items ≡ 1) }
+        ensures begun { IfOk result (λ p. length p.offsets.items ≡ 1) }
         ensures room { IfOk result (λ p. HasPagesFor p room) }
     {
         let blocks = (room as usize + 1).min(BLOCKS);
@@ -58,9 +62,9 @@ impl Pages {
             return Err(AllocError);
         }
         let cells = Vec::with_capacity(alloc, slab.capacity() * BLOCK)?;
-        let firsts = Vec::with_capacity(alloc, BLOCKS)?;
+        let offsets = Vec::with_capacity(alloc, BLOCKS)?;
         let mut pages = Pages {
-            firsts,
+            offsets,
             cells,
             pages: slab,
             count: 0,
@@ -76,36 +80,36 @@ impl Pages {
         ensures { (r : Records) (key : ℕ) → KeepsKeys self.now r → r.at key ≡ Some birth
             → result ≡ Some key }
     {
-        match self.firsts.get(birth / BLOCK) {
+        match self.offsets.get(birth / BLOCK) {
             None => None,
-            Some(first) => Some(self.cells[*first as usize + birth % BLOCK]),
+            Some(offset) => Some(self.cells[*offset as usize + birth - BIRTHS]),
         }
     }
 
     /// The key of the record of a birth, whose block has begun. If it has none, this is any number.
     #[inline(always)]
     pub(crate) fn key(&self, birth: usize) -> usize
-        requires begun { birth / 64 < length self.now.firsts.items }
+        requires begun { birth / 64 < length self.now.offsets.items }
         requires keys { (r : Records) × KeepsKeys self.now r }
         ensures { (r : Records) (key : ℕ) → KeepsKeys self.now r → r.at key ≡ Some birth
             → result ≡ key }
     {
-        let first = self.firsts[birth / BLOCK] as usize;
-        self.cells[first + birth % BLOCK] as usize
+        let offset = self.offsets[birth / BLOCK] as usize;
+        self.cells[offset + birth - BIRTHS] as usize
     }
 
     /// A birth of the latest block gets a record with this key.
     #[inline(always)]
     pub(crate) fn put(&mut self, birth: usize, key: u32)
-        requires latest { length self.old.firsts.items ≡ birth / 64 + 1 }
+        requires latest { length self.old.offsets.items ≡ birth / 64 + 1 }
         requires keys { (r : Records) × KeepsKeys self.old r × (r.count + 1 < 2 ^ 32) }
         ensures keys { (r after : Records) → KeepsKeys self.old r → Comes r after key birth
             → KeepsKeys self.new after }
-        ensures firsts { self.new.firsts ≡ self.old.firsts }
+        ensures offsets { self.new.offsets ≡ self.old.offsets }
         ensures capacity { self.new.pages.capacity ≡ self.old.pages.capacity }
     {
-        let first = self.firsts[birth / BLOCK] as usize;
-        self.cells[first + birth % BLOCK] = key;
+        let offset = self.offsets[birth / BLOCK] as usize;
+        self.cells[offset + birth - BIRTHS] = key;
         self.count += 1;
     }
 
@@ -115,10 +119,10 @@ impl Pages {
         requires { (r : Records) × (key : ℕ) × KeepsKeys self.old r × (r.at key ≡ Some birth) }
         ensures keys { (r after : Records) (key : ℕ) → KeepsKeys self.old r
             → Goes r after key birth → KeepsKeys self.new after }
-        ensures firsts { self.new.firsts ≡ self.old.firsts }
+        ensures offsets { self.new.offsets ≡ self.old.offsets }
         ensures capacity { self.new.pages.capacity ≡ self.old.pages.capacity }
     {
-        if birth / BLOCK + 1 == self.firsts.len() {
+        if birth / BLOCK + 1 == self.offsets.len() {
             self.count -= 1;
         } else {
             self.leave_earlier(birth);
@@ -130,13 +134,13 @@ impl Pages {
     fn leave_earlier(&mut self, birth: usize)
         requires record { (r : Records) × (key : ℕ) × KeepsKeys self.old r
             × (r.at key ≡ Some birth) }
-        requires earlier { birth / 64 + 1 ≢ length self.old.firsts.items }
+        requires earlier { birth / 64 + 1 ≢ length self.old.offsets.items }
         ensures keys { (r after : Records) (key : ℕ) → KeepsKeys self.old r
             → Goes r after key birth → KeepsKeys self.new after }
-        ensures firsts { self.new.firsts ≡ self.old.firsts }
+        ensures offsets { self.new.offsets ≡ self.old.offsets }
         ensures capacity { self.new.pages.capacity ≡ self.old.pages.capacity }
     {
-        let place = self.firsts[birth / BLOCK] as usize / BLOCK;
+        let place = (self.offsets[birth / BLOCK] as usize + birth - BIRTHS) / BLOCK;
         let count = self.pages.get(place).unwrap().count;
         if count == 1 {
             self.pages.remove(place);
@@ -149,10 +153,10 @@ impl Pages {
     #[inline(always)]
     pub(crate) fn turn(&mut self, born: usize)
         requires born { (0 < born) × (born ≤ 1000000) }
-        requires begun { length self.old.firsts.items ≡ (born + 63) / 64 }
+        requires begun { length self.old.offsets.items ≡ (born + 63) / 64 }
         requires keys { (r : Records) × KeepsKeys self.old r × HasRoomForBlock self.old r }
         ensures keys { (r : Records) → KeepsKeys self.old r → KeepsKeys self.new r }
-        ensures begun { length self.new.firsts.items ≡ born / 64 + 1 }
+        ensures begun { length self.new.offsets.items ≡ born / 64 + 1 }
         ensures capacity { self.new.pages.capacity ≡ self.old.pages.capacity }
     {
         if born % BLOCK == 0 {
@@ -164,19 +168,19 @@ impl Pages {
     #[cold]
     #[inline(never)]
     fn begin(&mut self)
-        requires few { (0 < length self.old.firsts.items)
-            × (length self.old.firsts.items < 15626) }
+        requires few { (0 < length self.old.offsets.items)
+            × (length self.old.offsets.items < 15626) }
         requires keys { (r : Records) × KeepsKeys self.old r × HasRoomForBlock self.old r }
         ensures keys { (r : Records) → KeepsKeys self.old r → KeepsKeys self.new r }
-        ensures begun { length self.new.firsts.items ≡ length self.old.firsts.items + 1 }
+        ensures begun { length self.new.offsets.items ≡ length self.old.offsets.items + 1 }
         ensures capacity { self.new.pages.capacity ≡ self.old.pages.capacity }
     {
-        let block = self.firsts.len();
-        let first = self.firsts[block - 1];
-        let place = first as usize / BLOCK;
+        let block = self.offsets.len();
+        let offset = self.offsets[block - 1];
+        let place = (offset as usize + (block - 1) * BLOCK - BIRTHS) / BLOCK;
         if self.count == 0 {
             self.pages.get_mut(place).unwrap().block = block as u32;
-            self.firsts.push_reserved(first);
+            self.offsets.push_reserved(offset - BLOCK as u32);
         } else {
             self.pages.get_mut(place).unwrap().count = self.count;
             self.take_page();
@@ -185,19 +189,22 @@ impl Pages {
 
     /// Begins the next block with another page.
     fn take_page(&mut self)
-        requires few { length self.old.firsts.items < 15626 }
+        requires few { length self.old.offsets.items < 15626 }
         requires used { AreUsed self.old.pages }
         requires room { HasRoomFor self.old.pages 1 }
         requires keys { (r : Records) × AreSettled self.old r }
         ensures keys { (r : Records) → AreSettled self.old r → KeepsKeys self.new r }
-        ensures begun { length self.new.firsts.items ≡ length self.old.firsts.items + 1 }
+        ensures begun { length self.new.offsets.items ≡ length self.old.offsets.items + 1 }
         ensures capacity { self.new.pages.capacity ≡ self.old.pages.capacity }
     {
-        let block = self.firsts.len() as u32;
-        let place = self.pages.insert_reserved(Page { block, count: 0 });
-        let first = place * BLOCK;
-        extend(&mut self.cells, first + BLOCK);
-        self.firsts.push_reserved(first as u32);
+        let block = self.offsets.len();
+        let place = self.pages.insert_reserved(Page {
+            block: block as u32,
+            count: 0,
+        });
+        extend(&mut self.cells, place * BLOCK + BLOCK);
+        self.offsets
+            .push_reserved((place * BLOCK + BIRTHS - block * BLOCK) as u32);
         self.count = 0;
     }
 }

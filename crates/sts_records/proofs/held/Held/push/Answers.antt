@@ -26,11 +26,11 @@ turn-requires-clause-keys g c =
     let begun = i.7 in
     let e = c.insert_reserved.ensures in
     let len = e.len in
-    let firsts = ap (λ f. length f.items) c.put.ensures.firsts in
+    let offsets = ap (λ f. length f.items) c.put.ensures.offsets in
     let total : slab_len after ≤ slab_len entries + c.self.inside.room = omega (arith, len, some) in (
       records after,
       c.put.ensures.keys (records entries) (records after) i.6 (comes keys entries after c.insert_reserved.result c.self.inside.born c.args.body last i.5 e.was_vacant e.updates len e.key_in_range e.capacity),
-      room_of c.self.inside.pages c.put.new.self (records after) (slab_len entries + c.self.inside.room) c.put.ensures.capacity total (omega (arith, firsts, begun, last, few, n)) i.8,
+      room_of c.self.inside.pages c.put.new.self (records after) (slab_len entries + c.self.inside.room) c.put.ensures.capacity total (omega (arith, offsets, begun, last, few, n)) i.8,
     )
 
 pub invariant_of-self : goal.invariant_of-self

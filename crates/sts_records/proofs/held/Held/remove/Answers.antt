@@ -40,7 +40,7 @@ invariant_of-self g c =
     let e = c.remove-entry.ensures in
     let len = e.len in
     let cap = e.capacity in
-    let firsts = ap (λ f. length f.items) c.leave.ensures.firsts in
+    let offsets = ap (λ f. length f.items) c.leave.ensures.offsets in
     let pages = c.leave.ensures.capacity in
     let goes : Goes (records entries) (records after) c.key-key.result c.args.birth = record { was = rw at is; gone = ap birth_of e.updates.changed; others = λ k ne. ap birth_of (e.updates.others k ne); keys = cap; count = len } in
     let total : slab_len after + (c.self.inside.room + 1) ≡ slab_len entries + c.self.inside.room = omega (arith, len) in (
@@ -51,7 +51,7 @@ invariant_of-self g c =
       i.4,
       given_less keys (records entries) (records after) c.key-key.result c.args.birth goes i.5,
       c.leave.ensures.keys (records entries) (records after) c.key-key.result i.6 goes,
-      firsts ∙ i.7,
+      offsets ∙ i.7,
       (rw (total, pages) i.8),
     )
 

@@ -10,17 +10,17 @@ overflow_sub-self c =
     let p = c.args.self.now in
     let e = c.if-birth-len.true in
     let len = c.len.ensures in
-    let ok = p.firsts.ok.0 in
+    let ok = p.offsets.ok.0 in
     let last = kept.last in
     let own : kept.page.block ≡ c.args.birth / 64 = omega (arith, e, len, ok, last) in
-    let some = page_of p.firsts.items p.cells.items (counted_pages p kept.place kept.page) r kept.paged key c.args.birth kept.place (record { block = kept.page.block; count = p.count }) is (latest_is p r kept) own in
+    let some = page_of p.offsets.items p.cells.items (counted_pages p kept.place kept.page) r kept.paged key c.args.birth kept.place (record { block = kept.page.block; count = p.count }) is (latest_is p r kept) own in
     omega (arith, some)
 
 pub leave_earlier-requires-clause-earlier : goal.leave_earlier-requires-clause-earlier
 leave_earlier-requires-clause-earlier c =
     let ne = c.if-birth-len.false in
     let len = c.len.ensures in
-    let ok = c.args.self.now.firsts.ok.0 in
+    let ok = c.args.self.now.offsets.ok.0 in
     λ e. ne (omega (arith, e, len, ok))
 
 pub returns-then-birth-len-clause-keys : goal.returns-then-birth-len-clause-keys
@@ -28,7 +28,7 @@ returns-then-birth-len-clause-keys c r after key kept goes =
     let p = c.args.self.now in
     let e = c.if-birth-len.true in
     let len = c.len.ensures in
-    let ok = p.firsts.ok.0 in
+    let ok = p.offsets.ok.0 in
     let last = kept.last in
     let own : kept.page.block ≡ c.args.birth / 64 = omega (arith, e, len, ok, last) in
     let w = recounted p.pages kept.place kept.page (record { block = kept.page.block; count = p.count }) (record { block = kept.page.block; count = p.count - 1 }) kept.is in
@@ -38,6 +38,6 @@ returns-then-birth-len-clause-keys c r after key kept goes =
       page = kept.page;
       is = kept.is;
       last = kept.last;
-      paged = leave p.firsts.items p.cells.items (counted_pages p kept.place kept.page) r kept.paged key c.args.birth kept.place (record { block = kept.page.block; count = p.count }) (Some (record { block = kept.page.block; count = p.count - 1 })) after (with_value p.pages kept.place (record { block = kept.page.block; count = p.count - 1 })) (latest_is p r kept) own goes w.0 (omega (arith, many)) refl (inl (refl, inr last));
-      reserved = reserved p _ refl refl refl kept.reserved;
+      paged = leave p.offsets.items p.cells.items (counted_pages p kept.place kept.page) r kept.paged key c.args.birth kept.place (record { block = kept.page.block; count = p.count }) (Some (record { block = kept.page.block; count = p.count - 1 })) after (with_value p.pages kept.place (record { block = kept.page.block; count = p.count - 1 })) (latest_is p r kept) own goes w.0 (omega (arith, many)) refl (inl (refl, inr last));
+      reserved = reserved p _ kept.reserved.begun refl refl refl kept.reserved;
     }
