@@ -173,6 +173,7 @@ impl<'p, O: Outside, B: Runs<O>> Pool<'p, O, B> {
     }
 
     /// Wakes one other worker, if there is work for it.
+    #[inline(always)]
     fn wake_another(&self, shared: &Shared<'p, O, B>) {
         if shared.wants_another() {
             self.woken.notify_one();

@@ -148,6 +148,7 @@ impl<T: Drop> Held<T> {
     }
 
     /// Makes a record of the next birth, and answers that birth.
+    #[inline(always)]
     pub fn push(&mut self, body: T) -> usize
         requires room { 0 < self.old.room }
         requires births { length self.old.slots < 1000000 }
@@ -192,8 +193,9 @@ impl<T: Drop> Held<T> {
         ensures room { self.new.room ≡ self.old.room + 1 }
     {
         let key = self.pages.key(birth);
-        let entry = self.entries.remove(key);
         self.pages.leave(birth);
+        // This comes behind `leave`, so that a record that is dropped isn't copied first.
+        let entry = self.entries.remove(key);
         self.room += 1;
         entry.body
     }

@@ -76,3 +76,22 @@ fn births_go_on_when_keys_come_back(rt: HostRuntime) -> Result<(), Fail> {
     assert!(rt; held.key_of(1) != held.key_of(3));
     Ok(())
 }
+
+/// Another record comes and goes, and the first one stays.
+fn one_comes_and_goes(rt: &impl Abort, held: &mut Held<u32>, birth: usize) {
+    assert_eq!(rt; push(rt, held, 8), birth);
+    assert!(rt; held.room() == 0 && is_there(held, 0, 7) && is_there(held, birth, 8));
+    assert_eq!(rt; remove(rt, held, birth), 8);
+    assert!(rt; is_there(held, 0, 7) && is_gone(held, birth));
+}
+
+#[test]
+fn a_record_stays_while_hundreds_come_and_go(rt: HostRuntime) -> Result<(), Fail> {
+    let mut held = Held::with_room(rt.alloc(), 2)?;
+    assert_eq!(rt; push(&rt, &mut held, 7), 0);
+    for birth in 1..400 {
+        one_comes_and_goes(&rt, &mut held, birth);
+    }
+    assert!(rt; is_gone(&held, 64) && is_gone(&held, 399) && held.room() == 1);
+    Ok(())
+}
