@@ -7,8 +7,6 @@ ghost use Rattle.std.specs.Borrow.{sem};
 ghost use Rattle.sts_records.specs.Holes.{key_at};
 ghost use Rattle.sts_records.specs.Lends.{lends_slot};
 
-use crate::given::Given;
-use crate::pages::Pages;
 use slab::Slab;
 use std::alloc::{AllocError, Global};
 use std::marker::Model;
@@ -29,17 +27,14 @@ struct Entry<T> {
 /// later record may be given its key.
 #[derive(Drop)]
 pub struct Held<T> {
-    /// The key of each birth that has a record.
-    pages: Pages,
-    entries: Slab<Entry<T>>,
     /// The key that each birth was given.
-    given: Given,
-    born: u32,
+    keys: Vec<u32>,
+    entries: Slab<Entry<T>>,
     room: u32,
 }
 
 impl<T> Model for Held<T> {
-    ghost use Rattle.std.specs.Prelude.{◌≡◌, ◌≤◌, ◌+◌, ◌/◌, ◌<◌, ◌^◌, length};
+    ghost use Rattle.std.specs.Prelude.{◌≤◌, ◌+◌, ◌<◌, ◌^◌, length, vec_capacity};
     ghost use Rattle.slab.specs.Slab.{HasRoomFor, slab_len};
     ghost use Rattle.sts_records.specs.Holes.{Holes, holes_code};
 
@@ -47,22 +42,17 @@ impl<T> Model for Held<T> {
 
     ghost coded = { holes_code T.code };
 
-    ghost use Rattle.sts_records.specs.Pages.{HasPagesFor, KeepsKeys};
-    ghost use Rattle.sts_records.specs.Slots.{AreGiven, births, records, slots};
+    ghost use Rattle.sts_records.specs.Slots.{AreEarlier, slots};
 
     ghost view = { λ h. record {
-      slots = slots 0 h.given.keys h.entries.slots;
-      keys = h.given.keys;
+      slots = slots 0 h.keys.items h.entries.slots;
+      keys = h.keys.items;
       room = h.room;
     } };
 
     ghost invariant = { λ h. HasRoomFor h.entries h.room × (slab_len h.entries + h.room < 2 ^ 32)
-        × (h.entries.capacity ≤ 2 ^ 32)
-        × (h.born ≡ length h.given.keys) × (h.born ≤ 1000000)
-        × AreGiven h.given.keys (births h.entries.slots)
-        × KeepsKeys h.pages (records h.entries)
-        × (length h.pages.offsets.items ≡ h.born / 64 + 1)
-        × HasPagesFor h.pages (slab_len h.entries + h.room) };
+        × (1000000 ≤ vec_capacity h.keys) × (length h.keys.items ≤ 1000000)
+        × (h.entries.capacity ≤ 2 ^ 32) × AreEarlier (length h.keys.items) h.entries.slots };
 }
 
 impl<T: Drop> Held<T> {
@@ -80,12 +70,10 @@ impl<T: Drop> Held<T> {
         if entries.capacity() > KEYS {
             return Err(AllocError);
         }
-        let pages = Pages::with_room(alloc, room)?;
+        let keys = Vec::with_capacity(alloc, 1000000)?;
         Ok(Held {
-            pages,
+            keys,
             entries,
-            given: Given::new(),
-            born: 0,
             room,
         })
     }
@@ -95,7 +83,7 @@ impl<T: Drop> Held<T> {
         ensures value { result ≡ length self.now.slots }
         ensures few { result ≤ 1000000 }
     {
-        self.born as usize
+        self.keys.len()
     }
 
     /// How many more fit.
@@ -109,21 +97,28 @@ impl<T: Drop> Held<T> {
     pub fn get(&self, birth: usize) -> Option<&T>
         ensures { option_copied result ≡ slice_index_or self.now.slots birth None }
     {
-        let key = self.pages.find(birth)?;
-        match self.entries.get(key as usize) {
-            Some(entry) if entry.birth == birth => Some(&entry.body),
-            _ => None,
+        match self.keys.get(birth) {
+            None => None,
+            Some(key) => match self.entries.get(*key as usize) {
+                None => None,
+                Some(entry) => {
+                    if entry.birth == birth {
+                        Some(&entry.body)
+                    } else {
+                        None
+                    }
+                }
+            },
         }
     }
 
     /// The record of a birth, for writing. It must exist.
-    #[inline(always)]
     pub fn at(&mut self, birth: usize) -> &mut T
         requires { slice_index_or self.old.slots birth None ≢ None }
         ensures* writes_back { sem 𝓛 (lends_slot T.row self.entry birth result) }
         ensures value { slice_index_or self.old.slots birth None ≡ Some result.now }
     {
-        let key = self.pages.key(birth);
+        let key = self.keys[birth] as usize;
         let entry = self.entries.get_mut(key).unwrap();
         &mut entry.body
     }
@@ -134,7 +129,7 @@ impl<T: Drop> Held<T> {
     {
         match self.get(birth) {
             None => None,
-            Some(_) => Some(self.pages.key(birth)),
+            Some(_) => Some(self.keys[birth] as usize),
         }
     }
 
@@ -148,7 +143,6 @@ impl<T: Drop> Held<T> {
     }
 
     /// Makes a record of the next birth, and answers that birth.
-    #[inline(always)]
     pub fn push(&mut self, body: T) -> usize
         requires room { 0 < self.old.room }
         requires births { length self.old.slots < 1000000 }
@@ -157,13 +151,10 @@ impl<T: Drop> Held<T> {
         ensures keys { (key : ℕ) × (self.new.keys ≡ self.old.keys ++ key ∷ []) }
         ensures room { self.new.room ≡ self.old.room - 1 }
     {
-        let birth = self.born as usize;
-        let key = self.entries.insert_reserved(Entry { birth, body }) as u32;
-        self.pages.put(birth, key);
-        self.given = self.given.and(&key);
-        self.born = birth as u32 + 1;
+        let birth = self.keys.len();
+        let key = self.entries.insert_reserved(Entry { birth, body });
+        self.keys.push_reserved(key as u32);
         self.room -= 1;
-        self.pages.turn(birth + 1);
         birth
     }
 
@@ -176,11 +167,9 @@ impl<T: Drop> Held<T> {
         ensures keys { (key : ℕ) × (self.new.keys ≡ self.old.keys ++ key ∷ []) }
         ensures room { self.new.room ≡ self.old.room }
     {
-        let birth = self.born as usize;
+        let birth = self.keys.len();
         // No record has this birth, so any key will do.
-        self.given = self.given.and(&0);
-        self.born += 1;
-        self.pages.turn(birth + 1);
+        self.keys.push_reserved(0);
         birth
     }
 
@@ -192,9 +181,7 @@ impl<T: Drop> Held<T> {
         ensures keys { self.new.keys ≡ self.old.keys }
         ensures room { self.new.room ≡ self.old.room + 1 }
     {
-        let key = self.pages.key(birth);
-        self.pages.leave(birth);
-        // This comes behind `leave`, so that a record that is dropped isn't copied first.
+        let key = self.keys[birth] as usize;
         let entry = self.entries.remove(key);
         self.room += 1;
         entry.body
