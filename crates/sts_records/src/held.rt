@@ -11,8 +11,8 @@ use slab::Slab;
 use std::alloc::{AllocError, Global};
 use std::marker::Model;
 
-/// How many keys of 32 bits there are. A slab for fewer than 2^32 records has no more.
-const KEYS: usize = 4_294_967_296;
+/// How many keys of 16 bits there are. No run has more records at once.
+const KEYS: usize = 65_536;
 
 /// A record with its birth.
 #[derive(Drop)]
@@ -28,7 +28,7 @@ struct Entry<T> {
 #[derive(Drop)]
 pub struct Held<T> {
     /// The key that each birth was given.
-    keys: Vec<u32>,
+    keys: Vec<u16>,
     entries: Slab<Entry<T>>,
     room: u32,
 }
@@ -52,7 +52,7 @@ impl<T> Model for Held<T> {
 
     ghost invariant = { λ h. HasRoomFor h.entries h.room × (slab_len h.entries + h.room < 2 ^ 32)
         × (1000000 ≤ vec_capacity h.keys) × (length h.keys.items ≤ 1000000)
-        × (h.entries.capacity ≤ 2 ^ 32) × AreEarlier (length h.keys.items) h.entries.slots };
+        × (h.entries.capacity ≤ 65536) × AreEarlier (length h.keys.items) h.entries.slots };
 }
 
 impl<T: Drop> Held<T> {
@@ -61,12 +61,12 @@ impl<T: Drop> Held<T> {
     ///
     /// # Errors
     ///
-    /// Memory ran out.
+    /// Memory ran out, or `room` is more than 65,536.
     pub fn with_room(alloc: Global, room: u32) -> Result<Held<T>, AllocError>
         ensures { IfOk result (λ h. h ≡ record { slots = []; keys = []; room = room }) }
     {
         let mut entries = Slab::new(alloc);
-        entries.reserve(room as usize)?;
+        entries.reserve_exact(room as usize)?;
         if entries.capacity() > KEYS {
             return Err(AllocError);
         }
@@ -153,7 +153,7 @@ impl<T: Drop> Held<T> {
     {
         let birth = self.keys.len();
         let key = self.entries.insert_reserved(Entry { birth, body });
-        self.keys.push_reserved(key as u32);
+        self.keys.push_reserved(key as u16);
         self.room -= 1;
         birth
     }
