@@ -7,8 +7,8 @@ use Rattle.std.proofs.Common.{cond, count_by, is_some}
 use Rattle.std.proofs.lemmas.Bool.Decides.{nat_tests}
 use Rattle.std.proofs.lemmas.List.Sums.{sum_by-set}
 use Rattle.std.proofs.lemmas.List.{ext_get_or, get_or_past}
-use Rattle.std.specs.Borrow.{Bor, MutBor}
-use Rattle.std.specs.Option.{option_copied, option_copied_mut, IsSome}
+use Rattle.std.specs.Borrow.{Bor}
+use Rattle.std.specs.Option.{option_copied, IsSome}
 use Rattle.sts_records.specs.Holes.{Holes, key_at}
 use Rattle.sts_records.specs.Slots.{AreEarlier, body_of, slots}
 use Rattle.sts_records.specs.declared.held.Entry.{Entry}
@@ -246,11 +246,6 @@ pub got_is : {X : Type 0} → (o : Option (Bor X)) (r : Bor X) (x : X) → o ≡
 got_is None r x e f = cc
 got_is (Some q) r x e f = let s : q ≡ r = cc in rw s at (some_same _ _ f)
 
--- what a `&mut` to a record has
-pub is_some_of : {X : Type 0} → (o : Option (MutBor X)) (x : X) → option_copied_mut o ≡ Some x → IsSome o
-is_some_of None x e = cc
-is_some_of (Some r) x e = refl
-
-pub now_of : {X : Type 0} → (o : Option (MutBor X)) (r : MutBor X) (x : X) → o ≡ Some r → option_copied_mut o ≡ Some x → r.now ≡ x
-now_of None r x e f = cc
-now_of (Some q) r x e f = let s : q ≡ r = cc in rw s at (some_same _ _ f)
+-- two records at one key are one
+pub is_entry : {X : Type 0} → {o : Option X} → {a b : X} → o ≡ Some a → o ≡ Some b → a ≡ b
+is_entry e f = some_same _ _ (sym e ∙ f)

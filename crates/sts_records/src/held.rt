@@ -112,6 +112,16 @@ impl<T: Drop> Held<T> {
         }
     }
 
+    /// The record of a birth. It must exist.
+    #[inline(always)]
+    pub fn record(&self, birth: usize) -> &T
+        requires { slice_index_or self.now.slots birth None ≢ None }
+        ensures { slice_index_or self.now.slots birth None ≡ Some result.now }
+    {
+        let key = self.keys[birth] as usize;
+        &self.entries[key].body
+    }
+
     /// The record of a birth, for writing. It must exist.
     pub fn at(&mut self, birth: usize) -> &mut T
         requires { slice_index_or self.old.slots birth None ≢ None }
@@ -119,8 +129,7 @@ impl<T: Drop> Held<T> {
         ensures value { slice_index_or self.old.slots birth None ≡ Some result.now }
     {
         let key = self.keys[birth] as usize;
-        let entry = self.entries.get_mut(key).unwrap();
-        &mut entry.body
+        &mut self.entries[key].body
     }
 
     /// The key of the record of a birth, if it exists.

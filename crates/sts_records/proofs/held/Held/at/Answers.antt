@@ -1,7 +1,7 @@
 use Rattle.std.proofs.Common.{◌≡◌, ◌<◌, ℕ, length, Some, None, refl, ◌∙◌, arith, get_or, set}
 use Rattle.std.proofs.Common.{get_or-set_same, get_or-set_other}
 use Rattle.std.proofs.lemmas.List.{get_or_default}
-use Rattle.sts_records.proofs.Slots.{as_many, early_set, inside_of, is_some_of, lent, now_of, stands}
+use Rattle.sts_records.proofs.Slots.{as_many, early_set, inside_of, is_entry, lent, stands}
 use Rattle.sts_records.proofs.held.Held.at.Goals as goal
 
 pub index-requires : goal.index-requires
@@ -11,18 +11,17 @@ index-requires g c =
     let ok = c.self.inside.keys.ok.0 in
     omega arith
 
-pub unwrap-entry-requires : goal.unwrap-entry-requires
-unwrap-entry-requires g c =
+pub index_mut-requires : goal.index_mut-requires
+index_mut-requires g c =
     let s = stands c.self.inside.keys.items c.self.inside.entries.slots c.args.birth (rw (← c.self.view_is) at c.requires) in
-    let is = s.is in
     let at = c.index.ensures ∙ get_or_default c.self.inside.keys.items c.args.birth c.index.result.now 0 s.less in
-    is_some_of c.get_mut.result s.entry (c.get_mut.ensures.value ∙ (rw at is))
+    rw (at, s.is) refl
 
 pub returns : goal.returns
 returns g c =
     let s = stands c.self.inside.keys.items c.self.inside.entries.slots c.args.birth (rw (← c.self.view_is) at c.requires) in
     let at = c.index.ensures ∙ get_or_default c.self.inside.keys.items c.args.birth c.index.result.now 0 s.less in
-    let is : c.unwrap-entry.result.now ≡ s.entry = now_of c.get_mut.result c.unwrap-entry.result s.entry c.unwrap-entry.ensures (c.get_mut.ensures.value ∙ (rw at s.is)) in (
+    let is : c.index_mut.result.now ≡ s.entry = is_entry c.index_mut.ensures.value (rw at s.is) in (
       (refl, λ w. rw (← c.self.view_is, at, is) (lent c.self.inside.keys.items c.self.inside.entries.slots c.args.birth w c.self.inside.room s)),
       record { writes_back = tt; value = rw (← c.self.view_is, is) s.body },
     )
@@ -34,7 +33,7 @@ invariant_of-self-lent g c w =
     let entries = c.self.inside.entries.slots in
     let s = stands keys entries c.args.birth (rw (← c.self.view_is) at c.requires) in
     let at = c.index.ensures ∙ get_or_default keys c.args.birth c.index.result.now 0 s.less in
-    let is : c.unwrap-entry.result.now ≡ s.entry = now_of c.get_mut.result c.unwrap-entry.result s.entry c.unwrap-entry.ensures (c.get_mut.ensures.value ∙ (rw at s.is)) in
+    let is : c.index_mut.result.now ≡ s.entry = is_entry c.index_mut.ensures.value (rw at s.is) in
     let k : ℕ = get_or keys c.args.birth 0 in
     let inside : k < length entries = inside_of entries k s.entry s.is in
     let many = as_many entries k s.entry (record { birth = s.entry.birth; body = w }) s.is inside in
