@@ -1,17 +1,17 @@
 -- The record at each birth, when an entry or the table changes.
-use Rattle.std.proofs.Common.{◌≡◌, ◌≢◌, ℕ, zero, suc, ◌+◌, ◌<◌, ◌≤◌, List, [], ◌∷◌, ◌++◌, length}
+use Rattle.std.proofs.Common.{◌≡◌, ◌≢◌, ℕ, zero, suc, ◌+◌, ◌<◌, ◌≤◌, ◌-◌, ◌/◌, inl, inr, List, [], ◌∷◌, ◌++◌, length}
 use Rattle.std.proofs.Common.{Option, Some, None, refl, sym, ◌∙◌, ap, arith, get_or, set, nat_eq}
 use Rattle.std.proofs.Common.{Bool, true, false, nat_lt, length-set, get_or-set_same}
-use Rattle.std.proofs.Common.{get_or-set_other, length-append, subst, count_by, is_some}
+use Rattle.std.proofs.Common.{get_or-set_other, length-append, subst}
 use Rattle.std.proofs.Math.Seq.{get_or-append_seam}
 use Rattle.std.proofs.lemmas.Bool.Decides.{nat_tests}
 use Rattle.std.proofs.lemmas.List.{ext_get_or, get_or_append_left, get_or_past}
 use Rattle.std.specs.Borrow.{Bor, MutBor}
 use Rattle.std.specs.Option.{option_copied, option_copied_mut, IsSome}
 use Rattle.sts_records.specs.Holes.{Holes, key_at}
-use Rattle.sts_records.specs.Pages.{Comes, Goes, KeepsKeys, Records, no_records}
-use Rattle.sts_records.specs.Slots.{AreGiven, birth_of, births, body_of, records, slots}
-use Rattle.slab.specs.Slab.{Slab, Updates, get, slab_len}
+use Rattle.sts_records.specs.Pages.{Comes, Goes, HasPagesFor, KeepsKeys}
+use Rattle.sts_records.specs.Slots.{AreGiven, birth_of, births, body_of, slots}
+use Rattle.slab.specs.Slab.{Slab, Updates, get}
 use Rattle.sts_records.specs.declared.pages.Pages.{Pages}
 use Rattle.sts_records.proofs.Cells.{came, inside_of, stayed}
 use Rattle.sts_records.specs.declared.held.Entry.{Entry}
@@ -28,16 +28,31 @@ given_more keys at key g k b is =
     let long = length-append keys (key ∷ []) in
     (omega (arith, less, long), get_or_append_left keys (key ∷ []) 0 b less ∙ o.1)
 
-pub given_pushed : (keys : List ℕ) (r after : Records) (key birth : ℕ) → birth ≡ length keys → Comes r after key birth → AreGiven keys r.at → AreGiven (keys ++ key ∷ []) after.at
-given_pushed keys r after key birth last c g k b is =
-    came r after key birth k b c is
+pub given_pushed : (keys : List ℕ) (at after : ℕ → Option ℕ) (key birth : ℕ) → birth ≡ length keys → Comes at after key birth → AreGiven keys at → AreGiven (keys ++ key ∷ []) after
+given_pushed keys at after key birth last c g k b is =
+    came at after key birth k b c is
     (λ p q.
     let long = length-append keys (key ∷ []) in
     (omega (arith, long, q, last), ap (λ (n : ℕ). get_or (keys ++ key ∷ []) n 0) (q ∙ last) ∙ (get_or-append_seam keys key [] 0 ∙ sym p)))
-    (λ p q. given_more keys r.at key g k b q)
+    (λ p q. given_more keys at key g k b q)
 
-pub given_less : (keys : List ℕ) (r after : Records) (key birth : ℕ) → Goes r after key birth → AreGiven keys r.at → AreGiven keys after.at
-given_less keys r after key birth l g k b is = g k b (stayed r after key birth k b l is).1
+pub given_less : (keys : List ℕ) (at after : ℕ → Option ℕ) (key birth : ℕ) → Goes at after key birth → AreGiven keys at → AreGiven keys after
+given_less keys at after key birth l g k b is = g k b (stayed at after key birth k b l is)
+
+-- the latest block, before the next one is begun
+pub same_latest : (p : Pages) (birth : ℕ) (at : ℕ → Option ℕ) → KeepsKeys p (birth / 4096) at → KeepsKeys p ((birth + 1 - 1) / 4096) at
+same_latest p birth at kept =
+    let e : birth + 1 - 1 ≡ birth = omega arith in
+    rw e kept
+
+-- the cells of the records that are left
+pub less_kept : (p : Pages) (latest key birth : ℕ) (at after : ℕ → Option ℕ) → Goes at after key birth → KeepsKeys p latest at → KeepsKeys p latest after
+less_kept p latest key birth at after g kept = record { page = kept.page; kept = λ k b is. kept.kept k b (stayed at after key birth k b g is); own = kept.own; reserved = kept.reserved; few = kept.few; below = kept.below; long = kept.long }
+
+-- there are pages for fewer records
+pub has_pages : (p q : Pages) (few many : ℕ) → q.pages ≡ p.pages → few ≤ many → HasPagesFor p many → HasPagesFor q few
+has_pages p q few many e le (inl less) = inl (omega (arith, e, le, less))
+has_pages p q few many e le (inr all) = inr (omega (arith, e, all))
 
 module _ {T : Type 0} where
   pub length-slots : (b : ℕ) (keys : List ℕ) (entries : List (Option (Entry T))) → length (slots b keys entries) ≡ length keys
@@ -188,21 +203,21 @@ module _ {T : Type 0} where
   birth_is keys entries birth s = ap birth_of s.is ∙ ap (λ (n : ℕ). Some n) s.own
 
   -- no entries
-  pub no_entries : (p : Pages) (entries : Slab (Entry T)) → entries.slots ≡ [] → ((keys : ℕ) → KeepsKeys p (no_records keys)) → KeepsKeys p (records entries)
-  no_entries p entries none kept =
-      subst (λ (l : List (Option (Entry T))). KeepsKeys p (record { at = births l; keys = entries.capacity; count = count_by is_some l })) (sym none) (kept entries.capacity)
+  pub no_entries : (p : Pages) (entries : List (Option (Entry T))) → entries ≡ [] → KeepsKeys p 0 (λ _. None) → KeepsKeys p 0 (births entries)
+  no_entries p entries none kept = subst (λ (l : List (Option (Entry T))). KeepsKeys p 0 (births l)) (sym none) kept
 
   -- an entry of a new birth
-  pub comes : (keys : List ℕ) (entries after : Slab (Entry T)) (key birth : ℕ) (x : T) → birth ≡ length keys → AreGiven keys (births entries.slots) → get entries key ≡ None → Updates entries after key (Some (record { birth = birth; body = x })) → slab_len after ≡ slab_len entries + 1 → key < after.capacity → after.capacity ≡ entries.capacity → Comes (records entries) (records after) key birth
-  comes keys entries after key birth x last given vacant u len inside cap = record {
+  pub comes : (keys : List ℕ) (entries after : Slab (Entry T)) (key birth : ℕ) (x : T) → birth ≡ length keys → AreGiven keys (births entries.slots) → get entries key ≡ None → Updates entries after key (Some (record { birth = birth; body = x })) → Comes (births entries.slots) (births after.slots) key birth
+  comes keys entries after key birth x last given vacant u = record {
     was = ap birth_of vacant;
     is = ap birth_of u.changed;
     others = λ k ne. ap birth_of (u.others k ne);
     fresh = λ k b is e. (let less = (given k b is).0 in omega (arith, less, e, last));
-    keys = cap;
-    few = rw (← cap) inside;
-    count = len;
   }
+
+  -- a look-up of a birth that is yet to come
+  pub past : (keys : List ℕ) (entries : List (Option (Entry T))) (birth : ℕ) → length keys ≤ birth → get_or (slots 0 keys entries) birth None ≡ None
+  past keys entries birth le = slot_past keys entries birth le
 
   -- a look-up that finds the record
   pub found : (keys : List ℕ) (entries : List (Option (Entry T))) (birth key : ℕ) (e : Entry T) → AreGiven keys (births entries) → get_or entries key None ≡ Some e → e.birth ≡ birth → get_or (slots 0 keys entries) birth None ≡ Some e.body
@@ -211,7 +226,7 @@ module _ {T : Type 0} where
       sym (some_at keys entries birth key e g.0 (sym g.1) (sym is) own)
 
   -- a look-up that finds no record, or one of another birth
-  pub not_found : (keys : List ℕ) (entries : List (Option (Entry T))) (birth key : ℕ) → ((k : ℕ) → births entries k ≡ Some birth → Some key ≡ Some k) → (births entries key ≡ Some birth → ⊥) → get_or (slots 0 keys entries) birth None ≡ None
+  pub not_found : (keys : List ℕ) (entries : List (Option (Entry T))) (birth key : ℕ) → ((k : ℕ) → births entries k ≡ Some birth → key ≡ k) → (births entries key ≡ Some birth → ⊥) → get_or (slots 0 keys entries) birth None ≡ None
   not_found keys entries birth key leads other = by (nat_lt birth (length keys)) refl
     where
       hole : (o : Option (Entry T)) → get_or entries (get_or keys birth 0) None ≡ o → body_of birth o ≡ None
@@ -222,19 +237,12 @@ module _ {T : Type 0} where
           own true r =
               let s : e.birth ≡ birth = grind (arith, nat_tests) in
               let is : births entries (get_or keys birth 0) ≡ Some birth = ap birth_of q ∙ ap (λ (n : ℕ). Some n) s in
-              absurd (other (ap (births entries) (some_same key (get_or keys birth 0) (leads (get_or keys birth 0) is)) ∙ is))
+              absurd (other (ap (births entries) (leads (get_or keys birth 0) is) ∙ is))
           own false r = rw r refl
 
       by : (t : Bool) → nat_lt birth (length keys) ≡ t → get_or (slots 0 keys entries) birth None ≡ None
       by true q = slot_is keys entries birth (grind (arith, nat_tests)) ∙ hole (get_or entries (get_or keys birth 0) None) refl
       by false q = slot_past keys entries birth (grind (arith, nat_tests))
-
-  -- a look-up that finds no key
-  pub missing : (keys : List ℕ) (entries : List (Option (Entry T))) (birth : ℕ) → ((k : ℕ) → births entries k ≡ Some birth → None ≡ Some k) → get_or (slots 0 keys entries) birth None ≡ None
-  missing keys entries birth none = not_found keys entries birth 0 (λ k is. absurd (no k (none k is))) (λ is. no 0 (none 0 is))
-    where
-      no : (k : ℕ) → None ≡ Some k → ⊥
-      no k e = cc
 
   pub none_of : (entries : List (Option (Entry T))) (key birth : ℕ) → get_or entries key None ≡ None → births entries key ≡ Some birth → ⊥
   none_of entries key birth is at = let no : None ≡ Some birth = sym (ap birth_of is) ∙ at in cc
@@ -261,9 +269,9 @@ module _ {T : Type 0} where
   lent_given keys entries k e x is inside g =
       subst (λ (at : ℕ → Option ℕ). AreGiven keys at) (sym (same_births entries k e x is inside)) g
 
-  pub lent_kept : (p : Pages) (entries : List (Option (Entry T))) (keys count k : ℕ) (e : Entry T) (x : T) → get_or entries k None ≡ Some e → k < length entries → KeepsKeys p (record { at = births entries; keys = keys; count = count }) → KeepsKeys p (record { at = births (set entries k (Some (record { birth = e.birth; body = x }))); keys = keys; count = count })
-  lent_kept p entries keys count k e x is inside kept =
-      subst (λ (at : ℕ → Option ℕ). KeepsKeys p (record { at = at; keys = keys; count = count })) (sym (same_births entries k e x is inside)) kept
+  pub lent_kept : (p : Pages) (entries : List (Option (Entry T))) (latest k : ℕ) (e : Entry T) (x : T) → get_or entries k None ≡ Some e → k < length entries → KeepsKeys p latest (births entries) → KeepsKeys p latest (births (set entries k (Some (record { birth = e.birth; body = x }))))
+  lent_kept p entries latest k e x is inside kept =
+      subst (λ (at : ℕ → Option ℕ). KeepsKeys p latest at) (sym (same_births entries k e x is inside)) kept
 
   -- if a birth has a record, its key leads to an entry with that birth
   pub key_is : (keys : List ℕ) (entries : List (Option (Entry T))) (birth key : ℕ) → key_at (slots 0 keys entries) keys birth ≡ Some key → (e : Entry T) × (get_or entries key None ≡ Some e) × (e.birth ≡ birth) × (birth < length keys)

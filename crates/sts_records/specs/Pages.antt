@@ -1,138 +1,63 @@
--- Pages: each has the keys of the records of one block of births (this project's own).
-use Rattle.std.specs.Prelude.{◌≡◌, ◌≢◌, ◌+◌, ◌-◌, ◌*◌, ◌/◌, ◌<◌, ◌≤◌, ◌⊎◌, ℕ, zero, suc}
-use Rattle.std.specs.Prelude.{List, length, Option, Some, None, nat_eq, if◌then◌else◌}
-use Rattle.std.specs.Prelude.{slice_index_or, vec_capacity}
-use Rattle.slab.specs.Slab.{Slab, get, slab_len, with_value}
-use Rattle.sts_records.specs.declared.pages.Page.{Page}
+-- Pages: each has the cells of one block of births, with the keys of their records (this project's
+-- own).
+use Rattle.std.specs.Prelude.{◌≡◌, ◌≢◌, ◌+◌, ◌-◌, ◌*◌, ◌/◌, ◌<◌, ◌≤◌, ◌⊎◌, ℕ}
+use Rattle.std.specs.Prelude.{List, length, Option, Some, None, slice_index_or, vec_capacity}
 use Rattle.sts_records.specs.declared.pages.Pages.{Pages}
 
--- the birth of the record at each key, a number that the keys of records are below, and how many
--- records there are
-pub record Records : Type 0 where
-  pub at : ℕ → Option ℕ
-  pub keys : ℕ
-  pub count : ℕ
-
-abbrev pub no_records : ℕ → Records
-no_records keys = record { at = λ _. None; keys = keys; count = 0 }
-
--- a record of a new birth comes at this key
-pub record Comes (old new : Records) (key birth : ℕ) : Type 0 where
-  pub was : old.at key ≡ None
-  pub is : new.at key ≡ Some birth
-  pub others : (k : ℕ) → k ≢ key → new.at k ≡ old.at k
-  pub fresh : (k b : ℕ) → old.at k ≡ Some b → b ≢ birth
-  pub keys : new.keys ≡ old.keys
-  pub few : key < old.keys
-  pub count : new.count ≡ old.count + 1
+-- a record of a new birth comes at this key, where each key has the birth of its record
+pub record Comes (old new : ℕ → Option ℕ) (key birth : ℕ) : Type 0 where
+  pub was : old key ≡ None
+  pub is : new key ≡ Some birth
+  pub others : (k : ℕ) → k ≢ key → new k ≡ old k
+  pub fresh : (k b : ℕ) → old k ≡ Some b → b ≢ birth
 
 -- the record of this birth goes, which is at this key
-pub record Goes (old new : Records) (key birth : ℕ) : Type 0 where
-  pub was : old.at key ≡ Some birth
-  pub gone : new.at key ≡ None
-  pub others : (k : ℕ) → k ≢ key → new.at k ≡ old.at k
-  pub keys : new.keys ≡ old.keys
-  pub count : new.count + 1 ≡ old.count
+pub record Goes (old new : ℕ → Option ℕ) (key birth : ℕ) : Type 0 where
+  pub was : old key ≡ Some birth
+  pub gone : new key ≡ None
+  pub others : (k : ℕ) → k ≢ key → new k ≡ old k
 
--- the sum of f over the numbers below n
-abbrev pub sum_to : ℕ → (ℕ → ℕ) → ℕ
-sum_to zero f = 0
-sum_to (suc n) f = sum_to n f + f n
-
--- 1 if a birth is of this block
-abbrev pub of_block : ℕ → Option ℕ → ℕ
-of_block block None = 0
-of_block block (Some b) = if nat_eq (b / 64) block then 1 else 0
-
--- how many records the births of a block have
-abbrev pub in_block : Records → ℕ → ℕ
-in_block r block = sum_to r.keys (λ k. of_block block (r.at k))
-
--- 1 if a page is here, and how many records it has
-abbrev pub one_page : Option Page → ℕ
-one_page None = 0
-one_page (Some page) = 1
-
-abbrev pub records_of : Option Page → ℕ
-records_of None = 0
-records_of (Some page) = page.count
+-- where the page of a block begins, and what is added to each such place
+abbrev pub start_of : List ℕ → ℕ → ℕ
+start_of offsets block = slice_index_or offsets block 0 + 4096 * block
 
 -- the cell of a birth
 abbrev pub cell_of : List ℕ → ℕ → ℕ
-cell_of offsets birth = slice_index_or offsets (birth / 64) 0 + birth - 1000064
+cell_of offsets birth = slice_index_or offsets (birth / 4096) 0 + birth - 1003520
 
--- the page at this place has the cells there, and counts the records of its block; there are some,
--- or the block is the latest
-pub record IsPage (offsets : List ℕ) (r : Records) (place : ℕ) (page : Page) : Type 0 where
-  pub begun : page.block < length offsets
-  pub offset : slice_index_or offsets page.block 0 + 64 * page.block ≡ 64 * place + 1000064
-  pub counted : page.count ≡ in_block r page.block
-  pub used : (0 < page.count) ⊎ (page.block + 1 ≡ length offsets)
+-- the page with the cell of a birth
+abbrev pub page_of : List ℕ → Option ℕ → Option ℕ
+page_of offsets None = None
+page_of offsets (Some birth) = Some (cell_of offsets birth / 4096)
 
--- a block has a page
-pub record HasPage (pages : Slab Page) (block : ℕ) : Type 0 where
-  pub place : ℕ
-  pub page : Page
-  pub is : get pages place ≡ Some page
-  pub own : page.block ≡ block
+-- a block has a page, and its cells are there
+pub record HasPage (offsets cells : List ℕ) (block : ℕ) : Type 0 where
+  pub page : ℕ
+  pub start : start_of offsets block ≡ 4096 * page + 1003520
+  pub inside : 4096 * page + 4096 ≤ length cells
 
--- the cell of a birth has its key
-pub record IsKept (offsets cells : List ℕ) (pages : Slab Page) (keys key birth : ℕ) : Type 0 where
-  pub few : key < keys
-  pub paged : HasPage pages (birth / 64)
+-- the cell of a birth has its key, and isn't in the page of the latest block, if the birth is of an
+-- earlier one
+pub record IsKept (offsets cells : List ℕ) (latest key birth : ℕ) : Type 0 where
+  pub begun : birth / 4096 ≤ latest
   pub cell : slice_index_or cells (cell_of offsets birth) 0 ≡ key
+  pub apart : birth / 4096 ≢ latest → start_of offsets (birth / 4096) ≢ start_of offsets latest
 
--- pages have the keys of these records
-pub record ArePaged (offsets cells : List ℕ) (pages : Slab Page) (r : Records) : Type 0 where
-  pub above : (block : ℕ) → block < length offsets
-      → 1000064 ≤ slice_index_or offsets block 0 + 64 * block
-  pub fit : (block : ℕ) → block < length offsets
-      → slice_index_or offsets block 0 + 64 * block + 64 ≤ length cells + 1000064
-  pub inside : (place : ℕ) (page : Page) → get pages place ≡ Some page → place < pages.capacity
-  pub page : (place : ℕ) (page : Page) → get pages place ≡ Some page
-      → IsPage offsets r place page
-  pub latest : (block : ℕ) → block + 1 ≡ length offsets → HasPage pages block
-  pub kept : (key b : ℕ) → r.at key ≡ Some b → IsKept offsets cells pages r.keys key b
-  pub paged : slab_len pages ≡ sum_to pages.capacity (λ k. one_page (get pages k))
-  pub few : slab_len pages ≤ length offsets
-  pub counted : sum_to pages.capacity (λ k. records_of (get pages k)) ≡ r.count
-
--- as much memory is reserved as pages ever take
-pub record IsReserved (p : Pages) : Type 0 where
-  pub offsets : 15626 ≤ vec_capacity p.offsets
-  pub cells : 64 * p.pages.capacity ≤ vec_capacity p.cells
-  pub few : p.pages.capacity ≤ 60000000
-  pub begun : length p.offsets.items ≤ 15626
-
--- pages have the keys of these records, and each has its own count
-abbrev pub AreSettled : Pages → Records → Type 0
-AreSettled p r = ArePaged p.offsets.items p.cells.items p.pages r × IsReserved p
-
--- the pages, where this one has the count that is kept apart
-abbrev pub counted_pages : Pages → ℕ → Page → Slab Page
-counted_pages p place page =
-    with_value p.pages place (record { block = page.block; count = p.count })
-
--- pages have the keys of these records, and the count of the latest block is kept apart
-pub record KeepsKeys (p : Pages) (r : Records) : Type 0 where
-  pub place : ℕ
-  pub page : Page
-  pub is : get p.pages place ≡ Some page
-  pub last : page.block + 1 ≡ length p.offsets.items
-  pub paged : ArePaged p.offsets.items p.cells.items (counted_pages p place page) r
-  pub reserved : IsReserved p
-
--- each page has records
-abbrev pub AreUsed : Slab Page → Type 0
-AreUsed pages = (place : ℕ) (page : Page) → get pages place ≡ Some page → 0 < page.count
-
--- there are more pages than records, or than blocks that have begun
-abbrev pub HasRoomForBlock : Pages → Records → Type 0
-HasRoomForBlock p r = (r.count < p.pages.capacity) ⊎ (length p.offsets.items < p.pages.capacity)
+-- pages have the keys of these records, up to this block
+pub record KeepsKeys (p : Pages) (latest : ℕ) (at : ℕ → Option ℕ) : Type 0 where
+  pub page : (block : ℕ) → block ≤ latest → HasPage p.offsets p.cells.items block
+  pub kept : (key birth : ℕ) → at key ≡ Some birth
+      → IsKept p.offsets p.cells.items latest key birth
+  pub own : p.pages ≡ 245 → (block : ℕ) → block ≤ latest
+      → slice_index_or p.offsets block 0 ≡ 1003520
+  pub reserved : 4096 * p.pages ≤ vec_capacity p.cells
+  pub few : p.pages ≤ 245
+  pub below : latest < 245
+  pub long : length p.offsets ≡ 245
 
 -- there are more pages than records will ever be at once, or as many as there will ever be blocks
 abbrev pub HasPagesFor : Pages → ℕ → Type 0
-HasPagesFor p records = (records < p.pages.capacity) ⊎ (15626 ≤ p.pages.capacity)
+HasPagesFor p records = (records < p.pages) ⊎ (p.pages ≡ 245)
 
 -- the new list begins with the old one
 pub record Extends (old new : List ℕ) : Type 0 where

@@ -2,8 +2,6 @@
 use Rattle.std.specs.Prelude.{◌≡◌, ◌<◌, ℕ, suc, List, [], ◌∷◌, Option, Some, None, nat_eq}
 use Rattle.std.specs.Prelude.{if◌then◌else◌, length}
 use Rattle.std.specs.Prelude.{slice_index_or}
-use Rattle.slab.specs.Slab.{Slab, slab_len}
-use Rattle.sts_records.specs.Pages.{Records}
 use Rattle.sts_records.specs.declared.held.Entry.{Entry}
 
 -- the body of an entry, if it is that of this birth
@@ -23,14 +21,6 @@ birth_of (Some e) = Some e.birth
 -- the birth of the record at each key
 abbrev pub births : {T : Type 0} → List (Option (Entry T)) → ℕ → Option ℕ
 births entries key = birth_of (slice_index_or entries key None)
-
--- what pages know of these entries
-abbrev pub records : {T : Type 0} → Slab (Entry T) → Records
-records {T} entries = record {
-  at = births entries.slots;
-  keys = entries.capacity;
-  count = slab_len entries;
-}
 
 -- each record is at the key that its birth was given
 abbrev pub AreGiven : List ℕ → (ℕ → Option ℕ) → Type 0

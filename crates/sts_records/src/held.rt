@@ -18,8 +18,8 @@ const KEYS: usize = 65_536;
 
 /// A record with its birth.
 #[derive(Drop)]
-struct Entry<T> {
-    birth: usize,
+pub(crate) struct Entry<T> {
+    pub(crate) birth: usize,
     body: T,
 }
 
@@ -48,7 +48,7 @@ impl<T> Model for Held<T> {
     ghost coded = { holes_code T.code };
 
     ghost use Rattle.sts_records.specs.Pages.{HasPagesFor, KeepsKeys};
-    ghost use Rattle.sts_records.specs.Slots.{AreGiven, births, records, slots};
+    ghost use Rattle.sts_records.specs.Slots.{AreGiven, births, slots};
 
     ghost view = { λ h. record {
       slots = slots 0 h.given.keys h.entries.slots;
@@ -60,8 +60,7 @@ impl<T> Model for Held<T> {
         × (h.entries.capacity ≤ 65536)
         × (h.born ≡ length h.given.keys) × (h.born ≤ 1000000)
         × AreGiven h.given.keys (births h.entries.slots)
-        × KeepsKeys h.pages (records h.entries)
-        × (length h.pages.offsets.items ≡ h.born / 64 + 1)
+        × KeepsKeys h.pages (h.born / 4096) (births h.entries.slots)
         × HasPagesFor h.pages (slab_len h.entries + h.room) };
 }
 
@@ -109,8 +108,10 @@ impl<T: Drop> Held<T> {
     pub fn get(&self, birth: usize) -> Option<&T>
         ensures { option_copied result ≡ slice_index_or self.now.slots birth None }
     {
-        let key = self.pages.find(birth)?;
-        match self.entries.get(key as usize) {
+        if birth >= self.born as usize {
+            return None;
+        }
+        match self.entries.get(self.pages.key(birth)) {
             Some(entry) if entry.birth == birth => Some(&entry.body),
             _ => None,
         }
@@ -171,7 +172,7 @@ impl<T: Drop> Held<T> {
         self.given = self.given.and(&key);
         self.born = birth as u32 + 1;
         self.room -= 1;
-        self.pages.turn(birth + 1);
+        self.pages.turn(birth + 1, &self.entries);
         birth
     }
 
@@ -188,7 +189,7 @@ impl<T: Drop> Held<T> {
         // No record has this birth, so any key will do.
         self.given = self.given.and(&0);
         self.born += 1;
-        self.pages.turn(birth + 1);
+        self.pages.turn(birth + 1, &self.entries);
         birth
     }
 
@@ -201,8 +202,6 @@ impl<T: Drop> Held<T> {
         ensures room { self.new.room ≡ self.old.room + 1 }
     {
         let key = self.pages.key(birth);
-        self.pages.leave(birth);
-        // This comes behind `leave`, so that a record that is dropped isn't copied first.
         let entry = self.entries.remove(key);
         self.room += 1;
         entry.body

@@ -1,24 +1,23 @@
-use Rattle.std.proofs.Common.{◌≡◌, ◌<◌, ℕ, get_or, length, refl, arith}
-use Rattle.sts_records.specs.Slots.{records}
+use Rattle.std.proofs.Common.{◌/◌, ◌≡◌, ◌<◌, ℕ, get_or, length, refl, arith}
+use Rattle.sts_records.specs.Slots.{births}
 use Rattle.sts_records.proofs.Cells.{as_many, inside_of}
-use Rattle.slab.specs.Slab.{slab_len}
 use Rattle.sts_records.proofs.Slots.{birth_is, is_entry, lent, lent_given, lent_kept, stands}
 use Rattle.sts_records.proofs.held.Held.at.Goals as goal
 
-pub key-key-requires-clause-begun : goal.key-key-requires-clause-begun
-key-key-requires-clause-begun g c =
-    let s = stands c.self.inside.given.keys c.self.inside.entries.slots c.args.birth (rw (← c.self.view_is) at c.requires) in
+pub key-key-requires : goal.key-key-requires
+key-key-requires g c =
+    let entries = c.self.inside.entries in
+    let s = stands c.self.inside.given.keys entries.slots c.args.birth (rw (← c.self.view_is) at c.requires) in
     let less = s.less in
     let born = c.self.invariant.3 in
-    let begun = c.self.invariant.7 in
-    omega (arith, less, born, begun)
+    (c.self.inside.born / 4096, births entries.slots, c.self.invariant.6, omega (arith, less, born))
 
 pub index_mut-requires : goal.index_mut-requires
 index_mut-requires g c =
     let keys = c.self.inside.given.keys in
     let entries = c.self.inside.entries in
     let s = stands keys entries.slots c.args.birth (rw (← c.self.view_is) at c.requires) in
-    let at = c.key-key.ensures (records entries) (get_or keys c.args.birth 0) c.self.invariant.6 (birth_is keys entries.slots c.args.birth s) in
+    let at = c.key-key.ensures (c.self.inside.born / 4096) (births entries.slots) (get_or keys c.args.birth 0) c.self.invariant.6 (birth_is keys entries.slots c.args.birth s) in
     rw (at, s.is) refl
 
 pub returns : goal.returns
@@ -26,7 +25,7 @@ returns g c =
     let keys = c.self.inside.given.keys in
     let entries = c.self.inside.entries in
     let s = stands keys entries.slots c.args.birth (rw (← c.self.view_is) at c.requires) in
-    let at = c.key-key.ensures (records entries) (get_or keys c.args.birth 0) c.self.invariant.6 (birth_is keys entries.slots c.args.birth s) in
+    let at = c.key-key.ensures (c.self.inside.born / 4096) (births entries.slots) (get_or keys c.args.birth 0) c.self.invariant.6 (birth_is keys entries.slots c.args.birth s) in
     let is : c.index_mut.result.now ≡ s.entry = is_entry c.index_mut.ensures.value (rw at s.is) in (
       (refl, λ w. rw (← c.self.view_is, at, is) (lent keys entries.slots c.args.birth w c.self.inside.room s)),
       record { writes_back = tt; value = rw (← c.self.view_is, is) s.body },
@@ -38,9 +37,9 @@ invariant_of-self-lent g c w =
     let keys = c.self.inside.given.keys in
     let entries = c.self.inside.entries in
     let s = stands keys entries.slots c.args.birth (rw (← c.self.view_is) at c.requires) in
-    let at = c.key-key.ensures (records entries) (get_or keys c.args.birth 0) i.6 (birth_is keys entries.slots c.args.birth s) in
+    let at = c.key-key.ensures (c.self.inside.born / 4096) (births entries.slots) (get_or keys c.args.birth 0) c.self.invariant.6 (birth_is keys entries.slots c.args.birth s) in
     let is : c.index_mut.result.now ≡ s.entry = is_entry c.index_mut.ensures.value (rw at s.is) in
     let k : ℕ = get_or keys c.args.birth 0 in
     let inside : k < length entries.slots = inside_of entries.slots k s.entry s.is in
     let many = as_many entries.slots k s.entry (record { birth = s.entry.birth; body = w }) s.is inside in
-    rw (at, is, many) (i.0, i.1, i.2, i.3, i.4, lent_given keys entries.slots k s.entry w s.is inside i.5, lent_kept c.self.inside.pages entries.slots entries.capacity (slab_len entries) k s.entry w s.is inside i.6, i.7, i.8)
+    rw (at, is, many) (i.0, i.1, i.2, i.3, i.4, lent_given keys entries.slots k s.entry w s.is inside i.5, lent_kept c.self.inside.pages entries.slots (c.self.inside.born / 4096) k s.entry w s.is inside i.6, i.7)

@@ -1,15 +1,15 @@
-use Rattle.std.proofs.Common.{get_or, arith}
-use Rattle.sts_records.specs.Slots.{records}
+use Rattle.std.proofs.Common.{◌/◌, get_or, arith}
+use Rattle.sts_records.specs.Slots.{births}
 use Rattle.sts_records.proofs.Slots.{birth_is, is_there, key_some}
 use Rattle.sts_records.proofs.held.Held.key_of.Goals as goal
 
-pub key-requires-clause-begun : goal.key-requires-clause-begun
-key-requires-clause-begun g c =
-    let s = is_there c.self.inside.given.keys c.self.inside.entries.slots c.args.birth c.in-Some.field-0.now (rw (← c.self.view_is) at c.in-Some.ensures) in
+pub key-requires : goal.key-requires
+key-requires g c =
+    let entries = c.self.inside.entries in
+    let s = is_there c.self.inside.given.keys entries.slots c.args.birth c.in-Some.field-0.now (rw (← c.self.view_is) at c.in-Some.ensures) in
     let less = s.less in
     let born = c.self.invariant.3 in
-    let begun = c.self.invariant.7 in
-    omega (arith, less, born, begun)
+    (c.self.inside.born / 4096, births entries.slots, c.self.invariant.6, omega (arith, less, born))
 
 pub returns-in-Some : goal.returns-in-Some
 returns-in-Some g c =
@@ -17,5 +17,5 @@ returns-in-Some g c =
     let entries = c.self.inside.entries in
     let is = rw (← c.self.view_is) at c.in-Some.ensures in
     let s = is_there keys entries.slots c.args.birth c.in-Some.field-0.now is in
-    let key = c.key.ensures (records entries) (get_or keys c.args.birth 0) c.self.invariant.6 (birth_is keys entries.slots c.args.birth s) in
+    let key = c.key.ensures (c.self.inside.born / 4096) (births entries.slots) (get_or keys c.args.birth 0) c.self.invariant.6 (birth_is keys entries.slots c.args.birth s) in
     rw (← c.self.view_is) (key_some keys entries.slots c.args.birth c.key.result c.in-Some.field-0.now is key)

@@ -1,10 +1,12 @@
-use Rattle.std.proofs.Common.{◌≡◌, ◌≤◌, ◌+◌, ◌-◌, ◌∷◌, [], length, refl, sym, ◌∙◌, ap, arith, length-append}
+use Rattle.std.proofs.Common.{◌≡◌, ◌+◌, ◌-◌, ◌∷◌, [], refl, sym, ◌∙◌, arith, length-append}
 use Rattle.slab.specs.Slab.{slab_len}
 use Rattle.sts_records.specs.Pages.{Comes}
-use Rattle.sts_records.specs.Slots.{records}
-use Rattle.sts_records.proofs.Cells.{room_of}
-use Rattle.sts_records.proofs.Slots.{born, comes, given_pushed, length-slots}
+use Rattle.sts_records.specs.Slots.{births}
+use Rattle.sts_records.proofs.Slots.{born, comes, given_pushed, has_pages, length-slots, same_latest}
 use Rattle.sts_records.proofs.held.Held.push.Goals as goal
+
+pub put-requires : goal.put-requires
+put-requires g c = (births c.self.inside.entries.slots, c.self.invariant.6)
 
 pub turn-requires-clause-born : goal.turn-requires-clause-born
 turn-requires-clause-born g c =
@@ -15,23 +17,20 @@ turn-requires-clause-born g c =
 
 pub turn-requires-clause-keys : goal.turn-requires-clause-keys
 turn-requires-clause-keys g c =
-    let few = rw (← c.self.view_is) at c.requires.births in
-    let some = rw (← c.self.view_is) at c.requires.room in
     let keys = c.self.inside.given.keys in
     let entries = c.self.inside.entries in
     let after = c.insert_reserved.new.self in
-    let n = length-slots 0 keys entries.slots in
     let i = c.self.invariant in
-    let last = i.3 in
-    let begun = i.7 in
     let e = c.insert_reserved.ensures in
-    let len = e.len in
-    let offsets = ap (λ f. length f.items) c.put.ensures.offsets in
-    let total : slab_len after ≤ slab_len entries + c.self.inside.room = omega (arith, len, some) in (
-      records after,
-      c.put.ensures.keys (records entries) (records after) i.6 (comes keys entries after c.insert_reserved.result c.self.inside.born c.args.body last i.5 e.was_vacant e.updates len e.key_in_range e.capacity),
-      room_of c.self.inside.pages c.put.new.self (records after) (slab_len entries + c.self.inside.room) c.put.ensures.capacity total (omega (arith, offsets, begun, last, few, n)) i.8,
-    )
+    same_latest c.put.new.self c.self.inside.born (births after.slots) (c.put.ensures.keys (births entries.slots) (births after.slots) i.6 (comes keys entries after c.insert_reserved.result c.self.inside.born c.args.body i.3 i.5 e.was_vacant e.updates))
+
+pub turn-requires-clause-room : goal.turn-requires-clause-room
+turn-requires-clause-room g c =
+    let some = rw (← c.self.view_is) at c.requires.room in
+    let entries = c.self.inside.entries in
+    let after = c.insert_reserved.new.self in
+    let len = c.insert_reserved.ensures.len in
+    has_pages c.self.inside.pages c.put.new.self (slab_len after) (slab_len entries + c.self.inside.room) c.put.ensures.pages (omega (arith, len, some)) c.self.invariant.7
 
 pub invariant_of-self : goal.invariant_of-self
 invariant_of-self g c =
@@ -50,18 +49,17 @@ invariant_of-self g c =
     let cap = e.capacity in
     let long = length-append keys (key ∷ []) in
     let more = c.and-self-inside.ensures in
-    let pages = c.turn.ensures.capacity ∙ c.put.ensures.capacity in
-    let came : Comes (records entries) (records after) key c.self.inside.born = comes keys entries after key c.self.inside.born c.args.body last i.5 e.was_vacant e.updates len e.key_in_range cap in
+    let pages = c.turn.ensures.pages ∙ c.put.ensures.pages in
+    let came : Comes (births entries.slots) (births after.slots) key c.self.inside.born = comes keys entries after key c.self.inside.born c.args.body last i.5 e.was_vacant e.updates in
     let total : slab_len after + (c.self.inside.room - 1) ≡ slab_len entries + c.self.inside.room = omega (arith, len, some) in (
       omega (arith, len, cap, some),
       omega (arith, len, some),
       omega (arith, cap, small),
       (rw more (omega (arith, last, long))),
       omega (arith, last, n, few),
-      (rw more (given_pushed keys (records entries) (records after) key c.self.inside.born last came i.5)),
-      c.turn.ensures.keys (records after) (c.put.ensures.keys (records entries) (records after) i.6 came),
-      c.turn.ensures.begun,
-      (rw (total, pages) i.8),
+      (rw more (given_pushed keys (births entries.slots) (births after.slots) key c.self.inside.born last came i.5)),
+      c.turn.ensures.keys,
+      (rw (total, pages) i.7),
     )
 
 pub returns-clause-birth : goal.returns-clause-birth

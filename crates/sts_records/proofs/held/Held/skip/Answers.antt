@@ -1,8 +1,7 @@
 use Rattle.std.proofs.Common.{◌∷◌, [], ◌+◌, refl, sym, ◌∙◌, arith, length-append}
 use Rattle.slab.specs.Slab.{slab_len}
-use Rattle.sts_records.specs.Slots.{births, records}
-use Rattle.sts_records.proofs.Cells.{room_of}
-use Rattle.sts_records.proofs.Slots.{given_more, length-slots, skipped}
+use Rattle.sts_records.specs.Slots.{births}
+use Rattle.sts_records.proofs.Slots.{given_more, has_pages, length-slots, same_latest, skipped}
 use Rattle.sts_records.proofs.held.Held.skip.Goals as goal
 
 pub turn-requires-clause-born : goal.turn-requires-clause-born
@@ -13,14 +12,10 @@ turn-requires-clause-born g c =
     (omega arith, omega (arith, few, n, last))
 
 pub turn-requires-clause-keys : goal.turn-requires-clause-keys
-turn-requires-clause-keys g c =
-    let few = rw (← c.self.view_is) at c.requires in
-    let entries = c.self.inside.entries in
-    let n = length-slots 0 c.self.inside.given.keys entries.slots in
-    let i = c.self.invariant in
-    let last = i.3 in
-    let begun = i.7 in
-    (records entries, i.6, room_of c.self.inside.pages c.self.inside.pages (records entries) (slab_len entries + c.self.inside.room) refl (omega arith) (omega (arith, begun, last, few, n)) i.8)
+turn-requires-clause-keys g c = same_latest c.self.inside.pages c.self.inside.born (births c.self.inside.entries.slots) c.self.invariant.6
+
+pub turn-requires-clause-room : goal.turn-requires-clause-room
+turn-requires-clause-room g c = has_pages c.self.inside.pages c.self.inside.pages (slab_len c.self.inside.entries) (slab_len c.self.inside.entries + c.self.inside.room) refl (omega arith) c.self.invariant.7
 
 pub invariant_of-self : goal.invariant_of-self
 invariant_of-self g c =
@@ -38,9 +33,8 @@ invariant_of-self g c =
       (rw more (omega (arith, last, long))),
       omega (arith, last, few, n),
       (rw more (given_more keys (births entries.slots) 0 i.5)),
-      c.turn.ensures.keys (records entries) i.6,
-      c.turn.ensures.begun,
-      (rw c.turn.ensures.capacity i.8),
+      c.turn.ensures.keys,
+      (rw c.turn.ensures.pages i.7),
     )
 
 pub returns-clause-birth : goal.returns-clause-birth

@@ -11,4 +11,4 @@ invariant_of-result g c =
     let keys = c.new.ensures in
     let pages = c.in_ok-pages.ensures in
     let total : slab_len c.reserve_exact.new.self + c.args.room ≡ c.args.room = rw none (omega arith) in
-    (room, omega (arith, total), omega (arith, capacity), rw keys refl, omega arith, rw (none, keys) (λ key b is. absurd (let no = is in cc)), no_entries c.in_ok-pages.pages c.reserve_exact.new.self none pages.keys, pages.begun, rw total pages.room)
+    (room, omega (arith, total), omega (arith, capacity), rw keys refl, omega arith, rw (none, keys) (λ key b is. absurd (let no = is in cc)), no_entries c.in_ok-pages.pages c.reserve_exact.new.self.slots none pages.keys, rw total pages.room)
