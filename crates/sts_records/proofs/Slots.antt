@@ -1,17 +1,58 @@
 -- The record at each birth, when an entry or the table changes.
-use Rattle.std.proofs.Common.{◌≡◌, ◌≢◌, ℕ, zero, suc, ◌+◌, ◌<◌, ◌≤◌, List, [], ◌∷◌, ◌++◌, length}
+use Rattle.std.proofs.Common.{◌≡◌, ◌≢◌, ℕ, zero, suc, ◌+◌, ◌<◌, ◌≤◌, ◌-◌, ◌/◌, inl, inr, List, [], ◌∷◌, ◌++◌, length}
 use Rattle.std.proofs.Common.{Option, Some, None, refl, sym, ◌∙◌, ap, arith, get_or, set, nat_eq}
 use Rattle.std.proofs.Common.{Bool, true, false, nat_lt, length-set, get_or-set_same}
-use Rattle.std.proofs.Common.{get_or-set_other}
-use Rattle.std.proofs.Common.{cond, count_by, is_some}
+use Rattle.std.proofs.Common.{get_or-set_other, length-append, subst}
+use Rattle.std.proofs.Math.Seq.{get_or-append_seam}
 use Rattle.std.proofs.lemmas.Bool.Decides.{nat_tests}
-use Rattle.std.proofs.lemmas.List.Sums.{sum_by-set}
-use Rattle.std.proofs.lemmas.List.{ext_get_or, get_or_past}
-use Rattle.std.specs.Borrow.{Bor}
-use Rattle.std.specs.Option.{option_copied, IsSome}
+use Rattle.std.proofs.lemmas.List.{ext_get_or, get_or_append_left, get_or_past}
+use Rattle.std.specs.Borrow.{Bor, MutBor}
+use Rattle.std.specs.Option.{option_copied, option_copied_mut, IsSome}
 use Rattle.sts_records.specs.Holes.{Holes, key_at}
-use Rattle.sts_records.specs.Slots.{AreEarlier, body_of, slots}
+use Rattle.sts_records.specs.Pages.{Comes, Goes, HasPagesFor, KeepsKeys}
+use Rattle.sts_records.specs.Slots.{AreGiven, birth_of, births, body_of, slots}
+use Rattle.slab.specs.Slab.{Slab, Updates, get}
+use Rattle.sts_records.specs.declared.pages.Pages.{Pages}
+use Rattle.sts_records.proofs.Cells.{came, inside_of, stayed}
 use Rattle.sts_records.specs.declared.held.Entry.{Entry}
+
+some_same : {X : Type 0} → (a b : X) → Some a ≡ Some b → a ≡ b
+some_same a b e = cc
+
+-- ---- keys that births were given
+
+pub given_more : (keys : List ℕ) (at : ℕ → Option ℕ) (key : ℕ) → AreGiven keys at → AreGiven (keys ++ key ∷ []) at
+given_more keys at key g k b is =
+    let o = g k b is in
+    let less = o.0 in
+    let long = length-append keys (key ∷ []) in
+    (omega (arith, less, long), get_or_append_left keys (key ∷ []) 0 b less ∙ o.1)
+
+pub given_pushed : (keys : List ℕ) (at after : ℕ → Option ℕ) (key birth : ℕ) → birth ≡ length keys → Comes at after key birth → AreGiven keys at → AreGiven (keys ++ key ∷ []) after
+given_pushed keys at after key birth last c g k b is =
+    came at after key birth k b c is
+    (λ p q.
+    let long = length-append keys (key ∷ []) in
+    (omega (arith, long, q, last), ap (λ (n : ℕ). get_or (keys ++ key ∷ []) n 0) (q ∙ last) ∙ (get_or-append_seam keys key [] 0 ∙ sym p)))
+    (λ p q. given_more keys at key g k b q)
+
+pub given_less : (keys : List ℕ) (at after : ℕ → Option ℕ) (key birth : ℕ) → Goes at after key birth → AreGiven keys at → AreGiven keys after
+given_less keys at after key birth l g k b is = g k b (stayed at after key birth k b l is)
+
+-- the latest block, before the next one is begun
+pub same_latest : (p : Pages) (birth : ℕ) (at : ℕ → Option ℕ) → KeepsKeys p (birth / 4096) at → KeepsKeys p ((birth + 1 - 1) / 4096) at
+same_latest p birth at kept =
+    let e : birth + 1 - 1 ≡ birth = omega arith in
+    rw e kept
+
+-- the cells of the records that are left
+pub less_kept : (p : Pages) (latest key birth : ℕ) (at after : ℕ → Option ℕ) → Goes at after key birth → KeepsKeys p latest at → KeepsKeys p latest after
+less_kept p latest key birth at after g kept = record { page = kept.page; kept = λ k b is. kept.kept k b (stayed at after key birth k b g is); own = kept.own; reserved = kept.reserved; few = kept.few; below = kept.below; long = kept.long }
+
+-- there are pages for fewer records
+pub has_pages : (p q : Pages) (few many : ℕ) → q.pages ≡ p.pages → few ≤ many → HasPagesFor p many → HasPagesFor q few
+has_pages p q few many e le (inl less) = inl (omega (arith, e, le, less))
+has_pages p q few many e le (inr all) = inr (omega (arith, e, all))
 
 module _ {T : Type 0} where
   pub length-slots : (b : ℕ) (keys : List ℕ) (entries : List (Option (Entry T))) → length (slots b keys entries) ≡ length keys
@@ -121,11 +162,6 @@ module _ {T : Type 0} where
   pub none_other : (keys : List ℕ) (entries : List (Option (Entry T))) (birth k : ℕ) (x : Entry T) → birth < length keys → k ≡ get_or keys birth 0 → Some x ≡ get_or entries k None → x.birth ≢ birth → None ≡ get_or (slots 0 keys entries) birth None
   none_other keys entries birth k x less e h other = let q : nat_eq x.birth birth ≡ false = grind (arith, nat_tests) in rw (slot_is keys entries birth less, ← e, ← h) (rw q refl)
 
-  pub inside_of : (entries : List (Option (Entry T))) (k : ℕ) (e : Entry T) → get_or entries k None ≡ Some e → k < length entries
-  inside_of [] k e h = cc
-  inside_of (x ∷ xs) zero e h = omega arith
-  inside_of (x ∷ xs) (suc k) e h = let i = inside_of xs k e h in omega (arith, i)
-
   -- a vacant key gets the entry of the next birth
   same_entries : (b n : ℕ) (keys : List ℕ) (old new : List (Option (Entry T))) (k : ℕ) (x : T) → b + length keys ≤ n → get_or old k None ≡ None → get_or new k None ≡ Some (record { birth = n; body = x }) → ((j : ℕ) → j ≢ k → get_or new j None ≡ get_or old j None) → slots b keys new ≡ slots b keys old
   same_entries b n [] old new k x le was is others = refl
@@ -149,10 +185,10 @@ module _ {T : Type 0} where
       rw (more_keys 0 keys new k, e, same_entries 0 (length keys) keys old new k x (omega arith) was is others, is, body_own (length keys) x) refl
 
   -- a birth without a record: no entry is of this birth
-  pub skipped : (keys : List ℕ) (entries : List (Option (Entry T))) (k : ℕ) → AreEarlier (length keys) entries → slots 0 (keys ++ k ∷ []) entries ≡ slots 0 keys entries ++ None ∷ []
-  skipped keys entries k early =
+  pub skipped : (keys : List ℕ) (entries : List (Option (Entry T))) (k : ℕ) → AreGiven keys (births entries) → slots 0 (keys ++ k ∷ []) entries ≡ slots 0 keys entries ++ None ∷ []
+  skipped keys entries k given =
       let e : 0 + length keys ≡ length keys = omega arith in
-      rw (more_keys 0 keys entries k, e, no_body (get_or entries k None) (λ x is. early k x is)) refl
+      rw (more_keys 0 keys entries k, e, no_body (get_or entries k None) (λ x is. (given k x.birth (ap birth_of is)).0)) refl
     where
       no_body : (o : Option (Entry T)) → ((x : Entry T) → o ≡ Some x → x.birth < length keys) → body_of (length keys) o ≡ None
       no_body None h = refl
@@ -161,39 +197,81 @@ module _ {T : Type 0} where
           let q : nat_eq x.birth (length keys) ≡ false = grind (arith, nat_tests) in
           rw q refl
 
-  -- ---- entries of earlier births
+  -- ---- births of entries
 
-  pub none_early : AreEarlier {T = T} 0 []
-  none_early k e is = cc
+  pub birth_is : (keys : List ℕ) (entries : List (Option (Entry T))) (birth : ℕ) → (s : Stands keys entries birth) → births entries (get_or keys birth 0) ≡ Some birth
+  birth_is keys entries birth s = ap birth_of s.is ∙ ap (λ (n : ℕ). Some n) s.own
 
-  pub early_more : (n : ℕ) (entries : List (Option (Entry T))) → AreEarlier n entries → AreEarlier (n + 1) entries
-  early_more n entries h k e is = let less = h k e is in omega (arith, less)
+  -- no entries
+  pub no_entries : (p : Pages) (entries : List (Option (Entry T))) → entries ≡ [] → KeepsKeys p 0 (λ _. None) → KeepsKeys p 0 (births entries)
+  no_entries p entries none kept = subst (λ (l : List (Option (Entry T))). KeepsKeys p 0 (births l)) (sym none) kept
 
-  -- one key gets an entry, the others keep theirs
-  pub early_set : (n m key : ℕ) (old new : List (Option (Entry T))) (x : Entry T) → AreEarlier n old → n ≤ m → x.birth < m → get_or new key None ≡ Some x → ((j : ℕ) → j ≢ key → get_or new j None ≡ get_or old j None) → AreEarlier m new
-  early_set n m key old new x h le less here others k e is = by (nat_eq k key) refl
+  -- an entry of a new birth
+  pub comes : (keys : List ℕ) (entries after : Slab (Entry T)) (key birth : ℕ) (x : T) → birth ≡ length keys → AreGiven keys (births entries.slots) → get entries key ≡ None → Updates entries after key (Some (record { birth = birth; body = x })) → Comes (births entries.slots) (births after.slots) key birth
+  comes keys entries after key birth x last given vacant u = record {
+    was = ap birth_of vacant;
+    is = ap birth_of u.changed;
+    others = λ k ne. ap birth_of (u.others k ne);
+    fresh = λ k b is e. (let less = (given k b is).0 in omega (arith, less, e, last));
+  }
+
+  -- a look-up of a birth that is yet to come
+  pub past : (keys : List ℕ) (entries : List (Option (Entry T))) (birth : ℕ) → length keys ≤ birth → get_or (slots 0 keys entries) birth None ≡ None
+  past keys entries birth le = slot_past keys entries birth le
+
+  -- a look-up that finds the record
+  pub found : (keys : List ℕ) (entries : List (Option (Entry T))) (birth key : ℕ) (e : Entry T) → AreGiven keys (births entries) → get_or entries key None ≡ Some e → e.birth ≡ birth → get_or (slots 0 keys entries) birth None ≡ Some e.body
+  found keys entries birth key e given is own =
+      let g = given key birth (ap birth_of is ∙ ap (λ (n : ℕ). Some n) own) in
+      sym (some_at keys entries birth key e g.0 (sym g.1) (sym is) own)
+
+  -- a look-up that finds no record, or one of another birth
+  pub not_found : (keys : List ℕ) (entries : List (Option (Entry T))) (birth key : ℕ) → ((k : ℕ) → births entries k ≡ Some birth → key ≡ k) → (births entries key ≡ Some birth → ⊥) → get_or (slots 0 keys entries) birth None ≡ None
+  not_found keys entries birth key leads other = by (nat_lt birth (length keys)) refl
     where
-      by : (t : Bool) → nat_eq k key ≡ t → e.birth < m
-      by true q =
-          let s : k ≡ key = grind (arith, nat_tests) in
-          let f : Some e ≡ Some x = sym is ∙ (rw s here) in
-          let same : e ≡ x = cc in
-          rw same less
-      by false q =
-          let s : k ≢ key = grind (arith, nat_tests) in
-          let few = h k e (sym (others k s) ∙ is) in
-          omega (arith, few, le)
+      hole : (o : Option (Entry T)) → get_or entries (get_or keys birth 0) None ≡ o → body_of birth o ≡ None
+      hole None q = refl
+      hole (Some e) q = own (nat_eq e.birth birth) refl
+        where
+          own : (t : Bool) → nat_eq e.birth birth ≡ t → body_of birth (Some e) ≡ None
+          own true r =
+              let s : e.birth ≡ birth = grind (arith, nat_tests) in
+              let is : births entries (get_or keys birth 0) ≡ Some birth = ap birth_of q ∙ ap (λ (n : ℕ). Some n) s in
+              absurd (other (ap (births entries) (leads (get_or keys birth 0) is) ∙ is))
+          own false r = rw r refl
 
-  -- one key loses its entry
-  pub early_less : (n key : ℕ) (old new : List (Option (Entry T))) → AreEarlier n old → get_or new key None ≡ None → ((j : ℕ) → j ≢ key → get_or new j None ≡ get_or old j None) → AreEarlier n new
-  early_less n key old new h gone others k e is = by (nat_eq k key) refl
+      by : (t : Bool) → nat_lt birth (length keys) ≡ t → get_or (slots 0 keys entries) birth None ≡ None
+      by true q = slot_is keys entries birth (grind (arith, nat_tests)) ∙ hole (get_or entries (get_or keys birth 0) None) refl
+      by false q = slot_past keys entries birth (grind (arith, nat_tests))
+
+  pub none_of : (entries : List (Option (Entry T))) (key birth : ℕ) → get_or entries key None ≡ None → births entries key ≡ Some birth → ⊥
+  none_of entries key birth is at = let no : None ≡ Some birth = sym (ap birth_of is) ∙ at in cc
+
+  pub other_of : (entries : List (Option (Entry T))) (key birth : ℕ) (e : Entry T) → get_or entries key None ≡ Some e → e.birth ≢ birth → births entries key ≡ Some birth → ⊥
+  other_of entries key birth e is ne at =
+      let same : Some e.birth ≡ Some birth = sym (ap birth_of is) ∙ at in
+      ne cc
+
+  -- an entry that is written over keeps its birth
+  rewritten_births : (entries : List (Option (Entry T))) (k : ℕ) (e : Entry T) (x : T) → get_or entries k None ≡ Some e → k < length entries → (j : ℕ) → births (set entries k (Some (record { birth = e.birth; body = x }))) j ≡ births entries j
+  rewritten_births entries k e x is inside j = by (nat_eq j k) refl
     where
-      by : (t : Bool) → nat_eq k key ≡ t → e.birth < n
+      by : (t : Bool) → nat_eq j k ≡ t → births (set entries k (Some (record { birth = e.birth; body = x }))) j ≡ births entries j
       by true q =
-          let s : k ≡ key = grind (arith, nat_tests) in
-          let no : None ≡ Some e = sym gone ∙ (rw s at is) in
-          cc
-      by false q = h k e (sym (others k (grind (arith, nat_tests))) ∙ is)
+          let s : j ≡ k = grind (arith, nat_tests) in
+          rw (s, get_or-set_same entries k (Some (record { birth = e.birth; body = x })) None inside, is) refl
+      by false q = let s : j ≢ k = grind (arith, nat_tests) in ap birth_of (get_or-set_other entries k j _ None s)
+
+  same_births : (entries : List (Option (Entry T))) (k : ℕ) (e : Entry T) (x : T) → get_or entries k None ≡ Some e → k < length entries → births (set entries k (Some (record { birth = e.birth; body = x }))) ≡ births entries
+  same_births entries k e x is inside = λ i. λ j. rewritten_births entries k e x is inside j i
+
+  pub lent_given : (keys : List ℕ) (entries : List (Option (Entry T))) (k : ℕ) (e : Entry T) (x : T) → get_or entries k None ≡ Some e → k < length entries → AreGiven keys (births entries) → AreGiven keys (births (set entries k (Some (record { birth = e.birth; body = x }))))
+  lent_given keys entries k e x is inside g =
+      subst (λ (at : ℕ → Option ℕ). AreGiven keys at) (sym (same_births entries k e x is inside)) g
+
+  pub lent_kept : (p : Pages) (entries : List (Option (Entry T))) (latest k : ℕ) (e : Entry T) (x : T) → get_or entries k None ≡ Some e → k < length entries → KeepsKeys p latest (births entries) → KeepsKeys p latest (births (set entries k (Some (record { birth = e.birth; body = x }))))
+  lent_kept p entries latest k e x is inside kept =
+      subst (λ (at : ℕ → Option ℕ). KeepsKeys p latest at) (sym (same_births entries k e x is inside)) kept
 
   -- if a birth has a record, its key leads to an entry with that birth
   pub key_is : (keys : List ℕ) (entries : List (Option (Entry T))) (birth key : ℕ) → key_at (slots 0 keys entries) keys birth ≡ Some key → (e : Entry T) × (get_or entries key None ≡ Some e) × (e.birth ≡ birth) × (birth < length keys)
@@ -214,8 +292,8 @@ module _ {T : Type 0} where
   pub key_some : (keys : List ℕ) (entries : List (Option (Entry T))) (birth key : ℕ) (x : T) → Some x ≡ get_or (slots 0 keys entries) birth None → key ≡ get_or keys birth 0 → Some key ≡ key_at (slots 0 keys entries) keys birth
   key_some keys entries birth key x h e = rw (← h, e) refl
 
-  pub is_born : (keys : List ℕ) (entries : List (Option (Entry T))) (birth : ℕ) (x : T) → Some x ≡ get_or (slots 0 keys entries) birth None → birth < length keys
-  is_born keys entries birth x h = (stands keys entries birth (λ n. let no : Some x ≡ None = h ∙ n in cc)).less
+  pub is_there : (keys : List ℕ) (entries : List (Option (Entry T))) (birth : ℕ) (x : T) → Some x ≡ get_or (slots 0 keys entries) birth None → Stands keys entries birth
+  is_there keys entries birth x h = stands keys entries birth (λ n. let no : Some x ≡ None = h ∙ n in cc)
 
   -- the body of a record is replaced
   pub lent : (keys : List ℕ) (entries : List (Option (Entry T))) (birth : ℕ) (w : T) (room : ℕ) (s : Stands keys entries birth) → ◌≡◌ {A = Holes T} (record { slots = slots 0 keys (set entries (get_or keys birth 0) (Some (record { birth = s.entry.birth; body = w }))); keys = keys; room = room }) (record { slots = set (slots 0 keys entries) birth (Some w); keys = keys; room = room })
@@ -226,17 +304,6 @@ module _ {T : Type 0} where
       ap (λ (l : List (Option T)). record { slots = l; keys = keys; room = room })
       (rewritten keys entries _ birth s.entry w s.less s.is s.own (here ∙ (rw s.own refl)) (λ j ne. get_or-set_other entries k j _ None ne))
 
--- as many entries, if one is written over
-pub as_many : {X : Type 0} → (xs : List (Option X)) (k : ℕ) (x y : X) → get_or xs k None ≡ Some x → k < length xs → count_by is_some (set xs k (Some y)) ≡ count_by is_some xs
-as_many {X = X} xs k x y is inside =
-    let s = sum_by-set (λ (o : Option X). cond (is_some o) 1 0) xs k (Some y) None inside in
-    let one : ℕ = 1 in
-    let t : cond (is_some (get_or xs k None)) one 0 ≡ one = rw is refl in
-    omega (arith, s, t)
-
-some_same : {X : Type 0} → (a b : X) → Some a ≡ Some b → a ≡ b
-some_same a b e = cc
-
 -- what a `&` to a record has
 pub is_some_got : {X : Type 0} → (o : Option (Bor X)) (x : X) → option_copied o ≡ Some x → IsSome o
 is_some_got None x e = cc
@@ -245,6 +312,15 @@ is_some_got (Some r) x e = refl
 pub got_is : {X : Type 0} → (o : Option (Bor X)) (r : Bor X) (x : X) → o ≡ Some r → option_copied o ≡ Some x → r.now ≡ x
 got_is None r x e f = cc
 got_is (Some q) r x e f = let s : q ≡ r = cc in rw s at (some_same _ _ f)
+
+-- what a `&mut` to a record has
+pub is_some_of : {X : Type 0} → (o : Option (MutBor X)) (x : X) → option_copied_mut o ≡ Some x → IsSome o
+is_some_of None x e = cc
+is_some_of (Some r) x e = refl
+
+pub now_of : {X : Type 0} → (o : Option (MutBor X)) (r : MutBor X) (x : X) → o ≡ Some r → option_copied_mut o ≡ Some x → r.now ≡ x
+now_of None r x e f = cc
+now_of (Some q) r x e f = let s : q ≡ r = cc in rw s at (some_same _ _ f)
 
 -- two records at one key are one
 pub is_entry : {X : Type 0} → {o : Option X} → {a b : X} → o ≡ Some a → o ≡ Some b → a ≡ b

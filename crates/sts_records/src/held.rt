@@ -7,6 +7,8 @@ ghost use Rattle.std.specs.Borrow.{sem};
 ghost use Rattle.sts_records.specs.Holes.{key_at};
 ghost use Rattle.sts_records.specs.Lends.{lends_slot};
 
+use crate::given::Given;
+use crate::pages::Pages;
 use slab::Slab;
 use std::alloc::{AllocError, Global};
 use std::marker::Model;
@@ -16,8 +18,8 @@ const KEYS: usize = 65_536;
 
 /// A record with its birth.
 #[derive(Drop)]
-struct Entry<T> {
-    birth: usize,
+pub(crate) struct Entry<T> {
+    pub(crate) birth: usize,
     body: T,
 }
 
@@ -27,14 +29,17 @@ struct Entry<T> {
 /// later record may be given its key.
 #[derive(Drop)]
 pub struct Held<T> {
-    /// The key that each birth was given.
-    keys: Vec<u16>,
+    /// The key of each birth that has a record.
+    pages: Pages,
     entries: Slab<Entry<T>>,
+    /// The key that each birth was given.
+    given: Given,
+    born: u32,
     room: u32,
 }
 
 impl<T> Model for Held<T> {
-    ghost use Rattle.std.specs.Prelude.{◌≤◌, ◌+◌, ◌<◌, ◌^◌, length, vec_capacity};
+    ghost use Rattle.std.specs.Prelude.{◌≡◌, ◌≤◌, ◌+◌, ◌/◌, ◌<◌, ◌^◌, length};
     ghost use Rattle.slab.specs.Slab.{HasRoomFor, slab_len};
     ghost use Rattle.sts_records.specs.Holes.{Holes, holes_code};
 
@@ -42,17 +47,21 @@ impl<T> Model for Held<T> {
 
     ghost coded = { holes_code T.code };
 
-    ghost use Rattle.sts_records.specs.Slots.{AreEarlier, slots};
+    ghost use Rattle.sts_records.specs.Pages.{HasPagesFor, KeepsKeys};
+    ghost use Rattle.sts_records.specs.Slots.{AreGiven, births, slots};
 
     ghost view = { λ h. record {
-      slots = slots 0 h.keys.items h.entries.slots;
-      keys = h.keys.items;
+      slots = slots 0 h.given.keys h.entries.slots;
+      keys = h.given.keys;
       room = h.room;
     } };
 
     ghost invariant = { λ h. HasRoomFor h.entries h.room × (slab_len h.entries + h.room < 2 ^ 32)
-        × (1000000 ≤ vec_capacity h.keys) × (length h.keys.items ≤ 1000000)
-        × (h.entries.capacity ≤ 65536) × AreEarlier (length h.keys.items) h.entries.slots };
+        × (h.entries.capacity ≤ 65536)
+        × (h.born ≡ length h.given.keys) × (h.born ≤ 1000000)
+        × AreGiven h.given.keys (births h.entries.slots)
+        × KeepsKeys h.pages (h.born / 4096) (births h.entries.slots)
+        × HasPagesFor h.pages (slab_len h.entries + h.room) };
 }
 
 impl<T: Drop> Held<T> {
@@ -70,10 +79,12 @@ impl<T: Drop> Held<T> {
         if entries.capacity() > KEYS {
             return Err(AllocError);
         }
-        let keys = Vec::with_capacity(alloc, 1000000)?;
+        let pages = Pages::with_room(alloc, room)?;
         Ok(Held {
-            keys,
+            pages,
             entries,
+            given: Given::new(),
+            born: 0,
             room,
         })
     }
@@ -83,7 +94,7 @@ impl<T: Drop> Held<T> {
         ensures value { result ≡ length self.now.slots }
         ensures few { result ≤ 1000000 }
     {
-        self.keys.len()
+        self.born as usize
     }
 
     /// How many more fit.
@@ -97,18 +108,12 @@ impl<T: Drop> Held<T> {
     pub fn get(&self, birth: usize) -> Option<&T>
         ensures { option_copied result ≡ slice_index_or self.now.slots birth None }
     {
-        match self.keys.get(birth) {
-            None => None,
-            Some(key) => match self.entries.get(*key as usize) {
-                None => None,
-                Some(entry) => {
-                    if entry.birth == birth {
-                        Some(&entry.body)
-                    } else {
-                        None
-                    }
-                }
-            },
+        if birth >= self.born as usize {
+            return None;
+        }
+        match self.entries.get(self.pages.key(birth)) {
+            Some(entry) if entry.birth == birth => Some(&entry.body),
+            _ => None,
         }
     }
 
@@ -118,7 +123,7 @@ impl<T: Drop> Held<T> {
         requires { slice_index_or self.now.slots birth None ≢ None }
         ensures { slice_index_or self.now.slots birth None ≡ Some result.now }
     {
-        let key = self.keys[birth] as usize;
+        let key = self.pages.key(birth);
         &self.entries[key].body
     }
 
@@ -128,7 +133,7 @@ impl<T: Drop> Held<T> {
         ensures* writes_back { sem 𝓛 (lends_slot T.row self.entry birth result) }
         ensures value { slice_index_or self.old.slots birth None ≡ Some result.now }
     {
-        let key = self.keys[birth] as usize;
+        let key = self.pages.key(birth);
         &mut self.entries[key].body
     }
 
@@ -138,7 +143,7 @@ impl<T: Drop> Held<T> {
     {
         match self.get(birth) {
             None => None,
-            Some(_) => Some(self.keys[birth] as usize),
+            Some(_) => Some(self.pages.key(birth)),
         }
     }
 
@@ -152,6 +157,7 @@ impl<T: Drop> Held<T> {
     }
 
     /// Makes a record of the next birth, and answers that birth.
+    #[inline(always)]
     pub fn push(&mut self, body: T) -> usize
         requires room { 0 < self.old.room }
         requires births { length self.old.slots < 1000000 }
@@ -160,10 +166,13 @@ impl<T: Drop> Held<T> {
         ensures keys { (key : ℕ) × (self.new.keys ≡ self.old.keys ++ key ∷ []) }
         ensures room { self.new.room ≡ self.old.room - 1 }
     {
-        let birth = self.keys.len();
-        let key = self.entries.insert_reserved(Entry { birth, body });
-        self.keys.push_reserved(key as u16);
+        let birth = self.born as usize;
+        let key = self.entries.insert_reserved(Entry { birth, body }) as u16;
+        self.pages.put(birth, key);
+        self.given = self.given.and(&key);
+        self.born = birth as u32 + 1;
         self.room -= 1;
+        self.pages.turn(birth + 1, &self.entries);
         birth
     }
 
@@ -176,9 +185,11 @@ impl<T: Drop> Held<T> {
         ensures keys { (key : ℕ) × (self.new.keys ≡ self.old.keys ++ key ∷ []) }
         ensures room { self.new.room ≡ self.old.room }
     {
-        let birth = self.keys.len();
+        let birth = self.born as usize;
         // No record has this birth, so any key will do.
-        self.keys.push_reserved(0);
+        self.given = self.given.and(&0);
+        self.born += 1;
+        self.pages.turn(birth + 1, &self.entries);
         birth
     }
 
@@ -190,7 +201,7 @@ impl<T: Drop> Held<T> {
         ensures keys { self.new.keys ≡ self.old.keys }
         ensures room { self.new.room ≡ self.old.room + 1 }
     {
-        let key = self.keys[birth] as usize;
+        let key = self.pages.key(birth);
         let entry = self.entries.remove(key);
         self.room += 1;
         entry.body

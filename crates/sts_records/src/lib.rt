@@ -1,10 +1,13 @@
 //! Records by birth under recycled keys.
 //!
-//! Births rise by one and are never used twice; the memory of a record is. So a table leads from
-//! each birth to a key, and a record knows its birth. A key that belongs to a later record by now
-//! leads nowhere.
+//! Births rise by one and are never used twice; the memory of a record is. Each block of 64 births
+//! has a page with the keys of their records, and a record knows its birth. A key that belongs to
+//! a later record by now leads nowhere. The page of a block whose records are gone goes to a later
+//! block.
 #![tactic(auto)]
 
+mod given;
 mod held;
+mod pages;
 
 pub use held::Held;

@@ -1,21 +1,26 @@
-use Rattle.sts_records.proofs.Slots.{none_past, none_at, none_other, some_at}
+use Rattle.std.proofs.Common.{◌≡◌, ◌/◌, Some, sym, arith}
+use Rattle.sts_records.specs.Slots.{births}
+use Rattle.sts_records.proofs.Slots.{found, none_of, not_found, other_of, past}
 use Rattle.sts_records.proofs.held.Held.get.Goals as goal
+use Rattle.sts_records.proofs.held.Held.get.Goals.{in_default-via-in-Some+else-entry-birth, in_default-via-in_default}
 
-pub returns-in-None : goal.returns-in-None
-returns-in-None g c =
-    rw (← c.self.view_is) (none_past c.self.inside.keys.items c.self.inside.entries.slots c.args.birth (rw c.deref.ensures.value at c.in-None.ensures.lookup.0))
+pub returns-then-birth-self : goal.returns-then-birth-self
+returns-then-birth-self g c =
+    let born = c.self.invariant.3 in
+    let past_all = c.if-birth-self.true in
+    rw (← c.self.view_is) (sym (past c.self.inside.given.keys c.self.inside.entries.slots c.args.birth (omega (arith, born, past_all))))
 
-pub returns-in-None-get : goal.returns-in-None-get
-returns-in-None-get g c =
-    let f = c.in-None-get.ensures in
-    rw (← c.self.view_is) (none_at c.self.inside.keys.items c.self.inside.entries.slots c.args.birth c.in-Some.key.now (rw c.deref.ensures.value at c.in-Some.ensures.lookup.3.0) (rw c.deref.ensures.value at (c.in-Some.ensures.lookup.3.1 0)) f)
+pub key-requires : goal.key-requires
+key-requires g c =
+    let less = c.if-birth-self.false in
+    (c.self.inside.born / 4096, births c.self.inside.entries.slots, c.self.invariant.6, omega (arith, less))
 
-pub returns-then-entry-birth : goal.returns-then-entry-birth
-returns-then-entry-birth g c =
-    let f = c.in-Some-get.ensures in
-    rw (← c.self.view_is) (some_at c.self.inside.keys.items c.self.inside.entries.slots c.args.birth c.in-Some.key.now c.in-Some-get.entry.now (rw c.deref.ensures.value at c.in-Some.ensures.lookup.3.0) (rw c.deref.ensures.value at (c.in-Some.ensures.lookup.3.1 0)) f c.if-entry-birth.true)
+pub returns-in-Some : goal.returns-in-Some
+returns-in-Some g c =
+    rw (← c.self.view_is) (sym (found c.self.inside.given.keys c.self.inside.entries.slots c.args.birth c.key.result c.in-Some.entry.now c.self.invariant.5 (sym c.in-Some.ensures) c.if-entry-birth.true))
 
-pub returns-else-entry-birth : goal.returns-else-entry-birth
-returns-else-entry-birth g c =
-    let f = c.in-Some-get.ensures in
-    rw (← c.self.view_is) (none_other c.self.inside.keys.items c.self.inside.entries.slots c.args.birth c.in-Some.key.now c.in-Some-get.entry.now (rw c.deref.ensures.value at c.in-Some.ensures.lookup.3.0) (rw c.deref.ensures.value at (c.in-Some.ensures.lookup.3.1 0)) f c.if-entry-birth.false)
+pub returns-in_default : goal.returns-in_default
+returns-in_default g c =
+    let entries = c.self.inside.entries in
+    let other : births entries.slots c.key.result ≡ Some c.args.birth → ⊥ = elim c.in_default.branch [ in_default-via-in-Some+else-entry-birth w ↦ other_of entries.slots c.key.result c.args.birth w.in-Some.entry.now (sym w.in-Some.ensures) w.if-entry-birth.false | in_default-via-in_default w ↦ none_of entries.slots c.key.result c.args.birth (sym w.in_default.ensures) ] in
+    rw (← c.self.view_is) (sym (not_found c.self.inside.given.keys entries.slots c.args.birth c.key.result (λ k is. c.key.ensures (c.self.inside.born / 4096) (births entries.slots) k c.self.invariant.6 is) other))

@@ -1,17 +1,21 @@
-use Rattle.std.proofs.Common.{arith, ◌∙◌}
-use Rattle.std.proofs.lemmas.List.{get_or_default}
-use Rattle.sts_records.proofs.Slots.{is_born, key_some}
+use Rattle.std.proofs.Common.{◌/◌, get_or, arith}
+use Rattle.sts_records.specs.Slots.{births}
+use Rattle.sts_records.proofs.Slots.{birth_is, is_there, key_some}
 use Rattle.sts_records.proofs.held.Held.key_of.Goals as goal
 
-pub index-requires : goal.index-requires
-index-requires g c =
-    let less = is_born c.self.inside.keys.items c.self.inside.entries.slots c.args.birth c.in-Some.field-0.now (rw (← c.self.view_is) at c.in-Some.ensures) in
-    let ok = c.self.inside.keys.ok.0 in
-    omega arith
+pub key-requires : goal.key-requires
+key-requires g c =
+    let entries = c.self.inside.entries in
+    let s = is_there c.self.inside.given.keys entries.slots c.args.birth c.in-Some.field-0.now (rw (← c.self.view_is) at c.in-Some.ensures) in
+    let less = s.less in
+    let born = c.self.invariant.3 in
+    (c.self.inside.born / 4096, births entries.slots, c.self.invariant.6, omega (arith, less, born))
 
 pub returns-in-Some : goal.returns-in-Some
 returns-in-Some g c =
+    let keys = c.self.inside.given.keys in
+    let entries = c.self.inside.entries in
     let is = rw (← c.self.view_is) at c.in-Some.ensures in
-    let less = is_born c.self.inside.keys.items c.self.inside.entries.slots c.args.birth c.in-Some.field-0.now is in
-    let key = get_or_default c.self.inside.keys.items c.args.birth c.index.result.now 0 less in
-    rw (← c.self.view_is) (key_some c.self.inside.keys.items c.self.inside.entries.slots c.args.birth c.index.result.now c.in-Some.field-0.now is (c.index.ensures ∙ key))
+    let s = is_there keys entries.slots c.args.birth c.in-Some.field-0.now is in
+    let key = c.key.ensures (c.self.inside.born / 4096) (births entries.slots) (get_or keys c.args.birth 0) c.self.invariant.6 (birth_is keys entries.slots c.args.birth s) in
+    rw (← c.self.view_is) (key_some keys entries.slots c.args.birth c.key.result c.in-Some.field-0.now is key)

@@ -1,41 +1,72 @@
-use Rattle.std.proofs.Common.{◌∷◌, [], length, refl, sym, ◌∙◌, arith, length-append}
-use Rattle.sts_records.proofs.Slots.{born, early_set, length-slots}
+use Rattle.std.proofs.Common.{◌≡◌, ◌+◌, ◌-◌, ◌∷◌, [], refl, sym, ◌∙◌, arith, length-append}
+use Rattle.slab.specs.Slab.{slab_len}
+use Rattle.sts_records.specs.Pages.{Comes}
+use Rattle.sts_records.specs.Slots.{births}
+use Rattle.sts_records.proofs.Slots.{born, comes, given_pushed, has_pages, length-slots, same_latest}
 use Rattle.sts_records.proofs.held.Held.push.Goals as goal
 
-pub push_reserved-requires : goal.push_reserved-requires
-push_reserved-requires g c =
+pub put-requires : goal.put-requires
+put-requires g c = (births c.self.inside.entries.slots, c.self.invariant.6)
+
+pub turn-requires-clause-born : goal.turn-requires-clause-born
+turn-requires-clause-born g c =
     let few = rw (← c.self.view_is) at c.requires.births in
-    let n = length-slots 0 c.self.inside.keys.items c.self.inside.entries.slots in
-    let ok = c.self.inside.keys.ok.0 in
-    omega (arith, c.self.invariant)
+    let n = length-slots 0 c.self.inside.given.keys c.self.inside.entries.slots in
+    let last = c.self.invariant.3 in
+    (omega arith, omega (arith, few, n, last))
+
+pub turn-requires-clause-keys : goal.turn-requires-clause-keys
+turn-requires-clause-keys g c =
+    let keys = c.self.inside.given.keys in
+    let entries = c.self.inside.entries in
+    let after = c.insert_reserved.new.self in
+    let i = c.self.invariant in
+    let e = c.insert_reserved.ensures in
+    same_latest c.put.new.self c.self.inside.born (births after.slots) (c.put.ensures.keys (births entries.slots) (births after.slots) i.6 (comes keys entries after c.insert_reserved.result c.self.inside.born c.args.body i.3 i.5 e.was_vacant e.updates))
+
+pub turn-requires-clause-room : goal.turn-requires-clause-room
+turn-requires-clause-room g c =
+    let some = rw (← c.self.view_is) at c.requires.room in
+    let entries = c.self.inside.entries in
+    let after = c.insert_reserved.new.self in
+    let len = c.insert_reserved.ensures.len in
+    has_pages c.self.inside.pages c.put.new.self (slab_len after) (slab_len entries + c.self.inside.room) c.put.ensures.pages (omega (arith, len, some)) c.self.invariant.7
 
 pub invariant_of-self : goal.invariant_of-self
 invariant_of-self g c =
     let few = rw (← c.self.view_is) at c.requires.births in
     let some = rw (← c.self.view_is) at c.requires.room in
-    let n = length-slots 0 c.self.inside.keys.items c.self.inside.entries.slots in
+    let keys = c.self.inside.given.keys in
+    let entries = c.self.inside.entries in
+    let after = c.insert_reserved.new.self in
+    let key = c.insert_reserved.result in
+    let n = length-slots 0 keys entries.slots in
     let i = c.self.invariant in
-    let more = c.push_reserved.ensures.items in
-    let long = length-append c.self.inside.keys.items (c.insert_reserved-key.result ∷ []) in
-    let size = c.insert_reserved-key.ensures.len in
-    let cap = c.insert_reserved-key.ensures.capacity in
-    let capacity = c.push_reserved.ensures.capacity in
-    let u = c.insert_reserved-key.ensures.updates in
-    let few_more = i.4 in (
-      omega arith,
-      omega arith,
-      omega arith,
-      (rw more (omega arith)),
-      omega (arith, cap, few_more),
-      early_set (length c.self.inside.keys.items) (length c.push_reserved.new.self.items) c.insert_reserved-key.result c.self.inside.entries.slots c.insert_reserved-key.new.self.slots _ i.5 (rw more (omega arith)) (rw more (omega arith)) u.changed u.others,
+    let last = i.3 in
+    let small = i.2 in
+    let e = c.insert_reserved.ensures in
+    let len = e.len in
+    let cap = e.capacity in
+    let long = length-append keys (key ∷ []) in
+    let more = c.and-self-inside.ensures in
+    let pages = c.turn.ensures.pages ∙ c.put.ensures.pages in
+    let came : Comes (births entries.slots) (births after.slots) key c.self.inside.born = comes keys entries after key c.self.inside.born c.args.body last i.5 e.was_vacant e.updates in
+    let total : slab_len after + (c.self.inside.room - 1) ≡ slab_len entries + c.self.inside.room = omega (arith, len, some) in (
+      omega (arith, len, cap, some),
+      omega (arith, len, some),
+      omega (arith, cap, small),
+      (rw more (omega (arith, last, long))),
+      omega (arith, last, n, few),
+      (rw more (given_pushed keys (births entries.slots) (births after.slots) key c.self.inside.born last came i.5)),
+      c.turn.ensures.keys,
+      (rw (total, pages) i.7),
     )
 
 pub returns-clause-birth : goal.returns-clause-birth
-returns-clause-birth g c = rw (← c.self.view_is) (c.len-birth.ensures ∙ c.self.inside.keys.ok.0 ∙ sym (length-slots 0 c.self.inside.keys.items c.self.inside.entries.slots))
+returns-clause-birth g c = rw (← c.self.view_is) (c.self.invariant.3 ∙ sym (length-slots 0 c.self.inside.given.keys c.self.inside.entries.slots))
 
 pub returns-clause-slots : goal.returns-clause-slots
 returns-clause-slots g c =
-    let updates = c.insert_reserved-key.ensures.updates in
-    let size = c.len-birth.ensures ∙ c.self.inside.keys.ok.0 in
-    let b = born c.self.inside.keys.items c.self.inside.entries.slots c.insert_reserved-key.new.self.slots c.insert_reserved-key.result c.args.body c.insert_reserved-key.ensures.was_vacant (rw size at updates.changed) updates.others in
-    rw (← c.self.view_is, c.push_reserved.ensures.items, b) refl
+    let e = c.insert_reserved.ensures in
+    let b = born c.self.inside.given.keys c.self.inside.entries.slots c.insert_reserved.new.self.slots c.insert_reserved.result c.args.body e.was_vacant (rw c.self.invariant.3 at e.updates.changed) e.updates.others in
+    rw (← c.self.view_is, c.and-self-inside.ensures, b) refl
