@@ -15,9 +15,9 @@ pub(crate) fn waiter<E: Drop>(forest: &Forest<E>, t: u32) -> u32
     ensures { (x : AnyTask) → slice_index_or forest.now.tasks t None ≡ Some x →
         result ≡ ending.waiter forest.now t x }
 {
-    match forest.task(t).unwrap().scope {
+    match forest.task_node(t).scope {
         None => t,
-        Some(s) => forest.scope(s).unwrap().owner,
+        Some(s) => forest.scope_node(s).owner,
     }
 }
 
@@ -31,12 +31,12 @@ pub(crate) fn end_told<E: Drop>(forest: &mut Forest<E>, t: u32, end: End) -> boo
     ensures asks { (x : AnyTask) → slice_index_or forest.old.tasks t None ≡ Some x →
         result ≡ ending.asks_ended forest.old x end }
 {
-    let task = *forest.task(t).unwrap();
+    let task = *forest.task_node(t);
     let Some(s) = task.scope else {
         forest.end_task(t, task.state);
         return false;
     };
-    if forest.scope(s).unwrap().cancelled {
+    if forest.scope_node(s).cancelled {
         forest.end_task(t, task.state);
         return false;
     }

@@ -179,6 +179,26 @@ impl<E: Drop> Forest<E> {
         }
     }
 
+    /// The task of a birth. Its record must exist.
+    #[inline(always)]
+    pub(crate) fn task_node(&self, t: u32) -> &TaskNode
+        requires { slice_index_or self.now.tasks t None ≢ None }
+        ensures value { slice_index_or self.now.tasks t None ≡ Some result.now }
+        ensures home { (s : ℕ) → result.now.scope ≡ Some s →
+            slice_index_or self.now.scopes s None ≢ None }
+    {
+        &self.tasks.held.record(t as usize).task
+    }
+
+    /// The scope of a birth. Its record must exist.
+    #[inline(always)]
+    pub(crate) fn scope_node(&self, s: u32) -> &ScopeNode<E>
+        requires { slice_index_or self.now.scopes s None ≢ None }
+        ensures { slice_index_or self.now.scopes s None ≡ Some result.now }
+    {
+        &self.scopes.record(s as usize).scope
+    }
+
     /// How many more tasks fit.
     pub fn task_room(&self) -> u32
         ensures { result ≡ self.now.task_room }

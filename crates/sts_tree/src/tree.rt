@@ -97,7 +97,7 @@ impl<E: Drop> Tree<E> {
             }) }
         ensures keys { (key : ℕ) × (self.new.task_keys ≡ self.old.task_keys ++ key ∷ []) }
     {
-        let scope = self.forest.scope(s).unwrap();
+        let scope = self.forest.scope_node(s);
         let (owner, lives) = (scope.owner, !scope.cancelled);
         let t = self.forest.add_subtask(s, lives);
         settle(&mut self.forest, t);
@@ -203,7 +203,7 @@ impl<E: Drop> Tree<E> {
         ensures { (c : AnyScope E) → slice_index_or self.old.scopes s None ≡ Some c →
             seen self.new ≡ seen (with_scope self.old s (record c { cancelled = true })) }
     {
-        let owner = self.forest.scope(s).unwrap().owner;
+        let owner = self.forest.scope_node(s).owner;
         self.forest.mark_cancelled(s);
         settle(&mut self.forest, owner);
     }
@@ -214,7 +214,7 @@ impl<E: Drop> Tree<E> {
         ensures { (c : AnyScope E) → slice_index_or self.old.scopes s None ≡ Some c →
             seen self.new ≡ seen (with_scope self.old s (record c { expired = true })) }
     {
-        let owner = self.forest.scope(s).unwrap().owner;
+        let owner = self.forest.scope_node(s).owner;
         self.forest.mark_expired(s);
         settle(&mut self.forest, owner);
     }
