@@ -7,7 +7,7 @@ use Rattle.sts_model.specs.declared.event.Stand.{Stand}
 use Rattle.sts_model.specs.declared.event.Stand.TheVariants.{Free, AtJoin, AtClose}
 use Rattle.sts_links.specs.Lists.{first_or}
 use Rattle.sts_tree.specs.Births.{births, has}
-use Rattle.sts_tree.specs.Forest.{Forest, any_lives, lives_in, is_of, root}
+use Rattle.sts_tree.specs.Forest.{Forest, any_lives, lives_in, is_of, root, subtask}
 use Rattle.sts_tree.specs.declared.record.TaskNode.{TaskNode}
 use Rattle.sts_tree.specs.declared.record.ScopeNode.{ScopeNode}
 use Rattle.sts_tree.proofs.BirthLemmas.{births_kept}
@@ -42,6 +42,10 @@ read_more tasks y u ne = by (nat_lt u (length tasks)) refl
     by false q =
         let past : length tasks < u = grind (arith, nat_tests, ne) in
         past_none tasks (Some y) u None past ∙ sym (get_or_past tasks u None (omega arith))
+
+last_is : (tasks : List (Option TaskNode)) (y : TaskNode) → get_or (tasks ++ Some y ∷ []) (length tasks) None ≡ Some y
+last_is [] y = refl
+last_is (x ∷ tasks) y = last_is tasks y
 
 module _ {E : Type 0} where
   abbrev pub step_of : (f : Forest E) → Option TaskNode → Bool
@@ -274,3 +278,16 @@ module _ {E : Type 0} where
             ∙ sym (ap (λ (h : Forest E). can_step h u) e)));
         owned = owned_seen one two seen2 (owned_seen (with_more f y keys room) one (seen1 ∙ ap (λ (h : Forest E). seen h) e) (owned_more f keys room y is.owned free));
       }
+
+  -- a new subtask can step if it lives
+  pub fresh_step : (f mid : Forest E) (lives : Bool) (s t : ℕ) (keys : List ℕ) (room : ℕ) → mid ≡ with_more f (subtask s lives) keys room → t ≡ length f.tasks → lives ≡ can_step mid t
+  fresh_step f mid lives s t keys room is birth =
+      let e : can_step (with_more f (subtask s lives) keys room) (length f.tasks) ≡ lives = ap (step_of (with_more f (subtask s lives) keys room)) (last_is f.tasks (subtask s lives)) ∙ same lives in
+      sym (ap (λ (h : Forest E). can_step h t) is ∙ ap (can_step (with_more f (subtask s lives) keys room)) birth ∙ e)
+    where
+      same : (b : Bool) → (b && true) ≡ b
+      same true = refl
+      same false = refl
+
+  pub unborn_waits : (f : Forest E) → IsTree f → has (length f.tasks) f.ready ≡ false
+  unborn_waits f is = is.ready (length f.tasks) ∙ ap (step_of f) (get_or_past f.tasks (length f.tasks) None (omega arith))

@@ -9,7 +9,6 @@ use Rattle.sts_links.proofs.ChainLemmas.{without_link, list_stays}
 use Rattle.sts_tree.specs.Stored.{task_of, tasks_of, link_of, link_at}
 use Rattle.sts_tree.specs.Births.{has, without}
 use Rattle.sts_tree.specs.Forest.{Forest, ready_of, Family, IsForest}
-use Rattle.sts_tree.specs.declared.record.ScopeNode.{ScopeNode}
 use Rattle.sts_tree.specs.declared.record.TaskNode.{TaskNode}
 use Rattle.sts_tree.specs.declared.record.TaskRecord.{TaskRecord}
 use Rattle.sts_tree.proofs.HoldingLemmas.{map_at, inside_of, no_link}

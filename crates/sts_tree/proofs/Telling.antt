@@ -1,5 +1,6 @@
 -- The joiner was told of one end more.
-use Rattle.std.proofs.Common.{◌≡◌, ℕ, ◌+◌, ◌≤◌, List, length, Option, Some, None, ◌∙◌, arith, get_or, set}
+use Rattle.std.proofs.Common.{◌≡◌, ℕ, ◌+◌, ◌≤◌, List, length, Option, Some, None, refl, sym, ◌∙◌, ap, arith, get_or, set, get_or-set_same, Bool, true, false, cond}
+use Rattle.std.proofs.lemmas.List.{set-set, set-get_or}
 use Rattle.sts_joiners.specs.Tallied.{Tallied, ends_told, with_end}
 use Rattle.sts_links.specs.Lists.{IsList}
 use Rattle.sts_links.specs.declared.links.Link.{Link}
@@ -7,9 +8,17 @@ use Rattle.sts_links.specs.declared.links.Ends.{Ends}
 use Rattle.sts_model.specs.declared.event.End.{End}
 use Rattle.sts_model.specs.declared.event.End.TheVariants.{Success, Failed}
 use Rattle.sts_tree.specs.Births.{births}
-use Rattle.sts_tree.specs.Forest.{is_of, lives_in, Family, IsForest}
+use Rattle.sts_tree.specs.Ending.{gone, told, told_in, ended, ended_in}
+use Rattle.sts_tree.specs.Forest.{Forest, is_of, lives_in, Family, IsForest}
+use Rattle.sts_tree.specs.Steps.{with_task, with_scope}
+use Rattle.sts_tree.specs.Stored.{tasks_of, link_at}
+use Rattle.sts_tree.specs.Forest.{ready_of}
 use Rattle.sts_tree.specs.declared.record.TaskNode.{TaskNode}
+use Rattle.sts_tree.specs.declared.record.TaskRecord.{TaskRecord}
+use Rattle.sts_tree.specs.declared.record.ScopeNode.{ScopeNode}
 use Rattle.sts_tree.proofs.ForkLemmas.{stays_some}
+use Rattle.sts_tree.proofs.HoldingLemmas.{inside_of}
+use Rattle.sts_tree.proofs.Removing.{EndsIn}
 use Rattle.sts_tree.proofs.StepLemmas.{at_set}
 
 pub one_told : (tally : Tallied) (end : End) → ends_told (with_end tally end) ≡ ends_told tally + 1
@@ -30,3 +39,36 @@ told_one at tasks families ready keys room s f g i there forks count living fits
       few = i.few;
       born = i.born;
     }
+
+-- a subtask has ended, and the joiner of its scope was told of it
+pub tells_in : (slots new : List (Option TaskRecord)) (families : List (Option Family)) (ready : Ends) (room t s : ℕ) (f g h : Family) (y : TaskNode) → EndsIn slots new families ready room t s g y → get_or families s None ≡ Some f → h.forks ≡ g.forks → h.fork_count ≡ g.fork_count → h.living ≡ g.living → h.ends + length (births (lives_in s) 0 (tasks_of new)) ≤ length (births (is_of s) 0 (tasks_of new)) → EndsIn slots new families ready room t s h y
+tells_in slots new families ready room t s f g h y a is forks count living fits =
+    let there : get_or (set families s (Some g)) s None ≡ Some g = get_or-set_same families s (Some g) None (inside_of families s (λ n. let q : Some f ≡ None = sym is ∙ n in cc)) in
+    let one = told_one (link_at new) (tasks_of new) (set families s (Some g)) ready (ready_of new ready) room s g h a.is there forks count living fits in
+    record { is = rw (set-set families s (Some g) (Some h)) at one; tasks = a.tasks; keys_are = a.keys_are }
+
+module _ {E : Type 0} where
+  pub one_more : (c d : ScopeNode E) (end : End) → d ≡ cond c.cancelled c (record c { tally = with_end c.tally end }) → ends_told d.tally ≤ ends_told c.tally + 1
+  one_more c d end e = by c.cancelled e
+    where
+      by : (b : Bool) → d ≡ cond b c (record c { tally = with_end c.tally end }) → ends_told d.tally ≤ ends_told c.tally + 1
+      by true q = rw q (omega arith)
+      by false q = rw (q, one_told c.tally end) (omega arith)
+
+  -- the whole value, from the task's state and the scope
+  pub is_ended : (f : Forest E) (t s : ℕ) (x : TaskNode) (end : End) (state : Option End) (c d : ScopeNode E) → x.scope ≡ Some s → get_or f.scopes s None ≡ Some c → state ≡ cond c.cancelled x.state (Some end) → d ≡ cond c.cancelled c (record c { tally = with_end c.tally end }) → with_scope (with_task f t (record x { lives = false; state = state })) s d ≡ ended f t x end
+  is_ended f t s x end state c d scope there state_is d_is =
+      by c.cancelled refl ∙ sym (ap (λ o. ended_in f t x end o) scope ∙ ap (λ o. told_in f t x end s o) there)
+    where
+      by : (b : Bool) → c.cancelled ≡ b → with_scope (with_task f t (record x { lives = false; state = state })) s d ≡ told_in f t x end s (Some c)
+      by true q =
+          let m : state ≡ x.state = state_is ∙ (rw q refl) in
+          let n : d ≡ c = d_is ∙ (rw q refl) in
+          let kept : set f.scopes s (Some c) ≡ f.scopes = ap (λ o. set f.scopes s o) (sym there) ∙ set-get_or f.scopes s None in
+          let e : with_scope (with_task f t (record x { lives = false; state = state })) s d ≡ gone f t x = rw (m, n, kept) refl in
+          e ∙ (rw q refl)
+      by false q =
+          let m : state ≡ Some end = state_is ∙ (rw q refl) in
+          let n : d ≡ record c { tally = with_end c.tally end } = d_is ∙ (rw q refl) in
+          let e : with_scope (with_task f t (record x { lives = false; state = state })) s d ≡ told f t x end s c = rw (m, n) refl in
+          e ∙ (rw q refl)

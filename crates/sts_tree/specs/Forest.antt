@@ -1,5 +1,5 @@
 -- The tasks and scopes that count, by birth, and their lists (this project's own).
-use Rattle.std.specs.Prelude.{◌≡◌, ◌≢◌, ℕ, ◌+◌, ◌<◌, ◌≤◌, List, [], map, length, count_by, is_some}
+use Rattle.std.specs.Prelude.{◌≡◌, ◌≢◌, ℕ, ◌+◌, ◌≤◌, List, [], map, length, count_by, is_some}
 use Rattle.std.specs.Prelude.{Bool, true, false, ◌&&◌, Option, Some, None, option_map}
 use Rattle.std.specs.Prelude.{slice_index_or, slice_set}
 use Rattle.sts_code.specs.declared.instr.Joiner.{Joiner}
@@ -133,11 +133,6 @@ no_family = record {
   living = record { first = None; last = None };
   ends = 0;
 }
-
--- the joiner of a scope was told of fewer ends than the scope has subtasks that don't live
-abbrev pub HasSpare : {E : Type 0} → Forest E → ℕ → Type 0
-HasSpare {E} f s = (c : ScopeNode E) → slice_index_or f.scopes s None ≡ Some c
-    → ends_told c.tally + length (births (lives_in s) 0 f.tasks) < length (births (is_of s) 0 f.tasks)
 
 -- does its joiner ask to cancel after it is told of this end?
 abbrev pub asks : {E : Type 0} → ScopeNode E → End → Bool

@@ -1,45 +1,38 @@
-//! The end of a task, without the ready list.
+//! The end of a task.
 
-ghost use Rattle.std.specs.Prelude.{◌≡◌, Some, None, true, slice_index_or};
-ghost use Rattle.sts_tree.specs.declared.record.TaskNode.{TaskNode as AnyTask};
-ghost use Rattle.sts_tree.specs.Ending as ending;
+ghost use Rattle.std.specs.Prelude.{◌≡◌, ◌<◌, Some, if◌then◌else◌};
+ghost use Rattle.sts_code.specs.declared.limits.TheConstants.{MAX_STANDING};
+ghost use Rattle.sts_joiners.specs.Tallied.{ends_told, with_end};
+ghost use Rattle.sts_tree.specs.Ending.{asks_told};
 
-use crate::forest::Forest;
+use crate::record::ScopeNode;
 use sts_model::End;
 
-/// The task that may wait for the end of a task: the owner of its scope. For the root it is the
-/// root itself.
-pub(crate) fn waiter<E: Drop>(forest: &Forest<E>, t: u32) -> u32
-    requires { (x : AnyTask)
-        × (slice_index_or forest.now.tasks t None ≡ Some x) × (x.lives ≡ true) }
-    ensures { (x : AnyTask) → slice_index_or forest.now.tasks t None ≡ Some x →
-        result ≡ ending.waiter forest.now t x }
-{
-    match forest.task(t).unwrap().scope {
-        None => t,
-        Some(s) => forest.scope(s).unwrap().owner,
-    }
+/// What the end of a task leaves to its caller.
+#[derive(Clone, Copy)]
+pub struct Ended {
+    /// Does the joiner of the scope now ask to cancel?
+    pub asks: bool,
+    /// The task that may wait for the end: the owner of the scope. For the root it is the root
+    /// itself.
+    pub waiter: u32,
+    /// Was the task in the ready list?
+    pub was_ready: bool,
 }
 
-/// Ends a task, and tells the joiner of its scope unless the scope is cancelled. Answers whether
-/// the joiner now asks to cancel.
-pub(crate) fn end_told<E: Drop>(forest: &mut Forest<E>, t: u32, end: End) -> bool
-    requires { (x : AnyTask)
-        × (slice_index_or forest.old.tasks t None ≡ Some x) × (x.lives ≡ true) }
-    ensures ended { (x : AnyTask) → slice_index_or forest.old.tasks t None ≡ Some x →
-        forest.new ≡ ending.ended forest.old t x end }
-    ensures asks { (x : AnyTask) → slice_index_or forest.old.tasks t None ≡ Some x →
-        result ≡ ending.asks_ended forest.old x end }
+/// Keeps the end of a subtask as its state, and tells the joiner of its scope. In a cancelled scope
+/// it does neither. Answers whether the joiner now asks to cancel.
+#[inline(always)]
+pub(crate) fn tell<E: Drop>(scope: &mut ScopeNode<E>, state: &mut Option<End>, end: End) -> bool
+    requires { ends_told scope.old.tally < MAX_STANDING }
+    ensures scope { scope.new ≡ (if scope.old.cancelled then scope.old else
+        record scope.old { tally = with_end scope.old.tally end }) }
+    ensures state { state.new ≡ (if scope.old.cancelled then state.old else Some end) }
+    ensures asks { result ≡ asks_told end (Some scope.old) }
 {
-    let task = *forest.task(t).unwrap();
-    let Some(s) = task.scope else {
-        forest.end_task(t, task.state);
-        return false;
-    };
-    if forest.scope(s).unwrap().cancelled {
-        forest.end_task(t, task.state);
+    if scope.cancelled {
         return false;
     }
-    forest.end_task(t, Some(end));
-    forest.tell(s, end)
+    *state = Some(end);
+    scope.tally.on_complete(end)
 }

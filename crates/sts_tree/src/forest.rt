@@ -10,6 +10,7 @@ ghost use Rattle.sts_tree.specs.Stored.{link_at, SameTasks};
 ghost use Rattle.sts_links.specs.Lists.{AreDistinct, IsList, NotIn, BecomesList};
 ghost use Rattle.sts_tree.specs.declared.record.TaskNode.{TaskNode as AnyTask};
 
+use crate::ending::{Ended, tell};
 use crate::record::{ScopeNode, ScopeRecord, TaskNode, TaskRecord};
 use crate::tasks::Tasks;
 use std::alloc::{AllocError, Global};
@@ -101,12 +102,13 @@ fn remove_all(tasks: &mut Tasks, list: Ends, count: u32)
 }
 
 impl<E: Drop> Forest<E> {
-    ghost use Rattle.sts_tree.specs.Forest.{closed, opened, subtask, HasSpare, asks, any_lives};
+    ghost use Rattle.sts_tree.specs.Forest.{closed, opened, subtask, any_lives};
     ghost use Rattle.sts_tree.specs.Forest.{is_marked, lives_in, is_of, root};
     ghost use Rattle.sts_tree.specs.Steps.{is_over};
     ghost use Rattle.sts_tree.specs.Births.{births};
     ghost use Rattle.sts_links.specs.Lists.{first_or};
-    ghost use Rattle.sts_joiners.specs.Tallied.{ends_told, with_end};
+    ghost use Rattle.sts_joiners.specs.Tallied.{ends_told};
+    ghost use Rattle.sts_tree.specs.Ending as ending;
     ghost use Rattle.sts_tree.specs.declared.record.ScopeNode.{ScopeNode as AnyScope};
 
     /// The root task alone, ready, with room for `tasks` tasks and `scopes` scopes. No later call
@@ -177,6 +179,26 @@ impl<E: Drop> Forest<E> {
             None => None,
             Some(r) => Some(&r.scope),
         }
+    }
+
+    /// The task of a birth. Its record must exist.
+    #[inline(always)]
+    pub(crate) fn task_node(&self, t: u32) -> &TaskNode
+        requires { slice_index_or self.now.tasks t None ≢ None }
+        ensures value { slice_index_or self.now.tasks t None ≡ Some result.now }
+        ensures home { (s : ℕ) → result.now.scope ≡ Some s →
+            slice_index_or self.now.scopes s None ≢ None }
+    {
+        &self.tasks.held.record(t as usize).task
+    }
+
+    /// The scope of a birth. Its record must exist.
+    #[inline(always)]
+    pub(crate) fn scope_node(&self, s: u32) -> &ScopeNode<E>
+        requires { slice_index_or self.now.scopes s None ≢ None }
+        ensures { slice_index_or self.now.scopes s None ≡ Some result.now }
+    {
+        &self.scopes.record(s as usize).scope
     }
 
     /// How many more tasks fit.
@@ -347,43 +369,38 @@ impl<E: Drop> Forest<E> {
         self.scopes.at(s as usize).scope.expired = true;
     }
 
-    /// Ends a task: it leaves the living subtasks of its scope, and has this state. The scope's
-    /// joiner is not told.
+    /// Ends a task: it leaves the living subtasks of its scope. Unless the scope is cancelled, the
+    /// task keeps the end, and the scope's joiner is told of it.
     #[inline(always)]
-    pub fn end_task(&mut self, t: u32, state: Option<End>)
+    pub fn end_task(&mut self, t: u32, end: End) -> Ended
         requires lives { (x : AnyTask)
             × (slice_index_or self.old.tasks t None ≡ Some x) × (x.lives ≡ true) }
         ensures ended { (x : AnyTask) → slice_index_or self.old.tasks t None ≡ Some x →
-            self.new ≡ record self.old {
-              tasks = slice_set self.old.tasks t (Some (record x { lives = false; state = state }));
-            } }
-        ensures spare { (x : AnyTask) (s : ℕ) → slice_index_or self.old.tasks t None ≡ Some x →
-            x.scope ≡ Some s → HasSpare self.new s }
+            self.new ≡ ending.ended self.old t x end }
+        ensures asks { (x : AnyTask) → slice_index_or self.old.tasks t None ≡ Some x →
+            result.asks ≡ ending.asks_ended self.old x end }
+        ensures waiter { (x : AnyTask) → slice_index_or self.old.tasks t None ≡ Some x →
+            result.waiter ≡ ending.waiter self.old t x }
+        ensures ready { result.was_ready ≡ has t self.old.ready }
     {
         let task = &mut self.tasks.held.at(t as usize).task;
         task.lives = false;
-        task.state = state;
+        let was_ready = task.ready;
         let Some(s) = task.scope else {
-            return;
+            return Ended {
+                asks: false,
+                waiter: t,
+                was_ready,
+            };
         };
         let row = self.scopes.at(s as usize);
+        let asks = tell(&mut row.scope, &mut task.state, end);
         row.living = unlink(&mut self.tasks, 1, row.living, t as usize);
-    }
-
-    /// Tells a scope's joiner of an end. Answers whether it now asks to cancel.
-    #[inline(always)]
-    pub fn tell(&mut self, s: u32, end: End) -> bool
-        requires stands { slice_index_or self.old.scopes s None ≢ None }
-        requires spare { HasSpare self.old s }
-        ensures told { (x : AnyScope E) → slice_index_or self.old.scopes s None ≡ Some x →
-            self.new ≡ record self.old {
-              scopes = slice_set self.old.scopes s
-                  (Some (record x { tally = with_end x.tally end }));
-            } }
-        ensures asks { (x : AnyScope E) → slice_index_or self.old.scopes s None ≡ Some x →
-            result ≡ asks x end }
-    {
-        self.scopes.at(s as usize).scope.tally.on_complete(end)
+        Ended {
+            asks,
+            waiter: row.scope.owner,
+            was_ready,
+        }
     }
 
     /// Takes out a scope and its subtasks. None of these may be ready.

@@ -42,7 +42,7 @@ impl<E: Drop> Tree<E> {
         ensures { (c : AnyScope E) → slice_index_or self.now.scopes s None ≡ Some c →
             result ≡ c.owner }
     {
-        self.forest.scope(s).unwrap().owner
+        self.forest.scope_node(s).owner
     }
 
     /// A scope's joiner.
@@ -51,7 +51,7 @@ impl<E: Drop> Tree<E> {
         ensures { (c : AnyScope E) → slice_index_or self.now.scopes s None ≡ Some c →
             result ≡ c.tally.joiner }
     {
-        self.forest.scope(s).unwrap().tally.joiner()
+        self.forest.scope_node(s).tally.joiner()
     }
 
     /// Has the scope a timeout?
@@ -60,7 +60,7 @@ impl<E: Drop> Tree<E> {
         ensures { (c : AnyScope E) → slice_index_or self.now.scopes s None ≡ Some c →
             result ≡ c.timed }
     {
-        self.forest.scope(s).unwrap().timed
+        self.forest.scope_node(s).timed
     }
 
     /// A scope's phase.
@@ -69,7 +69,7 @@ impl<E: Drop> Tree<E> {
         ensures { (c : AnyScope E) → slice_index_or self.now.scopes s None ≡ Some c →
             result ≡ c.phase }
     {
-        self.forest.scope(s).unwrap().phase
+        self.forest.scope_node(s).phase
     }
 
     /// Is the scope cancelled?
@@ -78,7 +78,7 @@ impl<E: Drop> Tree<E> {
         ensures { (c : AnyScope E) → slice_index_or self.now.scopes s None ≡ Some c →
             result ≡ c.cancelled }
     {
-        self.forest.scope(s).unwrap().cancelled
+        self.forest.scope_node(s).cancelled
     }
 
     /// Has the scope expired?
@@ -87,7 +87,7 @@ impl<E: Drop> Tree<E> {
         ensures { (c : AnyScope E) → slice_index_or self.now.scopes s None ≡ Some c →
             result ≡ c.expired }
     {
-        self.forest.scope(s).unwrap().expired
+        self.forest.scope_node(s).expired
     }
 
     /// The value that is kept for the scope.
@@ -96,7 +96,7 @@ impl<E: Drop> Tree<E> {
         ensures { (c : AnyScope E) → slice_index_or self.now.scopes s None ≡ Some c →
             result.now ≡ c.environment }
     {
-        &self.forest.scope(s).unwrap().environment
+        &self.forest.scope_node(s).environment
     }
 
     /// How many subtasks a scope has.
@@ -121,7 +121,7 @@ impl<E: Drop> Tree<E> {
             (length (births (is_of s) 0 self.now.tasks)) }
     {
         let subtasks = self.forest.subtasks(s);
-        self.forest.scope(s).unwrap().tally.result(subtasks)
+        self.forest.scope_node(s).tally.result(subtasks)
     }
 
     /// How many subtasks are in a state.
@@ -130,7 +130,7 @@ impl<E: Drop> Tree<E> {
         ensures { (c : AnyScope E) → slice_index_or self.now.scopes s None ≡ Some c →
             result ≡ count_of self.now s c kind }
     {
-        let tally = &self.forest.scope(s).unwrap().tally;
+        let tally = &self.forest.scope_node(s).tally;
         match kind {
             Kind::S => tally.successes(),
             Kind::F => tally.failures(),
@@ -144,7 +144,7 @@ impl<E: Drop> Tree<E> {
         ensures { (c : AnyScope E) → slice_index_or self.now.scopes s None ≡ Some c →
             result ≡ c.tally.told.total }
     {
-        self.forest.scope(s).unwrap().tally.total()
+        self.forest.scope_node(s).tally.total()
     }
 
     /// Does the task live?
@@ -162,7 +162,7 @@ impl<E: Drop> Tree<E> {
         requires { slice_index_or self.now.tasks t None ≢ None }
         ensures { (x : AnyTask) → slice_index_or self.now.tasks t None ≡ Some x → result ≡ x.flag }
     {
-        self.forest.task(t).unwrap().flag
+        self.forest.task_node(t).flag
     }
 
     /// The scope that a task is a subtask of; the root has none.
@@ -170,7 +170,7 @@ impl<E: Drop> Tree<E> {
         requires { slice_index_or self.now.tasks t None ≢ None }
         ensures { (x : AnyTask) → slice_index_or self.now.tasks t None ≡ Some x → result ≡ x.scope }
     {
-        self.forest.task(t).unwrap().scope
+        self.forest.task_node(t).scope
     }
 
     /// A task's state as a subtask; `None` means unavailable.
@@ -178,7 +178,7 @@ impl<E: Drop> Tree<E> {
         requires { slice_index_or self.now.tasks t None ≢ None }
         ensures { (x : AnyTask) → slice_index_or self.now.tasks t None ≡ Some x → result ≡ x.state }
     {
-        self.forest.task(t).unwrap().state
+        self.forest.task_node(t).state
     }
 
     /// The first subtask in fork order.

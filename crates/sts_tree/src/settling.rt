@@ -21,9 +21,9 @@ fn can_go<E: Drop>(forest: &Forest<E>, flag: bool, stand: Stand) -> bool
 
 /// Whether a task can step, and whether it is in the ready list.
 #[derive(Clone, Copy)]
-struct Place {
-    can_step: bool,
-    is_ready: bool,
+pub(crate) struct Place {
+    pub(crate) can_step: bool,
+    pub(crate) is_ready: bool,
 }
 
 #[inline(always)]
@@ -53,6 +53,20 @@ pub(crate) fn settle<E: Drop>(forest: &mut Forest<E>, t: u32)
         has u forest.new.ready ≡ steps.can_step forest.new u }
 {
     let place = place_of(forest, t);
+    settle_at(forest, t, place);
+}
+
+/// Settles a task whose place is known.
+#[inline(always)]
+pub(crate) fn settle_at<E: Drop>(forest: &mut Forest<E>, t: u32, place: Place)
+    requires steps { place.can_step ≡ steps.can_step forest.old t }
+    requires ready { place.is_ready ≡ has t forest.old.ready }
+    requires stands { place.is_ready ≡ true → slice_index_or forest.old.tasks t None ≢ None }
+    ensures seen { seen forest.new ≡ seen forest.old }
+    ensures ready { (u : ℕ) →
+        (u ≢ t → has u forest.old.ready ≡ steps.can_step forest.old u) →
+        has u forest.new.ready ≡ steps.can_step forest.new u }
+{
     if place.can_step && !place.is_ready {
         forest.push_ready(t);
         return;

@@ -23,7 +23,7 @@ impl Links for Tasks {
     ghost alike = { λ a b. stored.SameTasks a.held b.held };
 
     fn link(&self, layer: u8, key: usize) -> Link {
-        self.held.get(key).unwrap().links[layer as usize]
+        self.held.record(key).links[layer as usize]
     }
 
     fn set_link(&mut self, layer: u8, key: usize, link: Link) {

@@ -11,9 +11,8 @@ ghost use Rattle.sts_tree.specs.Ending.{asks_ended, ended};
 ghost use Rattle.sts_tree.specs.Steps as steps;
 ghost use Rattle.sts_tree.specs.Steps.{seen, with_task, with_scope, stands_at};
 
-use crate::ending::{end_told, waiter};
 use crate::forest::Forest;
-use crate::settling::settle;
+use crate::settling::{Place, settle, settle_at};
 use std::alloc::{AllocError, Global};
 use std::marker::Model;
 use sts_code::Joiner;
@@ -97,10 +96,14 @@ impl<E: Drop> Tree<E> {
             }) }
         ensures keys { (key : ℕ) × (self.new.task_keys ≡ self.old.task_keys ++ key ∷ []) }
     {
-        let scope = self.forest.scope(s).unwrap();
+        let scope = self.forest.scope_node(s);
         let (owner, lives) = (scope.owner, !scope.cancelled);
         let t = self.forest.add_subtask(s, lives);
-        settle(&mut self.forest, t);
+        let place = Place {
+            can_step: lives,
+            is_ready: false,
+        };
+        settle_at(&mut self.forest, t, place);
         settle(&mut self.forest, owner);
         (t, lives)
     }
@@ -127,11 +130,14 @@ impl<E: Drop> Tree<E> {
         ensures asks { (x : AnyTask) → slice_index_or self.old.tasks t None ≡ Some x →
             result ≡ asks_ended self.old x end }
     {
-        let owner = waiter(&self.forest, t);
-        let asks = end_told(&mut self.forest, t, end);
-        settle(&mut self.forest, t);
-        settle(&mut self.forest, owner);
-        asks
+        let ended = self.forest.end_task(t, end);
+        let place = Place {
+            can_step: false,
+            is_ready: ended.was_ready,
+        };
+        settle_at(&mut self.forest, t, place);
+        settle(&mut self.forest, ended.waiter);
+        ended.asks
     }
 
     /// Can the task step?
@@ -203,7 +209,7 @@ impl<E: Drop> Tree<E> {
         ensures { (c : AnyScope E) → slice_index_or self.old.scopes s None ≡ Some c →
             seen self.new ≡ seen (with_scope self.old s (record c { cancelled = true })) }
     {
-        let owner = self.forest.scope(s).unwrap().owner;
+        let owner = self.forest.scope_node(s).owner;
         self.forest.mark_cancelled(s);
         settle(&mut self.forest, owner);
     }
@@ -214,7 +220,7 @@ impl<E: Drop> Tree<E> {
         ensures { (c : AnyScope E) → slice_index_or self.old.scopes s None ≡ Some c →
             seen self.new ≡ seen (with_scope self.old s (record c { expired = true })) }
     {
-        let owner = self.forest.scope(s).unwrap().owner;
+        let owner = self.forest.scope_node(s).owner;
         self.forest.mark_expired(s);
         settle(&mut self.forest, owner);
     }

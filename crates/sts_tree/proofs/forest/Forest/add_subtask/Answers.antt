@@ -1,4 +1,4 @@
-use Rattle.std.proofs.Common.{◌+◌, refl, ◌∙◌, ap, arith}
+use Rattle.std.proofs.Common.{◌+◌, refl, ◌∙◌, arith}
 use Rattle.sts_tree.specs.Births.{births}
 use Rattle.sts_tree.specs.Forest.{families_of, is_of, lives_in, family_of, subtask}
 use Rattle.sts_tree.specs.Stored.{tasks_of}

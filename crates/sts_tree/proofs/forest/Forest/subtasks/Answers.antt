@@ -1,10 +1,10 @@
-use Rattle.std.proofs.Common.{◌≡◌, ◌+◌, ◌≤◌, refl, sym, ◌∙◌, arith, length, get_or, Some, None}
+use Rattle.std.proofs.Common.{◌+◌, ◌≤◌, refl, sym, arith, length}
 use Rattle.sts_joiners.specs.Tallied.{ends_told}
 use Rattle.sts_tree.specs.Births.{births}
 use Rattle.sts_tree.specs.Forest.{family_of, lives_in}
 use Rattle.sts_tree.specs.Stored.{tasks_of}
 use Rattle.sts_tree.proofs.Lookups.{no_subtasks}
-use Rattle.sts_tree.proofs.Rows.{family_at, own_row, scope_at, no_scope_there}
+use Rattle.sts_tree.proofs.Rows.{family_at, own_row, no_scope_there}
 use Rattle.sts_tree.proofs.forest.Forest.subtasks.Goals as goal
 
 pub returns-in-None : goal.returns-in-None

@@ -1,29 +1,36 @@
-use Rattle.std.proofs.Common.{◌≡◌, ◌-◌, None, not, refl, ◌∙◌, ap, get_or}
+use Rattle.std.proofs.Common.{◌-◌, not, refl, sym, ◌∙◌, ap}
 use Rattle.sts_tree.specs.Forest.{subtask}
-use Rattle.sts_tree.proofs.SeeingLemmas.{some_scope, copied, added_seen}
-use Rattle.sts_tree.proofs.Keeping.{added_tree}
+use Rattle.sts_tree.proofs.SeeingLemmas.{added_seen}
+use Rattle.sts_tree.proofs.Keeping.{added_tree, fresh_step, some_scope, unborn_waits}
 use Rattle.sts_tree.proofs.tree.Tree.add_subtask.Goals as goal
+
+pub settle_at-requires-clause-steps : goal.settle_at-requires-clause-steps
+settle_at-requires-clause-steps g c =
+    let x = c.scope_node-scope.result.now in
+    fresh_step c.self.inside.forest c.add_subtask-t.new.self (not x.cancelled) c.args.s c.add_subtask-t.result c.add_subtask-t.new.self.task_keys (c.self.inside.forest.task_room - 1) c.add_subtask-t.ensures.added c.add_subtask-t.ensures.birth
+
+pub settle_at-requires-clause-ready : goal.settle_at-requires-clause-ready
+settle_at-requires-clause-ready g c =
+    rw (c.add_subtask-t.ensures.added, c.add_subtask-t.ensures.birth) (sym (unborn_waits c.self.inside.forest c.self.invariant))
 
 pub invariant_of-self : goal.invariant_of-self
 invariant_of-self g c =
-    let p = some_scope (get_or c.self.inside.forest.scopes c.args.s None) (rw (← c.self.view_is) at c.requires.stands) in
-    let now = copied c.scope.result c.unwrap-scope.result p.0 c.unwrap-scope.ensures (c.scope.ensures ∙ p.1) in
-    let owner : c.unwrap-scope.result.now.owner ≡ p.0.owner = rw now refl in
-    added_tree c.self.inside.forest c.add_subtask-t.new.self c.settle.new.forest c.settle-2.new.forest c.add_subtask-t.new.self.task_keys c.args.s (c.self.inside.forest.task_room - 1) c.add_subtask-t.result c.unwrap-scope.result.now.owner p.0 (subtask c.args.s (not c.unwrap-scope.result.now.cancelled)) c.self.invariant p.1 refl refl c.add_subtask-t.ensures.added c.add_subtask-t.ensures.birth owner c.settle.ensures.seen c.settle.ensures.ready c.settle-2.ensures.seen c.settle-2.ensures.ready
+    let x = c.scope_node-scope.result.now in
+    added_tree c.self.inside.forest c.add_subtask-t.new.self c.settle_at.new.forest c.settle.new.forest c.add_subtask-t.new.self.task_keys c.args.s (c.self.inside.forest.task_room - 1) c.add_subtask-t.result x.owner x (subtask c.args.s (not x.cancelled)) c.self.invariant c.scope_node-scope.ensures refl refl c.add_subtask-t.ensures.added c.add_subtask-t.ensures.birth refl c.settle_at.ensures.seen c.settle_at.ensures.ready c.settle.ensures.seen c.settle.ensures.ready
 
 pub returns-clause-lives : goal.returns-clause-lives
 returns-clause-lives g c x is =
-    let now = copied c.scope.result c.unwrap-scope.result x c.unwrap-scope.ensures (c.scope.ensures ∙ (rw (← c.self.view_is) at is)) in
+    let now = some_scope c.scope_node-scope.result.now x (sym c.scope_node-scope.ensures ∙ (rw (← c.self.view_is) at is)) in
     rw now refl
 
 pub returns-clause-added : goal.returns-clause-added
 returns-clause-added g c x is =
-    let now = copied c.scope.result c.unwrap-scope.result x c.unwrap-scope.ensures (c.scope.ensures ∙ (rw (← c.self.view_is) at is)) in
+    let now = some_scope c.scope_node-scope.result.now x (sym c.scope_node-scope.ensures ∙ (rw (← c.self.view_is) at is)) in
     rw (← c.self.view_is, ← now)
-    (added_seen c.self.inside.forest c.add_subtask-t.new.self c.settle-2.new.forest _ _ (c.settle-2.ensures.seen ∙ c.settle.ensures.seen) c.add_subtask-t.ensures.added)
+    (added_seen c.self.inside.forest c.add_subtask-t.new.self c.settle.new.forest _ _ (c.settle.ensures.seen ∙ c.settle_at.ensures.seen) c.add_subtask-t.ensures.added)
 
 pub returns-clause-keys : goal.returns-clause-keys
 returns-clause-keys g c =
-    let keys = ap (λ h. h.task_keys) (c.settle-2.ensures.seen ∙ c.settle.ensures.seen) in
+    let keys = ap (λ h. h.task_keys) (c.settle.ensures.seen ∙ c.settle_at.ensures.seen) in
     let new = c.add_subtask-t.ensures.keys in
     (new.0, rw (← c.self.view_is) (keys ∙ new.1))
