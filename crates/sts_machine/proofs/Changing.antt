@@ -1,5 +1,5 @@
 -- The changes that instructions make to the parts that the view doesn't show.
-use Rattle.std.proofs.Common.{◌≡◌, ℕ, ◌+◌, ◌-◌, ◌<◌, ◌≤◌, List, [], ◌∷◌, ◌++◌, length, drop, Bool, true, false, Option, Some, None, refl, sym, ◌∙◌, ap, subst, get_or, set, cond, is_some, arith, nat_lt, get_or-set_other}
+use Rattle.std.proofs.Common.{◌≡◌, ℕ, ◌+◌, ◌-◌, ◌<◌, ◌≤◌, List, [], ◌∷◌, ◌++◌, length, drop, Bool, true, false, Option, Some, None, refl, sym, ◌∙◌, ap, subst, get_or, set, cond, is_some, arith, nat_lt, get_or-set_same, get_or-set_other}
 use Rattle.std.proofs.lemmas.Bool.Decides.{nat_tests}
 use Rattle.std.proofs.lemmas.List.{get_or_append_left}
 use Rattle.std.proofs.lemmas.List.Sums.{sum_by-cons, sum_by-set, sum_by_push}
@@ -36,7 +36,7 @@ pub lives_quiet : (v x : Live) (i : ℕ) → IsQuiet v x → lives_in x i ≡ li
 lives_quiet v x i h = life_is (task_in x i) ∙ (h.tasks i).living ∙ sym (life_is (task_in v i))
 
 -- a task lives if and only if it lives at another frame
-lives_written : (v : Live) (t : ℕ) (f : Frame) (i : ℕ) → lives_in (with_live_frame v t f) i ≡ lives_in v i
+pub lives_written : (v : Live) (t : ℕ) (f : Frame) (i : ℕ) → lives_in (with_live_frame v t f) i ≡ lives_in v i
 lives_written v t f i = at_set (λ o. is_some (unwrap_or o no_live_task).alive ≡ lives_in v i) v.tasks t i (option_map over (task_in v t)) None (λ e. rw e (by (task_in v t))) refl
   where
     over : LiveTask → LiveTask
@@ -358,3 +358,18 @@ module _ (v : Live) (t : ℕ) (l : Living v t) where
 pub none_bound : (es : List Entry) → nat_lt 0 (length es) ≡ false → count_by is_binding es ≡ 0
 none_bound [] e = refl
 none_bound (x ∷ es) e = let no : length (x ∷ es) ≤ 0 = grind (arith, nat_tests) in absurd (omega (arith, no))
+
+-- it doesn't live any longer
+pub ended_dead : (v : Live) (t : ℕ) (end : End) → lives_in v t ≡ true → lives_in (live_end v t end) t ≡ false
+unfolding live_end
+ended_dead v t end lives =
+    lives_quiet (live_ended v t end) _ t (quiet-tell (live_ended v t end) t (live_task_at v t).scope end)
+    ∙ ap (λ o. is_some (unwrap_or o no_live_task).alive) (get_or-set_same v.tasks t (option_map over (task_in v t)) None (inside v t lives))
+    ∙ by (task_in v t)
+  where
+    over : LiveTask → LiveTask
+    over task = record task { alive = None }
+
+    by : (o : Option LiveTask) → is_some (unwrap_or (option_map over o) no_live_task).alive ≡ false
+    by None = refl
+    by (Some task) = refl

@@ -27,7 +27,7 @@ use Rattle.sts_machine.specs.Changing.{Changes}
 use Rattle.sts_machine.specs.Room.{is_living}
 use Rattle.sts_machine.proofs.Lists.{mapped}
 use Rattle.sts_machine.proofs.Quiet.{quiet-trans, quiet-scope, quiet-cancel, quiet-alive}
-use Rattle.sts_machine.proofs.Changing.{life_is, changes-quiet, then-quiet, stood_before, stood_after}
+use Rattle.sts_machine.proofs.Changing.{life_is, lives_quiet, lives_written, changes-quiet, then-quiet, stood_before, stood_after}
 
 -- ---- the subtasks of s are taken out
 
@@ -187,3 +187,34 @@ closes v u t s stands first = by (live_any_lives v s) refl
         (subst (λ w. Changes v u (live_closed v t f s) w t) (sym (ap (λ b. cond b waits goes_on) e))
         (stood_before v (live_closed v t f s) u goes_on t Free
         (closed v (stood_unseen u t Free) t s (record { stands = stands; none = e }) (live_cleared v s f.slots) first)))
+
+-- ---- its owner lives
+
+none_there : (s : ℕ) (xs : List (Option LiveTask)) (i : ℕ) → list_any (is_live_living s) xs ≡ false → is_live_living s (get_or xs i None) ≡ false
+none_there s [] i e = refl
+none_there s (x ∷ xs) zero e = (or_parts (is_live_living s x) _ e).0
+none_there s (x ∷ xs) (suc i) e = none_there s xs i (or_parts (is_live_living s x) _ e).1
+
+-- a task that lives and is no subtask that lives is left
+left_living : (s : ℕ) (o : Option LiveTask) → is_live_living s o ≡ false → is_living o ≡ true → is_living (without s o) ≡ true
+left_living s None e lives = lives
+left_living s (Some task) e lives = by (is_in s task.scope) e
+  where
+    by : (b : Bool) → (b && is_some task.alive) ≡ false → is_living (cond b None (Some task)) ≡ true
+    by true e = cc
+    by false e = lives
+
+pub closer_lives : (v : Live) (t s : ℕ) (f : Frame) → lives_in v t ≡ true → lives_in (live_close v t f s) t ≡ true
+closer_lives v t s f lives = by (live_any_lives v s) refl
+  where
+    by : (b : Bool) → live_any_lives v s ≡ b → lives_in (live_close v t f s) t ≡ true
+    by true e =
+        ap (λ (x : Live). lives_in x t) (close_begins v t f s e)
+        ∙ lives_quiet v _ t (quiet-trans v (live_cancel v s) _ (quiet-cancel v s) (quiet-scope (live_cancel v s) s (λ scope. record scope { phase = Closing })))
+        ∙ lives
+    by false e =
+        ap (λ (x : Live). lives_in x t) (close_ends v t f s e)
+        ∙ lives_written (live_gone v s) t _ t
+        ∙ life_is (task_in (live_gone v s) t)
+        ∙ ap is_living (mapped (without s) v.tasks t refl)
+        ∙ left_living s (task_in v t) (none_there s v.tasks t e) (sym (life_is (task_in v t)) ∙ lives)

@@ -76,6 +76,17 @@ stands_anew p m t others lives i alive = by (i == t) refl
         ∙ ap (live_stand_at p v) (sym same)
     by false e = ap (λ o. unwrap_or o Free) (get_or-set_other u.stands t i (Some (live_stand_at p v t)) None (apart i t e)) ∙ others i e alive
 
+-- a task that has ended needs no record
+pub stood_ended : (p : Program) (v : Live) (u : Unseen) (t : ℕ) → AreStandingBut p v u t → lives_in v t ≡ false → AreStanding p v u
+stood_ended p v u t others dead i alive = by (i == t) refl
+  where
+    by : (b : Bool) → (i == t) ≡ b → stand_in u i ≡ live_stand_at p v i
+    by true e =
+        let same : i ≡ t = grind (arith, nat_tests) in
+        let never : true ≡ false = sym alive ∙ ap (lives_in v) same ∙ dead in
+        cc
+    by false e = others i e alive
+
 -- a task at neither a `join` nor a `close` is at no scope
 pub unwaiting : (p : Program) (v : Live) (t : ℕ) (i : Instr) → instr_at p (alive_at v t).frame ≡ Some i → may_wait i ≡ false → live_stand_at p v t ≡ Free
 unwaiting p v t i at e = ap (live_stand_at_instr v t) at ∙ by i e

@@ -33,12 +33,11 @@ abbrev pub may_wait_next : Option Instr → Bool
 may_wait_next None = false
 may_wait_next (Some i) = may_wait i
 
--- may its task have ended by it?
-abbrev pub may_leave : Instr → Bool
-may_leave (Close x) = true
-may_leave Ret = true
-may_leave Fail = true
-may_leave _ = false
+-- does its task end by it?
+abbrev pub ends_task : Instr → Bool
+ends_task Ret = true
+ends_task Fail = true
+ends_task _ = false
 
 -- an instruction of t changed the view from v to x, and the parts that the view doesn't show from u
 -- to w

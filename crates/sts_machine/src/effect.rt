@@ -3,7 +3,7 @@
 
 ghost use Rattle.std.specs.Prelude.{◌≡◌, ◌<◌, ◌≤◌, ◌+◌, ◌^◌, length, true, false};
 ghost use Rattle.sts_code.specs.declared.limits.TheConstants.{MAX_INSTRUCTIONS};
-ghost use Rattle.sts_machine.specs.Changing.{Changes, is_quiet, may_leave, may_wait};
+ghost use Rattle.sts_machine.specs.Changing.{Changes, ends_task, is_quiet, may_wait};
 ghost use Rattle.sts_machine.specs.Room.{HasRoomLeft};
 ghost use Rattle.sts_model.specs.Local.{is_local};
 ghost use Rattle.sts_model.specs.World as world;
@@ -35,7 +35,8 @@ pub(crate) fn effect(store: &mut Store, program: &Program, code: &[Instr], t: u3
         (live_of store.new) (unseen_of store.new) t }
     ensures own { may_wait instr.now ≡ false
         → stand_in (unseen_of store.new) t ≡ stand_in (unseen_of store.old) t }
-    ensures stays { may_leave instr.now ≡ false → lives_in (live_of store.new) t ≡ true }
+    ensures stays { ends_task instr.now ≡ false → lives_in (live_of store.new) t ≡ true }
+    ensures ended { ends_task instr.now ≡ true → lives_in (live_of store.new) t ≡ false }
 {
     match *instr {
         Instr::Open {

@@ -2,7 +2,7 @@
 
 ghost use Rattle.std.specs.Prelude.{◌≡◌, ◌<◌, ◌≤◌, length, true, false, Some, option_copied};
 ghost use Rattle.sts_code.specs.declared.limits.TheConstants.{MAX_INSTRUCTIONS};
-ghost use Rattle.sts_machine.specs.Changing.{Changes, may_leave, may_wait, may_wait_next};
+ghost use Rattle.sts_machine.specs.Changing.{Changes, ends_task, may_wait, may_wait_next};
 ghost use Rattle.sts_machine.specs.Room.{HasRoomLeft, HasRoomOf};
 ghost use Rattle.sts_machine.specs.Standing.{AreStanding};
 ghost use Rattle.sts_model.specs.Local as frames;
@@ -18,7 +18,7 @@ ghost use Rattle.laws_live.specs.Order.{InOrder};
 ghost use Rattle.sts_store.specs.Parts.{frame_of, live_of, stand_in, unseen_of};
 
 use crate::effect::effect;
-use crate::stands::{say_stand, say_stand_if_alive, say_stand_if_near};
+use crate::stands::{say_stand, say_stand_if_near};
 use laws_live::{effects_move_one, idle_stand_free};
 use sts_code::{Instr, Program};
 use sts_frames::is_local;
@@ -41,11 +41,11 @@ fn may_wait_next(instr: Option<&Instr>) -> bool
     }
 }
 
-/// May the instruction end the task?
-fn may_leave(instr: &Instr) -> bool
-    ensures { result ≡ may_leave instr.now }
+/// Does the task end by the instruction?
+fn ends_task(instr: &Instr) -> bool
+    ensures { result ≡ ends_task instr.now }
 {
-    matches!(*instr, Instr::Close(_) | Instr::Ret | Instr::Fail)
+    matches!(*instr, Instr::Ret | Instr::Fail)
 }
 
 /// Does the next instruction of a living task, a local one. Answers whether the task may be at a
@@ -121,9 +121,8 @@ pub(crate) fn perform(store: &mut Store, program: &Program, code: &[Instr], t: u
     effects_move_one();
     idle_stand_free();
     effect(store, program, code, t, instr);
-    if may_leave(instr) {
-        say_stand_if_alive(store, program, t, may_wait(instr));
-    } else {
-        say_stand(store, program, t, may_wait(instr));
+    if ends_task(instr) {
+        return;
     }
+    say_stand(store, program, t, may_wait(instr));
 }

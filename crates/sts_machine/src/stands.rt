@@ -106,19 +106,3 @@ pub(crate) fn say_stand_if_near(store: &mut Store, program: &Program, t: u32, is
         say_stand(store, program, t, false);
     }
 }
-
-/// Does what `say_stand` does if the task lives, and nothing if it has ended.
-#[inline(always)]
-pub(crate) fn say_stand_if_alive(store: &mut Store, program: &Program, t: u32, waited: bool)
-    requires order { InOrder (live_of store.old) }
-    requires others { AreStandingBut program.now (live_of store.old) (unseen_of store.old) t }
-    requires free { waited ≡ false → stand_in (unseen_of store.old) t ≡ StandsFree }
-    ensures live { live_of store.new ≡ live_of store.old }
-    ensures standing { AreStanding program.now (live_of store.new) (unseen_of store.new) }
-    ensures room { (b : AnyBudgets) → HasRoomOf b (live_of store.old) (unseen_of store.old)
-        → HasRoomOf b (live_of store.new) (unseen_of store.new) }
-{
-    if store.lives(t) {
-        say_stand(store, program, t, waited);
-    }
-}

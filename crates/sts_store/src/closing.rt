@@ -1,9 +1,10 @@
 //! Scopes are closed.
 
-ghost use Rattle.std.specs.Prelude.{◌≡◌, ◌<◌, ◌+◌, ◌^◌, true, false, is_some};
+ghost use Rattle.std.specs.Prelude.{◌≡◌, ◌<◌, ◌+◌, ◌^◌, true, false, is_some, if◌then◌else◌};
 ghost use Rattle.sts_model.specs.Misuse.{innermost, is_entry_of};
 ghost use Rattle.sts_model.specs.declared.event.Phase.TheVariants.{Closing};
 ghost use Rattle.sts_model.specs.declared.event.Stand.TheVariants.{AtClose, Free};
+ghost use Rattle.sts_model.specs.declared.record.Slot.TheVariants.{Empty};
 ghost use Rattle.laws_live.specs.Cancelling.{live_cancel};
 ghost use Rattle.laws_live.specs.Effect.{live_close, live_closed};
 ghost use Rattle.laws_live.specs.Reading.{live_any_lives, lives_in, scope_in};
@@ -43,13 +44,23 @@ fn is_of(tree: &Tree<Env>, s: u32, slot: Slot) -> bool
     false
 }
 
+/// Empties a slot that owns the scope or names a subtask of it.
+#[inline(never)]
+fn clear_one(slot: &mut Slot, tree: &Tree<Env>, s: u32)
+    ensures { slot.new ≡ (if is_slot_of tree.now s slot.old then Empty else slot.old) }
+{
+    if is_of(tree, s, *slot) {
+        *slot = Slot::Empty;
+    }
+}
+
 /// Empties the slots that own the scope or name a subtask of it.
 fn clear(slots: &mut [Slot; 16], tree: &Tree<Env>, s: u32)
     ensures { slots.new ≡ slots_cleared tree.now s slots.old }
 {
     for x in slots.iter_mut() {
-        if !is_empty(*x) && is_of(tree, s, *x) {
-            *x = Slot::Empty;
+        if !is_empty(*x) {
+            clear_one(x, tree, s);
         }
     }
 }

@@ -58,8 +58,8 @@ impl Store {
     {
         let args = args(program, function);
         let env = *self.tree.env(s);
-        let forker = &self.frames.get(t as usize).unwrap().frame;
-        let frame = entry_frame(function, args, forker, Slot::Lent(s));
+        let forker = self.frames.record(t as usize);
+        let frame = entry_frame(function, args, &forker.frame, Slot::Lent(s));
         let (child, lives) = self.tree.add_subtask(s);
         place(&mut self.frames, Running { frame, env }, lives);
         leave_fork(

@@ -24,7 +24,8 @@ impl Store {
         requires { lives_in (live_of self.now) t ≡ true }
         ensures { result.now ≡ (alive_at (live_of self.now) t).frame }
     {
-        &self.frames.get(t as usize).unwrap().frame
+        let running = self.frames.record(t as usize);
+        &running.frame
     }
 
     /// The value that a living task reads under a key, or `None` if it is not bound.
@@ -32,8 +33,8 @@ impl Store {
         requires { lives_in (live_of self.now) t ≡ true }
         ensures { result ≡ live_read (live_of self.now) t key }
     {
-        self.chains
-            .read(self.frames.get(t as usize).unwrap().env, key)
+        let running = self.frames.record(t as usize);
+        self.chains.read(running.env, key)
     }
 
     /// A task's state as a subtask; `None` means unavailable.

@@ -8,8 +8,8 @@ use Rattle.sts_store.specs.Parts.{Unseen, frame_of, live_of, stand_in, unseen_of
 use Rattle.laws_live.specs.Fine.{IsLiveFine}
 use Rattle.sts_machine.specs.Changing.{may_wait}
 use Rattle.sts_machine.specs.Room.{HasRoomLeft}
-use Rattle.sts_machine.proofs.Changing.{as_are, changes-quiet, lives_quiet, living, opens, opener_lives, forks, forker_lives, forker_stands, unbinds, ends, none_bound}
-use Rattle.sts_machine.proofs.Closing.{closes}
+use Rattle.sts_machine.proofs.Changing.{as_are, changes-quiet, lives_quiet, living, opens, opener_lives, forks, forker_lives, forker_stands, unbinds, ends, ended_dead, none_bound}
+use Rattle.sts_machine.proofs.Closing.{closes, closer_lives}
 use Rattle.sts_machine.proofs.Fine.{holds, scope_at, fork_own, close_stands, close_entry}
 use Rattle.sts_machine.proofs.Quiet.{quiet-effect}
 use Rattle.sts_machine.proofs.Stood.{stands_born}
@@ -133,3 +133,19 @@ returns-in_default-clause-stays c = λ e.
     ap (λ (x : Live). lives_in x c.args.t) c.quiet.ensures.live
     ∙ lives_quiet v _ c.args.t (quiet-effect c.args.program.now v c.args.t c.args.instr.now (search rules))
     ∙ c.requires.lives
+
+pub returns-in-Close-clause-stays : goal.returns-in-Close-clause-stays
+returns-in-Close-clause-stays c = λ e.
+    let m = c.args.store.now in
+    ap (λ (x : Live). lives_in x c.args.t) c.close.ensures.live
+    ∙ closer_lives (live_of m) c.args.t c.named-s-in-Close.result (frame_of m c.args.t) c.requires.lives
+
+pub returns-in-Ret-clause-ended : goal.returns-in-Ret-clause-ended
+returns-in-Ret-clause-ended c = λ e.
+    ap (λ (x : Live). lives_in x c.args.t) c.end.ensures.live
+    ∙ ended_dead (live_of c.args.store.now) c.args.t _ c.requires.lives
+
+pub returns-in-Fail-clause-ended : goal.returns-in-Fail-clause-ended
+returns-in-Fail-clause-ended c = λ e.
+    ap (λ (x : Live). lives_in x c.args.t) c.end-in-Fail.ensures.live
+    ∙ ended_dead (live_of c.args.store.now) c.args.t _ c.requires.lives

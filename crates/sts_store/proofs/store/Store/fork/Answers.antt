@@ -11,29 +11,26 @@ use Rattle.laws_live.specs.Effect.{live_fork}
 use Rattle.laws_live.specs.Reading.{live_scope_at, scope_in}
 use Rattle.laws_live.specs.Order.{InOrder}
 use Rattle.sts_store.proofs.ViewingLemmas.{scope_there}
-use Rattle.sts_tree.proofs.SeeingLemmas.{copied}
 use Rattle.sts_store.specs.contracts.store.Store.{the_view}
 use Rattle.sts_store.specs.declared.running.Running.{Running}
 use Rattle.sts_store.specs.Parts.{Parts, live_of, frame_of, unseen_of, beside}
 use Rattle.sts_store.specs.Stored.{IsStore}
-use Rattle.sts_store.proofs.Views.{just, same_frame, got, with_running}
-use Rattle.sts_store.proofs.Writing.{living}
+use Rattle.sts_store.proofs.Views.{just, same_frame, with_running}
+use Rattle.sts_store.proofs.Writing.{living, has_frame}
 use Rattle.sts_store.proofs.Seeing.{scope_stands}
 use Rattle.sts_store.proofs.Forks.{tasks_born, born_if, still_there, fork_kept, fork_live, fork_unseen}
 use Rattle.sts_store.proofs.store.Store.fork.Goals as goal
 
-pub unwrap-requires : goal.unwrap-requires
-unwrap-requires c =
-    let l = living (the_view c.self.inside) c.args.self.now c.self.invariant c.self.view_is c.args.t c.requires.lives in
-    got c.get.result l.run (c.get.ensures ∙ l.runs)
+pub record-forker-requires : goal.record-forker-requires
+record-forker-requires c = has_frame (living (the_view c.self.inside) c.args.self.now c.self.invariant c.self.view_is c.args.t c.requires.lives)
 
 pub entry_frame-frame-requires-clause-enough : goal.entry_frame-frame-requires-clause-enough
 entry_frame-frame-requires-clause-enough c =
     let m = the_view c.self.inside in
     let l = living m c.args.self.now c.self.invariant c.self.view_is c.args.t c.requires.lives in
-    let run : c.unwrap.result.now ≡ l.run = copied c.get.result c.unwrap.result l.run c.unwrap.ensures (c.get.ensures ∙ l.runs) in
-    let frame : frame_of c.args.self.now c.args.t ≡ c.unwrap.result.now.frame = ap (λ n. frame_of n c.args.t) (sym c.self.view_is) ∙ same_frame m c.args.t l.run l l.runs ∙ ap (λ (r : Running). r.frame) (sym run) in
-    let enough : (routine c.args.program.now c.args.function).args ≤ length c.unwrap.result.now.frame.operands = subst (λ (f : Frame). (routine c.args.program.now c.args.function).args ≤ length f.operands) frame c.requires.enough in
+    let run : c.record-forker.result.now ≡ l.run = just _ _ (sym c.record-forker.ensures ∙ l.runs) in
+    let frame : frame_of c.args.self.now c.args.t ≡ c.record-forker.result.now.frame = ap (λ n. frame_of n c.args.t) (sym c.self.view_is) ∙ same_frame m c.args.t l.run l l.runs ∙ ap (λ (r : Running). r.frame) (sym run) in
+    let enough : (routine c.args.program.now c.args.function).args ≤ length c.record-forker.result.now.frame.operands = subst (λ (f : Frame). (routine c.args.program.now c.args.function).args ≤ length f.operands) frame c.requires.enough in
     let args = c.args-args.ensures.value in
     omega (arith, enough, args)
 
@@ -106,10 +103,10 @@ returns-clause-live c =
     let there = still_there m c.self.invariant order t s p.0 p.1 child g.task_keys (m.tree.task_room - 1) h slots l g same in
     let run : c.at.result.now ≡ l.run = just c.at.result.now l.run (sym c.at.ensures.value ∙ there) in
     let program = c.args.program.now in
-    let first : c.unwrap.result.now ≡ l.run = copied c.get.result c.unwrap.result l.run c.unwrap.ensures (c.get.ensures ∙ l.runs) in
+    let first : c.record-forker.result.now ≡ l.run = just _ _ (sym c.record-forker.ensures ∙ l.runs) in
     let begins : child.frame ≡ entry_frame c.args.function (reverse (take (routine program c.args.function).args l.run.frame.operands)) (Lent s) =
     c.entry_frame-frame.ensures
-    ∙ ap (λ a. entry_frame c.args.function (reverse (take a c.unwrap.result.now.frame.operands)) (Lent s)) c.args-args.ensures.value
+    ∙ ap (λ a. entry_frame c.args.function (reverse (take a c.record-forker.result.now.frame.operands)) (Lent s)) c.args-args.ensures.value
     ∙ ap (λ (z : Running). entry_frame c.args.function (reverse (take (routine program c.args.function).args z.frame.operands)) (Lent s)) first
     in
     let frame : c.leave_fork.new.frame ≡ forked l.run.frame (routine program c.args.function).args c.args.handle (length m.tree.tasks) =

@@ -1,17 +1,16 @@
-use Rattle.std.proofs.Common.{sym, ◌∙◌, ap}
-use Rattle.sts_tree.proofs.SeeingLemmas.{copied}
+use Rattle.std.proofs.Common.{◌≡◌, sym, ◌∙◌, ap}
 use Rattle.sts_store.specs.contracts.store.Store.{the_view}
 use Rattle.sts_store.specs.declared.running.Running.{Running}
-use Rattle.sts_store.proofs.Views.{lived, same_frame, got}
+use Rattle.sts_store.proofs.Views.{just, same_frame}
+use Rattle.sts_store.proofs.Writing.{living, has_frame}
 use Rattle.sts_store.proofs.store.Store.frame.Goals as goal
 
-pub unwrap-requires : goal.unwrap-requires
-unwrap-requires c =
-    let l = lived (the_view c.self.inside) c.self.invariant c.args.t (rw (← c.self.view_is) at c.requires) in
-    got c.get.result l.run (c.get.ensures ∙ l.runs)
+pub record-running-requires : goal.record-running-requires
+record-running-requires c = has_frame (living (the_view c.self.inside) c.args.self.now c.self.invariant c.self.view_is c.args.t c.requires)
 
 pub returns : goal.returns
 returns c =
-    let l = lived (the_view c.self.inside) c.self.invariant c.args.t (rw (← c.self.view_is) at c.requires) in
-    let now = copied c.get.result c.unwrap.result l.run c.unwrap.ensures (c.get.ensures ∙ l.runs) in
-    rw (← c.self.view_is) (ap (λ (r : Running). r.frame) now ∙ sym (same_frame (the_view c.self.inside) c.args.t l.run l l.runs))
+    let m = the_view c.self.inside in
+    let l = living m c.args.self.now c.self.invariant c.self.view_is c.args.t c.requires in
+    let now : c.record-running.result.now ≡ l.run = just _ _ (sym c.record-running.ensures ∙ l.runs) in
+    rw (← c.self.view_is) (ap (λ (r : Running). r.frame) now ∙ sym (same_frame m c.args.t l.run l l.runs))
