@@ -1,5 +1,5 @@
-use Rattle.std.proofs.Common.{rules, ◌≡◌, ◌<◌, ◌++◌, ◌∷◌, [], None, List, length, sym, ◌∙◌, ap}
-use Rattle.sts_asm.specs.Buckets.{bucket_of, first_of, AreFound}
+use Rattle.std.proofs.Common.{rules, ◌≡◌, ◌<◌, None, length}
+use Rattle.sts_asm.specs.Buckets.{bucket_of, first_of}
 use Rattle.sts_asm.specs.Marks.{Mark, marked}
 use Rattle.sts_asm.proofs.BucketLemmas.{found_filled, found_first, found_tried}
 use Rattle.sts_asm.proofs.marks.Marks.push_new.Goals as goal
