@@ -2,10 +2,8 @@ use Rattle.std.proofs.Common.{◌≡◌, ℕ, ◌+◌, Bool, true, false, List, 
 use Rattle.std.proofs.Common.{sym, ◌∙◌, ap}
 use Rattle.std.specs.Prelude.{Result, Ok, Err, is_some}
 use Rattle.sts_asm.specs.declared.fault.AsmKind.{AsmKind}
-use Rattle.sts_asm.specs.declared.fault.AsmKind.TheVariants.{NotAscii, UnknownWord, BadNumber}
-use Rattle.sts_asm.specs.declared.fault.AsmKind.TheVariants.{BadOperands, UnknownLabel}
-use Rattle.sts_asm.specs.declared.fault.AsmKind.TheVariants.{DuplicateLabel, Unclosed, TextTooLong}
-use Rattle.sts_asm.specs.declared.fault.AsmKind.TheVariants.{Code, Memory}
+use Rattle.sts_asm.specs.declared.fault.AsmKind.TheVariants.{Unclosed}
+use Rattle.sts_asm.specs.declared.fault.AsmKind.TheVariants.{Memory}
 use Rattle.sts_asm.specs.declared.fault.AsmError.{AsmError}
 use Rattle.sts_text.specs.Words.{lines}
 use Rattle.sts_asm.specs.Fault.{◌>>=◌, at_line, FailsAt}

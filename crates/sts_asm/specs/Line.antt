@@ -6,6 +6,8 @@ use Rattle.sts_code.specs.declared.instr.Instr.{Instr}
 use Rattle.sts_code.specs.declared.instr.Instr.TheVariants as i
 use Rattle.sts_asm.specs.declared.fault.AsmKind.{AsmKind}
 use Rattle.sts_asm.specs.declared.fault.AsmKind.TheVariants.{UnknownWord}
+use Rattle.sts_asm.specs.declared.mnemonic.Operandless.{Operandless}
+use Rattle.sts_asm.specs.declared.mnemonic.Operandless.TheVariants as operandless
 use Rattle.sts_asm.specs.declared.mnemonic.Numbered.{Numbered}
 use Rattle.sts_asm.specs.declared.mnemonic.Numbered.TheVariants as numbered
 use Rattle.sts_asm.specs.declared.mnemonic.Slotted.{Slotted}
@@ -64,6 +66,22 @@ mnemonic_of word =
     (option_or (looked_up numbered_words word) (looked_up slotted_words word)))
 
 -- ---- with their operands
+
+-- the instruction without operands
+abbrev pub without_operands : Operandless → Instr
+without_operands operandless.Pop = i.Pop
+without_operands operandless.Dup = i.Dup
+without_operands operandless.Swap = i.Swap
+without_operands operandless.Add = i.Add
+without_operands operandless.Sub = i.Sub
+without_operands operandless.Mul = i.Mul
+without_operands operandless.Lt = i.Lt
+without_operands operandless.Eq = i.Eq
+without_operands operandless.Next = i.Next
+without_operands operandless.Unbind = i.Unbind
+without_operands operandless.Interrupted = i.Interrupted
+without_operands operandless.Ret = i.Ret
+without_operands operandless.Fail = i.Fail
 
 -- the instruction with this local or key
 abbrev pub with_number : Numbered → ℕ → Instr

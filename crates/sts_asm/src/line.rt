@@ -1,16 +1,18 @@
 //! Instructions from their words.
 
-ghost use Rattle.std.specs.Prelude.{◌≡◌, ◌∷◌, None};
+ghost use Rattle.std.specs.Prelude.{◌≡◌, ◌∷◌, None, Ok, Err, IfOk, IfErr, IfSome, IfNone};
 ghost use Rattle.std.specs.Option.{option_copied};
 ghost use Rattle.sts_asm.specs.Line.{open_at, fork_at, join_at, case_at, tally_at, operated};
-ghost use Rattle.sts_asm.specs.Line.{plain_words, instr_of};
+ghost use Rattle.sts_asm.specs.Line.{plain_words, instr_of, without_operands};
 ghost use Rattle.sts_asm.specs.Operand.{looked_up};
 ghost use Rattle.sts_asm.specs.declared.mnemonic.Mnemonic.TheVariants.{WithNumber, WithSlot};
 ghost use Rattle.sts_asm.specs.declared.mnemonic.Mnemonic.TheVariants.{WithTarget, Push, Times};
 
 use crate::fault::{LineFault, LineKind};
 use crate::marks::Names;
-use crate::mnemonic::{Mnemonic, Numbered, Slotted, Targeted, mnemonic_of, plain_word};
+use crate::mnemonic::{
+    Mnemonic, Numbered, Operandless, Slotted, Targeted, mnemonic_of, plain_word,
+};
 use crate::operand::{
     byte_at, finished, function_at, handle_at, joiner_at, kind_at, maybe_target_at, number_at,
     slot_at, target_at, timed_at, value_at,
@@ -161,9 +163,34 @@ fn operated(
     }
 }
 
+/// The instruction without operands that a first word and the words after it spell, or `None` if
+/// the first word is no such instruction's.
+///
+/// # Errors
+///
+/// A word is left over.
+#[inline(always)]
+#[tactic(auto, using(crate::proofs::TableLemmas::plain_first))]
+pub fn operandless_of(word: &[u8], words: &mut Words<'_>) -> Result<Option<Operandless>, LineFault>
+    ensures spelled { IfOk result (λ found. IfSome found (λ form.
+        instr_of None (word.now ∷ words.old) ≡ Ok (without_operands form))) }
+    ensures other { IfOk result (λ found. IfNone found
+        (looked_up plain_words word.now ≡ None)) }
+    ensures untouched { IfOk result (λ found. IfNone found (words.new ≡ words.old)) }
+    ensures err { IfErr result (λ fault. instr_of None (word.now ∷ words.old) ≡ Err fault) }
+{
+    let Some(form) = plain_word(word) else {
+        return Ok(None);
+    };
+    match words.word() {
+        None => Ok(Some(form)),
+        Some(_) => Err(LineFault(LineKind::BadOperands)),
+    }
+}
+
 /// Kept out of line, so that the path of an instruction without operands is short.
 #[inline(never)]
-fn with_operands(
+pub fn with_operands(
     word: &[u8],
     words: &mut Words<'_>,
     names: Option<&Names<'_, '_>>,
@@ -192,8 +219,8 @@ pub fn instr_of(
 ) -> Result<Instr, LineFault>
     ensures { result ≡ instr_of (option_copied names.entry) (word.now ∷ words.old) }
 {
-    if let Some(instr) = plain_word(word) {
-        return finished(words, instr);
+    if let Some(form) = plain_word(word) {
+        return finished(words, form.instr());
     }
     with_operands(word, words, names)
 }

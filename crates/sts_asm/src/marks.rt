@@ -1,8 +1,10 @@
 //! The names that a text gives to instructions and functions.
 
 ghost use Rattle.std.specs.Prelude.{◌≡◌, ◌≤◌, ◌++◌, ◌∷◌, [], List, ℕ, length, None, OnOk, OnErr};
+ghost use Rattle.std.specs.Prelude.{if◌then◌else◌};
 ghost use Rattle.std.specs.Option.{option_copied};
-ghost use Rattle.sts_asm.specs.Buckets.{with_byte, mixed, bucket_of, found_in};
+ghost use Rattle.std.specs.Str.{bytes_eq};
+ghost use Rattle.sts_asm.specs.Buckets.{with_byte, mixed, bucket_of, first_of, other_of};
 ghost use Rattle.sts_asm.specs.Marks.{Mark, marked, label_in, function_in};
 
 use std::alloc::{AllocError, Global};
@@ -53,35 +55,70 @@ fn bucket_of(name: &[u8]) -> usize
 }
 
 /// Makes the buckets that are not there yet.
-fn fill<'a>(buckets: &mut Vec<BTreeMap<&'a [u8], u32>>, alloc: Global) -> Result<(), AllocError>
-    ensures same { (q : List ℕ) → found_in buckets.new.items q ≡ found_in buckets.old.items q }
-    ensures all { OnOk result (BUCKETS ≤ length buckets.new.items) }
+fn fill(firsts: &mut Vec<Option<u32>>) -> Result<(), AllocError>
+    ensures same { (i : ℕ) → first_of firsts.new.items i ≡ first_of firsts.old.items i }
+    ensures all { OnOk result (BUCKETS ≤ length firsts.new.items) }
 {
-    for _ in buckets.len()..BUCKETS {
-        buckets.push(BTreeMap::new(alloc))?;
+    if firsts.len() < BUCKETS {
+        firsts.resize(BUCKETS, None)?;
     }
     Ok(())
 }
 
-/// Names in the order of the text. A name is looked for only among those of its bucket. If all n
-/// names are in one bucket, this takes about log n comparisons.
+/// The place of a bucket's first name.
+fn first_of(firsts: &[Option<u32>], bucket: usize) -> Option<u32>
+    ensures { result ≡ first_of firsts.now bucket }
+{
+    match firsts.get(bucket) {
+        Some(first) => *first,
+        None => None,
+    }
+}
+
+/// Adds a name to the list and to the map.
+fn push_other<'a>(
+    list: &mut Vec<Mark<'a>>,
+    others: &mut BTreeMap<&'a [u8], u32>,
+    name: &'a [u8],
+    at: u32,
+) -> Result<(), AllocError>
+    ensures list { OnOk result (list.new.items ≡
+        list.old.items ++ record { name = name.now; at = at } ∷ []) }
+    ensures map { OnOk result ((q : List ℕ) → other_of others.new q ≡
+        (if bytes_eq name.now q then Some at else other_of others.old q)) }
+    ensures same_list { OnErr result (list.new.items ≡ list.old.items) }
+    ensures same_map { OnErr result ((q : List ℕ) → other_of others.new q ≡ other_of others.old q) }
+{
+    list.push(Mark { name, at })?;
+    match others.insert(name, at) {
+        Ok(_) => Ok(()),
+        Err(_) => {
+            let _ = list.pop();
+            Err(AllocError)
+        }
+    }
+}
+
+/// Names in the order of the text. A name is compared with the first of its bucket. The names that
+/// aren't the first of theirs are in one ordered map. If a bucket has n names, a look-up makes about
+/// log n comparisons.
 #[derive(Drop)]
 pub struct Marks<'a> {
     list: Vec<Mark<'a>>,
-    buckets: Vec<BTreeMap<&'a [u8], u32>>,
-    alloc: Global,
+    firsts: Vec<Option<u32>>,
+    others: BTreeMap<&'a [u8], u32>,
 }
 
 impl<'a> Model for Marks<'a> {
-    ghost use Rattle.std.specs.Prelude.{List, ℕ, ◌≡◌};
-    ghost use Rattle.sts_asm.specs.Marks.{Mark, marked};
-    ghost use Rattle.sts_asm.specs.Buckets.{found_in};
+    ghost use Rattle.std.specs.Prelude.{List};
+    ghost use Rattle.sts_asm.specs.Marks.{Mark};
+    ghost use Rattle.sts_asm.specs.Buckets.{AreFound};
 
     ghost Value = { List Mark };
 
     ghost view = { λ l. l.list.items };
 
-    ghost invariant = { λ l. (q : List ℕ) → found_in l.buckets.items q ≡ marked l.list.items q };
+    ghost invariant = { λ l. AreFound l.list.items l.firsts.items l.others };
 }
 
 impl<'a> Marks<'a> {
@@ -91,8 +128,8 @@ impl<'a> Marks<'a> {
     {
         Marks {
             list: Vec::new(alloc),
-            buckets: Vec::new(alloc),
-            alloc,
+            firsts: Vec::new(alloc),
+            others: BTreeMap::new(alloc),
         }
     }
 
@@ -100,9 +137,10 @@ impl<'a> Marks<'a> {
     pub fn find(&self, name: &[u8]) -> Option<u32>
         ensures { result ≡ marked self.now name.now }
     {
-        match self.buckets.get(bucket_of(name)) {
-            None => None,
-            Some(bucket) => bucket.get(name).copied(),
+        let place = first_of(self.firsts.as_slice(), bucket_of(name))?;
+        match self.list.get(place as usize) {
+            Some(mark) if mark.name == name => Some(mark.at),
+            _ => self.others.get(name).copied(),
         }
     }
 
@@ -116,15 +154,17 @@ impl<'a> Marks<'a> {
         ensures ok { OnOk result (self.new ≡ self.old ++ record { name = name.now; at = at } ∷ []) }
         ensures err { OnErr result (self.new ≡ self.old) }
     {
-        fill(&mut self.buckets, self.alloc)?;
-        self.list.push(Mark { name, at })?;
-        match self.buckets[bucket_of(name)].insert(name, at) {
-            Ok(_) => Ok(()),
-            Err(_) => {
-                let _ = self.list.pop();
-                Err(AllocError)
-            }
+        fill(&mut self.firsts)?;
+        let bucket = bucket_of(name);
+        if first_of(self.firsts.as_slice(), bucket).is_some() {
+            return push_other(&mut self.list, &mut self.others, name, at);
         }
+        let Ok(place) = u32::try_from(self.list.len()) else {
+            return Err(AllocError);
+        };
+        self.list.push(Mark { name, at })?;
+        self.firsts[bucket] = Some(place);
+        Ok(())
     }
 
     fn push_again(&mut self, name: &'a [u8], at: u32) -> Result<(), AllocError>

@@ -2,11 +2,54 @@
 
 ghost use Rattle.std.specs.Prelude.{◌≡◌, None, option_map};
 ghost use Rattle.sts_asm.specs.Line.{plain_words, numbered_words, slotted_words, other_words};
-ghost use Rattle.sts_asm.specs.Line.{mnemonic_of, with_number, with_slot, with_target};
+ghost use Rattle.sts_asm.specs.Line.{mnemonic_of, without_operands};
+ghost use Rattle.sts_asm.specs.Line.{with_number, with_slot, with_target};
 ghost use Rattle.sts_asm.specs.Operand.{looked_up};
 ghost use Rattle.sts_asm.specs.declared.mnemonic.Mnemonic.TheVariants.{Plain};
 
 use sts_code::Instr;
+
+/// Instructions without operands.
+#[derive(Clone, Copy)]
+pub enum Operandless {
+    Pop,
+    Dup,
+    Swap,
+    Add,
+    Sub,
+    Mul,
+    Lt,
+    Eq,
+    Next,
+    Unbind,
+    Interrupted,
+    Ret,
+    Fail,
+}
+
+impl Operandless {
+    /// The instruction.
+    #[inline(always)]
+    pub fn instr(self) -> Instr
+        ensures { result ≡ without_operands self }
+    {
+        match self {
+            Operandless::Pop => Instr::Pop,
+            Operandless::Dup => Instr::Dup,
+            Operandless::Swap => Instr::Swap,
+            Operandless::Add => Instr::Add,
+            Operandless::Sub => Instr::Sub,
+            Operandless::Mul => Instr::Mul,
+            Operandless::Lt => Instr::Lt,
+            Operandless::Eq => Instr::Eq,
+            Operandless::Next => Instr::Next,
+            Operandless::Unbind => Instr::Unbind,
+            Operandless::Interrupted => Instr::Interrupted,
+            Operandless::Ret => Instr::Ret,
+            Operandless::Fail => Instr::Fail,
+        }
+    }
+}
 
 /// Instructions of one local or key.
 #[derive(Clone, Copy)]
@@ -102,47 +145,47 @@ pub enum Mnemonic {
 
 /// The instruction without operands that this word spells.
 #[inline(always)]
-pub fn plain_word(word: &[u8]) -> Option<Instr>
-    ensures { option_map (λ instr. Plain instr) result ≡ looked_up plain_words word.now }
+pub fn plain_word(word: &[u8]) -> Option<Operandless>
+    ensures { option_map (λ form. Plain (without_operands form)) result ≡ looked_up plain_words word.now }
 {
     if word == b"pop".as_slice() {
-        return Some(Instr::Pop);
+        return Some(Operandless::Pop);
     }
     if word == b"dup".as_slice() {
-        return Some(Instr::Dup);
+        return Some(Operandless::Dup);
     }
     if word == b"swap".as_slice() {
-        return Some(Instr::Swap);
+        return Some(Operandless::Swap);
     }
     if word == b"add".as_slice() {
-        return Some(Instr::Add);
+        return Some(Operandless::Add);
     }
     if word == b"sub".as_slice() {
-        return Some(Instr::Sub);
+        return Some(Operandless::Sub);
     }
     if word == b"mul".as_slice() {
-        return Some(Instr::Mul);
+        return Some(Operandless::Mul);
     }
     if word == b"lt".as_slice() {
-        return Some(Instr::Lt);
+        return Some(Operandless::Lt);
     }
     if word == b"eq".as_slice() {
-        return Some(Instr::Eq);
+        return Some(Operandless::Eq);
     }
     if word == b"next".as_slice() {
-        return Some(Instr::Next);
+        return Some(Operandless::Next);
     }
     if word == b"unbind".as_slice() {
-        return Some(Instr::Unbind);
+        return Some(Operandless::Unbind);
     }
     if word == b"interrupted".as_slice() {
-        return Some(Instr::Interrupted);
+        return Some(Operandless::Interrupted);
     }
     if word == b"ret".as_slice() {
-        return Some(Instr::Ret);
+        return Some(Operandless::Ret);
     }
     if word == b"fail".as_slice() {
-        return Some(Instr::Fail);
+        return Some(Operandless::Fail);
     }
     None
 }
@@ -252,8 +295,8 @@ pub fn first_word(word: &[u8]) -> Option<Mnemonic>
     if let Some(found) = other_word(word) {
         return Some(found);
     }
-    if let Some(instr) = plain_word(word) {
-        return Some(Mnemonic::Plain(instr));
+    if let Some(form) = plain_word(word) {
+        return Some(Mnemonic::Plain(form.instr()));
     }
     if let Some(found) = numbered_word(word) {
         return Some(found);

@@ -13,7 +13,7 @@ ghost use Rattle.sts_asm.specs.Outline.{label_of, is_allowed, is_semicolon, is_p
 ghost use Rattle.sts_asm.specs.Outline.{instructions};
 
 use crate::fault::{AsmKind, LineFault, LineKind};
-use crate::line::instr_of;
+use crate::line::{operandless_of, with_operands};
 use crate::marks::Marks;
 use crate::operand::{byte_at, name_at, name_text};
 use crate::plain::Known;
@@ -80,6 +80,7 @@ impl<'a> Lines<'a> {
         self.unnamed.reserve(count)
     }
 
+    #[inline(always)]
     fn push(&mut self, at: u32, text: &'a [u8], unnamed: Instr) -> Result<(), AllocError>
         requires { instr_of None (words_in text.now) ≡ Ok unnamed }
         ensures { OnOk result (self.new ≡ self.old ++
@@ -225,6 +226,8 @@ impl<'a> Draft<'a> {
         Ok(())
     }
 
+    /// Kept in line, so that the instruction is written where it is kept and not moved there.
+    #[inline(always)]
     fn sentence(&mut self, at: u32, text: &'a [u8], unnamed: Instr) -> Result<(), LineFault>
         requires { instr_of None (words_in text.now) ≡ Ok unnamed }
         ensures { Steps result self.new (Ok (def.with_sentence at self.old (words_in text.now))) }
@@ -252,7 +255,10 @@ impl<'a> Draft<'a> {
             no_more(rest)?;
             return self.label(name);
         }
-        let unnamed = instr_of(word, rest, None)?;
+        if let Some(form) = operandless_of(word, rest)? {
+            return self.sentence(at, text, form.instr());
+        }
+        let unnamed = with_operands(word, rest, None)?;
         self.sentence(at, text, unnamed)
     }
 }

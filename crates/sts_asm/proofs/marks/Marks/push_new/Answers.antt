@@ -1,45 +1,28 @@
-use Rattle.std.proofs.Common.{rules, ◌≡◌, ◌<◌, ◌+◌, ◌++◌, ◌∷◌, [], None, ℕ, List, length, refl, sym}
-use Rattle.std.proofs.Common.{◌∙◌, ap, cond}
-use Rattle.std.specs.Prelude.{Option, Some}
-use Rattle.std.specs.Str.{bytes_eq}
-use Rattle.std.specs.Vec.{vec_len}
-use Rattle.std.proofs.lemmas.Map.Text.{btree_map_updates_str}
-use Rattle.std.proofs.lemmas.Option.{slice_get_read}
-use Rattle.sts_asm.specs.Buckets.{bucket_of, found_in}
+use Rattle.std.proofs.Common.{rules, ◌≡◌, ◌<◌, None, length}
+use Rattle.sts_asm.specs.Buckets.{bucket_of, first_of}
 use Rattle.sts_asm.specs.Marks.{Mark, marked}
-use Rattle.sts_asm.proofs.BucketLemmas.{pushed_in, kept_in, but_last}
-use Rattle.sts_asm.proofs.MarkLemmas.{marked_push}
+use Rattle.sts_asm.proofs.BucketLemmas.{found_filled, found_first, found_tried}
 use Rattle.sts_asm.proofs.marks.Marks.push_new.Goals as goal
 
-pub invariant_of-self-in-Ok : goal.invariant_of-self-in-Ok
-invariant_of-self-in-Ok c = λ q.
-    let name = c.args.name.now in
-    let i = c.bucket_of.result in
-    let buckets = c.fill.new.buckets.items in
-    let at : i ≡ bucket_of name = search rules in
-    let inside : i < length buckets = search rules in
-    let old = slice_get_read buckets (length buckets) i c.index_mut.result.now refl inside c.index_mut.ensures.value in
-    let put = btree_map_updates_str name c.index_mut.result.now c.insert.new.self _ c.in-Ok.ensures.updates in
-    let found : found_in buckets q ≡ marked c.self.inside.list.items q = c.fill.ensures.same q ∙ c.self.invariant q in
-    let free : marked c.self.inside.list.items name ≡ None = search rules in
-    let new : Mark = record { name = name; at = c.args.at } in
-    let p = marked_push c.self.inside.list.items new q free in
-    let pushed : c.push.new.self.items ≡ c.self.inside.list.items ++ new ∷ [] = c.in_ok-push.ensures.items in
-    pushed_in buckets i name c.args.at c.index_mut.result.now c.insert.new.self at old put q
-    ∙ ap (λ (r : Option ℕ). cond (bytes_eq name q) (Some c.args.at) r) found
-    ∙ sym (ap (λ (ms : List Mark). marked ms q) pushed ∙ p)
+pub invariant_of-self-then-is_some : goal.invariant_of-self-then-is_some
+invariant_of-self-then-is_some c =
+    let list = c.self.inside.list.items in
+    let firsts = c.fill.new.firsts.items in
+    let new : Mark = record { name = c.args.name.now; at = c.args.at } in
+    let filled = found_filled list c.self.inside.firsts.items firsts c.self.inside.others c.self.invariant c.fill.ensures.same in
+    let taken : first_of firsts (bucket_of new.name) ≡ None → ⊥ = search rules in
+    let free : marked list new.name ≡ None = search rules in
+    found_tried c.push_other.result list c.push_other.new.list.items firsts c.self.inside.others c.push_other.new.others new filled taken free c.push_other.ensures.list c.push_other.ensures.map c.push_other.ensures.same_list c.push_other.ensures.same_map
 
-pub invariant_of-self-in-Err : goal.invariant_of-self-in-Err
-invariant_of-self-in-Err c = λ q.
-    let i = c.bucket_of.result in
-    let buckets = c.fill.new.buckets.items in
-    let inside : i < length buckets = search rules in
-    let old = slice_get_read buckets (length buckets) i c.index_mut.result.now refl inside c.index_mut.ensures.value in
-    let entries : c.insert.new.self.entries ≡ c.index_mut.result.now.entries = search rules in
-    let found : found_in buckets q ≡ marked c.self.inside.list.items q = c.fill.ensures.same q ∙ c.self.invariant q in
-    let long : vec_len c.push.new.self ≡ length c.self.inside.list.items + 1 = search rules in
-    let popped : c.pop.new.self.items ≡ c.self.inside.list.items =
-    c.pop.ensures.rest ∙ but_last c.self.inside.list.items c.push.new.self.items _ (vec_len c.push.new.self) long c.in_ok-push.ensures.items in
-    kept_in buckets i c.index_mut.result.now c.insert.new.self old (λ r. rw entries refl) q
-    ∙ found
-    ∙ sym (ap (λ (ms : List Mark). marked ms q) popped)
+pub invariant_of-self-2 : goal.invariant_of-self-2
+invariant_of-self-2 c =
+    let list = c.self.inside.list.items in
+    let firsts = c.fill.new.firsts.items in
+    let bucket = c.bucket_of-bucket.result in
+    let new : Mark = record { name = c.args.name.now; at = c.args.at } in
+    let filled = found_filled list c.self.inside.firsts.items firsts c.self.inside.others c.self.invariant c.fill.ensures.same in
+    let is : bucket ≡ bucket_of new.name = search rules in
+    let small : bucket < length firsts = search rules in
+    let none : first_of firsts bucket ≡ None = search rules in
+    let last : c.in-Ok.place ≡ length list = search rules in
+    rw c.in_ok-push.ensures.items (found_first list firsts c.self.inside.others new bucket c.in-Ok.place filled is small none last)
