@@ -73,6 +73,7 @@ impl<'p, O: Outside, B: Runs<O>> Asked<'p, O, B> {
 
     /// Records the next event from outside, if one is due and the book isn't full. Answers whether
     /// it did.
+    #[inline(always)]
     fn records_next(&mut self) -> bool {
         if self.book.is_full() {
             return false;
@@ -93,7 +94,15 @@ impl<'p, O: Outside, B: Runs<O>> Asked<'p, O, B> {
     /// Records the events from outside that are due, until there is none or the book is full.
     #[inline(always)]
     pub(crate) fn ask(&mut self) {
-        for _ in 0..MAX_OUTSIDE {
+        if self.records_next() {
+            self.ask_on();
+        }
+    }
+
+    /// Goes on with that after the first event.
+    #[inline(never)]
+    fn ask_on(&mut self) {
+        for _ in 1..MAX_OUTSIDE {
             if !self.records_next() {
                 break;
             }

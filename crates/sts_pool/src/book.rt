@@ -127,7 +127,7 @@ impl<'p> Book<'p> {
     pub(crate) fn entries(&self) -> u64
         ensures { result ≡ self.now.machine.steps + self.now.outside }
     {
-        self.machine.steps().saturating_add(u64::from(self.outside))
+        self.machine.steps() + u64::from(self.outside)
     }
 
     /// A task that can step, out or not; `None` if and only if no task can.
