@@ -47,7 +47,8 @@ abbrev pub found_in : List Mark → List (Option ℕ) → BTreeMap (Bor (List �
 found_in marks firsts others name = told marks others (first_of firsts (bucket_of name)) name
 
 -- Names are found by their buckets. The map has no name of a bucket without a first name.
-pub record AreFound (marks : List Mark) (firsts : List (Option ℕ)) (others : BTreeMap (Bor (List ℕ)) ℕ) : Type 0 where
+pub record AreFound (marks : List Mark) (firsts : List (Option ℕ))
+    (others : BTreeMap (Bor (List ℕ)) ℕ) : Type 0 where
   pub found : (q : List ℕ) → found_in marks firsts others q ≡ marked marks q
   pub within : (bucket place : ℕ) → first_of firsts bucket ≡ Some place → place < length marks
   pub apart : (q : List ℕ) → first_of firsts (bucket_of q) ≡ None → other_of others q ≡ None

@@ -87,7 +87,8 @@ fn push_other<'a>(
     ensures map { OnOk result ((q : List ℕ) → other_of others.new q ≡
         (if bytes_eq name.now q then Some at else other_of others.old q)) }
     ensures same_list { OnErr result (list.new.items ≡ list.old.items) }
-    ensures same_map { OnErr result ((q : List ℕ) → other_of others.new q ≡ other_of others.old q) }
+    ensures same_map { OnErr result ((q : List ℕ) →
+        other_of others.new q ≡ other_of others.old q) }
 {
     list.push(Mark { name, at })?;
     match others.insert(name, at) {

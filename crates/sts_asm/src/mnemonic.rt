@@ -146,7 +146,8 @@ pub enum Mnemonic {
 /// The instruction without operands that this word spells.
 #[inline(always)]
 pub fn plain_word(word: &[u8]) -> Option<Operandless>
-    ensures { option_map (λ form. Plain (without_operands form)) result ≡ looked_up plain_words word.now }
+    ensures { option_map (λ form. Plain (without_operands form)) result ≡
+        looked_up plain_words word.now }
 {
     if word == b"pop".as_slice() {
         return Some(Operandless::Pop);
