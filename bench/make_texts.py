@@ -317,20 +317,23 @@ def colliding_names(count):
     raise SystemExit(f"only {len(names)} names")
 
 
+MIXED_BY = 67  # by this sts_asm multiplies before it adds the next byte of a name
+
+
 def one_bucket_names(count):
     """This number of names that the assembler's own mixing puts into one bucket of its 1,024."""
     letters = b"abcdefghijklmnopqrstuvwxyz0123456789"
     ends = {}
     for a in letters:
         for b in letters:
-            ends.setdefault((a * 31 + b) % 1024, bytes([a, b]))
+            ends.setdefault((a * MIXED_BY + b) % 1024, bytes([a, b]))
     names, number = [], 0
     while len(names) < count:
         name = b"x" + bytes(letters[number // 36**k % 36] for k in range(4))
         mixed = 0
         for byte in name:
-            mixed = (mixed * 31 + byte) % 1024
-        end = ends.get(-mixed * 31 * 31 % 1024)
+            mixed = (mixed * MIXED_BY + byte) % 1024
+        end = ends.get(-mixed * MIXED_BY * MIXED_BY % 1024)
         names += [(name + end).decode()] if end else []
         number += 1
     return names

@@ -11,7 +11,7 @@ use Rattle.sts_asm.specs.Marks.{Mark, marked}
 
 -- the number that a name's bytes are mixed into, with one byte more
 abbrev pub with_byte : ℕ → ℕ → ℕ
-with_byte mixed byte = (mixed * 31 % 65536 + byte) % 65536
+with_byte mixed byte = (mixed * 67 % 65536 + byte) % 65536
 
 abbrev pub mixed : List ℕ → ℕ
 mixed name = fold with_byte 0 name

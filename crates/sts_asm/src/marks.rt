@@ -33,7 +33,7 @@ const BUCKETS: usize = 1024;
 fn with_byte(mixed: u16, byte: u8) -> u16
     ensures { result ≡ with_byte mixed byte }
 {
-    mixed.wrapping_mul(31).wrapping_add(u16::from(byte))
+    mixed.wrapping_mul(67).wrapping_add(u16::from(byte))
 }
 
 /// A number that all bytes of a name are mixed into.
