@@ -2,8 +2,7 @@
 use Rattle.std.proofs.Common.{◌≡◌, ◌≢◌, ℕ, zero, suc, ◌<◌, List, [], ◌∷◌, map, length, Bool, true, false, Option, Some, None, refl, sym, ◌∙◌, ap, get_or, set, cond, nat_eq, arith}
 use Rattle.std.proofs.lemmas.Bool.Decides.{nat_tests}
 use Rattle.std.proofs.lemmas.List.{ext_get_or, length-set, get_or-set_same, get_or-set_other}
-use Rattle.std.specs.Prelude.{option_map, option_copied, is_some, unwrap_or, IsSome}
-use Rattle.std.specs.Borrow.{Bor}
+use Rattle.std.specs.Prelude.{option_map, is_some, unwrap_or}
 use Rattle.sts_env.specs.Environments.{Records, list_of}
 use Rattle.sts_env.specs.declared.env.Env.{Env}
 use Rattle.sts_tree.specs.Forest.{Forest}
@@ -234,9 +233,3 @@ running_seen m t r q c change at same others =
 -- the frame of a living task is written
 pub frame_seen : (m : Parts) (t : ℕ) (r q : Running) (change : Alive → Alive) → get_or m.frames.slots t None ≡ Some r → ((flag : Bool) → alive_of m.chains flag q ≡ change (alive_of m.chains flag r)) → live_of (with_running m t q m.chains) ≡ with_alive (live_of m) t change
 frame_seen m t r q change at same = running_seen m t r q m.chains change at same (nowhere m t)
-
--- ---- what a look-up gives
-
-pub got : {X : Type 0} (o : Option (Bor X)) (x : X) → option_copied o ≡ Some x → IsSome o
-got None x e = cc
-got (Some q) x e = refl
