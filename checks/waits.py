@@ -3,8 +3,9 @@
 
 The rule that it searches is that of `crates/sts_pool/src/waits.rt`. The root forks three subtasks and waits for them; each
 subtask has two units of work. A move is what one worker does under one hold of the lock. Every choice is tried: how many
-turns a hold does, whether a slice is taken after them, which task is claimed, whether a row of local instructions in a
-slice or in place was worth it, whom a wake-up reaches, and wake-ups for no reason.
+turns a hold does, whether a slice is taken after them, whether slices of two tasks are taken at once instead, whether a
+worker with such a batch goes on with another one, which task is claimed, whether a row of local instructions in a slice or
+in place was worth it, whom a wake-up reaches, and wake-ups for no reason. A batch leaves a task that can step.
 A second search stops the run after any move, as a refused start does, and wakes nobody for it.
 
 There are three kinds of bad states. Every worker sleeps or has ended, and one of them sleeps. Or several workers are needed
@@ -13,7 +14,7 @@ The rule has no bad state. Each fault of FAULTS is planted in turn, and has a ba
 """
 import sys
 
-ROOT, UNITS, TRIES = 0, 2, 2
+ROOT, UNITS, TRIES, IN_A_BATCH = 0, 2, 2, 2
 
 
 def option(name, other):
@@ -27,13 +28,14 @@ FAULTS = {
     "lends": "a worker that takes a slice wakes nobody",
     "claims": "a worker that claims a task wakes nobody, nor does one that takes a slice",
     "late": "a worker gives the lock up before it sleeps, and looks no more",
+    "back": "a worker that is back counts as awake once for each of its slices",
     "end": "a worker that sees the end wakes nobody",
 }
 
 # A book: (subtasks forked, whether the root waits, whether the run has ended, units left of each subtask, tasks that are
 # claimed or out). The numbers of `Waits`: (awake, tries). A worker: `N` goes to the lock for the first time, `L` goes to
-# it again, `G` claimed a task and passes the gate, `O` is out with a slice, `S` sleeps, `W` was woken and comes to the lock, `D` has decided to sleep with no lock
-# (a fault), `E` has ended. A state: (book, numbers, workers, whether the run may still be stopped).
+# it again, `G` claimed a task and passes the gate, `O` is out with one slice or more, `S` sleeps, `W` was woken and comes to
+# the lock, `D` has decided to sleep with no lock (a fault), `E` has ended. A state: (book, numbers, workers, whether the run may still be stopped).
 
 
 def can_step(book, task):
@@ -76,8 +78,28 @@ def with_out(book, task):
     return book[:4] + (book[4] | {task},)
 
 
-def without(book, task):
-    return book[:4] + (book[4] - {task},)
+def without(book, *tasks):
+    return book[:4] + (book[4] - set(tasks),)
+
+
+def batches(book, tasks=()):
+    """Yields the books in which a worker has taken a batch and another task can step, and the tasks of the batch."""
+    if tasks and free(book):
+        yield book, tasks
+    if len(tasks) < IN_A_BATCH:
+        for task in free(book):
+            yield from batches(with_out(book, task), (*tasks, task))
+
+
+def backs(book, tasks):
+    """Yields each book that slices of these tasks lead to. A slice has done nothing, or a unit of a subtask."""
+    if not tasks:
+        yield book
+        return
+    for back in backs(book, tasks[1:]):
+        yield back
+        if tasks[0] != ROOT and can_step(back, tasks[0]):
+            yield turn(back, tasks[0])
 
 
 def put(workers, i, what):
@@ -130,14 +152,24 @@ class Rule:
             for others in self.wakes(claimed, fewer, workers, "find"):
                 yield claimed, fewer, put(others, i, ("G", task))
 
+    def lends(self, book, numbers, workers, i, tasks):
+        """Yields the next states of a worker that goes out with slices of these tasks."""
+        fewer = (numbers[0] - 1, numbers[1])
+        for others in self.wakes(book, fewer, workers, "lends"):
+            yield book, fewer, put(others, i, ("O", *tasks))
+
+    def batch(self, book, numbers, workers, i):
+        """Yields the next states of a worker that takes a batch."""
+        for lent, tasks in batches(book):
+            yield from self.lends(lent, (numbers[0], TRIES), workers, i, tasks)
+
     def slice(self, book, numbers, workers, i, task):
-        """Yields the next states of a worker that takes a slice of the task, or can't and looks for a task."""
-        if task not in free(book):
+        """Yields the next states of a worker that takes a slice of the task or a batch, or can't and looks for a task."""
+        yield from self.batch(book, numbers, workers, i)
+        if task in free(book):
+            yield from self.lends(with_out(book, task), numbers, workers, i, (task,))
+        else:
             yield from self.find(book, numbers, workers, i)
-            return
-        lent, fewer = with_out(book, task), (numbers[0] - 1, numbers[1])
-        for others in self.wakes(lent, fewer, workers, "lends"):
-            yield lent, fewer, put(others, i, ("O", task))
 
     def ran(self, book, numbers, task):
         """Returns what the numbers may be after a row of local instructions: it was too short, or worth it."""
@@ -152,9 +184,23 @@ class Rule:
                     yield from self.slice(turned, then, workers, i, task)
                 yield from self.find(turned, then, workers, i)
 
+    def after_all(self, book, numbers, workers, i, tasks, last):
+        """Yields the states after the turns of the tasks of a batch, and after the worker's next move."""
+        if not tasks:
+            yield from self.batch(book, numbers, workers, i)
+            yield from self.find(book, numbers, workers, i)
+            if last is not None:
+                yield from self.slice(book, numbers, workers, i, last)
+            return
+        for turned, is_step in turns(book, tasks[0]):
+            for then in self.ran(turned, numbers, tasks[0]) if is_step else {numbers}:
+                yield from self.after_all(turned, then, workers, i, tasks[1:], last)
+                if is_step:
+                    yield from self.after_all(turned, then, workers, i, tasks[1:], tasks[0])
+
     def of_worker(self, book, numbers, workers, i):
         """Yields what comes of the next hold of a worker."""
-        at, *task = workers[i]
+        at, *tasks = workers[i]
         if at == "L":
             yield from self.find(book, numbers, workers, i)
         elif at == "N":
@@ -166,14 +212,15 @@ class Rule:
         elif at == "D":
             yield book, self.sleeps(numbers), put(workers, i, ("S",))
         elif at == "G":
-            yield from self.after(without(book, *task), numbers, workers, i, *task)
+            yield from self.after(without(book, *tasks), numbers, workers, i, *tasks)
         elif at == "O":
-            back = without(book, *task)
-            done = [turn(back, *task)] if task != [ROOT] and can_step(back, *task) else []
-            for book in [back, *done]:
-                awake, tries = numbers[0] + 1, numbers[1]
-                for then in {(awake, max(0, tries - 1))} | self.ran(book, (awake, tries), *task):
-                    yield from self.after(book, then, workers, i, *task)
+            awake, tries = numbers[0] + (len(tasks) if self.fault == "back" else 1), numbers[1]
+            for back in backs(without(book, *tasks), tasks):
+                if len(tasks) > 1:
+                    yield from self.after_all(back, (awake, tries), workers, i, tasks, None)
+                    continue
+                for then in {(awake, max(0, tries - 1))} | self.ran(back, (awake, tries), *tasks):
+                    yield from self.after(back, then, workers, i, *tasks)
 
     def moves(self, state):
         book, numbers, workers, may_stop = state

@@ -1,6 +1,6 @@
 -- A book that asks its outside: the interrupts and expiries of its journal came from there.
-use Rattle.std.proofs.Common.{◌≡◌, ℕ, zero, suc, ◌+◌, List, [], ◌∷◌, ◌++◌, Option, Some, None, Result, Ok, Err, inl, inr, refl, sym, ap, ◌∙◌, subst, count_by, append_assoc, append-nil, length-append, arith}
-use Rattle.std.specs.Prelude.{IfNone, IfSome, OnErr, OnOk, option_map}
+use Rattle.std.proofs.Common.{◌≡◌, ℕ, zero, suc, ◌+◌, List, [], ◌∷◌, ◌++◌, Option, Some, None, Bool, true, false, inl, inr, refl, sym, ap, ◌∙◌, subst, count_by, append_assoc, append-nil, length-append, arith}
+use Rattle.std.specs.Prelude.{IfNone, IfSome, option_map}
 use Rattle.sts_code.specs.Program.{Program}
 use Rattle.sts_machine.specs.Slice.{steps_of}
 use Rattle.sts_machine.specs.declared.turned.Turned.{Turned}
@@ -119,10 +119,10 @@ turned_asked gives p first b x now t Stepped same records idle is =
 turned_asked gives p first b x now t Idle same records idle is = stays_asked gives p first b x now (idle refl) is
 
 -- after a slice was given back
-pub back_asked : {O A E : Type 0} (gives : O → ℕ → Option Event → O → Type 0) (p : Program) (first : Option O) (b x : BookSeen) (now : O) (c t : ℕ) (r : Result A E) → OnOk r (x.program ≡ b.program) → OnOk r (Records b x (steps_of c t)) → OnErr r (x ≡ b) → IsAsked gives p first b now → IsAsked gives p first x now
-back_asked gives p first b x now c t (Ok a) same records stays is =
-    more_asked gives p first b x now now (steps_of c t) same records (λ o events journal before. gave_steps gives o c t events now before) is
-back_asked gives p first b x now c t (Err e) same records stays is = stays_asked gives p first b x now stays is
+pub back_asked : {O : Type 0} (gives : O → ℕ → Option Event → O → Type 0) (p : Program) (first : Option O) (b x : BookSeen) (now : O) (c t : ℕ) (r : Bool) → x.program ≡ b.program → (r ≡ true → Records b x (steps_of c t)) → (r ≡ false → x ≡ b) → IsAsked gives p first b now → IsAsked gives p first x now
+back_asked gives p first b x now c t true same records stays is =
+    more_asked gives p first b x now now (steps_of c t) same (records refl) (λ o events journal before. gave_steps gives o c t events now before) is
+back_asked gives p first b x now c t false same records stays is = stays_asked gives p first b x now (stays refl) is
 
 -- after steps of a task
 pub ran_asked : {O : Type 0} (gives : O → ℕ → Option Event → O → Type 0) (p : Program) (first : Option O) (b x : BookSeen) (now : O) (c t : ℕ) → x.program ≡ b.program → Records b x (steps_of c t) → IsAsked gives p first b now → IsAsked gives p first x now

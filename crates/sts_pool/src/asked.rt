@@ -131,8 +131,13 @@ impl<'p, O: Outside, B: Runs<O>> Asked<'p, O, B> {
     }
 
     /// Takes a slice back, and records its steps. Answers whether it was this book's.
-    pub(crate) fn check_in(&mut self, slice: Slice<'p>) -> bool {
-        self.book.check_in(slice).is_ok()
+    pub(crate) fn take_in(&mut self, slice: &Slice<'p>) -> bool {
+        self.book.take_in(slice)
+    }
+
+    /// Can the task step, and isn't it out?
+    pub(crate) fn is_at_hand(&self, task: u32) -> bool {
+        self.book.is_at_hand(task)
     }
 
     /// Takes the slice of this task, if it can step and isn't out.

@@ -295,14 +295,33 @@ impl<'p> Book<'p> {
         ensures stranger { IfErr result (λ e. e.slice ≡ slice.entry) }
         ensures stays { OnErr result (self.new ≡ self.old) }
     {
-        let task = slice.task();
-        if !self.out.contains(&task) || !self.machine.fits(&slice) {
-            return Err(Stranger { slice });
+        if self.take_in(&slice) {
+            Ok(())
+        } else {
+            Err(Stranger { slice })
         }
-        self.machine.put(&slice);
+    }
+
+    /// Takes a slice back, and records one step of its task for each instruction of the slice.
+    /// Answers whether it is this book's. If it isn't, nothing changed.
+    pub(crate) fn take_in(&mut self, slice: &Slice<'p>) -> bool
+        ensures ours { IsTrue result ↔ IsOurs self.old slice.now }
+        ensures journal { result ≡ true →
+            Records self.old self.new (steps_of slice.now.count slice.now.task) }
+        ensures back { result ≡ true → is_out self.new slice.now.task ≡ false }
+        ensures others { result ≡ true → (t : ℕ) → t ≢ slice.now.task
+            → is_out self.new t ≡ is_out self.old t }
+        ensures program { self.new.program ≡ self.old.program }
+        ensures stays { result ≡ false → self.new ≡ self.old }
+    {
+        let task = slice.task();
+        if !self.out.contains(&task) || !self.machine.fits(slice) {
+            return false;
+        }
+        self.machine.put(slice);
         self.journal.push_steps(task, slice.count());
         forget(&mut self.out, task);
-        Ok(())
+        true
     }
 
     /// The end of the root and the steps taken, with the number of workers, and with which events
@@ -375,7 +394,7 @@ impl<'p> Book<'p> {
 
     /// Can the task step, and isn't it out?
     #[inline(always)]
-    fn is_at_hand(&self, task: u32) -> bool
+    pub(crate) fn is_at_hand(&self, task: u32) -> bool
         ensures { result ≡ is_free self.now task }
     {
         self.machine.can_step(task) && !is_among(self.out.as_slice(), task)

@@ -11,7 +11,8 @@ use crate::asked::{Asked, Runs};
 use crate::book::Book;
 use crate::gate::{Gate, Outside};
 use crate::report::{Ending, PoolError, Report};
-use crate::waits::{AT_ONCE, IN_A_ROW, Waits, is_worth, turns_after};
+use crate::waits::{IN_A_BATCH, IN_A_ROW, MANY, Waits, at_once, is_worth, turns_after};
+use arrayvec::ArrayVec;
 use std::alloc::Global;
 use std::hint::spin_loop;
 use std::marker::Brand;
@@ -35,13 +36,15 @@ const DOUBLINGS: u32 = 5;
 pub(crate) const STACK: usize = 1 << 20;
 
 /// The state that workers share: the book with its outside, whether the run is stopped, how many
-/// workers have reached the lock, and the rule for who sleeps.
+/// workers have reached the lock, and the rule for who sleeps. `next` is the task that was born behind
+/// those of the last slices.
 #[derive(Drop)]
 struct Shared<'p, O: Outside, B: Runs<O>> {
     asked: Asked<'p, O, B>,
     stop: bool,
     came: u32,
     waits: Waits,
+    next: u32,
 }
 
 /// The state under one lock, and the condition that sleeping workers wait for.
@@ -50,6 +53,10 @@ struct Pool<'p, O: Outside, B: Runs<O>> {
     shared: Mutex<Shared<'p, O, B>>,
     woken: Condvar,
 }
+
+/// The slices that a worker takes at one hold of the lock: one, or some of tasks born one after the
+/// other. No place is `None`.
+type Batch<'p> = ArrayVec<Option<Slice<'p>>, 8>;
 
 /// The next action of a worker that looks for a task.
 enum Found {
@@ -86,7 +93,7 @@ impl<'p, O: Outside, B: Runs<O>> Shared<'p, O, B> {
             if !self.turns(task, turns) {
                 return false;
             }
-            let limit = self.waits.in_place();
+            let limit = self.waits.in_place(self.has_many(task));
             let done = self.asked.run_here(task, limit);
             self.notes(task, done);
             if done == limit {
@@ -100,6 +107,7 @@ impl<'p, O: Outside, B: Runs<O>> Shared<'p, O, B> {
 
     /// Notes that a worker did `done` local instructions of a task in place.
     fn notes(&mut self, task: u32, done: u32) {
+        self.waits.saw(done);
         if is_worth(done) {
             let has_other = self.asked.has_other(task);
             self.waits.ran(done, has_other);
@@ -131,24 +139,61 @@ impl<'p, O: Outside, B: Runs<O>> Shared<'p, O, B> {
         self.waits.wants_several() && self.asked.has_more()
     }
 
-    /// A slice of a task to work on.
-    fn lend(&mut self, task: u32) -> Option<Slice<'p>> {
-        self.asked.ask();
-        let slice = self.asked.lend(task)?;
-        self.waits.lends();
-        Some(slice)
+    /// Can many tasks step whose rows of local instructions are worth a batch? A scope's subtasks are
+    /// born one after the other, so this tests one that was born some time after this task.
+    fn has_many(&self, task: u32) -> bool {
+        self.waits.wants_batches() && self.asked.is_at_hand(task.saturating_add(MANY))
     }
 
-    /// Takes back a slice in which `done` instructions were done. A slice of another book stops the
-    /// run; none ever comes.
-    fn take_back(&mut self, slice: Slice<'p>, done: u32) {
-        let task = slice.task();
-        self.waits.back();
-        if !self.asked.check_in(slice) {
+    /// Takes a slice of a task, or slices of it and of those born next if many tasks can step. Takes
+    /// none if none of them can.
+    fn lend(&mut self, task: u32, batch: &mut Batch<'p>) {
+        self.asked.ask();
+        let has_many = self.has_many(task);
+        let end = task.saturating_add(if has_many { IN_A_BATCH } else { 1 });
+        for task in task..end {
+            if let Some(slice) = self.asked.lend(task) {
+                let _has_room = batch.try_push(Some(slice));
+            }
+        }
+        if !batch.is_empty() {
+            self.next = end;
+            self.waits.lends(has_many);
+        }
+    }
+
+    /// Takes back a slice, and does its task's steps under the lock. Answers whether a slice of the
+    /// task is to be taken again. A slice of another book stops the run; none ever comes.
+    fn take_back(&mut self, slice: &Slice<'p>, is_alone: bool) -> bool {
+        let (task, done) = (slice.task(), slice.count());
+        if !self.asked.take_in(slice) {
             self.stop = true;
         }
-        let has_other = is_worth(done) && self.asked.has_other(task);
-        self.waits.ran(done, has_other);
+        self.waits.saw_in_slice(done);
+        if is_alone {
+            let has_other = is_worth(done) && self.asked.has_other(task);
+            self.waits.ran(done, has_other);
+        }
+        !self.stop && self.has_long_row(task)
+    }
+
+    /// Takes back all slices, and does the steps of their tasks under the lock. Answers with a task
+    /// whose slice is to be taken next, if there is one.
+    fn take_back_all(&mut self, batch: &mut Batch<'p>) -> Option<u32> {
+        self.waits.back();
+        let is_alone = batch.len() == 1;
+        let mut next = None;
+        for place in batch.as_slice() {
+            let Some(slice) = place else { continue };
+            if self.take_back(slice, is_alone) {
+                next = Some(slice.task());
+            }
+        }
+        batch.clear();
+        if next.is_none() && !is_alone && !self.stop && self.has_many(self.next) {
+            next = Some(self.next);
+        }
+        next
     }
 }
 
@@ -222,9 +267,9 @@ impl<'p, O: Outside, B: Runs<O>> Pool<'p, O, B> {
         self.find(rt, guard)
     }
 
-    /// Takes slices of a task, does their local instructions with no lock held, and gives them back.
-    /// After each it does the task's steps under the lock, until no further slice is to be taken.
-    /// Then it finds a task.
+    /// Takes slices of a task, or batches, does their local instructions with no lock held, and gives
+    /// them back. After each it does the tasks' steps under the lock, until no further slice is to be
+    /// taken. Then it finds a task.
     fn slices<'b, R: Wait, G: Gate>(
         &'b self,
         rt: &R,
@@ -234,19 +279,24 @@ impl<'p, O: Outside, B: Runs<O>> Pool<'p, O, B> {
         task: u32,
     ) -> Option<u32> {
         let mut guard = guard;
+        let mut batch = ArrayVec::new();
+        let mut next = Some(task);
         for _ in rt.forever() {
-            let Some(mut slice) = guard.lend(task) else {
-                break;
-            };
-            self.wake_another(&guard);
-            drop(guard);
-            gate.enter(worker, task);
-            let done = slice.run_local(AT_ONCE);
-            guard = self.locked(rt);
-            guard.take_back(slice, done);
-            if guard.stop || !guard.has_long_row(task) {
+            let Some(task) = next else { break };
+            guard.lend(task, &mut batch);
+            if batch.is_empty() {
                 break;
             }
+            self.wake_another(&guard);
+            drop(guard);
+            let limit = at_once(batch.len());
+            for place in batch.as_mut_slice() {
+                let Some(slice) = place else { continue };
+                gate.enter(worker, slice.task());
+                let _done = slice.run_local(limit);
+            }
+            guard = self.locked(rt);
+            next = guard.take_back_all(&mut batch);
         }
         self.find(rt, guard)
     }
@@ -394,6 +444,7 @@ pub(crate) fn run_on<
             stop: false,
             came: 0,
             waits: Waits::new(workers),
+            next: 0,
         }),
         woken: Condvar::new(),
     };
@@ -406,6 +457,7 @@ pub(crate) fn run_on<
         stop: _,
         came,
         waits: _,
+        next: _,
     } = shared.into_inner();
     if came != workers {
         return Err(PoolError::SpawnRefused);

@@ -1,7 +1,0 @@
-use Rattle.sts_pool.proofs.Asking.{back_asked}
-use Rattle.sts_pool.proofs.asked.Asked.check_in.Goals as goal
-
-pub invariant_of-self : goal.invariant_of-self
-invariant_of-self g c =
-    let back = c.check_in.ensures in
-    back_asked g.O.Outside.gives g.B.Runs.program g.B.Runs.outside c.self.inside.book c.check_in.new.self c.self.inside.outside c.args.slice.count c.args.slice.task c.check_in.result back.program back.journal back.stays c.self.invariant
