@@ -23,7 +23,8 @@ use sts_rules::filled;
 /// that differs from it only in that number.
 #[derive(Clone, Copy)]
 pub(crate) struct Mark {
-    height: u8,
+    // (a byte before `like` would leave seven that are moved on their own, and the next read waits for them)
+    height: usize,
     like: usize,
 }
 
@@ -158,7 +159,7 @@ fn come_to(state: &mut TypeState, like: &mut usize, kept: &[TypeState], mark: Ma
         state.copy_from(&kept[mark.like]);
         *like = mark.like;
     }
-    state.set_height(mark.height);
+    state.set_height(mark.height as u8);
 }
 
 impl Arrivals {
@@ -178,7 +179,7 @@ impl Arrivals {
         let mut kept = Vec::with_capacity(alloc, places)?;
         kept.push(first.copy())?;
         let start = Mark {
-            height: first.height(),
+            height: first.height() as usize,
             like: 0,
         };
         let mut marks = filled(alloc, places, Arrival::Nothing)?;
@@ -244,6 +245,7 @@ impl Arrivals {
         ensures start { self.new.start ≡ self.old.start }
     {
         let place = place as usize;
+        let height = height as usize;
         let like = self.like;
         self.marks[place] = merged(
             self.kept.as_slice(),
@@ -279,7 +281,7 @@ impl Arrivals {
                 }
             }
             let place = to as usize;
-            let height = self.state.height();
+            let height = self.state.height() as usize;
             let like = self.like;
             self.marks[place] = merged(
                 self.kept.as_slice(),
@@ -297,7 +299,7 @@ impl Arrivals {
             ≡ Arrival.One self.now.state) }
     {
         let here = Mark {
-            height: self.state.height(),
+            height: self.state.height() as usize,
             like: self.like,
         };
         match self.marks[place as usize] {
