@@ -8,7 +8,11 @@ folders `must-fail/`. The others are in checks/edits/CRATE/, since they take hou
 
 With no crate named, the edits of all crates are tried, N crates side by side (as many as there are processors, if no N is
 given). The script works on a copy of the repository, by `rt must-fail CRATE`. It takes along the libraries that were built
-in crates/*/out, if they are of the present sources, and builds the others. The last line is `N passed, M failed`, of edits.
+in crates/*/out, if they are of the present sources, and builds the others.
+
+A line follows for each crate. It counts the edits that were refused since a goal stays open, and those refused for a name
+alone: there a proof file names what the edit took away, and nothing was shown of the contract. Such an edit counts as
+failed. The last line is `N passed, M failed`, of edits.
 """
 import argparse
 import concurrent.futures
@@ -18,10 +22,12 @@ import shutil
 import subprocess
 import sys
 import tempfile
+import time
 
 ROOT = os.path.dirname(os.path.dirname(os.path.realpath(__file__)))
 EDITS = f"{ROOT}/checks/edits"
 TRIED = re.compile(r"^(?:rt: )?must-fail (\w+)/([\w.-]+)\.edit: (refused|BAD EDIT|NOT REFUSED|NOT TRIED).*", re.M)
+BY_NAME = "only because a proof file names"
 
 
 def copy(to):
@@ -45,13 +51,14 @@ def put(crate, to):
 
 
 def tried(crate, to):
-    """Tries a crate's edits, prints the prover's line on each, and returns the result of each."""
+    """Tries a crate's edits, prints the prover's line on each, and returns the result of each and the seconds."""
+    since = time.time()
     how = {"cwd": to, "stdin": subprocess.DEVNULL, "stdout": subprocess.PIPE, "stderr": subprocess.STDOUT}
     said = subprocess.run(["rt", "must-fail", crate], text=True, errors="replace", **how).stdout
-    found = {(match[1], match[2]): match[3] for match in TRIED.finditer(said)}
+    found = {(it[1], it[2]): "by a name" if BY_NAME in it[0] else it[3] for it in TRIED.finditer(said)}
     lines = [match[0] for match in TRIED.finditer(said)] or said.splitlines()[-5:]
     print("\n".join(lines), flush=True)
-    return found
+    return found, time.time() - since
 
 
 def options(known):
@@ -70,11 +77,16 @@ def main():
     with tempfile.TemporaryDirectory(prefix="sts-edits-") as to, concurrent.futures.ThreadPoolExecutor(jobs) as pool:
         copy(to)
         expected = set().union(*[put(it, to) for it in crates])
-        found = {}
-        for it in pool.map(lambda crate: tried(crate, to), crates):
-            found.update(it)
+        found, took = {}, {}
+        for crate, (results, seconds) in zip(crates, pool.map(lambda it: tried(it, to), crates)):
+            found.update(results)
+            took[crate] = seconds
     for crate, name in sorted(expected - set(found)):
         print(f"{crate}/{name}: nothing was said of this edit")
+    for crate in crates:
+        results = [found.get(it) for it in expected if it[0] == crate]
+        refused, by_name = results.count("refused"), results.count("by a name")
+        print(f"{crate}: {len(results)} edits, {refused} refused, {by_name} for a name alone, in {took[crate]:.0f} s")
     passed = sum(found.get(it) == "refused" for it in expected)
     print(f"{passed} passed, {len(expected) - passed} failed")
     return passed < len(expected)
