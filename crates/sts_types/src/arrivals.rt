@@ -23,7 +23,7 @@ use sts_rules::filled;
 /// that differs from it only in that number.
 #[derive(Clone, Copy)]
 pub(crate) struct Mark {
-    // (a byte before `like` would leave seven that are moved on their own, and the next read waits for them)
+    // (A byte in its place would leave seven before `like`. A read after a move waits for those.)
     height: usize,
     like: usize,
 }
