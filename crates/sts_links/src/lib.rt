@@ -9,4 +9,4 @@ mod links;
 mod lists;
 
 pub use links::{Ends, Link, Links};
-pub use lists::{after, front, push_back, push_linked, unlink, unlink_by};
+pub use lists::{after, front, push_back, unlink};

@@ -67,23 +67,6 @@ pub fn push_back<S: Links>(store: &mut S, layer: u8, list: Ends, key: usize) -> 
     }
 }
 
-/// Appends a key that has the link of the last key of the list already, and gives the list with it.
-#[inline(always)]
-pub fn push_linked<S: Links>(store: &mut S, layer: u8, list: Ends, key: usize) -> Ends
-    requires list { (keys : List ℕ) × IsList (S.at store.old layer) list keys × NotIn key keys }
-    requires link { S.at store.old layer key ≡ Some (record { before = list.last; after = None }) }
-    ensures list { (keys : List ℕ) → IsList (S.at store.old layer) list keys → NotIn key keys →
-        BecomesList (S.at store.old) (S.at store.new) layer result (keys ++ key ∷ []) }
-    ensures rest { S.alike store.old store.new }
-{
-    let last = Some(key);
-    set_after(store, layer, list.last, last);
-    Ends {
-        first: if_none(list.first, last, list.first),
-        last,
-    }
-}
-
 /// Takes out a key of the list, and gives the list without it.
 ///
 /// The link of the key itself stays as it was.
@@ -97,22 +80,6 @@ pub fn unlink<S: Links>(store: &mut S, layer: u8, list: Ends, key: usize) -> End
     ensures rest { S.alike store.old store.new }
 {
     let link = store.link(layer, key);
-    unlink_by(store, layer, list, link)
-}
-
-/// Takes out the key that has this link, and gives the list without it.
-///
-/// The link of the key itself stays as it was.
-#[inline(always)]
-pub fn unlink_by<S: Links>(store: &mut S, layer: u8, list: Ends, link: Link) -> Ends
-    requires { (key : ℕ) × (front : List ℕ) × (back : List ℕ)
-        × (S.at store.old layer key ≡ Some link)
-        × IsList (S.at store.old layer) list (front ++ key ∷ back) }
-    ensures list { (key : ℕ) (front back : List ℕ) → S.at store.old layer key ≡ Some link →
-        IsList (S.at store.old layer) list (front ++ key ∷ back) →
-        BecomesList (S.at store.old) (S.at store.new) layer result (front ++ back) }
-    ensures rest { S.alike store.old store.new }
-{
     set_after(store, layer, link.before, link.after);
     set_before(store, layer, link.after, link.before);
     Ends {

@@ -5,7 +5,7 @@ use Rattle.std.proofs.lemmas.List.{get_or_past, get_or_append_left, get_or_at}
 use Rattle.sts_links.specs.Lists.{NotIn, AreApart, IsList, BecomesList}
 use Rattle.sts_links.specs.declared.links.Link.{Link}
 use Rattle.sts_links.specs.declared.links.Ends.{Ends}
-use Rattle.sts_links.proofs.ChainLemmas.{list_stays, list_stays_beside, without_link}
+use Rattle.sts_links.proofs.ChainLemmas.{list_stays, without_link}
 use Rattle.sts_model.specs.Living.{is_in}
 use Rattle.sts_tree.specs.Births.{births, has, without}
 use Rattle.sts_tree.specs.Forest.{is_of, lives_in, Family, IsForest, no_family}
@@ -24,21 +24,6 @@ moved at new tasks families ready keys room same i =
       counts = i.counts;
       told = i.told;
       is_ready = list_stays (at 2) (new 2) ready keys (λ k _. same 2 k) i.is_ready;
-      flags = i.flags;
-      homes = i.homes;
-      few = i.few;
-      born = i.born;
-    }
-
--- only the link of a task that isn't ready is written, in the layer of the ready list
-pub moved_beside : (at new : ℕ → ℕ → Option Link) (tasks : List (Option TaskNode)) (families : List (Option Family)) (ready : Ends) (keys : List ℕ) (room t : ℕ) → ((m k : ℕ) → (m ≡ 2 → k ≢ t) → new m k ≡ at m k) → NotIn t keys → IsForest at tasks families ready keys room → IsForest new tasks families ready keys room
-moved_beside at new tasks families ready keys room t same out i =
-    record {
-      forks = λ s f is. list_stays (at 0) (new 0) f.forks _ (λ k _. same 0 k (λ e. absurd (omega (arith, e)))) (i.forks s f is);
-      living = λ s f is. list_stays (at 1) (new 1) f.living _ (λ k _. same 1 k (λ e. absurd (omega (arith, e)))) (i.living s f is);
-      counts = i.counts;
-      told = i.told;
-      is_ready = list_stays_beside (at 2) (new 2) t ready keys (λ k ne. same 2 k (λ _. ne)) out i.is_ready;
       flags = i.flags;
       homes = i.homes;
       few = i.few;

@@ -5,16 +5,15 @@ use Rattle.std.proofs.lemmas.List.{map-set, get_or_past, get_or_append_left}
 use Rattle.std.specs.Prelude.{option_map}
 use Rattle.sts_links.specs.Lists.{NotIn, IsList, BecomesList}
 use Rattle.sts_links.specs.declared.links.Ends.{Ends}
-use Rattle.sts_links.proofs.ChainLemmas.{without_link, list_stays, list_stays_beside}
-use Rattle.sts_links.specs.declared.links.Link.{Link}
-use Rattle.sts_tree.specs.Stored.{task_of, tasks_of, link_of, link_at, no_link as null_link}
+use Rattle.sts_links.proofs.ChainLemmas.{without_link, list_stays}
+use Rattle.sts_tree.specs.Stored.{task_of, tasks_of, link_of, link_at}
 use Rattle.sts_tree.specs.Births.{has, without}
 use Rattle.sts_tree.specs.Forest.{Forest, ready_of, Family, IsForest}
 use Rattle.sts_tree.specs.declared.record.TaskNode.{TaskNode}
 use Rattle.sts_tree.specs.declared.record.TaskRecord.{TaskRecord}
 use Rattle.sts_tree.proofs.HoldingLemmas.{map_at, inside_of, no_link}
 use Rattle.sts_tree.proofs.KeyLemmas.{has_not, Split}
-use Rattle.sts_tree.proofs.StepLemmas.{moved, moved_beside, retasked, readied, unreadied, fresh_list, past_none}
+use Rattle.sts_tree.proofs.StepLemmas.{moved, retasked, readied, unreadied, fresh_list, past_none}
 use Rattle.sts_tree.proofs.Walks.{walk_is, few}
 
 -- the keys of a list in some layer are births of records
@@ -77,40 +76,16 @@ rewrites slots families ready room t r q i is links scope lives flag =
     let stored : IsForest (link_at (set slots t (Some q))) (tasks_of (set slots t (Some q))) families ready (ready_of slots ready) room = rw e new in
     record { is = rekeyed (set slots t (Some q)) families ready (ready_of slots ready) room stored; tasks = e; keys_are = ready_is (set slots t (Some q)) ready (ready_of slots ready) new.is_ready }
 
--- the link of the record that was written
-pub link_in : (slots : List (Option TaskRecord)) (t l : ℕ) (r q : TaskRecord) → get_or slots t None ≡ Some r → l < 3 → link_at (set slots t (Some q)) l t ≡ Some (get_or q.links l null_link)
-link_in slots t l r q is less =
-    let inside = inside_of slots t (λ n. let e : Some r ≡ None = sym is ∙ n in cc) in
-    let test : nat_lt l 3 ≡ true = grind (arith, nat_tests) in
-    ap (link_of l) (get_or-set_same slots t (Some q) None inside) ∙ (rw test refl)
-
--- the links after a task's link in the layer of the ready list is written
-relinked_beside : (slots : List (Option TaskRecord)) (t : ℕ) (r q : TaskRecord) (link : Link) → get_or slots t None ≡ Some r → q.links ≡ set r.links 2 link → (m k : ℕ) → (m ≡ 2 → k ≢ t) → link_at (set slots t (Some q)) m k ≡ link_at slots m k
-relinked_beside slots t r q link is links m k ne = by (nat_eq k t) refl
-  where
-    inside : t < length slots
-    inside = inside_of slots t (λ n. let e : Some r ≡ None = sym is ∙ n in cc)
-
-    by : (b : Bool) → nat_eq k t ≡ b → link_at (set slots t (Some q)) m k ≡ link_at slots m k
-    by true e =
-        let s : k ≡ t = grind (arith, nat_tests) in
-        let other : m ≢ 2 = λ f. ne f s in
-        let same : get_or q.links m null_link ≡ get_or r.links m null_link = ap (λ l. get_or l m null_link) links ∙ get_or-set_other r.links 2 m link null_link other in
-        let one : link_of m (Some q) ≡ link_of m (Some r) = rw same refl in
-        rw s (ap (link_of m) (get_or-set_same slots t (Some q) None inside) ∙ one ∙ ap (link_of m) (sym is))
-    by false e = let s : k ≢ t = grind (arith, nat_tests) in ap (link_of m) (get_or-set_other slots t k (Some q) None s)
-
 -- the ready list, before a task is appended
-pub can_push : (slots : List (Option TaskRecord)) (families : List (Option Family)) (ready : Ends) (room t : ℕ) (r q : TaskRecord) (link : Link) → Stored slots families ready room → get_or slots t None ≡ Some r → q.links ≡ set r.links 2 link → has t (ready_of slots ready) ≡ false → IsList (link_at (set slots t (Some q)) 2) ready (ready_of slots ready) × NotIn t (ready_of slots ready)
-can_push slots families ready room t r q link i is links waits =
-    let out = has_not t (ready_of slots ready) waits in
-    (list_stays_beside (link_at slots 2) (link_at (set slots t (Some q)) 2) t ready (ready_of slots ready) (λ k ne. relinked_beside slots t r q link is links 2 k (λ _. ne)) out i.is_ready, out)
+pub can_push : (slots : List (Option TaskRecord)) (families : List (Option Family)) (ready : Ends) (room t : ℕ) (r q : TaskRecord) → Stored slots families ready room → get_or slots t None ≡ Some r → q.links ≡ r.links → has t (ready_of slots ready) ≡ false → IsList (link_at (set slots t (Some q)) 2) ready (ready_of slots ready) × NotIn t (ready_of slots ready)
+can_push slots families ready room t r q i is links waits =
+    (list_stays (link_at slots 2) (link_at (set slots t (Some q)) 2) ready (ready_of slots ready) (λ k _. relinked slots t r q is links 2 k) i.is_ready, has_not t (ready_of slots ready) waits)
 
 -- and after
-pub pushes : (slots new : List (Option TaskRecord)) (families : List (Option Family)) (ready ready2 : Ends) (room t : ℕ) (r q : TaskRecord) (link : Link) → Stored slots families ready room → get_or slots t None ≡ Some r → q ≡ record { task = record r.task { ready = true }; links = set r.links 2 link } → has t (ready_of slots ready) ≡ false → tasks_of new ≡ tasks_of (set slots t (Some q)) → BecomesList (link_at (set slots t (Some q))) (link_at new) 2 ready2 (ready_of slots ready ++ t ∷ []) → Writes slots new families ready ready2 room t (record r.task { ready = true }) (ready_of slots ready ++ t ∷ [])
-pushes slots new families ready ready2 room t r q link i is same waits tasks list =
-    let links : q.links ≡ set r.links 2 link = rw same refl in
-    let one = moved_beside (link_at slots) (link_at (set slots t (Some q))) (tasks_of slots) families ready (ready_of slots ready) room t (relinked_beside slots t r q link is links) (has_not t (ready_of slots ready) waits) i in
+pub pushes : (slots new : List (Option TaskRecord)) (families : List (Option Family)) (ready ready2 : Ends) (room t : ℕ) (r q : TaskRecord) → Stored slots families ready room → get_or slots t None ≡ Some r → q ≡ record r { task = record r.task { ready = true } } → tasks_of new ≡ tasks_of (set slots t (Some q)) → BecomesList (link_at (set slots t (Some q))) (link_at new) 2 ready2 (ready_of slots ready ++ t ∷ []) → Writes slots new families ready ready2 room t (record r.task { ready = true }) (ready_of slots ready ++ t ∷ [])
+pushes slots new families ready ready2 room t r q i is same tasks list =
+    let links : q.links ≡ r.links = rw same refl in
+    let one = moved (link_at slots) (link_at (set slots t (Some q))) (tasks_of slots) families ready (ready_of slots ready) room (relinked slots t r q is links) i in
     let two = readied (link_at (set slots t (Some q))) (link_at new) (tasks_of slots) families ready ready2 (ready_of slots ready) room t r.task one (task_at slots t r is) list in
     let e : tasks_of new ≡ set (tasks_of slots) t (Some (record r.task { ready = true })) = tasks ∙ seen_set slots t q ∙ (rw same refl) in
     let stored : IsForest (link_at new) (tasks_of new) families ready2 (ready_of slots ready ++ t ∷ []) room = rw e two in
@@ -167,14 +142,3 @@ pub fresh_key : (slots new : List (Option TaskRecord)) (n : ℕ) (r : TaskRecord
 fresh_key slots new n r m list ks e f is =
     let h = fresh slots new n r e f in
     (fresh_list (link_at slots m) (link_at new m) n list ks (h.vacant m) (λ k ne. h.others m k ne) is, without_link (link_at slots m) n None ks None (h.vacant m) is.linked)
-
--- the links that it begins with
-pub link_new : (slots new : List (Option TaskRecord)) (n l : ℕ) (r : TaskRecord) → n ≡ length slots → new ≡ slots ++ Some r ∷ [] → l < 3 → link_at new l n ≡ Some (get_or r.links l null_link)
-link_new slots new n l r size is less =
-    let test : nat_lt l 3 ≡ true = grind (arith, nat_tests) in
-    let here : get_or new n None ≡ Some r = ap (λ (xs : List (Option TaskRecord)). get_or xs n None) is ∙ ap (λ k. get_or (slots ++ Some r ∷ []) k None) size ∙ last_record slots r in
-    ap (link_of l) here ∙ (rw test refl)
-  where
-    last_record : (xs : List (Option TaskRecord)) (r : TaskRecord) → get_or (xs ++ Some r ∷ []) (length xs) None ≡ Some r
-    last_record [] r = refl
-    last_record (x ∷ xs) r = last_record xs r

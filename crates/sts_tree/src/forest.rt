@@ -17,7 +17,7 @@ use std::alloc::{AllocError, Global};
 use std::marker::Model;
 use sts_code::Joiner;
 use sts_joiners::Tally;
-use sts_links::{Ends, Link, after, push_linked, unlink_by};
+use sts_links::{Ends, Link, after, push_back, unlink};
 use sts_model::{End, Phase, Stand};
 use sts_records::Held;
 
@@ -64,29 +64,11 @@ fn small(key: Option<usize>) -> Option<u32>
     }
 }
 
-/// The link of a key that is in no list.
-const NO_LINK: Link = Link {
-    before: None,
-    after: None,
-};
-
-/// The link of the key that is appended to a list.
-#[inline(always)]
-fn at_end(list: Ends) -> Link
-    ensures { result ≡ record { before = list.last; after = None } }
-{
-    Link {
-        before: list.last,
-        after: None,
-    }
-}
-
-/// Appends a key if `wanted` is true. It has the link of the last key already.
+/// Appends a key if `wanted` is true.
 fn push_if(tasks: &mut Tasks, layer: u8, list: Ends, key: usize, wanted: bool) -> Ends
     requires list { (keys : List ℕ)
         × IsList (link_at tasks.old.held.slots layer) list keys × NotIn key keys }
-    requires link { link_at tasks.old.held.slots layer key
-        ≡ Some (record { before = list.last; after = None }) }
+    requires key { link_at tasks.old.held.slots layer key ≢ None }
     ensures list { (keys : List ℕ) →
         IsList (link_at tasks.old.held.slots layer) list keys → NotIn key keys →
         BecomesList (link_at tasks.old.held.slots) (link_at tasks.new.held.slots) layer result
@@ -94,7 +76,7 @@ fn push_if(tasks: &mut Tasks, layer: u8, list: Ends, key: usize, wanted: bool) -
     ensures rest { SameTasks tasks.old.held tasks.new.held }
 {
     if wanted {
-        push_linked(tasks, layer, list, key)
+        push_back(tasks, layer, list, key)
     } else {
         list
     }
@@ -160,7 +142,10 @@ impl<E: Drop> Forest<E> {
                 stand: Stand::Free,
                 ready: true,
             },
-            links: [NO_LINK; 3],
+            links: [Link {
+                before: None,
+                after: None,
+            }; 3],
         });
         Ok(Forest {
             tasks: Tasks { held },
@@ -268,10 +253,8 @@ impl<E: Drop> Forest<E> {
               ready = self.old.ready ++ t ∷ [];
             } }
     {
-        let record = self.tasks.held.at(t as usize);
-        record.task.ready = true;
-        record.links[2] = at_end(self.ready);
-        self.ready = push_linked(&mut self.tasks, 2, self.ready, t as usize);
+        self.tasks.held.at(t as usize).task.ready = true;
+        self.ready = push_back(&mut self.tasks, 2, self.ready, t as usize);
     }
 
     /// Takes a task out of the ready list.
@@ -285,10 +268,8 @@ impl<E: Drop> Forest<E> {
               ready = without t self.old.ready;
             } }
     {
-        let record = self.tasks.held.at(t as usize);
-        record.task.ready = false;
-        let link = record.links[2];
-        self.ready = unlink_by(&mut self.tasks, 2, self.ready, link);
+        self.tasks.held.at(t as usize).task.ready = false;
+        self.ready = unlink(&mut self.tasks, 2, self.ready, t as usize);
     }
 
     /// Opens a scope without subtasks.
@@ -334,7 +315,6 @@ impl<E: Drop> Forest<E> {
         } }
         ensures keys { (key : ℕ) × (self.new.task_keys ≡ self.old.task_keys ++ key ∷ []) }
     {
-        let row = self.scopes.at(s as usize);
         let birth = self.tasks.held.push(TaskRecord {
             task: TaskNode {
                 scope: Some(s),
@@ -344,9 +324,13 @@ impl<E: Drop> Forest<E> {
                 stand: Stand::Free,
                 ready: false,
             },
-            links: [at_end(row.forks), at_end(row.living), NO_LINK],
+            links: [Link {
+                before: None,
+                after: None,
+            }; 3],
         });
-        row.forks = push_linked(&mut self.tasks, 0, row.forks, birth);
+        let row = self.scopes.at(s as usize);
+        row.forks = push_back(&mut self.tasks, 0, row.forks, birth);
         row.living = push_if(&mut self.tasks, 1, row.living, birth, lives);
         row.fork_count += 1;
         birth as u32
@@ -399,9 +383,7 @@ impl<E: Drop> Forest<E> {
             result.waiter ≡ ending.waiter self.old t x }
         ensures ready { result.was_ready ≡ has t self.old.ready }
     {
-        let record = self.tasks.held.at(t as usize);
-        let link = record.links[1];
-        let task = &mut record.task;
+        let task = &mut self.tasks.held.at(t as usize).task;
         task.lives = false;
         let was_ready = task.ready;
         let Some(s) = task.scope else {
@@ -413,7 +395,7 @@ impl<E: Drop> Forest<E> {
         };
         let row = self.scopes.at(s as usize);
         let asks = tell(&mut row.scope, &mut task.state, end);
-        row.living = unlink_by(&mut self.tasks, 1, row.living, link);
+        row.living = unlink(&mut self.tasks, 1, row.living, t as usize);
         Ended {
             asks,
             waiter: row.scope.owner,

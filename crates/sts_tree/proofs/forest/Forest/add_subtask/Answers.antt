@@ -1,14 +1,14 @@
-use Rattle.std.proofs.Common.{◌+◌, Some, refl, ◌∙◌, ap, arith}
+use Rattle.std.proofs.Common.{◌+◌, refl, ◌∙◌, arith}
 use Rattle.sts_tree.specs.Births.{births}
 use Rattle.sts_tree.specs.Forest.{families_of, is_of, lives_in, family_of, subtask}
 use Rattle.sts_tree.specs.Stored.{tasks_of}
 use Rattle.sts_tree.proofs.Adds.{Added, adds, few_forks}
 use Rattle.sts_tree.proofs.Rows.{family_at, set_family, same_scopes}
-use Rattle.sts_tree.proofs.Stores.{fresh_key, link_new}
+use Rattle.sts_tree.proofs.Stores.{fresh_key}
 use Rattle.sts_tree.proofs.forest.Forest.add_subtask.Goals as goal
 
-pub push_linked-row-requires-clause-list : goal.push_linked-row-requires-clause-list
-push_linked-row-requires-clause-list g c =
+pub push_back-row-requires-clause-list : goal.push_back-row-requires-clause-list
+push_back-row-requires-clause-list g c =
     let slots = c.self.inside.tasks.held.slots in
     let f = family_at c.self.inside.scopes.slots c.args.s c.at-row.result.now c.at-row.ensures.value in
     let is = c.self.invariant.forks c.args.s (family_of c.at-row.result.now) f in
@@ -23,24 +23,8 @@ push_if-row-requires-clause-list g c =
     let k = fresh_key slots c.push-birth.new.self.slots c.push-birth.result _ 0 c.at-row.result.now.forks (births (is_of c.args.s) 0 (tasks_of slots)) c.push-birth.ensures.birth c.push-birth.ensures.slots is in
     let living = c.self.invariant.living c.args.s (family_of c.at-row.result.now) f in
     let l = fresh_key slots c.push-birth.new.self.slots c.push-birth.result _ 1 c.at-row.result.now.living (births (lives_in c.args.s) 0 (tasks_of slots)) c.push-birth.ensures.birth c.push-birth.ensures.slots living in
-    let forked = c.push_linked-row.ensures.list (births (is_of c.args.s) 0 (tasks_of slots)) k.0 k.1 in
+    let forked = c.push_back-row.ensures.list (births (is_of c.args.s) 0 (tasks_of slots)) k.0 k.1 in
     (births (lives_in c.args.s) 0 (tasks_of slots), forked.others 1 c.at-row.result.now.living _ l.0 (λ e. absurd (omega (arith, e))), l.1)
-
-pub push_linked-row-requires-clause-link : goal.push_linked-row-requires-clause-link
-push_linked-row-requires-clause-link g c = link_new c.self.inside.tasks.held.slots c.push-birth.new.self.slots c.push-birth.result 0 _ c.push-birth.ensures.birth c.push-birth.ensures.slots (omega arith) ∙ ap (λ l. Some l) c.at_end.ensures
-
-pub push_if-row-requires-clause-link : goal.push_if-row-requires-clause-link
-push_if-row-requires-clause-link g c =
-    let slots = c.self.inside.tasks.held.slots in
-    let f = family_at c.self.inside.scopes.slots c.args.s c.at-row.result.now c.at-row.ensures.value in
-    let is = c.self.invariant.forks c.args.s (family_of c.at-row.result.now) f in
-    let k = fresh_key slots c.push-birth.new.self.slots c.push-birth.result _ 0 c.at-row.result.now.forks (births (is_of c.args.s) 0 (tasks_of slots)) c.push-birth.ensures.birth c.push-birth.ensures.slots is in
-    let living = c.self.invariant.living c.args.s (family_of c.at-row.result.now) f in
-    let l = fresh_key slots c.push-birth.new.self.slots c.push-birth.result _ 1 c.at-row.result.now.living (births (lives_in c.args.s) 0 (tasks_of slots)) c.push-birth.ensures.birth c.push-birth.ensures.slots living in
-    let forked = c.push_linked-row.ensures.list (births (is_of c.args.s) 0 (tasks_of slots)) k.0 k.1 in
-    forked.links 1 c.push-birth.result (λ e. absurd (omega (arith, e)))
-    ∙ link_new c.self.inside.tasks.held.slots c.push-birth.new.self.slots c.push-birth.result 1 _ c.push-birth.ensures.birth c.push-birth.ensures.slots (omega arith)
-    ∙ ap (λ l. Some l) c.at_end-2.ensures
 
 pub overflow_add-row : goal.overflow_add-row
 overflow_add-row g c =
@@ -48,7 +32,7 @@ overflow_add-row g c =
     let few = few_forks c.self.inside.tasks.held.slots (families_of c.self.inside.scopes.slots) c.self.inside.ready c.self.inside.tasks.held.room c.args.s (family_of c.at-row.result.now) c.self.invariant f in
     omega (arith, few)
 
-after : (g : _) (c : goal.After-self-1 g) → Added c.self.inside.tasks.held.slots c.push_if-row.new.tasks.held.slots (families_of c.self.inside.scopes.slots) c.self.inside.ready c.self.inside.tasks.held.room c.args.s (family_of (record c.at-row.result.now { forks = c.push_linked-row.result; fork_count = c.at-row.result.now.fork_count + 1; living = c.push_if-row.result })) (subtask c.args.s c.args.lives)
+after : (g : _) (c : goal.After-self-1 g) → Added c.self.inside.tasks.held.slots c.push_if-row.new.tasks.held.slots (families_of c.self.inside.scopes.slots) c.self.inside.ready c.self.inside.tasks.held.room c.args.s (family_of (record c.at-row.result.now { forks = c.push_back-row.result; fork_count = c.at-row.result.now.fork_count + 1; living = c.push_if-row.result })) (subtask c.args.s c.args.lives)
 after g c =
     let slots = c.self.inside.tasks.held.slots in
     let f = family_at c.self.inside.scopes.slots c.args.s c.at-row.result.now c.at-row.ensures.value in
@@ -56,19 +40,19 @@ after g c =
     let k = fresh_key slots c.push-birth.new.self.slots c.push-birth.result _ 0 c.at-row.result.now.forks (births (is_of c.args.s) 0 (tasks_of slots)) c.push-birth.ensures.birth c.push-birth.ensures.slots is in
     let living = c.self.invariant.living c.args.s (family_of c.at-row.result.now) f in
     let l = fresh_key slots c.push-birth.new.self.slots c.push-birth.result _ 1 c.at-row.result.now.living (births (lives_in c.args.s) 0 (tasks_of slots)) c.push-birth.ensures.birth c.push-birth.ensures.slots living in
-    let forked = c.push_linked-row.ensures.list (births (is_of c.args.s) 0 (tasks_of slots)) k.0 k.1 in
+    let forked = c.push_back-row.ensures.list (births (is_of c.args.s) 0 (tasks_of slots)) k.0 k.1 in
     let lived = c.push_if-row.ensures.list (births (lives_in c.args.s) 0 (tasks_of slots)) (forked.others 1 c.at-row.result.now.living _ l.0 (λ e. absurd (omega (arith, e)))) l.1 in
-    adds slots c.push-birth.new.self.slots c.push_linked-row.new.store.held.slots c.push_if-row.new.tasks.held.slots (families_of c.self.inside.scopes.slots) c.self.inside.ready c.self.inside.tasks.held.room c.args.s c.push-birth.result (family_of c.at-row.result.now) _ _ c.push_linked-row.result c.push_if-row.result c.self.invariant f (rw (← c.self.view_is) at c.requires.room) (rw (← c.self.view_is) at c.requires.born) refl refl refl c.push-birth.ensures.birth c.push-birth.ensures.slots forked lived c.push_linked-row.ensures.rest.tasks c.push_if-row.ensures.rest.tasks
+    adds slots c.push-birth.new.self.slots c.push_back-row.new.store.held.slots c.push_if-row.new.tasks.held.slots (families_of c.self.inside.scopes.slots) c.self.inside.ready c.self.inside.tasks.held.room c.args.s c.push-birth.result (family_of c.at-row.result.now) _ _ c.push_back-row.result c.push_if-row.result c.self.invariant f (rw (← c.self.view_is) at c.requires.room) (rw (← c.self.view_is) at c.requires.born) refl refl refl c.push-birth.ensures.birth c.push-birth.ensures.slots forked lived c.push_back-row.ensures.rest.tasks c.push_if-row.ensures.rest.tasks
 
 pub invariant_of-self : goal.invariant_of-self
 invariant_of-self g c =
     let a = after g c in
-    let room = c.push_if-row.ensures.rest.room ∙ c.push_linked-row.ensures.rest.room ∙ c.push-birth.ensures.room in
+    let room = c.push_if-row.ensures.rest.room ∙ c.push_back-row.ensures.rest.room ∙ c.push-birth.ensures.room in
     rw (set_family c.self.inside.scopes.slots c.args.s _, room) a.is
 
 pub returns-clause-added : goal.returns-clause-added
 returns-clause-added g c =
     let a = after g c in
-    let room = c.push_if-row.ensures.rest.room ∙ c.push_linked-row.ensures.rest.room ∙ c.push-birth.ensures.room in
-    let scopes = same_scopes c.self.inside.scopes.slots c.args.s c.at-row.result.now (record c.at-row.result.now { forks = c.push_linked-row.result; fork_count = c.at-row.result.now.fork_count + 1; living = c.push_if-row.result }) c.at-row.ensures.value refl in
+    let room = c.push_if-row.ensures.rest.room ∙ c.push_back-row.ensures.rest.room ∙ c.push-birth.ensures.room in
+    let scopes = same_scopes c.self.inside.scopes.slots c.args.s c.at-row.result.now (record c.at-row.result.now { forks = c.push_back-row.result; fork_count = c.at-row.result.now.fork_count + 1; living = c.push_if-row.result }) c.at-row.ensures.value refl in
     rw (← c.self.view_is, a.tasks, a.keys_are, scopes, room) refl

@@ -8,73 +8,73 @@ use Rattle.sts_tree.proofs.Counts.{count_kept}
 use Rattle.sts_tree.proofs.Ends.{leaves, spare}
 use Rattle.sts_tree.proofs.Removing.{none_of, ends_alone, row_stands, living_with, EndsIn, ends_in}
 use Rattle.sts_tree.proofs.Rows.{family_at, scope_at, seen_row, set_family}
-use Rattle.sts_tree.proofs.Stores.{link_in, own_task, seen_is, task_at}
+use Rattle.sts_tree.proofs.Stores.{own_task, seen_is, task_at}
 use Rattle.sts_tree.proofs.Telling.{is_ended, one_more, tells_in}
 use Rattle.sts_tree.proofs.forest.Forest.end_task.Goals as goal
 
 pub invariant_of-self : goal.invariant_of-self
 invariant_of-self g c =
-    let w = ends_alone c.self.inside.tasks.held.slots (families_of c.self.inside.scopes.slots) c.self.inside.ready c.self.inside.tasks.held.room c.args.t c.at-record.result.now (record c.at-record.result.now { task = record c.at-record.result.now.task { lives = false } }) c.self.invariant c.at-record.ensures.value refl refl (none_of c.at-record.result.now.task.scope (λ s e. c.in_default.not-Some s e)) refl in
+    let w = ends_alone c.self.inside.tasks.held.slots (families_of c.self.inside.scopes.slots) c.self.inside.ready c.self.inside.tasks.held.room c.args.t c.at.result.now (record c.at.result.now { task = record c.at.result.now.task { lives = false } }) c.self.invariant c.at.ensures.value refl refl (none_of c.at.result.now.task.scope (λ s e. c.in_default.not-Some s e)) refl in
     w.is
 
 pub returns-in_default-clause-ended : goal.returns-in_default-clause-ended
 returns-in_default-clause-ended g c x is =
-    let w = ends_alone c.self.inside.tasks.held.slots (families_of c.self.inside.scopes.slots) c.self.inside.ready c.self.inside.tasks.held.room c.args.t c.at-record.result.now (record c.at-record.result.now { task = record c.at-record.result.now.task { lives = false } }) c.self.invariant c.at-record.ensures.value refl refl (none_of c.at-record.result.now.task.scope (λ s e. c.in_default.not-Some s e)) refl in
-    let own = own_task c.self.inside.tasks.held.slots c.args.t c.at-record.result.now x c.at-record.ensures.value (rw (← c.self.view_is) at is) in
-    let none = ap (λ (y : TaskNode). y.scope) (sym own) ∙ none_of c.at-record.result.now.task.scope (λ s e. c.in_default.not-Some s e) in
+    let w = ends_alone c.self.inside.tasks.held.slots (families_of c.self.inside.scopes.slots) c.self.inside.ready c.self.inside.tasks.held.room c.args.t c.at.result.now (record c.at.result.now { task = record c.at.result.now.task { lives = false } }) c.self.invariant c.at.ensures.value refl refl (none_of c.at.result.now.task.scope (λ s e. c.in_default.not-Some s e)) refl in
+    let own = own_task c.self.inside.tasks.held.slots c.args.t c.at.result.now x c.at.ensures.value (rw (← c.self.view_is) at is) in
+    let none = ap (λ (y : TaskNode). y.scope) (sym own) ∙ none_of c.at.result.now.task.scope (λ s e. c.in_default.not-Some s e) in
     (rw (← c.self.view_is) (seen_is _ _ _ (w.tasks ∙ (rw own refl)) w.keys_are)) ∙ sym (ap (λ o. ended_in c.args.self.now c.args.t x c.args.end o) none)
 
 pub returns-clause-ready : goal.returns-clause-ready
-returns-clause-ready g c = rw (← c.self.view_is) (c.self.invariant.flags c.args.t c.at-record.result.now.task (task_at c.self.inside.tasks.held.slots c.args.t c.at-record.result.now c.at-record.ensures.value))
+returns-clause-ready g c = rw (← c.self.view_is) (c.self.invariant.flags c.args.t c.at.result.now.task (task_at c.self.inside.tasks.held.slots c.args.t c.at.result.now c.at.ensures.value))
 
 pub at-row-requires : goal.at-row-requires
-at-row-requires g c = row_stands c.self.inside.tasks.held.slots c.self.inside.scopes.slots c.self.inside.ready c.self.inside.tasks.held.room c.args.t c.in-Some.s c.at-record.result.now c.self.invariant c.at-record.ensures.value c.in-Some.is
+at-row-requires g c = row_stands c.self.inside.tasks.held.slots c.self.inside.scopes.slots c.self.inside.ready c.self.inside.tasks.held.room c.args.t c.in-Some.s c.at.result.now c.self.invariant c.at.ensures.value c.in-Some.is
 
 pub tell-asks-requires : goal.tell-asks-requires
 tell-asks-requires g c =
     let (x0, is0, lives) = c.requires.lives in
     let tasks = tasks_of c.self.inside.tasks.held.slots in
-    let at = task_at c.self.inside.tasks.held.slots c.args.t c.at-record.result.now c.at-record.ensures.value in
-    let own0 = own_task c.self.inside.tasks.held.slots c.args.t c.at-record.result.now x0 c.at-record.ensures.value (rw (← c.self.view_is) at is0) in
-    let o = leaves (tasks_of c.self.inside.tasks.held.slots) c.args.t c.in-Some.s c.at-record.result.now.task (record c.at-record.result.now.task { lives = false }) at c.in-Some.is (rw own0 lives) refl in
+    let at = task_at c.self.inside.tasks.held.slots c.args.t c.at.result.now c.at.ensures.value in
+    let own0 = own_task c.self.inside.tasks.held.slots c.args.t c.at.result.now x0 c.at.ensures.value (rw (← c.self.view_is) at is0) in
+    let o = leaves (tasks_of c.self.inside.tasks.held.slots) c.args.t c.in-Some.s c.at.result.now.task (record c.at.result.now.task { lives = false }) at c.in-Some.is (rw own0 lives) refl in
     let f = family_at c.self.inside.scopes.slots c.in-Some.s c.at-row.result.now c.at-row.ensures.value in
-    let fits = spare (link_at c.self.inside.tasks.held.slots) (tasks_of c.self.inside.tasks.held.slots) (families_of c.self.inside.scopes.slots) c.self.inside.ready (ready_of c.self.inside.tasks.held.slots c.self.inside.ready) c.self.inside.tasks.held.room c.args.t c.in-Some.s c.at-record.result.now.task (record c.at-record.result.now.task { lives = false }) (family_of c.at-row.result.now) c.self.invariant at refl f o in
-    let b = births_few (is_of c.in-Some.s) 0 (set (tasks_of c.self.inside.tasks.held.slots) c.args.t (Some (record c.at-record.result.now.task { lives = false }))) in
-    let n = count_kept (tasks_of c.self.inside.tasks.held.slots) c.args.t c.at-record.result.now.task (record c.at-record.result.now.task { lives = false }) at in
+    let fits = spare (link_at c.self.inside.tasks.held.slots) (tasks_of c.self.inside.tasks.held.slots) (families_of c.self.inside.scopes.slots) c.self.inside.ready (ready_of c.self.inside.tasks.held.slots c.self.inside.ready) c.self.inside.tasks.held.room c.args.t c.in-Some.s c.at.result.now.task (record c.at.result.now.task { lives = false }) (family_of c.at-row.result.now) c.self.invariant at refl f o in
+    let b = births_few (is_of c.in-Some.s) 0 (set (tasks_of c.self.inside.tasks.held.slots) c.args.t (Some (record c.at.result.now.task { lives = false }))) in
+    let n = count_kept (tasks_of c.self.inside.tasks.held.slots) c.args.t c.at.result.now.task (record c.at.result.now.task { lives = false }) at in
     let few = c.self.invariant.few in
     omega (arith, fits, b, n, few)
 
-pub unlink_by-row-requires : goal.unlink_by-row-requires
-unlink_by-row-requires g c =
+pub unlink-row-requires : goal.unlink-row-requires
+unlink-row-requires g c =
     let (x0, is0, lives) = c.requires.lives in
-    let own0 = own_task c.self.inside.tasks.held.slots c.args.t c.at-record.result.now x0 c.at-record.ensures.value (rw (← c.self.view_is) at is0) in
-    let o = leaves (tasks_of c.self.inside.tasks.held.slots) c.args.t c.in-Some.s c.at-record.result.now.task (record c.at-record.result.now.task { lives = false; state = c.tell-asks.new.state }) (task_at c.self.inside.tasks.held.slots c.args.t c.at-record.result.now c.at-record.ensures.value) c.in-Some.is (rw own0 lives) refl in
+    let own0 = own_task c.self.inside.tasks.held.slots c.args.t c.at.result.now x0 c.at.ensures.value (rw (← c.self.view_is) at is0) in
+    let o = leaves (tasks_of c.self.inside.tasks.held.slots) c.args.t c.in-Some.s c.at.result.now.task (record c.at.result.now.task { lives = false; state = c.tell-asks.new.state }) (task_at c.self.inside.tasks.held.slots c.args.t c.at.result.now c.at.ensures.value) c.in-Some.is (rw own0 lives) refl in
     let f = family_at c.self.inside.scopes.slots c.in-Some.s c.at-row.result.now c.at-row.ensures.value in
-    let l = living_with c.self.inside.tasks.held.slots (families_of c.self.inside.scopes.slots) c.self.inside.ready c.self.inside.tasks.held.room c.args.t c.in-Some.s c.at-record.result.now (record c.at-record.result.now { task = record c.at-record.result.now.task { lives = false; state = c.tell-asks.new.state } }) (family_of c.at-row.result.now) c.self.invariant c.at-record.ensures.value refl f o in
-    (c.args.t, o.front, o.back, (link_in c.self.inside.tasks.held.slots c.args.t 1 c.at-record.result.now (record c.at-record.result.now { task = record c.at-record.result.now.task { lives = false; state = c.tell-asks.new.state } }) c.at-record.ensures.value (omega arith)), l)
+    let l = living_with c.self.inside.tasks.held.slots (families_of c.self.inside.scopes.slots) c.self.inside.ready c.self.inside.tasks.held.room c.args.t c.in-Some.s c.at.result.now (record c.at.result.now { task = record c.at.result.now.task { lives = false; state = c.tell-asks.new.state } }) (family_of c.at-row.result.now) c.self.invariant c.at.ensures.value refl f o in
+    (o.front, o.back, l)
 
-after : (g : _) (c : goal.After-self-3-1 g) → EndsIn c.self.inside.tasks.held.slots c.unlink_by-row.new.store.held.slots (families_of c.self.inside.scopes.slots) c.self.inside.ready c.self.inside.tasks.held.room c.args.t c.in-Some.s (family_of (record c.at-row.result.now { scope = c.tell-asks.new.scope; living = c.unlink_by-row.result })) (record c.at-record.result.now.task { lives = false; state = c.tell-asks.new.state })
+after : (g : _) (c : goal.After-self-3-1 g) → EndsIn c.self.inside.tasks.held.slots c.unlink-row.new.store.held.slots (families_of c.self.inside.scopes.slots) c.self.inside.ready c.self.inside.tasks.held.room c.args.t c.in-Some.s (family_of (record c.at-row.result.now { scope = c.tell-asks.new.scope; living = c.unlink-row.result })) (record c.at.result.now.task { lives = false; state = c.tell-asks.new.state })
 after g c =
     let (x0, is0, lives) = c.requires.lives in
-    let at = task_at c.self.inside.tasks.held.slots c.args.t c.at-record.result.now c.at-record.ensures.value in
-    let own0 = own_task c.self.inside.tasks.held.slots c.args.t c.at-record.result.now x0 c.at-record.ensures.value (rw (← c.self.view_is) at is0) in
-    let o = leaves (tasks_of c.self.inside.tasks.held.slots) c.args.t c.in-Some.s c.at-record.result.now.task (record c.at-record.result.now.task { lives = false; state = c.tell-asks.new.state }) at c.in-Some.is (rw own0 lives) refl in
+    let at = task_at c.self.inside.tasks.held.slots c.args.t c.at.result.now c.at.ensures.value in
+    let own0 = own_task c.self.inside.tasks.held.slots c.args.t c.at.result.now x0 c.at.ensures.value (rw (← c.self.view_is) at is0) in
+    let o = leaves (tasks_of c.self.inside.tasks.held.slots) c.args.t c.in-Some.s c.at.result.now.task (record c.at.result.now.task { lives = false; state = c.tell-asks.new.state }) at c.in-Some.is (rw own0 lives) refl in
     let f = family_at c.self.inside.scopes.slots c.in-Some.s c.at-row.result.now c.at-row.ensures.value in
-    let l = living_with c.self.inside.tasks.held.slots (families_of c.self.inside.scopes.slots) c.self.inside.ready c.self.inside.tasks.held.room c.args.t c.in-Some.s c.at-record.result.now (record c.at-record.result.now { task = record c.at-record.result.now.task { lives = false; state = c.tell-asks.new.state } }) (family_of c.at-row.result.now) c.self.invariant c.at-record.ensures.value refl f o in
-    let a = ends_in c.self.inside.tasks.held.slots c.unlink_by-row.new.store.held.slots (families_of c.self.inside.scopes.slots) c.self.inside.ready c.self.inside.tasks.held.room c.args.t c.in-Some.s c.at-record.result.now (record c.at-record.result.now { task = record c.at-record.result.now.task { lives = false; state = c.tell-asks.new.state } }) (family_of c.at-row.result.now) (family_of (record c.at-row.result.now { living = c.unlink_by-row.result })) c.unlink_by-row.result c.self.invariant c.at-record.ensures.value refl c.in-Some.is refl refl f refl o (c.unlink_by-row.ensures.list c.args.t o.front o.back (link_in c.self.inside.tasks.held.slots c.args.t 1 c.at-record.result.now (record c.at-record.result.now { task = record c.at-record.result.now.task { lives = false; state = c.tell-asks.new.state } }) c.at-record.ensures.value (omega arith)) l) c.unlink_by-row.ensures.rest.tasks in
-    let fits = spare (link_at c.self.inside.tasks.held.slots) (tasks_of c.self.inside.tasks.held.slots) (families_of c.self.inside.scopes.slots) c.self.inside.ready (ready_of c.self.inside.tasks.held.slots c.self.inside.ready) c.self.inside.tasks.held.room c.args.t c.in-Some.s c.at-record.result.now.task (record c.at-record.result.now.task { lives = false; state = c.tell-asks.new.state }) (family_of c.at-row.result.now) c.self.invariant at refl f o in
+    let l = living_with c.self.inside.tasks.held.slots (families_of c.self.inside.scopes.slots) c.self.inside.ready c.self.inside.tasks.held.room c.args.t c.in-Some.s c.at.result.now (record c.at.result.now { task = record c.at.result.now.task { lives = false; state = c.tell-asks.new.state } }) (family_of c.at-row.result.now) c.self.invariant c.at.ensures.value refl f o in
+    let a = ends_in c.self.inside.tasks.held.slots c.unlink-row.new.store.held.slots (families_of c.self.inside.scopes.slots) c.self.inside.ready c.self.inside.tasks.held.room c.args.t c.in-Some.s c.at.result.now (record c.at.result.now { task = record c.at.result.now.task { lives = false; state = c.tell-asks.new.state } }) (family_of c.at-row.result.now) (family_of (record c.at-row.result.now { living = c.unlink-row.result })) c.unlink-row.result c.self.invariant c.at.ensures.value refl c.in-Some.is refl refl f refl o (c.unlink-row.ensures.list o.front o.back l) c.unlink-row.ensures.rest.tasks in
+    let fits = spare (link_at c.self.inside.tasks.held.slots) (tasks_of c.self.inside.tasks.held.slots) (families_of c.self.inside.scopes.slots) c.self.inside.ready (ready_of c.self.inside.tasks.held.slots c.self.inside.ready) c.self.inside.tasks.held.room c.args.t c.in-Some.s c.at.result.now.task (record c.at.result.now.task { lives = false; state = c.tell-asks.new.state }) (family_of c.at-row.result.now) c.self.invariant at refl f o in
     let more = one_more c.at-row.result.now.scope c.tell-asks.new.scope c.args.end c.tell-asks.ensures.scope in
-    tells_in c.self.inside.tasks.held.slots c.unlink_by-row.new.store.held.slots (families_of c.self.inside.scopes.slots) c.self.inside.ready c.self.inside.tasks.held.room c.args.t c.in-Some.s (family_of c.at-row.result.now) _ (family_of (record c.at-row.result.now { scope = c.tell-asks.new.scope; living = c.unlink_by-row.result })) (record c.at-record.result.now.task { lives = false; state = c.tell-asks.new.state }) a f refl refl refl (rw a.tasks (omega (arith, fits, more)))
+    tells_in c.self.inside.tasks.held.slots c.unlink-row.new.store.held.slots (families_of c.self.inside.scopes.slots) c.self.inside.ready c.self.inside.tasks.held.room c.args.t c.in-Some.s (family_of c.at-row.result.now) _ (family_of (record c.at-row.result.now { scope = c.tell-asks.new.scope; living = c.unlink-row.result })) (record c.at.result.now.task { lives = false; state = c.tell-asks.new.state }) a f refl refl refl (rw a.tasks (omega (arith, fits, more)))
 
 pub invariant_of-self-2 : goal.invariant_of-self-2
-invariant_of-self-2 g c = let a = after g c in rw (set_family c.self.inside.scopes.slots c.in-Some.s _, c.unlink_by-row.ensures.rest.room) a.is
+invariant_of-self-2 g c = let a = after g c in rw (set_family c.self.inside.scopes.slots c.in-Some.s _, c.unlink-row.ensures.rest.room) a.is
 
 pub returns-clause-ended : goal.returns-clause-ended
 returns-clause-ended g c x is =
     let a = after g c in
-    let own = own_task c.self.inside.tasks.held.slots c.args.t c.at-record.result.now x c.at-record.ensures.value (rw (← c.self.view_is) at is) in
-    let scopes = seen_row c.self.inside.scopes.slots c.in-Some.s (record c.at-row.result.now { scope = c.tell-asks.new.scope; living = c.unlink_by-row.result }) in
+    let own = own_task c.self.inside.tasks.held.slots c.args.t c.at.result.now x c.at.ensures.value (rw (← c.self.view_is) at is) in
+    let scopes = seen_row c.self.inside.scopes.slots c.in-Some.s (record c.at-row.result.now { scope = c.tell-asks.new.scope; living = c.unlink-row.result }) in
     let there : get_or c.args.self.now.scopes c.in-Some.s None ≡ Some c.at-row.result.now.scope = rw (← c.self.view_is) (scope_at c.self.inside.scopes.slots c.in-Some.s c.at-row.result.now c.at-row.ensures.value) in
     let state = c.tell-asks.ensures.state ∙ ap (λ (y : TaskNode). cond c.at-row.result.now.scope.cancelled y.state (Some c.args.end)) own in
-    (rw (← c.self.view_is, a.tasks, a.keys_are, scopes, c.unlink_by-row.ensures.rest.room, c.unlink_by-row.ensures.rest.keys, own) refl)
+    (rw (← c.self.view_is, a.tasks, a.keys_are, scopes, c.unlink-row.ensures.rest.room, c.unlink-row.ensures.rest.keys, own) refl)
     ∙ is_ended c.args.self.now c.args.t c.in-Some.s x c.args.end c.tell-asks.new.state c.at-row.result.now.scope c.tell-asks.new.scope (ap (λ (y : TaskNode). y.scope) (sym own) ∙ c.in-Some.is) there state c.tell-asks.ensures.scope
