@@ -86,14 +86,11 @@ impl<'a> Lines<'a> {
         ensures { OnOk result (self.new ≡ self.old ++
             record { line = at; words = words_in text.now } ∷ []) }
     {
-        self.sentences.push(Sentence { line: at, text })?;
-        match self.unnamed.push(unnamed) {
-            Ok(()) => Ok(()),
-            Err(_) => {
-                let _ = self.sentences.pop();
-                Err(AllocError)
-            }
-        }
+        self.sentences.reserve(1)?;
+        self.unnamed.reserve(1)?;
+        self.sentences.push_reserved(Sentence { line: at, text });
+        self.unnamed.push_reserved(unnamed);
+        Ok(())
     }
 }
 
