@@ -78,6 +78,8 @@ def main():
         copy(to)
         expected = set().union(*[put(it, to) for it in crates])
         found, took = {}, {}
+        # (those with the most edits first, so that none of them is left at the end, alone)
+        crates.sort(key=lambda it: -len(os.listdir(f"{EDITS}/{it}")))
         for crate, (results, seconds) in zip(crates, pool.map(lambda it: tried(it, to), crates)):
             found.update(results)
             took[crate] = seconds
