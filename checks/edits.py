@@ -1,21 +1,28 @@
 #!/usr/bin/env python3
 """Tries the edits of checks/edits/, which the gate leaves out: the prover has to refuse each.
 
-    checks/edits.py [--jobs N] [CRATE ..]
+    checks/edits.py [--jobs N] [--alone] [CRATE ..]
 
 An edit makes a body of a function wrong; its first line says how. The gate tries some sixty, which are in the crates' own
-folders `must-fail/`. The others are in checks/edits/CRATE/, since they take hours of processor time.
+folders `must-fail/`. The others are in checks/edits/CRATE/, since each costs a check of its crate.
 
 With no crate named, the edits of all crates are tried, N crates side by side (as many as there are processors, if no N is
-given). The script works on a copy of the repository, by `rt must-fail CRATE`. It takes along the libraries that were built
-in crates/*/out, if they are of the present sources, and builds the others.
+given). The script works on a copy of the repository. It takes along the libraries that were built in crates/*/out, if they
+are of the present sources, and builds the others.
+
+The edits of a crate are first tried together: they are all made in one copy, no two in one function, and the prover checks
+the functions that were edited. An edit is refused if the prover says of its own function why that isn't proved. With
+--alone, and for each edit of whose function the prover said nothing, `rt must-fail CRATE` tries the edits one by one.
 
 A line follows for each crate. It counts the edits that were refused since a goal stays open, and those refused for a name
 alone: there a proof file names what the edit took away, and nothing was shown of the contract. Such an edit counts as
 failed. The last line is `N passed, M failed`, of edits.
 """
 import argparse
+import collections
 import concurrent.futures
+import contextlib
+import io
 import os
 import re
 import shutil
@@ -24,10 +31,21 @@ import sys
 import tempfile
 import time
 
+import build
+
 ROOT = os.path.dirname(os.path.dirname(os.path.realpath(__file__)))
 EDITS = f"{ROOT}/checks/edits"
 TRIED = re.compile(r"^(?:rt: )?must-fail (\w+)/([\w.-]+)\.edit: (refused|BAD EDIT|NOT REFUSED|NOT TRIED).*", re.M)
 BY_NAME = "only because a proof file names"
+PARTS = ("src", "specs", "proofs")
+FUNCTION = re.compile(r"^( *)(?:pub(?:\(\w+\))? )?(?:const |unsafe )*fn (\w+)")
+IMPL = re.compile(r"^impl(?:<[^{]*?>)? (\w+)(?:<[^{]*>)? \{")
+TOLD = re.compile(r"^(?P<note>note: )?(?:\./)?(?P<path>(?:src|proofs)/\S+?):(?P<line>\d+):\d+: ?(?P<said>.*)$")
+# What the prover says of a proof file that names what an edit took away.
+NAMES = re.compile(r"has no field|is not in scope|has no `|was not admitted")
+
+# An edit: its name, its file, the line that it changes, the function that the line is in, and the file's new text.
+Edit = collections.namedtuple("Edit", "name file old new function")
 
 
 def copy(to):
@@ -42,56 +60,178 @@ def copy(to):
             shutil.copytree(f"{ROOT}/crates/{crate}/out/rlib", f"{to}/crates/{crate}/out/rlib")
 
 
-def put(crate, to):
-    """Puts a crate's edits in the place of those that the gate tries, and returns their names."""
+def put(crate, names, to):
+    """Puts these edits of a crate in the place of those that the gate tries."""
     folder = f"{to}/crates/{crate}/must-fail"
     shutil.rmtree(folder, ignore_errors=True)
-    shutil.copytree(f"{EDITS}/{crate}", folder)
-    return {(crate, name.removesuffix(".edit")) for name in os.listdir(folder)}
+    os.makedirs(folder)
+    for name in names:
+        shutil.copy2(f"{EDITS}/{crate}/{name}.edit", folder)
 
 
-def tried(crate, to):
-    """Tries a crate's edits, prints the prover's line on each, and returns the result of each and the seconds."""
-    since = time.time()
+def names_of(crate):
+    """Returns the names of a crate's edits."""
+    return sorted(it.removesuffix(".edit") for it in os.listdir(f"{EDITS}/{crate}"))
+
+
+def module_of(file):
+    """Returns the path of a source file's module below its crate, as a list of names."""
+    names = file.removeprefix("src/").removesuffix(".rt").split("/")
+    return [it for it in names if it not in ("lib", "main", "mod")]
+
+
+def functions_in(file, text):
+    """Yields the functions of a source file: each path below the crate, with the first and the last of its lines."""
+    lines, owner, begun = text.split("\n"), [], None
+    for at, line in enumerate(lines, 1):
+        if line and line[0] not in " }":
+            found = IMPL.match(line)
+            # (the prover's names of functions in an impl of a trait, or in a trait, aren't guessed)
+            owner = [found[1]] if found else [""] if line.startswith(("impl", "trait", "pub trait")) else []
+        found = FUNCTION.match(line)
+        if found and begun is None and len(found[1]) == (4 if owner else 0):
+            begun = at, found[1], "::".join([*module_of(file), *owner, found[2]])
+        if begun and re.match(rf"{begun[1]}\}}|{begun[1]}\S.*\}}$", line) and not line.startswith(f"{begun[1]}{{"):
+            if "" not in owner:
+                yield begun[2], begun[0], at
+            begun = None
+
+
+def function_at(file, text, line):
+    """Returns the path of the function that a line is in, or none."""
+    return next((path for path, first, last in functions_in(file, text) if first <= line <= last), None)
+
+
+def read(crate, name):
+    """Returns an edit, or none if it changes more than one line or a line outside of functions."""
+    text = open(f"{EDITS}/{crate}/{name}.edit", encoding="utf-8").read()
+    found = re.fullmatch(r"#.*\nfile: *(\S+)\nold: ?(.*)\nnew: ?(.*)\n", text)
+    source = open(f"{ROOT}/crates/{crate}/{found[1]}", encoding="utf-8").read() if found else ""
+    if not found or source.count(found[2]) != 1:
+        return None
+    line = source[: source.index(found[2])].count("\n") + 1
+    function = function_at(found[1], source, line)
+    return Edit(name, found[1], found[2], found[3], function) if function else None
+
+
+def rounds(edits):
+    """Yields lists of these edits, no two of one function in a list."""
+    left = edits
+    while left:
+        first = list({it.function: it for it in left}.values())
+        yield first
+        left = [it for it in left if it not in first]
+
+
+def told_of(lines, edits, texts):
+    """Returns for each edit the first line that the prover says of its function, and the first that is about more than a name."""
+    said = collections.defaultdict(lambda: [None, None])
+    for match in filter(None, map(TOLD.match, lines)):
+        if not match["note"] and "error" not in match["said"]:
+            continue
+        path = match["path"]
+        if path.startswith("src/"):
+            function = function_at(path, texts(path), int(match["line"]))
+        else:
+            function = "::".join(path.removeprefix("proofs/").split("/")[:-1])
+        by_name = path.startswith("proofs/") and NAMES.search(match["said"])
+        for edit in edits:
+            if edit.function == function:
+                first, goal = said[edit.name]
+                said[edit.name] = [first or match[0], goal or (None if by_name else match[0])]
+    return said
+
+
+def together(rtlib, crate, edits):
+    """Makes edits of a crate in one copy and checks their functions. Returns what came of each, as far as the prover says it."""
+    with tempfile.TemporaryDirectory(prefix="sts-together-") as room:
+        for part in PARTS:
+            if os.path.isdir(f"{crate.folder}/{part}"):
+                shutil.copytree(f"{crate.folder}/{part}", f"{room}/{part}")
+        texts = lambda file: open(f"{room}/{file}", encoding="utf-8").read()
+        for edit in edits:
+            text = texts(edit.file)
+            with open(f"{room}/{edit.file}", "w", encoding="utf-8") as file:
+                file.write(text.replace(edit.old, edit.new))
+        only = [word for it in edits for word in ("--only", it.function)]
+        words = [*rtlib.guarded(), rtlib.RATTLE, "check", *crate.words(["--jobs", "1", *only], keeps=False)]
+        how = {"cwd": room, "stdin": subprocess.DEVNULL, "stdout": subprocess.PIPE, "stderr": subprocess.STDOUT}
+        ran = subprocess.run(words, text=True, errors="replace", **how)
+        lines = ran.stdout.splitlines()
+        if any(re.search(r"\berror\[[\w-]+\]", it) for it in lines) or not re.match(r"only=\d+ proved=\d+", lines[-1] if lines else ""):
+            return {}
+        said, found = told_of(lines, edits, texts), {}
+        for edit in edits:
+            first, goal = said[edit.name]
+            if first:
+                found[edit.name] = "refused" if goal else "by a name"
+                print(f"{crate.name}/{edit.name}: {found[edit.name]}: {(goal or first)[:160]}", flush=True)
+        return found
+
+
+def one_by_one(crate, names, to):
+    """Tries edits of a crate by `rt must-fail`, prints the prover's line on each, and returns what came of each."""
+    put(crate, names, to)
     how = {"cwd": to, "stdin": subprocess.DEVNULL, "stdout": subprocess.PIPE, "stderr": subprocess.STDOUT}
     said = subprocess.run(["rt", "must-fail", crate], text=True, errors="replace", **how).stdout
-    found = {(it[1], it[2]): "by a name" if BY_NAME in it[0] else it[3] for it in TRIED.finditer(said)}
     lines = [match[0] for match in TRIED.finditer(said)] or said.splitlines()[-5:]
     print("\n".join(lines), flush=True)
+    return {it[2]: "by a name" if BY_NAME in it[0] else it[3] for it in TRIED.finditer(said)}
+
+
+def tried(rtlib, crate, to):
+    """Tries a crate's edits, and returns the result of each and the seconds."""
+    since, found = time.time(), {}
+    if rtlib:
+        for edits in rounds([it for it in (read(crate.name, name) for name in names_of(crate.name)) if it]):
+            found.update(together(rtlib, crate, edits))
+    left = [it for it in names_of(crate.name) if it not in found]
+    if left:
+        found.update(one_by_one(crate.name, left, to))
     return found, time.time() - since
+
+
+def build_below(rtlib, crates, jobs):
+    """Builds the libraries that these crates need, and returns whether all were built."""
+    needed = {below.name: below for it in crates for below in it.below()}
+    with contextlib.redirect_stdout(io.StringIO()):
+        return build.prove_all(rtlib, sorted(needed.values(), key=lambda it: len(it.below())), jobs)
 
 
 def options(known):
     reads = argparse.ArgumentParser(description="Tries the edits of checks/edits/: the prover has to refuse each.")
     reads.add_argument("--jobs", type=int, default=len(os.sched_getaffinity(0)), help="how many crates side by side")
+    reads.add_argument("--alone", action="store_true", help="tries each edit by itself")
     reads.add_argument("crates", nargs="*", metavar="CRATE", help="the crates that have their edits tried (all)")
-    read = reads.parse_args()
-    unknown = [it for it in read.crates if it not in known]
+    words = reads.parse_args()
+    unknown = [it for it in words.crates if it not in known]
     if unknown:
         reads.error(f"checks/edits/ has no folder {unknown[0]}")
-    return read.jobs, read.crates or known
+    # (those with the most edits first, so that none of them is left at the end, alone)
+    return words, sorted(words.crates or known, key=lambda it: -len(names_of(it)))
 
 
 def main():
-    jobs, crates = options(sorted(os.listdir(EDITS)))
-    with tempfile.TemporaryDirectory(prefix="sts-edits-") as to, concurrent.futures.ThreadPoolExecutor(jobs) as pool:
+    words, names = options(sorted(os.listdir(EDITS)))
+    with tempfile.TemporaryDirectory(prefix="sts-edits-") as to, concurrent.futures.ThreadPoolExecutor(words.jobs) as pool:
         copy(to)
-        expected = set().union(*[put(it, to) for it in crates])
-        found, took = {}, {}
-        # (those with the most edits first, so that none of them is left at the end, alone)
-        crates.sort(key=lambda it: -len(os.listdir(f"{EDITS}/{it}")))
-        for crate, (results, seconds) in zip(crates, pool.map(lambda it: tried(it, to), crates)):
-            found.update(results)
-            took[crate] = seconds
-    for crate, name in sorted(expected - set(found)):
-        print(f"{crate}/{name}: nothing was said of this edit")
-    for crate in crates:
-        results = [found.get(it) for it in expected if it[0] == crate]
-        refused, by_name = results.count("refused"), results.count("by a name")
-        print(f"{crate}: {len(results)} edits, {refused} refused, {by_name} for a name alone, in {took[crate]:.0f} s")
-    passed = sum(found.get(it) == "refused" for it in expected)
-    print(f"{passed} passed, {len(expected) - passed} failed")
-    return passed < len(expected)
+        rtlib, known = build.kit(), {}
+        os.chdir(to)
+        crates = [rtlib.Crate(f"{to}/crates/{it}", to, known) for it in names]
+        if not build_below(rtlib, crates, words.jobs):
+            sys.exit("edits.py: a library that the crates need isn't proved")
+        results = list(pool.map(lambda it: tried(None if words.alone else rtlib, it, to), crates))
+    passed = failed = 0
+    for name, (found, seconds) in zip(names, results):
+        came = [found.get(it, "nothing was said of this edit") for it in names_of(name)]
+        for edit, it in zip(names_of(name), came):
+            if it != "refused":
+                print(f"{name}/{edit}: {it}")
+        refused, by_name = came.count("refused"), came.count("by a name")
+        print(f"{name}: {len(came)} edits, {refused} refused, {by_name} for a name alone, in {seconds:.0f} s")
+        passed, failed = passed + refused, failed + len(came) - refused
+    print(f"{passed} passed, {failed} failed")
+    return failed > 0
 
 
 if __name__ == "__main__":
