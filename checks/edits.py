@@ -44,6 +44,10 @@ TOLD = re.compile(r"^(?P<note>note: )?(?:\./)?(?P<path>(?:src|proofs)/\S+?):(?P<
 # What the prover says of a proof file that names what an edit took away.
 NAMES = re.compile(r"has no field|is not in scope|has no `|was not admitted")
 
+NO_NAME = re.compile(r"rattle: error: .*`([\w:]+)`: help: write the name")
+ENDED = re.compile(r"only=\d+ proved=\d+")
+ERROR = re.compile(r"\berror\[[\w-]+\]")
+
 # An edit: its name, its file, the line that it changes, the function that the line is in, and the file's new text.
 Edit = collections.namedtuple("Edit", "name file old new function")
 
@@ -81,7 +85,7 @@ def module_of(file):
 
 
 def functions_in(file, text):
-    """Yields the functions of a source file: each path below the crate, with the first and the last of its lines."""
+    """Yields the functions of a source file: the end of each name, as the prover has it, with the first and the last of its lines."""
     lines, owner, begun = text.split("\n"), [], None
     for at, line in enumerate(lines, 1):
         if line and line[0] not in " }":
@@ -90,7 +94,8 @@ def functions_in(file, text):
             owner = [found[1]] if found else [""] if line.startswith(("impl", "trait", "pub trait")) else []
         found = FUNCTION.match(line)
         if found and begun is None and len(found[1]) == (4 if owner else 0):
-            begun = at, found[1], "::".join([*module_of(file), *owner, found[2]])
+            # (an impl may be in another module than its type, so a method's name begins with the type)
+            begun = at, found[1], "::".join([*(owner or module_of(file)), found[2]])
         if begun and re.match(rf"{begun[1]}\}}|{begun[1]}\S.*\}}$", line) and not line.startswith(f"{begun[1]}{{"):
             if "" not in owner:
                 yield begun[2], begun[0], at
@@ -98,8 +103,8 @@ def functions_in(file, text):
 
 
 def function_at(file, text, line):
-    """Returns the path of the function that a line is in, or none."""
-    return next((path for path, first, last in functions_in(file, text) if first <= line <= last), None)
+    """Returns the name of the function that a line is in, or none."""
+    return next((name for name, first, last in functions_in(file, text) if first <= line <= last), None)
 
 
 def read(crate, name):
@@ -136,10 +141,18 @@ def told_of(lines, edits, texts):
             function = "::".join(path.removeprefix("proofs/").split("/")[:-1])
         by_name = path.startswith("proofs/") and NAMES.search(match["said"])
         for edit in edits:
-            if edit.function == function:
+            if f"::{function}".endswith(f"::{edit.function}"):
                 first, goal = said[edit.name]
                 said[edit.name] = [first or match[0], goal or (None if by_name else match[0])]
     return said
+
+
+def checked(rtlib, crate, room, edits):
+    """Checks the functions of these edits in a copy of the crate, and returns what the prover prints, as lines."""
+    only = [word for it in edits for word in ("--only", it.function)]
+    words = [*rtlib.guarded(), rtlib.RATTLE, "check", *crate.words(["--jobs", "1", *only], keeps=False)]
+    how = {"cwd": room, "stdin": subprocess.DEVNULL, "stdout": subprocess.PIPE, "stderr": subprocess.STDOUT}
+    return subprocess.run(words, text=True, errors="replace", **how).stdout.splitlines()
 
 
 def together(rtlib, crate, edits):
@@ -153,12 +166,13 @@ def together(rtlib, crate, edits):
             text = texts(edit.file)
             with open(f"{room}/{edit.file}", "w", encoding="utf-8") as file:
                 file.write(text.replace(edit.old, edit.new))
-        only = [word for it in edits for word in ("--only", it.function)]
-        words = [*rtlib.guarded(), rtlib.RATTLE, "check", *crate.words(["--jobs", "1", *only], keeps=False)]
-        how = {"cwd": room, "stdin": subprocess.DEVNULL, "stdout": subprocess.PIPE, "stderr": subprocess.STDOUT}
-        ran = subprocess.run(words, text=True, errors="replace", **how)
-        lines = ran.stdout.splitlines()
-        if any(re.search(r"\berror\[[\w-]+\]", it) for it in lines) or not re.match(r"only=\d+ proved=\d+", lines[-1] if lines else ""):
+        lines = checked(rtlib, crate, room, edits)
+        while edits and lines and (match := NO_NAME.search(lines[-1])):
+            # (a name that the prover has otherwise, or twice)
+            edits = [it for it in edits if it.function != match[1]]
+            lines = checked(rtlib, crate, room, edits) if edits else []
+        if not lines or not ENDED.match(lines[-1]) or any(ERROR.search(it) for it in lines):
+            print(f"{crate.name}: not tried together: {lines[-1][:160] if lines else 'no function was found'}", flush=True)
             return {}
         said, found = told_of(lines, edits, texts), {}
         for edit in edits:
