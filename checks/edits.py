@@ -3,7 +3,7 @@
 
     checks/edits.py [--jobs N] [--alone] [CRATE ..]
 
-An edit makes a body of a function wrong; its first line says how. The gate tries some sixty, which are in the crates' own
+An edit makes a body of a function wrong; its first line says how. The gate tries some fifty, which are in the crates' own
 folders `must-fail/`. The others are in checks/edits/CRATE/, since each costs a check of its crate.
 
 With no crate named, the edits of all crates are tried, N crates side by side (as many as there are processors, if no N is
@@ -48,7 +48,7 @@ NO_NAME = re.compile(r"rattle: error: .*`([\w:]+)`: help: write the name")
 ENDED = re.compile(r"only=\d+ proved=\d+")
 ERROR = re.compile(r"\berror\[[\w-]+\]")
 
-# An edit: its name, its file, the line that it changes, the function that the line is in, and the file's new text.
+# An edit: its name, its file, the text that it replaces, the new text, and the name of the function with that text.
 Edit = collections.namedtuple("Edit", "name file old new function")
 
 
