@@ -9,7 +9,7 @@ import os
 import subprocess
 import sys
 
-from build import ROOT, crates, needed
+from sources import ROOT, crates, needed
 
 
 def changed_since(revision, names):

@@ -363,7 +363,7 @@ def named_files():
             if anchor not in headings(target):
                 fail(f"{path} names {target}#{anchor}, which isn't there")
         links = [os.path.join(here, it) for it in re.findall(r"\]\(([^)#:]+)(?:#[^)]*)?\)", text)]
-        sources = re.findall(r"`((?:sts|laws|look|tests|bench)\w*/[\w/]+\.(?:rt|antt))`", text)
+        sources = re.findall(r"`((?:sts|laws|look|ends|tests|bench)\w*/[\w/]+\.(?:rt|antt))`", text)
         own = re.findall(r"`((?:src|specs|proofs|data)/[\w/]+(?:\.\w+)?)/?`", text) if here.startswith("crates/") else []
         for name in [*links, *(f"crates/{it}" for it in sources), *(f"{here}/{it}" for it in own)]:
             if not os.path.exists(f"{ROOT}/{name}"):

@@ -33,6 +33,7 @@ import all_ends  # noqa: E402
 import documents  # noqa: E402
 import drawn  # noqa: E402
 import stack_code  # noqa: E402
+from looks import place_words  # noqa: E402
 LOOK, STS = (os.path.join(ROOT, "crates", name, "out", name) for name in ("look", "sts"))
 MOST_STATES = 1500  # of a search in Python
 REFUSED = 4
@@ -45,25 +46,6 @@ QUESTIONS = ((True, 0), (False, 0), (True, 1))  # may scopes expire, and how man
 def says(*words):
     done = subprocess.run(words, stdin=subprocess.DEVNULL, capture_output=True, text=True, timeout=300)
     return done.returncode, done.stdout.splitlines()
-
-
-def instructions(source):
-    """Returns the number and the words of the line of each instruction of each function of a text, by the function's name."""
-    found, name = {}, ""
-    for number, line in enumerate(source.split("\n"), 1):
-        words = line.split(";")[0].split()
-        if words[:1] == ["func"]:
-            name = words[1]
-            found[name] = []
-        elif words and words[0] not in ("end", "profile") and not words[0].endswith(":"):
-            found[name].append((number, " ".join(words)))
-    return found
-
-
-def place_words(source, name, pc):
-    """Returns a place of a function by the lines of the text."""
-    lines = instructions(source)[name]
-    return f"{name}, line {lines[pc][0]}: {lines[pc][1]}" if pc < len(lines) else f"{name}, at its end"
 
 
 def by_line(source, end):
@@ -204,7 +186,7 @@ def texts(asked):
 
 def shown(asked):
     """Yields what docs/LOOK.md, docs/PATTERNS.md and docs/BEHAVIOUR.md show of the ends of programs, and whether it is so."""
-    rows = re.findall(r"^\| [^|]+ \| `look (ends [^`]+)` \| ((?:`[^`]+`(?:, )?)+) \|$", documents.read("docs/BEHAVIOUR.md"), re.M)
+    rows = re.findall(r"^\| [^|]+ \| `\./look (ends [^`]+)` \| ((?:`[^`]+`(?:, )?)+) \|$", documents.read("docs/BEHAVIOUR.md"), re.M)
     yield "docs/BEHAVIOUR.md, how many rows", len(rows) > 3
     for words, ends in rows:
         command, path, *more = words.split()
@@ -246,6 +228,8 @@ def rows():
 
 def wrong_rows(asked, look):
     """Returns how many questions ends.rows has, and what is wrong with what this `look` answers."""
+    if not os.path.exists(look):
+        return 1, ["there is no such program: `rt ci` builds it"]
     count, wrong = 0, []
     with tempfile.TemporaryDirectory() as folder:
         text = os.path.join(folder, "text")
@@ -259,6 +243,13 @@ def wrong_rows(asked, look):
             if status != 0 or sorted(found) != sorted(expected):
                 wrong.append(f"ends.rows, line {number}: status {status}, {printed}, and the ends are {expected}")
     return count, wrong
+
+
+def by_compilers(look):
+    """Returns the program, and the same program as Rattle's own compiler built it. Only `rt ci` builds the second one, so it may
+    be missing beside a program that isn't that of the gate."""
+    other = f"{look}.by-rattle"
+    return [look, other] if look == os.path.realpath(LOOK) or os.path.exists(other) else [look]
 
 
 def main():
@@ -280,7 +271,7 @@ def main():
             made, wrong, without = it.result()
             passed, failed, left_out = passed + made - len(wrong), failed + len(wrong), left_out + without
             print("".join(f"{line}\n" for line in wrong), end="")
-        for look in filter(os.path.exists, (asked.look, f"{asked.look}.by-rattle")):
+        for look in by_compilers(asked.look):
             made, wrong = wrong_rows(asked, look)
             passed, failed = passed + made - len(wrong), failed + len(wrong)
             print("".join(f"{look}: {line}\n" for line in wrong), end="")

@@ -6,7 +6,7 @@ by that commit's `./sts --unproved`. Both programs get the same words and files:
 - each row of crates/tests_rows/data, by each command that checks/rows.py asks;
 - each example: `verify`, `list`, `plain`, `replay`, `run` by one worker with its outside text, and the joined input;
 - cases that checks/differ.py draws: the same;
-- words that are mistaken or ask for help: the status, and that nothing is on standard output.
+- words that are mistaken or ask for help.
 By one worker both builds take the same steps unless the scheduler was changed. So a run that differs is only counted apart.
 Standard error is free. The last line is `N passed, M failed`, of calls.
 """
@@ -46,7 +46,7 @@ class Two:
             print(f"{what}: {words}: {old}, then {new}", file=sys.stderr)
 
     def runs_alike(self, words):
-        """Asks both for a run and its journal. What is printed is alike up to the budgets, or the same."""
+        """Asks both for a run and its journal, counts whether they say the same, and returns what they say."""
         answers = []
         for program in self.programs:
             answers.append((*self.said(program, [*words, "--trace", "journal"], b""), self.taken("journal")))

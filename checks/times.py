@@ -6,7 +6,6 @@ The figures are read off /proc twice a second, so a process that ends between tw
 """
 import collections
 import os
-import re
 import subprocess
 import sys
 import threading

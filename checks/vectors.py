@@ -6,7 +6,7 @@
 
 The tables are those of crates/tests_rows/data. A row becomes a case with a name, a text, a trace if it asks for a run,
 and what is expected. docs/IMPLEMENTERS.md has the form. A row has no case if it asks for a listing, or has its trace in
-the text, or if its text isn't UTF-8 or has more than 64 KiB.
+the text, or if its text isn't UTF-8, or if its text and trace have more than 64 KiB together.
 """
 import collections
 import glob

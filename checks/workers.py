@@ -2,25 +2,28 @@
 """Counts the threads of `run` on the built program, with a trace and with none.  usage: workers.py [PROGRAM]
 
 A program of 480,052 steps is run by 1, 3 and 16 workers. Meanwhile the process has a thread for each of them, and one
-that waits for them. The script may look too late, so it tries up to five runs. It ends a run that has shown the threads.
+that waits for them. The script looks at each run until it ends. It may look too late, so it tries up to five runs.
 The last line is `N passed, M failed`.
 """
 import os
 import subprocess
 import sys
 import tempfile
+import time
 
 ROOT = os.path.dirname(os.path.dirname(os.path.realpath(__file__)))
 PROGRAM = os.path.join(ROOT, "crates", "sts", "out", "sts")
 TEXT = "func main 0\npush 16\ntimes 16\npush 10000\ntimes 10000\ninterrupted\npop\nnext\nnext\npush 0\nret\nend\n"
 WAYS = {"no trace": [], "a trace": ["--trace", os.devnull]}
 RUNS = 5
+SECONDS = 60
 
 
-def most_threads(words, expected):
-    """Returns the most threads that a process has, until it has ended or has the expected number."""
+def most_threads(words):
+    """Returns the most threads that a process is seen to have until it ends, or until it has run too long."""
     most, process = 0, subprocess.Popen(words, stdin=subprocess.DEVNULL, stdout=subprocess.DEVNULL)
-    while process.poll() is None and most < expected:
+    end = time.monotonic() + SECONDS
+    while process.poll() is None and time.monotonic() < end:
         try:
             most = max(most, len(os.listdir(f"/proc/{process.pid}/task")))
         except OSError:
@@ -41,7 +44,7 @@ def main():
                 words = [program, "run", file, "--workers", str(workers), *way]
                 found = []
                 while len(found) < RUNS and max(found, default=0) < workers + 1:
-                    found.append(most_threads(words, workers + 1))
+                    found.append(most_threads(words))
                 is_right = max(found) == workers + 1
                 counts[not is_right] += 1
                 if not is_right:

@@ -1,7 +1,8 @@
 #!/usr/bin/env python3
 """Prints the trace that is written short.  usage: write_trace.py WORDS
 
-`0*5` means five lines `step 0`, `i0` means `interrupt 0` and `x0` means `expire 0`. Words are separated by blanks.
+`0*5` means five lines `step 0`, `1..3*2` means `1*2 2*2 3*2`, `i0` means `interrupt 0` and `x0` means `expire 0`. Words
+are separated by blanks.
 """
 import re
 import sys
@@ -11,9 +12,10 @@ LINES = {"i": "interrupt", "x": "expire"}
 
 def lines(word):
     """Returns the lines that a word means, or no lines if it is no such word."""
-    steps, other = re.fullmatch(r"(\d+)\*(\d+)", word), re.fullmatch(r"([ix])(\d+)", word)
+    steps, other = re.fullmatch(r"(\d+)(?:\.\.(\d+))?\*(\d+)", word), re.fullmatch(r"([ix])(\d+)", word)
     if steps:
-        return [f"step {steps[1]}"] * int(steps[2])
+        tasks = range(int(steps[1]), int(steps[2] or steps[1]) + 1)
+        return [f"step {task}" for task in tasks for _ in range(int(steps[3]))]
     return [f"{LINES[other[1]]} {other[2]}"] if other else None
 
 
@@ -22,7 +24,7 @@ def trace(words):
     found = {word: lines(word) for word in words.split()}
     wrong = [word for word, it in found.items() if it is None]
     if wrong:
-        sys.exit(f"checks/write_trace.py: {wrong[0]!r} is neither like 0*5 nor like i0 or x0")
+        sys.exit(f"checks/write_trace.py: {wrong[0]!r} is none of the words 0*5, 1..3*2, i0 and x0, with other numbers")
     return "".join(f"{line}\n" for word in words.split() for line in found[word])
 
 

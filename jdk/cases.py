@@ -3,7 +3,6 @@ misuse, and journals of `sts run`."""
 import glob
 import os
 import random
-import subprocess
 import tempfile
 from concurrent.futures import ThreadPoolExecutor
 
@@ -11,7 +10,6 @@ import differ
 import documents
 import drawn
 import rows
-import stack_code
 from player import Case
 
 ROOT = os.path.dirname(os.path.dirname(os.path.realpath(__file__)))

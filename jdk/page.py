@@ -51,11 +51,6 @@ def least(tally, names):
     return min(tally.rules[it] for it in names)
 
 
-def unmet(tally):
-    """Returns the rules that no case of the run came to."""
-    return [rule for rule, names in RULES if least(tally, names) == 0]
-
-
 def figures(jdk, tally, real, wrong, freely, ran, seconds):
     cases = sum(tally.kinds.values())
     yield f"{datetime.date.today()}, {jdk.vendor}, build {jdk.build}: {cases:,} cases of {tally.events:,} events in {seconds} seconds, no unknown difference."
