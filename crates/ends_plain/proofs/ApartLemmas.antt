@@ -21,15 +21,6 @@ use Rattle.sts_model.specs.Environment.{environment_of, own_bindings}
 use Rattle.sts_model.specs.Standing.{standing_tasks, is_standing_task, stands_in}
 use Rattle.sts_model.specs.Effect.{tally, is_of, cleared}
 
--- a living task was born
-pub alive_born : (w : World) (t : ℕ) → lives (task_at w t) ≡ true → t < length w.tasks
-alive_born w t alive = by w.tasks t alive
-  where
-    by : (xs : List Task) (u : ℕ) → lives (get_or xs u no_task) ≡ true → u < length xs
-    by [] u e = cc
-    by (x ∷ xs) zero e = omega arith
-    by (x ∷ xs) (suc u) e = let h = by xs u e in omega (arith, h)
-
 -- ---- lists of tasks
 
 -- the tasks with this frame in place of one task's

@@ -19,7 +19,7 @@ use Rattle.laws_names.proofs.NameLemmas.{sum_same}
 use Rattle.laws_names.proofs.AlikeLemmas.{part_alive}
 use Rattle.ends_plain.specs.Configs.{is_step_of}
 use Rattle.ends_plain.specs.Own.{has_own_step}
-use Rattle.ends_plain.proofs.ApartLemmas.{alive_born}
+use Rattle.laws_runs.proofs.BirthLemmas.{born_alive}
 use Rattle.ends_plain.proofs.FuelLemmas.{frame_fuel, frame_fuel_named}
 use Rattle.ends_plain.proofs.OwnLemmas.{OwnStep, own_step, goes_on, IsRun, run_on, Swaps, swaps}
 
@@ -127,7 +127,7 @@ fuel_less p w t o =
     let g = goes_on p w t in
     let y : Task = record (task_at w t) { frame = g } in
     let q : Task → ℕ = λ (x : Task). task_fuel p (live_part x) in
-    let total : sum_by q (set w.tasks t y) + q (get_or w.tasks t no_task) ≡ sum_by q w.tasks + q y = sum_by-set q w.tasks t y no_task (alive_born w t o.alive) in
+    let total : sum_by q (set w.tasks t y) + q (get_or w.tasks t no_task) ≡ sum_by q w.tasks + q y = sum_by-set q w.tasks t y no_task (born_alive w t o.alive) in
     let before : q (task_at w t) ≡ task_fuel p (task_at w t) = ap (task_fuel p) (part_alive (task_at w t) o.alive) in
     let after : q y ≡ task_fuel p y = ap (task_fuel p) (part_alive y o.alive) in
     let same : frame_fuel (code p g) g ≡ frame_fuel (code p f) g = ap (λ (n : ℕ). frame_fuel (routine p n).code g) o.function in

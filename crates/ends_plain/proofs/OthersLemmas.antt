@@ -41,7 +41,8 @@ use Rattle.sts_model.specs.Outside.{interrupt, can_expire, expire}
 use Rattle.sts_model.specs.Run.{apply, step, stepped, perform}
 use Rattle.ends_plain.proofs.ApartLemmas.{task_apart, value_apart, scope_of_apart, sub_state_apart, any_lives_apart, subtask_count_apart}
 use Rattle.ends_plain.proofs.ApartLemmas.{standing_tasks_apart, tasks_born_apart, environment_apart, tally_apart, cleared_apart}
-use Rattle.ends_plain.proofs.ApartLemmas.{with_task_apart, flag_apart, more_apart, cancel_apart, alive_born}
+use Rattle.ends_plain.proofs.ApartLemmas.{with_task_apart, flag_apart, more_apart, cancel_apart}
+use Rattle.laws_runs.proofs.BirthLemmas.{born_alive}
 
 -- the second world with this frame in place of the task's, which lives there, is the first
 pub record Apart (t : ℕ) (g : Frame) (v w : World) : Type 0 where
@@ -121,7 +122,7 @@ apart-fork : (p : Program) (w : World) (t : ℕ) (g : Frame) (u : ℕ) (f : Fram
 unfolding fork_task
 apart-fork p w t g u f s n h apart alive =
     let x = subtask_of p w f s n in
-    let born = alive_born w t alive in
+    let born = born_alive w t alive in
     let more : World = record w { tasks = w.tasks ++ x ∷ [] } in
     apart-is t g (fork_task p (with_frame w t g) u f s n h) (with_frame (with_frame more t g) u (forked f (routine p n).args h (length w.tasks))) (fork_task p w u f s n h)
     (ap (λ (k : ℕ). with_frame (record (with_frame w t g) { tasks = (with_frame w t g).tasks ++ x ∷ [] }) u (forked f (routine p n).args h k)) (tasks_born_apart w t g)

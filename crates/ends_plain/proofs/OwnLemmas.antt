@@ -34,7 +34,7 @@ use Rattle.laws_runs.proofs.RunLemmas.{after-append}
 use Rattle.laws_runs.proofs.SoundLemmas.{Sound}
 use Rattle.laws_runs.proofs.StayLemmas.{nothing_is_lost}
 use Rattle.ends_plain.specs.Own.{is_own, is_own_at, has_own_step}
-use Rattle.ends_plain.proofs.ApartLemmas.{alive_born}
+use Rattle.laws_runs.proofs.BirthLemmas.{born_alive}
 use Rattle.ends_plain.proofs.FuelLemmas.{after_own, frame_fuel, own_less}
 use Rattle.ends_plain.proofs.OthersLemmas.{Beside, event_beside}
 
@@ -191,7 +191,7 @@ same_values : (w v : World) (t : ℕ) → Sound w → KeepsBorn w v → lives (t
 same_values w v t sound kept alive frame =
     let own = own_bindings (task_at w t) in
     ap (λ (g : Frame). filter_map bound_of g.entries ++ (parent v (task_at v t).scope).environment) frame
-    ∙ ap (λ (o : Option ℕ). own ++ (parent v o).environment) (kept.task t (alive_born w t alive)).scope
+    ∙ ap (λ (o : Option ℕ). own ++ (parent v o).environment) (kept.task t (born_alive w t alive)).scope
     ∙ ap (λ (bs : List Bound). own ++ bs) (kept_values w v t sound kept (task_at w t).scope refl)
 
 -- ---- and comes before or after any other event
@@ -218,7 +218,7 @@ swaps_to p w t e run own (Running v) is kept h =
     let here = own_step p w t own in
     let f = (task_at w t).frame in
     let again : Running v ≡ Running (with_frame v t f) = sym is ∙ ap (λ (x : World). apply p (Running x) e) (sym (same_frame w t)) ∙ kept.0 in
-    let frame : (task_at v t).frame ≡ f = ap (frame_of t) again ∙ ap (λ (x : Task). x.frame) (get_or-set_same v.tasks t (record (task_at v t) { frame = f }) no_task (alive_born v t kept.1)) in
+    let frame : (task_at v t).frame ≡ f = ap (frame_of t) again ∙ ap (λ (x : Task). x.frame) (get_or-set_same v.tasks t (record (task_at v t) { frame = f }) no_task (born_alive v t kept.1)) in
     let values = same_values w v t (run_right p w run).sound (run_keeps p w v e run is) here.alive frame in
     let still = still_own p w v t own kept.1 frame values in
     let there = own_step p v t still in

@@ -1,5 +1,5 @@
 -- The ends of a program over all schedules. Each listed end is one. If the answer says that the
--- list is whole, every end is listed.
+-- list is whole, every end is listed (this project's own).
 use Rattle.std.specs.Prelude.{◌≡◌, ℕ, ◌≤◌, List, Bool, true, false, count_by}
 use Rattle.std.specs.List.{Contains}
 use Rattle.sts_code.specs.Program.{Program}

@@ -1,5 +1,5 @@
--- Own steps: no other task and no outside event can notice when they come (this project's own). While
--- a task can take one, the search goes on with that step alone.
+-- Own steps: no other task and no outside event can notice when they come (this project's own).
+-- While a task can take one, the search goes on with that step alone.
 use Rattle.std.specs.Prelude.{ℕ, length, Bool, true, false, Option, Some, None}
 use Rattle.std.specs.Prelude.{nat_lt, is_none, find, ◌&&◌}
 use Rattle.std.specs.List.{range_with_len}
@@ -13,8 +13,8 @@ use Rattle.sts_model.specs.Local.{is_local}
 use Rattle.sts_model.specs.Living.{lives}
 use Rattle.sts_model.specs.Misuse.{misuse}
 
--- does the instruction change the task's frame alone, and read besides only the scoped values? A jump
--- back is left out, since a task could take it for ever
+-- does the instruction change the task's frame alone, and read besides only the scoped values? A
+-- jump back is left out, since a task could take it for ever
 abbrev pub is_own : Frame → Instr → Bool
 is_own f (Div to) = nat_lt f.pc to
 is_own f (Jmp to) = nat_lt f.pc to

@@ -1,5 +1,6 @@
 -- The states that a search of a machine finds. `next` is the effect of an event on a state, and
--- `can` says whether the event can come there. The search keeps one of two states that are `alike`.
+-- `can` says whether the event can come there. The search keeps one of two states that are `alike`
+-- (this project's own).
 use Rattle.std.specs.Prelude.{◌≡◌, ℕ, ◌<◌, ◌≤◌, ◌⊎◌, List, [], ◌∷◌, ◌++◌, fold, length}
 use Rattle.std.specs.Prelude.{slice_index_or}
 use Rattle.std.specs.Prelude.{Bool, true, drop, Option, Some, None}

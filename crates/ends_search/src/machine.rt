@@ -20,8 +20,10 @@ pub trait StateMachine: Drop {
 
     /// The events that can come.
     fn events(&self, alloc: Global, setting: &Self::Setting) -> Result<Vec<Event>, AllocError>
-        ensures all { IfOk result (λ es. (e : Event) → can setting.now self.now e ≡ true → Contains es.items e) }
-        ensures only { IfOk result (λ es. (e : Event) → Contains es.items e → can setting.now self.now e ≡ true) };
+        ensures all { IfOk result (λ es. (e : Event)
+            → can setting.now self.now e ≡ true → Contains es.items e) }
+        ensures only { IfOk result (λ es. (e : Event)
+            → Contains es.items e → can setting.now self.now e ≡ true) };
 
     /// Applies an event. After an `Err` the state isn't known.
     fn apply(

@@ -179,7 +179,8 @@ fn add<S: StateMachine>(
     ensures grows { OnOk result (Grows
         (states_of (S.next setting.now) space.old.first space.old.origins.items)
         (states_of (S.next setting.now) space.new.first space.new.origins.items)) }
-    ensures there { IfOk result (λ there. there ≡ true → Follows (S.next setting.now) (S.alike setting.now)
+    ensures there { IfOk result (λ there. there ≡ true
+        → Follows (S.next setting.now) (S.alike setting.now)
         (states_of (S.next setting.now) space.old.first space.old.origins.items)
         origin.parent origin.event
         (states_of (S.next setting.now) space.new.first space.new.origins.items)) }
@@ -301,8 +302,8 @@ pub fn advance<S: StateMachine>(
     space: Space<S>,
     count: usize,
 ) -> Result<Space<S>, AllocError>
-    requires { IsSpace (S.next setting.now) (S.can setting.now)
-        (S.alike setting.now) space.first space.origins.items space.closed space.kept.items space.marks.items }
+    requires { IsSpace (S.next setting.now) (S.can setting.now) (S.alike setting.now)
+        space.first space.origins.items space.closed space.kept.items space.marks.items }
     ensures first { IfOk result (λ r. r.first ≡ space.first) }
     ensures space { IfOk result (λ r. IsSpace (S.next setting.now) (S.can setting.now)
         (S.alike setting.now) r.first r.origins.items r.closed r.kept.items r.marks.items) }

@@ -24,7 +24,7 @@ use Rattle.sts_model.specs.Live.{Live, Alive, live, result_in}
 use Rattle.laws_runs.specs.Runs.{NeverFaults}
 use Rattle.laws_runs.specs.Runs.{In, Ever, Leads}
 use Rattle.std.proofs.lemmas.Bool.{and_parts}
-use Rattle.laws_runs.proofs.RunLemmas.{after-append}
+use Rattle.laws_runs.proofs.RunLemmas.{taken_one_more, after-append}
 use Rattle.laws_runs.proofs.EventLemmas.{Also, main, also-kept}
 use Rattle.laws_live.specs.Reading.{alive_at}
 use Rattle.laws_live.specs.Waiting.{live_can_step}
@@ -147,10 +147,6 @@ event_is_seen = ever _ (λ p w o e. event_is p w e (apply p (Running w) e) (foll
 
 -- ---- whole runs
 
-taken_more : (p : Program) (state : State) (events : List Event) (e : Event) → taken_from p state (events ++ e ∷ []) ≡ taken_from p state events + steps_in p (fold (apply p) state events) e
-taken_more p state [] e = omega arith
-taken_more p state (x ∷ xs) e = let h = taken_more p (apply p state x) xs e in omega (arith, h)
-
 live_taken_more : (p : Program) (v : Live) (events : List Event) (e : Event) → live_taken_from p v (events ++ e ∷ []) ≡ live_taken_from p v events + live_steps_in p (fold (live_apply p) v events) e
 live_taken_more p v [] e = omega arith
 live_taken_more p v (x ∷ xs) e = let h = live_taken_more p (live_apply p v x) xs e in omega (arith, h)
@@ -171,7 +167,7 @@ one_more p events e h =
         let more : live_after p (events ++ e ∷ []) ≡ live_apply p (live_after p events) e = fold-append (live_apply p) (live_opening p) events (e ∷ []) in
         let old = h.steps in
         let one : steps_in p (after p events) e ≡ live_steps_in p (live_after p events) e = ap (λ s. steps_in p s e) is ∙ follows-steps p w v e k ∙ ap (λ (a : Live). live_steps_in p a e) h.view in
-        let a = taken_more p (opening p) events e in
+        let a = taken_one_more p (opening p) events e in
         let b = live_taken_more p (live_opening p) events e in
         record {
           view = k.view ∙ ap (λ (a : Live). live_apply p a e) h.view ∙ sym more;
@@ -213,7 +209,7 @@ turn p events v n e h x runs =
     let next : apply p (Running h.world) e ≡ Running x = ap (λ s. apply p s e) (sym h.runs) ∙ sym (after-append p events (e ∷ [])) ∙ runs in
     let k : Follows p h.world e x = subst (In (Follows p h.world e)) next (follows p h.world e o) in
     let view : live x ≡ live_apply p v e = k.view ∙ ap (λ (a : Live). live_apply p a e) h.view in
-    let more = taken_more p (opening p) events e in
+    let more = taken_one_more p (opening p) events e in
     let one : steps_in p (after p events) e ≡ live_steps_in p v e = ap (λ s. steps_in p s e) h.runs ∙ follows-steps p h.world x e k ∙ ap (λ (a : Live). live_steps_in p a e) h.view in
     let before = h.steps in
     record {

@@ -7,6 +7,7 @@ use Rattle.sts_code.specs.declared.instr.Instr.{Instr}
 use Rattle.sts_code.specs.declared.instr.Instr.TheVariants.{Open, Fork, Join, Close, Get, Except}
 use Rattle.sts_code.specs.declared.instr.Instr.TheVariants.{Tally, Total, Bind, Unbind, Read, Ret}
 use Rattle.sts_code.specs.declared.instr.Instr.TheVariants.{Fail}
+use Rattle.sts_code.specs.declared.limits.TheConstants.{MAX_ENTRIES, MAX_OPERANDS}
 use Rattle.sts_code.specs.declared.profile.Profile.{Profile}
 use Rattle.sts_model.specs.declared.event.Event.{Event}
 use Rattle.sts_model.specs.declared.record.Slot.{Slot}
@@ -44,7 +45,7 @@ live_at_sub v _ test = false
 -- a `join` with no room for the answer, or with targets that don't fit the scope
 abbrev pub live_joins_wrongly : Frame → Option ℕ → Option ℕ → LiveScope → Bool
 live_joins_wrongly f failed timeout scope =
-    (nat_le 32 (length f.operands) && not (is_await_all scope.joiner))
+    (nat_le MAX_OPERANDS (length f.operands) && not (is_await_all scope.joiner))
     || not (same (is_some failed) (can_fail scope.joiner))
     || not (same (is_some timeout) scope.timed)
 
@@ -56,8 +57,8 @@ live_misjoins v f _ = false
 -- no room for an entry, a scope or a task
 abbrev pub live_has_no_room : Live → Frame → Instr → Bool
 live_has_no_room v f (Open s j timed) =
-    nat_le 16 (length f.entries) || is_crowded (count_by is_some v.scopes) (length v.scopes)
-live_has_no_room v f (Bind k) = nat_le 16 (length f.entries)
+    nat_le MAX_ENTRIES (length f.entries) || is_crowded (count_by is_some v.scopes) (length v.scopes)
+live_has_no_room v f (Bind k) = nat_le MAX_ENTRIES (length f.entries)
 live_has_no_room v f (Fork s g h) = is_crowded (count_by is_some v.tasks) (length v.tasks)
 live_has_no_room v f _ = false
 

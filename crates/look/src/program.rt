@@ -189,7 +189,8 @@ fn on_ends_text<S: Sinks, P: Progress, W: Write>(
     notes: &mut Notes,
 ) -> Result<u8, WriteFailed>
     ensures { IfOk result (λ s. (o : Output)
-        × def.IsPrinted ends.entry (def.Spares (S.same sinks.now) path.now ends.entry.kept) text.now o
+        × def.IsPrinted ends.entry (def.Spares (S.same sinks.now) path.now ends.entry.kept)
+            text.now o
         × Writes (W.contents out.old) (W.contents out.new) s o) }
 {
     match ends.kept {
@@ -290,8 +291,8 @@ fn on_line<S: Sources + Sinks, P: Progress, W: Write>(
 /// Does what a command line asks for, and returns the status. The first word is the program's name.
 ///
 /// The status is 0 if the text is accepted, the root succeeded, or help or the version was asked
-/// for. It is 1 if the root failed, 2 for usage, 3 for a fault of a text, 4 for a refusal, and 5 if the run faulted
-/// or goes on. It is 6 if memory, a file or a stream failed.
+/// for. It is 1 if the root failed, 2 for usage, 3 for a fault of a text, 4 for a refusal, and 5 if
+/// the run faulted or goes on. It is 6 if memory, a file or a stream failed.
 ///
 /// Usage faults are written to `err`, everything else to `out`. `notes` gets the lines that say why
 /// a file, a text or its events failed; the function doesn't write them.

@@ -1,5 +1,5 @@
 -- The scopes in a column (this project's own).
-use Rattle.std.specs.Prelude.{ℕ, ◌+◌, Bool, not, ◌&&◌, ◌==◌, if◌then◌else◌, List, ◌∷◌, [], ◌++◌, codes}
+use Rattle.std.specs.Prelude.{ℕ, ◌+◌, Bool, true, false, not, ◌&&◌, if◌then◌else◌, List, ◌∷◌, [], ◌++◌, codes}
 use Rattle.std.specs.Fmt.{decimal}
 use Rattle.sts_model.specs.declared.event.Phase.{Phase}
 use Rattle.sts_model.specs.declared.event.Phase.TheVariants as phase
@@ -32,17 +32,19 @@ span before w x s =
     else (if is_closed (scope_at before s).phase then scope_number w x s
     else scope_mark (line_mark (scope_at w s).phase) w x s (phase_word (scope_at w s).phase))
 
-abbrev pub phase_number : Phase → ℕ
-phase_number phase.Opened = 0
-phase_number phase.Attempted = 1
-phase_number phase.Joined = 2
-phase_number phase.Closing = 3
-phase_number phase.Closed = 4
+-- the two phases are the same
+abbrev pub same_phase : Phase → Phase → Bool
+same_phase phase.Opened phase.Opened = true
+same_phase phase.Attempted phase.Attempted = true
+same_phase phase.Joined phase.Joined = true
+same_phase phase.Closing phase.Closing = true
+same_phase phase.Closed phase.Closed = true
+same_phase a b = false
 
 -- its phase is another one than in the column before
 abbrev pub has_moved : World → World → ℕ → Bool
 has_moved before w s =
-    not (phase_number (scope_at before s).phase == phase_number (scope_at w s).phase)
+    not (same_phase (scope_at before s).phase (scope_at w s).phase)
 
 -- its time was up since the column before
 abbrev pub has_expired : World → World → ℕ → Bool
@@ -72,4 +74,5 @@ scope_cell before w x s =
 -- the cells of these scopes, numbered from s on
 abbrev pub scope_cells : World → World → ℕ → List Scope → ℕ → List ℕ
 scope_cells before w x [] s = []
-scope_cells before w x (scope ∷ scopes) s = scope_cell before w x s ++ scope_cells before w x scopes (s + 1)
+scope_cells before w x (scope ∷ scopes) s =
+    scope_cell before w x s ++ scope_cells before w x scopes (s + 1)

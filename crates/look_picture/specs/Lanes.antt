@@ -39,8 +39,10 @@ told p w t = codes "task " ++ decimal t ++ stand_words p w t
 -- the value or the code that it ended with, next to the mark
 abbrev pub value_text : ℕ → ℕ → Option End → List ℕ
 value_text x t None = []
-value_text x t (Some (Success v)) = text_start (codes "value") (x + 22) (lane t + 4) ++ (signed_decimal v ++ text_end)
-value_text x t (Some (Failed c)) = text_start (codes "value") (x + 22) (lane t + 4) ++ (signed_decimal c ++ text_end)
+value_text x t (Some (Success v)) =
+    text_start (codes "value") (x + 22) (lane t + 4) ++ (signed_decimal v ++ text_end)
+value_text x t (Some (Failed c)) =
+    text_start (codes "value") (x + 22) (lane t + 4) ++ (signed_decimal c ++ text_end)
 
 abbrev pub life : Program → World → ℕ → ℕ → List ℕ
 life p w x t = mark_at (life_mark (can_step p w t)) x (lane t) (told p w t)
@@ -63,7 +65,8 @@ stand p before w x t =
 -- from one height to another
 abbrev pub fork_path : ℕ → ℕ → ℕ → List ℕ
 fork_path x from to =
-    codes "<path class='fork' d='M" ++ decimal x ++ codes " " ++ decimal from ++ codes "V" ++ decimal to ++ codes "'/>\n"
+    codes "<path class='fork' d='M" ++ decimal x ++ codes " " ++ decimal from
+    ++ codes "V" ++ decimal to ++ codes "'/>\n"
 
 -- from the lane of the task that forked it
 abbrev pub fork_line : World → ℕ → ℕ → Option ℕ → List ℕ
@@ -80,12 +83,14 @@ interrupted before w x t =
     then mark_at mark.Interrupted x (lane t) (codes "task " ++ decimal t ++ codes " interrupted") else []
 
 abbrev pub task_cell : Program → World → World → ℕ → ℕ → List ℕ
-task_cell p before w x t = birth before w x t ++ (stand p before w x t ++ interrupted before w x t)
+task_cell p before w x t =
+    birth before w x t ++ (stand p before w x t ++ interrupted before w x t)
 
 -- the cells of these tasks, numbered from t on
 abbrev pub task_cells : Program → World → World → ℕ → List Task → ℕ → List ℕ
 task_cells p before w x [] t = []
-task_cells p before w x (task ∷ tasks) t = task_cell p before w x t ++ task_cells p before w x tasks (t + 1)
+task_cells p before w x (task ∷ tasks) t =
+    task_cell p before w x t ++ task_cells p before w x tasks (t + 1)
 
 -- ---- the names
 

@@ -40,7 +40,8 @@ fault_mark m x t = mark_at mark.Fault x (lane t) (state_line m.program (shown m.
 
 -- the cells of a column; a fault is drawn alone, in its own column, and nothing is drawn after it
 abbrev pub standing : Watched → Watched → ℕ → Bool → PlainState → List ℕ
-standing before m x is_counted (plain.Fault kind t f pc) = if is_counted then fault_mark m x t else []
+standing before m x is_counted (plain.Fault kind t f pc) =
+    if is_counted then fault_mark m x t else []
 standing before m x is_counted _ = cells m.program before.last m.last x
 
 -- a step that counts, in its task's lane
@@ -141,7 +142,9 @@ backdrop m d =
 
 -- what the marks mean, from this height on
 abbrev pub legend_at : ℕ → List ℕ → List ℕ
-legend_at y legend = codes "<g transform='translate(12 " ++ decimal y ++ codes ")'>\n" ++ legend ++ codes "</g>\n</svg>\n"
+legend_at y legend =
+    codes "<g transform='translate(12 " ++ decimal y ++ codes ")'>\n" ++ legend
+    ++ codes "</g>\n</svg>\n"
 
 abbrev pub foot : ℕ → List ℕ
 foot tasks = legend_at (lane tasks) legend

@@ -27,8 +27,8 @@ is_before s (entry.Scope r) = nat_lt r s
 abbrev pub depth : World → ℕ → ℕ
 depth w s = count_by (is_open_of (scope_at w s).owner) (take s w.scopes)
 
--- the bracket of a scope of this task, by the number of the task's scopes that it is in. It is below
--- the task's lane, and lower if it is in another; from the third scope on all have the same height
+-- the bracket of a scope of this task, by the number of the task's scopes that it is in. It is
+-- below the task's lane, and lower if it is in another; from the third scope on all have the same height
 abbrev pub bracket_at : ℕ → ℕ → ℕ
 bracket_at owner depth = lane owner + 14 + 9 * min depth 2
 

@@ -8,8 +8,8 @@ use Rattle.look_picture.specs.Marks.{class, shape}
 -- a mark at a point, up to the words that describe it
 abbrev pub mark_start : Mark → ℕ → ℕ → List ℕ
 mark_start m x y =
-    codes "<path class='" ++ class m ++ codes "' d='M" ++ decimal x ++ codes " " ++ decimal y ++ shape m
-    ++ codes "'><title>"
+    codes "<path class='" ++ class m ++ codes "' d='M" ++ decimal x ++ codes " " ++ decimal y
+    ++ shape m ++ codes "'><title>"
 
 abbrev pub mark_end : List ℕ
 mark_end = codes "</title></path>\n"
@@ -21,7 +21,8 @@ mark_at m x y words = mark_start m x y ++ (words ++ mark_end)
 -- a text of a class begins at a point
 abbrev pub text_start : List ℕ → ℕ → ℕ → List ℕ
 text_start class x y =
-    codes "<text class='" ++ class ++ codes "' x='" ++ decimal x ++ codes "' y='" ++ decimal y ++ codes "'>"
+    codes "<text class='" ++ class ++ codes "' x='" ++ decimal x
+    ++ codes "' y='" ++ decimal y ++ codes "'>"
 
 abbrev pub text_end : List ℕ
 text_end = codes "</text>\n"

@@ -128,16 +128,10 @@ fn span(out: &mut String, change: Change<'_>, s: u32) -> Result<(), AllocError>
     mark_if(out, true, line_mark(phase), change, s, phase_word(phase))
 }
 
-fn phase_number(phase: Phase) -> u8
-    ensures { result ≡ def.phase_number phase }
+fn same_phase(before: Phase, now: Phase) -> bool
+    ensures { result ≡ def.same_phase before now }
 {
-    match phase {
-        Phase::Opened => 0,
-        Phase::Attempted => 1,
-        Phase::Joined => 2,
-        Phase::Closing => 3,
-        Phase::Closed => 4,
-    }
+    before == now
 }
 
 /// Is its phase another one than in the column before?
@@ -145,7 +139,7 @@ fn has_moved(change: Change<'_>, s: u32) -> bool
     ensures { result ≡ def.has_moved change.entry.before.now change.entry.world.now s }
 {
     let before = change.before.records().phase(s);
-    phase_number(before) != phase_number(change.world.records().phase(s))
+    !same_phase(before, change.world.records().phase(s))
 }
 
 /// Was its time up since the column before?

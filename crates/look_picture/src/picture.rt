@@ -148,7 +148,8 @@ fn event_column(
     stepped(out, column(at), applied)
 }
 
-/// Skips the first events, applies the others to two machines in order, and draws a column for each.
+/// Skips the first events, applies the others to two machines in order, and draws a column for
+/// each.
 fn event_columns(
     alloc: Global,
     out: &mut String,

@@ -12,8 +12,8 @@ use std::marker::Model;
 use sts_model::Phase;
 use sts_world::Records;
 
-/// Birth numbers, in order: those of the tasks that live and of the scopes that aren't closed. Those
-/// that were born since are added, until the next column.
+/// Birth numbers, in order: those of the tasks that live and of the scopes that aren't closed.
+/// Those that were born since are added, until the next column.
 #[derive(Drop)]
 pub struct Present {
     tasks: Vec<u32>,

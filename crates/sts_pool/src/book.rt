@@ -51,7 +51,8 @@ impl<'p> Model for Book<'p> {
 
     ghost view = { λ b. book_of b.machine (written b.journal) b.outside b.out.items };
 
-    ghost invariant = { λ b. IsKept b.machine b.journal b.outside b.out.items (vec_capacity b.out) };
+    ghost invariant = { λ b. IsKept b.machine b.journal b.outside
+        b.out.items (vec_capacity b.out) };
 }
 
 /// The book has taken the limit of outside events.
@@ -149,8 +150,10 @@ impl<'p> Book<'p> {
     /// Takes a step of a task that can step and isn't out, and records it. Otherwise does nothing.
     #[inline(always)]
     pub fn turn(&mut self, task: u32) -> Turned
-        ensures turned { OfJournal self.old (λ events. result ≡ turned (may_turn self.old events task)) }
-        ensures journal { result ≡ Turned.Stepped → Records self.old self.new (Event.Step task ∷ []) }
+        ensures turned { OfJournal self.old (λ events.
+            result ≡ turned (may_turn self.old events task)) }
+        ensures journal { result ≡ Turned.Stepped
+            → Records self.old self.new (Event.Step task ∷ []) }
         ensures idle { result ≡ Turned.Idle → self.new ≡ self.old }
         ensures program { self.new.program ≡ self.old.program }
         ensures out { self.new.out ≡ self.old.out }
@@ -167,8 +170,8 @@ impl<'p> Book<'p> {
         }
     }
 
-    /// Does local steps of a task that can step and isn't out, in place, until the limit or the first
-    /// other step. Records them, and answers how many. Of another task it does none.
+    /// Does local steps of a task that can step and isn't out, in place, until the limit or the
+    /// first other step. Records them, and answers how many. Of another task it does none.
     pub fn run_here(&mut self, task: u32, limit: u32) -> u32
         ensures most { result ≤ limit }
         ensures stops { is_free self.old task ≡ true → result < limit

@@ -14,11 +14,8 @@ use Rattle.sts_tree.proofs.BirthLemmas.{births_kept}
 use Rattle.sts_tree.proofs.HoldingLemmas.{map_at, inside_of}
 use Rattle.sts_tree.proofs.KeyLemmas.{not_has}
 use Rattle.sts_tree.proofs.ForkLemmas.{own_scope, one_scope, not_lives_of}
-use Rattle.sts_tree.proofs.StepLemmas.{at_set, at_more, one_of, no_more, past_none}
+use Rattle.sts_tree.proofs.StepLemmas.{same_living, at_set, at_more, one_of, no_more, past_none}
 use Rattle.sts_tree.specs.Steps.{is_over, can_go, can_step, unmarked, seen, stands_at, Owned, IsTree, with_task, with_scope}
-
-same_living : (s : ℕ) (x y : TaskNode) → y.scope ≡ x.scope → y.lives ≡ x.lives → lives_in s y ≡ lives_in s x
-same_living s x y e f = rw (e, f) refl
 
 lives_same : (tasks : List (Option TaskNode)) (t s : ℕ) (x y : TaskNode) → get_or tasks t None ≡ Some x → y.scope ≡ x.scope → y.lives ≡ x.lives → any_lives (set tasks t (Some y)) s ≡ any_lives tasks s
 lives_same tasks t s x y is scope lives = ap (λ l. is_some (first_or l None)) (births_kept (lives_in s) 0 tasks t x y is (same_living s x y scope lives))

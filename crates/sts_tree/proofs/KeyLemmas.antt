@@ -4,7 +4,7 @@ use Rattle.std.proofs.lemmas.Bool.Decides.{nat_tests}
 use Rattle.sts_links.specs.Lists.{NotIn, AreDistinct}
 use Rattle.sts_tree.specs.Births.{has, without}
 
-same_key : (k : ℕ) → nat_eq k k ≡ true
+pub same_key : (k : ℕ) → nat_eq k k ≡ true
 same_key k = grind (arith, nat_tests)
 
 other_key : (k x : ℕ) → k ≢ x → nat_eq k x ≡ false

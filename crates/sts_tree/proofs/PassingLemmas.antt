@@ -7,9 +7,7 @@ use Rattle.std.specs.Prelude.{if◌then◌else◌}
 use Rattle.sts_tree.specs.Births.{has}
 use Rattle.sts_links.specs.Lists.{AreDistinct, first_or}
 use Rattle.sts_links.proofs.KeyLemmas.{not_back}
-
-same_key : (k : ℕ) → nat_eq k k ≡ true
-same_key k = grind (arith, nat_tests)
+use Rattle.sts_tree.proofs.KeyLemmas.{same_key}
 
 -- is the task out?
 abbrev pub is_out : List ℕ → ℕ → Bool

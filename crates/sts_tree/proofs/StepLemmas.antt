@@ -33,7 +33,7 @@ moved at new tasks families ready keys room same i =
 same_of : (s : ℕ) (x y : TaskNode) → y.scope ≡ x.scope → is_of s y ≡ is_of s x
 same_of s x y e = ap (is_in s) e
 
-same_living : (s : ℕ) (x y : TaskNode) → y.scope ≡ x.scope → y.lives ≡ x.lives → lives_in s y ≡ lives_in s x
+pub same_living : (s : ℕ) (x y : TaskNode) → y.scope ≡ x.scope → y.lives ≡ x.lives → lives_in s y ≡ lives_in s x
 same_living s x y e f = rw (e, f) refl
 
 -- what is read after a task was written
