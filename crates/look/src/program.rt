@@ -189,8 +189,8 @@ fn on_ends_text<S: Sinks, P: Progress, W: Write>(
     notes: &mut Notes,
 ) -> Result<u8, WriteFailed>
     ensures { IfOk result (λ s. (o : Output)
-        × def.IsPrinted ends.entry (def.Spares (S.same sinks.now) path.now ends.entry.kept)
-            text.now o
+        × def.IsPrinted ends.entry
+        (def.Spares (S.same sinks.now) path.now ends.entry.kept) text.now o
         × Writes (W.contents out.old) (W.contents out.new) s o) }
 {
     match ends.kept {
