@@ -7,6 +7,7 @@ ghost use Rattle.sts_asm.specs.Line.{with_number, with_slot, with_target};
 ghost use Rattle.sts_asm.specs.Operand.{looked_up};
 ghost use Rattle.sts_asm.specs.declared.mnemonic.Mnemonic.TheVariants.{Plain};
 
+use crate::operand::is_word;
 use sts_code::Instr;
 
 /// Instructions without operands.
@@ -149,43 +150,43 @@ pub fn plain_word(word: &[u8]) -> Option<Operandless>
     ensures { option_map (λ form. Plain (without_operands form)) result ≡
         looked_up plain_words word.now }
 {
-    if word == b"pop".as_slice() {
+    if is_word(word, b"pop") {
         return Some(Operandless::Pop);
     }
-    if word == b"dup".as_slice() {
+    if is_word(word, b"dup") {
         return Some(Operandless::Dup);
     }
-    if word == b"swap".as_slice() {
+    if is_word(word, b"swap") {
         return Some(Operandless::Swap);
     }
-    if word == b"add".as_slice() {
+    if is_word(word, b"add") {
         return Some(Operandless::Add);
     }
-    if word == b"sub".as_slice() {
+    if is_word(word, b"sub") {
         return Some(Operandless::Sub);
     }
-    if word == b"mul".as_slice() {
+    if is_word(word, b"mul") {
         return Some(Operandless::Mul);
     }
-    if word == b"lt".as_slice() {
+    if is_word(word, b"lt") {
         return Some(Operandless::Lt);
     }
-    if word == b"eq".as_slice() {
+    if is_word(word, b"eq") {
         return Some(Operandless::Eq);
     }
-    if word == b"next".as_slice() {
+    if is_word(word, b"next") {
         return Some(Operandless::Next);
     }
-    if word == b"unbind".as_slice() {
+    if is_word(word, b"unbind") {
         return Some(Operandless::Unbind);
     }
-    if word == b"interrupted".as_slice() {
+    if is_word(word, b"interrupted") {
         return Some(Operandless::Interrupted);
     }
-    if word == b"ret".as_slice() {
+    if is_word(word, b"ret") {
         return Some(Operandless::Ret);
     }
-    if word == b"fail".as_slice() {
+    if is_word(word, b"fail") {
         return Some(Operandless::Fail);
     }
     None
@@ -194,22 +195,22 @@ pub fn plain_word(word: &[u8]) -> Option<Operandless>
 fn numbered_word(word: &[u8]) -> Option<Mnemonic>
     ensures { result ≡ looked_up numbered_words word.now }
 {
-    if word == b"load".as_slice() {
+    if is_word(word, b"load") {
         return Some(Mnemonic::WithNumber(Numbered::Load));
     }
-    if word == b"store".as_slice() {
+    if is_word(word, b"store") {
         return Some(Mnemonic::WithNumber(Numbered::Store));
     }
-    if word == b"bind".as_slice() {
+    if is_word(word, b"bind") {
         return Some(Mnemonic::WithNumber(Numbered::Bind));
     }
-    if word == b"read".as_slice() {
+    if is_word(word, b"read") {
         return Some(Mnemonic::WithNumber(Numbered::Read));
     }
-    if word == b"bound".as_slice() {
+    if is_word(word, b"bound") {
         return Some(Mnemonic::WithNumber(Numbered::Bound));
     }
-    if word == b"orelse".as_slice() {
+    if is_word(word, b"orelse") {
         return Some(Mnemonic::WithNumber(Numbered::OrElse));
     }
     None
@@ -218,22 +219,22 @@ fn numbered_word(word: &[u8]) -> Option<Mnemonic>
 fn slotted_word(word: &[u8]) -> Option<Mnemonic>
     ensures { result ≡ looked_up slotted_words word.now }
 {
-    if word == b"close".as_slice() {
+    if is_word(word, b"close") {
         return Some(Mnemonic::WithSlot(Slotted::Close));
     }
-    if word == b"cancelled".as_slice() {
+    if is_word(word, b"cancelled") {
         return Some(Mnemonic::WithSlot(Slotted::Cancelled));
     }
-    if word == b"get".as_slice() {
+    if is_word(word, b"get") {
         return Some(Mnemonic::WithSlot(Slotted::Get));
     }
-    if word == b"except".as_slice() {
+    if is_word(word, b"except") {
         return Some(Mnemonic::WithSlot(Slotted::Except));
     }
-    if word == b"total".as_slice() {
+    if is_word(word, b"total") {
         return Some(Mnemonic::WithSlot(Slotted::Total));
     }
-    if word == b"forget".as_slice() {
+    if is_word(word, b"forget") {
         return Some(Mnemonic::WithSlot(Slotted::Forget));
     }
     None
@@ -242,34 +243,34 @@ fn slotted_word(word: &[u8]) -> Option<Mnemonic>
 fn other_word(word: &[u8]) -> Option<Mnemonic>
     ensures { result ≡ looked_up other_words word.now }
 {
-    if word == b"push".as_slice() {
+    if is_word(word, b"push") {
         return Some(Mnemonic::Push);
     }
-    if word == b"jz".as_slice() {
+    if is_word(word, b"jz") {
         return Some(Mnemonic::WithTarget(Targeted::Jz));
     }
-    if word == b"jmp".as_slice() {
+    if is_word(word, b"jmp") {
         return Some(Mnemonic::WithTarget(Targeted::Jmp));
     }
-    if word == b"div".as_slice() {
+    if is_word(word, b"div") {
         return Some(Mnemonic::WithTarget(Targeted::Div));
     }
-    if word == b"times".as_slice() {
+    if is_word(word, b"times") {
         return Some(Mnemonic::Times);
     }
-    if word == b"open".as_slice() {
+    if is_word(word, b"open") {
         return Some(Mnemonic::Open);
     }
-    if word == b"fork".as_slice() {
+    if is_word(word, b"fork") {
         return Some(Mnemonic::Fork);
     }
-    if word == b"join".as_slice() {
+    if is_word(word, b"join") {
         return Some(Mnemonic::Join);
     }
-    if word == b"case".as_slice() {
+    if is_word(word, b"case") {
         return Some(Mnemonic::Case);
     }
-    if word == b"tally".as_slice() {
+    if is_word(word, b"tally") {
         return Some(Mnemonic::Tally);
     }
     None

@@ -2,6 +2,7 @@
 
 ghost use Rattle.std.specs.Prelude.{◌≡◌, ◌^◌, ◌-◌, ◌≤◌, option_map, IfOk, true};
 ghost use Rattle.std.specs.Option.{option_copied};
+ghost use Rattle.std.specs.Str.{bytes_eq};
 ghost use Rattle.sts_asm.specs.Fault.{Reads};
 ghost use Rattle.sts_asm.specs.Operand.{number_at, value_at, slot, slot_at, handle, handle_at};
 ghost use Rattle.sts_asm.specs.Operand.{name_at, target_at, function_at, maybe_target_at};
@@ -16,6 +17,14 @@ use crate::marks::{Names, function_in, label_in};
 use std::str;
 use sts_code::{Instr, Joiner, Kind, Pred, is_name};
 use sts_text::{Words, digits_up_to, number, number_up_to};
+
+/// Is the word spelled like this?
+#[inline(always)]
+pub fn is_word(word: &[u8], spelled: &[u8]) -> bool
+    ensures { result ≡ bytes_eq word.now spelled.now }
+{
+    word == spelled
+}
 
 /// A number from 0 to `most`.
 ///
@@ -92,7 +101,7 @@ pub fn slot_at(words: &mut Words<'_>) -> Result<u8, LineFault>
 pub fn handle(word: &[u8]) -> Option<Option<u8>>
     ensures { result ≡ handle word.now }
 {
-    if word == b"_".as_slice() {
+    if is_word(word, b"_") {
         return Some(None);
     }
     match slot(word) {
@@ -185,7 +194,7 @@ pub fn maybe_target_at(
     let Some(word) = words.word() else {
         return Err(LineFault(LineKind::BadOperands));
     };
-    if word == b"-".as_slice() {
+    if is_word(word, b"-") {
         return Ok(None);
     }
     if !is_name(word) {
@@ -224,11 +233,11 @@ fn until_at(words: &mut Words<'_>) -> Result<Joiner, LineFault>
     let Some(word) = words.word() else {
         return Err(LineFault(LineKind::BadOperands));
     };
-    if word == b"failed".as_slice() {
+    if is_word(word, b"failed") {
         until_failed_at(words)
-    } else if word == b"success".as_slice() {
+    } else if is_word(word, b"success") {
         until_success_at(words)
-    } else if word == b"atleast".as_slice() {
+    } else if is_word(word, b"atleast") {
         until_value_at(words)
     } else {
         Err(LineFault(LineKind::BadOperands))
@@ -239,13 +248,13 @@ fn until_at(words: &mut Words<'_>) -> Result<Joiner, LineFault>
 pub fn one_word_joiner(word: &[u8]) -> Option<Joiner>
     ensures { result ≡ looked_up joiners word.now }
 {
-    if word == b"all".as_slice() {
+    if is_word(word, b"all") {
         Some(Joiner::AllSucceed)
-    } else if word == b"any".as_slice() {
+    } else if is_word(word, b"any") {
         Some(Joiner::AnySucceeds)
-    } else if word == b"awaitok".as_slice() {
+    } else if is_word(word, b"awaitok") {
         Some(Joiner::AwaitOk)
-    } else if word == b"awaitall".as_slice() {
+    } else if is_word(word, b"awaitall") {
         Some(Joiner::AwaitAll)
     } else {
         None
@@ -263,7 +272,7 @@ pub fn joiner_at(words: &mut Words<'_>) -> Result<Joiner, LineFault>
     let Some(word) = words.word() else {
         return Err(LineFault(LineKind::BadOperands));
     };
-    if word == b"until".as_slice() {
+    if is_word(word, b"until") {
         return until_at(words);
     }
     one_word_joiner(word).ok_or(LineFault(LineKind::BadOperands))
@@ -280,7 +289,7 @@ pub fn timed_at(words: &mut Words<'_>) -> Result<bool, LineFault>
     let Some(word) = words.word() else {
         return Ok(false);
     };
-    if word == b"timed".as_slice() {
+    if is_word(word, b"timed") {
         Ok(true)
     } else {
         Err(LineFault(LineKind::BadOperands))
@@ -291,11 +300,11 @@ pub fn timed_at(words: &mut Words<'_>) -> Result<bool, LineFault>
 pub fn kind_counted(word: &[u8]) -> Option<Kind>
     ensures { result ≡ looked_up kinds_counted word.now }
 {
-    if word == b"S".as_slice() {
+    if is_word(word, b"S") {
         Some(Kind::S)
-    } else if word == b"F".as_slice() {
+    } else if is_word(word, b"F") {
         Some(Kind::F)
-    } else if word == b"U".as_slice() {
+    } else if is_word(word, b"U") {
         Some(Kind::U)
     } else {
         None

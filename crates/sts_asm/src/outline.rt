@@ -1,10 +1,10 @@
 //! The functions of a text with their labels and lines, before names are looked up.
 
 ghost use Rattle.std.specs.Prelude.{◌≡◌, ◌∷◌, ◌++◌, ◌+◌, ◌<◌, ◌≤◌, ◌^◌, [], length, option_map};
-ghost use Rattle.std.specs.Prelude.{is_some, None, OnOk, Ok, IsTrue, true};
+ghost use Rattle.std.specs.Prelude.{is_some, None, OnOk, IfOk, IfSome, MatchResult, Ok, IsTrue, true};
 ghost use Rattle.std.specs.List.{list_all, position, before_first};
 ghost use Rattle.sts_text.specs.Words.{words as words_in};
-ghost use Rattle.sts_asm.specs.Fault.{Steps};
+ghost use Rattle.sts_asm.specs.Fault.{Steps, Fails};
 ghost use Rattle.sts_asm.specs.Line.{instr_of};
 ghost use Rattle.sts_asm.specs.Operand.{finished};
 ghost use Rattle.sts_asm.specs.Outline as def;
@@ -15,7 +15,7 @@ ghost use Rattle.sts_asm.specs.Outline.{instructions};
 use crate::fault::{AsmKind, LineFault, LineKind};
 use crate::line::{operandless_of, with_operands};
 use crate::marks::Marks;
-use crate::operand::{byte_at, name_at, name_text};
+use crate::operand::{byte_at, is_word, name_at, name_text};
 use crate::plain::Known;
 use std::alloc::{AllocError, Global};
 use std::marker::Model;
@@ -57,27 +57,19 @@ impl<'a> Model for Lines<'a> {
 }
 
 impl<'a> Lines<'a> {
-    fn new(alloc: Global) -> Lines<'a>
-        ensures { result ≡ [] }
+    /// No line yet, and room for `count` lines.
+    fn with_room(alloc: Global, count: usize) -> Result<Lines<'a>, AllocError>
+        ensures { IfOk result (λ lines. lines ≡ []) }
     {
-        Lines {
-            sentences: Vec::new(alloc),
-            unnamed: Vec::new(alloc),
-        }
+        let sentences = Vec::with_capacity(alloc, count)?;
+        let unnamed = Vec::with_capacity(alloc, count)?;
+        Ok(Lines { sentences, unnamed })
     }
 
     fn len(&self) -> usize
         ensures { result ≡ length self.now }
     {
         self.sentences.len()
-    }
-
-    /// Takes room for `count` lines more.
-    fn reserve(&mut self, count: usize) -> Result<(), AllocError>
-        ensures { OnOk result (self.new ≡ self.old) }
-    {
-        self.sentences.reserve(count)?;
-        self.unnamed.reserve(count)
     }
 
     #[inline(always)]
@@ -176,25 +168,28 @@ fn needs_at(rest: &mut Words<'_>) -> Result<[bool; 16], LineFault>
     let Some(word) = rest.word() else {
         return Ok([false; 16]);
     };
-    if word == b"needs".as_slice() {
+    if is_word(word, b"needs") {
         keys_at(rest)
     } else {
         Err(LineFault(LineKind::BadOperands))
     }
 }
 
-fn header_at<'a>(alloc: Global, rest: &mut Words<'a>) -> Result<Draft<'a>, LineFault>
-    ensures { result ≡ def.header_at rest.old }
+/// A function without lines, and with room for `count` instructions.
+fn header_at<'a>(alloc: Global, count: usize, rest: &mut Words<'a>) -> Result<Draft<'a>, LineFault>
+    ensures { MatchResult result (λ draft. def.header_at rest.old ≡ Ok draft)
+        (λ kind. Fails kind (def.header_at rest.old)) }
 {
     let name = name_text(name_at(rest)?);
     let args = byte_at(rest)?;
     let needs = needs_at(rest)?;
+    let code = Lines::with_room(alloc, count)?;
     Ok(Draft {
         name,
         args,
         needs,
         labels: Marks::new(alloc),
-        code: Lines::new(alloc),
+        code,
     })
 }
 
@@ -377,12 +372,20 @@ impl<'a> Outline<'a> {
         if self.current.is_some() {
             return Err(LineFault(LineKind::Unclosed));
         }
-        let mut draft = header_at(self.alloc, rest)?;
-        draft.code.reserve(self.last_length())?;
-        let at = self.done.len() as u32;
-        self.functions.push(draft.name.as_bytes(), at)?;
-        self.current = Some(draft);
+        let draft = header_at(self.alloc, self.last_length(), rest)?;
+        self.open(draft)?;
         Ok(())
+    }
+
+    /// Opens a function, and adds its name.
+    fn open(&mut self, draft: Draft<'a>) -> Result<(), AllocError>
+        requires { length self.old.done < 2 ^ 32 }
+        ensures { OnOk result (self.new ≡ def.with_function self.old draft.entry) }
+    {
+        let name = draft.name.as_bytes();
+        let at = self.done.len() as u32;
+        self.current = Some(draft);
+        self.functions.push(name, at)
     }
 
     #[inline(never)]
@@ -390,11 +393,23 @@ impl<'a> Outline<'a> {
         ensures steps { Steps result self.new (def.ended self.old self.old.current rest.old) }
         ensures grows { OnOk result (size_of self.new ≤ size_of self.old + 1) }
     {
-        let Some(draft) = self.current.take() else {
+        if self.current.is_none() {
             return Err(LineFault(LineKind::UnknownWord));
-        };
+        }
         no_more(rest)?;
-        self.done.push(draft)?;
+        self.close()?;
+        Ok(())
+    }
+
+    /// Adds the open function to those that are ended.
+    fn close(&mut self) -> Result<(), AllocError>
+        ensures { OnOk result (IfSome self.old.current (λ draft. self.new ≡
+            record self.old { done = self.old.done ++ draft ∷ []; current = None })) }
+    {
+        self.done.reserve(1)?;
+        if let Some(draft) = self.current.take() {
+            self.done.push_reserved(draft);
+        }
         Ok(())
     }
 
@@ -428,13 +443,13 @@ impl<'a> Outline<'a> {
         let Some(word) = rest.word() else {
             return Ok(());
         };
-        if word == b"func".as_slice() {
+        if is_word(word, b"func") {
             return self.begin(&mut rest);
         }
-        if word == b"end".as_slice() {
+        if is_word(word, b"end") {
             return self.end(&mut rest);
         }
-        if at == 1 && word == b"profile".as_slice() {
+        if at == 1 && is_word(word, b"profile") {
             return self.profile(&mut rest);
         }
         self.inside(at, text, word, &mut rest)

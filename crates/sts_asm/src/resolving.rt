@@ -1,17 +1,18 @@
 //! Looks up the names of a text, and makes its functions a program.
 
 ghost use Rattle.std.specs.Prelude.{◌≡◌, Some};
+ghost use Rattle.sts_code.specs.Checks.{program_fault};
 ghost use Rattle.sts_text.specs.Words.{words as words_in};
 ghost use Rattle.sts_asm.specs.Fault.{Judges};
 ghost use Rattle.sts_asm.specs.Line.{has_names, instr_of};
-ghost use Rattle.sts_asm.specs.Text.{each, instr_at, routine_of, program_of};
+ghost use Rattle.sts_asm.specs.Text.{each, instr_at, routine_of, checked, program_of};
 
 use crate::fault::{AsmError, AsmKind, LineFault, LineKind};
 use crate::line::instr_of;
 use crate::marks::{Marks, Names};
 use crate::outline::{Draft, Lines, Outline, Sentence};
 use std::alloc::Global;
-use sts_code::{Function, Instr, Program};
+use sts_code::{Function, Instr, Profile, Program};
 use sts_text::Words;
 
 fn instr_in(text: &[u8], names: &Names<'_, '_>) -> Result<Instr, LineFault>
@@ -117,14 +118,29 @@ fn routines_of<'a>(
 pub fn program_of(alloc: Global, outline: Outline<'_>) -> Result<Program, AsmError>
     ensures { Judges (λ p. p) result (program_of outline.entry) }
 {
+    let profile = outline.profile;
+    let routines = all_routines(alloc, outline)?;
+    checked(profile, routines)
+}
+
+/// The functions of a text, the names in their lines looked up.
+fn all_routines(alloc: Global, outline: Outline<'_>) -> Result<Vec<Function>, AsmError>
+    ensures { Judges (λ fs. fs.items) result
+        (each (routine_of outline.entry.functions) outline.entry.done) }
+{
     let Outline {
-        profile,
         functions,
         done,
-        current: _,
-        alloc: _,
+        ..
     } = outline;
-    let routines = routines_of(alloc, &functions, done)?;
+    routines_of(alloc, &functions, done)
+}
+
+/// The program of these functions, or the program check that fails.
+fn checked(profile: Profile, routines: Vec<Function>) -> Result<Program, AsmError>
+    ensures { Judges (λ p. p) result
+        (checked profile routines.items (program_fault routines.items)) }
+{
     match Program::new_in(profile, routines) {
         Ok(program) => Ok(program),
         Err(error) => Err(AsmError {

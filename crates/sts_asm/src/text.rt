@@ -5,7 +5,8 @@ ghost use Rattle.std.specs.Prelude.{IfSome, IsTrue, MatchOption};
 ghost use Rattle.std.specs.List.{list_all};
 ghost use Rattle.sts_text.specs.Words.{lines};
 ghost use Rattle.sts_asm.specs.Fault.{Judges, StepsAt, at_line};
-ghost use Rattle.sts_asm.specs.Outline.{outline_of, line_read, size_of, is_plain, is_allowed};
+ghost use Rattle.sts_asm.specs.Outline.{empty, outline_of, line_read, size_of};
+ghost use Rattle.sts_asm.specs.Outline.{is_plain, is_allowed};
 ghost use Rattle.sts_asm.specs.Plain.{is_in};
 ghost use Rattle.sts_asm.specs.Text.{judged};
 
@@ -94,17 +95,17 @@ fn line_at<'a>(
     }
 }
 
-/// The functions of the text, before names are looked up.
+/// Reads the text into the outline before the first line.
 #[tactic(auto, using(crate::proofs::TextLemmas::reads))]
-pub(crate) fn outline_of<'a>(alloc: Global, text: &'a [u8]) -> Result<Outline<'a>, AsmError>
-    requires { length text.now ≤ 1048576 }
-    ensures { Judges (λ o. o) result (outline_of text.now) }
+fn read_text<'a>(outline: &mut Outline<'a>, text: &'a [u8]) -> Result<(), AsmError>
+    requires new { outline.old ≡ empty }
+    requires short { length text.now ≤ 1048576 }
+    ensures { StepsAt result outline.new (outline_of text.now) }
 {
-    let mut outline = Outline::new(alloc);
     let mut rest = text;
     let mut at: u32 = 1;
     while let Some((line, after, known)) = cut_line(rest) {
-        line_at(&mut outline, at, line, known)?;
+        line_at(outline, at, line, known)?;
         rest = after;
         at += 1;
     }
@@ -112,13 +113,23 @@ pub(crate) fn outline_of<'a>(alloc: Global, text: &'a [u8]) -> Result<Outline<'a
         plain: false,
         allowed: false,
     };
-    line_at(&mut outline, at, rest, unknown)?;
+    line_at(outline, at, rest, unknown)?;
     if outline.is_open() {
         return Err(AsmError {
             line: at,
             kind: AsmKind::Unclosed,
         });
     }
+    Ok(())
+}
+
+/// The functions of the text, before names are looked up.
+pub(crate) fn outline_of<'a>(alloc: Global, text: &'a [u8]) -> Result<Outline<'a>, AsmError>
+    requires { length text.now ≤ 1048576 }
+    ensures { Judges (λ o. o) result (outline_of text.now) }
+{
+    let mut outline = Outline::new(alloc);
+    read_text(&mut outline, text)?;
     Ok(outline)
 }
 

@@ -1,7 +1,7 @@
 use Rattle.std.proofs.Common.{◌≡◌, ◌+◌, ◌<◌, ◌≤◌, length}
 use Rattle.sts_text.specs.Words.{lines}
 use Rattle.sts_asm.specs.Outline.{empty, lines_read, size_of}
-use Rattle.sts_asm.proofs.text.outline_of.Given as goal
+use Rattle.sts_asm.proofs.text.read_text.Given as goal
 
 abbrev pub invariant-loop-line : goal.invariant-loop-line
 invariant-loop-line l = record {

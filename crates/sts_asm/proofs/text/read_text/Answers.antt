@@ -2,7 +2,7 @@ use Rattle.std.proofs.Common.{rules, [], ◌∙◌}
 use Rattle.std.proofs.lemmas.Result.{err_from_is_err_and}
 use Rattle.sts_text.specs.Words.{lines}
 use Rattle.sts_asm.proofs.TextLemmas.{outline_fails, outline_read, closed_open, closed_well}
-use Rattle.sts_asm.proofs.text.outline_of.Goals as goal
+use Rattle.sts_asm.proofs.text.read_text.Goals as goal
 
 pub returns-in_err-line_at : goal.returns-in_err-line_at
 returns-in_err-line_at c =
