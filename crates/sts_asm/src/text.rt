@@ -129,8 +129,7 @@ pub(crate) fn outline_of<'a>(alloc: Global, text: &'a [u8]) -> Result<Outline<'a
     ensures { Judges (λ o. o) result (outline_of text.now) }
 {
     let mut outline = Outline::new(alloc);
-    read_text(&mut outline, text)?;
-    Ok(outline)
+    read_text(&mut outline, text).and(Ok(outline))
 }
 
 /// The program that a text spells, or its first fault.
