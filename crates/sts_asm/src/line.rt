@@ -20,23 +20,15 @@ use crate::operand::{
 use sts_code::Instr;
 use sts_text::Words;
 
-fn numbered_at(
-    words: &mut Words<'_>,
-    names: Option<&Names<'_, '_>>,
-    form: Numbered,
-) -> Result<Instr, LineFault>
-    ensures { result ≡ operated (option_copied names.entry) (WithNumber form) words.old }
+fn numbered_at(words: &mut Words<'_>, form: Numbered) -> Result<Instr, LineFault>
+    ensures { result ≡ operated None (WithNumber form) words.old }
 {
     let x = byte_at(words)?;
     finished(words, form.with(x))
 }
 
-fn slotted_at(
-    words: &mut Words<'_>,
-    names: Option<&Names<'_, '_>>,
-    form: Slotted,
-) -> Result<Instr, LineFault>
-    ensures { result ≡ operated (option_copied names.entry) (WithSlot form) words.old }
+fn slotted_at(words: &mut Words<'_>, form: Slotted) -> Result<Instr, LineFault>
+    ensures { result ≡ operated None (WithSlot form) words.old }
 {
     let slot = slot_at(words)?;
     finished(words, form.with(slot))
@@ -53,15 +45,15 @@ fn targeted_at(
     finished(words, form.with(to))
 }
 
-fn push_at(words: &mut Words<'_>, names: Option<&Names<'_, '_>>) -> Result<Instr, LineFault>
-    ensures { result ≡ operated (option_copied names.entry) Push words.old }
+fn push_at(words: &mut Words<'_>) -> Result<Instr, LineFault>
+    ensures { result ≡ operated None Push words.old }
 {
     let value = value_at(words)?;
     finished(words, Instr::Push(value))
 }
 
-fn times_at(words: &mut Words<'_>, names: Option<&Names<'_, '_>>) -> Result<Instr, LineFault>
-    ensures { result ≡ operated (option_copied names.entry) Times words.old }
+fn times_at(words: &mut Words<'_>) -> Result<Instr, LineFault>
+    ensures { result ≡ operated None Times words.old }
 {
     let bound = number_at(words, 65535)?;
     finished(words, Instr::Times(bound as u16))
@@ -150,11 +142,11 @@ fn operated(
 {
     match mnemonic {
         Mnemonic::Plain(instr) => finished(words, instr),
-        Mnemonic::WithNumber(form) => numbered_at(words, names, form),
-        Mnemonic::WithSlot(form) => slotted_at(words, names, form),
+        Mnemonic::WithNumber(form) => numbered_at(words, form),
+        Mnemonic::WithSlot(form) => slotted_at(words, form),
         Mnemonic::WithTarget(form) => targeted_at(words, names, form),
-        Mnemonic::Push => push_at(words, names),
-        Mnemonic::Times => times_at(words, names),
+        Mnemonic::Push => push_at(words),
+        Mnemonic::Times => times_at(words),
         Mnemonic::Open => open_at(words),
         Mnemonic::Fork => fork_at(words, names),
         Mnemonic::Join => join_at(words, names),
