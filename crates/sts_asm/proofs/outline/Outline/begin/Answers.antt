@@ -1,0 +1,9 @@
+use Rattle.std.proofs.Common.{arith}
+use Rattle.std.proofs.lemmas.Grind.{common_steps}
+use Rattle.sts_asm.proofs.outline.Outline.begin.Goals as goal
+
+pub returns-in_err-draft-clause-steps : goal.returns-in_err-draft-clause-steps
+returns-in_err-draft-clause-steps c = grind (arith, common_steps)
+
+pub returns-clause-steps : goal.returns-clause-steps
+returns-clause-steps c = grind (arith, common_steps)
