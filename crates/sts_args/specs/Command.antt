@@ -1,6 +1,9 @@
 -- The commands that the program knows, as `clap` sees them (this project's own).
-use Rattle.std.specs.Prelude.{true, codes, Some}
-use Rattle.clap.specs.Words.{App, Rule, Text, new_app, new_rule, with_rule, with_subcommand}
+use Rattle.std.specs.Prelude.{◌≡◌, true, false, codes, Some, Result, IfOk}
+use Rattle.std.specs.declared.alloc.AllocError.{AllocError}
+use Rattle.clap.specs.declared.builder.command.Command.{Command}
+use Rattle.clap.specs.declared.builder.command.Command.TheViews.{out-Command}
+use Rattle.clap.specs.Words.{App, app_of, Rule, Text, new_app, new_rule, with_rule, with_subcommand}
 
 abbrev pub file_rule : Rule
 file_rule = record (new_rule (codes "FILE")) { required = true }
@@ -39,3 +42,11 @@ required a = record a { top = record a.top { subcommand_required = true } }
 abbrev pub program : App
 program = with_subcommand (with_subcommand (with_subcommand (with_subcommand (with_subcommand
     (required (new_app (codes "sts"))) verify.top) list.top) plain.top) replay.top) run.top
+
+-- if memory was enough, it is this command
+abbrev pub Makes : App → Result Command AllocError → Type 0
+Makes a made = IfOk made (λ c. app_of c ≡ a)
+
+-- if memory was enough, the command has no global argument
+abbrev pub IsLocal : Result Command AllocError → Type 0
+IsLocal made = IfOk made (λ c. (out-Command c).has_globals ≡ false)

@@ -1,9 +1,10 @@
 //! The commands that the program knows, in the form that `clap` takes.
 
-ghost use Rattle.std.specs.Prelude.{◌≡◌, IfOk, codes, false};
-ghost use Rattle.clap.specs.Words.{app_of, new_app, rule_of, with_rule, with_subcommand};
+ghost use Rattle.std.specs.Prelude.{◌≡◌, IfOk, Ok, codes, false};
+ghost use Rattle.clap.specs.Words.{App, app_of, new_app, rule_of, with_rule, with_subcommand};
 ghost use Rattle.clap.specs.declared.builder.Command.TheViews.{out-Command};
 ghost use Rattle.sts_args.specs.Command as def;
+ghost use Rattle.sts_args.specs.Command.{IsLocal, Makes};
 
 use clap::{Arg, Command};
 use std::alloc::{AllocError, Global};
@@ -71,52 +72,29 @@ pub fn on_trace<'a>(alloc: Global, name: &'a str, about: &'a str) -> Result<Comm
     on_file(alloc, name, about)?.arg(trace(alloc))
 }
 
-/// Adds an option that names a file.
-fn with_file_option<'a>(
-    alloc: Global,
-    command: Command<'a>,
-    name: &'a str,
-    help: &'a str,
-) -> Result<Command<'a>, AllocError>
-    ensures app { IfOk result (λ c. app_of c
-        ≡ with_rule (app_of command.entry) (def.option_rule name.entry.now)) }
-    ensures local { (out-Command command.entry).has_globals ≡ false
-        → IfOk result (λ c. (out-Command c).has_globals ≡ false) }
-{
-    command.arg(option(alloc, name, "FILE", help))
-}
-
-/// The command that takes workers.
-fn on_workers<'a>(alloc: Global, name: &'a str, about: &'a str) -> Result<Command<'a>, AllocError>
-    ensures app { IfOk result (λ c. app_of c
-        ≡ with_rule (with_rule (new_app name.entry.now) def.file_rule) def.workers_rule) }
-    ensures local { IfOk result (λ c. (out-Command c).has_globals ≡ false) }
-{
-    on_file(alloc, name, about)?.arg(workers(alloc))
-}
-
 /// The command that takes workers, and may take outside events and write a trace.
 fn run<'a>(alloc: Global) -> Result<Command<'a>, AllocError>
     ensures app { IfOk result (λ c. app_of c ≡ def.run) }
     ensures local { IfOk result (λ c. (out-Command c).has_globals ≡ false) }
 {
-    let command = on_workers(
+    on_file(
         alloc,
         "run",
         "Verifies, then runs with N threads; prints the budgets and the result",
-    )?;
-    let command = with_file_option(
+    )?
+    .arg(workers(alloc))?
+    .arg(option(
         alloc,
-        command,
         "outside",
+        "FILE",
         "outside events: lines `at N interrupt T` and `at N expire S`",
-    )?;
-    with_file_option(
+    ))?
+    .arg(option(
         alloc,
-        command,
         "trace",
+        "FILE",
         "where the journal is written, as a trace",
-    )
+    ))
 }
 
 /// The program with no command yet.
@@ -132,30 +110,28 @@ fn bare<'a>(alloc: Global) -> Command<'a>
         .subcommand_required(true)
 }
 
-/// Adds a command that takes one text file.
-fn with_file<'a>(
-    alloc: Global,
-    command: Command<'a>,
-    name: &'a str,
-    about: &'a str,
-) -> Result<Command<'a>, AllocError>
-    ensures { IfOk result (λ c. app_of c ≡ with_subcommand (app_of command.entry)
-        (with_rule (new_app name.entry.now) def.file_rule).top) }
+/// Two values, if both were made.
+fn both<A: Drop, B: Drop>(
+    first: Result<A, AllocError>,
+    second: Result<B, AllocError>,
+) -> Result<(A, B), AllocError>
+    ensures { IfOk result (λ p. (first ≡ Ok p.0) × (second ≡ Ok p.1)) }
 {
-    command.subcommand(on_file(alloc, name, about)?)
+    Ok((first?, second?))
 }
 
-/// Adds a command that takes a text file and a trace.
-fn with_trace<'a>(
-    alloc: Global,
-    command: Command<'a>,
-    name: &'a str,
-    about: &'a str,
+/// Adds a subcommand, if both commands were made.
+fn with_subcommand<'a>(
+    command: Result<Command<'a>, AllocError>,
+    subcommand: Result<Command<'a>, AllocError>,
 ) -> Result<Command<'a>, AllocError>
-    ensures { IfOk result (λ c. app_of c ≡ with_subcommand (app_of command.entry)
-        (with_rule (with_rule (new_app name.entry.now) def.file_rule) def.trace_rule).top) }
+    ensures { (a : App) → (s : App) → Makes a command.entry → Makes s subcommand.entry
+        → IsLocal subcommand.entry → Makes (with_subcommand a s.top) result }
 {
-    command.subcommand(on_trace(alloc, name, about)?)
+    match both(command, subcommand) {
+        Ok((command, subcommand)) => command.subcommand(subcommand),
+        Err(error) => Err(error),
+    }
 }
 
 /// The whole program.
@@ -166,29 +142,29 @@ fn with_trace<'a>(
 pub fn program<'a>(alloc: Global) -> Result<Command<'a>, AllocError>
     ensures { IfOk result (λ c. app_of c ≡ def.program) }
 {
-    let command = with_file(
+    let verify = on_file(
         alloc,
-        bare(alloc),
         "verify",
         "Checks that no run can fault; prints budgets, or the refused instruction",
-    )?;
-    let command = with_file(
+    );
+    let program = with_subcommand(Ok(bare(alloc)), verify);
+    let list = on_file(
         alloc,
-        command,
         "list",
         "Prints the program as the assembler understands it",
-    )?;
-    let command = with_trace(
+    );
+    let program = with_subcommand(program, list);
+    let plain = on_trace(
         alloc,
-        command,
         "plain",
         "Runs a trace and checks every instruction; prints the result and the steps",
-    )?;
-    let command = with_trace(
+    );
+    let program = with_subcommand(program, plain);
+    let replay = on_trace(
         alloc,
-        command,
         "replay",
         "Verifies, then runs a trace without checks; prints the same, or the refusal",
-    )?;
-    command.subcommand(run(alloc)?)
+    );
+    let program = with_subcommand(program, replay);
+    with_subcommand(program, run(alloc))
 }
